@@ -1,0 +1,31 @@
+-- Constants: integers and booleans. All that depends on which kinds there are stands here.
+use mathlib.Core.Bool.{Bool, true, false, _&&_}
+use mathlib.Core.List.{List, [], _∷_}
+use mathlib.Core.Option.{Option, none, some}
+use Prim.Native.Nat.{ℕ, suc}
+use lib.Dec.{eqb, ltb}
+use lib.ListN.{getD}
+
+-- a constant has its item's three words: kind 1 is an integer (its second word two's complement), kind 2 a boolean (0, 1)
+pub record Constant : Type 0 where
+  pub kind : ℕ
+  pub first : ℕ
+  pub second : ℕ
+
+-- the three words are those of a constant (ground 7)
+unfoldable pub isConstant : Constant → Bool
+isConstant a = getD (false ∷ eqb (a .second) 0 ∷ (ltb (a .first) 2 && eqb (a .second) 0) ∷ []) (a .kind) false
+
+-- a pattern's constant matches by value
+unfoldable pub matches : Constant → Constant → Bool
+matches a b = eqb (a .kind) (b .kind) && (eqb (a .first) (b .first) && eqb (a .second) (b .second))
+
+-- its words in the core term: code 2 integer, code 3 boolean
+unfoldable pub constantWords : Constant → List ℕ
+constantWords a = suc (a .kind) ∷ a .first ∷ []
+
+unfoldable pub integer : ℕ → Constant
+integer w = record { kind = 1; first = w; second = 0 }
+
+unfoldable pub boolean : ℕ → Constant
+boolean w = record { kind = 2; first = w; second = 0 }

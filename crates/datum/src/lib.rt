@@ -1,0 +1,1 @@
+// Definitions only: constants, data and the name table stand in specs/.

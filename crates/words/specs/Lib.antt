@@ -1,0 +1,4 @@
+-- Numbers, lists and texts that every other crate's definitions and proofs cite.
+pub mod Limits
+pub mod Lists
+pub mod Text
