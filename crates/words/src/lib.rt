@@ -2,26 +2,43 @@
 
 // Reading: words and bytes to lend, bytes of a text, elements, names, open lists, bytes of a name and of its slot.
 pub const ITEM_WORDS: usize = 12288;
+
 pub const NAME_BYTES: usize = 65536;
+
 pub const TEXT_BYTES: usize = 65535;
+
 pub const ELEMENTS: usize = 2047;
+
 pub const NAMES: usize = 1024;
+
 pub const OPEN_LISTS: usize = 64;
+
 pub const NAME_LENGTH: usize = 63;
+
 pub const SLOT: usize = 64;
 
 // Expansion: items of a table, fuel, work and core words for each item and unit of fuel, operations.
 pub const LEAST_ITEMS: usize = 5;
+
 pub const MOST_ITEMS: usize = 4096;
+
 pub const FUEL: u32 = 8192;
+
 pub const WORK_RATE: usize = 24;
+
 pub const CORE_RATE: usize = 2;
+
 pub const OPERATIONS: u32 = 256;
 
 // Forms and rules: formals of a lambda, macros of a form, literals, rules, variables of a pattern, ellipses over one.
 pub const FORMALS: u32 = 8;
+
 pub const MACROS: u32 = 16;
+
 pub const LITERALS: u32 = 8;
+
 pub const RULES: u32 = 16;
+
 pub const VARIABLES: u32 = 16;
+
 pub const DEPTH: u32 = 2;
