@@ -1,0 +1,3 @@
+-- The core term.
+pub mod Term
+pub mod Words

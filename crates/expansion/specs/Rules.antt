@@ -1,0 +1,132 @@
+-- Rules (document 01, 'Forms'): read once, when their form is reached, into patterns and templates; none is ground 15.
+-- What matching and transcribing need is settled here, so that they test nothing more.
+use mathlib.Core.Bool.{Bool, true, false, not, _&&_, _||_, cond}
+use mathlib.Core.List.{List, [], _∷_, _++_, map}
+use mathlib.Core.Option.{Option, none, some}
+use Prim.Native.Nat.{ℕ, zero, suc, _+_, _-_}
+use lib.Dec.{eqb, ltb, leb}
+use lib.ListN.{length}
+use Rattle.words.specs.Limits.{literalsMost, rulesMost, patternVariablesMost, depthMost}
+use Rattle.words.specs.Lists.{within, all, any}
+use Rattle.words.specs.Options.{guard, mapSome, mapBoth, traverse}
+use Rattle.datum.specs.Constant.{Constant}
+use Rattle.recipe.specs.Name.{Name, same, distinct, isEllipsis, isWildcard}
+use Rattle.recipe.specs.Tree.{Tree, empty, constant, name, pair, onName, onPair, names, isOrdinaryName, isList, isListOf, elements, element, tail}
+use Rattle.expansion.specs.Lookup.{isSyntaxRules}
+
+-- variables are numbered from 0 in the pattern's order; ellipsisP is an element followed by `...`, last in its list
+pub data Pattern : Type 0 where
+  variableP : (k : ℕ) → Pattern
+  literalP : Name → Pattern
+  wildcardP : Pattern
+  constantP : Constant → Pattern
+  emptyP : Pattern
+  pairP : (head tail : Pattern) → Pattern
+  ellipsisP : (element : Pattern) → Pattern
+
+-- variableT k d is variable k, under d ellipses in the pattern; ellipsisT an element followed by `...`, then the rest of its list
+pub data Template : Type 0 where
+  variableT : (k d : ℕ) → Template
+  insertT : Name → Template
+  constantT : Constant → Template
+  emptyT : Template
+  pairT : (head tail : Template) → Template
+  ellipsisT : (element rest : Template) → Template
+
+pub record Rule : Type 0 where
+  pub pattern : Pattern
+  pub template : Template
+
+-- ---- the variables of a pattern, and templates
+
+-- the occurrences that drive the copies of an element: variable k, with how many of its ellipses are outside this one.
+-- An occurrence lies under j ellipses inside the element, and its own d ellipses are the innermost
+unfoldable pub drivers : ℕ → Template → List (ℕ × ℕ)
+drivers j (variableT k d) = cond (ltb j d) ((k, d - suc j) ∷ []) []
+drivers j (insertT x) = []
+drivers j (constantT a) = []
+drivers j emptyT = []
+drivers j (pairT a b) = drivers j a ++ drivers j b
+drivers j (ellipsisT e r) = drivers (suc j) e ++ drivers j r
+
+-- an element followed by `...` holds a variable that drives its copies
+unfoldable pub isDriven : Option Template → Bool
+isDriven none = false
+isDriven (some e) = ltb 0 (length (drivers 0 e))
+
+-- a variable under none may be anywhere; one under d > 0 must be under exactly d
+unfoldable pub depthFits : (d here : ℕ) → Bool
+depthFits d here = eqb d 0 || eqb d here
+
+-- the variable that x is the same as, with its depth; the list has the variables from number k on
+unfoldable pub variableFrom : ℕ → List (Name × ℕ) → Name → Option (ℕ × ℕ)
+variableFrom k [] x = none
+variableFrom k (v ∷ vs) x = let later = variableFrom (suc k) vs x in cond (same (v .0) x) (some (k, v .1)) later
+
+-- a template's name at this depth: a variable, or inserted
+unfoldable pub nameTemplate : ℕ → Name → Option (ℕ × ℕ) → Option Template
+nameTemplate here x none = some (insertT x)
+nameTemplate here x (some v) = guard (depthFits (v .1) here) (some (variableT (v .0) (v .1)))
+
+-- at most 16 variables, no two the same, none under more than two ellipses
+unfoldable pub areVariables : List (Name × ℕ) → Bool
+areVariables vs = leb (length vs) patternVariablesMost && (distinct (map (λ v. v .0) vs) && all (λ v. leb (v .1) depthMost) vs)
+
+-- dots tells the ellipsis
+module _ (dots : Name → Bool) where
+  -- the list begins with `...`
+  unfoldable pub dotsNext : Tree → Bool
+  dotsNext = onPair (λ h t. onName dots false h) false
+
+  -- the depth of an element before this rest of its list
+  unfoldable pub depthBefore : Tree → ℕ → ℕ
+  depthBefore rest d = cond (dotsNext rest) (suc d) d
+
+  module _ (literals : List Name) where
+    -- a pattern's name that is neither `...` nor `_` nor the same as a listed literal
+    unfoldable pub isVariable : Name → Bool
+    isVariable x = not (dots x) && (not (isWildcard x) && not (any (same x) literals))
+
+    -- the pattern's variables from the left, each with the number of ellipses it lies under
+    unfoldable pub variables : ℕ → Tree → List (Name × ℕ)
+    variables d empty = []
+    variables d (constant a) = []
+    variables d (name x) = cond (isVariable x) ((x, d) ∷ []) []
+    variables d (pair p ps) = variables (depthBefore ps d) p ++ variables d ps
+
+    -- a part of a pattern, with k variables to its left; `...` itself is none
+    unfoldable pub patternOf : ℕ → Tree → Option Pattern
+    patternOf k empty = some emptyP
+    patternOf k (constant a) = some (constantP a)
+    patternOf k (name x) = guard (not (dots x)) (some (cond (isVariable x) (variableP k) (cond (isWildcard x) wildcardP (literalP x))))
+    patternOf k (pair p ps) =
+        let first = patternOf k p in
+        let later = patternOf (k + length (variables 0 p)) ps in
+        cond (dotsNext ps) (guard (isListOf 1 ps) (mapSome ellipsisP first)) (mapBoth pairP first later)
+
+  -- a part of a template under d ellipses; `taken` where it begins with the `...` that the element before it has taken
+  unfoldable pub templateOf : List (Name × ℕ) → ℕ → (taken : Bool) → Tree → Option Template
+  templateOf vs d taken empty = some emptyT
+  templateOf vs d taken (constant a) = some (constantT a)
+  templateOf vs d taken (name x) = guard (not (dots x)) (nameTemplate d x (variableFrom 0 vs x))
+  templateOf vs d taken (pair p ps) =
+      let first = templateOf vs (depthBefore ps d) false p in
+      let later = templateOf vs d (not taken && dotsNext ps) ps in
+      cond taken later (cond (dotsNext ps) (guard (isDriven first) (mapBoth ellipsisT first later)) (mapBoth pairT first later))
+
+  -- (pattern template); a pattern's first place is a name other than `...`, neither compared nor bound
+  unfoldable pub ruleOf : List Name → Tree → Option Rule
+  ruleOf literals r =
+      let p = tail (element 0 r) in
+      let vs = variables literals 0 p in
+      guard (isListOf 2 r && (onName (λ x. not (dots x)) false (element 0 (element 0 r)) && areVariables vs))
+        (mapBoth (λ q t. record { pattern = q; template = t }) (patternOf literals 0 p) (templateOf vs 0 false (element 1 r)))
+
+-- (syntax-rules (literal ...) (pattern template) ...)
+unfoldable pub isRulesForm : Tree → Bool
+isRulesForm r =
+    onName isSyntaxRules false (element 0 r) && (isList (element 1 r) && (all isOrdinaryName (elements (element 1 r))
+      && (leb (length (elements (element 1 r))) literalsMost && within 1 rulesMost (length (elements (tail (tail r)))))))
+
+unfoldable pub rulesOf : Tree → Option (List Rule)
+rulesOf r = guard (isRulesForm r) (traverse (ruleOf isEllipsis (names (element 1 r))) (elements (tail (tail r))))

@@ -1,0 +1,62 @@
+-- A run (document 01, 'Runs, copies and private names'): what the definition gives for one item table, fuel and lengths of lent tables.
+use mathlib.Core.Bool.{Bool, true, false, _&&_}
+use mathlib.Core.List.{List, [], _∷_, map}
+use Prim.Native.Nat.{ℕ, _+_, _*_}
+use lib.Dec.{ltb, leb}
+use lib.ListN.{length}
+use Rattle.words.specs.Limits.{fuelMost, workRate, coreRate, operationsMost, macrosMost}
+use Rattle.words.specs.Lists.{all}
+use Rattle.recipe.specs.Name.{Name, distinct}
+use Rattle.recipe.specs.Tree.{Tree, size, names, isName, elements, element}
+use Rattle.recipe.specs.Table.{itemCount, isLayout, treeOf}
+use Rattle.core_term.specs.Term.{Term}
+use Rattle.core_term.specs.Words.{encode}
+use Rattle.expansion.specs.Computation.{start, Events, Out, done, refused, starved}
+use Rattle.expansion.specs.Forms.{expand}
+
+-- accepted, or the ground; no run is unfinished (Gas)
+pub data Outcome : Type 0 where
+  accepted : Outcome
+  turnedBack : (ground : ℕ) → Outcome
+  unfinished : Outcome
+
+-- outcome, the two counts, the words of the accepted term (none where it is refused), and what the run shows
+pub record Run : Type 0 where
+  pub outcome : Outcome
+  pub steps : ℕ
+  pub sum : ℕ
+  pub core : List ℕ
+  pub events : Events
+
+unfoldable pub ended : Out (Term Name) → Run
+ended (done t s l) = record { outcome = accepted; steps = s .steps; sum = s .sum; core = encode t; events = l }
+ended (refused g s l) = record { outcome = turnedBack g; steps = s .steps; sum = s .sum; core = []; events = l }
+ended (starved l) = record { outcome = unfinished; steps = 0; sum = 0; core = []; events = l }
+
+-- the rest of the run, where the test of ground g passes
+unfoldable pub require : (ground : ℕ) → Bool → Run → Run
+require g true run = run
+require g false run = record { outcome = turnedBack g; steps = 0; sum = 0; core = []; events = [] }
+
+-- the recipe's operations, by number
+unfoldable pub operationNumbers : Tree → List ℕ
+operationNumbers t = map (λ x. x .number) (names (element 0 t))
+
+-- ground 10: at most 256 distinct names above 7
+unfoldable pub areOperations : Tree → Bool
+areOperations t =
+    all isName (elements (element 0 t)) && (leb (length (operationNumbers t)) operationsMost
+      && (all (ltb 7) (operationNumbers t) && distinct (names (element 0 t))))
+
+-- the expansion of a recipe's expression, from the start
+unfoldable pub expandRecipe : ℕ → Tree → Out (Term Name)
+expandRecipe fuel t = expand macrosMost (operationNumbers t) fuel (size t + fuel) (element 1 t) start
+
+unfoldable pub run : (items : List ℕ) (fuel work core : ℕ) → Run
+run items fuel work core =
+    let need = itemCount items + fuel in
+    require 7 (isLayout items)
+    (require 8 (leb fuel fuelMost)
+    (require 9 (leb (workRate * need) work && leb (coreRate * need) core)
+    (require 10 (areOperations (treeOf items))
+    (ended (expandRecipe fuel (treeOf items))))))

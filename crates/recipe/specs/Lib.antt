@@ -1,0 +1,5 @@
+-- A recipe as expansion sees it: names with marks and bindings, trees of them, and the item table that holds a tree.
+pub mod Name
+pub mod Tree
+pub mod TreeLaws
+pub mod Table

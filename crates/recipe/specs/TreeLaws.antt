@@ -1,0 +1,53 @@
+-- Laws of trees: what carrying a map of names through a tree keeps.
+use mathlib.Core.Path.{_≡_, refl, ap, ap₂, sym, _∙_}
+use mathlib.Core.List.{List, [], _∷_, _++_, map}
+use Prim.Native.Nat.{ℕ, suc, _+_}
+use lib.ListN.{length, getD}
+use Rattle.datum.specs.Datum.{listD, moreD}
+use Rattle.recipe.specs.Name.{Binding, Name, markName, produceName, bindName}
+use Rattle.recipe.specs.Tree.{Tree, empty, constant, name, pair, size, names, strip, elements, element, onNames, mark, produce, bind, bindAll}
+
+-- ---- onNames
+
+pub onNames-size : (f : Name → Name) (t : Tree) → size (onNames f t) ≡ size t
+unfolding onNames size
+onNames-size f empty = refl
+onNames-size f (constant a) = refl
+onNames-size f (name x) = refl
+onNames-size f (pair h t) = ap₂ (λ a b. suc (a + b)) (onNames-size f h) (onNames-size f t)
+
+pub onNames-∘ : (f g : Name → Name) (t : Tree) → onNames f (onNames g t) ≡ onNames (λ x. f (g x)) t
+unfolding onNames
+onNames-∘ f g empty = refl
+onNames-∘ f g (constant a) = refl
+onNames-∘ f g (name x) = refl
+onNames-∘ f g (pair h t) = ap₂ pair (onNames-∘ f g h) (onNames-∘ f g t)
+
+pub onNames-cong : (f g : Name → Name) → ((x : Name) → f x ≡ g x) → (t : Tree) → onNames f t ≡ onNames g t
+unfolding onNames
+onNames-cong f g e empty = refl
+onNames-cong f g e (constant a) = refl
+onNames-cong f g e (name x) = ap name (e x)
+onNames-cong f g e (pair h t) = ap₂ pair (onNames-cong f g e h) (onNames-cong f g e t)
+
+pub onNames-elements : (f : Name → Name) (t : Tree) → elements (onNames f t) ≡ map (onNames f) (elements t)
+unfolding onNames elements
+onNames-elements f empty = refl
+onNames-elements f (constant a) = refl
+onNames-elements f (name x) = refl
+onNames-elements f (pair h t) = ap (λ ts. onNames f h ∷ ts) (onNames-elements f t)
+
+-- ---- marks and bindings keep the size
+
+pub mark-size : (m : ℕ) (t : Tree) → size (mark m t) ≡ size t
+unfolding mark
+mark-size m t = onNames-size (markName m) t
+
+pub produce-size : (t : Tree) → size (produce t) ≡ size t
+unfolding produce
+produce-size t = onNames-size produceName t
+
+pub bindAll-size : (f : ℕ → Binding) (k : ℕ) (xs : List Name) (t : Tree) → size (bindAll f k xs t) ≡ size t
+unfolding bindAll bind
+bindAll-size f k [] t = refl
+bindAll-size f k (x ∷ xs) t = bindAll-size f (suc k) xs (bind x (f k) t) ∙ onNames-size (bindName x (f k)) t

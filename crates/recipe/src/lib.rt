@@ -1,0 +1,1 @@
+// Definitions only: names, trees and the item table stand in specs/.
