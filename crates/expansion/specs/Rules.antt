@@ -120,13 +120,13 @@ module _ (dots : Name → Bool) where
       let p = tail (element 0 r) in
       let vs = variables literals 0 p in
       guard (isListOf 2 r && (onName (λ x. not (dots x)) false (element 0 (element 0 r)) && areVariables vs))
-        (mapBoth (λ q t. record { pattern = q; template = t }) (patternOf literals 0 p) (templateOf vs 0 false (element 1 r)))
+      (mapBoth (λ q t. record { pattern = q; template = t }) (patternOf literals 0 p) (templateOf vs 0 false (element 1 r)))
 
 -- (syntax-rules (literal ...) (pattern template) ...)
 unfoldable pub isRulesForm : Tree → Bool
 isRulesForm r =
     onName isSyntaxRules false (element 0 r) && (isList (element 1 r) && (all isOrdinaryName (elements (element 1 r))
-      && (leb (length (elements (element 1 r))) literalsMost && within 1 rulesMost (length (elements (tail (tail r)))))))
+    && (leb (length (elements (element 1 r))) literalsMost && within 1 rulesMost (length (elements (tail (tail r)))))))
 
 unfoldable pub rulesOf : Tree → Option (List Rule)
 rulesOf r = guard (isRulesForm r) (traverse (ruleOf isEllipsis (names (element 1 r))) (elements (tail (tail r))))

@@ -46,7 +46,7 @@ operationNumbers t = map (λ x. x .number) (names (element 0 t))
 unfoldable pub areOperations : Tree → Bool
 areOperations t =
     all isName (elements (element 0 t)) && (leb (length (operationNumbers t)) operationsMost
-      && (all (ltb 7) (operationNumbers t) && distinct (names (element 0 t))))
+    && (all (ltb 7) (operationNumbers t) && distinct (names (element 0 t))))
 
 -- the expansion of a recipe's expression, from the start
 unfoldable pub expandRecipe : ℕ → Tree → Out (Term Name)

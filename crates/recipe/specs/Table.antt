@@ -49,16 +49,16 @@ kindAt ws i = getD ws (3 * i) 0
 unfoldable pub isPairItem : List ℕ → ℕ → Item → Bool
 isPairItem ws n x =
     within (suc (x .place)) (n - 1) (x .first) && (within (suc (x .place)) (n - 1) (x .second)
-      && (eqb (kindAt ws (x .second)) 0 || eqb (kindAt ws (x .second)) 4))
+    && (eqb (kindAt ws (x .second)) 0 || eqb (kindAt ws (x .second)) 4))
 
 -- an item's words are those of its kind, unused ones 0; n items in all
 unfoldable pub isItem : List ℕ → ℕ → Item → Bool
 isItem ws n x =
     byKind (x .kind)
-      (eqb (x .first) 0 && eqb (x .second) 0)
-      (ltb (x .first) namesMost && eqb (x .second) 0)
-      (isPairItem ws n x)
-      (isConstant (constantOf x))
+    (eqb (x .first) 0 && eqb (x .second) 0)
+    (ltb (x .first) namesMost && eqb (x .second) 0)
+    (isPairItem ws n x)
+    (isConstant (constantOf x))
 
 -- every item but item 0 is referred to by exactly one word
 unfoldable pub isReferredOnce : List ℕ → Item → Bool
@@ -86,5 +86,5 @@ isLayout ws =
     let n = itemCount ws in
     let xs = items 0 ws in
     eqb (length ws) (3 * n) && (within itemsLeast itemsMost n
-      && (all (isItem ws n) xs && (all (isReferredOnce (references xs)) xs
-      && (isListOf 2 (treeOf ws) && isList (element 0 (treeOf ws))))))
+    && (all (isItem ws n) xs && (all (isReferredOnce (references xs)) xs
+    && (isListOf 2 (treeOf ws) && isList (element 0 (treeOf ws))))))
