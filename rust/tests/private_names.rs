@@ -1,0 +1,132 @@
+//! Demand 3 tried on random recipes, with the new name unused anywhere and with one that is new to its template alone.
+//! `RECIPES=1000000 SEED=7 cargo test --release --test private_names` makes a long run.
+
+mod support;
+
+use reference::expand::{run, Event, Run};
+use reference::tree::{Binding, Name, Tree};
+use reference::{rules, table, text};
+use std::collections::{HashMap, HashSet};
+use support::{Random, Recipes};
+
+const FUEL: u32 = 300;
+const WORDS: usize = 1 << 20;
+
+/// The list whose head is the name of an item.
+fn form(t: &Tree, item: u32) -> Option<&[Tree]> {
+    let list = t.list()?;
+    match list.first().and_then(Tree::name) {
+        Some(x) if x.item == item => Some(list),
+        _ => list.iter().find_map(|t| form(t, item)),
+    }
+}
+
+/// A rule of a form, as far as its pieces exist: the numbers of its variables, and its template.
+struct Place {
+    variables: HashSet<u32>,
+    template: Tree,
+}
+
+fn places(form: &[Tree]) -> Vec<Place> {
+    let mut out = Vec::new();
+    for entry in form.get(1).and_then(Tree::list).unwrap_or(&[]) {
+        let Some([_, rules_form]) = entry.list() else { continue };
+        let Some(parsed) = rules::parse(rules_form) else { continue };
+        out.extend(parsed.into_iter().map(|rule| Place {
+            variables: rule.variables.iter().map(|(x, _)| x.number).collect(),
+            template: rule.template,
+        }));
+    }
+    out
+}
+
+/// What the first run says of the copies of these items.
+struct Shown {
+    hidden: bool,
+    lookups: usize,
+}
+
+fn shown(run: &Run, items: &HashSet<u32>) -> Shown {
+    let copy = |x: &Name| x.produced && items.contains(&x.item);
+    let own: HashMap<Binding, &Name> =
+        run.events.iter().filter_map(|e| if let Event::Binds(b, x) = e { Some((*b, x)) } else { None }).collect();
+    let mut answer = Shown { hidden: true, lookups: 0 };
+    for event in &run.events {
+        match event {
+            Event::Looked(x) if copy(x) => {
+                answer.lookups += 1;
+                answer.hidden &= x.binding.is_some_and(|b| copy(own[&b]));
+            }
+            Event::Quoted(x) if copy(x) => answer.hidden = false,
+            _ => {}
+        }
+    }
+    answer
+}
+
+#[derive(Default, Debug)]
+struct Count {
+    hidden: usize,
+    with_lookups: usize,
+    differ_where_shown: usize,
+}
+
+fn agree(a: &Run, b: &Run) -> bool {
+    a.outcome == b.outcome && a.steps == b.steps && a.sum == b.sum && a.core == b.core
+}
+
+fn try_recipe(source: &str, random: &mut Random, count: &mut Count) {
+    let Ok(recipe) = text::read(source.as_bytes()) else { return };
+    let words = recipe.words();
+    let Some((_, expression)) = table::elements(&words) else { return };
+    let first = run(&words, FUEL, WORDS, WORDS);
+    let reached: HashSet<u32> =
+        first.events.iter().filter_map(|e| if let Event::Reached(x) = e { (!x.produced).then_some(x.item) } else { None }).collect();
+    for item in reached {
+        for place in places(form(&expression, item).expect("a reached form stands in the recipe")) {
+            let numbers: HashSet<u32> = place.template.names().iter().map(|x| x.number).collect();
+            for &old in numbers.iter().filter(|n| !matches!(n, 6 | 7) && !place.variables.contains(n)) {
+                let items: HashSet<u32> = place.template.names().iter().filter(|x| x.number == old).map(|x| x.item).collect();
+                let said = shown(&first, &items);
+                if said.hidden && said.lookups == 0 && !random.chance(5) {
+                    continue;
+                }
+                let local = random.below(recipe.names.len() + 2) as u32;
+                let unused = recipe.names.len() as u32;
+                let fresh = |n: u32| !matches!(n, 6 | 7) && !numbers.contains(&n) && !place.variables.contains(&n);
+                for new in [unused, local].into_iter().filter(|n| fresh(*n)) {
+                    let mut renamed = words.clone();
+                    items.iter().for_each(|i| renamed[3 * *i as usize + 1] = new);
+                    let equal = agree(&first, &run(&renamed, FUEL, WORDS, WORDS));
+                    if said.hidden {
+                        assert!(equal, "{source}\nold {old} new {new} items {items:?}");
+                        count.hidden += 1;
+                        count.with_lookups += usize::from(said.lookups > 0);
+                    } else {
+                        count.differ_where_shown += usize::from(!equal);
+                    }
+                }
+            }
+        }
+    }
+}
+
+fn setting(name: &str, default: u64) -> u64 {
+    std::env::var(name).ok().and_then(|v| v.parse().ok()).unwrap_or(default)
+}
+
+#[test]
+fn private_names_never_show() {
+    let body = || {
+        let mut random = Random::new(setting("SEED", 1));
+        let recipes = setting("RECIPES", 5_000);
+        let mut count = Count::default();
+        for _ in 0..recipes {
+            let source = Recipes::recipe(&mut random);
+            try_recipe(&source, &mut random, &mut count);
+        }
+        println!("{recipes} recipes: {count:?}");
+        assert!(count.with_lookups as u64 > recipes / 100 && count.differ_where_shown as u64 > recipes / 100, "{count:?}");
+    };
+    std::thread::Builder::new().stack_size(256 << 20).spawn(body).unwrap().join().unwrap();
+}
