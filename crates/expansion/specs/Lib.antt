@@ -11,3 +11,4 @@ pub mod Computed
 pub mod Row
 pub mod Rows
 pub mod RowsMore
+pub mod RowsTables
