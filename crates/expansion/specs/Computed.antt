@@ -8,6 +8,7 @@ use Rattle.datum.specs.Datum as Datum
 use Rattle.recipe.specs.Name as Name
 use Rattle.recipe.specs.Tree as Tree
 use Rattle.recipe.specs.Table as Table
+use Rattle.core_term.specs.Node as Node
 use Rattle.core_term.specs.Term as Term
 use Rattle.core_term.specs.Words as Words
 use Rattle.expansion.specs.Lookup as Lookup
@@ -30,7 +31,8 @@ unfolding
     Tree.isListOf Tree.element Tree.tail Tree.onNames Tree.mark Tree.produce Tree.bind Tree.bindAll
     Table.items Table.byKind Table.constantOf Table.references Table.occurrences Table.kindAt Table.isPairItem Table.isItem Table.isReferredOnce
     Table.trees Table.treeOf Table.itemCount Table.isLayout
-    Term.termCount
+    Node.nodeWords
+    Term.count
     Words.datumWords Words.encode
     Lookup.formOf Lookup.placeFrom Lookup.unboundMeaning Lookup.orUnbound Lookup.lookup Lookup.isSyntaxRules Lookup.agree
     Rules.drivers Rules.isDriven Rules.depthFits Rules.variableFrom Rules.nameTemplate Rules.areVariables Rules.dotsNext Rules.depthBefore
