@@ -12,3 +12,4 @@ pub mod Row
 pub mod Rows
 pub mod RowsMore
 pub mod RowsTables
+pub mod RowsEvents

@@ -49,9 +49,13 @@ unfolding itemWords
 itemsOf (got recipe) = itemWords recipe
 itemsOf (back g) = []
 
-unfoldable pub rowOf : String → ℕ → Run → Row
-rowOf text fuel run = record { text = text; fuel = fuel; outcome = run .outcome; steps = run .steps; sum = run .sum; core = run .core }
+-- the run of a text in the filing program's tables
+unfoldable pub runOf : String → ℕ → Run
+unfolding bytes recipeOf itemsOf computed
+runOf text fuel = computed (itemsOf (recipeOf (bytes text))) fuel filingWork filingCore
 
 unfoldable pub filed : Row → Row
-unfolding bytes recipeOf itemsOf computed rowOf
-filed r = rowOf (r .text) (r .fuel) (computed (itemsOf (recipeOf (bytes (r .text)))) (r .fuel) filingWork filingCore)
+unfolding runOf
+filed r =
+    let run = runOf (r .text) (r .fuel) in
+    record { text = r .text; fuel = r .fuel; outcome = run .outcome; steps = run .steps; sum = run .sum; core = run .core }

@@ -37,6 +37,8 @@ recipes =
     0 0 (5 ∷ 3 ∷ 4 ∷ 3 ∷ 5 ∷ 1 ∷ 5 ∷ 2 ∷ 4 ∷ 8 ∷ 5 ∷ 3 ∷ 4 ∷ 5 ∷ 5 ∷ 0 ∷ 5 ∷ 2 ∷ 5 ∷ 1 ∷ 4 ∷ 7 ∷ 4 ∷ 9 ∷ 2 ∷ 1 ∷ []) ∷
     -- Names: an inserted _ as a bare expression
     refuses "() (let-syntax ((m (syntax-rules () ((_) _)))) (m))" 12 1 1 ∷
+    -- Names: an inserted _ matches anything, each by itself
+    gives "() (let-syntax ((m (syntax-rules () ((_) (let-syntax ((n (syntax-rules () ((_ _ _) 1)))) (n 2 3)))))) (m))" 2 36 (2 ∷ 1 ∷ []) ∷
     -- Names: a quoted name that is bound keeps its number
     gives "() (lambda (x) (quote (m x)))" 0 0 (7 ∷ 0 ∷ 1 ∷ 5 ∷ 2 ∷ 4 ∷ 9 ∷ 4 ∷ 8 ∷ []) ∷
     -- Order: from the left: 13
