@@ -9,6 +9,9 @@ pub mod DecodeRound
 pub mod DecodeRead
 pub mod DecodeLaws
 pub mod Check
+pub mod Window
+pub mod WindowLaws
+pub mod HeadLaws
 pub mod Decimal
 pub mod DecimalLaws
 pub mod Text
