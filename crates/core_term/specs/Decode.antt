@@ -6,20 +6,20 @@ use Prim.Native.Nat.{ℕ, zero, suc}
 use lib.ListN.{length, replicate}
 use Rattle.datum.specs.Constant.{integer, boolean, isConstant}
 use Rattle.datum.specs.Datum.{Datum, constantD, nameD, listD, Data, noneD, moreD}
-use Rattle.core_term.specs.Node.{Node, Read, nothing, withWord, withTwo, alone, codes, ofCode, isNode, sound, nodeAt, variableN, operationN, constantN, nameN, listN, ifN, lambdaN, applicationN}
+use Rattle.core_term.specs.Node.{Node, Got, got, missing, Read, nothing, withWord, withTwo, alone, codes, ofCode, isNode, sound, nodeAt, variableN, operationN, constantN, nameN, listN, ifN, lambdaN, applicationN}
 use Rattle.core_term.specs.Term.{variableC, operationC, datumC, ifC, lambdaC, applicationC, noneC, moreC, Plain, Plains}
 
 -- ---- reading one thing after another
 
 module _ {A : Type 0} where
   unfoldable pub pure : A → Read A
-  pure a ws = some (a, ws)
+  pure a ws = got a ws
 
 module _ {A B : Type 0} where
   -- what f reads after what has been read
-  unfoldable pub after : Option (A × List ℕ) → (A → Read B) → Option (B × List ℕ)
-  after none f = none
-  after (some (a, ws)) f = f a ws
+  unfoldable pub after : Got A → (A → Read B) → Got B
+  after missing f = missing
+  after (got a ws) f = f a ws
 
   unfoldable pub _>>=_ : Read A → (A → Read B) → Read B
   _>>=_ m f ws = after (m ws) f
@@ -93,10 +93,10 @@ termAt (suc gas) = do
 
 -- ---- exactly one term
 
-unfoldable pub whole : Option (Plain × List ℕ) → Option Plain
-whole none = none
-whole (some (t, [])) = some t
-whole (some (t, w ∷ ws)) = none
+unfoldable pub whole : Got Plain → Option Plain
+whole missing = none
+whole (got t []) = some t
+whole (got t (w ∷ ws)) = none
 
 unfoldable pub decode : List ℕ → Option Plain
 unfolding codes withWord withTwo alone integer boolean isConstant nothing ofCode isNode sound nodeAt pure after _>>=_ dataBy datumFrom datumAt termsBy termFrom termAt whole

@@ -6,7 +6,7 @@ use Prim.Native.Nat.{ℕ, _+_}
 use lib.ListN.{length}
 use Rattle.datum.specs.Datum.{Datum, constantD, nameD, listD, Data, noneD, moreD}
 use Rattle.datum.specs.Datum as D
-use Rattle.core_term.specs.Node.{Node, variableN, operationN, constantN, nameN, listN, ifN, lambdaN, applicationN}
+use Rattle.core_term.specs.Node.{Node, isNode, variableN, operationN, constantN, nameN, listN, ifN, lambdaN, applicationN}
 use Rattle.core_term.specs.Term.{Term, variableC, operationC, datumC, ifC, lambdaC, applicationC, Terms, noneC, moreC, count, variables}
 
 -- what is asked of a node in its environment, and the environment of its parts
@@ -44,3 +44,10 @@ module _ {F E : Type 0} (A : Asked E) where
     pub everyTerm : E → ℕ → Terms F → Bool
     everyTerm e b noneC = true
     everyTerm e b (moreC t ts) = every e b t && everyTerm e (b + variables t) ts
+
+-- every node is one
+unfoldable pub proper : Asked (Unit {0})
+proper = record { test = λ e b x. isNode x; enter = λ e b x. e }
+
+unfoldable pub wellFormed : {F : Type 0} → Term F → Bool
+wellFormed t = every proper tt 0 t

@@ -2,7 +2,6 @@
 -- nodeWords and nodeAt are the two ways between a node and its words; everything else goes by nodes.
 use mathlib.Core.Bool.{Bool, true, false, cond}
 use mathlib.Core.List.{List, [], _∷_}
-use mathlib.Core.Option.{Option, none, some}
 use Prim.Native.Nat.{ℕ, suc}
 use lib.Dec.{leb}
 use lib.ListN.{getD}
@@ -51,6 +50,28 @@ binds ifN = 0
 binds (lambdaN first n) = n
 binds (applicationN n) = 0
 
+-- codes 2 to 5 begin a datum
+unfoldable pub isDatumNode : Node → Bool
+isDatumNode (variableN n) = false
+isDatumNode (operationN n) = false
+isDatumNode (constantN a) = true
+isDatumNode (nameN n) = true
+isDatumNode (listN n) = true
+isDatumNode ifN = false
+isDatumNode (lambdaN first n) = false
+isDatumNode (applicationN n) = false
+
+-- the parts of a quoted list are data
+unfoldable pub isListNode : Node → Bool
+isListNode (variableN n) = false
+isListNode (operationN n) = false
+isListNode (constantN a) = false
+isListNode (nameN n) = false
+isListNode (listN n) = true
+isListNode ifN = false
+isListNode (lambdaN first n) = false
+isListNode (applicationN n) = false
+
 -- booleans are 0 or 1, and a lambda has 0 to 8 variables
 unfoldable pub isNode : Node → Bool
 isNode (variableN n) = true
@@ -65,24 +86,28 @@ isNode (applicationN n) = true
 -- ---- the node at the beginning of words
 
 -- what is read from words, and the words left
+pub data Got (A : Type 0) : Type 0 where
+  got : (it : A) (left : List ℕ) → Got A
+  missing : Got A
+
 abbrev pub Read : Type 0 → Type 0
-Read A = List ℕ → Option (A × List ℕ)
+Read A = List ℕ → Got A
 
 unfoldable pub nothing : {A : Type 0} → Read A
-nothing ws = none
+nothing ws = missing
 
 -- one that is followed by a word, or by two
 unfoldable pub withWord : (ℕ → Node) → Read Node
-withWord f [] = none
-withWord f (a ∷ ws) = some (f a, ws)
+withWord f [] = missing
+withWord f (a ∷ ws) = got (f a) ws
 
 unfoldable pub withTwo : (ℕ → ℕ → Node) → Read Node
-withTwo f [] = none
-withTwo f (a ∷ []) = none
-withTwo f (a ∷ b ∷ ws) = some (f a b, ws)
+withTwo f [] = missing
+withTwo f (a ∷ []) = missing
+withTwo f (a ∷ b ∷ ws) = got (f a b) ws
 
 unfoldable pub alone : Node → Read Node
-alone x ws = some (x, ws)
+alone x ws = got x ws
 
 -- codes 0 to 8
 unfoldable pub codes : List (Read Node)
@@ -91,12 +116,12 @@ codes =
     withWord nameN ∷ withWord listN ∷ alone ifN ∷ withTwo lambdaN ∷ withWord applicationN ∷ []
 
 unfoldable pub ofCode : Read Node
-ofCode [] = none
+ofCode [] = missing
 ofCode (code ∷ ws) = getD codes code nothing ws
 
-unfoldable pub sound : Option (Node × List ℕ) → Option (Node × List ℕ)
-sound none = none
-sound (some (x, ws)) = cond (isNode x) (some (x, ws)) none
+unfoldable pub sound : Got Node → Got Node
+sound missing = missing
+sound (got x ws) = cond (isNode x) (got x ws) missing
 
 unfoldable pub nodeAt : Read Node
 nodeAt ws = sound (ofCode ws)
