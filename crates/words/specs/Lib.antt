@@ -1,4 +1,5 @@
 -- Numbers, lists and texts that every other crate's definitions and proofs cite.
 pub mod Limits
+pub mod ListLaws
 pub mod Lists
 pub mod Text
