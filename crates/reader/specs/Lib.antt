@@ -8,3 +8,6 @@ pub mod Rows
 pub mod RecipeText
 pub mod TokenLaws
 pub mod MeaningLaws
+pub mod ElementLaws
+pub mod Accepts
+pub mod AcceptedLaws
