@@ -1,12 +1,13 @@
 -- Laws of the tests of numbers and lists, each named after the test and what it gives.
 use mathlib.Core.Path.{_≡_, refl, sym, ap, subst, _∙_}
-use mathlib.Core.Bool.{Bool, true, false, _&&_, _||_}
+use mathlib.Core.Bool.{Bool, true, false, _&&_, _||_, Bool·beq}
 use mathlib.Core.List.{List, [], _∷_, _++_}
-use Prim.Native.Nat.{ℕ, suc, _≤_}
+use mathlib.Core.Logic.{_⊎_, inl, inr}
+use Prim.Native.Nat.{ℕ, zero, suc, _+_, _≤_, _<_}
 use native.Mathlib.Omega.{arith}
 use lib.Dec.{eqb, leb}
 use lib.ListN.{length}
-use borrow.Author.Tests.{eqb-true, eq-eqb, leb-true}
+use borrow.Author.Tests.{eqb-true, eqb-false, eq-eqb, ne-eqb, leb-true}
 use Rattle.words.specs.Lists.{within, all, any, equal}
 
 -- ---- tests
@@ -52,6 +53,36 @@ any-each P n [] ps h = never h refl
 any-each P n (x ∷ xs) ps h =
     either (eqb n x) (λ e. subst P (sym (eqb-true n x e)) (ps .0))
     (λ e. any-each P n xs (ps .1) (ap (λ (t : Bool). t || any (eqb n) xs) (sym e) ∙ h))
+
+-- ---- a test's value over a range, computed once
+
+-- f is v at each of n numbers from lo, save those listed
+unfoldable pub valued : (ℕ → Bool) → Bool → List ℕ → ℕ → ℕ → Bool
+valued f v save lo zero = true
+valued f v save lo (suc n) = (any (eqb lo) save || Bool·beq (f lo) v) && valued f v save (suc lo) n
+
+beq-true : (a b : Bool) → Bool·beq a b ≡ true → b ≡ a
+beq-true true true h = refl
+beq-true true false h = never h refl
+beq-true false true h = never h refl
+beq-true false false h = refl
+
+pub valued-at : (f : ℕ → Bool) (v : Bool) (save : List ℕ) (lo n : ℕ) → valued f v save lo n ≡ true → (b : ℕ) → lo ≤ b → b < lo + n
+    → any (eqb b) save ≡ false → v ≡ f b
+unfolding valued
+valued-at f v save lo zero h b l u s = absurd (omega arith)
+valued-at f v save lo (suc n) h b l u s =
+    let t = any (eqb lo) save || Bool·beq (f lo) v in
+    let rest = valued f v save (suc lo) n in
+    either (eqb b lo)
+    (λ e. let k : lo ≡ b = sym (eqb-true b lo e) in
+    let q : any (eqb b) save || Bool·beq (f b) v ≡ true = subst (λ m. any (eqb m) save || Bool·beq (f m) v ≡ true) k (and-left t rest h) in
+    beq-true (f b) v (rw s at q))
+    (λ e. let k : suc lo ≤ b = omega (arith, eqb-false b lo e) in valued-at f v save (suc lo) n (and-right t rest h) b k (omega arith) s)
+
+pub any-neither : (b x y : ℕ) → ((b ≡ x) ⊎ (b ≡ y) → ⊥) → any (eqb b) (x ∷ y ∷ []) ≡ false
+unfolding any
+any-neither b x y h = rw (ne-eqb b x (λ e. h (inl e)), ne-eqb b y (λ e. h (inr e)))
 
 -- ---- all
 
