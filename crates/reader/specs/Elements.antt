@@ -6,8 +6,7 @@ use lib.Dec.{eqb, leb}
 use lib.ListN.{length}
 use Rattle.words.specs.Limits.{elementsMost, namesMost, openListsMost}
 use Rattle.datum.specs.Datum.{Datum, Data, constantD, nameD, listD, noneD, moreD}
-use Rattle.reader.specs.Token.{Token}
-use Rattle.reader.specs.Meaning.{Meaning, begins, ends, constant, name, refused, meaningOf}
+use Rattle.reader.specs.Meaning.{Meaning, begins, ends, constant, name, refused}
 use Rattle.reader.specs.Numbering.{numberOf, withName}
 
 -- an answer, or the ground on which the text is turned back
@@ -99,7 +98,7 @@ takes (constant a) r = begin r (put (constantD a) (counted r))
 takes (name cs) r = begin r (named cs (counted r))
 takes (refused g) r = back g
 
-unfoldable pub takesAll : List Token → Reading → Answer Reading
-unfolding then start onto noneOpen isComplete counted put named opened closed isWithin begin takes meaningOf numberOf withName
+unfoldable pub takesAll : List Meaning → Reading → Answer Reading
+unfolding then start onto noneOpen isComplete counted put named opened closed isWithin begin takes numberOf withName
 takesAll [] r = got r
-takesAll (t ∷ ts) r = then (takes (meaningOf t) r) (takesAll ts)
+takesAll (m ∷ ms) r = then (takes m r) (takesAll ms)

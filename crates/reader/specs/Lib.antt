@@ -5,3 +5,9 @@ pub mod Numbering
 pub mod Elements
 pub mod Read
 pub mod Rows
+pub mod RecipeText
+pub mod TokenLaws
+pub mod MeaningLaws
+pub mod ElementLaws
+pub mod Accepts
+pub mod AcceptedLaws

@@ -8,7 +8,7 @@ use lib.ListN.{length, getD, drop}
 use mir.Syntax.{w32}
 use mir.Val.{ofZ}
 use Rattle.words.specs.Limits.{nameLengthMost}
-use Rattle.words.specs.Lists.{all, equal}
+use Rattle.words.specs.Lists.{within, all, equal}
 use Rattle.datum.specs.Constant.{Constant, integer, boolean}
 use Rattle.reader.specs.Token.{Token, open′, close′, bad, flag, run, isDigit}
 
@@ -55,14 +55,14 @@ integerOf cs =
 
 -- ---- names
 
--- at most 63 bytes, and not a single dot
+-- 1 to 63 bytes, and not a single dot
 unfoldable pub nameOf : List ℕ → Meaning
-nameOf cs = cond (leb (length cs) nameLengthMost && not (equal cs (46 ∷ []))) (name cs) (refused 3)
+nameOf cs = cond (within 1 nameLengthMost (length cs) && not (equal cs (46 ∷ []))) (name cs) (refused 3)
 
 -- ---- tokens
 
 unfoldable pub meaningOf : Token → Meaning
-unfolding isNegative unsigned isNumeral valueFrom size inRange value integerOf nameOf isDigit Rattle.words.specs.Lists.within Rattle.words.specs.Lists.all Rattle.words.specs.Lists.equal integer boolean
+unfolding isNegative unsigned isNumeral valueFrom size inRange value integerOf nameOf isDigit within all equal integer boolean
 meaningOf open′ = begins
 meaningOf close′ = ends
 meaningOf bad = refused 3

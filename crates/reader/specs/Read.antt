@@ -1,7 +1,7 @@
 -- The meaning of reading: for a text and the lengths of the lent tables the answer, and what both tables hold afterwards.
 -- The interface is recipeOf, read, and the functions of read's answer below it; contracts are equations with these.
 use mathlib.Core.Bool.{Bool, true, false, _||_, cond}
-use mathlib.Core.List.{List, [], _∷_, _++_}
+use mathlib.Core.List.{List, [], _∷_, _++_, map}
 use Prim.Native.Nat.{ℕ, _-_}
 use lib.Dec.{ltb, leb}
 use lib.ListN.{length, replicate}
@@ -9,6 +9,7 @@ use Rattle.words.specs.Limits.{itemWordsLeast, nameBytesLeast, textBytesMost}
 use Rattle.datum.specs.Datum.{Data, noneD, datumItems, dataItems}
 use Rattle.datum.specs.NameTable.{slots}
 use Rattle.reader.specs.Token.{tokens}
+use Rattle.reader.specs.Meaning.{meaningOf}
 use Rattle.reader.specs.Elements.{Answer, got, back, then, Reading, start, onto, isComplete, takesAll}
 use Rattle.reader.specs.Numbering.{baseNames, dataWords}
 
@@ -23,8 +24,8 @@ finished r = cond (isComplete r) (got (record { elements = onto (r .here) noneD;
 
 -- grounds 3 to 6, over the names that have numbers before the text
 unfoldable pub recipeOver : List (List ℕ) → List ℕ → Answer Recipe
-unfolding finished tokens then start takesAll
-recipeOver names text = then (takesAll (tokens text) (start names 2)) finished
+unfolding finished tokens meaningOf then start takesAll
+recipeOver names text = then (takesAll (map meaningOf (tokens text)) (start names 2)) finished
 
 unfoldable pub recipeOf : List ℕ → Answer Recipe
 unfolding recipeOver baseNames

@@ -97,5 +97,5 @@ tokensAfter p [] = ended p
 tokensAfter p (b ∷ bs) = completed p b ++ tokensAfter (next p b) bs
 
 unfoldable pub tokens : List ℕ → List Token
-unfolding isDigit isRunning isSeparating classOf flagOf alone afterRun completed begun next ended tokensAfter Rattle.words.specs.Lists.within Rattle.words.specs.Lists.any Rattle.words.specs.Text.bytes
+unfolding isDigit isRunning isSeparating classOf flagOf alone afterRun completed begun next ended tokensAfter within any bytes
 tokens text = tokensAfter nothing text

@@ -1,1 +1,2 @@
 // The reading service. Its meaning stands in specs/Read.antt.
+pub mod bytes;

@@ -1,0 +1,111 @@
+-- Laws of the tests of numbers and lists, each named after the test and what it gives.
+use mathlib.Core.Path.{_≡_, refl, sym, ap, subst, _∙_}
+use mathlib.Core.Bool.{Bool, true, false, _&&_, _||_, Bool·beq}
+use mathlib.Core.List.{List, [], _∷_, _++_}
+use mathlib.Core.Logic.{_⊎_, inl, inr}
+use Prim.Native.Nat.{ℕ, zero, suc, _+_, _≤_, _<_}
+use native.Mathlib.Omega.{arith}
+use lib.Dec.{eqb, leb}
+use lib.ListN.{length}
+use borrow.Author.Tests.{eqb-true, eqb-false, eq-eqb, ne-eqb, leb-true}
+use Rattle.words.specs.Lists.{within, all, any, equal}
+
+-- ---- tests
+
+module _ {P : Type 0} where
+  -- a test is true or false
+  pub either : (t : Bool) → (t ≡ true → P) → (t ≡ false → P) → P
+  either true y n = y refl
+  either false y n = n refl
+
+  -- no test is both
+  pub never : {t : Bool} → t ≡ true → t ≡ false → P
+  never h k = let z : _≡_ {A = Bool} true false = sym h ∙ k in let e : _≡_ {A = ℕ} 0 1 = cc in absurd (omega arith)
+
+pub and-left : (a b : Bool) → a && b ≡ true → a ≡ true
+and-left true b h = refl
+and-left false b h = h
+
+pub and-right : (a b : Bool) → a && b ≡ true → b ≡ true
+and-right true b h = h
+and-right false b h = never h refl
+
+-- ---- within
+
+pub within-low : (a b n : ℕ) → within a b n ≡ true → a ≤ n
+unfolding within
+within-low a b n h = leb-true a n (and-left (leb a n) (leb n b) h)
+
+pub within-high : (a b n : ℕ) → within a b n ≡ true → n ≤ b
+unfolding within
+within-high a b n h = leb-true n b (and-right (leb a n) (leb n b) h)
+
+-- ---- any
+
+-- what holds of each member holds of a number that equals one
+unfoldable pub Each : (ℕ → Type 0) → List ℕ → Type 0
+Each P [] = 0 ≤ 0
+Each P (x ∷ xs) = P x × Each P xs
+
+pub any-each : (P : ℕ → Type 0) (n : ℕ) (l : List ℕ) → Each P l → any (eqb n) l ≡ true → P n
+unfolding any Each
+any-each P n [] ps h = never h refl
+any-each P n (x ∷ xs) ps h =
+    either (eqb n x) (λ e. subst P (sym (eqb-true n x e)) (ps .0))
+    (λ e. any-each P n xs (ps .1) (ap (λ (t : Bool). t || any (eqb n) xs) (sym e) ∙ h))
+
+-- ---- a test's value over a range, computed once
+
+-- f is v at each of n numbers from lo, save those listed
+unfoldable pub valued : (ℕ → Bool) → Bool → List ℕ → ℕ → ℕ → Bool
+valued f v save lo zero = true
+valued f v save lo (suc n) = (any (eqb lo) save || Bool·beq (f lo) v) && valued f v save (suc lo) n
+
+beq-true : (a b : Bool) → Bool·beq a b ≡ true → b ≡ a
+beq-true true true h = refl
+beq-true true false h = never h refl
+beq-true false true h = never h refl
+beq-true false false h = refl
+
+pub valued-at : (f : ℕ → Bool) (v : Bool) (save : List ℕ) (lo n : ℕ) → valued f v save lo n ≡ true → (b : ℕ) → lo ≤ b → b < lo + n
+    → any (eqb b) save ≡ false → v ≡ f b
+unfolding valued
+valued-at f v save lo zero h b l u s = absurd (omega arith)
+valued-at f v save lo (suc n) h b l u s =
+    let t = any (eqb lo) save || Bool·beq (f lo) v in
+    let rest = valued f v save (suc lo) n in
+    either (eqb b lo)
+    (λ e. let k : lo ≡ b = sym (eqb-true b lo e) in
+    let q : any (eqb b) save || Bool·beq (f b) v ≡ true = subst (λ m. any (eqb m) save || Bool·beq (f m) v ≡ true) k (and-left t rest h) in
+    beq-true (f b) v (rw s at q))
+    (λ e. let k : suc lo ≤ b = omega (arith, eqb-false b lo e) in valued-at f v save (suc lo) n (and-right t rest h) b k (omega arith) s)
+
+pub any-neither : (b x y : ℕ) → ((b ≡ x) ⊎ (b ≡ y) → ⊥) → any (eqb b) (x ∷ y ∷ []) ≡ false
+unfolding any
+any-neither b x y h = rw (ne-eqb b x (λ e. h (inl e)), ne-eqb b y (λ e. h (inr e)))
+
+-- ---- all
+
+module _ {A : Type 0} where
+  pub all-append : (f : A → Bool) (a b : List A) → all f a ≡ true → all f b ≡ true → all f (a ++ b) ≡ true
+  unfolding all
+  all-append f [] b p q = q
+  all-append f (x ∷ a) b p q =
+      rw (and-left (f x) (all f a) p) (all-append f a b (and-right (f x) (all f a) p) q)
+
+-- ---- equal
+
+pub equal-refl : (l : List ℕ) → equal l l ≡ true
+unfolding equal
+equal-refl [] = refl
+equal-refl (x ∷ xs) = rw (eq-eqb x x refl) (equal-refl xs)
+
+pub equal-true : (a b : List ℕ) → equal a b ≡ true → a ≡ b
+unfolding equal
+equal-true [] [] h = refl
+equal-true [] (y ∷ b) h = never h refl
+equal-true (x ∷ a) [] h = never h refl
+equal-true (x ∷ a) (y ∷ b) h =
+    let p : x ≡ y = eqb-true x y (and-left (eqb x y) (equal a b) h) in
+    let q : a ≡ b = equal-true a b (and-right (eqb x y) (equal a b) h) in
+    cc
