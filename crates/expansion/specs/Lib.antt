@@ -7,3 +7,8 @@ pub mod Transcribe
 pub mod Computation
 pub mod Forms
 pub mod Run
+pub mod Outcomes
+pub mod Budget
+pub mod RunLaws
+pub mod Gas
+pub mod Bounds
