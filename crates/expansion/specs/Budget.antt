@@ -15,6 +15,7 @@ use Rattle.recipe.specs.Name.{Binding, variable, macro, Name}
 use Rattle.recipe.specs.Tree.{Tree, empty, constant, name, pair, size, strip, stripTail, onPair, isList, isListOf, elements, element, tail, mark, produce, bindAll}
 use Rattle.recipe.specs.TreeLaws.{size-positive, element-size, later-element-size, totalSize, elements-size, mark-size, produce-size, bindAll-size}
 use Rattle.core_term.specs.Term.{Term, variableC, operationC, datumC, ifC, applicationC, noneC, moreC}
+use Rattle.core_term.specs.Node.{nodeWords}
 use Rattle.core_term.specs.Words.{datumWords, dataWords, encode, encodeAll}
 use Rattle.expansion.specs.Lookup.{quote, if, lambda, let-syntax, letrec-syntax, auxiliary, Found, bound, form, operation, nothing, lookup}
 use Rattle.expansion.specs.Transcribe.{transcribe}
@@ -45,7 +46,7 @@ body-size f k xs h t = rw (bindAll-size f k xs (element 2 (pair h t))) (later-el
 
 -- a quoted datum has at most two words an item; a list's elements leave room for its code and count
 mutual
-  unfolding datumWords strip size constantWords
+  unfolding datumWords nodeWords constantWords strip size
 
   datum-words : (t : Tree) → length (datumWords (strip t)) ≤ 2 * size t
   datum-words empty = omega arith
@@ -92,7 +93,7 @@ module _ (limit : ℕ) (operations : List ℕ) (fuel : ℕ) where
 
   module _ (gas : ℕ) (rec : Tree → M (Term Name)) (good : Thrifty gas rec) where
     all-spends : (t : Tree) (s : State) → s .sum ≤ fuel → size t + fuel ≤ gas + s .sum → Spends (λ w u. Spent (size t) s (length (encodeAll w) + 2) u) (expandAll limit operations fuel rec t s)
-    unfolding expandAll size encode
+    unfolding expandAll size encode nodeWords
     all-spends empty s low g = give-holds noneC s (nothing-spent 1 s 2 low (omega arith))
     all-spends (constant a) s low g = give-holds noneC s (nothing-spent 1 s 2 low (omega arith))
     all-spends (name x) s low g = give-holds noneC s (nothing-spent 1 s 2 low (omega arith))
@@ -104,7 +105,7 @@ module _ (limit : ℕ) (operations : List ℕ) (fuel : ℕ) where
     -- after a head that is paid for by k
     operands-spends : (k : ℕ) (a : Term Name) (t : Tree) (s : State) → s .sum ≤ fuel → size t + fuel ≤ gas + s .sum → length (encode a) ≤ 2 * k
         → Spends (λ w u. Spent (k + size t) s (length (encode w)) u) (expandOperands limit operations fuel rec a t s)
-    unfolding expandOperands encode
+    unfolding expandOperands encode nodeWords
     operands-spends k a t s low g e =
         then-holds _ _ _ s (all-spends t s low g) λ b u l q.
         give-holds (applicationC a b) u (record { grown = omega arith; bounded = omega arith; short = simp length-append (omega arith) })
@@ -118,21 +119,21 @@ module _ (limit : ℕ) (operations : List ℕ) (fuel : ℕ) where
         record { grown = q .grown; bounded = q .bounded; short = omega (arith, q .short, size-positive h) }
 
     application-spends : (h t : Tree) (s : State) → s .sum ≤ fuel → size (pair h t) + fuel ≤ suc gas + s .sum → Spends (λ w u. Spent (size (pair h t)) s (length (encode w)) u) (expandApplication limit operations fuel rec h t s)
-    unfolding expandApplication expandOperands size encode
+    unfolding expandApplication expandOperands size encode nodeWords
     application-spends h t s low g =
         then-holds _ _ _ s (good h s low (omega arith)) λ a u l q.
         then-holds _ _ _ u (all-spends t u (q .bounded) (omega arith)) λ b v k r.
         give-holds (applicationC a b) v (record { grown = omega arith; bounded = omega arith; short = simp length-append (omega arith) })
 
     quote-spends : (t : Tree) (s : State) → s .sum ≤ fuel → Spends (λ w u. Spent (size t) s (length (encode w)) u) (expandQuote limit operations fuel rec t s)
-    unfolding expandQuote encode
+    unfolding expandQuote encode nodeWords
     quote-spends t s low =
         test-holds _ _ _ s low λ _.
         show-holds _ _ s
         (give-holds _ s (nothing-spent (size t) s _ low (omega (arith, datum-words (element 1 t), element-size 1 t))))
 
     if-spends : (t : Tree) (s : State) → s .sum ≤ fuel → size t + fuel ≤ suc gas + s .sum → Spends (λ w u. Spent (size t) s (length (encode w)) u) (expandIf limit operations fuel rec t s)
-    unfolding expandIf encode
+    unfolding expandIf encode nodeWords
     if-spends t s low g =
         test-holds _ _ _ s low λ h.
         then-holds _ _ _ s (good (element 1 t) s low (omega (arith, if-size t h))) λ a u i q.
@@ -141,7 +142,7 @@ module _ (limit : ℕ) (operations : List ℕ) (fuel : ℕ) where
         give-holds (ifC a b c) w (record { grown = omega arith; bounded = p .bounded; short = simp length-append (omega (arith, if-size t h)) })
 
     lambda-spends : (h t : Tree) (s : State) → s .sum ≤ fuel → size (pair h t) + fuel ≤ suc gas + s .sum → Spends (λ w u. Spent (size (pair h t)) s (length (encode w)) u) (expandLambda limit operations fuel rec (pair h t) s)
-    unfolding expandLambda encode
+    unfolding expandLambda encode nodeWords
     lambda-spends h t s low g =
         let e = body-size variable (s .variables) (formals (pair h t)) h t in
         test-holds _ _ _ s low λ _.
@@ -181,7 +182,7 @@ module _ (limit : ℕ) (operations : List ℕ) (fuel : ℕ) where
         record { grown = omega arith; bounded = q .bounded; short = omega (arith, e) })))
 
     list-spends : (f : Found) (x : Name) (h t : Tree) (s : State) → s .sum ≤ fuel → size (pair h t) + fuel ≤ suc gas + s .sum → Spends (λ w u. Spent (size (pair h t)) s (length (encode w)) u) (expandList limit operations fuel rec f x (pair h t) s)
-    unfolding expandList encode
+    unfolding expandList encode nodeWords
     list-spends (bound (variable n)) x h t s low g = named-spends (variableC n) h t s low g refl
     list-spends (bound (macro n)) x h t s low g = use-spends n (pair h t) s low g
     list-spends (form quote) x h t s low g = quote-spends (pair h t) s low
@@ -194,7 +195,7 @@ module _ (limit : ℕ) (operations : List ℕ) (fuel : ℕ) where
     list-spends nothing x h t s low g = refuse-holds 11 s low
 
     name-spends : (f : Found) (s : State) → s .sum ≤ fuel → Spends (λ w u. Spent 1 s (length (encode w)) u) (expandName limit operations fuel rec f s)
-    unfolding expandName encode
+    unfolding expandName encode nodeWords
     name-spends (bound (variable n)) s low = give-holds (variableC n) s (nothing-spent 1 s 2 low (omega arith))
     name-spends (bound (macro n)) s low = refuse-holds 12 s low
     name-spends (form f) s low = refuse-holds 12 s low
@@ -209,7 +210,7 @@ module _ (limit : ℕ) (operations : List ℕ) (fuel : ℕ) where
     pair-spends (pair a b) t s low g = application-spends (pair a b) t s low g
 
     tree-spends : Thrifty (suc gas) (expandTree limit operations fuel rec)
-    unfolding expandTree size encode datumWords constantWords
+    unfolding expandTree size encode nodeWords datumWords constantWords
     tree-spends empty s low g = refuse-holds 13 s low
     tree-spends (constant a) s low g = give-holds (datumC (constantD a)) s (nothing-spent 1 s 2 low (omega arith))
     tree-spends (name x) s low g = show-holds _ _ s (name-spends (lookup operations x) s low)

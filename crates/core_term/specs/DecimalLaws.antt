@@ -1,0 +1,116 @@
+-- Laws of decimal: the digits' value is the number, and how many there are.
+use mathlib.Core.Path.{_≡_, refl, sym, ap, subst, _∙_}
+use mathlib.Core.Bool.{Bool, true, false}
+use mathlib.Core.List.{List, [], _∷_, _++_}
+use Prim.Native.Nat.{ℕ, zero, suc, _+_, _-_, _*_, _/_, _%_, _^_, _≤_, _<_}
+use native.Mathlib.Omega.{arith}
+use native.Mathlib.Nat.{pow-succ'}
+use lib.Dec.{ltb}
+use lib.IntN.{ℤ, pos, negsuc}
+use lib.ListN.{length, length-append}
+use mir.Syntax.{w32}
+use mir.Val.{toZ}
+use mir.Facts.{toZ-pos, toZ-neg}
+use borrow.Author.Tests.{ltb-true, ltb-false}
+use Rattle.core_term.specs.Decimal.{leading, digitsBy, decimal, valueAfter, value, signed, integerText}
+
+-- one digit or more
+digits-case : {X : Type 0} (n : ℕ) → (n < 10 → X) → (10 ≤ n → X) → X
+digits-case {X} n a b = go (ltb n 10) refl
+  where
+    go : (c : Bool) → ltb n 10 ≡ c → X
+    go true e = a (ltb-true n 10 e)
+    go false e = b (ltb-false n 10 e)
+
+leading-some : (f : ℕ → List ℕ) (n : ℕ) → 1 ≤ n → leading f n ≡ f n
+unfolding leading
+leading-some f zero h = absurd (omega arith)
+leading-some f (suc n) h = refl
+
+-- ---- gas
+
+leading-same : (f g : ℕ → List ℕ) (n : ℕ) → (1 ≤ n → f n ≡ g n) → leading f n ≡ leading g n
+unfolding leading
+leading-same f g zero h = refl
+leading-same f g (suc n) h = h (omega arith)
+
+-- any gas above n gives the same
+digits-any : (f g n : ℕ) → n < f → n < g → digitsBy f n ≡ digitsBy g n
+unfolding digitsBy
+digits-any zero g n h k = absurd (omega arith)
+digits-any (suc f) zero n h k = absurd (omega arith)
+digits-any (suc f) (suc g) n h k =
+    ap (λ (s : List ℕ). s ++ ((48 + n % 10) ∷ [])) (leading-same (digitsBy f) (digitsBy g) (n / 10) (λ l. digits-any f g (n / 10) (omega arith) (omega arith)))
+
+-- ---- decimal
+
+decimal-by : (n : ℕ) → digitsBy (suc n) n ≡ decimal n
+unfolding decimal
+decimal-by n = refl
+
+digits-of : (n : ℕ) → decimal n ≡ leading (digitsBy n) (n / 10) ++ ((48 + n % 10) ∷ [])
+unfolding decimal digitsBy
+digits-of n = refl
+
+pub decimal-one : (n : ℕ) → n < 10 → decimal n ≡ (48 + n) ∷ []
+unfolding decimal digitsBy leading
+decimal-one n h =
+    let e : n / 10 ≡ 0 = omega arith in
+    let g : n % 10 ≡ n = omega arith in
+    rw (e, g)
+
+pub decimal-more : (n : ℕ) → 10 ≤ n → decimal n ≡ decimal (n / 10) ++ ((48 + n % 10) ∷ [])
+decimal-more n h =
+    let l : 1 ≤ n / 10 = omega arith in
+    digits-of n ∙ ap (λ (s : List ℕ). s ++ ((48 + n % 10) ∷ [])) (leading-some (digitsBy n) (n / 10) l ∙ digits-any n (suc (n / 10)) (n / 10) (omega arith) (omega arith) ∙ decimal-by (n / 10))
+
+-- a number below 10 to the k + 1 has at most k + 1 digits
+pub decimal-count : (k n : ℕ) → n < 10 ^ suc k → length (decimal n) ≤ suc k
+decimal-count zero n h = rw (decimal-one n h) (omega arith)
+decimal-count (suc k) n h =
+    digits-case n
+    (λ l. rw (decimal-one n l) (omega arith))
+    (λ l. let d : n / 10 < 10 ^ suc k = omega (arith, pow-succ' 10 (suc k)) in
+    rw (decimal-more n l) (omega (arith, length-append (decimal (n / 10)) ((48 + n % 10) ∷ []), decimal-count k (n / 10) d)))
+
+-- a word's number has at most ten
+pub decimal-word : (n : ℕ) → n < 4294967296 → length (decimal n) ≤ 10
+decimal-word n h = decimal-count 9 n (omega arith)
+
+-- ---- value
+
+value-append : (m : ℕ) (xs ys : List ℕ) → valueAfter m (xs ++ ys) ≡ valueAfter (valueAfter m xs) ys
+unfolding valueAfter
+value-append m [] ys = refl
+value-append m (c ∷ xs) ys = value-append (10 * m + (c - 48)) xs ys
+
+value-by : (f n : ℕ) → n < f → value (decimal n) ≡ n
+unfolding value valueAfter
+value-by zero n h = absurd (omega arith)
+value-by (suc f) n h =
+    digits-case n
+    (λ l. rw (decimal-one n l) (omega arith))
+    (λ l. rw (decimal-more n l) (value-append 0 (decimal (n / 10)) ((48 + n % 10) ∷ [])
+    ∙ ap (λ (v : ℕ). 10 * v + (48 + n % 10 - 48)) (value-by f (n / 10) (omega arith)) ∙ last n))
+  where
+    last : (n : ℕ) → 10 * (n / 10) + (48 + n % 10 - 48) ≡ n
+    last n = omega arith
+
+-- the digits' value is the number
+pub value-decimal : (n : ℕ) → value (decimal n) ≡ n
+value-decimal n = value-by (suc n) n (omega arith)
+
+-- ---- with a sign
+
+pub integer-plain : (w : ℕ) → w < 2147483648 → integerText w ≡ decimal w
+unfolding integerText signed
+integer-plain w h = rw (toZ-pos w32 h)
+
+pub integer-minus : (w : ℕ) → 2147483648 ≤ w → w < 4294967296 → integerText w ≡ 45 ∷ decimal (4294967295 - w + 1)
+unfolding integerText signed
+integer-minus w lo hi =
+    let k : 4294967295 - w < 2 ^ 31 = omega arith in
+    let e : 4294967296 - suc (4294967295 - w) ≡ w = omega arith in
+    let s : 4294967295 - w + 1 ≡ suc (4294967295 - w) = omega arith in
+    let z : toZ w32 w ≡ negsuc (4294967295 - w) = ap (toZ w32) (sym e) ∙ toZ-neg w32 (4294967295 - w) k in
+    rw (z, s)

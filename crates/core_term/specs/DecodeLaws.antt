@@ -1,0 +1,86 @@
+-- Laws of decode: it gives back every well-formed term, and its words alone.
+use mathlib.Core.Path.{_≡_, refl, sym, ap, subst, _∙_}
+use mathlib.Core.Bool.{true}
+use mathlib.Core.List.{List, [], _∷_, _++_, append-nil}
+use mathlib.Core.Option.{some}
+use Prim.Native.Nat.{ℕ, _+_, _≤_}
+use native.Mathlib.Omega.{arith}
+use lib.ListN.{length, replicate, length-append}
+use Rattle.core_term.specs.Node.{Got, got, missing, nothing}
+use Rattle.core_term.specs.Term.{Term, variableC, operationC, datumC, ifC, lambdaC, applicationC, noneC, moreC, Plain, Plains, count, variables, forget, forgetAll}
+use Rattle.core_term.specs.Words.{encode}
+use Rattle.core_term.specs.Decode.{termAt, whole, decode}
+use Rattle.core_term.specs.Every.{wellFormed}
+use Rattle.core_term.specs.DecodeRound.{term-round}
+use Rattle.core_term.specs.DecodeRead.{TermRead, term-read}
+
+-- a lambda that says nothing of its variables has only their count
+units : (l : List (Unit {0})) → replicate (length l) tt ≡ l
+units [] = refl
+units (tt ∷ l) = ap (λ (k : List (Unit {0})). tt ∷ k) (units l)
+
+mutual
+  unfolding forget
+
+  pub forget-plain : (t : Plain) → forget t ≡ t
+  forget-plain (variableC n) = refl
+  forget-plain (operationC n) = refl
+  forget-plain (datumC d) = refl
+  forget-plain (ifC x y z) = rw (forget-plain x, forget-plain y, forget-plain z)
+  forget-plain (lambdaC first formals body) = rw (units formals, forget-plain body)
+  forget-plain (applicationC h ts) = rw (forget-plain h, forget-all ts)
+
+  forget-all : (ts : Plains) → forgetAll ts ≡ ts
+  forget-all noneC = refl
+  forget-all (moreC t ts) = rw (forget-plain t, forget-all ts)
+
+-- ---- decode
+
+pub decode-encode : {F : Type 0} (t : Term F) → wellFormed t ≡ true → decode (encode t) ≡ some (forget t)
+unfolding decode whole wellFormed
+decode-encode t h =
+    let e : termAt (length (encode t)) (encode t) ≡ got (forget t) [] =
+    subst (λ (z : List ℕ). termAt (length (encode t)) z ≡ got (forget t) []) (append-nil (encode t)) (term-round t (length (encode t)) 0 [] h (omega arith)) in
+    rw e
+
+pub encode-decode : (ws : List ℕ) (t : Plain) → decode ws ≡ some t → (encode t ≡ ws) × (wellFormed t ≡ true)
+unfolding decode whole wellFormed
+encode-decode ws t h = go (termAt (length ws) ws) refl h
+  where
+    go : (g : Got Plain) → termAt (length ws) ws ≡ g → whole g ≡ some t → (encode t ≡ ws) × (wellFormed t ≡ true)
+    go (got u []) e k =
+        let s = term-read (length ws) ws u [] e in
+        let i : u ≡ t = cc in
+        rw (sym i) (sym (s .words ∙ append-nil (encode u)), s .fine 0)
+    go (got u (w ∷ r)) e k = let z : _≡_ {A = ℕ} 0 1 = cc in absurd (omega arith)
+    go missing e k = let z : _≡_ {A = ℕ} 0 1 = cc in absurd (omega arith)
+
+-- ---- the words of two terms
+
+-- no term's words begin another's
+pub encode-unique : (t u : Plain) (r s : List ℕ) → wellFormed t ≡ true → wellFormed u ≡ true → encode t ++ r ≡ encode u ++ s → (t ≡ u) × (r ≡ s)
+unfolding wellFormed
+encode-unique t u r s p q e =
+    let n = length (encode t) + length (encode u) in
+    let a : termAt n (encode t ++ r) ≡ got t r = rw (forget-plain t) at (term-round t n 0 r p (omega arith)) in
+    let b : termAt n (encode u ++ s) ≡ got u s = rw (forget-plain u) at (term-round u n 0 s q (omega arith)) in
+    let c : got t r ≡ got u s = sym a ∙ ap (termAt n) e ∙ b in
+    (cc, cc)
+
+-- ---- gas
+
+-- any gas from the count of the words on gives the same
+pub gas-any : (n m : ℕ) (ws : List ℕ) → length ws ≤ n → length ws ≤ m → termAt n ws ≡ termAt m ws
+gas-any n m ws h k = go (termAt n ws) (termAt m ws) refl refl
+  where
+    more : (n : ℕ) (t : Plain) (r : List ℕ) (m : ℕ) → length ws ≤ m → termAt n ws ≡ got t r → termAt m ws ≡ got t r
+    more n t r m l e =
+        let s = term-read n ws t r e in
+        let q : length (encode t) ≤ m = omega (arith, ap length (s .words) ∙ length-append (encode t) r) in
+        let b : termAt m (encode t ++ r) ≡ got t r = rw (forget-plain t) at (term-round t m 0 r (s .fine 0) q) in
+        ap (termAt m) (s .words) ∙ b
+
+    go : (a b : Got Plain) → termAt n ws ≡ a → termAt m ws ≡ b → termAt n ws ≡ termAt m ws
+    go (got t r) b e f = e ∙ sym (more n t r m k e)
+    go missing (got t r) e f = more m t r n h f ∙ sym f
+    go missing missing e f = e ∙ sym f
