@@ -2,5 +2,7 @@
 pub mod Name
 pub mod Tree
 pub mod TreeLaws
+pub mod Tidy
 pub mod Table
 pub mod TableLaws
+pub mod TableTidy

@@ -1,7 +1,7 @@
 -- Laws of item tables: the tree of a table of the layout has no more items than the table.
 -- For each place is counted at most once, by a word that refers to it or as item 0.
 use mathlib.Core.Path.{_≡_, refl, ap, ap₂, _∙_, subst}
-use mathlib.Core.Bool.{Bool, true, false, cond}
+use mathlib.Core.Bool.{Bool, true, false, cond, _||_}
 use mathlib.Core.List.{List, [], _∷_}
 use Prim.Native.Nat.{ℕ, zero, suc, _+_, _*_, _-_, _≤_, _<_}
 use native.Mathlib.Omega.{arith}
@@ -13,7 +13,7 @@ use Rattle.words.specs.Lists.{within, all}
 use Rattle.words.specs.TestLaws.{and-parts, within-parts, all-parts}
 use Rattle.recipe.specs.Name.{plainName}
 use Rattle.recipe.specs.Tree.{Tree, empty, constant, name, pair, size, isList, isListOf, element}
-use Rattle.recipe.specs.Table.{Item, items, byKind, constantOf, references, occurrences, isPairItem, isItem, isReferredOnce, trees, treeOf, itemCount, isLayout}
+use Rattle.recipe.specs.Table.{Item, items, byKind, constantOf, references, occurrences, kindAt, isPairItem, isItem, isReferredOnce, trees, treeOf, itemCount, isLayout}
 
 -- ---- counting places
 
@@ -83,19 +83,24 @@ occurrences-other : (p r : ℕ) (rs : List ℕ) → (p ≡ r → ⊥) → occurr
 unfolding occurrences
 occurrences-other p r rs h = rw (ne-eqb p r h)
 
--- a pair's words refer to higher items of the table
-record Refers (n i j : ℕ) : Type 0 where
-  above : suc i ≤ j
-  below : j ≤ n - 1
+-- place i refers to a higher item, j
+pub record Refers (n i j : ℕ) : Type 0 where
+  pub above : suc i ≤ j
+  pub below : j ≤ n - 1
 
-isItem-refers : (table : List ℕ) (n : ℕ) (x : Item) → isPairItem table n x ≡ true → Refers n (x .place) (x .first) × Refers n (x .place) (x .second)
+pub record PairItem (table : List ℕ) (n : ℕ) (x : Item) : Type 0 where
+  pub head : Refers n (x .place) (x .first)
+  pub tail : Refers n (x .place) (x .second)
+  pub tail-kind : (eqb (kindAt table (x .second)) 0 || eqb (kindAt table (x .second)) 4) ≡ true
+
+pub isPairItem-parts : (table : List ℕ) (n : ℕ) (x : Item) → isPairItem table n x ≡ true → PairItem table n x
 unfolding isPairItem
-isItem-refers table n x e =
+isPairItem-parts table n x e =
     let a = and-parts (within (suc (x .place)) (n - 1) (x .first)) _ e in
     let b = and-parts (within (suc (x .place)) (n - 1) (x .second)) _ (a .1) in
     let f = within-parts (suc (x .place)) (n - 1) (x .first) (a .0) in
     let g = within-parts (suc (x .place)) (n - 1) (x .second) (b .0) in
-    (record { above = f .0; below = f .1 }, record { above = g .0; below = g .1 })
+    record { head = record { above = f .0; below = f .1 }; tail = record { above = g .0; below = g .1 }; tail-kind = b .1 }
 
 -- each place from i up to n is counted at most once, by c or by a reference
 abbrev Once : (ℕ → ℕ) → List ℕ → ℕ → ℕ → Type 0
@@ -116,7 +121,7 @@ module _ (table : List ℕ) (n : ℕ) (x : Item) (xs : List Item) (ends : x .pla
   pair-weight : isPairItem table n x ≡ true → Once c (x .first ∷ x .second ∷ references xs) (x .place) n → weight c (x .place) (pair (treeAt (x .first)) (treeAt (x .second)) ∷ trees xs) ≤ suc (length xs)
   unfolding weight treeAt size
   pair-weight e once =
-      let r = isItem-refers table n x e in
+      let r = isPairItem-parts table n x e in
       let i = suc (x .place) in
       let w = weight-more c (x .first) i (x .first - i) (trees xs) (omega arith) (omega (arith, trees-length xs)) in
       let v = weight-more (more (x .first) c) (x .second) i (x .second - i) (trees xs) (omega arith) (omega (arith, trees-length xs)) in
@@ -192,7 +197,7 @@ item-refers-higher table n x xs p good h = go (eqb (x .kind) 4) refl
   where
     go : (d : Bool) → eqb (x .kind) 4 ≡ d → occurrences p (cond d (x .first ∷ x .second ∷ references xs) (references xs)) ≡ occurrences p (references xs)
     go true e =
-        let r = isItem-refers table n x (isItem-pair table n x good (eqb-true _ _ e)) in
+        let r = isPairItem-parts table n x (isItem-pair table n x good (eqb-true _ _ e)) in
         occurrences-other p (x .first) (x .second ∷ references xs) (omega arith) ∙ occurrences-other p (x .second) (references xs) (omega arith)
     go false e = refl
 

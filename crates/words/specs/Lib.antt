@@ -4,3 +4,4 @@ pub mod Lists
 pub mod Options
 pub mod Text
 pub mod TestLaws
+pub mod Each
