@@ -14,3 +14,8 @@ pub mod RowsMore
 pub mod RowsShapes
 pub mod RowsTables
 pub mod RowsEvents
+pub mod Outcomes
+pub mod Budget
+pub mod RunLaws
+pub mod Gas
+pub mod Bounds

@@ -2,5 +2,8 @@
 pub mod Name
 pub mod Tree
 pub mod TreeLaws
+pub mod Tidy
 pub mod Table
 pub mod Rows
+pub mod TableLaws
+pub mod TableTidy

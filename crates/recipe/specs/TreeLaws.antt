@@ -1,11 +1,46 @@
--- Laws of trees: what carrying a map of names through a tree keeps.
-use mathlib.Core.Path.{_≡_, refl, ap, ap₂, sym, _∙_}
-use mathlib.Core.List.{List, [], _∷_, _++_, map}
-use Prim.Native.Nat.{ℕ, suc, _+_}
-use lib.ListN.{length, getD}
-use Rattle.datum.specs.Datum.{listD, moreD}
+-- Laws of trees: sizes of elements, and what carrying a map of names through a tree keeps.
+use mathlib.Core.Path.{_≡_, refl, ap, ap₂, _∙_}
+use mathlib.Core.List.{List, [], _∷_, map}
+use Prim.Native.Nat.{ℕ, zero, suc, _+_, _≤_}
+use native.Mathlib.Omega.{arith}
+use lib.ListN.{length}
 use Rattle.recipe.specs.Name.{Binding, Name, markName, produceName, bindName}
-use Rattle.recipe.specs.Tree.{Tree, empty, constant, name, pair, size, names, strip, elements, element, onNames, mark, produce, bind, bindAll}
+use Rattle.recipe.specs.Tree.{Tree, empty, constant, name, pair, size, elements, element, onNames, mark, produce, bind, bindAll}
+
+-- ---- sizes
+
+pub size-positive : (t : Tree) → 1 ≤ size t
+unfolding size
+size-positive empty = omega arith
+size-positive (constant a) = omega arith
+size-positive (name x) = omega arith
+size-positive (pair h t) = omega arith
+
+pub element-size : (n : ℕ) (t : Tree) → size (element n t) ≤ size t
+unfolding size element elements
+element-size n empty = omega arith
+element-size n (constant a) = omega arith
+element-size n (name x) = omega arith
+element-size zero (pair h t) = omega arith
+element-size (suc n) (pair h t) = omega (arith, element-size n t)
+
+-- an element after the first is smaller than its list by two items
+pub later-element-size : (n : ℕ) (h t : Tree) → size (element (suc n) (pair h t)) + 2 ≤ size (pair h t)
+unfolding size element elements
+later-element-size n h t = omega (arith, element-size n t, size-positive h)
+
+-- the items of these trees together
+unfoldable pub totalSize : List Tree → ℕ
+totalSize [] = 0
+totalSize (t ∷ ts) = size t + totalSize ts
+
+-- a list has, besides its elements, a pair for each and the end
+pub elements-size : (t : Tree) → totalSize (elements t) + length (elements t) + 1 ≤ size t
+unfolding totalSize elements size
+elements-size empty = omega arith
+elements-size (constant a) = omega arith
+elements-size (name x) = omega arith
+elements-size (pair h t) = omega (arith, elements-size t)
 
 -- ---- onNames
 

@@ -4,3 +4,5 @@ pub mod ListLaws
 pub mod Lists
 pub mod Options
 pub mod Text
+pub mod TestLaws
+pub mod Each

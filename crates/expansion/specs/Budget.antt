@@ -1,0 +1,222 @@
+-- What a computation spends: gas, fuel and core words. From a tree of size k and a state of sum s, gas of k and the fuel left
+-- is enough, and the words with twice the fuel left are at most twice the size with twice the fuel left before.
+use mathlib.Core.Path.{_≡_, refl, ap, _∙_}
+use mathlib.Core.Bool.{Bool, true, false}
+use mathlib.Core.List.{List, [], _∷_}
+use Prim.Native.Nat.{ℕ, zero, suc, _+_, _*_, _≤_}
+use native.Mathlib.Omega.{arith}
+use lib.Dec.{eqb}
+use lib.ListN.{length, getD, length-append}
+use borrow.Author.Tests.{leb-true, eqb-true}
+use Rattle.words.specs.TestLaws.{and-parts}
+use Rattle.datum.specs.Constant.{constantWords}
+use Rattle.datum.specs.Datum.{constantD}
+use Rattle.recipe.specs.Name.{Binding, variable, macro, Name}
+use Rattle.recipe.specs.Tree.{Tree, empty, constant, name, pair, size, strip, stripTail, onPair, isList, isListOf, elements, element, tail, mark, produce, bindAll}
+use Rattle.recipe.specs.TreeLaws.{size-positive, element-size, later-element-size, totalSize, elements-size, mark-size, produce-size, bindAll-size}
+use Rattle.core_term.specs.Term.{Term, variableC, operationC, datumC, ifC, applicationC, noneC, moreC}
+use Rattle.core_term.specs.Node.{nodeWords}
+use Rattle.core_term.specs.Words.{datumWords, dataWords, encode, encodeAll}
+use Rattle.expansion.specs.Lookup.{quote, if, lambda, let-syntax, letrec-syntax, auxiliary, Found, bound, form, operation, nothing, lookup}
+use Rattle.expansion.specs.Transcribe.{transcribe}
+use Rattle.expansion.specs.Computation.{State, Events, Out, M}
+use Rattle.expansion.specs.Forms.{formals, keywords, readRules, expandAll, expandQuote, expandIf, expandLambda, expandMacros, expandUse, expandOperands, expandList, expandName, expandApplication, expandPair, expandTree, expand}
+use Rattle.expansion.specs.Outcomes.{Holds, give-holds, refuse-holds, test-holds, show-holds, get-holds, addVariables-holds, addMacros-holds, addStep-holds, then-holds, orRefuse-holds, weaken}
+
+-- ---- sizes
+
+four-size : (ts : List Tree) → length ts ≡ 4 → size (getD ts 1 empty) + size (getD ts 2 empty) + size (getD ts 3 empty) ≤ totalSize ts
+unfolding totalSize
+four-size [] e = absurd (omega arith)
+four-size (a ∷ []) e = absurd (omega arith)
+four-size (a ∷ b ∷ []) e = absurd (omega arith)
+four-size (a ∷ b ∷ c ∷ []) e = absurd (omega arith)
+four-size (a ∷ b ∷ c ∷ d ∷ ts) e = omega arith
+
+-- the three parts of an if
+if-size : (t : Tree) → isListOf 4 t ≡ true → size (element 1 t) + size (element 2 t) + size (element 3 t) + 5 ≤ size t
+unfolding isListOf element
+if-size t h =
+    let e : length (elements t) ≡ 4 = eqb-true _ _ (and-parts (isList t) (eqb (length (elements t)) 4) h .1) in
+    omega (arith, four-size (elements t) e, elements-size t, e)
+
+-- a body, bound
+body-size : (f : ℕ → Binding) (k : ℕ) (xs : List Name) (h t : Tree) → size (bindAll f k xs (element 2 (pair h t))) + 2 ≤ size (pair h t)
+body-size f k xs h t = rw (bindAll-size f k xs (element 2 (pair h t))) (later-element-size 1 h t)
+
+-- a quoted datum has at most two words an item; a list's elements leave room for its code and count
+mutual
+  unfolding datumWords nodeWords constantWords strip size
+
+  datum-words : (t : Tree) → length (datumWords (strip t)) ≤ 2 * size t
+  datum-words empty = omega arith
+  datum-words (constant a) = omega arith
+  datum-words (name x) = omega arith
+  datum-words (pair h t) = simp length-append (omega (arith, datum-words h, tail-words t))
+
+  tail-words : (t : Tree) → length (dataWords (stripTail t)) + 2 ≤ 2 * size t
+  tail-words empty = omega arith
+  tail-words (constant a) = omega arith
+  tail-words (name x) = omega arith
+  tail-words (pair h t) = simp length-append (omega (arith, datum-words h, tail-words t))
+
+-- reading rules changes no state
+readRules-holds : {S : Type 0} {R : ℕ → State → Events → Type 0} (rs : List Tree) (s : State) → ((g : ℕ) (l : Events) → R g s l) → Holds S R (λ a t l. t ≡ s) (readRules rs s)
+unfolding readRules
+readRules-holds [] s r = give-holds [] s refl
+readRules-holds (x ∷ rs) s r =
+    show-holds _ _ s
+    (orRefuse-holds _ _ _ s (r _ _) λ a _.
+    then-holds _ _ _ s (readRules-holds rs s (λ g l. r g _)) λ b t l e.
+    give-holds _ t e)
+
+-- ---- what is spent
+
+module _ (limit : ℕ) (operations : List ℕ) (fuel : ℕ) where
+  -- n words from a tree of size k, on the way from s to t
+  pub record Spent (k : ℕ) (s : State) (n : ℕ) (t : State) : Type 0 where
+    pub grown : s .sum ≤ t .sum
+    pub bounded : t .sum ≤ fuel
+    pub short : n + 2 * s .sum ≤ 2 * k + 2 * t .sum
+
+  -- of an outcome: it is not starved, its sum is at most the fuel, and what is done spends at most this
+  abbrev pub Spends : {A : Type 0} → (A → State → Type 0) → Out A → Type 0
+  Spends Q o = Holds ⊥ (λ g u l. u .sum ≤ fuel) (λ a u l. Q a u) o
+
+  -- an expander for which gas bounds the tree and the fuel left
+  abbrev pub Thrifty : ℕ → (Tree → M (Term Name)) → Type 0
+  Thrifty gas rec = (t : Tree) (s : State) → s .sum ≤ fuel → size t + fuel ≤ gas + s .sum → Spends (λ w u. Spent (size t) s (length (encode w)) u) (rec t s)
+
+  -- no fuel
+  nothing-spent : (k : ℕ) (s : State) (n : ℕ) → s .sum ≤ fuel → n ≤ 2 * k → Spent k s n s
+  nothing-spent k s n low h = record { grown = omega arith; bounded = low; short = omega arith }
+
+  module _ (gas : ℕ) (rec : Tree → M (Term Name)) (good : Thrifty gas rec) where
+    all-spends : (t : Tree) (s : State) → s .sum ≤ fuel → size t + fuel ≤ gas + s .sum → Spends (λ w u. Spent (size t) s (length (encodeAll w) + 2) u) (expandAll limit operations fuel rec t s)
+    unfolding expandAll size encode nodeWords
+    all-spends empty s low g = give-holds noneC s (nothing-spent 1 s 2 low (omega arith))
+    all-spends (constant a) s low g = give-holds noneC s (nothing-spent 1 s 2 low (omega arith))
+    all-spends (name x) s low g = give-holds noneC s (nothing-spent 1 s 2 low (omega arith))
+    all-spends (pair h t) s low g =
+        then-holds _ _ _ s (good h s low (omega arith)) λ a u l q.
+        then-holds _ _ _ u (all-spends t u (q .bounded) (omega arith)) λ b v k r.
+        give-holds (moreC a b) v (record { grown = omega arith; bounded = omega arith; short = simp length-append (omega arith) })
+
+    -- after a head that is paid for by k
+    operands-spends : (k : ℕ) (a : Term Name) (t : Tree) (s : State) → s .sum ≤ fuel → size t + fuel ≤ gas + s .sum → length (encode a) ≤ 2 * k
+        → Spends (λ w u. Spent (k + size t) s (length (encode w)) u) (expandOperands limit operations fuel rec a t s)
+    unfolding expandOperands encode nodeWords
+    operands-spends k a t s low g e =
+        then-holds _ _ _ s (all-spends t s low g) λ b u l q.
+        give-holds (applicationC a b) u (record { grown = omega arith; bounded = omega arith; short = simp length-append (omega arith) })
+
+    -- after a variable or an operation
+    named-spends : (a : Term Name) (h t : Tree) (s : State) → s .sum ≤ fuel → size (pair h t) + fuel ≤ suc gas + s .sum → length (encode a) ≡ 2
+        → Spends (λ w u. Spent (size (pair h t)) s (length (encode w)) u) (expandOperands limit operations fuel rec a (tail (pair h t)) s)
+    unfolding size tail onPair
+    named-spends a h t s low g e =
+        weaken (operands-spends 1 a t s low (omega arith) (omega arith)) (λ x. x) (λ g u l r. r) λ w u l q.
+        record { grown = q .grown; bounded = q .bounded; short = omega (arith, q .short, size-positive h) }
+
+    application-spends : (h t : Tree) (s : State) → s .sum ≤ fuel → size (pair h t) + fuel ≤ suc gas + s .sum → Spends (λ w u. Spent (size (pair h t)) s (length (encode w)) u) (expandApplication limit operations fuel rec h t s)
+    unfolding expandApplication expandOperands size encode nodeWords
+    application-spends h t s low g =
+        then-holds _ _ _ s (good h s low (omega arith)) λ a u l q.
+        then-holds _ _ _ u (all-spends t u (q .bounded) (omega arith)) λ b v k r.
+        give-holds (applicationC a b) v (record { grown = omega arith; bounded = omega arith; short = simp length-append (omega arith) })
+
+    quote-spends : (t : Tree) (s : State) → s .sum ≤ fuel → Spends (λ w u. Spent (size t) s (length (encode w)) u) (expandQuote limit operations fuel rec t s)
+    unfolding expandQuote encode nodeWords
+    quote-spends t s low =
+        test-holds _ _ _ s low λ _.
+        show-holds _ _ s
+        (give-holds _ s (nothing-spent (size t) s _ low (omega (arith, datum-words (element 1 t), element-size 1 t))))
+
+    if-spends : (t : Tree) (s : State) → s .sum ≤ fuel → size t + fuel ≤ suc gas + s .sum → Spends (λ w u. Spent (size t) s (length (encode w)) u) (expandIf limit operations fuel rec t s)
+    unfolding expandIf encode nodeWords
+    if-spends t s low g =
+        test-holds _ _ _ s low λ h.
+        then-holds _ _ _ s (good (element 1 t) s low (omega (arith, if-size t h))) λ a u i q.
+        then-holds _ _ _ u (good (element 2 t) u (q .bounded) (omega (arith, if-size t h, q .grown))) λ b v j r.
+        then-holds _ _ _ v (good (element 3 t) v (r .bounded) (omega (arith, if-size t h, q .grown, r .grown))) λ c w k p.
+        give-holds (ifC a b c) w (record { grown = omega arith; bounded = p .bounded; short = simp length-append (omega (arith, if-size t h)) })
+
+    lambda-spends : (h t : Tree) (s : State) → s .sum ≤ fuel → size (pair h t) + fuel ≤ suc gas + s .sum → Spends (λ w u. Spent (size (pair h t)) s (length (encode w)) u) (expandLambda limit operations fuel rec (pair h t) s)
+    unfolding expandLambda encode nodeWords
+    lambda-spends h t s low g =
+        let e = body-size variable (s .variables) (formals (pair h t)) h t in
+        test-holds _ _ _ s low λ _.
+        test-holds _ _ _ s low λ _.
+        get-holds _ s
+        (show-holds _ _ s
+        (addVariables-holds _ _ s
+        (then-holds _ _ _ _ (good _ _ low (omega (arith, e))) λ w u l q.
+        give-holds _ u (record { grown = q .grown; bounded = q .bounded; short = omega (arith, e) }))))
+
+    macros-spends : (inside : Bool) (x : Name) (h t : Tree) (s : State) → s .sum ≤ fuel → size (pair h t) + fuel ≤ suc gas + s .sum → Spends (λ w u. Spent (size (pair h t)) s (length (encode w)) u) (expandMacros limit operations fuel rec inside x (pair h t) s)
+    unfolding expandMacros
+    macros-spends inside x h t s low g =
+        let e = body-size macro (length (s .macros)) (keywords (pair h t)) h t in
+        show-holds _ _ s
+        (test-holds _ _ _ s low λ _.
+        test-holds _ _ _ s low λ _.
+        get-holds _ s
+        (show-holds _ _ s
+        (then-holds _ _ _ s (readRules-holds _ s (λ g l. low)) λ rules u l same.
+        addMacros-holds _ _ u
+        (weaken (good _ _ (rw same low) (rw same (omega (arith, e)))) (λ x. x) (λ g v k r. r) λ w v k q.
+        record { grown = omega (arith, q .grown, ap (λ z. z .sum) same); bounded = q .bounded; short = omega (arith, q .short, ap (λ z. z .sum) same, e) }))))
+
+    use-spends : (n : ℕ) (t : Tree) (s : State) → s .sum ≤ fuel → size t + fuel ≤ suc gas + s .sum → Spends (λ w u. Spent (size t) s (length (encode w)) u) (expandUse limit operations fuel rec n t s)
+    unfolding expandUse
+    use-spends n t s low g =
+        get-holds _ s
+        (show-holds _ _ s
+        (orRefuse-holds _ _ _ s low λ r _.
+        test-holds _ _ _ s low λ _.
+        test-holds _ _ _ s low λ enough.
+        addStep-holds _ _ s
+        (let result : Tree = transcribe (r .pattern) (tail (mark (suc (s .steps)) t)) [] (r .template) in
+        let e : size (produce (mark (suc (s .steps)) result)) ≡ size result = produce-size (mark (suc (s .steps)) result) ∙ mark-size (suc (s .steps)) result in
+        weaken (good _ _ (leb-true _ _ enough) (omega (arith, e, size-positive t))) (λ x. x) (λ g u k q. q) λ w u k q.
+        record { grown = omega arith; bounded = q .bounded; short = omega (arith, e) })))
+
+    list-spends : (f : Found) (x : Name) (h t : Tree) (s : State) → s .sum ≤ fuel → size (pair h t) + fuel ≤ suc gas + s .sum → Spends (λ w u. Spent (size (pair h t)) s (length (encode w)) u) (expandList limit operations fuel rec f x (pair h t) s)
+    unfolding expandList encode nodeWords
+    list-spends (bound (variable n)) x h t s low g = named-spends (variableC n) h t s low g refl
+    list-spends (bound (macro n)) x h t s low g = use-spends n (pair h t) s low g
+    list-spends (form quote) x h t s low g = quote-spends (pair h t) s low
+    list-spends (form if) x h t s low g = if-spends (pair h t) s low g
+    list-spends (form lambda) x h t s low g = lambda-spends h t s low g
+    list-spends (form let-syntax) x h t s low g = macros-spends false x h t s low g
+    list-spends (form letrec-syntax) x h t s low g = macros-spends true x h t s low g
+    list-spends (form auxiliary) x h t s low g = refuse-holds 12 s low
+    list-spends (operation p) x h t s low g = named-spends (operationC p) h t s low g refl
+    list-spends nothing x h t s low g = refuse-holds 11 s low
+
+    name-spends : (f : Found) (s : State) → s .sum ≤ fuel → Spends (λ w u. Spent 1 s (length (encode w)) u) (expandName limit operations fuel rec f s)
+    unfolding expandName encode nodeWords
+    name-spends (bound (variable n)) s low = give-holds (variableC n) s (nothing-spent 1 s 2 low (omega arith))
+    name-spends (bound (macro n)) s low = refuse-holds 12 s low
+    name-spends (form f) s low = refuse-holds 12 s low
+    name-spends (operation p) s low = give-holds (operationC p) s (nothing-spent 1 s 2 low (omega arith))
+    name-spends nothing s low = refuse-holds 11 s low
+
+    pair-spends : (h t : Tree) (s : State) → s .sum ≤ fuel → size (pair h t) + fuel ≤ suc gas + s .sum → Spends (λ w u. Spent (size (pair h t)) s (length (encode w)) u) (expandPair limit operations fuel rec h t s)
+    unfolding expandPair
+    pair-spends empty t s low g = application-spends empty t s low g
+    pair-spends (constant a) t s low g = application-spends (constant a) t s low g
+    pair-spends (name x) t s low g = show-holds _ _ s (list-spends (lookup operations x) x (name x) t s low g)
+    pair-spends (pair a b) t s low g = application-spends (pair a b) t s low g
+
+    tree-spends : Thrifty (suc gas) (expandTree limit operations fuel rec)
+    unfolding expandTree size encode nodeWords datumWords constantWords
+    tree-spends empty s low g = refuse-holds 13 s low
+    tree-spends (constant a) s low g = give-holds (datumC (constantD a)) s (nothing-spent 1 s 2 low (omega arith))
+    tree-spends (name x) s low g = show-holds _ _ s (name-spends (lookup operations x) s low)
+    tree-spends (pair h t) s low g = pair-spends h t s low g
+
+  pub expand-spends : (gas : ℕ) → Thrifty gas (expand limit operations fuel gas)
+  unfolding expand
+  expand-spends zero t s low g = absurd (omega (arith, size-positive t))
+  expand-spends (suc gas) t s low g = tree-spends gas (expand limit operations fuel gas) (expand-spends gas) t s low g

@@ -1,0 +1,35 @@
+-- No run is out of gas: the items of the recipe and the fuel together are enough.
+use mathlib.Core.Path.{_≡_}
+use mathlib.Core.List.{List}
+use Prim.Native.Nat.{ℕ, _+_}
+use native.Mathlib.Omega.{arith}
+use lib.ListN.{length}
+use Rattle.words.specs.Limits.{macrosMost}
+use Rattle.recipe.specs.Tree.{Tree, size, element}
+use Rattle.recipe.specs.TreeLaws.{element-size}
+use Rattle.recipe.specs.Table.{treeOf}
+use Rattle.core_term.specs.Words.{encode}
+use Rattle.expansion.specs.Computation.{start}
+use Rattle.expansion.specs.Run.{accepted, turnedBack, unfinished, ended, operationNumbers, expandRecipe, run}
+use Rattle.expansion.specs.RunLaws.{unbegun, run-holds}
+use Rattle.expansion.specs.Budget.{Spent, Spends, expand-spends}
+
+-- a recipe's expansion is not out of gas, and spends no more than it may
+pub expandRecipe-spends : (fuel : ℕ) (t : Tree) → Spends macrosMost (operationNumbers t) fuel (λ w u. Spent macrosMost (operationNumbers t) fuel (size (element 1 t)) start (length (encode w)) u) (expandRecipe fuel t)
+unfolding expandRecipe start
+expandRecipe-spends fuel t = expand-spends macrosMost (operationNumbers t) fuel (size t + fuel) (element 1 t) start (omega arith) (omega (arith, element-size 1 t))
+
+turnedBack-finished : (g : ℕ) → turnedBack g ≡ unfinished → ⊥
+turnedBack-finished g e = let z : _≡_ {A = ℕ} 0 1 = cc in omega arith
+
+accepted-finished : accepted ≡ unfinished → ⊥
+accepted-finished e = let z : _≡_ {A = ℕ} 0 1 = cc in omega arith
+
+pub run-finished : (items : List ℕ) (fuel work core : ℕ) → run items fuel work core .outcome ≡ unfinished → ⊥
+unfolding unbegun ended
+run-finished items fuel work core =
+    run-holds (λ r. r .outcome ≡ unfinished → ⊥) items fuel work core (λ b. expandRecipe-spends fuel (treeOf items))
+    turnedBack-finished
+    (λ b t s l q. accepted-finished)
+    (λ b g s l r. turnedBack-finished g)
+    (λ b l x. absurd x)

@@ -1,0 +1,59 @@
+-- What holds of a run holds where it is turned back before it begins and of the end of its expansion.
+use mathlib.Core.Path.{_≡_, refl}
+use mathlib.Core.Bool.{Bool, true, false}
+use mathlib.Core.List.{List, []}
+use Prim.Native.Nat.{ℕ, _+_, _*_, _≤_}
+use lib.Dec.{leb}
+use borrow.Author.Tests.{leb-true}
+use Rattle.words.specs.Limits.{fuelMost, workRate, coreRate}
+use Rattle.words.specs.TestLaws.{and-parts}
+use Rattle.recipe.specs.Name.{Name}
+use Rattle.recipe.specs.Table.{itemCount, isLayout, treeOf}
+use Rattle.core_term.specs.Term.{Term}
+use Rattle.expansion.specs.Computation.{State, Events, Out, done, refused, starved}
+use Rattle.expansion.specs.Run.{turnedBack, Run, ended, require, areOperations, expandRecipe, run}
+use Rattle.expansion.specs.Outcomes.{Holds, isDone, isRefused, isStarved}
+
+-- turned back on ground g before it begins
+unfoldable pub unbegun : (ground : ℕ) → Run
+unbegun g = record { outcome = turnedBack g; steps = 0; sum = 0; core = []; events = [] }
+
+-- the tests of grounds 7 to 10 are passed
+pub record Begun (items : List ℕ) (fuel work core : ℕ) : Type 0 where
+  pub layout : isLayout items ≡ true
+  pub fuelled : fuel ≤ fuelMost
+  pub work-room : workRate * (itemCount items + fuel) ≤ work
+  pub core-room : coreRate * (itemCount items + fuel) ≤ core
+  pub operations : areOperations (treeOf items) ≡ true
+
+module _ (P : Run → Type 0) where
+  require-holds : (g : ℕ) (b : Bool) (r : Run) → P (unbegun g) → (b ≡ true → P r) → P (require g b r)
+  unfolding require unbegun
+  require-holds g true r p k = k refl
+  require-holds g false r p k = p
+
+  begun-holds : (items : List ℕ) (fuel work core : ℕ) → ((g : ℕ) → P (unbegun g)) → (Begun items fuel work core → P (ended (expandRecipe fuel (treeOf items)))) → P (run items fuel work core)
+  unfolding run
+  begun-holds items fuel work core p k =
+      let need = itemCount items + fuel in
+      require-holds 7 _ _ (p 7) λ a.
+      require-holds 8 _ _ (p 8) λ b.
+      require-holds 9 _ _ (p 9) λ c.
+      require-holds 10 _ _ (p 10) λ d.
+      let rooms = and-parts (leb (workRate * need) work) (leb (coreRate * need) core) c in
+      k (record { layout = a; fuelled = leb-true _ _ b; work-room = leb-true _ _ (rooms .0); core-room = leb-true _ _ (rooms .1); operations = d })
+
+  module _ {S : Type 0} {R : ℕ → State → Events → Type 0} {Q : Term Name → State → Events → Type 0} where
+    ended-holds : (o : Out (Term Name)) → Holds S R Q o → ((t : Term Name) (s : State) (l : Events) → Q t s l → P (ended (done t s l)))
+        → ((g : ℕ) (s : State) (l : Events) → R g s l → P (ended (refused g s l))) → ((l : Events) → S → P (ended (starved l))) → P (ended o)
+    ended-holds (done t s l) (isDone q) x y z = x t s l q
+    ended-holds (refused g s l) (isRefused r) x y z = y g s l r
+    ended-holds (starved l) (isStarved e) x y z = z l e
+
+    pub run-holds : (items : List ℕ) (fuel work core : ℕ) → (Begun items fuel work core → Holds S R Q (expandRecipe fuel (treeOf items)))
+        → ((g : ℕ) → P (unbegun g))
+        → (Begun items fuel work core → (t : Term Name) (s : State) (l : Events) → Q t s l → P (ended (done t s l)))
+        → (Begun items fuel work core → (g : ℕ) (s : State) (l : Events) → R g s l → P (ended (refused g s l)))
+        → (Begun items fuel work core → (l : Events) → S → P (ended (starved l)))
+        → P (run items fuel work core)
+    run-holds items fuel work core h p x y z = begun-holds items fuel work core p λ b. ended-holds (expandRecipe fuel (treeOf items)) (h b) (x b) (y b) (z b)
