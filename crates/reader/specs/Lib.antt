@@ -1,0 +1,10 @@
+-- Reading: a recipe text's bytes to tokens, tokens to two elements, elements to items and names.
+pub mod Token
+pub mod Meaning
+pub mod Numbering
+pub mod Elements
+pub mod Read
+pub mod Rows
+pub mod RecipeText
+pub mod TokenLaws
+pub mod MeaningLaws

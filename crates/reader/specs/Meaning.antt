@@ -1,0 +1,70 @@
+-- What a token means by itself: a parenthesis, a constant, a name, or ground 3 or 4. The interface is Meaning and meaningOf.
+use mathlib.Core.Bool.{Bool, true, false, not, _&&_, cond}
+use mathlib.Core.List.{List, [], _∷_}
+use Prim.Native.Nat.{ℕ, suc, _+_, _*_, _-_}
+use lib.Dec.{eqb, leb}
+use lib.IntN.{ℤ, pos, negℤ}
+use lib.ListN.{length, getD, drop}
+use mir.Syntax.{w32}
+use mir.Val.{ofZ}
+use Rattle.words.specs.Limits.{nameLengthMost}
+use Rattle.words.specs.Lists.{within, all, equal}
+use Rattle.datum.specs.Constant.{Constant, integer, boolean}
+use Rattle.reader.specs.Token.{Token, open′, close′, bad, flag, run, isDigit}
+
+pub data Meaning : Type 0 where
+  begins ends : Meaning
+  constant : Constant → Meaning
+  name : List ℕ → Meaning
+  refused : (ground : ℕ) → Meaning
+
+-- ---- integers
+
+-- a run that starts with a minus
+unfoldable pub isNegative : List ℕ → Bool
+isNegative cs = eqb (getD cs 0 0) 45
+
+-- a run without its minus
+unfoldable pub unsigned : List ℕ → List ℕ
+unsigned cs = cond (isNegative cs) (drop 1 cs) cs
+
+-- a run that starts with a digit, or with a minus and a digit
+unfoldable pub isNumeral : List ℕ → Bool
+isNumeral cs = isDigit (getD (unsigned cs) 0 0)
+
+-- the number that digits after n spell
+unfoldable pub valueFrom : ℕ → List ℕ → ℕ
+valueFrom n [] = n
+valueFrom n (c ∷ cs) = valueFrom (10 * n + (c - 48)) cs
+
+-- the number without its sign
+unfoldable pub size : List ℕ → ℕ
+size cs = valueFrom 0 (unsigned cs)
+
+-- from -2147483648 to 2147483647
+unfoldable pub inRange : List ℕ → Bool
+inRange cs = leb (size cs) (cond (isNegative cs) 2147483648 2147483647)
+
+unfoldable pub value : List ℕ → ℤ
+value cs = cond (isNegative cs) (negℤ (pos (size cs))) (pos (size cs))
+
+-- an optional minus and digits, within the range; its word is two's complement
+unfoldable pub integerOf : List ℕ → Meaning
+integerOf cs =
+    cond (all isDigit (unsigned cs)) (cond (inRange cs) (constant (integer (ofZ w32 (value cs)))) (refused 4)) (refused 3)
+
+-- ---- names
+
+-- 1 to 63 bytes, and not a single dot
+unfoldable pub nameOf : List ℕ → Meaning
+nameOf cs = cond (within 1 nameLengthMost (length cs) && not (equal cs (46 ∷ []))) (name cs) (refused 3)
+
+-- ---- tokens
+
+unfoldable pub meaningOf : Token → Meaning
+unfolding isNegative unsigned isNumeral valueFrom size inRange value integerOf nameOf isDigit within all equal integer boolean
+meaningOf open′ = begins
+meaningOf close′ = ends
+meaningOf bad = refused 3
+meaningOf (flag b) = constant (boolean b)
+meaningOf (run cs) = cond (isNumeral cs) (integerOf cs) (nameOf cs)

@@ -1,0 +1,87 @@
+-- The meaning of reading: for a text and the lengths of the lent tables the answer, and what both tables hold afterwards.
+-- The interface is recipeOf, read, and the functions of read's answer below it; contracts are equations with these.
+use mathlib.Core.Bool.{Bool, true, false, _||_, cond}
+use mathlib.Core.List.{List, [], _∷_, _++_, map}
+use Prim.Native.Nat.{ℕ, _-_}
+use lib.Dec.{ltb, leb}
+use lib.ListN.{length, replicate}
+use Rattle.words.specs.Limits.{itemWordsLeast, nameBytesLeast, textBytesMost}
+use Rattle.datum.specs.Datum.{Data, noneD, datumItems, dataItems}
+use Rattle.datum.specs.NameTable.{slots}
+use Rattle.reader.specs.Token.{tokens}
+use Rattle.reader.specs.Meaning.{meaningOf}
+use Rattle.reader.specs.Elements.{Answer, got, back, then, Reading, start, onto, isComplete, takesAll}
+use Rattle.reader.specs.Numbering.{baseNames, dataWords}
+
+-- what a recipe text says: the list of its two elements, names by number, and the names
+pub record Recipe : Type 0 where
+  pub elements : Data
+  pub names : List (List ℕ)
+
+-- at the end of the text: ground 5 where a list is open or an element missing
+unfoldable pub finished : Reading → Answer Recipe
+finished r = cond (isComplete r) (got (record { elements = onto (r .here) noneD; names = r .known })) (back 5)
+
+-- grounds 3 to 6, over the names that have numbers before the text
+unfoldable pub recipeOver : List (List ℕ) → List ℕ → Answer Recipe
+unfolding finished tokens meaningOf then start takesAll
+recipeOver names text = then (takesAll (map meaningOf (tokens text)) (start names 2)) finished
+
+unfoldable pub recipeOf : List ℕ → Answer Recipe
+unfolding recipeOver baseNames
+recipeOf text = recipeOver baseNames text
+
+-- the call: a text and the lengths of the two lent tables
+unfoldable pub read : List ℕ → ℕ → ℕ → Answer Recipe
+unfolding recipeOf
+read text items names =
+    cond (ltb items itemWordsLeast || ltb names nameBytesLeast) (back 1)
+    (cond (ltb textBytesMost (length text)) (back 2)
+    (recipeOf text))
+
+-- ---- the numbers of the answer
+
+-- accepted is 0
+unfoldable pub groundOf : Answer Recipe → ℕ
+groundOf (got r) = 0
+groundOf (back g) = g
+
+-- N
+unfoldable pub itemCount : Answer Recipe → ℕ
+unfolding dataItems
+itemCount (got r) = dataItems (r .elements)
+itemCount (back g) = 0
+
+unfoldable pub nameCount : Answer Recipe → ℕ
+nameCount (got r) = length (r .names)
+nameCount (back g) = 0
+
+-- ---- the tables
+
+-- the item table's words, and the name table's bytes
+unfoldable pub itemWords : Recipe → List ℕ
+unfolding dataWords datumItems dataItems
+itemWords r = dataWords 0 (r .elements)
+
+unfoldable pub nameBytes : Recipe → List ℕ
+unfolding slots
+nameBytes r = slots (r .names)
+
+-- words, then zeros to the end of a lent table
+unfoldable pub filled : List ℕ → List ℕ → List ℕ
+filled ws table = ws ++ replicate (length table - length ws) 0
+
+-- a refused call: grounds 1 and 2 change nothing, the others zero the table
+unfoldable pub cleared : ℕ → List ℕ → List ℕ
+cleared g table = cond (leb g 2) table (replicate (length table) 0)
+
+-- the lent tables after the call, from what they held before
+unfoldable pub itemsAfter : Answer Recipe → List ℕ → List ℕ
+unfolding filled cleared itemWords
+itemsAfter (got r) table = filled (itemWords r) table
+itemsAfter (back g) table = cleared g table
+
+unfoldable pub namesAfter : Answer Recipe → List ℕ → List ℕ
+unfolding filled cleared nameBytes
+namesAfter (got r) table = filled (nameBytes r) table
+namesAfter (back g) table = cleared g table

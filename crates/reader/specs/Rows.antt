@@ -1,0 +1,106 @@
+-- Texts with known readings, as rows of one table.
+use mathlib.Core.Path.{_≡_, refl}
+use mathlib.Core.List.{List, [], _∷_, _++_, map}
+use Prim.Native.Nat.{ℕ, zero, suc}
+use Prim.Native.String.{String}
+use lib.ListN.{drop, replicate}
+use Rattle.words.specs.Text.{bytes}
+use Rattle.datum.specs.NameTable.{slot}
+use Rattle.reader.specs.Read.{recipeOf, read, groundOf, itemCount, nameCount, itemsAfter, namesAfter}
+
+pub record Row : Type 0 where
+  pub text : List ℕ
+  pub ground : ℕ
+  pub items : ℕ
+  pub names : ℕ
+
+-- an accepted text, with its item and name counts; a refused one, with its ground
+unfoldable pub accepted : List ℕ → ℕ → ℕ → Row
+accepted text items names = record { text = text; ground = 0; items = items; names = names }
+
+unfoldable pub turnedBack : List ℕ → ℕ → Row
+turnedBack text ground = record { text = text; ground = ground; items = 0; names = 0 }
+
+unfoldable pub rowOf : List ℕ → Row
+unfolding recipeOf groundOf itemCount nameCount
+rowOf text =
+    let a = recipeOf text in
+    record { text = text; ground = groundOf a; items = itemCount a; names = nameCount a }
+
+-- n copies
+unfoldable pub repeated : ℕ → List ℕ → List ℕ
+repeated zero bs = []
+repeated (suc n) bs = bs ++ repeated n bs
+
+unfoldable pub rows : List Row
+unfolding accepted turnedBack bytes
+rows =
+    accepted (bytes "#t#f") 5 8 ∷
+    accepted (bytes "#tx") 5 9 ∷
+    turnedBack (bytes "() #tx") 5 ∷
+    accepted (bytes "(a)(b)") 9 10 ∷
+    accepted (bytes "1(2)") 7 8 ∷
+    turnedBack (bytes "() 1x") 3 ∷
+    accepted (bytes "() -") 5 9 ∷
+    accepted (bytes "() +5") 5 9 ∷
+    turnedBack (bytes "() .") 3 ∷
+    accepted (bytes "() ..") 5 9 ∷
+    accepted (bytes "() ...") 5 8 ∷
+    turnedBack (bytes "() 1.5") 3 ∷
+    accepted (bytes "() .5") 5 9 ∷
+    turnedBack (bytes "() 2147483648") 4 ∷
+    accepted (bytes "() -2147483648") 5 8 ∷
+    turnedBack (bytes "() -2147483649") 4 ∷
+    turnedBack (bytes "() 99999999999x") 3 ∷
+    turnedBack (bytes "() () a$") 5 ∷
+    turnedBack (bytes "() () 99999999999") 4 ∷
+    turnedBack (bytes "() ())") 5 ∷
+    turnedBack (bytes ")") 5 ∷
+    turnedBack (bytes "") 5 ∷
+    turnedBack (bytes "()") 5 ∷
+    turnedBack (bytes "() (") 5 ∷
+    turnedBack (bytes "() A") 3 ∷
+    turnedBack (bytes "() () (") 5 ∷
+    turnedBack (bytes "() #") 3 ∷
+    accepted (bytes "() -0") 5 8 ∷
+    accepted (bytes "1 2") 5 8 ∷
+    accepted (bytes "() " ++ replicate 63 97) 5 9 ∷
+    turnedBack (bytes "() " ++ replicate 64 97) 3 ∷
+    accepted (bytes "() " ++ replicate 70 48 ++ bytes "7") 5 8 ∷
+    accepted (bytes "()" ++ replicate 64 40 ++ replicate 64 41) 131 8 ∷
+    turnedBack (bytes "()" ++ replicate 65 40) 6 ∷
+    []
+
+pub rows-hold : map (λ (r : Row). rowOf (r .text)) rows ≡ rows
+unfolding rows rowOf
+rows-hold = refl
+
+-- the item table after reading `1(2)`, of a lent table that held nines
+pub items-hold : itemsAfter (recipeOf (bytes "1(2)")) (replicate 24 9)
+    ≡ 4 ∷ 1 ∷ 2 ∷ 1 ∷ 1 ∷ 0 ∷ 4 ∷ 3 ∷ 6 ∷ 4 ∷ 4 ∷ 5 ∷ 1 ∷ 2 ∷ 0 ∷ 0 ∷ 0 ∷ 0 ∷ 0 ∷ 0 ∷ 0 ∷ 0 ∷ 0 ∷ 0 ∷ []
+unfolding recipeOf bytes itemsAfter
+items-hold = refl
+
+-- the last slots of the name table after reading `x y`
+pub names-hold : drop 448 (namesAfter (recipeOf (bytes "x y")) (replicate 641 9))
+    ≡ slot (bytes "_") ++ slot (bytes "x") ++ slot (bytes "y") ++ (0 ∷ [])
+unfolding recipeOf bytes namesAfter slot
+names-hold = refl
+
+-- integers as their words
+pub words-hold : drop 9 (itemsAfter (recipeOf (bytes "() -2147483648")) (replicate 15 9)) ≡ 1 ∷ 2147483648 ∷ 0 ∷ 0 ∷ 0 ∷ 0 ∷ []
+unfolding recipeOf bytes itemsAfter
+words-hold = refl
+
+-- the limits of e, of a call's tables and of its text
+pub limits-hold : map groundOf (
+    recipeOf (bytes "() (" ++ repeated 2045 (bytes " 1") ++ bytes ")")
+    ∷ recipeOf (bytes "() (" ++ repeated 2046 (bytes " 1") ++ bytes ")")
+    ∷ read (bytes "1 2") 12288 65536
+    ∷ read (replicate 65536 32) 12287 65536
+    ∷ read (bytes "1 2") 12288 65535
+    ∷ read (replicate 65536 32) 12288 65536
+    ∷ []
+    ) ≡ 0 ∷ 6 ∷ 0 ∷ 1 ∷ 1 ∷ 2 ∷ []
+unfolding recipeOf bytes read groundOf repeated
+limits-hold = refl

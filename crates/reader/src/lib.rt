@@ -1,0 +1,1 @@
+// The reading service. Its meaning stands in specs/Read.antt.
