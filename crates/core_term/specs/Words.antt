@@ -1,30 +1,32 @@
--- Words.
+-- The words of data and terms: each node's own, then its parts'.
 use mathlib.Core.List.{List, [], _∷_, _++_}
-use Prim.Native.Nat.{ℕ, suc}
+use Prim.Native.Nat.{ℕ}
 use lib.ListN.{length}
-use Rattle.datum.specs.Constant.{constantWords}
-use Rattle.datum.specs.Datum.{Datum, constantD, nameD, listD, Data, noneD, moreD, count}
-use Rattle.core_term.specs.Term.{Term, variableC, operationC, datumC, ifC, lambdaC, applicationC, Terms, noneC, moreC, termCount}
+use Rattle.datum.specs.Datum.{Datum, constantD, nameD, listD, Data, noneD, moreD}
+use Rattle.datum.specs.Datum as D
+use Rattle.core_term.specs.Node.{nodeWords, variableN, operationN, constantN, nameN, listN, ifN, lambdaN, applicationN}
+use Rattle.core_term.specs.Term.{Term, variableC, operationC, datumC, ifC, lambdaC, applicationC, Terms, noneC, moreC, count}
 
 unfoldable mutual
   pub datumWords : Datum → List ℕ
-  datumWords (constantD a) = constantWords a
-  datumWords (nameD n) = 4 ∷ n ∷ []
-  datumWords (listD ds) = 5 ∷ count ds ∷ dataWords ds
+  datumWords (constantD a) = nodeWords (constantN a)
+  datumWords (nameD n) = nodeWords (nameN n)
+  datumWords (listD ds) = nodeWords (listN (D.count ds)) ++ dataWords ds
 
   pub dataWords : Data → List ℕ
   dataWords noneD = []
   dataWords (moreD d ds) = datumWords d ++ dataWords ds
 
-unfoldable mutual
-  pub encode : {F : Type 0} → Term F → List ℕ
-  encode (variableC n) = 0 ∷ n ∷ []
-  encode (operationC n) = 1 ∷ n ∷ []
-  encode (datumC d) = datumWords d
-  encode (ifC a b c) = 6 ∷ (encode a ++ (encode b ++ encode c))
-  encode (lambdaC first formals body) = 7 ∷ first ∷ length formals ∷ encode body
-  encode (applicationC head operands) = 8 ∷ termCount operands ∷ (encode head ++ encodeAll operands)
+module _ {F : Type 0} where
+  unfoldable mutual
+    pub encode : Term F → List ℕ
+    encode (variableC n) = nodeWords (variableN n)
+    encode (operationC n) = nodeWords (operationN n)
+    encode (datumC d) = datumWords d
+    encode (ifC x y z) = nodeWords ifN ++ (encode x ++ (encode y ++ encode z))
+    encode (lambdaC first formals body) = nodeWords (lambdaN first (length formals)) ++ encode body
+    encode (applicationC h ts) = nodeWords (applicationN (count ts)) ++ (encode h ++ encodeAll ts)
 
-  pub encodeAll : {F : Type 0} → Terms F → List ℕ
-  encodeAll noneC = []
-  encodeAll (moreC a b) = encode a ++ encodeAll b
+    pub encodeAll : Terms F → List ℕ
+    encodeAll noneC = []
+    encodeAll (moreC t ts) = encode t ++ encodeAll ts

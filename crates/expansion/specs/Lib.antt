@@ -7,3 +7,8 @@ pub mod Transcribe
 pub mod Computation
 pub mod Forms
 pub mod Run
+pub mod Computed
+pub mod Row
+pub mod Rows
+pub mod RowsMore
+pub mod RowsTables

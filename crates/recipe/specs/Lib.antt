@@ -3,3 +3,4 @@ pub mod Name
 pub mod Tree
 pub mod TreeLaws
 pub mod Table
+pub mod Rows

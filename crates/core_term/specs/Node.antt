@@ -1,0 +1,102 @@
+-- A core term's nodes: a code and the words that stand with it, as document 01's 'The core term' lists them.
+-- nodeWords and nodeAt are the two ways between a node and its words; everything else goes by nodes.
+use mathlib.Core.Bool.{Bool, true, false, cond}
+use mathlib.Core.List.{List, [], _∷_}
+use mathlib.Core.Option.{Option, none, some}
+use Prim.Native.Nat.{ℕ, suc}
+use lib.Dec.{leb}
+use lib.ListN.{getD}
+use Rattle.words.specs.Limits.{formalsMost}
+use Rattle.datum.specs.Constant.{Constant, isConstant, constantWords, integer, boolean}
+
+pub data Node : Type 0 where
+  variableN operationN : (number : ℕ) → Node
+  constantN : Constant → Node
+  nameN : (number : ℕ) → Node
+  listN : (count : ℕ) → Node
+  ifN : Node
+  lambdaN : (first count : ℕ) → Node
+  applicationN : (count : ℕ) → Node
+
+-- a node's own words
+unfoldable pub nodeWords : Node → List ℕ
+nodeWords (variableN n) = 0 ∷ n ∷ []
+nodeWords (operationN n) = 1 ∷ n ∷ []
+nodeWords (constantN a) = constantWords a
+nodeWords (nameN n) = 4 ∷ n ∷ []
+nodeWords (listN n) = 5 ∷ n ∷ []
+nodeWords ifN = 6 ∷ []
+nodeWords (lambdaN first n) = 7 ∷ first ∷ n ∷ []
+nodeWords (applicationN n) = 8 ∷ n ∷ []
+
+-- how many terms or data follow them
+unfoldable pub parts : Node → ℕ
+parts (variableN n) = 0
+parts (operationN n) = 0
+parts (constantN a) = 0
+parts (nameN n) = 0
+parts (listN n) = n
+parts ifN = 3
+parts (lambdaN first n) = 1
+parts (applicationN n) = suc n
+
+-- how many variables it binds
+unfoldable pub binds : Node → ℕ
+binds (variableN n) = 0
+binds (operationN n) = 0
+binds (constantN a) = 0
+binds (nameN n) = 0
+binds (listN n) = 0
+binds ifN = 0
+binds (lambdaN first n) = n
+binds (applicationN n) = 0
+
+-- booleans are 0 or 1, and a lambda has 0 to 8 variables
+unfoldable pub isNode : Node → Bool
+isNode (variableN n) = true
+isNode (operationN n) = true
+isNode (constantN a) = isConstant a
+isNode (nameN n) = true
+isNode (listN n) = true
+isNode ifN = true
+isNode (lambdaN first n) = leb n formalsMost
+isNode (applicationN n) = true
+
+-- ---- the node at the beginning of words
+
+-- what is read from words, and the words left
+abbrev pub Read : Type 0 → Type 0
+Read A = List ℕ → Option (A × List ℕ)
+
+unfoldable pub nothing : {A : Type 0} → Read A
+nothing ws = none
+
+-- one that is followed by a word, or by two
+unfoldable pub withWord : (ℕ → Node) → Read Node
+withWord f [] = none
+withWord f (a ∷ ws) = some (f a, ws)
+
+unfoldable pub withTwo : (ℕ → ℕ → Node) → Read Node
+withTwo f [] = none
+withTwo f (a ∷ []) = none
+withTwo f (a ∷ b ∷ ws) = some (f a b, ws)
+
+unfoldable pub alone : Node → Read Node
+alone x ws = some (x, ws)
+
+-- codes 0 to 8
+unfoldable pub codes : List (Read Node)
+codes =
+    withWord variableN ∷ withWord operationN ∷ withWord (λ w. constantN (integer w)) ∷ withWord (λ w. constantN (boolean w)) ∷
+    withWord nameN ∷ withWord listN ∷ alone ifN ∷ withTwo lambdaN ∷ withWord applicationN ∷ []
+
+unfoldable pub ofCode : Read Node
+ofCode [] = none
+ofCode (code ∷ ws) = getD codes code nothing ws
+
+unfoldable pub sound : Option (Node × List ℕ) → Option (Node × List ℕ)
+sound none = none
+sound (some (x, ws)) = cond (isNode x) (some (x, ws)) none
+
+unfoldable pub nodeAt : Read Node
+nodeAt ws = sound (ofCode ws)

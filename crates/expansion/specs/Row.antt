@@ -1,0 +1,57 @@
+-- A recipe with a known expansion, as a row of a table: its text, the fuel, and what its run gives in the filing program's tables.
+use mathlib.Core.List.{List, [], _∷_}
+use Prim.Native.Nat.{ℕ}
+use Prim.Native.String.{String}
+use Rattle.words.specs.Text.{bytes}
+use Rattle.reader.specs.Elements.{Answer, got, back}
+use Rattle.reader.specs.Read.{Recipe, recipeOf, itemWords}
+use Rattle.expansion.specs.Run.{Outcome, accepted, turnedBack, Run}
+use Rattle.expansion.specs.Computed.{computed}
+
+pub record Row : Type 0 where
+  pub text : String
+  pub fuel : ℕ
+  pub outcome : Outcome
+  pub steps : ℕ
+  pub sum : ℕ
+  pub core : List ℕ
+
+-- ---- the filing program's fuel and lengths of lent tables
+
+abbrev pub filingFuel : ℕ
+filingFuel = 512
+
+abbrev pub filingWork : ℕ
+filingWork = 16368
+
+abbrev pub filingCore : ℕ
+filingCore = 2046
+
+-- ---- rows
+
+-- an accepted recipe: steps, sum, core words
+unfoldable pub gives : String → (steps sum : ℕ) → List ℕ → Row
+gives text steps sum core = record { text = text; fuel = filingFuel; outcome = accepted; steps = steps; sum = sum; core = core }
+
+-- a refused one: ground, steps, sum
+unfoldable pub refuses : String → (ground steps sum : ℕ) → Row
+refuses text ground steps sum = record { text = text; fuel = filingFuel; outcome = turnedBack ground; steps = steps; sum = sum; core = [] }
+
+-- the row with other fuel
+unfoldable pub withFuel : ℕ → Row → Row
+withFuel fuel r = record { text = r .text; fuel = fuel; outcome = r .outcome; steps = r .steps; sum = r .sum; core = r .core }
+
+-- ---- the row that the definitions give
+
+-- the item table of a text; none where the text is refused
+unfoldable pub itemsOf : Answer Recipe → List ℕ
+unfolding itemWords
+itemsOf (got recipe) = itemWords recipe
+itemsOf (back g) = []
+
+unfoldable pub rowOf : String → ℕ → Run → Row
+rowOf text fuel run = record { text = text; fuel = fuel; outcome = run .outcome; steps = run .steps; sum = run .sum; core = run .core }
+
+unfoldable pub filed : Row → Row
+unfolding bytes recipeOf itemsOf computed rowOf
+filed r = rowOf (r .text) (r .fuel) (computed (itemsOf (recipeOf (bytes (r .text)))) (r .fuel) filingWork filingCore)

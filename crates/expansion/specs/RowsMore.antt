@@ -1,0 +1,60 @@
+-- More recipes with known expansions: those of document 01 that Rows of crate rows leaves out, other fuel, private names, operations.
+use mathlib.Core.Path.{_≡_, refl}
+use mathlib.Core.List.{List, [], _∷_, map}
+use Rattle.expansion.specs.Row.{Row, gives, refuses, withFuel, filed}
+
+unfoldable pub recipes : List Row
+unfolding gives refuses withFuel
+recipes =
+    -- List of pairs: one ellipsis over a list
+    gives "(list) (let-syntax ((l (syntax-rules () ((_ (a b) ...) (list (list b a) ...))))) (l (1 2) (3 4)))"
+    1 19 (8 ∷ 2 ∷ 1 ∷ 0 ∷ 8 ∷ 2 ∷ 1 ∷ 0 ∷ 2 ∷ 2 ∷ 2 ∷ 1 ∷ 8 ∷ 2 ∷ 1 ∷ 0 ∷ 2 ∷ 4 ∷ 2 ∷ 3 ∷ []) ∷
+    -- List of pairs: no pair
+    gives "(list) (let-syntax ((l (syntax-rules () ((_ (a b) ...) (list (list b a) ...))))) (l))" 1 3 (8 ∷ 0 ∷ 1 ∷ 0 ∷ []) ∷
+    -- Else: a literal without a binding
+    gives "() (let-syntax ((c (syntax-rules (else) ((_ else) 1) ((_ x) 2)))) (c else))" 1 1 (2 ∷ 1 ∷ []) ∷
+    -- Else: a literal bound at the use
+    gives "() (let-syntax ((c (syntax-rules (else) ((_ else) 1) ((_ x) 2)))) (lambda (else) (c else)))" 1 1 (7 ∷ 0 ∷ 1 ∷ 2 ∷ 2 ∷ []) ∷
+    -- F1: the sum reaches the fuel
+    withFuel 21 (gives "() (let-syntax ((or2 (syntax-rules () ((_ a b) ((lambda (t) (if t t b)) a))))) (lambda (t) (or2 #f t)))"
+    1 21 (7 ∷ 0 ∷ 1 ∷ 8 ∷ 1 ∷ 7 ∷ 1 ∷ 1 ∷ 6 ∷ 0 ∷ 1 ∷ 0 ∷ 1 ∷ 0 ∷ 0 ∷ 3 ∷ 0 ∷ [])) ∷
+    -- F1: the sum would pass it
+    withFuel 20 (refuses "() (let-syntax ((or2 (syntax-rules () ((_ a b) ((lambda (t) (if t t b)) a))))) (lambda (t) (or2 #f t)))" 18 0 0) ∷
+    -- F2: 17 before 18 with no fuel
+    withFuel 0 (refuses "(list) (let-syntax ((z (syntax-rules () ((_ (a ...) (b ...)) (list (list a b) ...)) ((_ x y) 9)))) (z (1 2) (3)))" 17 0 0) ∷
+    -- F3: 15 with no fuel
+    withFuel 0 (refuses "() (let-syntax ((m (syntax-rules () ((_ a ...) a)))) 1)" 15 0 0) ∷
+    -- Private: an inserted name that is quoted
+    gives "() (let-syntax ((m (syntax-rules () ((_) (quote x))))) (m))" 1 5 (4 ∷ 9 ∷ []) ∷
+    -- Private: an inserted syntax-rules, bound
+    refuses "() (let-syntax ((m (syntax-rules () ((_) (lambda (syntax-rules) (let-syntax ((k (syntax-rules () ((_) 1)))) (k))))))) (m))" 15 1 35 ∷
+    -- Private: an inserted name that is a literal of its rule
+    gives "() (let-syntax ((m (syntax-rules (t) ((_ t) (lambda (t) t)) ((_ x) 0)))) (m t))" 1 9 (7 ∷ 0 ∷ 1 ∷ 0 ∷ 0 ∷ []) ∷
+    -- Private: an inserted name that is an operation
+    gives "(op) (let-syntax ((m (syntax-rules () ((_ a) (lambda (op) (op a)))))) (m op))" 1 13 (7 ∷ 0 ∷ 1 ∷ 8 ∷ 1 ∷ 0 ∷ 0 ∷ 1 ∷ 0 ∷ []) ∷
+    -- Private: a form that is quoted and not reached
+    gives "() (quote (let-syntax ((m (syntax-rules () ((_) x)))) 1))"
+    0 0 (5 ∷ 3 ∷ 4 ∷ 3 ∷ 5 ∷ 1 ∷ 5 ∷ 2 ∷ 4 ∷ 8 ∷ 5 ∷ 3 ∷ 4 ∷ 5 ∷ 5 ∷ 0 ∷ 5 ∷ 2 ∷ 5 ∷ 1 ∷ 4 ∷ 7 ∷ 4 ∷ 9 ∷ 2 ∷ 1 ∷ []) ∷
+    -- Names: an inserted _ as a bare expression
+    refuses "() (let-syntax ((m (syntax-rules () ((_) _)))) (m))" 12 1 1 ∷
+    -- Names: a quoted name that is bound keeps its number
+    gives "() (lambda (x) (quote (m x)))" 0 0 (7 ∷ 0 ∷ 1 ∷ 5 ∷ 2 ∷ 4 ∷ 9 ∷ 4 ∷ 8 ∷ []) ∷
+    -- Order: from the left: 13
+    refuses "(f) (f () x)" 13 0 0 ∷
+    -- Order: from the left: 11
+    refuses "(f) (f x ())" 11 0 0 ∷
+    -- Integers: -0 is 0
+    gives "() (let-syntax ((m (syntax-rules () ((_ 0) 1)))) (m -0))" 1 1 (2 ∷ 1 ∷ []) ∷
+    -- Ground 7: the first element is no list
+    refuses "1 2" 7 0 0 ∷
+    -- Ground 10: an operation below 8
+    refuses "(if) 1" 10 0 0 ∷
+    -- Ground 10: an operation twice
+    refuses "(a a) 1" 10 0 0 ∷
+    -- Ground 10: an operation that is no name
+    refuses "(a (b)) 1" 10 0 0 ∷
+    []
+
+pub recipes-hold : map filed recipes ≡ recipes
+unfolding filed recipes
+recipes-hold = refl

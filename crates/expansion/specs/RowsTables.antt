@@ -1,0 +1,56 @@
+-- Known runs of item tables with given fuel and lengths of the lent tables: grounds 7 to 10 in this order.
+use mathlib.Core.Path.{_≡_, refl}
+use mathlib.Core.List.{List, [], _∷_, map}
+use Prim.Native.Nat.{ℕ}
+use Rattle.recipe.specs.Rows.{X1, X2, X3}
+use Rattle.expansion.specs.Run.{Outcome, accepted, turnedBack, Run}
+use Rattle.expansion.specs.Computed.{computed}
+
+pub record Row : Type 0 where
+  pub items : List ℕ
+  pub fuel : ℕ
+  pub work : ℕ
+  pub core : ℕ
+  pub outcome : Outcome
+  pub words : List ℕ
+
+unfoldable pub row : List ℕ → (fuel work core : ℕ) → Outcome → List ℕ → Row
+row items fuel work core outcome words =
+    record { items = items; fuel = fuel; work = work; core = core; outcome = outcome; words = words }
+
+-- the row that the definition gives
+unfoldable pub ran : Row → Row
+unfolding computed row
+ran r =
+    let run = computed (r .items) (r .fuel) (r .work) (r .core) in
+    row (r .items) (r .fuel) (r .work) (r .core) (run .outcome) (run .core)
+
+-- `(if) 5`, whose operation is below 8
+unfoldable pub ifAsOperation : List ℕ
+ifAsOperation = 4 ∷ 1 ∷ 4 ∷ 4 ∷ 2 ∷ 3 ∷ 3 ∷ 1 ∷ 0 ∷ 0 ∷ 0 ∷ 0 ∷ 4 ∷ 5 ∷ 6 ∷ 1 ∷ 5 ∷ 0 ∷ 0 ∷ 0 ∷ 0 ∷ []
+
+unfoldable pub rows : List Row
+unfolding row X1 X2 X3 ifAsOperation
+rows =
+    -- X1, X2, F4: accepted with the least tables, no fuel needed
+    row X1 0 120 10 accepted (2 ∷ 5 ∷ []) ∷
+    row X2 0 120 10 accepted (2 ∷ 5 ∷ []) ∷
+    -- the most fuel, and larger tables
+    row X2 8192 200000 20000 accepted (2 ∷ 5 ∷ []) ∷
+    -- F4: one work word too few, one core word too few
+    row X2 0 119 10 (turnedBack 9) [] ∷
+    row X2 0 120 9 (turnedBack 9) [] ∷
+    -- fuel counts like items
+    row X2 1 143 12 (turnedBack 9) [] ∷
+    row X2 1 144 11 (turnedBack 9) [] ∷
+    row X2 1 144 12 accepted (2 ∷ 5 ∷ []) ∷
+    -- F4: 7 before 8, 8 before 9, 9 before 10
+    row X3 8193 0 0 (turnedBack 7) [] ∷
+    row X2 8193 0 0 (turnedBack 8) [] ∷
+    row ifAsOperation 0 167 14 (turnedBack 9) [] ∷
+    row ifAsOperation 0 168 14 (turnedBack 10) [] ∷
+    []
+
+pub rows-hold : map ran rows ≡ rows
+unfolding ran rows
+rows-hold = refl

@@ -1,0 +1,43 @@
+-- The output of the filing program, bytes and all: what reading, expansion and writing give for a text and fuel, printed.
+use mathlib.Core.List.{List, [], _∷_, _++_}
+use mathlib.Core.Option.{Option, none, some}
+use Prim.Native.Nat.{ℕ}
+use Rattle.words.specs.Limits.{itemWordsLeast, nameBytesLeast, operationsMost}
+use Rattle.words.specs.Text.{bytes}
+use Rattle.datum.specs.NameTable.{hasName, nameAt}
+use Rattle.reader.specs.Elements.{Answer, got, back}
+use Rattle.reader.specs.Read.{Recipe, read, itemWords, nameBytes}
+use Rattle.core_term.specs.Term.{Plain}
+use Rattle.core_term.specs.Check.{termOf}
+use Rattle.core_term.specs.Decimal.{decimal}
+use Rattle.core_term.specs.Text.{spaced, text}
+use Rattle.expansion.specs.Run.{Outcome, accepted, turnedBack, unfinished, Run, run}
+use Rattle.expansion.specs.Row.{filingWork, filingCore}
+
+-- a line of words, with its LF
+unfoldable pub line : List (List ℕ) → List ℕ
+line ws = spaced ws ++ (10 ∷ [])
+
+-- refused, the ground, the two counts
+unfoldable pub refusal : (ground steps sum : ℕ) → List ℕ
+refusal ground steps sum = line (bytes "refused" ∷ decimal ground ∷ decimal steps ∷ decimal sum ∷ [])
+
+-- accepted, the two counts, and the term in a line of its own; words that writing refuses are ground 19
+unfoldable pub acceptance : List ℕ → (steps sum : ℕ) → Option Plain → List ℕ
+acceptance names steps sum none = refusal 19 0 0
+acceptance names steps sum (some t) = line (bytes "accepted" ∷ decimal steps ∷ decimal sum ∷ []) ++ line (text (nameAt names) t ∷ [])
+
+-- a run, with the name table of its recipe
+unfoldable pub printed : List ℕ → Outcome → Run → List ℕ
+printed names accepted r = acceptance names (r .steps) (r .sum) (termOf operationsMost (hasName names) (r .core))
+printed names (turnedBack ground) r = refusal ground (r .steps) (r .sum)
+printed names unfinished r = []
+
+unfoldable pub outputOf : ℕ → Answer Recipe → List ℕ
+outputOf fuel (back ground) = refusal ground 0 0
+outputOf fuel (got recipe) =
+    let r = run (itemWords recipe) fuel filingWork filingCore in
+    printed (nameBytes recipe) (r .outcome) r
+
+unfoldable pub output : List ℕ → ℕ → List ℕ
+output recipe fuel = outputOf fuel (read recipe itemWordsLeast nameBytesLeast)

@@ -1,0 +1,84 @@
+-- The recipes of document 01 that are marked P, from the text to the whole output: rows of one table, proved together.
+use mathlib.Core.Path.{_≡_, refl}
+use mathlib.Core.List.{List, [], _∷_, map}
+use Prim.Native.Nat.{ℕ}
+use Prim.Native.String.{String}
+use Rattle.words.specs.Lists as Lists
+use Rattle.words.specs.Text.{bytes}
+use Rattle.datum.specs.NameTable as NameTable
+use Rattle.reader.specs.Read as Read
+use Rattle.core_term.specs.Check as Check
+use Rattle.core_term.specs.Decimal as Decimal
+use Rattle.core_term.specs.Text as Text
+use Rattle.expansion.specs.Computed.{computed}
+use Rattle.expansion.specs.Row.{filingFuel}
+use Rattle.rows.specs.Output.{line, refusal, acceptance, printed, outputOf, output}
+
+pub record Row : Type 0 where
+  pub recipe : String
+  pub fuel : ℕ
+  pub output : String
+
+unfoldable pub rowWith : ℕ → String → String → Row
+rowWith fuel recipe output = record { recipe = recipe; fuel = fuel; output = output }
+
+unfoldable pub row : String → String → Row
+unfolding rowWith
+row = rowWith filingFuel
+
+unfoldable pub filed : Row → List ℕ
+unfolding
+    Lists.within bytes
+    NameTable.slot NameTable.slots NameTable.lengthAt NameTable.nameAt NameTable.hasName
+    Read.read Read.itemWords Read.nameBytes
+    computed
+    Check.termOf
+    Decimal.leading Decimal.digitsBy Decimal.decimal Decimal.signed Decimal.integerText
+    Text.spacedAfter Text.spaced Text.parenthesized Text.variableText Text.operationText Text.formalTexts Text.constantText
+    Text.bare Text.outermost Text.text
+    line refusal acceptance printed outputOf output
+filed r = output (bytes (r .recipe)) (r .fuel)
+
+unfoldable pub rows : List Row
+unfolding row rowWith
+rows =
+    row "() (let-syntax ((or2 (syntax-rules () ((_ a b) ((lambda (t) (if t t b)) a))))) (lambda (t) (or2 #f t)))"
+    "accepted 1 21\n(lambda (v0) ((lambda (v1) (if v1 v1 v0)) #f))\n" ∷
+    rowWith 21 "() (let-syntax ((or2 (syntax-rules () ((_ a b) ((lambda (t) (if t t b)) a))))) (lambda (t) (or2 #f t)))"
+    "accepted 1 21\n(lambda (v0) ((lambda (v1) (if v1 v1 v0)) #f))\n" ∷
+    rowWith 20 "() (let-syntax ((or2 (syntax-rules () ((_ a b) ((lambda (t) (if t t b)) a))))) (lambda (t) (or2 #f t)))"
+    "refused 18 0 0\n" ∷
+    row "() (lambda (x) (let-syntax ((m (syntax-rules () ((_) x)))) (lambda (x) (m))))"
+    "accepted 1 1\n(lambda (v0) (lambda (v1) v0))\n" ∷
+    row "() (lambda (if) (if 1 2))"
+    "accepted 0 0\n(lambda (v0) (v0 1 2))\n" ∷
+    row "() (let-syntax ((if (syntax-rules () ((_ a b c) (if a b c))))) (if 1 2 3))"
+    "accepted 1 9\n(if 1 2 3)\n" ∷
+    row "() (letrec-syntax ((if (syntax-rules () ((_ a b c) (if a b c))))) (if 1 2 3))"
+    "refused 18 56 504\n" ∷
+    row "() (let-syntax ((k (syntax-rules () ((_ x) (lambda (t x) t))))) (k t))"
+    "accepted 1 11\n(lambda (v0 v1) v0)\n" ∷
+    row "() (lambda (t t) 1)"
+    "refused 14 0 0\n" ∷
+    row "() ()"
+    "refused 13 0 0\n" ∷
+    row "() (f 1)"
+    "refused 11 0 0\n" ∷
+    -- beside those marked P: the limit of ground 9, a refused reading, a quoted list
+    -- e = 84 passes ground 9
+    row "() (1 1 1 1 1 1 1 1 1 1 1 1 1 1 1 1 1 1 1 1 1 1 1 1 1 1 1 1 1 1 1 1 1 1 1 1 1 1 1 1 1 1 1 1 1 1 1 1 1 1 1 1 1 1 1 1 1 1 1 1 1 1 1 1 1 1 1 1 1 1 1 1 1 1 1 1 1 1 1 1 1 1)"
+    "accepted 0 0\n(1 1 1 1 1 1 1 1 1 1 1 1 1 1 1 1 1 1 1 1 1 1 1 1 1 1 1 1 1 1 1 1 1 1 1 1 1 1 1 1 1 1 1 1 1 1 1 1 1 1 1 1 1 1 1 1 1 1 1 1 1 1 1 1 1 1 1 1 1 1 1 1 1 1 1 1 1 1 1 1 1 1)\n" ∷
+    -- e = 85 does not
+    row "() (1 1 1 1 1 1 1 1 1 1 1 1 1 1 1 1 1 1 1 1 1 1 1 1 1 1 1 1 1 1 1 1 1 1 1 1 1 1 1 1 1 1 1 1 1 1 1 1 1 1 1 1 1 1 1 1 1 1 1 1 1 1 1 1 1 1 1 1 1 1 1 1 1 1 1 1 1 1 1 1 1 1 1)"
+    "refused 9 0 0\n" ∷
+    -- a text that is not read
+    row "() (lambda (x) x"
+    "refused 5 0 0\n" ∷
+    -- a quoted list, with its names
+    row "() (lambda (y) (quote (y if #t -5 ())))"
+    "accepted 0 0\n(lambda (v0) (quote (y if #t -5 ())))\n" ∷
+    []
+
+pub rows-hold : map filed rows ≡ map (λ r. bytes (r .output)) rows
+unfolding filed rows
+rows-hold = refl
