@@ -1,0 +1,333 @@
+-- What a computation reaches outside results stems from the tree at hand: where no list of an expression is headed by the unproduced name
+-- of item p, its expansion shows no form reached by that name.
+use mathlib.Core.Path.{_≡_, refl, ap, ap₂, sym, _∙_}
+use mathlib.Core.Bool.{Bool, true, false, not, _&&_, _||_, cond}
+use mathlib.Core.List.{List, [], _∷_, _++_, map}
+use mathlib.Core.Option.{Option, none, some}
+use Prim.Native.Nat.{ℕ, zero, suc, _+_}
+use lib.Dec.{eqb, leb}
+use lib.ListN.{length, getD}
+use Rattle.words.specs.Lists.{any}
+use Rattle.datum.specs.Constant.{Constant}
+use Rattle.recipe.specs.Name.{Binding, variable, macro, Name, distinct, same, markName, produceName, giveBinding, bindName}
+use Rattle.recipe.specs.Tree.{Tree, empty, constant, name, pair, size, names, strip, onName, onPair, isListOf, elements, element, tail, onNames, mark, produce, bind, bindAll}
+use Rattle.core_term.specs.Term.{Term}
+use Rattle.expansion.specs.Lookup.{Form, quote, if, lambda, let-syntax, letrec-syntax, auxiliary, Found, bound, form, operation, nothing, lookup}
+use Rattle.expansion.specs.Rules.{Rule, rulesOf}
+use Rattle.expansion.specs.Match.{firstFit}
+use Rattle.expansion.specs.Transcribe.{equalLengths, transcribe}
+use Rattle.expansion.specs.Computation.{State, Event, looked, quoted, reached, binds, Events, Out, done, refused, starved, M, after, goOn, _>>=_, _>>_, give, refuse, show, test, orRefuse, get, addVariables, addMacros, addStep}
+use Rattle.expansion.specs.Forms.{isLambda, formals, isMacros, keywords, rulesForms, bindings, readRules, expandAll, expandQuote, expandIf, expandLambda, expandMacros, expandUse, expandOperands, expandList, expandName, expandApplication, expandPair, expandTree, expand}
+use Rattle.private_names.specs.Statement.{isReachedAt}
+
+-- what a computation shows
+unfoldable pub shown : {A : Type 0} → Out A → Events
+shown (done a s l) = l
+shown (refused g s l) = l
+shown (starved l) = l
+
+pub shown-after : {A : Type 0} (l : Events) (o : Out A) → shown (after l o) ≡ l ++ shown o
+unfolding shown after
+shown-after l (done a s k) = refl
+shown-after l (refused g s k) = refl
+shown-after l (starved k) = refl
+
+pub any-append : {A : Type 0} (f : A → Bool) (xs ys : List A) → any f (xs ++ ys) ≡ (any f xs || any f ys)
+unfolding any
+any-append f [] ys = refl
+any-append f (x ∷ xs) ys = go (f x) (any-append f xs ys)
+  where
+    go : (b : Bool) → any f (xs ++ ys) ≡ (any f xs || any f ys) → (b || any f (xs ++ ys)) ≡ ((b || any f xs) || any f ys)
+    go true e = refl
+    go false e = e
+
+neither : (a b : Bool) → a ≡ false → b ≡ false → (a || b) ≡ false
+neither a b e f = ap₂ _||_ e f
+
+module _ (p : ℕ) where
+  -- the unproduced name of item p
+  unfoldable pub isAt : Name → Bool
+  isAt x = not (x .produced) && eqb (x .item) p
+
+  unfoldable pub isNameAt : Tree → Bool
+  isNameAt = onName isAt false
+
+  -- no list of an expression, or of the elements of a list, is headed by that name
+  mutual
+    pub data Unheaded : Tree → Type 0 where
+      empty₁ : Unheaded empty
+      constant₁ : {a : Constant} → Unheaded (constant a)
+      name₁ : {x : Name} → Unheaded (name x)
+      pair₁ : {h t : Tree} → isNameAt h ≡ false → Unheaded h → UnheadedAll t → Unheaded (pair h t)
+
+    pub data UnheadedAll : Tree → Type 0 where
+      empty₂ : UnheadedAll empty
+      constant₂ : {a : Constant} → UnheadedAll (constant a)
+      name₂ : {x : Name} → UnheadedAll (name x)
+      pair₂ : {h t : Tree} → Unheaded h → UnheadedAll t → UnheadedAll (pair h t)
+
+  pub unheaded-all : {t : Tree} → Unheaded t → UnheadedAll t
+  unheaded-all empty₁ = empty₂
+  unheaded-all constant₁ = constant₂
+  unheaded-all name₁ = name₂
+  unheaded-all (pair₁ e u v) = pair₂ u v
+
+  pub unheaded-element : (k : ℕ) {t : Tree} → UnheadedAll t → Unheaded (element k t)
+  unfolding element elements
+  unheaded-element k empty₂ = empty₁
+  unheaded-element k constant₂ = empty₁
+  unheaded-element k name₂ = empty₁
+  unheaded-element zero (pair₂ u v) = u
+  unheaded-element (suc k) (pair₂ u v) = unheaded-element k v
+
+  -- ---- names keep their item and whether they were produced
+
+  module _ (f : Name → Name) (keeps : (x : Name) → isAt (f x) ≡ isAt x) where
+    isNameAt-onNames : (t : Tree) → isNameAt (onNames f t) ≡ isNameAt t
+    unfolding isNameAt onName onNames
+    isNameAt-onNames empty = refl
+    isNameAt-onNames (constant a) = refl
+    isNameAt-onNames (name x) = keeps x
+    isNameAt-onNames (pair h t) = refl
+
+    mutual
+      unfolding onNames
+
+      pub unheaded-onNames : {t : Tree} → Unheaded t → Unheaded (onNames f t)
+      unheaded-onNames empty₁ = empty₁
+      unheaded-onNames constant₁ = constant₁
+      unheaded-onNames name₁ = name₁
+      unheaded-onNames (pair₁ {h = h} e u v) = pair₁ (isNameAt-onNames h ∙ e) (unheaded-onNames u) (unheadedAll-onNames v)
+
+      pub unheadedAll-onNames : {t : Tree} → UnheadedAll t → UnheadedAll (onNames f t)
+      unheadedAll-onNames empty₂ = empty₂
+      unheadedAll-onNames constant₂ = constant₂
+      unheadedAll-onNames name₂ = name₂
+      unheadedAll-onNames (pair₂ u v) = pair₂ (unheaded-onNames u) (unheadedAll-onNames v)
+
+  isAt-bind : (i : Name) (b : Binding) (x : Name) → isAt (bindName i b x) ≡ isAt x
+  unfolding isAt bindName giveBinding
+  isAt-bind i b x = go (same i x)
+    where
+      go : (c : Bool) → isAt (cond c (giveBinding b x) x) ≡ isAt x
+      go true = refl
+      go false = refl
+
+  pub unheaded-bindAll : (f : ℕ → Binding) (k : ℕ) (xs : List Name) {t : Tree} → Unheaded t → Unheaded (bindAll f k xs t)
+  unfolding bindAll bind
+  unheaded-bindAll f k [] u = u
+  unheaded-bindAll f k (x ∷ xs) u = unheaded-bindAll f (suc k) xs (unheaded-onNames (bindName x (f k)) (isAt-bind x (f k)) u)
+
+  -- a step's result has no such name
+  isNameAt-produce : (t : Tree) → isNameAt (produce t) ≡ false
+  unfolding isNameAt onName isAt produce onNames produceName
+  isNameAt-produce empty = refl
+  isNameAt-produce (constant a) = refl
+  isNameAt-produce (name x) = refl
+  isNameAt-produce (pair h t) = refl
+
+  pub unheaded-produce : (t : Tree) → Unheaded (produce t) × UnheadedAll (produce t)
+  unfolding produce onNames
+  unheaded-produce empty = (empty₁, empty₂)
+  unheaded-produce (constant a) = (constant₁, constant₂)
+  unheaded-produce (name x) = (name₁, name₂)
+  unheaded-produce (pair h t) =
+      let a = unheaded-produce h in
+      let b = unheaded-produce t in
+      (pair₁ (isNameAt-produce h) (a .0) (b .1), pair₂ (a .0) (b .1))
+
+  -- ---- what is not reached
+
+  pub data Unreached {A : Type 0} : Out A → Type 0 where
+    unreached : {o : Out A} → any (isReachedAt p) (shown o) ≡ false → Unreached o
+
+  pub none-reached : {A : Type 0} {o : Out A} → Unreached o → any (isReachedAt p) (shown o) ≡ false
+  none-reached (unreached e) = e
+
+  module _ {A : Type 0} where
+    after-unreached : (l : Events) (o : Out A) → any (isReachedAt p) l ≡ false → Unreached o → Unreached (after l o)
+    after-unreached l o e (unreached f) =
+        unreached (ap (any (isReachedAt p)) (shown-after l o) ∙ any-append (isReachedAt p) l (shown o) ∙ neither _ _ e f)
+
+    give-unreached : (a : A) (s : State) → Unreached (give a s)
+    unfolding give shown any
+    give-unreached a s = unreached refl
+
+    refuse-unreached : (g : ℕ) (s : State) → Unreached {A = A} (refuse g s)
+    unfolding refuse shown any
+    refuse-unreached g s = unreached refl
+
+    test-unreached : (g : ℕ) (b : Bool) (n : M A) (s : State) → Unreached (n s) → Unreached ((_>>_ (test g b) n) s)
+    unfolding _>>_ goOn test shown any
+    test-unreached g true n s k = after-unreached [] (n s) refl k
+    test-unreached g false n s k = unreached refl
+
+    show-unreached : (l : Events) (n : M A) (s : State) → any (isReachedAt p) l ≡ false → Unreached (n s) → Unreached ((_>>_ (show l) n) s)
+    unfolding _>>_ goOn show
+    show-unreached l n s e k = after-unreached l (n s) e k
+
+    goes-unreached : (m : M (Unit {0})) (n : M A) (s t : State) → m s ≡ done tt t [] → Unreached (n t) → Unreached ((_>>_ m n) s)
+    unfolding _>>_ goOn any
+    goes-unreached m n s t e k = rw e (after-unreached [] (n t) refl k)
+
+    get-unreached : (n : State → M A) (s : State) → Unreached (n s s) → Unreached ((_>>=_ get n) s)
+    unfolding _>>=_ goOn get any
+    get-unreached n s k = after-unreached [] (n s s) refl k
+
+  module _ {A B : Type 0} where
+    bind-unreached : (m : M A) (f : A → M B) (s : State) → Unreached (m s) → ((a : A) (t : State) → Unreached (f a t)) → Unreached ((_>>=_ m f) s)
+    unfolding _>>=_ goOn shown
+    bind-unreached m f s h k = go (m s) h
+      where
+        go : (o : Out A) → Unreached o → Unreached (goOn f o)
+        go (done a t l) (unreached e) = after-unreached l (f a t) e (k a t)
+        go (refused g t l) (unreached e) = unreached e
+        go (starved l) (unreached e) = unreached e
+
+    found-unreached : (g : ℕ) (o : Option A) (f : A → M B) (s : State) → ((a : A) → Unreached (f a s)) → Unreached ((_>>=_ (orRefuse g o) f) s)
+    unfolding _>>=_ goOn orRefuse shown any
+    found-unreached g none f s k = unreached refl
+    found-unreached g (some a) f s k = after-unreached [] (f a s) refl (k a)
+
+  -- lookups, quoted names and bindings are no forms reached
+  quoted-none : (xs : List Name) → any (isReachedAt p) (map quoted xs) ≡ false
+  unfolding any isReachedAt
+  quoted-none [] = refl
+  quoted-none (x ∷ xs) = quoted-none xs
+
+  looked-none : (xs : List Name) → any (isReachedAt p) (map looked xs) ≡ false
+  unfolding any isReachedAt
+  looked-none [] = refl
+  looked-none (x ∷ xs) = looked-none xs
+
+  bindings-none : (f : ℕ → Binding) (k : ℕ) (xs : List Name) → any (isReachedAt p) (bindings f k xs) ≡ false
+  unfolding any isReachedAt bindings
+  bindings-none f k [] = refl
+  bindings-none f k (x ∷ xs) = bindings-none f (suc k) xs
+
+  head-none : (t : Tree) → any (isReachedAt p) (onName (λ x. looked x ∷ []) [] t) ≡ false
+  unfolding any isReachedAt onName
+  head-none empty = refl
+  head-none (constant a) = refl
+  head-none (name x) = refl
+  head-none (pair h t) = refl
+
+  read-unreached : (rs : List Tree) (s : State) → Unreached (readRules rs s)
+  unfolding readRules
+  read-unreached [] s = give-unreached [] s
+  read-unreached (r ∷ rs) s =
+      show-unreached _ _ s (head-none (element 0 r))
+      (found-unreached 15 (rulesOf r) _ s λ first.
+      bind-unreached _ _ s (read-unreached rs s) λ later t.
+      give-unreached _ t)
+
+  -- ---- forms
+
+  module _ (limit : ℕ) (operations : List ℕ) (fuel : ℕ) (rec : Tree → M (Term Name))
+      (good : (t : Tree) → Unheaded t → (s : State) → Unreached (rec t s)) where
+    all-unreached : {t : Tree} → UnheadedAll t → (s : State) → Unreached (expandAll limit operations fuel rec t s)
+    unfolding expandAll
+    all-unreached empty₂ s = give-unreached _ s
+    all-unreached constant₂ s = give-unreached _ s
+    all-unreached name₂ s = give-unreached _ s
+    all-unreached (pair₂ {h = h} {t = t} u v) s =
+        bind-unreached _ _ s (good h u s) λ a w.
+        bind-unreached _ _ w (all-unreached v w) λ b z.
+        give-unreached _ z
+
+    operands-unreached : (head : Term Name) {t : Tree} → UnheadedAll t → (s : State) → Unreached (expandOperands limit operations fuel rec head t s)
+    unfolding expandOperands
+    operands-unreached head u s = bind-unreached _ _ s (all-unreached u s) λ a w. give-unreached _ w
+
+    application-unreached : {h t : Tree} → Unheaded h → UnheadedAll t → (s : State) → Unreached (expandApplication limit operations fuel rec h t s)
+    unfolding expandApplication
+    application-unreached {h} u v s = bind-unreached _ _ s (good h u s) λ a w. operands-unreached a v w
+
+    quote-unreached : (t : Tree) (s : State) → Unreached (expandQuote limit operations fuel rec t s)
+    unfolding expandQuote
+    quote-unreached t s = test-unreached 13 _ _ s (show-unreached _ _ s (quoted-none (names (element 1 t))) (give-unreached _ s))
+
+    if-unreached : {t : Tree} → UnheadedAll t → (s : State) → Unreached (expandIf limit operations fuel rec t s)
+    unfolding expandIf
+    if-unreached u s =
+        test-unreached 13 _ _ s
+        (bind-unreached _ _ s (good _ (unheaded-element 1 u) s) λ a v.
+        bind-unreached _ _ v (good _ (unheaded-element 2 u) v) λ b w.
+        bind-unreached _ _ w (good _ (unheaded-element 3 u) w) λ c z.
+        give-unreached _ z)
+
+    lambda-unreached : {t : Tree} → UnheadedAll t → (s : State) → Unreached (expandLambda limit operations fuel rec t s)
+    unfolding expandLambda addVariables
+    lambda-unreached {t} u s =
+        test-unreached 13 _ _ s
+        (test-unreached 14 _ _ s
+        (get-unreached _ s
+        (show-unreached _ _ s (bindings-none variable (s .variables) (formals t))
+        (goes-unreached _ _ s _ refl
+        (bind-unreached _ _ _ (good _ (unheaded-bindAll variable (s .variables) (formals t) (unheaded-element 2 u)) _) λ b z.
+        give-unreached _ z)))))
+
+    macros-unreached : (inside : Bool) (x : Name) → isAt x ≡ false → {t : Tree} → UnheadedAll t → (s : State) → Unreached (expandMacros limit operations fuel rec inside x t s)
+    unfolding expandMacros addMacros any isReachedAt isAt
+    macros-unreached inside x e {t} u s =
+        show-unreached _ _ s (ap (λ b. b || false) e)
+        (test-unreached 13 _ _ s
+        (test-unreached 14 _ _ s
+        (get-unreached _ s
+        (show-unreached _ _ s (bindings-none macro (length (s .macros)) (keywords t))
+        (bind-unreached _ _ s (read-unreached _ s) λ rules v.
+        goes-unreached _ _ v _ refl
+        (good _ (unheaded-bindAll macro (length (s .macros)) (keywords t) (unheaded-element 2 u)) _))))))
+
+    use-unreached : (n : ℕ) (t : Tree) (s : State) → Unreached (expandUse limit operations fuel rec n t s)
+    unfolding expandUse addStep
+    use-unreached n t s =
+        get-unreached _ s
+        (show-unreached _ _ s (looked-none (firstFit (getD (s .macros) n []) (tail (mark (suc (s .steps)) t)) .0))
+        (found-unreached 16 _ _ s λ r.
+        test-unreached 17 _ _ s
+        (test-unreached 18 _ _ s
+        (goes-unreached _ _ s _ refl
+        (good _ (unheaded-produce _ .0) _)))))
+
+    list-unreached : (f : Found) (x : Name) → isAt x ≡ false → {t : Tree} → UnheadedAll t → (s : State) → Unreached (expandList limit operations fuel rec f x (pair (name x) t) s)
+    unfolding expandList tail onPair
+    list-unreached (bound (variable n)) x e u s = operands-unreached _ u s
+    list-unreached (bound (macro n)) x e u s = use-unreached n _ s
+    list-unreached (form quote) x e u s = quote-unreached _ s
+    list-unreached (form if) x e u s = if-unreached (pair₂ name₁ u) s
+    list-unreached (form lambda) x e u s = lambda-unreached (pair₂ name₁ u) s
+    list-unreached (form let-syntax) x e u s = macros-unreached false x e (pair₂ name₁ u) s
+    list-unreached (form letrec-syntax) x e u s = macros-unreached true x e (pair₂ name₁ u) s
+    list-unreached (form auxiliary) x e u s = refuse-unreached 12 s
+    list-unreached (operation k) x e u s = operands-unreached _ u s
+    list-unreached nothing x e u s = refuse-unreached 11 s
+
+    name-unreached : (f : Found) (s : State) → Unreached (expandName limit operations fuel rec f s)
+    unfolding expandName
+    name-unreached (bound (variable n)) s = give-unreached _ s
+    name-unreached (bound (macro n)) s = refuse-unreached 12 s
+    name-unreached (form f) s = refuse-unreached 12 s
+    name-unreached (operation k) s = give-unreached _ s
+    name-unreached nothing s = refuse-unreached 11 s
+
+    pair-unreached : (h : Tree) {t : Tree} → isNameAt h ≡ false → Unheaded h → UnheadedAll t → (s : State) → Unreached (expandPair limit operations fuel rec h t s)
+    unfolding expandPair any isReachedAt isNameAt onName
+    pair-unreached empty e u v s = application-unreached u v s
+    pair-unreached (constant a) e u v s = application-unreached u v s
+    pair-unreached (name x) e u v s = show-unreached _ _ s refl (list-unreached (lookup operations x) x e v s)
+    pair-unreached (pair a b) e u v s = application-unreached u v s
+
+    tree-unreached : (t : Tree) → Unheaded t → (s : State) → Unreached (expandTree limit operations fuel rec t s)
+    unfolding expandTree any isReachedAt
+    tree-unreached _ empty₁ s = refuse-unreached 13 s
+    tree-unreached _ constant₁ s = give-unreached _ s
+    tree-unreached _ (name₁ {x = x}) s = show-unreached _ _ s refl (name-unreached (lookup operations x) s)
+    tree-unreached _ (pair₁ {h = h} e u v) s = pair-unreached h e u v s
+
+  -- Reach: what is reached outside results is a list of the tree at hand, by its head
+  pub expand-unreached : (limit : ℕ) (operations : List ℕ) (fuel gas : ℕ) (t : Tree) → Unheaded t → (s : State) → Unreached (expand limit operations fuel gas t s)
+  unfolding expand shown any
+  expand-unreached limit operations fuel zero t u s = unreached refl
+  expand-unreached limit operations fuel (suc gas) t u s =
+      tree-unreached limit operations fuel (expand limit operations fuel gas) (expand-unreached limit operations fuel gas) t u s

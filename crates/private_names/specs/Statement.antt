@@ -1,0 +1,150 @@
+-- Demand 3, stated over the definition of a run, in the words of document 01, 'Runs, copies and private names'. Nothing is proved here.
+use mathlib.Core.Path.{_≡_}
+use mathlib.Core.Bool.{Bool, true, false, not, _&&_, _||_, cond}
+use mathlib.Core.List.{List, [], _∷_, _++_}
+use mathlib.Core.Option.{Option, none, some}
+use Prim.Native.Nat.{ℕ, suc}
+use lib.Dec.{eqb, ltb}
+use Rattle.words.specs.Limits.{namesMost, baseNameCount}
+use Rattle.words.specs.Lists.{all, any}
+use Rattle.recipe.specs.Name.{Binding, Name, bindingKey, isEllipsis}
+use Rattle.recipe.specs.Tree.{Tree, empty, constant, name, pair, names, onName, element, tail}
+use Rattle.recipe.specs.Table.{items, treeOf}
+use Rattle.expansion.specs.Rules.{variables}
+use Rattle.expansion.specs.Computation.{Event, looked, quoted, reached, binds, Events}
+use Rattle.expansion.specs.Run.{Outcome, Run, run}
+
+-- what demand 3 takes: a let-syntax or letrec-syntax, by the item of its head name; one of its macros and one of that macro's rules,
+-- both counted from 0; the old name and the new, by number
+pub record Choice : Type 0 where
+  pub form : ℕ
+  pub macro : ℕ
+  pub rule : ℕ
+  pub old : ℕ
+  pub new : ℕ
+
+-- ---- the rule, by its place in the recipe
+
+-- the trees of which a tree is built, itself first
+unfoldable pub parts : Tree → List Tree
+parts empty = empty ∷ []
+parts (constant a) = constant a ∷ []
+parts (name x) = name x ∷ []
+parts (pair h t) = pair h t ∷ (parts h ++ parts t)
+
+unfoldable pub firstWith : (Tree → Bool) → List Tree → Tree
+firstWith f [] = empty
+firstWith f (t ∷ ts) = let later = firstWith f ts in cond (f t) t later
+
+-- the list's head is the name of item i
+unfoldable pub hasHead : ℕ → Tree → Bool
+hasHead i t = onName (λ x. eqb (x .item) i) false (element 0 t)
+
+-- the form
+unfoldable pub formAt : Tree → Choice → Tree
+formAt t c = firstWith (hasHead (c .form)) (parts t)
+
+-- the rules of the macro, (syntax-rules (literal ...) (pattern template) ...)
+unfoldable pub rulesAt : Tree → Choice → Tree
+rulesAt t c = element 1 (element (c .macro) (element 1 (formAt t c)))
+
+-- the rule, (pattern template)
+unfoldable pub ruleAt : Tree → Choice → Tree
+ruleAt t c = element (c .rule) (tail (tail (rulesAt t c)))
+
+-- that template
+unfoldable pub templateAt : Tree → Choice → Tree
+templateAt t c = element 1 (ruleAt t c)
+
+-- a variable of the rule has this number: neither `...` nor `_` nor a literal, and not in the pattern's first place
+unfoldable pub isVariableAt : Tree → Choice → ℕ → Bool
+isVariableAt t c n =
+    any (λ v. eqb (v .0 .number) n) (variables isEllipsis (names (element 1 (rulesAt t c))) 0 (tail (element 0 (ruleAt t c))))
+
+-- ---- the old name and the new
+
+-- an item of that name in that template
+unfoldable pub isOldItem : Tree → Choice → ℕ → Bool
+isOldItem t c i = any (λ x. eqb (x .number) (c .old) && eqb (x .item) i) (names (templateAt t c))
+
+-- any name in its template, neither `...` nor `_`, that is no variable of the rule
+unfoldable pub isPrivate : Tree → Choice → Bool
+isPrivate t c =
+    any (λ x. eqb (x .number) (c .old)) (names (templateAt t c))
+    && (not (eqb (c .old) 6) && (not (eqb (c .old) 7) && not (isVariableAt t c (c .old))))
+
+-- a name that neither the recipe nor the base forms use: any number from 8 to 1,023 that no name item of the table holds
+unfoldable pub isNew : List ℕ → ℕ → Bool
+isNew ws n = not (ltb n baseNameCount) && (ltb n namesMost && all (λ x. not (eqb (x .kind) 3 && eqb (x .first) n)) (items 0 ws))
+
+-- the table, placed from i, with number n in place of the number of each name item that C tells
+unfoldable pub renumber : (C : ℕ → Bool) → ℕ → ℕ → List ℕ → List ℕ
+renumber C n i [] = []
+renumber C n i (k ∷ []) = k ∷ []
+renumber C n i (k ∷ a ∷ []) = k ∷ a ∷ []
+renumber C n i (k ∷ a ∷ b ∷ ws) = k ∷ cond (eqb k 3 && C i) n a ∷ b ∷ renumber C n (suc i) ws
+
+-- the new name in place of the old throughout that template, every other name keeping its number
+unfoldable pub renamed : List ℕ → Choice → List ℕ
+renamed ws c = renumber (isOldItem (treeOf ws) c) (c .new) 0 ws
+
+-- ---- what the first run shows
+
+-- a form is reached other than through a macro's result: the run comes to it, and its head name never stood in a step's result
+unfoldable pub isReachedAt : ℕ → Event → Bool
+isReachedAt i (looked x) = false
+isReachedAt i (quoted x) = false
+isReachedAt i (reached x) = not (x .produced) && eqb (x .item) i
+isReachedAt i (binds b x) = false
+
+-- a copy: a name in a step's result that stems from an item of that name in that template (C), whatever its marks and binding
+unfoldable pub isCopy : (C : ℕ → Bool) → Name → Bool
+isCopy C x = x .produced && C (x .item)
+
+-- the event makes this binding, and its own name, the name at the place where its form bound it, is a copy
+unfoldable pub bindsCopy : (C : ℕ → Bool) → Binding → Event → Bool
+bindsCopy C b (looked x) = false
+bindsCopy C b (quoted x) = false
+bindsCopy C b (reached x) = false
+bindsCopy C b (binds c x) = eqb (bindingKey (some b)) (bindingKey (some c)) && isCopy C x
+
+-- a binding whose own name is such a copy
+unfoldable pub isOwnedByCopy : (C : ℕ → Bool) → Events → Option Binding → Bool
+isOwnedByCopy C shown none = false
+isOwnedByCopy C shown (some b) = any (bindsCopy C b) shown
+
+-- no copy is quoted; a lookup of a copy (of all four kinds) finds a binding whose own name is such a copy
+unfoldable pub isHidden : (C : ℕ → Bool) → Events → Event → Bool
+isHidden C shown (looked x) = not (isCopy C x) || isOwnedByCopy C shown (x .binding)
+isHidden C shown (quoted x) = not (isCopy C x)
+isHidden C shown (reached x) = true
+isHidden C shown (binds b x) = true
+
+-- ---- the claim
+
+-- the hypotheses on a recipe and what its run shows, one by one: the form is reached other than through a macro's result; the old
+-- name is private; the new name is new; copies stay hidden
+unfoldable pub hypotheses : List ℕ → Choice → Events → List Bool
+hypotheses ws c shown =
+    any (isReachedAt (c .form)) shown
+    ∷ isPrivate (treeOf ws) c
+    ∷ isNew ws (c .new)
+    ∷ all (isHidden (isOldItem (treeOf ws) c) shown) shown
+    ∷ []
+
+-- outcome, the two counts, and the core term word for word
+pub record Answer : Type 0 where
+  pub outcome : Outcome
+  pub steps : ℕ
+  pub sum : ℕ
+  pub core : List ℕ
+
+unfoldable pub answerOf : Run → Answer
+answerOf r = record { outcome = r .outcome; steps = r .steps; sum = r .sum; core = r .core }
+
+-- demand 3: whatever the recipe, fuel and lengths of lent tables
+pub PrivateNames : Type 0
+PrivateNames =
+    (ws : List ℕ) (fuel work core : ℕ) (c : Choice)
+    → all (λ h. h) (hypotheses ws c (run ws fuel work core .events)) ≡ true
+    → answerOf (run (renamed ws c) fuel work core) ≡ answerOf (run ws fuel work core)

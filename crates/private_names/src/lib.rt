@@ -1,0 +1,1 @@
+// Private names of templates do not show: demand 3 about the definition of expansion, in specs/.
