@@ -1,0 +1,1 @@
+// Laws only: the theorem on private names stands in specs/.
