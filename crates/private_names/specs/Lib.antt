@@ -4,3 +4,19 @@ pub mod Statement
 pub mod Witnesses
 pub mod Reach
 pub mod Origins
+-- Private names (demand 3): no run shows them. Two runs whose trees differ in a template's private name go side by side.
+-- Read in this order: relations and what they keep; names; what may be shown; steps and states; outcomes; forms.
+pub mod Relations
+pub mod Shapes
+pub mod RulesKept
+pub mod MatchKept
+pub mod Sameness
+pub mod Shown
+pub mod Names
+pub mod Lookups
+pub mod Steps
+pub mod Terms
+pub mod States
+pub mod Outcomes
+pub mod FormsKept
+pub mod Agree
