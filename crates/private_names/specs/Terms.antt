@@ -6,7 +6,8 @@ use Prim.Native.Nat.{ℕ, suc}
 use lib.ListN.{length}
 use Rattle.datum.specs.Datum.{Datum}
 use Rattle.recipe.specs.Name.{Name}
-use Rattle.core_term.specs.Term.{Term, variableC, operationC, datumC, ifC, lambdaC, applicationC, Terms, noneC, moreC, termCount}
+use Rattle.core_term.specs.Node.{nodeWords, ifN, lambdaN, applicationN}
+use Rattle.core_term.specs.Term.{Term, variableC, operationC, datumC, ifC, lambdaC, applicationC, Terms, noneC, moreC, count}
 use Rattle.core_term.specs.Words.{encode, encodeAll}
 use Rattle.private_names.specs.Relations.{ListRel, length-rel}
 use Rattle.private_names.specs.Shown.{Renaming, isCopy, not-private-not-copy, private-copy}
@@ -35,10 +36,10 @@ module _ {F : Type 0} {R : F → F → Type 0} where
 
   -- ---- their words are equal
 
-  termCount-rel : {ts us : Terms F} → TermsOf R ts us → termCount ts ≡ termCount us
-  unfolding termCount
-  termCount-rel noneCs = refl
-  termCount-rel (moreCs a ts) = ap suc (termCount-rel ts)
+  count-rel : {ts us : Terms F} → TermsOf R ts us → count ts ≡ count us
+  unfolding count
+  count-rel noneCs = refl
+  count-rel (moreCs a ts) = ap suc (count-rel ts)
 
   mutual
     unfolding encode encodeAll
@@ -47,9 +48,9 @@ module _ {F : Type 0} {R : F → F → Type 0} where
     encode-rel variableCs = refl
     encode-rel operationCs = refl
     encode-rel datumCs = refl
-    encode-rel (ifCs a b c) = ap₂ (λ x y. 6 ∷ (x ++ y)) (encode-rel a) (ap₂ _++_ (encode-rel b) (encode-rel c))
-    encode-rel (lambdaCs {n = n} r a) = ap₂ (λ k w. 7 ∷ n ∷ k ∷ w) (length-rel r) (encode-rel a)
-    encode-rel (applicationCs a ts) = ap₂ (λ k w. 8 ∷ k ∷ w) (termCount-rel ts) (ap₂ _++_ (encode-rel a) (encodeAll-rel ts))
+    encode-rel (ifCs a b c) = ap₂ (λ x y. nodeWords ifN ++ (x ++ y)) (encode-rel a) (ap₂ _++_ (encode-rel b) (encode-rel c))
+    encode-rel (lambdaCs {n = n} r a) = ap₂ (λ k w. nodeWords (lambdaN n k) ++ w) (length-rel r) (encode-rel a)
+    encode-rel (applicationCs a ts) = ap₂ (λ k w. nodeWords (applicationN k) ++ w) (count-rel ts) (ap₂ _++_ (encode-rel a) (encodeAll-rel ts))
 
     pub encodeAll-rel : {ts us : Terms F} → TermsOf R ts us → encodeAll ts ≡ encodeAll us
     encodeAll-rel noneCs = refl
