@@ -1,0 +1,4 @@
+-- What the expander's tables mean, and laws of these meanings.
+pub mod Arena
+pub mod ArenaLaws
+pub mod NodeLaws
