@@ -2,3 +2,5 @@
 pub mod Arena
 pub mod ArenaLaws
 pub mod NodeLaws
+pub mod Marks
+pub mod MarkLaws
