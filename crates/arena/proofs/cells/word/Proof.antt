@@ -1,0 +1,36 @@
+-- `cells::word` reads the word that the arena means.
+use borrow.Author.Needs.{needs}
+use Rattle.arena.proofs.cells.word.Statement.{statement}
+use Rattle.arena.proofs.cells.word.Tie as tie
+use native.Mathlib.Omega.{arith}
+use mathlib.Core.Path.{sym, _∙_}
+use Prim.Native.Nat.{_≤_, _-_}
+use lib.ListN.{length, List·getD-eq-default}
+use Rattle.arena.specs.ArenaLaws.{wordAt-in, wordAt-out}
+
+returns : tie.Need-returns
+returns c =
+    sym (wordAt-out (c .before .args .work .now) (c .before .args .at) (c .before .args .k) (c .if1 .taken))
+
+cast-i : tie.Need-cast-i
+cast-i c = search needs
+
+mul-result : tie.Need-mul-result
+mul-result c = search needs
+
+shared-slice-read-result : tie.Need-shared-slice-read-result
+shared-slice-read-result c = search needs
+
+returns-2 : tie.Need-returns-2
+returns-2 c =
+    let h : c .before .before .before .args .k ≤ c .before .before .before .args .at = omega arith in sym (wordAt-in (c .before .before .before .args .work .now) (c .before .before .before .args .at) (c .before .before .before .args .k) h)
+
+returns-3 : tie.Need-returns-3
+returns-3 c =
+    let h : c .before .before .args .k ≤ c .before .before .args .at = omega arith in
+    let l : length (c .before .before .args .work .now) ≤ c .before .before .args .at - c .before .before .args .k = omega arith in
+    sym (wordAt-in (c .before .before .args .work .now) (c .before .before .args .at) (c .before .before .args .k) h ∙ List·getD-eq-default (c .before .before .args .work .now) 0 l)
+
+pub word-spec : {M : Type 1} → statement M
+word-spec =
+    tie.close (tie.spec returns cast-i mul-result shared-slice-read-result returns-2 returns-3)

@@ -1,0 +1,128 @@
+-- The arena: what the words of the work table mean. Cells are written once, one above another, and a cell is referred to by
+-- its END, the top that its writing left. So a cell's words, and all that it refers to, stand below the reference: what it
+-- means depends on those words alone. 0 refers to nothing. Every function here is total: a word that is not there is 0, and
+-- a reference that does not fall is none.
+use mathlib.Core.Bool.{Bool, _&&_, cond}
+use mathlib.Core.List.{List, [], _∷_}
+use mathlib.Core.Option.{Option, none, some}
+use mathlib.Core.Bool.{false}
+use Prim.Native.Nat.{ℕ, zero, suc, _+_, _*_, _-_, _/_, _%_}
+use lib.Dec.{eqb, ltb}
+use lib.ListN.{length, getD}
+use Rattle.words.specs.Lists.{equal}
+use Rattle.datum.specs.Constant.{Constant}
+use Rattle.recipe.specs.Name.{Binding, variable, macro, Name, plainName, bindingKey, markName}
+use Rattle.recipe.specs.Tree.{Tree, empty, constant, name, pair}
+use Rattle.recipe.specs.Table.{byKind}
+
+-- ---- cells
+
+-- word k of the cell that ends at `at`, counted back from its end
+unfoldable pub wordAt : List ℕ → ℕ → ℕ → ℕ
+wordAt work at k = cond (ltb at k) 0 (getD work (at - k) 0)
+
+-- a cell refers to cells below it
+unfoldable pub falling : ℕ → ℕ → ℕ
+falling at r = cond (ltb r at) r 0
+
+unfoldable pub referenceAt : List ℕ → ℕ → ℕ → ℕ
+referenceAt work at k = falling at (wordAt work at k)
+
+-- ---- bindings and marks
+
+-- a binding is one word, its key
+unfoldable pub bindingOf : ℕ → Option Binding
+bindingOf k = cond (eqb k 0) none (cond (eqb (k % 2) 1) (some (variable (k / 2))) (some (macro (k / 2 - 1))))
+
+unfoldable pub giveKey : ℕ → Name → Name
+giveKey k x = record { number = x .number; item = x .item; produced = x .produced; marks = x .marks; binding = bindingOf k }
+
+-- marks are numbers of steps, and steps are at most the fuel; a word past them marks nothing
+abbrev pub markLimit : ℕ
+markLimit = 8194
+
+unfoldable pub marked : ℕ → Name → Name
+marked m x = cond (ltb m markLimit) (markName m x) x
+
+-- the newest of a name's marks
+unfoldable pub newest : List ℕ → ℕ
+newest [] = 0
+newest (m ∷ ms) = m
+
+-- ---- wraps: what waits on a tree, as a map of its names
+
+-- the last word of a wrap's cell. A mark: step, parent, 1. A join: outer, inner, 2.
+-- A binder: own wrap and pending wrap of its name, its newest mark, the count of its marks, its number, its binding, the new
+-- binding, parent, 3
+unfoldable pub byTag : {A : Type 0} → ℕ → A → A → A → A → A
+byTag tag forMark forJoin forBinder forNone = cond (eqb tag 1) forMark (cond (eqb tag 2) forJoin (cond (eqb tag 3) forBinder forNone))
+
+-- `inner` is what the wraps below mean
+module _ (work : List ℕ) (inner : ℕ → Name → Name) where
+  unfoldable pub markOn : ℕ → Name → Name
+  markOn w x = marked (wordAt work w 3) (inner (referenceAt work w 2) x)
+
+  unfoldable pub joinOn : ℕ → Name → Name
+  joinOn w x = inner (referenceAt work w 3) (inner (referenceAt work w 2) x)
+
+  -- the marks of a binder's own name, as they were at its time
+  unfoldable pub ownMarks : ℕ → List ℕ
+  ownMarks w = inner (referenceAt work w 8) (inner (referenceAt work w 9) (plainName 0 0)) .marks
+
+  -- x is the same as the binder's own name; count and newest mark tell most others apart
+  unfoldable pub isOwn : ℕ → Name → Bool
+  isOwn w x =
+      eqb (wordAt work w 5) (x .number) && (eqb (wordAt work w 4) (bindingKey (x .binding)) && (eqb (wordAt work w 6) (length (x .marks))
+      && (eqb (wordAt work w 7) (newest (x .marks)) && equal (ownMarks w) (x .marks))))
+
+  unfoldable pub rebound : ℕ → Name → Name
+  rebound w x = cond (isOwn w x) (giveKey (wordAt work w 3) x) x
+
+  unfoldable pub binderOn : ℕ → Name → Name
+  binderOn w x = rebound w (inner (referenceAt work w 2) x)
+
+  unfoldable pub wrapStep : ℕ → Name → Name
+  wrapStep w = byTag (wordAt work w 1) (markOn w) (joinOn w) (binderOn w) (λ x. x)
+
+-- references fall, so that the reference itself is gas enough
+unfoldable pub wrapFrom : List ℕ → ℕ → ℕ → Name → Name
+wrapFrom work zero w = λ x. x
+wrapFrom work (suc gas) w = wrapStep work (wrapFrom work gas) w
+
+unfoldable pub wrapAt : List ℕ → ℕ → Name → Name
+wrapAt work w = wrapFrom work w w
+
+-- ---- nodes: a tree without what waits on it. Three words as an item's: kind and two words, a pair's its head and tail.
+-- A name's are its item and its own wrap
+
+-- the number that a name item holds
+unfoldable pub numberAt : List ℕ → ℕ → ℕ
+numberAt items i = getD items (3 * i + 1) 0
+
+-- a node past those of the table's items has stood in a result
+unfoldable pub nodeName : (items work : List ℕ) → ℕ → Name
+nodeName items work node =
+    record { number = numberAt items (wordAt work node 2); item = wordAt work node 2; produced = ltb (length items) node; marks = []; binding = none }
+
+-- the name of a name node under a pending wrap: its own wrap, then the pending one
+unfoldable pub nameAt : (items work : List ℕ) → ℕ → ℕ → Name
+nameAt items work node w = wrapAt work w (wrapAt work (referenceAt work node 1) (nodeName items work node))
+
+unfoldable pub constantAt : List ℕ → ℕ → Constant
+constantAt work node = record { kind = wordAt work node 3; first = wordAt work node 2; second = wordAt work node 1 }
+
+-- opening a list hands its wrap on unchanged
+unfoldable pub treeStep : (items work : List ℕ) → (ℕ → ℕ → Tree) → ℕ → ℕ → Tree
+treeStep items work below node w =
+    byKind (wordAt work node 3)
+    empty
+    (name (nameAt items work node w))
+    (pair (below (referenceAt work node 2) w) (below (referenceAt work node 1) w))
+    (constant (constantAt work node))
+
+unfoldable pub treeFrom : (items work : List ℕ) → ℕ → ℕ → ℕ → Tree
+treeFrom items work zero node w = empty
+treeFrom items work (suc gas) node w = treeStep items work (treeFrom items work gas) node w
+
+unfoldable pub treeAt : (items work : List ℕ) → ℕ → ℕ → Tree
+treeAt items work node w = treeFrom items work node node w

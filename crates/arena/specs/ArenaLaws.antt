@@ -1,0 +1,290 @@
+-- Laws of the arena: what a cell means depends on the words below its reference alone; what each kind of wrap and node means;
+-- and that waiting on a tree is carrying through it.
+use mathlib.Core.Path.{_≡_, refl, sym, ap, ap₂, subst, _∙_}
+use mathlib.Core.Bool.{Bool, true, false, _&&_, cond}
+use mathlib.Core.List.{List, [], _∷_}
+use mathlib.Core.Option.{Option, none, some}
+use Prim.Native.Nat.{ℕ, zero, suc, _+_, _*_, _-_, _/_, _%_, _≤_, _<_}
+use native.Mathlib.Omega.{arith}
+use lib.Dec.{eqb, ltb}
+use lib.ListN.{length, getD, take}
+use lib.Seq.{getD-take, take-take}
+use borrow.Author.Tests.{lt-ltb, le-ltb, eq-eqb, ne-eqb, ltb-true, ltb-false, eqb-true, eqb-false}
+use Rattle.words.specs.Lists.{equal}
+use Rattle.recipe.specs.Name.{Binding, variable, macro, Name, plainName, bindingKey, markName, bindName, giveBinding, same, toggle}
+use Rattle.recipe.specs.Tree.{Tree, empty, constant, name, pair, onNames, mark, bind}
+use Rattle.recipe.specs.Table.{byKind}
+use Rattle.recipe.specs.TreeLaws.{onNames-∘, onNames-cong}
+use Rattle.arena.specs.Arena.{wordAt, falling, referenceAt, bindingOf, giveKey, markLimit, marked, newest, byTag, markOn, joinOn, ownMarks, isOwn, rebound, binderOn, wrapStep, wrapFrom, wrapAt, numberAt, nodeName, nameAt, constantAt, treeStep, treeFrom, treeAt}
+
+-- ---- tests
+
+pub cases : {A : Type 0} (b : Bool) → (b ≡ true → A) → (b ≡ false → A) → A
+cases true f g = f refl
+cases false f g = g refl
+
+-- ---- words and references
+
+pub wordAt-out : (work : List ℕ) (at k : ℕ) → at < k → wordAt work at k ≡ 0
+unfolding wordAt
+wordAt-out work at k h = rw (lt-ltb at k h)
+
+pub wordAt-in : (work : List ℕ) (at k : ℕ) → k ≤ at → wordAt work at k ≡ getD work (at - k) 0
+unfolding wordAt
+wordAt-in work at k h = rw (le-ltb at k h)
+
+-- the words below a place are the same in both tables
+pub wordAt-below : (a b : List ℕ) (at k : ℕ) → 0 < k → take at a ≡ take at b → wordAt a at k ≡ wordAt b at k
+wordAt-below a b at k p e =
+    cases (ltb at k)
+    (λ t. let h : at < k = ltb-true at k t in wordAt-out a at k h ∙ sym (wordAt-out b at k h))
+    (λ t.
+    let h : k ≤ at = ltb-false at k t in
+    let l : at - k < at = omega arith in
+    wordAt-in a at k h ∙ sym (getD-take at a (at - k) 0 l) ∙ ap (λ (s : List ℕ). getD s (at - k) 0) e ∙ getD-take at b (at - k) 0 l ∙ sym (wordAt-in b at k h))
+
+pub falling-falls : (at r : ℕ) → 0 < at → falling at r < at
+unfolding falling
+falling-falls at r h =
+    cases (ltb r at)
+    (λ t. rw t (ltb-true r at t))
+    (λ t. rw t h)
+
+pub falling-is : (at r : ℕ) → r < at → falling at r ≡ r
+unfolding falling
+falling-is at r h = rw (lt-ltb r at h)
+
+pub referenceAt-falls : (work : List ℕ) (at k : ℕ) → 0 < at → referenceAt work at k < at
+unfolding referenceAt
+referenceAt-falls work at k h = falling-falls at (wordAt work at k) h
+
+pub referenceAt-below : (a b : List ℕ) (at k : ℕ) → 0 < k → take at a ≡ take at b → referenceAt a at k ≡ referenceAt b at k
+unfolding referenceAt
+referenceAt-below a b at k p e = ap (falling at) (wordAt-below a b at k p e)
+
+pub take-less : (a b : List ℕ) (m n : ℕ) → m ≤ n → take n a ≡ take n b → take m a ≡ take m b
+take-less a b m n h e = sym (take-take m n a h) ∙ ap (take m) e ∙ take-take m n b h
+
+-- ---- what a wrap means depends on the words below it alone
+
+byTag-cong : (t : ℕ) (f f′ g g′ h h′ : Name → Name) (x : Name) → f x ≡ f′ x → g x ≡ g′ x → h x ≡ h′ x → byTag t f g h (λ y. y) x ≡ byTag t f′ g′ h′ (λ y. y) x
+unfolding byTag
+byTag-cong t f f′ g g′ h h′ x p q r =
+    cases (eqb t 1)
+    (λ a. rw a p)
+    (λ a. cases (eqb t 2) (λ b. rw (a, b) q) (λ b. cases (eqb t 3) (λ c. rw (a, b, c) r) (λ c. rw (a, b, c))))
+
+module _ (a b : List ℕ) (f g : ℕ → Name → Name) (w : ℕ) (some-word : 0 < w) (e : take w a ≡ take w b) (agree : (r : ℕ) → r < w → (x : Name) → f r x ≡ g r x) where
+  inner-agree : (k : ℕ) → 0 < k → (x : Name) → f (referenceAt a w k) x ≡ g (referenceAt b w k) x
+  inner-agree k p x = agree (referenceAt a w k) (referenceAt-falls a w k some-word) x ∙ ap (λ (r : ℕ). g r x) (referenceAt-below a b w k p e)
+
+  two-agree : (j k : ℕ) → 0 < j → 0 < k → (x : Name) → f (referenceAt a w j) (f (referenceAt a w k) x) ≡ g (referenceAt b w j) (g (referenceAt b w k) x)
+  two-agree j k p q x = ap (f (referenceAt a w j)) (inner-agree k q x) ∙ inner-agree j p (g (referenceAt b w k) x)
+
+  mark-agree : (x : Name) → markOn a f w x ≡ markOn b g w x
+  unfolding markOn
+  mark-agree x = ap₂ marked (wordAt-below a b w 3 (omega arith) e) (inner-agree 2 (omega arith) x)
+
+  join-agree : (x : Name) → joinOn a f w x ≡ joinOn b g w x
+  unfolding joinOn
+  join-agree x = two-agree 3 2 (omega arith) (omega arith) x
+
+  ownMarks-agree : ownMarks a f w ≡ ownMarks b g w
+  unfolding ownMarks
+  ownMarks-agree = ap (λ (x : Name). x .marks) (two-agree 8 9 (omega arith) (omega arith) (plainName 0 0))
+
+  rebound-agree : (x : Name) → rebound a f w x ≡ rebound b g w x
+  unfolding rebound isOwn
+  rebound-agree x =
+      rw (wordAt-below a b w 3 (omega arith) e, wordAt-below a b w 4 (omega arith) e, wordAt-below a b w 5 (omega arith) e, wordAt-below a b w 6 (omega arith) e, wordAt-below a b w 7 (omega arith) e, ownMarks-agree)
+
+  binder-agree : (x : Name) → binderOn a f w x ≡ binderOn b g w x
+  unfolding binderOn
+  binder-agree x = ap (rebound a f w) (inner-agree 2 (omega arith) x) ∙ rebound-agree (g (referenceAt b w 2) x)
+
+  step-agree : (x : Name) → wrapStep a f w x ≡ wrapStep b g w x
+  unfolding wrapStep
+  step-agree x =
+      rw (wordAt-below a b w 1 (omega arith) e)
+      (byTag-cong (wordAt b w 1) (markOn a f w) (markOn b g w) (joinOn a f w) (joinOn b g w) (binderOn a f w) (binderOn b g w) x (mark-agree x) (join-agree x) (binder-agree x))
+
+wrapFrom-none : (work : List ℕ) (gas : ℕ) (x : Name) → wrapFrom work gas 0 x ≡ x
+unfolding wrapFrom wrapStep byTag wordAt
+wrapFrom-none work zero x = refl
+wrapFrom-none work (suc gas) x = refl
+
+-- gas that is enough changes nothing either
+abbrev Agree : (a b : List ℕ) (g h w : ℕ) → Type 0
+Agree a b g h w = w ≤ g → w ≤ h → take w a ≡ take w b → (x : Name) → wrapFrom a g w x ≡ wrapFrom b h w x
+
+wrapFrom-more : (a b : List ℕ) (g h : ℕ) → ((w : ℕ) → Agree a b g h w) → (w : ℕ) → Agree a b (suc g) (suc h) w
+unfolding wrapFrom
+wrapFrom-more a b g h ih zero p q e x = wrapFrom-none a (suc g) x ∙ sym (wrapFrom-none b (suc h) x)
+wrapFrom-more a b g h ih (suc w) p q e x =
+    step-agree a b (wrapFrom a g) (wrapFrom b h) (suc w) (omega arith) e
+    (λ r l y. ih r (omega arith) (omega arith) (take-less a b r (suc w) (omega arith) e) y)
+    x
+
+wrapFrom-empty : (a b : List ℕ) (g h w : ℕ) → w ≡ 0 → (x : Name) → wrapFrom a g w x ≡ wrapFrom b h w x
+wrapFrom-empty a b g h w e x = rw e (wrapFrom-none a g x ∙ sym (wrapFrom-none b h x))
+
+wrapFrom-agree : (a b : List ℕ) (g h w : ℕ) → Agree a b g h w
+wrapFrom-agree a b zero h w p q e x = wrapFrom-empty a b zero h w (omega arith) x
+wrapFrom-agree a b (suc g) zero w p q e x = wrapFrom-empty a b (suc g) zero w (omega arith) x
+wrapFrom-agree a b (suc g) (suc h) w p q e x = wrapFrom-more a b g h (wrapFrom-agree a b g h) w p q e x
+
+pub wrapAt-below : (a b : List ℕ) (w : ℕ) → take w a ≡ take w b → (x : Name) → wrapAt a w x ≡ wrapAt b w x
+unfolding wrapAt
+wrapAt-below a b w e x = wrapFrom-agree a b w w w (omega arith) (omega arith) e x
+
+-- ---- what each wrap means
+
+pub wrapAt-none : (work : List ℕ) (x : Name) → wrapAt work 0 x ≡ x
+unfolding wrapAt
+wrapAt-none work x = wrapFrom-none work 0 x
+
+-- a wrap's inner wraps are wraps
+wrapAt-step : (work : List ℕ) (w : ℕ) (x : Name) → 0 < w → wrapAt work w x ≡ wrapStep work (wrapAt work) w x
+unfolding wrapAt wrapFrom
+wrapAt-step work zero x h = absurd (omega arith)
+wrapAt-step work (suc w) x h =
+    step-agree work work (wrapFrom work w) (wrapAt work) (suc w) h refl
+    (λ r l y. wrapFrom-agree work work w r r (omega arith) (omega arith) refl y)
+    x
+
+-- a cell with a word has words below its reference
+pub wordAt-some : (work : List ℕ) (at k : ℕ) → 0 < k → (wordAt work at k ≡ 0 → ⊥) → 0 < at
+wordAt-some work zero k p h = absurd (h (wordAt-out work 0 k p))
+wordAt-some work (suc at) k p h = omega arith
+
+module _ (work : List ℕ) (w : ℕ) (some-word : 0 < w) where
+  pub wrapAt-mark : wordAt work w 1 ≡ 1 → (x : Name) → wrapAt work w x ≡ marked (wordAt work w 3) (wrapAt work (referenceAt work w 2) x)
+  unfolding wrapStep byTag markOn
+  wrapAt-mark e x = wrapAt-step work w x some-word ∙ rw e refl
+
+  pub wrapAt-join : wordAt work w 1 ≡ 2 → (x : Name) → wrapAt work w x ≡ wrapAt work (referenceAt work w 3) (wrapAt work (referenceAt work w 2) x)
+  unfolding wrapStep byTag joinOn
+  wrapAt-join e x = wrapAt-step work w x some-word ∙ rw e refl
+
+  pub wrapAt-binder : wordAt work w 1 ≡ 3 → (x : Name) → wrapAt work w x ≡ rebound work (wrapAt work) w (wrapAt work (referenceAt work w 2) x)
+  unfolding wrapStep byTag binderOn
+  wrapAt-binder e x = wrapAt-step work w x some-word ∙ rw e refl
+
+  pub wrapAt-other : (wordAt work w 1 ≡ 1 → ⊥) → (wordAt work w 1 ≡ 2 → ⊥) → (wordAt work w 1 ≡ 3 → ⊥) → (x : Name) → wrapAt work w x ≡ x
+  unfolding wrapStep byTag
+  wrapAt-other a b c x = wrapAt-step work w x some-word ∙ rw (ne-eqb _ _ a, ne-eqb _ _ b, ne-eqb _ _ c)
+
+-- ---- bindings
+
+pub bindingKey-of : (k : ℕ) → bindingKey (bindingOf k) ≡ k
+unfolding bindingKey bindingOf
+bindingKey-of k =
+    cases (eqb k 0)
+    (λ a. rw a (sym (eqb-true k 0 a)))
+    (λ a.
+    cases (eqb (k % 2) 1)
+    (λ b. rw (a, b) (omega (arith, eqb-true (k % 2) 1 b)))
+    (λ b. rw (a, b) (let n : k ≡ 0 → ⊥ = eqb-false k 0 a in let m : k % 2 ≡ 1 → ⊥ = eqb-false (k % 2) 1 b in omega arith)))
+
+pub bindingOf-key : (b : Option Binding) → bindingOf (bindingKey b) ≡ b
+unfolding bindingKey bindingOf
+bindingOf-key none = refl
+bindingOf-key (some (variable n)) =
+    let p : suc (2 * n) % 2 ≡ 1 = omega arith in
+    let q : suc (2 * n) / 2 ≡ n = omega arith in
+    rw (ne-eqb (suc (2 * n)) 0 (λ z. omega arith), p, q)
+bindingOf-key (some (macro n)) =
+    let p : suc (suc (2 * n)) % 2 ≡ 0 = omega arith in
+    let q : suc (suc (2 * n)) / 2 - 1 ≡ n = omega arith in
+    rw (ne-eqb (suc (suc (2 * n))) 0 (λ z. omega arith), p, q)
+
+-- ---- what waits changes marks and bindings only, and marks by marks alone
+
+pub rebound-marks : (work : List ℕ) (f : ℕ → Name → Name) (w : ℕ) (x : Name) → rebound work f w x .marks ≡ x .marks
+unfolding rebound giveKey
+rebound-marks work f w x = cases (isOwn work f w x) (λ t. rw t) (λ t. rw t)
+
+pub marked-marks : (m : ℕ) (x y : Name) → x .marks ≡ y .marks → marked m x .marks ≡ marked m y .marks
+unfolding marked markName
+marked-marks m x y e = cases (ltb m markLimit) (λ t. rw t (ap (toggle m) e)) (λ t. rw t e)
+
+pub marked-number : (m : ℕ) (x : Name) → marked m x .number ≡ x .number
+unfolding marked markName
+marked-number m x = cases (ltb m markLimit) (λ t. rw t) (λ t. rw t)
+
+pub rebound-number : (work : List ℕ) (f : ℕ → Name → Name) (w : ℕ) (x : Name) → rebound work f w x .number ≡ x .number
+unfolding rebound giveKey
+rebound-number work f w x = cases (isOwn work f w x) (λ t. rw t) (λ t. rw t)
+
+-- what marking and binding keep of two names, every wrap keeps
+module _ (work : List ℕ) (R : Name → Name → Type 0) (by-mark : (m : ℕ) (x y : Name) → R x y → R (marked m x) (marked m y)) (by-binder : (f : ℕ → Name → Name) (w : ℕ) (x y : Name) → R x y → R (rebound work f w x) (rebound work f w y)) where
+  wrapFrom-keeps : (gas w : ℕ) (x y : Name) → R x y → R (wrapFrom work gas w x) (wrapFrom work gas w y)
+  unfolding wrapFrom wrapStep byTag markOn joinOn binderOn
+  wrapFrom-keeps zero w x y r = r
+  wrapFrom-keeps (suc gas) w x y r =
+      let once : (v : ℕ) → R (wrapFrom work gas v x) (wrapFrom work gas v y) = λ v. wrapFrom-keeps gas v x y r in
+      cases (eqb (wordAt work w 1) 1)
+      (λ a. rw a (by-mark (wordAt work w 3) _ _ (once (referenceAt work w 2))))
+      (λ a.
+      cases (eqb (wordAt work w 1) 2)
+      (λ b. rw (a, b) (wrapFrom-keeps gas (referenceAt work w 3) _ _ (once (referenceAt work w 2))))
+      (λ b. cases (eqb (wordAt work w 1) 3) (λ c. rw (a, b, c) (by-binder (wrapFrom work gas) w _ _ (once (referenceAt work w 2)))) (λ c. rw (a, b, c) r)))
+
+  pub wrapAt-keeps : (w : ℕ) (x y : Name) → R x y → R (wrapAt work w x) (wrapAt work w y)
+  unfolding wrapAt
+  wrapAt-keeps w x y r = wrapFrom-keeps w w x y r
+
+pub wrapAt-marks : (work : List ℕ) (w : ℕ) (x y : Name) → x .marks ≡ y .marks → wrapAt work w x .marks ≡ wrapAt work w y .marks
+wrapAt-marks work w x y e =
+    wrapAt-keeps work (λ a b. a .marks ≡ b .marks) marked-marks
+    (λ f v a b r. rebound-marks work f v a ∙ r ∙ sym (rebound-marks work f v b))
+    w x y e
+
+pub wrapAt-number : (work : List ℕ) (w : ℕ) (x : Name) → wrapAt work w x .number ≡ x .number
+wrapAt-number work w x =
+    wrapAt-keeps work (λ a b. a .number ≡ x .number) (λ m a b r. marked-number m a ∙ r) (λ f v a b r. rebound-number work f v a ∙ r) w x x refl
+
+-- ---- the definition's maps
+
+pub marked-is : (m : ℕ) (x : Name) → m < markLimit → marked m x ≡ markName m x
+unfolding marked
+marked-is m x h = rw (lt-ltb m markLimit h)
+
+pub equal-true : (a b : List ℕ) → equal a b ≡ true → a ≡ b
+unfolding equal
+equal-true [] [] e = refl
+equal-true [] (y ∷ ys) e = absurd (let z : _≡_ {A = ℕ} 0 1 = cc in omega arith)
+equal-true (x ∷ xs) [] e = absurd (let z : _≡_ {A = ℕ} 0 1 = cc in omega arith)
+equal-true (x ∷ xs) (y ∷ ys) e =
+    cases (eqb x y)
+    (λ t. ap₂ _∷_ (eqb-true x y t) (equal-true xs ys (rw t at e)))
+    (λ t. let d : false ≡ true = rw t at e in let z : _≡_ {A = ℕ} 0 1 = cc in absurd (omega arith))
+
+same-shape : (n k l t e : Bool) → (e ≡ true → l ≡ true) → (e ≡ true → t ≡ true) → (n && (k && (l && (t && e)))) ≡ (n && (e && k))
+same-shape false k l t e p q = refl
+same-shape true false l t true p q = refl
+same-shape true false l t false p q = refl
+same-shape true true l t true p q = rw (p refl, q refl)
+same-shape true true false t false p q = refl
+same-shape true true true false false p q = refl
+same-shape true true true true false p q = refl
+
+-- a binder's cell says this of its own name
+pub record Own (work : List ℕ) (w : ℕ) (i : Name) : Type 0 where
+  pub number-is : wordAt work w 5 ≡ i .number
+  pub binding-is : wordAt work w 4 ≡ bindingKey (i .binding)
+  pub count-is : wordAt work w 6 ≡ length (i .marks)
+  pub newest-is : wordAt work w 7 ≡ newest (i .marks)
+  pub marks-are : ownMarks work (wrapAt work) w ≡ i .marks
+
+isOwn-same : (work : List ℕ) (w : ℕ) (i x : Name) → Own work w i → isOwn work (wrapAt work) w x ≡ same i x
+unfolding isOwn same
+isOwn-same work w i x o =
+    rw (o .number-is, o .binding-is, o .count-is, o .newest-is, o .marks-are)
+    (same-shape (eqb (i .number) (x .number)) (eqb (bindingKey (i .binding)) (bindingKey (x .binding))) (eqb (length (i .marks)) (length (x .marks))) (eqb (newest (i .marks)) (newest (x .marks))) (equal (i .marks) (x .marks))
+    (λ t. eq-eqb _ _ (ap length (equal-true (i .marks) (x .marks) t)))
+    (λ t. eq-eqb _ _ (ap newest (equal-true (i .marks) (x .marks) t))))
+
+pub rebound-is : (work : List ℕ) (w : ℕ) (i : Name) (b : Binding) (x : Name) → Own work w i → wordAt work w 3 ≡ bindingKey (some b) → rebound work (wrapAt work) w x ≡ bindName i b x
+unfolding rebound bindName giveKey giveBinding
+rebound-is work w i b x o e = rw (isOwn-same work w i x o, e, bindingOf-key (some b))

@@ -1,0 +1,6 @@
+-- What the expander's tables mean, and laws of these meanings.
+pub mod Arena
+pub mod ArenaLaws
+pub mod NodeLaws
+pub mod Marks
+pub mod MarkLaws

@@ -1,0 +1,4 @@
+// The expansion service, from below: the arena in the lent work table, and names with what waits on them.
+
+pub mod cells;
+pub mod marks;

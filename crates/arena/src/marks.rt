@@ -1,0 +1,59 @@
+// Marks in hand: the marks of a name that is being looked at, in a table lent for it. specs/Marks.antt says what they are.
+// `start` and `count` say where they stand: the oldest first, so that the newest come and go at the end.
+
+ghost use mathlib.Core.Path.{_≡_};
+ghost use Prim.Native.Nat.{_+_, _≤_, _<_};
+ghost use lib.ListN.{length};
+ghost use Rattle.words.specs.Lists.{equal};
+ghost use Rattle.arena.specs.Arena.{newest};
+ghost use Rattle.arena.specs.Marks.{marksIn, Toggled};
+
+// A mark met twice cancels; answers the new count.
+pub fn toggle(marks: &mut [u32], start: usize, count: usize, m: u32) -> usize
+    requires { ⌜ start + count < length (now marks) ⌝ }
+    ensures { λ r. ⌜ Toggled m start count (now (marks .entry)) (now (marks .exit)) r ⌝ }
+{
+    if count == 0 {
+        marks[start] = m;
+        return 1;
+    }
+    let last = count - 1;
+    let x = marks[start + last];
+    if x == m {
+        return last;
+    }
+    if x < m {
+        marks[start + count] = m;
+        return count + 1;
+    }
+    let n = toggle(marks, start, last, m);
+    marks[start + n] = x;
+    n + 1
+}
+
+// The newest mark, 0 where there is none.
+pub fn newest_of(marks: &[u32], start: usize, count: usize) -> u32
+    requires { ⌜ start + count ≤ length (now marks) ⌝ }
+    ensures { λ r. ⌜ r ≡ newest (marksIn (now (marks .entry)) start count) ⌝ }
+{
+    if count == 0 {
+        return 0;
+    }
+    let last = count - 1;
+    marks[start + last]
+}
+
+// Whether two parts of one count hold the same marks.
+pub fn equal_marks(marks: &[u32], a: usize, b: usize, count: usize) -> bool
+    requires { ⌜ (a + count ≤ length (now marks)) × (b + count ≤ length (now marks)) ⌝ }
+    ensures { λ r. ⌜ r ≡ equal (marksIn (now (marks .entry)) a count) (marksIn (now (marks .entry)) b count) ⌝ }
+{
+    let mut n = count;
+    while 0 < n {
+        n -= 1;
+        if marks[a + n] != marks[b + n] {
+            return false;
+        }
+    }
+    true
+}
