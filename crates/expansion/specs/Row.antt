@@ -3,8 +3,8 @@ use mathlib.Core.List.{List, [], _∷_}
 use Prim.Native.Nat.{ℕ}
 use Prim.Native.String.{String}
 use Rattle.words.specs.Text.{bytes}
-use Rattle.reader.specs.Elements.{Answer, got, back}
-use Rattle.reader.specs.Read.{Recipe, recipeOf, itemWords}
+use Rattle.reading.specs.Elements.{Answer, got, back}
+use Rattle.reading.specs.Read.{Recipe, recipeOf, itemWords}
 use Rattle.expansion.specs.Run.{Outcome, accepted, turnedBack, Run}
 use Rattle.expansion.specs.Computed.{computed}
 

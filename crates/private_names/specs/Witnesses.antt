@@ -7,8 +7,8 @@ use Prim.Native.Nat.{ℕ, suc}
 use Prim.Native.String.{String}
 use Rattle.words.specs.Text.{bytes}
 use Rattle.recipe.specs.Table.{treeOf}
-use Rattle.reader.specs.Elements.{got, back}
-use Rattle.reader.specs.Read.{recipeOf, itemWords}
+use Rattle.reading.specs.Elements.{got, back}
+use Rattle.reading.specs.Read.{recipeOf, itemWords}
 use Rattle.expansion.specs.Computation.{Event, looked, quoted, reached, binds, Events}
 use Rattle.expansion.specs.Run.{Outcome, accepted, turnedBack, unfinished, Run, run}
 use Rattle.expansion.specs.Computed.{computed}

@@ -1,6 +1,6 @@
 // Classes of bytes.
 ghost use mathlib.Core.Path.{_≡_};
-ghost use Rattle.reader.specs.Token.{isDigit, isRunning, isSeparating};
+ghost use Rattle.reading.specs.Token.{isDigit, isRunning, isSeparating};
 
 pub fn is_digit(b: u8) -> bool
     ensures { λ r. ⌜ r ≡ isDigit b ⌝ }

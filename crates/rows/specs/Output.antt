@@ -5,8 +5,8 @@ use Prim.Native.Nat.{ℕ}
 use Rattle.words.specs.Limits.{itemWordsLeast, nameBytesLeast, operationsMost}
 use Rattle.words.specs.Text.{bytes}
 use Rattle.datum.specs.NameTable.{hasName, nameAt}
-use Rattle.reader.specs.Elements.{Answer, got, back}
-use Rattle.reader.specs.Read.{Recipe, read, itemWords, nameBytes}
+use Rattle.reading.specs.Elements.{Answer, got, back}
+use Rattle.reading.specs.Read.{Recipe, read, itemWords, nameBytes}
 use Rattle.core_term.specs.Term.{Plain}
 use Rattle.core_term.specs.Check.{termOf}
 use Rattle.core_term.specs.Decimal.{decimal}

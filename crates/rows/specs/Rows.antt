@@ -6,7 +6,7 @@ use Prim.Native.String.{String}
 use Rattle.words.specs.Lists as Lists
 use Rattle.words.specs.Text.{bytes}
 use Rattle.datum.specs.NameTable as NameTable
-use Rattle.reader.specs.Read as Read
+use Rattle.reading.specs.Read as Read
 use Rattle.core_term.specs.Check as Check
 use Rattle.core_term.specs.Decimal as Decimal
 use Rattle.core_term.specs.Text as Text

@@ -1,7 +1,7 @@
 use Rattle.reader.proofs.bytes.is_digit.Statement.{statement}
 use Rattle.reader.proofs.bytes.is_digit.Tie as tie
 use Rattle.words.specs.Lists.{within}
-use Rattle.reader.specs.Token.{isDigit}
+use Rattle.reading.specs.Token.{isDigit}
 use borrow.Author.Tests.{le-leb, lt-leb}
 
 returns : tie.Need-returns

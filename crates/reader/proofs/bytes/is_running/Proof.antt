@@ -9,7 +9,7 @@ use mathlib.Core.Logic.{⊎-elim}
 use Rattle.words.specs.Lists.{within, any}
 use Rattle.words.specs.ListLaws.{valued, valued-at, any-neither}
 use Rattle.words.specs.Text.{bytes}
-use Rattle.reader.specs.Token.{isDigit, isRunning}
+use Rattle.reading.specs.Token.{isDigit, isRunning}
 
 returns : tie.Need-returns
 unfolding isRunning isDigit within any bytes valued

@@ -9,7 +9,7 @@ use mathlib.Core.Logic.{⊎-elim}
 use Rattle.words.specs.Lists.{any}
 use Rattle.words.specs.ListLaws.{valued, valued-at, any-neither}
 use Rattle.words.specs.Text.{bytes}
-use Rattle.reader.specs.Token.{isSeparating}
+use Rattle.reading.specs.Token.{isSeparating}
 
 returns : tie.Need-returns
 unfolding isSeparating any bytes valued

@@ -14,8 +14,8 @@ use Rattle.words.specs.Limits.{nameLengthMost}
 use Rattle.words.specs.Lists.{within, all, equal}
 use Rattle.words.specs.ListLaws.{either, never, and-left, and-right, within-low, within-high, equal-true, equal-refl}
 use Rattle.datum.specs.Constant.{integer, boolean}
-use Rattle.reader.specs.Token.{Token, open′, close′, bad, flag, run, isDigit}
-use Rattle.reader.specs.Meaning.{
+use Rattle.reading.specs.Token.{Token, open′, close′, bad, flag, run, isDigit}
+use Rattle.reading.specs.Meaning.{
   Meaning,
   begins,
   ends,
@@ -33,7 +33,7 @@ use Rattle.reader.specs.Meaning.{
   nameOf,
   meaningOf,
 }
-use Rattle.reader.specs.RecipeText.{
+use Rattle.reading.specs.RecipeText.{
   StartsNumber,
   digit,
   minus,

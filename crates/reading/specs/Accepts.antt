@@ -10,13 +10,13 @@ use lib.ListN.{length}
 use borrow.Author.Tests.{le-ltb, ltb-false}
 use Rattle.words.specs.Limits.{itemWordsLeast, nameBytesLeast, textBytesMost, elementsMost, namesMost, openListsMost}
 use Rattle.words.specs.ListLaws.{either, never}
-use Rattle.reader.specs.Token.{Token, tokens}
-use Rattle.reader.specs.Meaning.{Meaning, begins, ends, constant, name, refused, meaningOf}
-use Rattle.reader.specs.Numbering.{baseNames}
-use Rattle.reader.specs.Elements.{Answer, got, back, then, Reading, start, onto, noneOpen, isComplete, takes, takesAll}
-use Rattle.reader.specs.Read.{Recipe, finished, recipeOver, recipeOf, read}
-use Rattle.reader.specs.RecipeText as R
-use Rattle.reader.specs.RecipeText.{
+use Rattle.reading.specs.Token.{Token, tokens}
+use Rattle.reading.specs.Meaning.{Meaning, begins, ends, constant, name, refused, meaningOf}
+use Rattle.reading.specs.Numbering.{baseNames}
+use Rattle.reading.specs.Elements.{Answer, got, back, then, Reading, start, onto, noneOpen, isComplete, takes, takesAll}
+use Rattle.reading.specs.Read.{Recipe, finished, recipeOver, recipeOf, read}
+use Rattle.reading.specs.RecipeText as R
+use Rattle.reading.specs.RecipeText.{
   Mean,
   Element,
   Elements,
@@ -35,9 +35,9 @@ use Rattle.reader.specs.RecipeText.{
   RecipeText,
   recipe,
 }
-use Rattle.reader.specs.TokenLaws.{tokens-are, tokens-had}
-use Rattle.reader.specs.MeaningLaws.{means-is, isRefused, is-meant}
-use Rattle.reader.specs.ElementLaws.{got-only, never-got, then-got, Fits, after, element-taken, element-fits, names-grow, Rest, last, rest}
+use Rattle.reading.specs.TokenLaws.{tokens-are, tokens-had}
+use Rattle.reading.specs.MeaningLaws.{means-is, isRefused, is-meant}
+use Rattle.reading.specs.ElementLaws.{got-only, never-got, then-got, Fits, after, element-taken, element-fits, names-grow, Rest, last, rest}
 
 -- ---- meanings of all tokens
 

@@ -12,9 +12,9 @@ use Rattle.words.specs.Limits.{elementsMost, namesMost, openListsMost}
 use Rattle.words.specs.ListLaws.{either, never, and-left, and-right}
 use Rattle.datum.specs.Constant.{Constant}
 use Rattle.datum.specs.Datum.{Datum, Data, constantD, nameD, listD, noneD, moreD}
-use Rattle.reader.specs.Meaning.{Meaning, begins, ends, constant, name, refused}
-use Rattle.reader.specs.Numbering.{numberOf, withName}
-use Rattle.reader.specs.Elements.{
+use Rattle.reading.specs.Meaning.{Meaning, begins, ends, constant, name, refused}
+use Rattle.reading.specs.Numbering.{numberOf, withName}
+use Rattle.reading.specs.Elements.{
   Answer,
   got,
   back,
@@ -33,7 +33,7 @@ use Rattle.reader.specs.Elements.{
   takes,
   takesAll,
 }
-use Rattle.reader.specs.RecipeText.{
+use Rattle.reading.specs.RecipeText.{
   Element,
   Elements,
   constantE,

@@ -8,10 +8,10 @@ use lib.ListN.{length, replicate}
 use Rattle.words.specs.Limits.{itemWordsLeast, nameBytesLeast, textBytesMost}
 use Rattle.datum.specs.Datum.{Data, noneD, datumItems, dataItems}
 use Rattle.datum.specs.NameTable.{slots}
-use Rattle.reader.specs.Token.{tokens}
-use Rattle.reader.specs.Meaning.{meaningOf}
-use Rattle.reader.specs.Elements.{Answer, got, back, then, Reading, start, onto, isComplete, takesAll}
-use Rattle.reader.specs.Numbering.{baseNames, dataWords}
+use Rattle.reading.specs.Token.{tokens}
+use Rattle.reading.specs.Meaning.{meaningOf}
+use Rattle.reading.specs.Elements.{Answer, got, back, then, Reading, start, onto, isComplete, takesAll}
+use Rattle.reading.specs.Numbering.{baseNames, dataWords}
 
 -- what a recipe text says: the list of its two elements, names by number, and the names
 pub record Recipe : Type 0 where

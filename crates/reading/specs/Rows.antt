@@ -6,7 +6,7 @@ use Prim.Native.String.{String}
 use lib.ListN.{drop, replicate}
 use Rattle.words.specs.Text.{bytes}
 use Rattle.datum.specs.NameTable.{slot}
-use Rattle.reader.specs.Read.{recipeOf, read, groundOf, itemCount, nameCount, itemsAfter, namesAfter}
+use Rattle.reading.specs.Read.{recipeOf, read, groundOf, itemCount, nameCount, itemsAfter, namesAfter}
 
 pub record Row : Type 0 where
   pub text : List ℕ

@@ -12,10 +12,10 @@ use Rattle.words.specs.Limits.{textBytesMost, elementsMost, namesMost, nameLeng
 use Rattle.words.specs.Lists.{all}
 use Rattle.datum.specs.Constant.{Constant, integer, boolean}
 use Rattle.datum.specs.Datum.{Datum, Data, constantD, nameD, listD, noneD, moreD}
-use Rattle.reader.specs.Token.{Token, open′, close′, flag, run, isDigit, isRunning, isSeparating}
-use Rattle.reader.specs.Meaning.{Meaning, begins, ends, constant, name, valueFrom}
-use Rattle.reader.specs.Numbering.{baseNames, numberOf, withName}
-use Rattle.reader.specs.Read.{Recipe}
+use Rattle.reading.specs.Token.{Token, open′, close′, flag, run, isDigit, isRunning, isSeparating}
+use Rattle.reading.specs.Meaning.{Meaning, begins, ends, constant, name, valueFrom}
+use Rattle.reading.specs.Numbering.{baseNames, numberOf, withName}
+use Rattle.reading.specs.Read.{Recipe}
 
 -- ---- tokens
 

@@ -6,8 +6,8 @@ use lib.Dec.{eqb, leb}
 use lib.ListN.{length}
 use Rattle.words.specs.Limits.{elementsMost, namesMost, openListsMost}
 use Rattle.datum.specs.Datum.{Datum, Data, constantD, nameD, listD, noneD, moreD}
-use Rattle.reader.specs.Meaning.{Meaning, begins, ends, constant, name, refused}
-use Rattle.reader.specs.Numbering.{numberOf, withName}
+use Rattle.reading.specs.Meaning.{Meaning, begins, ends, constant, name, refused}
+use Rattle.reading.specs.Numbering.{numberOf, withName}
 
 -- an answer, or the ground on which the text is turned back
 pub data Answer (A : Type 0) : Type 0 where

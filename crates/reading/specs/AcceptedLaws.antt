@@ -12,10 +12,10 @@ use Rattle.words.specs.Limits.{namesMost}
 use Rattle.words.specs.Lists.{equal}
 use Rattle.words.specs.ListLaws.{either, equal-refl}
 use Rattle.datum.specs.Datum.{datumItems, dataItems}
-use Rattle.reader.specs.Numbering.{baseNames, numberOf, withName}
-use Rattle.reader.specs.Elements.{got}
-use Rattle.reader.specs.Read.{Recipe, read}
-use Rattle.reader.specs.RecipeText.{
+use Rattle.reading.specs.Numbering.{baseNames, numberOf, withName}
+use Rattle.reading.specs.Elements.{got}
+use Rattle.reading.specs.Read.{Recipe, read}
+use Rattle.reading.specs.RecipeText.{
   Element,
   Elements,
   constantE,
@@ -32,7 +32,7 @@ use Rattle.reader.specs.RecipeText.{
   both,
   recipe,
 }
-use Rattle.reader.specs.Accepts.{Accepted, accepted-only}
+use Rattle.reading.specs.Accepts.{Accepted, accepted-only}
 
 -- ---- items
 

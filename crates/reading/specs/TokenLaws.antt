@@ -10,7 +10,7 @@ use borrow.Author.Tests.{eqb-true}
 use Rattle.words.specs.Lists.{within, all, any}
 use Rattle.words.specs.ListLaws.{either, never, and-left, and-right, Each, any-each, all-append}
 use Rattle.words.specs.Text.{bytes}
-use Rattle.reader.specs.Token.{
+use Rattle.reading.specs.Token.{
   Class,
   separating,
   opening,
@@ -42,9 +42,9 @@ use Rattle.reader.specs.Token.{
   tokensAfter,
   tokens,
 }
-use Rattle.reader.specs.Meaning.{Meaning}
-use Rattle.reader.specs.RecipeText as R
-use Rattle.reader.specs.RecipeText.{EndsRun, atEnd, before, HasTokens, Means, Mean}
+use Rattle.reading.specs.Meaning.{Meaning}
+use Rattle.reading.specs.RecipeText as R
+use Rattle.reading.specs.RecipeText.{EndsRun, atEnd, before, HasTokens, Means, Mean}
 
 -- ---- classes
 

@@ -10,7 +10,7 @@ use mir.Val.{ofZ}
 use Rattle.words.specs.Limits.{nameLengthMost}
 use Rattle.words.specs.Lists.{within, all, equal}
 use Rattle.datum.specs.Constant.{Constant, integer, boolean}
-use Rattle.reader.specs.Token.{Token, open′, close′, bad, flag, run, isDigit}
+use Rattle.reading.specs.Token.{Token, open′, close′, bad, flag, run, isDigit}
 
 pub data Meaning : Type 0 where
   begins ends : Meaning

@@ -1,0 +1,1 @@
+// Definitions and laws only: what reading means stands in specs/.

@@ -1,0 +1,1 @@
+// Rules as cells of the arena: their meaning stands in specs/.
