@@ -8,7 +8,10 @@ pub mod Computation
 pub mod Forms
 pub mod Run
 pub mod Outcomes
+pub mod FormLaws
 pub mod Budget
 pub mod RunLaws
 pub mod Gas
 pub mod Bounds
+pub mod World
+pub mod WorldRules

@@ -57,6 +57,14 @@ module _ {A : Type 0} {P : A → Type 0} where
   unfolding guard
   given-guard b g = given-cond b g missing
 
+pub given-any : {A : Type 0} (o : Option A) → Given (λ a. Unit {0}) o
+given-any none = missing
+given-any (some a) = given tt
+
+pub given-weaken : {A : Type 0} {P Q : A → Type 0} {o : Option A} → ((a : A) → P a → Q a) → Given P o → Given Q o
+given-weaken k missing = missing
+given-weaken k (given p) = given (k _ p)
+
 pub given-mapSome : {A B : Type 0} {P : A → Type 0} {Q : B → Type 0} (f : A → B) {o : Option A} → ((a : A) → P a → Q (f a)) → Given P o → Given Q (mapSome f o)
 unfolding mapSome
 given-mapSome f k missing = missing
