@@ -15,3 +15,5 @@ pub mod Gas
 pub mod Bounds
 pub mod World
 pub mod WorldRules
+pub mod WorldState
+pub mod Sound
