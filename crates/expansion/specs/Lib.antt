@@ -17,3 +17,5 @@ pub mod World
 pub mod WorldRules
 pub mod WorldState
 pub mod Sound
+pub mod EveryLaws
+pub mod CoreTerm

@@ -1,37 +1,32 @@
 -- Expansion makes sound terms: from a tree and a state of a world, every node of the term is one, its variables are of the world or bound
 -- inside, its lambdas' first numbers go on from the state's count, its operations and names are known, and the world stays closed.
 use mathlib.Core.Path.{_≡_, refl, ap, sym, _∙_, subst}
-use mathlib.Core.Bool.{Bool, true, false, _&&_, _||_, cond}
-use mathlib.Core.Logic.{_⊎_, inl, inr}
-use mathlib.Core.List.{List, [], _∷_, _++_, map, append-nil, append-assoc}
-use Prim.Native.Nat.{ℕ, zero, suc, _+_, _-_, _≤_, _<_}
+use mathlib.Core.Bool.{Bool, true, false, _&&_, cond}
+use mathlib.Core.List.{List, [], _++_, map}
+use Prim.Native.Nat.{ℕ, zero, suc, _+_, _≤_, _<_}
 use native.Mathlib.Omega.{arith}
-use lib.Dec.{eqb, ltb, leb}
-use lib.ListN.{length, getD, length-append, length-map, List·getD-append}
-use lib.Seq.{getD-append-add}
-use borrow.Author.Tests.{leb-true, ltb-true, le-leb, lt-ltb, eq-eqb}
+use lib.Dec.{eqb, leb}
+use lib.ListN.{length, length-map}
+use borrow.Author.Tests.{leb-true, le-leb, lt-ltb, eq-eqb}
 use Rattle.words.specs.Limits.{namesMost, formalsMost}
-use Rattle.words.specs.Lists.{within, all}
-use Rattle.words.specs.TestLaws.{and-parts, and-both, or-left, or-right, or-cases}
-use Rattle.words.specs.Each.{Each, noneOf, also, each-weaken, each-map, each-getD, given-at}
+use Rattle.words.specs.Lists.{all}
+use Rattle.words.specs.TestLaws.{and-parts, and-both}
+use Rattle.words.specs.Each.{Each, each-weaken, each-map, given-at}
 use Rattle.datum.specs.Constant.{Constant, isConstant}
-use Rattle.datum.specs.Datum.{Datum, constantD, nameD, listD, Data, noneD, moreD}
-use Rattle.recipe.specs.Name.{Binding, variable, macro, Name}
-use Rattle.recipe.specs.Tree.{Tree, empty, constant, name, pair, names, strip, stripTail, isList, isListOf, isOrdinaryName, elements, element, tail, mark, produce, bindAll}
-use Rattle.recipe.specs.Tidy.{Tidy, tidyEmpty, tidyConstant, tidyName, tidyPair, tidy-elements, tidy-element, tidy-tail, tidy-weaken, tidy-mark, tidy-produce, tidy-bindAll, tidy-formals}
-use Rattle.core_term.specs.Node.{Node, isNode, variableN, operationN, constantN, nameN, listN, ifN, lambdaN, applicationN}
-use Rattle.core_term.specs.Term.{Term, variableC, operationC, datumC, ifC, lambdaC, applicationC, Terms, noneC, moreC, variables, variablesAll}
+use Rattle.recipe.specs.Name.{variable, macro, Name}
+use Rattle.recipe.specs.Tree.{Tree, strip, stripTail, isList, isListOf, isOrdinaryName, elements, element, tail, mark, bindAll}
+use Rattle.recipe.specs.Tidy.{tidyEmpty, tidyConstant, tidyName, tidyPair, tidy-elements, tidy-element, tidy-tail, tidy-weaken, tidy-mark, tidy-produce, tidy-bindAll, tidy-formals}
+use Rattle.core_term.specs.Node.{isNode, variableN, operationN, constantN, nameN, lambdaN}
+use Rattle.core_term.specs.Term.{Term, variableC, operationC, ifC, applicationC, noneC, moreC, variables, variablesAll}
 use Rattle.core_term.specs.Every.{Asked, everyDatum, everyData, every, everyTerm}
 use Rattle.core_term.specs.Check.{Scope, inside, variableInside, firstNumber, known, small}
-use Rattle.expansion.specs.Lookup.{quote, if, lambda, let-syntax, letrec-syntax, auxiliary, Found, bound, form, operation, nothing, lookup}
-use Rattle.expansion.specs.Rules.{Rule}
-use Rattle.expansion.specs.Transcribe.{transcribe}
-use Rattle.expansion.specs.Computation.{State, Events, Out, M}
-use Rattle.expansion.specs.Forms.{isLambda, formals, isMacro, isMacros, firstNames, keywords, rulesForms, readRules, expandAll, expandQuote, expandIf, expandLambda, expandMacros, expandUse, expandOperands, expandList, expandName, expandApplication, expandPair, expandTree, expand}
+use Rattle.expansion.specs.Lookup.{quote, if, lambda, let-syntax, letrec-syntax, auxiliary, Found}
+use Rattle.expansion.specs.Computation.{State, Out, M}
+use Rattle.expansion.specs.Forms.{isLambda, formals, isMacro, isMacros, keywords, rulesForms, expandAll, expandQuote, expandIf, expandLambda, expandMacros, expandUse, expandOperands, expandList, expandName, expandApplication, expandPair, expandTree, expand}
 use Rattle.expansion.specs.Outcomes.{Holds, isStarved, give-holds, refuse-holds, test-holds, show-holds, get-holds, addVariables-holds, addMacros-holds, addStep-holds, then-holds, orRefuse-holds, weaken}
-use Rattle.expansion.specs.FormLaws.{RulesRead, readRules-holds, firstNames-length}
-use Rattle.expansion.specs.World.{World, Within, reachesVariable, reachesMacro, Fine, FineTree, fine-within, fine-mark, fine-produce, fine-give, Meant, meantVariable, meantMacro, meantForm, meantOperation, meantNothing, lookup-meant}
-use Rattle.expansion.specs.WorldRules.{FineTemplate, FineRules, template-within, rulesOf-fine, firstFit-fine, transcribe-fine}
+use Rattle.expansion.specs.FormLaws.{readRules-holds, firstNames-length}
+use Rattle.expansion.specs.World.{World, reachesVariable, reachesMacro, FineTree, fine-within, fine-mark, fine-produce, fine-give, Meant, meantVariable, meantMacro, meantForm, meantOperation, meantNothing, lookup-meant}
+use Rattle.expansion.specs.WorldRules.{FineRules, rulesOf-fine, firstFit-fine, transcribe-fine}
 use Rattle.expansion.specs.WorldState.{Closed, Grown, grown-same, grown-then, closed-grown, widen, widen-new, withVariables, withMacros, variables-within, macros-within, closed-variables, closed-macros}
 
 -- ---- what is asked of every node: that it is one, and all of ground 19
