@@ -9,6 +9,7 @@ use lib.Dec.{eqb}
 use lib.ListN.{length, getD, length-append}
 use borrow.Author.Tests.{leb-true, eqb-true}
 use Rattle.words.specs.TestLaws.{and-parts}
+use Rattle.words.specs.Each.{each-all, given-any}
 use Rattle.datum.specs.Constant.{constantWords}
 use Rattle.datum.specs.Datum.{constantD}
 use Rattle.recipe.specs.Name.{Binding, variable, macro, Name}
@@ -19,8 +20,9 @@ use Rattle.core_term.specs.Node.{nodeWords}
 use Rattle.core_term.specs.Words.{datumWords, dataWords, encode, encodeAll}
 use Rattle.expansion.specs.Lookup.{quote, if, lambda, let-syntax, letrec-syntax, auxiliary, Found, bound, form, operation, nothing, lookup}
 use Rattle.expansion.specs.Transcribe.{transcribe}
-use Rattle.expansion.specs.Computation.{State, Events, Out, M}
-use Rattle.expansion.specs.Forms.{formals, keywords, readRules, expandAll, expandQuote, expandIf, expandLambda, expandMacros, expandUse, expandOperands, expandList, expandName, expandApplication, expandPair, expandTree, expand}
+use Rattle.expansion.specs.Computation.{State, Out, M}
+use Rattle.expansion.specs.Forms.{formals, keywords, expandAll, expandQuote, expandIf, expandLambda, expandMacros, expandUse, expandOperands, expandList, expandName, expandApplication, expandPair, expandTree, expand}
+use Rattle.expansion.specs.FormLaws.{readRules-holds}
 use Rattle.expansion.specs.Outcomes.{Holds, give-holds, refuse-holds, test-holds, show-holds, get-holds, addVariables-holds, addMacros-holds, addStep-holds, then-holds, orRefuse-holds, weaken}
 
 -- ---- sizes
@@ -59,16 +61,6 @@ mutual
   tail-words (constant a) = omega arith
   tail-words (name x) = omega arith
   tail-words (pair h t) = simp length-append (omega (arith, datum-words h, tail-words t))
-
--- reading rules changes no state
-readRules-holds : {S : Type 0} {R : ℕ → State → Events → Type 0} (rs : List Tree) (s : State) → ((g : ℕ) (l : Events) → R g s l) → Holds S R (λ a t l. t ≡ s) (readRules rs s)
-unfolding readRules
-readRules-holds [] s r = give-holds [] s refl
-readRules-holds (x ∷ rs) s r =
-    show-holds _ _ s
-    (orRefuse-holds _ _ _ s (r _ _) λ a _.
-    then-holds _ _ _ s (readRules-holds rs s (λ g l. r g _)) λ b t l e.
-    give-holds _ t e)
 
 -- ---- what is spent
 
@@ -162,10 +154,11 @@ module _ (limit : ℕ) (operations : List ℕ) (fuel : ℕ) where
         test-holds _ _ _ s low λ _.
         get-holds _ s
         (show-holds _ _ s
-        (then-holds _ _ _ s (readRules-holds _ s (λ g l. low)) λ rules u l same.
+        (then-holds _ _ _ s (readRules-holds (λ r. Unit {0}) (each-all _ (λ r. given-any _)) s (λ g l. low)) λ rules u l read.
         addMacros-holds _ _ u
-        (weaken (good _ _ (rw same low) (rw same (omega (arith, e)))) (λ x. x) (λ g v k r. r) λ w v k q.
-        record { grown = omega (arith, q .grown, ap (λ z. z .sum) same); bounded = q .bounded; short = omega (arith, q .short, ap (λ z. z .sum) same, e) }))))
+        (let same = ap (λ (z : State). z .sum) (read .unchanged) in
+        weaken (good _ _ (omega (arith, same)) (omega (arith, same, e))) (λ x. x) (λ g v k r. r) λ w v k q.
+        record { grown = omega (arith, q .grown, same); bounded = q .bounded; short = omega (arith, q .short, same, e) }))))
 
     use-spends : (n : ℕ) (t : Tree) (s : State) → s .sum ≤ fuel → size t + fuel ≤ suc gas + s .sum → Spends (λ w u. Spent (size t) s (length (encode w)) u) (expandUse limit operations fuel rec n t s)
     unfolding expandUse

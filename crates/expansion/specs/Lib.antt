@@ -15,7 +15,14 @@ pub mod RowsShapes
 pub mod RowsTables
 pub mod RowsEvents
 pub mod Outcomes
+pub mod FormLaws
 pub mod Budget
 pub mod RunLaws
 pub mod Gas
 pub mod Bounds
+pub mod World
+pub mod WorldRules
+pub mod WorldState
+pub mod Sound
+pub mod EveryLaws
+pub mod CoreTerm

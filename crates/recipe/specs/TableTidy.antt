@@ -1,11 +1,11 @@
 -- The tree of a table of the layout is tidy: its names are below 1,024, with no marks and no binding, its constants are constants.
-use mathlib.Core.Path.{_≡_, refl, ap, sym, _∙_, subst}
+use mathlib.Core.Path.{_≡_, refl, ap, _∙_, subst}
 use mathlib.Core.Bool.{Bool, true, false, _&&_, _||_, cond, false≢true}
 use mathlib.Core.List.{List, [], _∷_}
-use Prim.Native.Nat.{ℕ, zero, suc, _+_, _*_, _-_, _≤_, _<_}
+use Prim.Native.Nat.{ℕ, zero, suc, _+_, _*_, _-_, _<_}
 use native.Mathlib.Omega.{arith}
 use lib.Dec.{eqb, ltb}
-use lib.ListN.{length, getD}
+use lib.ListN.{getD}
 use borrow.Author.Tests.{eqb-true, ltb-true}
 use Rattle.words.specs.Limits.{namesMost}
 use Rattle.words.specs.Lists.{all}
@@ -16,7 +16,7 @@ use Rattle.recipe.specs.Name.{Name, plainName}
 use Rattle.recipe.specs.Tree.{Tree, empty, constant, name, pair, onEmpty, onPair, isList}
 use Rattle.recipe.specs.Tidy.{Tidy, tidyEmpty, tidyConstant, tidyName, tidyPair}
 use Rattle.recipe.specs.Table.{Item, items, byKind, constantOf, kindAt, isPairItem, isItem, trees, treeOf, itemCount, isLayout}
-use Rattle.recipe.specs.TableLaws.{Layout, isLayout-parts, PairItem, isPairItem-parts}
+use Rattle.recipe.specs.TableLaws.{isLayout-parts, isPairItem-parts}
 
 -- a name as a name item holds it
 pub record PlainName (x : Name) : Type 0 where

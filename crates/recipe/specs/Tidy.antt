@@ -1,15 +1,15 @@
 -- Tidy trees: N holds of every name, C of every constant, and every tail is a list. All that a run does to trees keeps them tidy.
-use mathlib.Core.Path.{_≡_, refl, ap, sym, _∙_}
+use mathlib.Core.Path.{_≡_, refl, _∙_}
 use mathlib.Core.Bool.{Bool, true, false, cond, false≢true}
-use mathlib.Core.List.{List, [], _∷_, _++_}
-use Prim.Native.Nat.{ℕ, zero, suc, _+_, _≤_, _<_}
+use mathlib.Core.List.{List, [], _∷_}
+use Prim.Native.Nat.{ℕ, suc, _+_, _≤_, _<_}
 use native.Mathlib.Omega.{arith}
-use lib.ListN.{length, getD, length-append}
+use lib.ListN.{length, length-append}
 use Rattle.words.specs.Lists.{all}
 use Rattle.words.specs.TestLaws.{all-parts}
 use Rattle.words.specs.Each.{Each, noneOf, also, each-append, each-getD}
 use Rattle.datum.specs.Constant.{Constant}
-use Rattle.recipe.specs.Name.{Binding, Name, same, isOrdinary, markName, produceName, giveBinding, bindName}
+use Rattle.recipe.specs.Name.{Binding, Name, same, markName, produceName, giveBinding, bindName}
 use Rattle.recipe.specs.Tree.{Tree, empty, constant, name, pair, names, onEmpty, onName, onPair, isOrdinaryName, isList, elements, element, tail, onNames, mark, produce, bind, bindAll}
 
 pub data Tidy (N : Name → Type 0) (C : Constant → Type 0) : Tree → Type 0 where

@@ -1,10 +1,10 @@
 -- What holds of each element of a list, and of an answer where there is one: two claims that follow definitions step by step.
-use mathlib.Core.Path.{_≡_, refl, ap, subst}
+use mathlib.Core.Path.{_≡_, subst}
 use mathlib.Core.Bool.{Bool, true, false, cond}
 use mathlib.Core.List.{List, [], _∷_, _++_, map}
 use mathlib.Core.Option.{Option, none, some}
 use Prim.Native.Nat.{ℕ, zero, suc}
-use lib.ListN.{length, getD}
+use lib.ListN.{getD}
 use Rattle.words.specs.Options.{guard, mapSome, mapBoth, traverse}
 
 -- ---- lists
@@ -56,6 +56,14 @@ module _ {A : Type 0} {P : A → Type 0} where
   pub given-guard : (b : Bool) {o : Option A} → Given P o → Given P (guard b o)
   unfolding guard
   given-guard b g = given-cond b g missing
+
+pub given-any : {A : Type 0} (o : Option A) → Given (λ a. Unit {0}) o
+given-any none = missing
+given-any (some a) = given tt
+
+pub given-weaken : {A : Type 0} {P Q : A → Type 0} {o : Option A} → ((a : A) → P a → Q a) → Given P o → Given Q o
+given-weaken k missing = missing
+given-weaken k (given p) = given (k _ p)
 
 pub given-mapSome : {A B : Type 0} {P : A → Type 0} {Q : B → Type 0} (f : A → B) {o : Option A} → ((a : A) → P a → Q (f a)) → Given P o → Given Q (mapSome f o)
 unfolding mapSome
