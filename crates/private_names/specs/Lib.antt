@@ -1,11 +1,10 @@
--- Demand 3: no run shows a template's private name. Statement says it, Witnesses computes it on recipes, and the others prove it:
--- Reach, what a run reaches outside results; Origins, each binding is made once.
+-- Private names (demand 3): no run shows them. Statement says it, and Witnesses computes it on recipes.
+-- Two runs whose trees differ in a template's private name go side by side, from the form on. Read in this order: relations and what they
+-- keep; names; what may be shown; steps and states; outcomes; forms.
+-- Before the form: Reach, what a run reaches outside results; Origins, each binding is made once; Tables, the tree of a table and of a
+-- renumbered one.
 pub mod Statement
 pub mod Witnesses
-pub mod Reach
-pub mod Origins
--- Private names (demand 3): no run shows them. Two runs whose trees differ in a template's private name go side by side.
--- Read in this order: relations and what they keep; names; what may be shown; steps and states; outcomes; forms.
 pub mod Relations
 pub mod Shapes
 pub mod RulesKept
@@ -20,3 +19,6 @@ pub mod States
 pub mod Outcomes
 pub mod FormsKept
 pub mod Agree
+pub mod Reach
+pub mod Origins
+pub mod Tables

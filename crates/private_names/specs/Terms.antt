@@ -1,13 +1,13 @@
 -- Core terms that differ in their formals' own names alone. The words do not show those names.
 use mathlib.Core.Path.{_≡_, refl, ap, ap₂, subst}
 use mathlib.Core.Bool.{true, false}
-use mathlib.Core.List.{List, _∷_, _++_}
+use mathlib.Core.List.{List, _++_}
 use Prim.Native.Nat.{ℕ, suc}
 use lib.ListN.{length}
 use Rattle.datum.specs.Datum.{Datum}
 use Rattle.recipe.specs.Name.{Name}
-use Rattle.core_term.specs.Node.{nodeWords, ifN, lambdaN, applicationN}
 use Rattle.core_term.specs.Term.{Term, variableC, operationC, datumC, ifC, lambdaC, applicationC, Terms, noneC, moreC, count}
+use Rattle.core_term.specs.Node.{nodeWords, ifN, lambdaN, applicationN}
 use Rattle.core_term.specs.Words.{encode, encodeAll}
 use Rattle.private_names.specs.Relations.{ListRel, length-rel}
 use Rattle.private_names.specs.Shown.{Renaming, isCopy, not-private-not-copy, private-copy}
