@@ -14,3 +14,7 @@ pub mod States
 pub mod Outcomes
 pub mod FormsKept
 pub mod Agree
+pub mod Holes
+pub mod Places
+pub mod ChosenRule
+pub mod Form
