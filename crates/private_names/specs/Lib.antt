@@ -22,3 +22,7 @@ pub mod Agree
 pub mod Reach
 pub mod Origins
 pub mod Tables
+pub mod Holes
+pub mod Places
+pub mod ChosenRule
+pub mod Form
