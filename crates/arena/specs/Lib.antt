@@ -4,3 +4,5 @@ pub mod ArenaLaws
 pub mod NodeLaws
 pub mod Marks
 pub mod MarkLaws
+pub mod HandLaws
+pub mod BinderLaws

@@ -2,8 +2,9 @@
 use mathlib.Core.Path.{_≡_}
 use mathlib.Core.List.{List, [], _∷_}
 use Prim.Native.Nat.{ℕ, zero, suc, _+_, _≤_, _<_}
-use lib.ListN.{getD, take}
+use lib.ListN.{length, getD, take}
 use Rattle.recipe.specs.Name.{Name, bindingKey, toggle}
+use Rattle.arena.specs.Arena.{markLimit, ownMarks, wrapAt}
 
 -- the marks in hand, as the definition's descending list: `count` of them from `start`
 unfoldable pub marksIn : List ℕ → (start count : ℕ) → List ℕ
@@ -20,3 +21,39 @@ pub record Toggled (m start count : ℕ) (old new : List ℕ) (r : ℕ) : Type 0
   pub marks-are : marksIn new start r ≡ toggle m (marksIn old start count)
   pub kept : take start new ≡ take start old
   pub room : r ≤ count + 1
+
+-- ---- a name in hand
+
+-- marks in hand, with room for as many as there can be
+pub record Hand (table : List ℕ) (start count : ℕ) : Type 0 where
+  pub descends : Descends markLimit (marksIn table start count)
+  pub room : start + markLimit < length table
+
+-- after f, where `old` held the marks of a name, `new` holds those of f of it
+pub record MarksAfter (f : Name → Name) (old new : List ℕ) (start count r : ℕ) : Type 0 where
+  pub marks-are : (x : Name) → x .marks ≡ marksIn old start count → f x .marks ≡ marksIn new start r
+  pub descends : Descends markLimit (marksIn new start r)
+  pub kept : take start new ≡ take start old
+
+-- x is the name in hand: its number, its marks in the table, and its binding's key
+pub record Holds (x : Name) (table : List ℕ) (start count number binding : ℕ) : Type 0 where
+  pub number-is : x .number ≡ number
+  pub marks-are : x .marks ≡ marksIn table start count
+  pub binding-is : bindingKey (x .binding) ≡ binding
+
+-- room for the marks of the name in hand, and for those of a binder's own name behind them
+pub record NameHand (table : List ℕ) (start count : ℕ) : Type 0 where
+  pub descends : Descends markLimit (marksIn table start count)
+  pub room : start + markLimit + markLimit < length table
+
+-- after f, f of the name in hand is in hand
+pub record NameAfter (f : Name → Name) (old new : List ℕ) (start number count binding count′ binding′ : ℕ) : Type 0 where
+  pub holds : (x : Name) → Holds x old start count number binding → Holds (f x) new start count′ number binding′
+  pub descends : Descends markLimit (marksIn new start count′)
+  pub kept : take start new ≡ take start old
+
+-- the marks of a binder's own name, behind what is in hand
+pub record OwnMarks (work : List ℕ) (w : ℕ) (old new : List ℕ) (start r : ℕ) : Type 0 where
+  pub marks-are : ownMarks work (wrapAt work) w ≡ marksIn new start r
+  pub most : r ≤ markLimit
+  pub kept : take start new ≡ take start old

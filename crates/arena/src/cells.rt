@@ -4,6 +4,13 @@
 ghost use mathlib.Core.Path.{_≡_};
 ghost use Rattle.arena.specs.Arena.{wordAt, referenceAt};
 
+// The last word of a wrap's cell.
+pub const MARK: u32 = 1;
+
+pub const JOIN: u32 = 2;
+
+pub const BINDER: u32 = 3;
+
 // Word k of the cell that ends at `at`, counted back from its end.
 pub fn word(work: &[u32], at: u32, k: u32) -> u32
     ensures { λ r. ⌜ r ≡ wordAt (now (work .entry)) at k ⌝ }

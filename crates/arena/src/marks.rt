@@ -5,8 +5,11 @@ ghost use mathlib.Core.Path.{_≡_};
 ghost use Prim.Native.Nat.{_+_, _≤_, _<_};
 ghost use lib.ListN.{length};
 ghost use Rattle.words.specs.Lists.{equal};
-ghost use Rattle.arena.specs.Arena.{newest};
-ghost use Rattle.arena.specs.Marks.{marksIn, Toggled};
+ghost use Rattle.arena.specs.Arena.{newest, marked};
+ghost use Rattle.arena.specs.Marks.{marksIn, Toggled, Hand, MarksAfter};
+
+// Marks are numbers of steps, at most one more than the most fuel.
+pub const MARK_LIMIT: u32 = 8194;
 
 // A mark met twice cancels; answers the new count.
 pub fn toggle(marks: &mut [u32], start: usize, count: usize, m: u32) -> usize
@@ -29,6 +32,17 @@ pub fn toggle(marks: &mut [u32], start: usize, count: usize, m: u32) -> usize
     let n = toggle(marks, start, last, m);
     marks[start + n] = x;
     n + 1
+}
+
+// A mark on the name in hand; a word past the limit marks nothing. Answers the new count.
+pub fn mark(marks: &mut [u32], start: usize, count: usize, m: u32) -> usize
+    requires { ⌜ Hand (now marks) start count ⌝ }
+    ensures { λ r. ⌜ MarksAfter (marked m) (now (marks .entry)) (now (marks .exit)) start count r ⌝ }
+{
+    if MARK_LIMIT <= m {
+        return count;
+    }
+    toggle(marks, start, count, m)
 }
 
 // The newest mark, 0 where there is none.

@@ -22,105 +22,77 @@ toggle-at t = and 1 toggle-kinds.ps (is 1 toggle-kinds.ps μ-toggle t) toggle.Pr
 abbrev toggle-below : ℕ → In 1 toggle-kinds.ps
 toggle-below t = and 1 toggle-kinds.ps (falls 1 toggle-kinds.ps _<_ μ-toggle t) toggle.Pre
 
-toggle-mul-marks :
-    (t : ℕ) → toggle-lts.Need-mul-marks (toggle-below t, toggle.Post) (toggle-at t) toggle.Post
+abbrev toggle-claims : ℕ → toggle-lts.Claims
+toggle-claims t = (toggle-below t, toggle.Post)
+
+toggle-mul-marks : (t : ℕ) → toggle-lts.Need-mul-marks (toggle-claims t) (toggle-at t) toggle.Post
 toggle-mul-marks t c = search needs
 
-toggle-slice-write-marks : (t : ℕ) → toggle-lts.Need-slice-write-marks (
-  toggle-below t,
-  toggle.Post,
-) (toggle-at t) toggle.Post
+toggle-slice-write-marks : (t : ℕ) → toggle-lts.Need-slice-write-marks (toggle-claims t) (toggle-at t) toggle.Post
 toggle-slice-write-marks t c = search needs
 
-toggle-same-length :
-    (t : ℕ) → toggle-lts.Need-same-length (toggle-below t, toggle.Post) (toggle-at t) toggle.Post
+toggle-same-length : (t : ℕ) → toggle-lts.Need-same-length (toggle-claims t) (toggle-at t) toggle.Post
 toggle-same-length t c = search needs
 
-toggle-returns :
-    (t : ℕ) → toggle-lts.Need-returns (toggle-below t, toggle.Post) (toggle-at t) toggle.Post
+toggle-returns : (t : ℕ) → toggle-lts.Need-returns (toggle-claims t) (toggle-at t) toggle.Post
 toggle-returns t c =
     let a = c .before .before .args in toggled-none (a .marks .now) (a .start) (a .count) (a .m) (c .before .before .pre .1) (c .if1 .taken)
 
-toggle-sub-last :
-    (t : ℕ) → toggle-lts.Need-sub-last (toggle-below t, toggle.Post) (toggle-at t) toggle.Post
+toggle-sub-last : (t : ℕ) → toggle-lts.Need-sub-last (toggle-claims t) (toggle-at t) toggle.Post
 toggle-sub-last t c = search needs
 
-toggle-add-x :
-    (t : ℕ) → toggle-lts.Need-add-x (toggle-below t, toggle.Post) (toggle-at t) toggle.Post
+toggle-add-x : (t : ℕ) → toggle-lts.Need-add-x (toggle-claims t) (toggle-at t) toggle.Post
 toggle-add-x t c = search needs
 
-toggle-mul-x :
-    (t : ℕ) → toggle-lts.Need-mul-x (toggle-below t, toggle.Post) (toggle-at t) toggle.Post
+toggle-mul-x : (t : ℕ) → toggle-lts.Need-mul-x (toggle-claims t) (toggle-at t) toggle.Post
 toggle-mul-x t c = search needs
 
-toggle-slice-read-x :
-    (t : ℕ) → toggle-lts.Need-slice-read-x (toggle-below t, toggle.Post) (toggle-at t) toggle.Post
+toggle-slice-read-x : (t : ℕ) → toggle-lts.Need-slice-read-x (toggle-claims t) (toggle-at t) toggle.Post
 toggle-slice-read-x t c = search needs
 
-toggle-returns-2 :
-    (t : ℕ) → toggle-lts.Need-returns-2 (toggle-below t, toggle.Post) (toggle-at t) toggle.Post
+toggle-returns-2 : (t : ℕ) → toggle-lts.Need-returns-2 (toggle-claims t) (toggle-at t) toggle.Post
 toggle-returns-2 t c =
     let a = c .before .before .before .before .args in toggled-cancel (a .marks .now) (a .start) (a .count) (a .m) (c .before .before .before .before .pre .1) (c .before .before .if1 .left) (c .if2 .taken)
 
-toggle-add-marks :
-    (t : ℕ) → toggle-lts.Need-add-marks (toggle-below t, toggle.Post) (toggle-at t) toggle.Post
+toggle-add-marks : (t : ℕ) → toggle-lts.Need-add-marks (toggle-claims t) (toggle-at t) toggle.Post
 toggle-add-marks t c = search needs
 
-toggle-mul-marks-2 :
-    (t : ℕ) → toggle-lts.Need-mul-marks-2 (toggle-below t, toggle.Post) (toggle-at t) toggle.Post
+toggle-mul-marks-2 : (t : ℕ) → toggle-lts.Need-mul-marks-2 (toggle-claims t) (toggle-at t) toggle.Post
 toggle-mul-marks-2 t c = search needs
 
-toggle-slice-write-marks-2 : (t : ℕ) → toggle-lts.Need-slice-write-marks-2 (
-  toggle-below t,
-  toggle.Post,
-) (toggle-at t) toggle.Post
+toggle-slice-write-marks-2 : (t : ℕ) → toggle-lts.Need-slice-write-marks-2 (toggle-claims t) (toggle-at t) toggle.Post
 toggle-slice-write-marks-2 t c = search needs
 
-toggle-add-result :
-    (t : ℕ) → toggle-lts.Need-add-result (toggle-below t, toggle.Post) (toggle-at t) toggle.Post
+toggle-add-result : (t : ℕ) → toggle-lts.Need-add-result (toggle-claims t) (toggle-at t) toggle.Post
 toggle-add-result t c = search needs
 
-toggle-same-length-2 :
-    (t : ℕ) →
-    toggle-lts.Need-same-length-2 (toggle-below t, toggle.Post) (toggle-at t) toggle.Post
+toggle-same-length-2 : (t : ℕ) → toggle-lts.Need-same-length-2 (toggle-claims t) (toggle-at t) toggle.Post
 toggle-same-length-2 t c = search needs
 
-toggle-returns-3 :
-    (t : ℕ) → toggle-lts.Need-returns-3 (toggle-below t, toggle.Post) (toggle-at t) toggle.Post
+toggle-returns-3 : (t : ℕ) → toggle-lts.Need-returns-3 (toggle-claims t) (toggle-at t) toggle.Post
 toggle-returns-3 t c =
     let a = c .before .before .before .before .before .args in toggled-front (a .marks .now) (a .start) (a .count) (a .m) (c .before .before .before .before .before .pre .1) (c .before .before .before .if1 .left) (c .before .if2 .left) (c .if3 .taken)
 
-toggle-toggle-requires :
-    (t : ℕ) →
-    toggle-lts.Need-toggle-requires (toggle-below t, toggle.Post) (toggle-at t) toggle.Post
+toggle-toggle-requires : (t : ℕ) → toggle-lts.Need-toggle-requires (toggle-claims t) (toggle-at t) toggle.Post
 toggle-toggle-requires t c κs = search needs
 
-toggle-add-marks-2 :
-    (t : ℕ) → toggle-lts.Need-add-marks-2 (toggle-below t, toggle.Post) (toggle-at t) toggle.Post
+toggle-add-marks-2 : (t : ℕ) → toggle-lts.Need-add-marks-2 (toggle-claims t) (toggle-at t) toggle.Post
 toggle-add-marks-2 t c = search needs
 
-toggle-mul-marks-3 :
-    (t : ℕ) → toggle-lts.Need-mul-marks-3 (toggle-below t, toggle.Post) (toggle-at t) toggle.Post
+toggle-mul-marks-3 : (t : ℕ) → toggle-lts.Need-mul-marks-3 (toggle-claims t) (toggle-at t) toggle.Post
 toggle-mul-marks-3 t c = search needs
 
-toggle-slice-write-marks-3 : (t : ℕ) → toggle-lts.Need-slice-write-marks-3 (
-  toggle-below t,
-  toggle.Post,
-) (toggle-at t) toggle.Post
+toggle-slice-write-marks-3 : (t : ℕ) → toggle-lts.Need-slice-write-marks-3 (toggle-claims t) (toggle-at t) toggle.Post
 toggle-slice-write-marks-3 t c =
     omega (arith, c .before .before .toggle .ensures .room, c .before .before .toggle .kept .0)
 
-toggle-add-result-2 :
-    (t : ℕ) → toggle-lts.Need-add-result-2 (toggle-below t, toggle.Post) (toggle-at t) toggle.Post
+toggle-add-result-2 : (t : ℕ) → toggle-lts.Need-add-result-2 (toggle-claims t) (toggle-at t) toggle.Post
 toggle-add-result-2 t c = search needs
 
-toggle-same-length-3 :
-    (t : ℕ) →
-    toggle-lts.Need-same-length-3 (toggle-below t, toggle.Post) (toggle-at t) toggle.Post
+toggle-same-length-3 : (t : ℕ) → toggle-lts.Need-same-length-3 (toggle-claims t) (toggle-at t) toggle.Post
 toggle-same-length-3 t c = search needs
 
-toggle-returns-4 :
-    (t : ℕ) → toggle-lts.Need-returns-4 (toggle-below t, toggle.Post) (toggle-at t) toggle.Post
+toggle-returns-4 : (t : ℕ) → toggle-lts.Need-returns-4 (toggle-claims t) (toggle-at t) toggle.Post
 toggle-returns-4 t c =
     let a = c .before .before .before .before .before .before .before .before .before .args in let l : a .m ≤ getD (a .marks .now) (a .start + (a .count - 1)) 0 = omega arith in toggled-later (a .marks .now) (a .start) (a .count) (a .m) (c .before .before .before .before .before .before .before .before .before .pre .1) (c .before .before .before .before .before .before .before .if1 .left) (c .before .before .before .before .before .if2 .left) l (c .before .before .toggle .last .0) (c .before .before .toggle .result) (c .before .before .toggle .kept .0) (c .before .before .toggle .ensures)
 

@@ -1,0 +1,116 @@
+-- The proof of the cycle {marks_after}. The measure is the wrap's reference.
+use Prim.Native.Nat.{ℕ, _<_}
+use borrow.Fn.Kinds.{In}
+use borrow.Fn.PlainCycle.{Measures, is, falls, and}
+use Rattle.arena.proofs.wraps.marks_after.Reads as marks-after
+use Rattle.arena.proofs.wraps.marks_after.Kinds as marks-after-kinds
+use Rattle.arena.proofs.wraps.+marks_after.Lts-marks_after as marks-after-lts
+use Rattle.arena.proofs.cells.reference.Reads as reference-reads
+use Rattle.arena.proofs.cells.word.Reads as word-reads
+use Rattle.arena.proofs.marks.mark.Reads as mark-reads
+use Rattle.arena.proofs.wraps.+marks_after.{statement}
+use Rattle.arena.proofs.wraps.+marks_after.Tie.{close}
+use Rattle.arena.specs.HandLaws.{after-none, after-hand, wrap-idle, wrap-falls, marks-mark, marks-join, marks-binder}
+use borrow.Author.Needs.{needs}
+use native.Mathlib.Omega.{arith}
+use mathlib.Core.Path.{_∙_}
+
+abbrev μ-marks-after : Measures 2 marks-after-kinds.ps ℕ
+μ-marks-after κs a =
+    a .1 .1 .1 .1 .0
+
+abbrev marks-after-at : ℕ → In 2 marks-after-kinds.ps
+marks-after-at t =
+    and 2 marks-after-kinds.ps (is 2 marks-after-kinds.ps μ-marks-after t) marks-after.Pre
+
+abbrev marks-after-below : ℕ → In 2 marks-after-kinds.ps
+marks-after-below t =
+    and 2 marks-after-kinds.ps (falls 2 marks-after-kinds.ps _<_ μ-marks-after t) marks-after.Pre
+
+abbrev marks-after-claims : ℕ → marks-after-lts.Claims
+marks-after-claims t = (word-reads.Asked, word-reads.Learnt, reference-reads.Asked, reference-reads.Learnt, marks-after-below t, marks-after.Post, mark-reads.Asked, mark-reads.Learnt)
+
+marks-after-word-requires : (t : ℕ) → marks-after-lts.Need-word-requires (marks-after-claims t) (marks-after-at t) marks-after.Post
+marks-after-word-requires t c κs = search needs
+
+marks-after-returns : (t : ℕ) → marks-after-lts.Need-returns (marks-after-claims t) (marks-after-at t) marks-after.Post
+marks-after-returns t c =
+    let a = c .before .before .before .before .args in after-none (a .table .now) (a .start) (a .count) _ (c .before .before .before .before .pre .1) (wrap-idle (a .work .now) (a .w) _ (c .before .word .ensures) (λ z. omega arith) (λ z. omega arith) (λ z. omega arith))
+
+marks-after-returns-2 : (t : ℕ) → marks-after-lts.Need-returns-2 (marks-after-claims t) (marks-after-at t) marks-after.Post
+marks-after-returns-2 t c =
+    let a = c .before .before .before .before .before .args in after-none (a .table .now) (a .start) (a .count) _ (c .before .before .before .before .before .pre .1) (wrap-idle (a .work .now) (a .w) _ (c .before .before .word .ensures) (λ z. omega arith) (λ z. omega arith) (λ z. omega arith))
+
+marks-after-reference-requires : (t : ℕ) → marks-after-lts.Need-reference-requires (marks-after-claims t) (marks-after-at t) marks-after.Post
+marks-after-reference-requires t c κs = search needs
+
+marks-after-marks-after-requires : (t : ℕ) → marks-after-lts.Need-marks-after-requires (marks-after-claims t) (marks-after-at t) marks-after.Post
+marks-after-marks-after-requires t c κs =
+    let a = c .before .before .before .before .before .before .before .args in (omega (arith, wrap-falls (a .work .now) (a .w) _ (c .before .before .before .before .word .ensures) 2 _ (c .before .before .before .if1 .left) (c .before .reference .ensures)), c .before .before .before .before .before .before .before .pre .1)
+
+marks-after-word-requires-2 : (t : ℕ) → marks-after-lts.Need-word-requires-2 (marks-after-claims t) (marks-after-at t) marks-after.Post
+marks-after-word-requires-2 t c κs = search needs
+
+marks-after-mark-requires : (t : ℕ) → marks-after-lts.Need-mark-requires (marks-after-claims t) (marks-after-at t) marks-after.Post
+marks-after-mark-requires t c κs =
+    let a = c .before .before .before .before .before .before .before .before .before .before .before .before .before .args in after-hand _ (a .table .now) _ (a .start) (a .count) _ (c .before .before .before .before .before .before .before .before .before .before .before .before .before .pre .1) (c .before .before .before .before .before .marks-after .kept .1 .0) (c .before .before .before .before .before .marks-after .ensures)
+
+marks-after-same-length : (t : ℕ) → marks-after-lts.Need-same-length (marks-after-claims t) (marks-after-at t) marks-after.Post
+marks-after-same-length t c =
+    c .before .before .mark .kept .0 ∙ c .before .before .before .before .before .before .before .before .marks-after .kept .1 .0
+
+marks-after-returns-3 : (t : ℕ) → marks-after-lts.Need-returns-3 (marks-after-claims t) (marks-after-at t) marks-after.Post
+marks-after-returns-3 t c =
+    let a = c .before .before .before .before .before .before .before .before .before .before .before .before .before .before .before .before .args in marks-mark (a .work .now) (a .w) _ (c .before .before .before .before .before .before .before .before .before .before .before .before .before .word .ensures) _ (c .before .before .before .before .before .before .before .before .before .before .reference .ensures) (a .table .now) _ (a .start) (a .count) _ (c .before .before .before .before .before .before .before .before .marks-after .ensures) _ (c .before .before .before .before .before .if3 .taken) (c .before .before .before .before .word2 .ensures) _ _ (c .before .before .mark .ensures)
+
+marks-after-reference-requires-2 : (t : ℕ) → marks-after-lts.Need-reference-requires-2 (marks-after-claims t) (marks-after-at t) marks-after.Post
+marks-after-reference-requires-2 t c κs = search needs
+
+marks-after-marks-after-requires-2 : (t : ℕ) → marks-after-lts.Need-marks-after-requires-2 (marks-after-claims t) (marks-after-at t) marks-after.Post
+marks-after-marks-after-requires-2 t c κs =
+    let a = c .before .before .before .before .before .before .before .before .before .before .before .before .before .before .args in
+    (omega (arith, wrap-falls (a .work .now) (a .w) _ (c .before .before .before .before .before .before .before .before .before .before .before .word .ensures) 3 _ (c .before .before .before .before .before .before .before .before .before .before .if1 .left) (c .before .reference2 .ensures)), after-hand _ (a .table .now) _ (a .start) (a .count) _ (c .before .before .before .before .before .before .before .before .before .before .before .before .before .before .pre .1) (c .before .before .before .before .before .before .marks-after .kept .1 .0) (c .before .before .before .before .before .before .marks-after .ensures))
+
+marks-after-same-length-2 : (t : ℕ) → marks-after-lts.Need-same-length-2 (marks-after-claims t) (marks-after-at t) marks-after.Post
+marks-after-same-length-2 t c =
+    c .before .before .marks-after2 .kept .1 .0 ∙ c .before .before .before .before .before .before .before .before .before .marks-after .kept .1 .0
+
+marks-after-returns-4 : (t : ℕ) → marks-after-lts.Need-returns-4 (marks-after-claims t) (marks-after-at t) marks-after.Post
+marks-after-returns-4 t c =
+    let a = c .before .before .before .before .before .before .before .before .before .before .before .before .before .before .before .before .before .args in marks-join (a .work .now) (a .w) _ (c .before .before .before .before .before .before .before .before .before .before .before .before .before .before .word .ensures) _ (c .before .before .before .before .before .before .before .before .before .before .before .reference .ensures) (a .table .now) _ (a .start) (a .count) _ (c .before .before .before .before .before .before .before .before .before .marks-after .ensures) _ (c .before .before .before .before .before .if4 .taken) (c .before .before .before .before .reference2 .ensures) _ _ (c .before .before .marks-after2 .ensures)
+
+marks-after-same-length-3 : (t : ℕ) → marks-after-lts.Need-same-length-3 (marks-after-claims t) (marks-after-at t) marks-after.Post
+marks-after-same-length-3 t c = search needs
+
+marks-after-returns-5 : (t : ℕ) → marks-after-lts.Need-returns-5 (marks-after-claims t) (marks-after-at t) marks-after.Post
+marks-after-returns-5 t c =
+    let a = c .before .before .before .before .before .before .before .before .before .before .before .before .args in marks-binder (a .work .now) (a .w) _ (c .before .before .before .before .before .before .before .before .before .word .ensures) _ (c .before .before .before .before .before .before .reference .ensures) (a .table .now) _ (a .start) (a .count) _ (c .before .before .before .before .marks-after .ensures) (omega arith)
+
+pub +marks-after-spec : {M : Type 1} → statement M
++marks-after-spec = close μ-marks-after λ t. marks-after-lts.spec (
+  word-reads.Asked,
+  word-reads.Learnt,
+  reference-reads.Asked,
+  reference-reads.Learnt,
+  marks-after-below t,
+  marks-after.Post,
+  mark-reads.Asked,
+  mark-reads.Learnt,
+)
+    (marks-after-at t)
+    marks-after.Post
+    (marks-after-word-requires t)
+    (marks-after-returns t)
+    (marks-after-returns-2 t)
+    (marks-after-reference-requires t)
+    (marks-after-marks-after-requires t)
+    (marks-after-word-requires-2 t)
+    (marks-after-mark-requires t)
+    (marks-after-same-length t)
+    (marks-after-returns-3 t)
+    (marks-after-reference-requires-2 t)
+    (marks-after-marks-after-requires-2 t)
+    (marks-after-same-length-2 t)
+    (marks-after-returns-4 t)
+    (marks-after-same-length-3 t)
+    (marks-after-returns-5 t)

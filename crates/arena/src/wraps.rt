@@ -1,0 +1,82 @@
+// Walking a wrap: what waits on a name, carried out on the name in hand, from the inside out.
+// The marks in hand are lent a table of their own, so that the arena is only read.
+
+ghost use Prim.Native.Nat.{_+_, _<_};
+ghost use lib.ListN.{length};
+ghost use Rattle.arena.specs.Arena.{wrapAt, rebound, markLimit};
+ghost use Rattle.arena.specs.Marks.{Hand, MarksAfter, OwnMarks, NameHand, NameAfter};
+use crate::cells;
+use crate::marks;
+
+// The marks of a name after wrap w; answers their count.
+pub fn marks_after(work: &[u32], table: &mut [u32], start: usize, count: usize, w: u32) -> usize
+    requires { ⌜ Hand (now table) start count ⌝ }
+    ensures { λ r. ⌜ MarksAfter (wrapAt (now (work .entry)) w) (now (table .entry)) (now (table .exit)) start count r ⌝ }
+{
+    let tag = cells::word(work, w, 1);
+    if tag == 0 {
+        return count;
+    }
+    if cells::BINDER < tag {
+        return count;
+    }
+    let inner = cells::reference(work, w, 2);
+    let n = marks_after(work, table, start, count, inner);
+    if tag == cells::MARK {
+        let m = cells::word(work, w, 3);
+        return marks::mark(table, start, n, m);
+    }
+    if tag == cells::JOIN {
+        let outer = cells::reference(work, w, 3);
+        return marks_after(work, table, start, n, outer);
+    }
+    n
+}
+
+// The marks of a binder's own name, from `start`; answers their count.
+pub fn own_marks(work: &[u32], table: &mut [u32], start: usize, w: u32) -> usize
+    requires { ⌜ start + markLimit < length (now table) ⌝ }
+    ensures { λ r. ⌜ OwnMarks (now (work .entry)) w (now (table .entry)) (now (table .exit)) start r ⌝ }
+{
+    let own = cells::reference(work, w, 9);
+    let n = marks_after(work, table, start, 0, own);
+    let pending = cells::reference(work, w, 8);
+    marks_after(work, table, start, n, pending)
+}
+
+// The binding of the name in hand after binder w: the new one where it is the same as the binder's own name, judged with
+// the marks of its time. Number, binding, count and newest mark tell most names apart before any wrap is walked.
+pub fn rebind(
+    work: &[u32],
+    table: &mut [u32],
+    start: usize,
+    count: usize,
+    number: u32,
+    binding: u32,
+    w: u32,
+) -> u32
+    requires { ⌜ NameHand (now table) start count ⌝ }
+    ensures { λ r. ⌜ NameAfter (rebound (now (work .entry)) (wrapAt (now (work .entry))) w) (now (table .entry)) (now (table .exit)) start number count binding count r ⌝ }
+{
+    if cells::word(work, w, 5) != number {
+        return binding;
+    }
+    if cells::word(work, w, 4) != binding {
+        return binding;
+    }
+    if cells::word(work, w, 6) as usize != count {
+        return binding;
+    }
+    if cells::word(work, w, 7) != marks::newest_of(table, start, count) {
+        return binding;
+    }
+    let behind = start + count;
+    let own = own_marks(work, table, behind, w);
+    if own != count {
+        return binding;
+    }
+    if marks::equal_marks(table, behind, start, count) {
+        return cells::word(work, w, 3);
+    }
+    binding
+}
