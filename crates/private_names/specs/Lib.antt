@@ -16,5 +16,6 @@ pub mod FormsKept
 pub mod Agree
 pub mod Holes
 pub mod Places
+pub mod InPlace
 pub mod ChosenRule
 pub mod Form
