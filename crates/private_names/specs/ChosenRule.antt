@@ -21,8 +21,8 @@ use Rattle.private_names.specs.Names.{Kind, Coherent, Raw, NameRel, kept
 use Rattle.private_names.specs.Steps.{Older, Below}
 use Rattle.private_names.specs.States.{Literal, RuleRel, RulesRel, no-rule, rule, MacrosRel, no-macro, with}
 use Rattle.private_names.specs.Holes.{Hole, first, later, hole-tree, hole-here, hole-elements, hole-element-0, hole-element-1}
-use Rattle.private_names.specs.Places.{Scope, hasVariable}
-use Rattle.private_names.specs.InPlace.{Still, InTemplate, stays, turns, still-dots, still-wild, template-dots, ChosenRules, Foreign, AtRest, rest-coherent, rest-below, still-rel}
+use Rattle.private_names.specs.Scopes.{Scope, hasVariable}
+use Rattle.private_names.specs.Places.{Still, InTemplate, stays, turns, still-dots, still-wild, template-dots, ChosenRules, Foreign, AtRest, rest-coherent, rest-below, still-rel}
 
 -- ---- no variable of this number
 

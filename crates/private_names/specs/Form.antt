@@ -22,8 +22,8 @@ use Rattle.private_names.specs.Outcomes.{eventsOf, OutRel, Agree, bind-a
 use Rattle.private_names.specs.FormsKept.{isMacros-rel, readRules-by}
 use Rattle.private_names.specs.Agree.{expand-agree}
 use Rattle.private_names.specs.Holes.{Hole, here, hole-here, hole-tree, hole-elements, hole-element-0, hole-element-1, hole-element-2}
-use Rattle.private_names.specs.Places.{Scope, rebindAll}
-use Rattle.private_names.specs.InPlace.{Still, InTemplate, still-dots, still-wild, template-dots, template-wild, ChosenRules, Foreign, bindAll-still, bindAll-hole, rebindAll-foreign, AtRest, rest-coherent, rest-ready, rest-below, still-rel}
+use Rattle.private_names.specs.Scopes.{Scope, rebindAll}
+use Rattle.private_names.specs.Places.{Still, InTemplate, still-dots, still-wild, template-dots, template-wild, ChosenRules, Foreign, bindAll-still, bindAll-hole, rebindAll-foreign, AtRest, rest-coherent, rest-ready, rest-below, still-rel}
 use Rattle.private_names.specs.ChosenRule.{FormRule, FormRules, formRules-read, formMacros-rel}
 
 -- the scope of a form's rules: letrec-syntax binds its names there too
@@ -115,17 +115,17 @@ module _ (ρ : Renaming) where
     pub raw : Raw ρ
     pub outcomes : OutRel ρ raw 0 (TermRel ρ) x y
 
-  module _ (formLimit limit : ℕ) (operations : List ℕ) (fuel gas : ℕ) (β : Scope) (free : Foreign ρ β) (inside : Bool) (x : Name) {b : ℕ} {F F′ : Tree} (r : Hole (Still ρ β) (ChosenRules ρ β) (1 ∷ b ∷ 1 ∷ []) F F′) (s : State) where
+  module _ (limit : ℕ) (operations : List ℕ) (fuel gas : ℕ) (β : Scope) (free : Foreign ρ β) (inside : Bool) (x : Name) {b : ℕ} {F F′ : Tree} (r : Hole (Still ρ β) (ChosenRules ρ β) (1 ∷ b ∷ 1 ∷ []) F F′) (s : State) where
     abbrev γ : Scope
     γ = formScope β inside (length (s .macros)) F
 
-    form-steps : StateRel ρ (rawIn γ) 0 s s → Agree ρ (rawIn γ) 0 (TermRel ρ) (expandMacros formLimit operations fuel (expand limit operations fuel gas) inside x F s) (expandMacros formLimit operations fuel (expand limit operations fuel gas) inside x F′ s)
+    form-steps : StateRel ρ (rawIn γ) 0 s s → Agree ρ (rawIn γ) 0 (TermRel ρ) (expandMacros limit operations fuel (expand limit operations fuel gas) inside x F s) (expandMacros limit operations fuel (expand limit operations fuel gas) inside x F′ s)
     unfolding expandMacros addMacros rawIn
     form-steps q =
         let k = length (s .macros) in
         let w = keywords-still ρ β r in
         show-agree ρ (rawIn γ) 0 _ _ _ _ s s λ _.
-        test-agree ρ (rawIn γ) 0 13 _ _ _ _ s s (isMacros-rel _ (λ x y a. a .0) (λ x y a. a .1) formLimit F F′ (hole-alike ρ β r)) q
+        test-agree ρ (rawIn γ) 0 13 _ _ _ _ s s (isMacros-rel _ (λ x y a. a .0) (λ x y a. a .1) limit F F′ (hole-alike ρ β r)) q
         (tested-agree ρ (rawIn γ) 0 14 _ _ _ _ s s (ap distinct (list-eq (λ x y a. a .eq) w)) q λ d.
         get-agree ρ (rawIn γ) 0 _ _ s s
         (show-agree ρ (rawIn γ) 0 _ _ _ _ s s λ fine.
@@ -144,6 +144,6 @@ module _ (ρ : Renaming) where
           macros = macros-append ρ (rawIn γ) (q′ .macros) (formMacros-rel ρ γ (rawIn γ) h (foreign-eq (γ (ρ .old)) (h (ρ .old))) (foreign-eq (γ (ρ .new)) (h (ρ .new))) (suc (v .steps)) e);
         }))))
 
-    pub form-agree : ((raw : Raw ρ) → StateRel ρ raw 0 s s) → AllFine ρ (eventsOf (expandMacros formLimit operations fuel (expand limit operations fuel gas) inside x F s))
-        → Joined (expandMacros formLimit operations fuel (expand limit operations fuel gas) inside x F s) (expandMacros formLimit operations fuel (expand limit operations fuel gas) inside x F′ s)
+    pub form-agree : ((raw : Raw ρ) → StateRel ρ raw 0 s s) → AllFine ρ (eventsOf (expandMacros limit operations fuel (expand limit operations fuel gas) inside x F s))
+        → Joined (expandMacros limit operations fuel (expand limit operations fuel gas) inside x F s) (expandMacros limit operations fuel (expand limit operations fuel gas) inside x F′ s)
     form-agree calm fine = record { raw = rawIn γ; outcomes = form-steps (calm (rawIn γ)) fine }
