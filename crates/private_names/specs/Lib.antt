@@ -23,6 +23,7 @@ pub mod Reach
 pub mod Origins
 pub mod Tables
 pub mod Holes
+pub mod Scopes
 pub mod Places
 pub mod ChosenRule
 pub mod Form
