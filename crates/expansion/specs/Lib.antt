@@ -13,8 +13,8 @@ pub mod Budget
 pub mod RunLaws
 pub mod Gas
 pub mod Bounds
+pub mod TidyRules
 pub mod World
-pub mod WorldRules
 pub mod WorldState
 pub mod Sound
 pub mod EveryLaws

@@ -25,8 +25,8 @@ use Rattle.expansion.specs.Computation.{State, Out, M}
 use Rattle.expansion.specs.Forms.{isLambda, formals, isMacro, isMacros, keywords, rulesForms, expandAll, expandQuote, expandIf, expandLambda, expandMacros, expandUse, expandOperands, expandList, expandName, expandApplication, expandPair, expandTree, expand}
 use Rattle.expansion.specs.Outcomes.{Holds, isStarved, give-holds, refuse-holds, test-holds, show-holds, get-holds, addVariables-holds, addMacros-holds, addStep-holds, then-holds, orRefuse-holds, weaken}
 use Rattle.expansion.specs.FormLaws.{readRules-holds, firstNames-length}
-use Rattle.expansion.specs.World.{World, reachesVariable, reachesMacro, FineTree, fine-within, fine-mark, fine-produce, fine-give, Meant, meantVariable, meantMacro, meantForm, meantOperation, meantNothing, lookup-meant}
-use Rattle.expansion.specs.WorldRules.{FineRules, rulesOf-fine, firstFit-fine, transcribe-fine}
+use Rattle.expansion.specs.World.{World, reachesVariable, reachesMacro, FineTree, FineRules, fine-within, fine-mark, fine-produce, fine-give, Meant, meantVariable, meantMacro, meantForm, meantOperation, meantNothing, lookup-meant}
+use Rattle.expansion.specs.TidyRules.{rulesOf-tidy, firstFit-tidy, transcribe-tidy}
 use Rattle.expansion.specs.WorldState.{Closed, Grown, grown-same, grown-then, closed-grown, widen, widen-new, withVariables, withMacros, variables-within, macros-within, closed-variables, closed-macros}
 
 -- ---- what is asked of every node: that it is one, and all of ground 19
@@ -216,7 +216,7 @@ module _ (limit : ℕ) (operations : List ℕ) (fuel : ℕ) where
         test-holds _ _ _ s tt λ _.
         get-holds _ s
         (show-holds _ _ s
-        (then-holds _ _ _ s (readRules-holds (FineRules (withMacros k (length xs) W)) (each-weaken (λ r. rulesOf-fine) (forms-fine inside k xs (rulesForms-fine f))) s (λ g l. tt)) λ rules u l read.
+        (then-holds _ _ _ s (readRules-holds (FineRules (withMacros k (length xs) W)) (each-weaken (λ r. rulesOf-tidy) (forms-fine inside k xs (rulesForms-fine f))) s (λ g l. tt)) λ rules u l read.
         addMacros-holds _ _ u
         (let added : u .macros ++ rules ≡ s .macros ++ rules = ap (λ (z : State). z .macros ++ rules) (read .unchanged) in
         let enough : length xs ≤ length rules = omega (arith, read .count, keywords-count limit t shape, length-map (rulesForms t) (cond inside (bindAll macro k xs) (λ r. r))) in
@@ -234,8 +234,8 @@ module _ (limit : ℕ) (operations : List ℕ) (fuel : ℕ) where
         test-holds _ _ _ s tt λ _.
         test-holds _ _ _ s tt λ _.
         addStep-holds _ _ s
-        (let template = given-at (firstFit-fine (tail (mark m t)) (c .rules n h)) e in
-        let result = transcribe-fine (r .pattern) used [] template .0 in
+        (let template = given-at (firstFit-tidy (tail (mark m t)) (c .rules n h)) e in
+        let result = transcribe-tidy (r .pattern) used [] template .0 in
         weaken (good W _ (tidy-produce fine-produce (tidy-mark m (fine-mark m) result)) _ (closed-grown c (grown-same refl))) (λ x. x) (λ g v j r. r) λ w v j p.
         made-after (λ b. every asks (W .variables) b w) refl (grown-same refl) p)))
 
