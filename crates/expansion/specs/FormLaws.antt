@@ -7,29 +7,43 @@ use native.Mathlib.Omega.{arith}
 use lib.ListN.{length, length-append}
 use Rattle.words.specs.Lists.{all}
 use Rattle.words.specs.TestLaws.{and-parts, all-parts}
-use Rattle.words.specs.Each.{Each, noneOf, also, Given, given-at}
-use Rattle.recipe.specs.Tree.{Tree, names, isListOf, isOrdinaryName, element}
+use Rattle.words.specs.Each.{Each, noneOf, also, each-append, Given, given-at}
+use Rattle.recipe.specs.Name.{Name}
+use Rattle.recipe.specs.Tree.{Tree, empty, constant, name, pair, names, onName, isListOf, isOrdinaryName, element}
 use Rattle.recipe.specs.Tidy.{ordinary-names}
 use Rattle.expansion.specs.Rules.{Rule, rulesOf}
-use Rattle.expansion.specs.Computation.{State, Events}
+use Rattle.expansion.specs.Computation.{State, Event, looked, Events}
 use Rattle.expansion.specs.Forms.{isMacro, firstNames, readRules}
 use Rattle.expansion.specs.Outcomes.{Holds, give-holds, show-holds, then-holds, orRefuse-holds}
 
--- the rules of these forms were read in state s
-pub record RulesRead (P : List Rule → Type 0) (rs : List Tree) (s : State) (rules : List (List Rule)) (t : State) : Type 0 where
+-- a lookup
+pub data Looks : Event → Type 0 where
+  looks : {x : Name} → Looks (looked x)
+
+head-looks : (t : Tree) → Each Looks (onName (λ x. looked x ∷ []) [] t)
+unfolding onName
+head-looks empty = noneOf
+head-looks (constant a) = noneOf
+head-looks (name x) = also looks noneOf
+head-looks (pair h t) = noneOf
+
+-- the rules of these forms were read in state s, showing l
+pub record RulesRead (P : List Rule → Type 0) (rs : List Tree) (s : State) (rules : List (List Rule)) (t : State) (l : Events) : Type 0 where
   pub unchanged : t ≡ s
   pub count : length rules ≡ length rs
   pub each : Each P rules
+  pub shown : Each Looks l
 
 pub readRules-holds : {S : Type 0} {R : ℕ → State → Events → Type 0} (P : List Rule → Type 0) {rs : List Tree} → Each (λ r. Given P (rulesOf r)) rs
-    → (s : State) → ((g : ℕ) (l : Events) → R g s l) → Holds S R (λ rules t l. RulesRead P rs s rules t) (readRules rs s)
+    → (s : State) → ((g : ℕ) (l : Events) → Each Looks l → R g s l) → Holds S R (RulesRead P rs s) (readRules rs s)
 unfolding readRules
-readRules-holds P noneOf s r = give-holds [] s (record { unchanged = refl; count = refl; each = noneOf })
-readRules-holds P (also g gs) s r =
+readRules-holds P noneOf s r = give-holds [] s (record { unchanged = refl; count = refl; each = noneOf; shown = noneOf })
+readRules-holds P (also {x} g gs) s r =
+    let h = head-looks (element 0 x) in
     show-holds _ _ s
-    (orRefuse-holds _ _ _ s (r _ _) λ a e.
-    then-holds _ _ _ s (readRules-holds P gs s (λ g l. r g _)) λ b t l q.
-    give-holds _ t (record { unchanged = q .unchanged; count = ap suc (q .count); each = also (given-at g e) (q .each) }))
+    (orRefuse-holds _ _ _ s (r _ _ (each-append h noneOf)) λ a e.
+    then-holds _ _ _ s (readRules-holds P gs s (λ g l k. r g _ (each-append h k))) λ b t l q.
+    give-holds _ t (record { unchanged = q .unchanged; count = ap suc (q .count); each = also (given-at g e) (q .each); shown = each-append h (each-append (q .shown) noneOf) }))
 
 pub firstNames-length : (cs : List Tree) → all isMacro cs ≡ true → length (firstNames cs) ≡ length cs
 unfolding firstNames isMacro
