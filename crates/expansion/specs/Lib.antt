@@ -19,3 +19,5 @@ pub mod WorldState
 pub mod Sound
 pub mod EveryLaws
 pub mod CoreTerm
+pub mod Bindings
+pub mod OwnNames
