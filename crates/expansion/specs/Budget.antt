@@ -154,7 +154,7 @@ module _ (limit : ℕ) (operations : List ℕ) (fuel : ℕ) where
         test-holds _ _ _ s low λ _.
         get-holds _ s
         (show-holds _ _ s
-        (then-holds _ _ _ s (readRules-holds (λ r. Unit {0}) (each-all _ (λ r. given-any _)) s (λ g l. low)) λ rules u l read.
+        (then-holds _ _ _ s (readRules-holds (λ r. Unit {0}) (each-all _ (λ r. given-any _)) s (λ g l _. low)) λ rules u l read.
         addMacros-holds _ _ u
         (let same = ap (λ (z : State). z .sum) (read .unchanged) in
         weaken (good _ _ (omega (arith, same)) (omega (arith, same, e))) (λ x. x) (λ g v k r. r) λ w v k q.

@@ -1,35 +1,51 @@
 -- Laws of forms: reading rules changes no state and gives rules for each form; every macro of a form has one name.
-use mathlib.Core.Path.{_≡_, refl, ap, _∙_}
+use mathlib.Core.Path.{_≡_, refl, ap, sym, _∙_}
 use mathlib.Core.Bool.{true}
 use mathlib.Core.List.{List, [], _∷_}
 use Prim.Native.Nat.{ℕ, suc}
 use native.Mathlib.Omega.{arith}
-use lib.ListN.{length, length-append}
+use lib.ListN.{length, length-append, length-map}
 use Rattle.words.specs.Lists.{all}
 use Rattle.words.specs.TestLaws.{and-parts, all-parts}
-use Rattle.words.specs.Each.{Each, noneOf, also, Given, given-at}
-use Rattle.recipe.specs.Tree.{Tree, names, isListOf, isOrdinaryName, element}
+use Rattle.words.specs.Each.{Each, noneOf, also, each-append, Given, given-at}
+use Rattle.recipe.specs.Name.{Name}
+use Rattle.recipe.specs.Tree.{Tree, empty, constant, name, pair, names, onName, isList, isListOf, isOrdinaryName, elements, element}
 use Rattle.recipe.specs.Tidy.{ordinary-names}
 use Rattle.expansion.specs.Rules.{Rule, rulesOf}
-use Rattle.expansion.specs.Computation.{State, Events}
-use Rattle.expansion.specs.Forms.{isMacro, firstNames, readRules}
+use Rattle.expansion.specs.Computation.{State, Event, looked, quoted, reached, Events}
+use Rattle.expansion.specs.Forms.{isMacro, isMacros, firstNames, keywords, rulesForms, readRules}
 use Rattle.expansion.specs.Outcomes.{Holds, give-holds, show-holds, then-holds, orRefuse-holds}
 
--- the rules of these forms were read in state s
-pub record RulesRead (P : List Rule → Type 0) (rs : List Tree) (s : State) (rules : List (List Rule)) (t : State) : Type 0 where
+-- an event that is no binding
+pub data Unbinding : Event → Type 0 where
+  looking : {x : Name} → Unbinding (looked x)
+  quoting : {x : Name} → Unbinding (quoted x)
+  reaching : {x : Name} → Unbinding (reached x)
+
+head-looks : (t : Tree) → Each Unbinding (onName (λ x. looked x ∷ []) [] t)
+unfolding onName
+head-looks empty = noneOf
+head-looks (constant a) = noneOf
+head-looks (name x) = also looking noneOf
+head-looks (pair h t) = noneOf
+
+-- the rules of these forms were read in state s, showing l
+pub record RulesRead (P : List Rule → Type 0) (rs : List Tree) (s : State) (rules : List (List Rule)) (t : State) (l : Events) : Type 0 where
   pub unchanged : t ≡ s
   pub count : length rules ≡ length rs
   pub each : Each P rules
+  pub shown : Each Unbinding l
 
 pub readRules-holds : {S : Type 0} {R : ℕ → State → Events → Type 0} (P : List Rule → Type 0) {rs : List Tree} → Each (λ r. Given P (rulesOf r)) rs
-    → (s : State) → ((g : ℕ) (l : Events) → R g s l) → Holds S R (λ rules t l. RulesRead P rs s rules t) (readRules rs s)
+    → (s : State) → ((g : ℕ) (l : Events) → Each Unbinding l → R g s l) → Holds S R (RulesRead P rs s) (readRules rs s)
 unfolding readRules
-readRules-holds P noneOf s r = give-holds [] s (record { unchanged = refl; count = refl; each = noneOf })
-readRules-holds P (also g gs) s r =
+readRules-holds P noneOf s r = give-holds [] s (record { unchanged = refl; count = refl; each = noneOf; shown = noneOf })
+readRules-holds P (also {x} g gs) s r =
+    let h = head-looks (element 0 x) in
     show-holds _ _ s
-    (orRefuse-holds _ _ _ s (r _ _) λ a e.
-    then-holds _ _ _ s (readRules-holds P gs s (λ g l. r g _)) λ b t l q.
-    give-holds _ t (record { unchanged = q .unchanged; count = ap suc (q .count); each = also (given-at g e) (q .each) }))
+    (orRefuse-holds _ _ _ s (r _ _ (each-append h noneOf)) λ a e.
+    then-holds _ _ _ s (readRules-holds P gs s (λ g l k. r g _ (each-append h k))) λ b t l q.
+    give-holds _ t (record { unchanged = q .unchanged; count = ap suc (q .count); each = also (given-at g e) (q .each); shown = each-append h (each-append (q .shown) noneOf) }))
 
 pub firstNames-length : (cs : List Tree) → all isMacro cs ≡ true → length (firstNames cs) ≡ length cs
 unfolding firstNames isMacro
@@ -38,3 +54,12 @@ firstNames-length (c ∷ cs) e =
     let g = all-parts isMacro c cs e in
     let n = ordinary-names (element 0 c) (and-parts (isListOf 2 c) (isOrdinaryName (element 0 c)) (g .0) .1) in
     length-append (names (element 0 c)) (firstNames cs) ∙ omega (arith, n, firstNames-length cs (g .1))
+
+-- a form's macros are as many as its rules forms
+pub keywords-count : (limit : ℕ) (t : Tree) → isMacros limit t ≡ true → length (keywords t) ≡ length (rulesForms t)
+unfolding isMacros keywords rulesForms
+keywords-count limit t e =
+    let a = and-parts (isListOf 3 t) _ e in
+    let b = and-parts (isList (element 1 t)) _ (a .1) in
+    let d = and-parts (all isMacro (elements (element 1 t))) _ (b .1) in
+    firstNames-length (elements (element 1 t)) (d .0) ∙ sym (length-map (elements (element 1 t)) (element 1))

@@ -20,9 +20,11 @@ pub mod Budget
 pub mod RunLaws
 pub mod Gas
 pub mod Bounds
+pub mod TidyRules
 pub mod World
-pub mod WorldRules
 pub mod WorldState
 pub mod Sound
 pub mod EveryLaws
 pub mod CoreTerm
+pub mod Bindings
+pub mod OwnNames

@@ -76,3 +76,10 @@ module _ {A S S′ : Type 0} {R R′ : ℕ → State → Events → Type 0} {Q Q
   weaken (isDone q) x y z = isDone (z _ _ _ q)
   weaken (isRefused r) x y z = isRefused (y _ _ _ r)
   weaken (isStarved e) x y z = isStarved (x e)
+
+module _ {A S S′ : Type 0} {R R′ : ℕ → State → Events → Type 0} {Q Q′ : A → State → Events → Type 0} where
+  -- two claims of one outcome
+  pub both-hold : {o : Out A} → Holds S R Q o → Holds S′ R′ Q′ o → Holds (S × S′) (λ g s l. R g s l × R′ g s l) (λ a s l. Q a s l × Q′ a s l) o
+  both-hold (isDone p) (isDone q) = isDone (p, q)
+  both-hold (isRefused p) (isRefused q) = isRefused (p, q)
+  both-hold (isStarved p) (isStarved q) = isStarved (p, q)

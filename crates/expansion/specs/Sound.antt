@@ -1,6 +1,6 @@
 -- Expansion makes sound terms: from a tree and a state of a world, every node of the term is one, its variables are of the world or bound
 -- inside, its lambdas' first numbers go on from the state's count, its operations and names are known, and the world stays closed.
-use mathlib.Core.Path.{_≡_, refl, ap, sym, _∙_, subst}
+use mathlib.Core.Path.{_≡_, refl, ap, subst}
 use mathlib.Core.Bool.{Bool, true, false, _&&_, cond}
 use mathlib.Core.List.{List, [], _++_, map}
 use Prim.Native.Nat.{ℕ, zero, suc, _+_, _≤_, _<_}
@@ -22,11 +22,11 @@ use Rattle.core_term.specs.Every.{Asked, everyDatum, everyData, every, everyTer
 use Rattle.core_term.specs.Check.{Scope, inside, variableInside, firstNumber, known, small}
 use Rattle.expansion.specs.Lookup.{quote, if, lambda, let-syntax, letrec-syntax, auxiliary, Found}
 use Rattle.expansion.specs.Computation.{State, Out, M}
-use Rattle.expansion.specs.Forms.{isLambda, formals, isMacro, isMacros, keywords, rulesForms, expandAll, expandQuote, expandIf, expandLambda, expandMacros, expandUse, expandOperands, expandList, expandName, expandApplication, expandPair, expandTree, expand}
+use Rattle.expansion.specs.Forms.{isLambda, formals, keywords, rulesForms, expandAll, expandQuote, expandIf, expandLambda, expandMacros, expandUse, expandOperands, expandList, expandName, expandApplication, expandPair, expandTree, expand}
 use Rattle.expansion.specs.Outcomes.{Holds, isStarved, give-holds, refuse-holds, test-holds, show-holds, get-holds, addVariables-holds, addMacros-holds, addStep-holds, then-holds, orRefuse-holds, weaken}
-use Rattle.expansion.specs.FormLaws.{readRules-holds, firstNames-length}
-use Rattle.expansion.specs.World.{World, reachesVariable, reachesMacro, FineTree, fine-within, fine-mark, fine-produce, fine-give, Meant, meantVariable, meantMacro, meantForm, meantOperation, meantNothing, lookup-meant}
-use Rattle.expansion.specs.WorldRules.{FineRules, rulesOf-fine, firstFit-fine, transcribe-fine}
+use Rattle.expansion.specs.FormLaws.{readRules-holds, keywords-count}
+use Rattle.expansion.specs.World.{World, reachesVariable, reachesMacro, FineTree, FineRules, fine-within, fine-mark, fine-produce, fine-give, Meant, meantVariable, meantMacro, meantForm, meantOperation, meantNothing, lookup-meant}
+use Rattle.expansion.specs.TidyRules.{rulesOf-tidy, firstFit-tidy, transcribe-tidy}
 use Rattle.expansion.specs.WorldState.{Closed, Grown, grown-same, grown-then, closed-grown, widen, widen-new, withVariables, withMacros, variables-within, macros-within, closed-variables, closed-macros}
 
 -- ---- what is asked of every node: that it is one, and all of ground 19
@@ -79,15 +79,6 @@ formals-most {t = t} f e =
     let b = and-parts (isList (element 1 t)) _ (a .1) in
     let d = and-parts (all isOrdinaryName (elements (element 1 t))) _ (b .1) in
     omega (arith, tidy-formals (tidy-element 1 f) (b .0) (d .0), leb-true (length (elements (element 1 t))) formalsMost (d .1))
-
--- a form's macros are as many as its rules forms
-keywords-count : (limit : ℕ) (t : Tree) → isMacros limit t ≡ true → length (keywords t) ≡ length (rulesForms t)
-unfolding isMacros keywords rulesForms
-keywords-count limit t e =
-    let a = and-parts (isListOf 3 t) _ e in
-    let b = and-parts (isList (element 1 t)) _ (a .1) in
-    let d = and-parts (all isMacro (elements (element 1 t))) _ (b .1) in
-    firstNames-length (elements (element 1 t)) (d .0) ∙ sym (length-map (elements (element 1 t)) (element 1))
 
 rulesForms-fine : {W : World} {t : Tree} → FineTree W t → Each (FineTree W) (rulesForms t)
 unfolding rulesForms
@@ -216,7 +207,7 @@ module _ (limit : ℕ) (operations : List ℕ) (fuel : ℕ) where
         test-holds _ _ _ s tt λ _.
         get-holds _ s
         (show-holds _ _ s
-        (then-holds _ _ _ s (readRules-holds (FineRules (withMacros k (length xs) W)) (each-weaken (λ r. rulesOf-fine) (forms-fine inside k xs (rulesForms-fine f))) s (λ g l. tt)) λ rules u l read.
+        (then-holds _ _ _ s (readRules-holds (FineRules (withMacros k (length xs) W)) (each-weaken (λ r. rulesOf-tidy) (forms-fine inside k xs (rulesForms-fine f))) s (λ g l _. tt)) λ rules u l read.
         addMacros-holds _ _ u
         (let added : u .macros ++ rules ≡ s .macros ++ rules = ap (λ (z : State). z .macros ++ rules) (read .unchanged) in
         let enough : length xs ≤ length rules = omega (arith, read .count, keywords-count limit t shape, length-map (rulesForms t) (cond inside (bindAll macro k xs) (λ r. r))) in
@@ -234,8 +225,8 @@ module _ (limit : ℕ) (operations : List ℕ) (fuel : ℕ) where
         test-holds _ _ _ s tt λ _.
         test-holds _ _ _ s tt λ _.
         addStep-holds _ _ s
-        (let template = given-at (firstFit-fine (tail (mark m t)) (c .rules n h)) e in
-        let result = transcribe-fine (r .pattern) used [] template .0 in
+        (let template = given-at (firstFit-tidy (tail (mark m t)) (c .rules n h)) e in
+        let result = transcribe-tidy (r .pattern) used [] template .0 in
         weaken (good W _ (tidy-produce fine-produce (tidy-mark m (fine-mark m) result)) _ (closed-grown c (grown-same refl))) (λ x. x) (λ g v j r. r) λ w v j p.
         made-after (λ b. every asks (W .variables) b w) refl (grown-same refl) p)))
 

@@ -13,6 +13,8 @@ use Rattle.recipe.specs.Name.{Binding, variable, macro, Name, plainName, markNa
 use Rattle.recipe.specs.Tree.{Tree}
 use Rattle.recipe.specs.Tidy.{Tidy}
 use Rattle.recipe.specs.TableTidy.{PlainName, IsConstant}
+use Rattle.expansion.specs.Rules.{Rule}
+use Rattle.expansion.specs.TidyRules.{TidyRules}
 use Rattle.expansion.specs.Lookup.{Form, Found, bound, form, operation, nothing, placeFrom, unboundMeaning, orUnbound, lookup}
 
 pub record World : Type 0 where
@@ -38,6 +40,10 @@ pub record Fine (W : World) (x : Name) : Type 0 where
 -- a tree of the world
 abbrev pub FineTree : World → Tree → Type 0
 FineTree W = Tidy (Fine W) IsConstant
+
+-- rules of the world
+abbrev pub FineRules : World → List Rule → Type 0
+FineRules W = TidyRules (Fine W) IsConstant
 
 reaches-within : {W W′ : World} {b : Option Binding} → Within W W′ → Reaches W b → Reaches W′ b
 reaches-within i reachesNone = reachesNone

@@ -16,8 +16,8 @@ use Rattle.recipe.specs.Name.{variable, macro}
 use Rattle.core_term.specs.Term.{variables}
 use Rattle.expansion.specs.Rules.{Rule}
 use Rattle.expansion.specs.Computation.{State}
-use Rattle.expansion.specs.World.{World, Within}
-use Rattle.expansion.specs.WorldRules.{FineRules, template-within}
+use Rattle.expansion.specs.World.{FineRules, fine-within, World, Within}
+use Rattle.expansion.specs.TidyRules.{template-weaken}
 
 -- ---- states
 
@@ -83,7 +83,7 @@ unfolding withMacros
 macros-within k n W = record { variable = λ j e. e; macro = widen-old k n (W .macros) }
 
 rules-within : {W W′ : World} {rules : List Rule} → Within W W′ → FineRules W rules → FineRules W′ rules
-rules-within i f = each-weaken (λ r g. template-within i g) f
+rules-within i f = each-weaken (λ r g. template-weaken (fine-within i) g) f
 
 pub closed-variables : (k n : ℕ) {W : World} {s : State} → Closed W s → Closed (withVariables k n W) s
 unfolding withVariables

@@ -36,6 +36,10 @@ pub each-map : {A B : Type 0} {P : A → Type 0} {Q : B → Type 0} (f : A → B
 each-map f g noneOf = noneOf
 each-map f g (also p ps) = also (g _ p) (each-map f g ps)
 
+pub each-mapped : {A B : Type 0} {Q : B → Type 0} (f : A → B) → ((x : A) → Q (f x)) → (xs : List A) → Each Q (map f xs)
+each-mapped f q [] = noneOf
+each-mapped f q (x ∷ xs) = also (q x) (each-mapped f q xs)
+
 -- ---- answers
 
 pub data Given {A : Type 0} (P : A → Type 0) : Option A → Type 0 where

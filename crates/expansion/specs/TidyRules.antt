@@ -1,0 +1,128 @@
+-- Tidy rules: what is read from tidy trees is tidy, and so is what matching and transcribing make of tidy trees and rules.
+use mathlib.Core.Path.{_≡_, refl}
+use mathlib.Core.Bool.{Bool, true, false, not, _&&_, cond, false≢true}
+use mathlib.Core.List.{List, [], _∷_}
+use mathlib.Core.Option.{Option, none, some}
+use Prim.Native.Nat.{ℕ, zero, suc}
+use Rattle.words.specs.Each.{Each, noneOf, also, each-weaken, Given, missing, given, given-any, given-weaken, given-cond, given-guard, given-mapBoth, given-traverse}
+use Rattle.datum.specs.Constant.{Constant}
+use Rattle.recipe.specs.Name.{Name}
+use Rattle.recipe.specs.Tree.{Tree, name, onEmpty, onPair, isList}
+use Rattle.recipe.specs.Tidy.{Tidy, tidyEmpty, tidyConstant, tidyName, tidyPair, tidy-elements, tidy-element, tidy-tail}
+use Rattle.expansion.specs.Rules.{Pattern, variableP, literalP, wildcardP, constantP, emptyP, pairP, ellipsisP, Template, variableT, insertT, constantT, emptyT, pairT, ellipsisT, Rule, nameTemplate, variableFrom, dotsNext, depthBefore, templateOf, ruleOf, rulesOf}
+use Rattle.expansion.specs.Match.{fit, orNext, firstFit, holds, part}
+use Rattle.expansion.specs.Transcribe.{copies, taken, copyCount, transcribe}
+
+-- ---- templates: N holds of every inserted name, C of every constant, and the rest of a list is one
+
+unfoldable pub isRest : Template → Bool
+isRest (variableT k d) = false
+isRest (insertT x) = false
+isRest (constantT a) = false
+isRest emptyT = true
+isRest (pairT a b) = true
+isRest (ellipsisT e r) = true
+
+pub data TidyTemplate (N : Name → Type 0) (C : Constant → Type 0) : Template → Type 0 where
+  templateVariable : {k d : ℕ} → TidyTemplate N C (variableT k d)
+  templateInsert : {x : Name} → N x → TidyTemplate N C (insertT x)
+  templateConstant : {a : Constant} → C a → TidyTemplate N C (constantT a)
+  templateEmpty : TidyTemplate N C emptyT
+  templatePair : {a b : Template} → TidyTemplate N C a → TidyTemplate N C b → isRest b ≡ true → TidyTemplate N C (pairT a b)
+  templateEllipsis : {e r : Template} → TidyTemplate N C e → TidyTemplate N C r → isRest r ≡ true → TidyTemplate N C (ellipsisT e r)
+
+pub template-weaken : {N M : Name → Type 0} {C : Constant → Type 0} {t : Template} → ((x : Name) → N x → M x) → TidyTemplate N C t → TidyTemplate M C t
+template-weaken i templateVariable = templateVariable
+template-weaken i (templateInsert f) = templateInsert (i _ f)
+template-weaken i (templateConstant c) = templateConstant c
+template-weaken i templateEmpty = templateEmpty
+template-weaken i (templatePair a b l) = templatePair (template-weaken i a) (template-weaken i b) l
+template-weaken i (templateEllipsis e r l) = templateEllipsis (template-weaken i e) (template-weaken i r) l
+
+abbrev pub TidyRules : (Name → Type 0) → (Constant → Type 0) → List Rule → Type 0
+TidyRules N C = Each (λ r. TidyTemplate N C (r .template))
+
+-- a template read from t, which is a rest where t is a list
+record TidyRead (N : Name → Type 0) (C : Constant → Type 0) (t : Tree) (r : Template) : Type 0 where
+  tidy : TidyTemplate N C r
+  rest : isList t ≡ true → isRest r ≡ true
+
+module _ {N : Name → Type 0} {C : Constant → Type 0} where
+  name-read : (d : ℕ) (x : Name) (o : Option (ℕ × ℕ)) → N x → Given (TidyRead N C (name x)) (nameTemplate d x o)
+  unfolding nameTemplate isList onEmpty onPair
+  name-read d x none f = given (record { tidy = templateInsert f; rest = λ e. absurd (false≢true e) })
+  name-read d x (some v) f = given-guard _ (given (record { tidy = templateVariable; rest = λ e. absurd (false≢true e) }))
+
+  template-read : (dots : Name → Bool) (vs : List (Name × ℕ)) (d : ℕ) (t : Bool) {tree : Tree} → Tidy N C tree → Given (TidyRead N C tree) (templateOf dots vs d t tree)
+  unfolding templateOf isList onEmpty onPair isRest
+  template-read dots vs d t tidyEmpty = given (record { tidy = templateEmpty; rest = λ e. refl })
+  template-read dots vs d t (tidyConstant c) = given (record { tidy = templateConstant c; rest = λ e. absurd (false≢true e) })
+  template-read dots vs d t (tidyName {x} f) = given-guard (not (dots x)) (name-read d x (variableFrom 0 vs x) f)
+  template-read dots vs d t (tidyPair {t = ps} p q l) =
+      let first = template-read dots vs (depthBefore dots ps d) false p in
+      let later = template-read dots vs d (not t && dotsNext dots ps) q in
+      given-cond t (given-weaken (λ r f. record { tidy = f .tidy; rest = λ e. f .rest l }) later)
+      (given-cond (dotsNext dots ps)
+      (given-guard _ (given-mapBoth ellipsisT (λ a b f g. record { tidy = templateEllipsis (f .tidy) (g .tidy) (g .rest l); rest = λ e. refl }) first later))
+      (given-mapBoth pairT (λ a b f g. record { tidy = templatePair (f .tidy) (g .tidy) (g .rest l); rest = λ e. refl }) first later))
+
+  rule-read : (dots : Name → Bool) (literals : List Name) {r : Tree} → Tidy N C r → Given (λ (rule : Rule). TidyTemplate N C (rule .template)) (ruleOf dots literals r)
+  unfolding ruleOf
+  rule-read dots literals r = given-guard _ (given-mapBoth _ (λ p t _ f. f .tidy) (given-any _) (template-read dots _ 0 false (tidy-element 1 r)))
+
+  pub rulesOf-tidy : {r : Tree} → Tidy N C r → Given (TidyRules N C) (rulesOf r)
+  unfolding rulesOf
+  rulesOf-tidy r = given-guard _ (given-traverse (each-weaken (λ t f. rule-read _ _ f) (tidy-elements (tidy-tail (tidy-tail r)))))
+
+-- ---- matching and transcribing
+
+module _ {N : Name → Type 0} {C : Constant → Type 0} where
+  orNext-tidy : (r : Rule) (l : List Name) (b : Bool) (later : List Name × Option Rule) → TidyTemplate N C (r .template) → Given (λ (q : Rule). TidyTemplate N C (q .template)) (later .1)
+      → Given (λ (q : Rule). TidyTemplate N C (q .template)) (orNext r l b later .1)
+  unfolding orNext
+  orNext-tidy r l true later f g = given f
+  orNext-tidy r l false later f g = g
+
+  pub firstFit-tidy : {rules : List Rule} (used : Tree) → TidyRules N C rules → Given (λ (r : Rule). TidyTemplate N C (r .template)) (firstFit rules used .1)
+  unfolding firstFit
+  firstFit-tidy used noneOf = missing
+  firstFit-tidy used (also {x = r} {xs = rs} f fs) = orNext-tidy r (fit (r .pattern) used .0) (fit (r .pattern) used .1) (firstFit rs used) f (firstFit-tidy used fs)
+
+  part-tidy : (p : Pattern) (k : ℕ) (is : List ℕ) {t : Tree} → Tidy N C t → Tidy N C (part p k is t)
+  unfolding part
+  part-tidy (variableP j) k is f = f
+  part-tidy (literalP x) k is f = tidyEmpty
+  part-tidy wildcardP k is f = tidyEmpty
+  part-tidy (constantP a) k is f = tidyEmpty
+  part-tidy emptyP k is f = tidyEmpty
+  part-tidy (pairP p q) k is f = either (holds k p) (part-tidy p k is (tidy-element 0 f)) (part-tidy q k is (tidy-tail f))
+    where
+      either : (b : Bool) {x y : Tree} → Tidy N C x → Tidy N C y → Tidy N C (cond b x y)
+      either true f g = f
+      either false f g = g
+  part-tidy (ellipsisP p) k [] f = f
+  part-tidy (ellipsisP p) k (i ∷ is) f = part-tidy p k is (tidy-element i f)
+
+-- a tidy rest of a list
+record TidyRest (N : Name → Type 0) (C : Constant → Type 0) (t : Tree) : Type 0 where
+  tidy : Tidy N C t
+  list : isList t ≡ true
+
+module _ {N : Name → Type 0} {C : Constant → Type 0} where
+  copies-tidy : (f : ℕ → Tree) (k n : ℕ) {rest : Tree} → ((i : ℕ) → Tidy N C (f i)) → TidyRest N C rest → TidyRest N C (copies f k n rest)
+  unfolding copies isList onEmpty onPair
+  copies-tidy f k zero each r = r
+  copies-tidy f k (suc n) each r = let later = copies-tidy f (suc k) n each r in record { tidy = tidyPair (each k) (later .tidy) (later .list); list = refl }
+
+  module _ (p : Pattern) {used : Tree} (u : Tidy N C used) where
+    pub transcribe-tidy : (is : List ℕ) {t : Template} → TidyTemplate N C t → Tidy N C (transcribe p used is t) × (isRest t ≡ true → isList (transcribe p used is t) ≡ true)
+    unfolding transcribe taken isRest isList onEmpty onPair
+    transcribe-tidy is templateVariable = (part-tidy p _ _ u, λ e. absurd (false≢true e))
+    transcribe-tidy is (templateInsert f) = (tidyName f, λ e. absurd (false≢true e))
+    transcribe-tidy is (templateConstant c) = (tidyConstant c, λ e. absurd (false≢true e))
+    transcribe-tidy is templateEmpty = (tidyEmpty, λ e. refl)
+    transcribe-tidy is (templatePair a b l) = let later = transcribe-tidy is b in (tidyPair (transcribe-tidy is a .0) (later .0) (later .1 l), λ e. refl)
+    transcribe-tidy is (templateEllipsis {e} a b l) =
+        let later = transcribe-tidy is b in
+        let r = copies-tidy (λ i. transcribe p used (i ∷ is) e) 0 (copyCount p used is e) (λ i. transcribe-tidy (i ∷ is) a .0) (record { tidy = later .0; list = later .1 l }) in
+        (r .tidy, λ e. r .list)
