@@ -6,3 +6,6 @@ pub mod Marks
 pub mod MarkLaws
 pub mod HandLaws
 pub mod BinderLaws
+pub mod WalkLaws
+pub mod Cells
+pub mod CellLaws

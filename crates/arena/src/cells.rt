@@ -2,7 +2,20 @@
 // A cell is referred to by its end. Nothing else knows where its words stand.
 
 ghost use mathlib.Core.Path.{_≡_};
-ghost use Rattle.arena.specs.Arena.{wordAt, referenceAt};
+ghost use Prim.Native.Nat.{_+_, _≤_, _<_};
+ghost use lib.Dec.{ltb};
+ghost use lib.ListN.{length};
+ghost use Rattle.recipe.specs.Name.{markName};
+ghost use Rattle.recipe.specs.Tree.{empty, constant, name, pair};
+ghost use Rattle.arena.specs.Arena.{wordAt, referenceAt, markLimit, wrapAt, treeAt};
+ghost use Rattle.arena.specs.Cells.{Room, Cell, Wrapped, Bound, itemName, Grown};
+
+// Kinds of nodes, as of items; every other is a constant's.
+pub const EMPTY: u32 = 0;
+
+pub const NAME: u32 = 3;
+
+pub const PAIR: u32 = 4;
 
 // The last word of a wrap's cell.
 pub const MARK: u32 = 1;
@@ -34,4 +47,86 @@ pub fn reference(work: &[u32], at: u32, k: u32) -> u32
         return r;
     }
     0
+}
+
+// Three words at the top; answers the new top, which is the cell's reference.
+fn put(work: &mut [u32], top: u32, a: u32, b: u32, c: u32) -> u32
+    requires { ⌜ Room (now work) top 3 ⌝ }
+    ensures { λ r. ⌜ Cell a b c (now (work .entry)) (now (work .exit)) top r ⌝ }
+{
+    let at = top as usize;
+    work[at] = a;
+    work[at + 1] = b;
+    work[at + 2] = c;
+    top + 3
+}
+
+// A mark after what `parent` means. The step is below the limit, since steps are at most the fuel.
+pub fn put_mark(work: &mut [u32], top: u32, step: u32, parent: u32) -> u32
+    requires { ⌜ (Room (now work) top 3) × (step < markLimit) × (parent ≤ top) ⌝ }
+    ensures { λ r. ⌜ Wrapped (λ x. markName step (wrapAt (now (work .entry)) parent x)) 3 (now (work .entry)) (now (work .exit)) top r ⌝ }
+{
+    put(work, top, step, parent, MARK)
+}
+
+// What `outer` means after what `inner` means.
+pub fn put_join(work: &mut [u32], top: u32, outer: u32, inner: u32) -> u32
+    requires { ⌜ (Room (now work) top 3) × (outer ≤ top) × (inner ≤ top) ⌝ }
+    ensures { λ r. ⌜ Wrapped (λ x. wrapAt (now (work .entry)) outer (wrapAt (now (work .entry)) inner x)) 3 (now (work .entry)) (now (work .exit)) top r ⌝ }
+{
+    put(work, top, outer, inner, JOIN)
+}
+
+// A binder after what `parent` means: its own name by number, key, count of marks, newest mark and the two wraps that its
+// marks come from, then the key of the new binding.
+pub fn put_binder(
+    work: &mut [u32],
+    top: u32,
+    number: u32,
+    binding: u32,
+    count: u32,
+    newest: u32,
+    own: u32,
+    pending: u32,
+    key: u32,
+    parent: u32,
+) -> u32
+    requires { ⌜ (Room (now work) top 9) × (own ≤ top) × (pending ≤ top) × (parent ≤ top) ⌝ }
+    ensures { λ r. ⌜ Bound number binding count newest own pending key parent (now (work .entry)) (now (work .exit)) top r ⌝ }
+{
+    let p = put(work, top, own, pending, newest);
+    let q = put(work, p, count, number, binding);
+    put(work, q, key, parent, BINDER)
+}
+
+// A pair of two nodes.
+pub fn put_pair(work: &mut [u32], top: u32, head: u32, tail: u32) -> u32
+    requires { ⌜ (Room (now work) top 3) × (head ≤ top) × (tail ≤ top) ⌝ }
+    ensures { λ r. ⌜ Grown (λ items w. pair (treeAt items (now (work .entry)) head w) (treeAt items (now (work .entry)) tail w)) (now (work .entry)) (now (work .exit)) top r ⌝ }
+{
+    put(work, top, PAIR, head, tail)
+}
+
+// A name that stems from an item, with a wrap of its own.
+pub fn put_name(work: &mut [u32], top: u32, item: u32, own: u32) -> u32
+    requires { ⌜ (Room (now work) top 3) × (own ≤ top) ⌝ }
+    ensures { λ r. ⌜ Grown (λ items w. name (wrapAt (now (work .entry)) w (wrapAt (now (work .entry)) own (itemName items item (ltb (length items) (top + 3)))))) (now (work .entry)) (now (work .exit)) top r ⌝ }
+{
+    put(work, top, NAME, item, own)
+}
+
+// An empty list.
+pub fn put_empty(work: &mut [u32], top: u32) -> u32
+    requires { ⌜ Room (now work) top 3 ⌝ }
+    ensures { λ r. ⌜ Grown (λ items w. empty) (now (work .entry)) (now (work .exit)) top r ⌝ }
+{
+    put(work, top, EMPTY, 0, 0)
+}
+
+// A constant, by its item's three words.
+pub fn put_constant(work: &mut [u32], top: u32, kind: u32, first: u32, second: u32) -> u32
+    requires { ⌜ (Room (now work) top 3) × (kind ≡ 0 → ⊥) × (kind ≡ 3 → ⊥) × (kind ≡ 4 → ⊥) ⌝ }
+    ensures { λ r. ⌜ Grown (λ items w. constant (record { kind = kind; first = first; second = second })) (now (work .entry)) (now (work .exit)) top r ⌝ }
+{
+    put(work, top, kind, first, second)
 }

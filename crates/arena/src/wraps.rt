@@ -80,3 +80,59 @@ pub fn rebind(
     }
     binding
 }
+
+// The name in hand: how many marks it has, and its binding's key.
+pub struct InHand {
+    pub count: usize,
+    pub binding: u32,
+}
+
+// The name in hand after wrap w: a mark toggles, a binder gives its binding to the same name, a join is one wrap after
+// another. It recurses through joined pending wraps, the reference falling.
+pub fn walk(
+    work: &[u32],
+    table: &mut [u32],
+    start: usize,
+    count: usize,
+    number: u32,
+    binding: u32,
+    w: u32,
+) -> InHand
+    requires { ⌜ NameHand (now table) start count ⌝ }
+    ensures { λ r. ⌜ NameAfter (wrapAt (now (work .entry)) w) (now (table .entry)) (now (table .exit)) start number count binding (r .count) (r .binding) ⌝ }
+{
+    let tag = cells::word(work, w, 1);
+    if tag == 0 {
+        return InHand {
+            count: count,
+            binding: binding,
+        };
+    }
+    if cells::BINDER < tag {
+        return InHand {
+            count: count,
+            binding: binding,
+        };
+    }
+    let inner = cells::reference(work, w, 2);
+    let s = walk(work, table, start, count, number, binding, inner);
+    let n = s.count;
+    let b = s.binding;
+    if tag == cells::MARK {
+        let m = cells::word(work, w, 3);
+        let k = marks::mark(table, start, n, m);
+        return InHand {
+            count: k,
+            binding: b,
+        };
+    }
+    if tag == cells::JOIN {
+        let outer = cells::reference(work, w, 3);
+        return walk(work, table, start, n, number, b, outer);
+    }
+    let c = rebind(work, table, start, n, number, b, w);
+    InHand {
+        count: n,
+        binding: c,
+    }
+}

@@ -1,0 +1,187 @@
+-- Laws of new cells.
+use mathlib.Core.Path.{_≡_, refl, sym, ap, ap₂, subst, _∙_}
+use mathlib.Core.Bool.{Bool, true, false, cond}
+use mathlib.Core.List.{List, [], _∷_}
+use mathlib.Core.Option.{some}
+use Prim.Native.Nat.{ℕ, zero, suc, _+_, _-_, _≤_, _<_}
+use native.Mathlib.Omega.{arith}
+use lib.Dec.{eqb, ltb}
+use lib.ListN.{length, getD, take, set, length-set}
+use lib.Seq.{getD-set-same, getD-set-other, take-set-le}
+use borrow.Author.Tests.{ltb-true, ltb-false}
+use Rattle.recipe.specs.Name.{Binding, Name, plainName, bindingKey, markName, bindName}
+use Rattle.recipe.specs.Tree.{Tree, empty, constant, name, pair}
+use Rattle.arena.specs.Arena.{wordAt, falling, referenceAt, markLimit, marked, newest, ownMarks, rebound, wrapAt, nodeName, nameAt, constantAt, treeAt}
+use Rattle.arena.specs.ArenaLaws.{cases, wordAt-in, wordAt-out, wordAt-below, falling-is, take-less, wrapAt-below, wrapAt-mark, wrapAt-join, wrapAt-binder, marked-is, Own, rebound-is}
+use Rattle.arena.specs.NodeLaws.{treeAt-below, treeAt-empty, treeAt-name, treeAt-pair, treeAt-constant}
+use Rattle.arena.specs.Cells.{itemName, Room, Cell, Wrapped, Described, Bound, Grown}
+
+-- ---- three words at the top
+
+abbrev pub stored : (t : List ℕ) (top a b c : ℕ) → List ℕ
+stored t top a b c = set (set (set t top a) (top + 1) b) (top + 2) c
+
+module _ (t : List ℕ) (top a b c : ℕ) (fits : top + 3 ≤ length t) where
+  stored-kept : take top (stored t top a b c) ≡ take top t
+  stored-kept = take-set-le top _ (top + 2) c (omega arith) ∙ take-set-le top _ (top + 1) b (omega arith) ∙ take-set-le top t top a (omega arith)
+
+  stored-first : getD (stored t top a b c) top 0 ≡ a
+  stored-first =
+      getD-set-other (set (set t top a) (top + 1) b) (top + 2) top c 0 (λ z. omega arith)
+      ∙ getD-set-other (set t top a) (top + 1) top b 0 (λ z. omega arith)
+      ∙ getD-set-same t top a 0 (omega arith)
+
+  stored-second : getD (stored t top a b c) (top + 1) 0 ≡ b
+  stored-second = getD-set-other (set (set t top a) (top + 1) b) (top + 2) (top + 1) c 0 (λ z. omega arith) ∙ getD-set-same (set t top a) (top + 1) b 0 (simp length-set (omega arith))
+
+  stored-third : getD (stored t top a b c) (top + 2) 0 ≡ c
+  stored-third = getD-set-same (set (set t top a) (top + 1) b) (top + 2) c 0 (simp length-set (omega arith))
+
+  word-stored : (k i : ℕ) → k ≤ 3 → i + k ≡ top + 3 → wordAt (stored t top a b c) (top + 3) k ≡ getD (stored t top a b c) i 0
+  word-stored k i h e =
+      let d : top + 3 - k ≡ i = omega arith in
+      wordAt-in (stored t top a b c) (top + 3) k (omega arith) ∙ ap (λ (j : ℕ). getD (stored t top a b c) j 0) d
+
+  pub cell-stored : Cell a b c t (stored t top a b c) top (top + 3)
+  cell-stored =
+      record {
+        end = refl;
+        kept = stored-kept;
+        first = word-stored 3 top (omega arith) (omega arith) ∙ stored-first;
+        second = word-stored 2 (top + 1) (omega arith) (omega arith) ∙ stored-second;
+        third = word-stored 1 (top + 2) (omega arith) (omega arith) ∙ stored-third;
+      }
+
+-- ---- references
+
+-- a word that is a reference below the cell
+pub reference-is : (t : List ℕ) (at k r : ℕ) → wordAt t at k ≡ r → r < at → referenceAt t at k ≡ r
+unfolding referenceAt
+reference-is t at k r e h = rw e (falling-is at r h)
+
+-- what stood below the top means what it meant
+pub wrap-kept : (old new : List ℕ) (top w : ℕ) → w ≤ top → take top new ≡ take top old → (x : Name) → wrapAt new w x ≡ wrapAt old w x
+wrap-kept old new top w h e x = wrapAt-below new old w (take-less new old w top h e) x
+
+-- ---- wraps
+
+module _ (old new : List ℕ) (top r : ℕ) where
+  pub wrapped-mark : (m parent : ℕ) → m < markLimit → parent ≤ top → Cell m parent 1 old new top r → Wrapped (λ x. markName m (wrapAt old parent x)) 3 old new top r
+  wrapped-mark m parent l h c =
+      record {
+        end = c .end;
+        kept = c .kept;
+        means = λ x.
+            wrapAt-mark new r (omega (arith, c .end)) (c .third) x
+            ∙ ap₂ marked (c .first) (ap (λ (p : ℕ). wrapAt new p x) (reference-is new r 2 parent (c .second) (omega (arith, c .end))) ∙ wrap-kept old new top parent h (c .kept) x)
+            ∙ marked-is m _ l;
+      }
+
+  pub wrapped-join : (outer inner : ℕ) → outer ≤ top → inner ≤ top → Cell outer inner 2 old new top r → Wrapped (λ x. wrapAt old outer (wrapAt old inner x)) 3 old new top r
+  wrapped-join outer inner h l c =
+      record {
+        end = c .end;
+        kept = c .kept;
+        means = λ x.
+            wrapAt-join new r (omega (arith, c .end)) (c .third) x
+            ∙ ap₂ (λ (p q : ℕ). wrapAt new p (wrapAt new q x)) (reference-is new r 3 outer (c .first) (omega (arith, c .end))) (reference-is new r 2 inner (c .second) (omega (arith, c .end)))
+            ∙ wrap-kept old new top outer h (c .kept) _
+            ∙ ap (wrapAt old outer) (wrap-kept old new top inner l (c .kept) x);
+      }
+
+-- the words of a cell that ends further up
+wordAt-up : (t : List ℕ) (at k j : ℕ) → 0 < k → wordAt t (at + j) (k + j) ≡ wordAt t at k
+wordAt-up t at k j p =
+    cases (ltb at k)
+    (λ e. wordAt-out t (at + j) (k + j) (omega (arith, ltb-true at k e)) ∙ sym (wordAt-out t at k (ltb-true at k e)))
+    (λ e.
+    let l : k ≤ at = ltb-false at k e in
+    let d : at + j - (k + j) ≡ at - k = omega arith in
+    wordAt-in t (at + j) (k + j) (omega arith) ∙ ap (λ (i : ℕ). getD t i 0) d ∙ sym (wordAt-in t at k l))
+
+-- a word of a lower part of the cell
+word-lower : (old new : List ℕ) (at k j r v : ℕ) → 0 < k → r ≡ at + j → take at new ≡ take at old → wordAt old at k ≡ v → wordAt new r (k + j) ≡ v
+word-lower old new at k j r v p e f g = rw e (wordAt-up new at k j p ∙ wordAt-below new old at k p f ∙ g)
+
+module _ (number binding count mark own pending key parent : ℕ) (old one two new : List ℕ) (top p q r : ℕ) (own-below : own ≤ top) (pending-below : pending ≤ top) (parent-below : parent ≤ top) (first : Cell own pending mark old one top p) (second : Cell count number binding one two p q) (third : Cell key parent 3 two new q r) where
+  end-is : r ≡ top + 9
+  end-is = omega (arith, first .end, second .end, third .end)
+
+  kept-one : take p new ≡ take p one
+  kept-one = take-less new two p q (omega (arith, second .end)) (third .kept) ∙ second .kept
+
+  kept-all : take top new ≡ take top old
+  kept-all = take-less new one top p (omega (arith, first .end)) kept-one ∙ first .kept
+
+  own-described : (i : Name) → Described old i number binding count mark own pending → Own new r i
+  unfolding ownMarks
+  own-described i d =
+      record {
+        number-is = word-lower two new q 2 3 r number (omega arith) (third .end) (third .kept) (second .second) ∙ d .number-is;
+        binding-is = word-lower two new q 1 3 r binding (omega arith) (third .end) (third .kept) (second .third) ∙ d .binding-is;
+        count-is = word-lower two new q 3 3 r count (omega arith) (third .end) (third .kept) (second .first) ∙ d .count-is;
+        newest-is = word-lower one new p 1 6 r mark (omega arith) (omega (arith, second .end, third .end)) kept-one (first .third) ∙ d .newest-is;
+        marks-are =
+            ap₂ (λ (a b : ℕ). wrapAt new a (wrapAt new b (plainName 0 0)) .marks)
+            (reference-is new r 8 pending (word-lower one new p 2 6 r pending (omega arith) (omega (arith, second .end, third .end)) kept-one (first .second)) (omega (arith, end-is)))
+            (reference-is new r 9 own (word-lower one new p 3 6 r own (omega arith) (omega (arith, second .end, third .end)) kept-one (first .first)) (omega (arith, end-is)))
+            ∙ ap (λ (x : Name). x .marks) (wrap-kept old new top pending pending-below kept-all _ ∙ ap (wrapAt old pending) (wrap-kept old new top own own-below kept-all _))
+            ∙ d .marks-are;
+      }
+
+  pub bound-cells : Bound number binding count mark own pending key parent old new top r
+  bound-cells =
+      record {
+        end = end-is;
+        kept = kept-all;
+        means = λ i b d e x.
+            wrapAt-binder new r (omega (arith, end-is)) (third .third) x
+            ∙ rebound-is new r i b _ (own-described i d) (third .first ∙ e)
+            ∙ ap (bindName i b) (ap (λ (u : ℕ). wrapAt new u x) (reference-is new r 2 parent (third .second) (omega (arith, end-is))) ∙ wrap-kept old new top parent parent-below kept-all x);
+      }
+
+-- ---- nodes
+
+pub tree-kept : (items old new : List ℕ) (top node w : ℕ) → node ≤ top → w ≤ top → take top new ≡ take top old → treeAt items new node w ≡ treeAt items old node w
+tree-kept items old new top node w h l e = treeAt-below items new old node w (take-less new old node top h e) (take-less new old w top l e)
+
+module _ (old new : List ℕ) (top r : ℕ) where
+  pub grown-pair : (head tail : ℕ) → head ≤ top → tail ≤ top → Cell 4 head tail old new top r → Grown (λ items w. pair (treeAt items old head w) (treeAt items old tail w)) old new top r
+  grown-pair head tail h l c =
+      record {
+        end = c .end;
+        kept = c .kept;
+        means = λ items w p.
+            treeAt-pair items new r w (c .first)
+            ∙ ap₂ pair
+            (ap (λ (n : ℕ). treeAt items new n w) (reference-is new r 2 head (c .second) (omega (arith, c .end))) ∙ tree-kept items old new top head w h p (c .kept))
+            (ap (λ (n : ℕ). treeAt items new n w) (reference-is new r 1 tail (c .third) (omega (arith, c .end))) ∙ tree-kept items old new top tail w l p (c .kept));
+      }
+
+  pub grown-name : (item own : ℕ) → own ≤ top → Cell 3 item own old new top r → Grown (λ items w. name (wrapAt old w (wrapAt old own (itemName items item (ltb (length items) (top + 3)))))) old new top r
+  unfolding nameAt nodeName itemName
+  grown-name item own h c =
+      record {
+        end = c .end;
+        kept = c .kept;
+        means = λ items w p.
+            treeAt-name items new r w (c .first)
+            ∙ ap name
+            (ap₂ (λ (u i : ℕ). wrapAt new w (wrapAt new u (itemName items i (ltb (length items) r)))) (reference-is new r 1 own (c .third) (omega (arith, c .end))) (c .second)
+            ∙ wrap-kept old new top w p (c .kept) _
+            ∙ ap (wrapAt old w) (wrap-kept old new top own h (c .kept) _ ∙ ap (λ (e : ℕ). wrapAt old own (itemName items item (ltb (length items) e))) (c .end)));
+      }
+
+  pub grown-empty : (a b : ℕ) → Cell 0 a b old new top r → Grown (λ items w. empty) old new top r
+  grown-empty a b c = record { end = c .end; kept = c .kept; means = λ items w p. treeAt-empty items new r w (c .first) }
+
+  pub grown-constant : (k a b : ℕ) → (k ≡ 0 → ⊥) → (k ≡ 3 → ⊥) → (k ≡ 4 → ⊥) → Cell k a b old new top r → Grown (λ items w. constant (record { kind = k; first = a; second = b })) old new top r
+  unfolding constantAt
+  grown-constant k a b n3 n4 n5 c =
+      record {
+        end = c .end;
+        kept = c .kept;
+        means = λ items w p.
+            treeAt-constant items new r w (λ z. n3 (sym (c .first) ∙ z)) (λ z. n4 (sym (c .first) ∙ z)) (λ z. n5 (sym (c .first) ∙ z))
+            ∙ rw (c .first, c .second, c .third);
+      }

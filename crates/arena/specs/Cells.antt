@@ -1,0 +1,55 @@
+-- What the constructors of cells leave: the new cell above the old top, its meaning, and all below as it was.
+use mathlib.Core.Path.{_≡_}
+use mathlib.Core.Bool.{Bool}
+use mathlib.Core.List.{List, []}
+use mathlib.Core.Option.{none, some}
+use Prim.Native.Nat.{ℕ, _+_, _^_, _≤_, _<_}
+use lib.Dec.{ltb}
+use lib.ListN.{length, take}
+use Rattle.recipe.specs.Name.{Binding, Name, bindingKey, markName, bindName, plainName}
+use Rattle.recipe.specs.Tree.{Tree, empty, constant, name, pair}
+use Rattle.arena.specs.Arena.{wordAt, wrapAt, newest, numberAt, treeAt}
+
+-- room for a cell of n words: the budget of ground 9 gives it, and references fit a word
+pub record Room (work : List ℕ) (top n : ℕ) : Type 0 where
+  pub fits : top + n ≤ length work
+  pub small : top + n < 2 ^ 32
+
+-- three words at the top
+pub record Cell (a b c : ℕ) (old new : List ℕ) (top r : ℕ) : Type 0 where
+  pub end : r ≡ top + 3
+  pub kept : take top new ≡ take top old
+  pub first : wordAt new r 3 ≡ a
+  pub second : wordAt new r 2 ≡ b
+  pub third : wordAt new r 1 ≡ c
+
+-- a new wrap of n words that means f
+pub record Wrapped (f : Name → Name) (n : ℕ) (old new : List ℕ) (top r : ℕ) : Type 0 where
+  pub end : r ≡ top + n
+  pub kept : take top new ≡ take top old
+  pub means : (x : Name) → wrapAt new r x ≡ f x
+
+-- a binder is given its own name by number, key, count of marks, newest mark and the two wraps that its marks come from
+pub record Described (work : List ℕ) (i : Name) (number binding count mark own pending : ℕ) : Type 0 where
+  pub number-is : number ≡ i .number
+  pub binding-is : binding ≡ bindingKey (i .binding)
+  pub count-is : count ≡ length (i .marks)
+  pub newest-is : mark ≡ newest (i .marks)
+  pub marks-are : wrapAt work pending (wrapAt work own (plainName 0 0)) .marks ≡ i .marks
+
+-- it binds that name, whatever the binding that the new key stands for
+pub record Bound (number binding count mark own pending key parent : ℕ) (old new : List ℕ) (top r : ℕ) : Type 0 where
+  pub end : r ≡ top + 9
+  pub kept : take top new ≡ take top old
+  pub means : (i : Name) (b : Binding) → Described old i number binding count mark own pending → key ≡ bindingKey (some b)
+      → (x : Name) → wrapAt new r x ≡ bindName i b (wrapAt old parent x)
+
+-- a name item's name, produced or not, before any wrap
+unfoldable pub itemName : List ℕ → ℕ → Bool → Name
+itemName items i made = record { number = numberAt items i; item = i; produced = made; marks = []; binding = none }
+
+-- a new node of a tree, under any wrap that waits on it
+pub record Grown (tree : (items : List ℕ) → ℕ → Tree) (old new : List ℕ) (top r : ℕ) : Type 0 where
+  pub end : r ≡ top + 3
+  pub kept : take top new ≡ take top old
+  pub means : (items : List ℕ) (w : ℕ) → w ≤ top → treeAt items new r w ≡ tree items w
