@@ -35,6 +35,9 @@ recipes =
     -- Private: a form that is quoted and not reached
     gives "() (quote (let-syntax ((m (syntax-rules () ((_) x)))) 1))"
     0 0 (5 ∷ 3 ∷ 4 ∷ 3 ∷ 5 ∷ 1 ∷ 5 ∷ 2 ∷ 4 ∷ 8 ∷ 5 ∷ 3 ∷ 4 ∷ 5 ∷ 5 ∷ 0 ∷ 5 ∷ 2 ∷ 5 ∷ 1 ∷ 4 ∷ 7 ∷ 4 ∷ 9 ∷ 2 ∷ 1 ∷ []) ∷
+    -- Names: inserted by two steps, not the same
+    gives "() (let-syntax ((k (syntax-rules () ((_ x) (lambda (t x) (t x)))))) (let-syntax ((w (syntax-rules () ((_) (k t))))) (w)))"
+    2 20 (7 ∷ 0 ∷ 2 ∷ 8 ∷ 1 ∷ 0 ∷ 0 ∷ 0 ∷ 1 ∷ []) ∷
     -- Names: an inserted _ as a bare expression
     refuses "() (let-syntax ((m (syntax-rules () ((_) _)))) (m))" 12 1 1 ∷
     -- Names: an inserted _ matches anything, each by itself
