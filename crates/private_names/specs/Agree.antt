@@ -10,8 +10,8 @@ use lib.Dec.{leb}
 use lib.ListN.{length}
 use Rattle.recipe.specs.Name.{variable, macro, Name}
 use Rattle.recipe.specs.Tree.{Tree, name, pair, element, tail, mark, produce, bindAll}
-use Rattle.core_term.specs.Term.{Term, Terms}
-use Rattle.expansion.specs.Lookup.{Form, quote, if, lambda, let-syntax, letrec-syntax, auxiliary, Found, bound, form, operation, nothing, lookup}
+use Rattle.core_term.specs.Term.{Term}
+use Rattle.expansion.specs.Lookup.{quote, if, lambda, let-syntax, letrec-syntax, auxiliary, Found, bound, form, operation, nothing, lookup}
 use Rattle.expansion.specs.Transcribe.{transcribe}
 use Rattle.expansion.specs.Computation.{State, looked, M, addVariables, addMacros, addStep}
 use Rattle.expansion.specs.Forms.{formals, keywords, rulesForms, expandAll, expandQuote, expandIf, expandLambda, expandMacros, expandUse, expandOperands, expandList, expandName, expandApplication, expandPair, expandTree, expand}

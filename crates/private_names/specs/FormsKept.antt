@@ -1,26 +1,25 @@
 -- What the forms read agrees in both runs: shapes, bound names, rules, and the rule that fits a use.
-use mathlib.Core.Path.{_≡_, refl, ap, ap₂}
+use mathlib.Core.Path.{_≡_, ap, ap₂}
 use mathlib.Core.Bool.{Bool, true, false, _&&_, cond, true≢false, false≢true}
 use mathlib.Core.List.{List, [], _∷_}
 use Prim.Native.Nat.{ℕ}
 use lib.Dec.{leb}
-use lib.ListN.{length}
 use Rattle.words.specs.Limits.{formalsMost}
 use Rattle.words.specs.Lists.{within}
 use Rattle.recipe.specs.Name.{macro, Name, distinct, isEllipsis, isWildcard}
-use Rattle.recipe.specs.Tree.{Tree, isOrdinaryName, elements, element, bindAll}
-use Rattle.expansion.specs.Rules.{Rule}
+use Rattle.recipe.specs.Tree.{Tree, onName, isOrdinaryName, element, bindAll}
+use Rattle.expansion.specs.Rules.{Rule, rulesOf}
 use Rattle.expansion.specs.Match.{fit, orNext, firstFit}
-use Rattle.expansion.specs.Computation.{State}
+use Rattle.expansion.specs.Computation.{State, looked}
 use Rattle.expansion.specs.Forms.{isLambda, isMacro, isMacros, firstNames, keywords, rulesForms, bindings, readRules}
-use Rattle.private_names.specs.Relations.{ListRel, ends, joins, length-rel, append-rel, map-rel, all-rel}
+use Rattle.private_names.specs.Relations.{ListRel, ends, joins, OptionRel, length-rel, append-rel, map-rel, all-rel}
 use Rattle.private_names.specs.Shapes.{TreeOf, RuleOf, names-rel, isList-rel, elements-rel, isListOf-rel, element-rel, isOrdinaryName-rel}
 use Rattle.private_names.specs.RulesKept.{distinct-rel, rulesOf-rel}
 use Rattle.private_names.specs.MatchKept.{fit-rel}
 use Rattle.private_names.specs.Shown.{Renaming, AllFine, Looks, looks-left, looks-right}
 use Rattle.private_names.specs.Names.{Kind, Coherent, Ready, Raw, NameRel, TreeRel, dots-rel, wild-rel, same-rel, bindAll-rel}
 use Rattle.private_names.specs.Lookups.{agree-rel, isSyntaxRules-rel}
-use Rattle.private_names.specs.States.{Literal, RuleRel, RulesRel, no-rule, rule, StateRel, RuleOption, no-one, this}
+use Rattle.private_names.specs.States.{Literal, RulesRel, no-rule, rule, StateRel, RuleOption, no-one, this}
 use Rattle.private_names.specs.Outcomes.{Agree, bind-agree, give-agree, show-agree, orRefuse-agree}
 
 -- ---- shapes, over any relation that keeps `...` and `_`
@@ -61,15 +60,22 @@ module _ (ρ : Renaming) (raw : Raw ρ) where
 
   -- ---- rules
 
+  -- rules forms related by A are read as rules related by B
+  pub readRules-by : (k : ℕ) (A : Tree → Tree → Type 0) (B : List Rule → List Rule → Type 0)
+      → ((t u : Tree) → A t u → AllFine ρ (onName (λ x. looked x ∷ []) [] (element 0 t)) → OptionRel B (rulesOf t) (rulesOf u))
+      → {rs ss : List Tree} → ListRel A rs ss → (s t : State) → StateRel ρ raw k s t → Agree ρ raw k (ListRel B) (readRules rs s) (readRules ss t)
+  unfolding readRules
+  readRules-by k A B h ends s t q = give-agree ρ raw k [] [] s t ends q
+  readRules-by k A B h (joins r rs) s t q =
+      show-agree ρ raw k _ _ _ _ s t λ fine.
+      orRefuse-agree ρ raw k 15 (h _ _ r fine) _ _ s t q λ a b p.
+      bind-agree ρ raw k {R = ListRel B} _ _ _ _ s t (readRules-by k A B h rs s t q) λ c d u v e q′.
+      give-agree ρ raw k _ _ u v (joins p e) q′
+
   pub readRules-agree : (k : ℕ) (Q : Kind) → Coherent ρ Q → Ready ρ Q → {rs ss : List Tree} → ListRel (TreeRel ρ raw Q) rs ss → (s t : State) → StateRel ρ raw k s t
       → Agree ρ raw k (ListRel (ListRel (RuleOf (NameRel ρ raw Q) (NameRel ρ raw Q)))) (readRules rs s) (readRules ss t)
-  unfolding readRules
-  readRules-agree k Q co rd ends s t q = give-agree ρ raw k [] [] s t ends q
-  readRules-agree k Q co rd (joins r rs) s t q =
-      show-agree ρ raw k _ _ _ _ s t λ fine.
-      orRefuse-agree ρ raw k 15 (rulesOf-rel (NameRel ρ raw Q) (same-rel ρ raw Q co) (dots-rel ρ raw) (wild-rel ρ raw) _ _ r (isSyntaxRules-rel ρ raw rd (element-rel 0 r) fine)) _ _ s t q λ a b p.
-      bind-agree ρ raw k {R = ListRel (ListRel (RuleOf (NameRel ρ raw Q) (NameRel ρ raw Q)))} _ _ _ _ s t (readRules-agree k Q co rd rs s t q) λ c d u v e q′.
-      give-agree ρ raw k _ _ u v (joins p e) q′
+  readRules-agree k Q co rd r s t q = readRules-by k (TreeRel ρ raw Q) (ListRel (RuleOf (NameRel ρ raw Q) (NameRel ρ raw Q)))
+      (λ t u r fine. rulesOf-rel (NameRel ρ raw Q) (same-rel ρ raw Q co) (dots-rel ρ raw) (wild-rel ρ raw) t u r (isSyntaxRules-rel ρ raw rd (element-rel 0 r) fine)) r s t q
 
   -- the same rule fits in both runs
   pub firstFit-rel : (k : ℕ) (P : Kind) → Ready ρ P → {rs ss : List Rule} → RulesRel ρ raw k rs ss → (t u : Tree) → TreeRel ρ raw P t u → Looks ρ (firstFit rs t .0) → RuleOption ρ raw k (firstFit rs t .1) (firstFit ss u .1)

@@ -19,6 +19,10 @@ pub mod States
 pub mod Outcomes
 pub mod FormsKept
 pub mod Agree
+pub mod Holes
+pub mod Places
+pub mod ChosenRule
+pub mod Form
 pub mod Reach
 pub mod Origins
 pub mod Tables

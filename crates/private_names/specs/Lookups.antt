@@ -1,6 +1,6 @@
 -- Lookups whose events are fine find the same in both runs; so do comparisons of literals, rules heads and quoted data.
 use mathlib.Core.Path.{_≡_, refl, ap, ap₂, sym, _∙_, subst}
-use mathlib.Core.Bool.{Bool, true, false, _&&_, _||_, true≢false, false≢true}
+use mathlib.Core.Bool.{true, false, _&&_, _||_, true≢false, false≢true}
 use mathlib.Core.List.{List, [], _∷_, _++_, map}
 use mathlib.Core.Option.{Option, none, some}
 use Prim.Native.Nat.{ℕ}
@@ -10,7 +10,7 @@ use Rattle.recipe.specs.Name.{Binding, Name, bindingKey, isBound}
 use Rattle.recipe.specs.Tree.{Tree, names, name, onName, strip, stripTail}
 use Rattle.expansion.specs.Lookup.{Found, lookup, unboundMeaning, orUnbound, isSyntaxRules, agree}
 use Rattle.expansion.specs.Computation.{looked, quoted}
-use Rattle.private_names.specs.Shapes.{TreeOf, empties, constants, names₂, pairs}
+use Rattle.private_names.specs.Shapes.{empties, constants, names₂, pairs}
 use Rattle.private_names.specs.Sameness.{bindingKey-apart}
 use Rattle.private_names.specs.Shown.{Renaming, ofCopy, private-copy, owned-apart, map-append, Fine, looked-fine, quoted-fine, AllFine, and, fine-left, fine-right, Looks}
 use Rattle.private_names.specs.Names.{Kind, Of, Ready, Raw, Tie, owned, unowned, Turned, NameRel, kept, turned, TreeRel}

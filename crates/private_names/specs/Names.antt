@@ -1,8 +1,8 @@
 -- The names of two runs that differ in a private name, and why sameness and binding agree on them.
 use mathlib.Core.Path.{_≡_, refl, ap, ap₂, sym, _∙_, subst}
-use mathlib.Core.Bool.{Bool, true, false, _&&_, cond, true≢false, false≢true}
-use mathlib.Core.List.{List, [], _∷_}
-use mathlib.Core.Option.{Option, none, some}
+use mathlib.Core.Bool.{Bool, true, false, cond, true≢false, false≢true}
+use mathlib.Core.List.{List}
+use mathlib.Core.Option.{Option}
 use Prim.Native.Nat.{ℕ, suc}
 use lib.Dec.{T, eqb}
 use Rattle.recipe.specs.Name.{Binding, Name, same, isEllipsis, isWildcard, giveBinding, bindName}

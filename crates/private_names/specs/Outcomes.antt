@@ -1,9 +1,9 @@
 -- Computations that agree where what the first shows is fine: one rule for each way to put computations together.
-use mathlib.Core.Path.{_≡_, refl, ap}
+use mathlib.Core.Path.{_≡_, refl}
 use mathlib.Core.Bool.{Bool, true, false, true≢false, false≢true}
-use mathlib.Core.List.{List, [], _∷_, _++_}
-use mathlib.Core.Option.{Option, none, some}
-use Prim.Native.Nat.{ℕ, suc, _≤_}
+use mathlib.Core.List.{[], _++_}
+use mathlib.Core.Option.{Option}
+use Prim.Native.Nat.{ℕ, _≤_}
 use native.Mathlib.Omega.{arith}
 use Rattle.expansion.specs.Rules.{Rule}
 use Rattle.expansion.specs.Computation.{State, Events, Out, done, refused, starved, M, after, goOn, _>>=_, _>>_, give, refuse, show, test, orRefuse, get}
@@ -80,12 +80,16 @@ module _ (ρ : Renaming) (raw : Raw ρ) where
     unfolding refuse
     refuse-agree g s t q fine = refusals q
 
-    pub test-agree : (g : ℕ) (b c : Bool) (f h : M B) (s t : State) → b ≡ c → StateRel ρ raw k s t → Agree k P (f s) (h t) → Agree k P ((_>>_ (test g b) f) s) ((_>>_ (test g c) h) t)
+    -- what follows may use that the test passed
+    pub tested-agree : (g : ℕ) (b c : Bool) (f h : M B) (s t : State) → b ≡ c → StateRel ρ raw k s t → (b ≡ true → Agree k P (f s) (h t)) → Agree k P ((_>>_ (test g b) f) s) ((_>>_ (test g c) h) t)
     unfolding _>>_ test goOn eventsOf
-    test-agree g true true f h s t e q j fine = after-rel k [] [] (j (rw events-after at fine))
-    test-agree g true false f h s t e q j fine = absurd (true≢false e)
-    test-agree g false true f h s t e q j fine = absurd (false≢true e)
-    test-agree g false false f h s t e q j fine = refusals q
+    tested-agree g true true f h s t e q j fine = after-rel k [] [] (j refl (rw events-after at fine))
+    tested-agree g true false f h s t e q j fine = absurd (true≢false e)
+    tested-agree g false true f h s t e q j fine = absurd (false≢true e)
+    tested-agree g false false f h s t e q j fine = refusals q
+
+    pub test-agree : (g : ℕ) (b c : Bool) (f h : M B) (s t : State) → b ≡ c → StateRel ρ raw k s t → Agree k P (f s) (h t) → Agree k P ((_>>_ (test g b) f) s) ((_>>_ (test g c) h) t)
+    test-agree g b c f h s t e q j = tested-agree g b c f h s t e q (λ _. j)
 
     pub show-agree : (l l′ : Events) (f h : M B) (s t : State) → (AllFine ρ l → Agree k P (f s) (h t)) → Agree k P ((_>>_ (show l) f) s) ((_>>_ (show l′) h) t)
     unfolding _>>_ show goOn eventsOf

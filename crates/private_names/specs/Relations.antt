@@ -1,11 +1,11 @@
 -- Lists and answers whose parts are related, and what keeps that. Laws over any relation; the order is that of words/specs.
 use mathlib.Core.Path.{_≡_, refl, ap, ap₂}
-use mathlib.Core.Bool.{Bool, true, false, _&&_, cond, true≢false, false≢true}
+use mathlib.Core.Bool.{Bool, true, false, _&&_, _||_, cond, true≢false, false≢true}
 use mathlib.Core.List.{List, [], _∷_, _++_, map}
 use mathlib.Core.Option.{Option, none, some}
 use Prim.Native.Nat.{ℕ, zero, suc}
 use lib.ListN.{length, getD}
-use Rattle.words.specs.Lists.{all}
+use Rattle.words.specs.Lists.{all, any}
 use Rattle.words.specs.Options.{guard, mapSome, mapBoth, traverse}
 
 pub data ListRel {A : Type 0} (R : A → A → Type 0) : List A → List A → Type 0 where
@@ -43,6 +43,15 @@ pub all-rel : {A : Type 0} {R : A → A → Type 0} (f g : A → Bool) → ((x y
 unfolding all
 all-rel f g h ends = refl
 all-rel f g h (joins r rs) = ap₂ _&&_ (h _ _ r) (all-rel f g h rs)
+
+pub any-rel : {A : Type 0} {R : A → A → Type 0} (f g : A → Bool) → ((x y : A) → R x y → f x ≡ g y) → {xs ys : List A} → ListRel R xs ys → any f xs ≡ any g ys
+unfolding any
+any-rel f g h ends = refl
+any-rel f g h (joins r rs) = ap₂ _||_ (h _ _ r) (any-rel f g h rs)
+
+pub list-eq : {A : Type 0} {R : A → A → Type 0} → ((x y : A) → R x y → x ≡ y) → {xs ys : List A} → ListRel R xs ys → xs ≡ ys
+list-eq h ends = refl
+list-eq h (joins r rs) = ap₂ _∷_ (h _ _ r) (list-eq h rs)
 
 -- ---- choices and answers that may be missing
 

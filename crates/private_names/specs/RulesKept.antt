@@ -1,17 +1,17 @@
 -- Reading rules keeps a relation of names that keeps sameness, `...` and `_`: both readings give rules of one shape, or none.
 use mathlib.Core.Path.{_≡_, refl, ap, ap₂, subst}
-use mathlib.Core.Bool.{Bool, true, false, not, _&&_, _||_, cond}
-use mathlib.Core.List.{List, [], _∷_, _++_, map}
+use mathlib.Core.Bool.{Bool, false, not, _&&_, _||_, cond}
+use mathlib.Core.List.{List, [], _∷_, _++_}
 use mathlib.Core.Option.{Option, none, some}
 use Prim.Native.Nat.{ℕ, suc, _+_}
 use lib.Dec.{ltb, leb}
 use lib.ListN.{length}
 use Rattle.words.specs.Limits.{literalsMost, rulesMost, patternVariablesMost, depthMost}
-use Rattle.words.specs.Lists.{any, all, within}
+use Rattle.words.specs.Lists.{any, within}
 use Rattle.recipe.specs.Name.{Name, same, distinct, isEllipsis, isWildcard}
 use Rattle.recipe.specs.Tree.{Tree, onName, onPair, names, isOrdinaryName, isListOf, elements, element, tail}
 use Rattle.expansion.specs.Lookup.{isSyntaxRules}
-use Rattle.expansion.specs.Rules.{Pattern, pairP, ellipsisP, Template, pairT, ellipsisT, Rule, drivers, isDriven, variableFrom, nameTemplate, areVariables, dotsNext, depthBefore, isVariable, variables, patternOf, templateOf, ruleOf, isRulesForm, rulesOf}
+use Rattle.expansion.specs.Rules.{pairP, ellipsisP, Template, pairT, ellipsisT, drivers, isDriven, variableFrom, nameTemplate, areVariables, dotsNext, depthBefore, isVariable, variables, patternOf, templateOf, ruleOf, isRulesForm, rulesOf}
 use Rattle.private_names.specs.Relations.{ListRel, ends, joins, OptionRel, nones, somes, length-rel, append-rel, map-rel, all-rel, cond-rel, guard-rel, mapSome-rel, mapBoth-rel, traverse-rel}
 use Rattle.private_names.specs.Shapes.{TreeOf, empties, constants, names₂, pairs, PatternOf, variablePs, literalPs, wildcardPs, constantPs, emptyPs, pairPs, ellipsisPs, TemplateOf, variableTs, insertTs, constantTs, emptyTs, pairTs, ellipsisTs, RuleOf, names-rel, onName-rel, isList-rel, elements-rel, isListOf-rel, element-rel, tail-rel, isOrdinaryName-rel}
 

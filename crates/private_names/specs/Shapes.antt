@@ -1,10 +1,8 @@
 -- Trees, patterns and templates of one shape, with equal constants and related names. Laws of trees over any relation of names.
-use mathlib.Core.Path.{_≡_, refl, ap, ap₂}
-use mathlib.Core.Bool.{Bool, true, false, not, _&&_}
-use mathlib.Core.List.{List, [], _∷_, _++_}
+use mathlib.Core.Path.{_≡_, refl, ap₂}
+use mathlib.Core.Bool.{Bool, false, not, _&&_}
 use Prim.Native.Nat.{ℕ, suc, _+_}
 use lib.Dec.{eqb}
-use lib.ListN.{length}
 use Rattle.datum.specs.Constant.{Constant}
 use Rattle.recipe.specs.Name.{Name, isEllipsis, isWildcard, isOrdinary}
 use Rattle.recipe.specs.Tree.{Tree, empty, constant, name, pair, size, names, onEmpty, onName, onPair, isOrdinaryName, isList, isListOf, elements, element, tail, onNames}
@@ -64,6 +62,26 @@ module _ {R S : Name → Name → Type 0} (h : (x y : Name) → R x y → S x y)
   template-map emptyTs = emptyTs
   template-map (pairTs p q) = pairTs (template-map p) (template-map q)
   template-map (ellipsisTs p q) = ellipsisTs (template-map p) (template-map q)
+
+-- ---- a pattern or template beside itself, where a larger relation is known of names beside themselves
+
+module _ {R S : Name → Name → Type 0} (h : (x y : Name) → R x y → x ≡ y → S x y) where
+  pub pattern-self : {p q : Pattern} → PatternOf R p q → p ≡ q → PatternOf S p q
+  pattern-self variablePs e = variablePs
+  pattern-self (literalPs r) e = literalPs (h _ _ r (cc))
+  pattern-self wildcardPs e = wildcardPs
+  pattern-self constantPs e = constantPs
+  pattern-self emptyPs e = emptyPs
+  pattern-self (pairPs p q) e = pairPs (pattern-self p (cc)) (pattern-self q (cc))
+  pattern-self (ellipsisPs p) e = ellipsisPs (pattern-self p (cc))
+
+  pub template-self : {e f : Template} → TemplateOf R e f → e ≡ f → TemplateOf S e f
+  template-self variableTs e = variableTs
+  template-self (insertTs r) e = insertTs (h _ _ r (cc))
+  template-self constantTs e = constantTs
+  template-self emptyTs e = emptyTs
+  template-self (pairTs p q) e = pairTs (template-self p (cc)) (template-self q (cc))
+  template-self (ellipsisTs p q) e = ellipsisTs (template-self p (cc)) (template-self q (cc))
 
 -- ---- trees
 

@@ -1,0 +1,254 @@
+-- Trees in place, whose names never stood in a result: they have no marks, and their number tells their binding.
+-- Two such trees that differ in the private name of one template, and what binding names does to them.
+use mathlib.Core.Path.{_≡_, refl, ap, ap₂, sym, _∙_, subst}
+use mathlib.Core.Bool.{Bool, true, false, not, _&&_, _||_, cond, false≢true}
+use mathlib.Core.List.{List, [], _∷_}
+use mathlib.Core.Option.{Option, some}
+use Prim.Native.Nat.{ℕ, suc}
+use borrow.Author.Tests.{eq-eqb}
+use lib.Dec.{T, eqb, eqb→eq}
+use Rattle.words.specs.Lists.{any}
+use Rattle.recipe.specs.Name.{Binding, Name, same, distinct, isEllipsis, isWildcard, giveBinding, bindName}
+use Rattle.recipe.specs.Tree.{Tree, names, element, tail, onNames, bind, bindAll}
+use Rattle.expansion.specs.Rules.{variables}
+use Rattle.expansion.specs.Forms.{bindings}
+use Rattle.private_names.specs.Relations.{ListRel, ends, joins, any-rel}
+use Rattle.private_names.specs.Shapes.{TreeOf, names-rel, element-rel, tail-rel, onNames-rel}
+use Rattle.private_names.specs.Holes.{Hole, hole-onNames, graph, hole-graph}
+use Rattle.private_names.specs.RulesKept.{variables-rel}
+use Rattle.private_names.specs.Sameness.{iff-eq, same→Same, Same→same}
+use Rattle.private_names.specs.Shown.{Renaming, ofCopy, not-private-not-copy, binds-fine, AllFine, and}
+use Rattle.private_names.specs.Names.{Kind, Coherent, Ready, Raw, NameRel, kept}
+use Rattle.private_names.specs.Steps.{Older, Below}
+
+-- ---- names in place
+
+-- the bindings in force, by number
+abbrev pub Scope : Type 0
+Scope = ℕ → Option Binding
+
+pub record Placed (β : Scope) (x : Name) : Type 0 where
+  pub unproduced : x .produced ≡ false
+  pub unmarked : x .marks ≡ []
+  pub bound : x .binding ≡ β (x .number)
+
+-- they are the same when their numbers are equal
+pub same-placed : (β : Scope) (x y : Name) → Placed β x → Placed β y → same x y ≡ eqb (x .number) (y .number)
+same-placed β x y p q = iff-eq (same x y) (eqb (x .number) (y .number))
+    (λ s. subst T (sym (eq-eqb _ _ (same→Same x y s .number))) tt)
+    (λ t. let e : x .number ≡ y .number = eqb→eq _ _ t in
+    Same→same x y (record { number = e; marks = p .unmarked ∙ sym (q .unmarked); binding = p .bound ∙ ap β e ∙ sym (q .bound) }))
+
+-- a name is bound
+unfoldable pub rebind : ℕ → Binding → Scope → Scope
+rebind n b β = λ k. cond (eqb n k) (some b) (β k)
+
+unfoldable pub rebindAll : (ℕ → Binding) → ℕ → List Name → Scope → Scope
+rebindAll f k [] β = β
+rebindAll f k (x ∷ xs) β = rebindAll f (suc k) xs (rebind (x .number) (f k) β)
+
+bindName-placed : (β : Scope) (i : Name) (b : Binding) (x : Name) → Placed β i → Placed β x → Placed (rebind (i .number) b β) (bindName i b x)
+unfolding bindName giveBinding rebind
+bindName-placed β i b x p q = go (same i x) (same-placed β i x p q)
+  where
+    go : (c : Bool) → c ≡ eqb (i .number) (x .number) → Placed (rebind (i .number) b β) (cond c (giveBinding b x) x)
+    go true e = record { unproduced = q .unproduced; unmarked = q .unmarked; bound = rw (sym e) }
+    go false e = record { unproduced = q .unproduced; unmarked = q .unmarked; bound = rw (sym e) (q .bound) }
+
+bindName-number : (i : Name) (b : Binding) (x : Name) → bindName i b x .number ≡ x .number
+unfolding bindName giveBinding
+bindName-number i b x = go (same i x)
+  where
+    go : (c : Bool) → cond c (giveBinding b x) x .number ≡ x .number
+    go true = refl
+    go false = refl
+
+bindName-item : (i : Name) (b : Binding) (x : Name) → bindName i b x .item ≡ x .item
+unfolding bindName giveBinding
+bindName-item i b x = go (same i x)
+  where
+    go : (c : Bool) → cond c (giveBinding b x) x .item ≡ x .item
+    go true = refl
+    go false = refl
+
+-- a name of another number keeps its binding
+still-placed : (β : Scope) (i : Name) (b : Binding) (x : Name) → Placed β x → eqb (i .number) (x .number) ≡ false → Placed (rebind (i .number) b β) x
+unfolding rebind
+still-placed β i b x p e = record { unproduced = p .unproduced; unmarked = p .unmarked; bound = rw e (p .bound) }
+
+-- ---- the variables of a rule, by number
+
+-- the rule of this rules form, counted from 0, has a variable of this number
+unfoldable pub hasVariable : (rule number : ℕ) → Tree → Bool
+hasVariable j n t = any (λ v. eqb (v .0 .number) n) (variables isEllipsis (names (element 1 t)) 0 (tail (element 0 (element j (tail (tail t))))))
+
+-- names of one number in two scopes
+record Moved (β γ : Scope) (x y : Name) : Type 0 where
+  from : Placed β x
+  to : Placed γ y
+  number : x .number ≡ y .number
+
+hasVariable-moved : (β γ : Scope) (j n : ℕ) {t u : Tree} → TreeOf (Moved β γ) t u → hasVariable j n t ≡ hasVariable j n u
+unfolding hasVariable isEllipsis isWildcard
+hasVariable-moved β γ j n r =
+    any-rel _ _ (λ v w q. ap (λ k. eqb k n) (q .names .number))
+    (variables-rel (Moved β γ) (λ i k x y p q. same-placed β i x (p .from) (q .from) ∙ ap₂ eqb (p .number) (q .number) ∙ sym (same-placed γ k y (p .to) (q .to)))
+    (λ x y p. ap (λ k. eqb k 6) (p .number)) (λ x y p. ap (λ k. eqb k 7) (p .number)) (names-rel (element-rel 1 r)) 0 (tail-rel (element-rel 0 (element-rel j (tail-rel (tail-rel r))))))
+
+-- ---- the trees of the two runs
+
+module _ (ρ : Renaming) (β : Scope) where
+  -- a name that is not private is the same in both
+  pub record Still (x y : Name) : Type 0 where
+    pub eq : x ≡ y
+    pub not-private : ρ .isPrivate (x .item) ≡ false
+    pub placed : Placed β x
+
+  pub record Turning (x y : Name) : Type 0 where
+    pub private : ρ .isPrivate (x .item) ≡ true
+    pub old : x .number ≡ ρ .old
+    pub new : y .number ≡ ρ .new
+    pub item : x .item ≡ y .item
+    pub first : Placed β x
+    pub second : Placed β y
+
+  -- the names of the template: private ones turn, and no other has the old number or the new
+  pub data InTemplate (x y : Name) : Type 0 where
+    stays : Still x y → eqb (x .number) (ρ .old) ≡ false → eqb (x .number) (ρ .new) ≡ false → InTemplate x y
+    turns : Turning x y → InTemplate x y
+
+  -- the rules form with that template, whose rule has no variable of the old number or the new
+  pub record ChosenRules (t u : Tree) : Type 0 where
+    pub rule : ℕ
+    pub hole : Hole Still (TreeOf InTemplate) (suc (suc rule) ∷ 1 ∷ []) t u
+    pub old-free : hasVariable rule (ρ .old) t ≡ false
+    pub new-free : hasVariable rule (ρ .new) t ≡ false
+
+  -- no binding in force is of a copy's
+  abbrev pub Foreign : Type 0
+  Foreign = (n : ℕ) → ofCopy ρ (β n) ≡ false
+
+  -- ---- `...` and `_`
+
+  pub still-dots : (x y : Name) → Still x y → isEllipsis x ≡ isEllipsis y
+  still-dots x y p = ap isEllipsis (p .eq)
+
+  pub still-wild : (x y : Name) → Still x y → isWildcard x ≡ isWildcard y
+  still-wild x y p = ap isWildcard (p .eq)
+
+  pub template-dots : (x y : Name) → InTemplate x y → isEllipsis x ≡ isEllipsis y
+  unfolding isEllipsis
+  template-dots x y (stays s e f) = still-dots x y s
+  template-dots x y (turns t) = ap (λ k. eqb k 6) (t .old) ∙ ρ .old-6 ∙ sym (ρ .new-6) ∙ ap (λ k. eqb k 6) (sym (t .new))
+
+  pub template-wild : (x y : Name) → InTemplate x y → isWildcard x ≡ isWildcard y
+  unfolding isWildcard
+  template-wild x y (stays s e f) = still-wild x y s
+  template-wild x y (turns t) = ap (λ k. eqb k 7) (t .old) ∙ ρ .old-7 ∙ sym (ρ .new-7) ∙ ap (λ k. eqb k 7) (sym (t .new))
+
+-- ---- binding names in them
+
+module _ (ρ : Renaming) (β : Scope) (i : Name) (p : Placed β i) (b : Binding) where
+  abbrev γ : Scope
+  γ = rebind (i .number) b β
+
+  still-bind : (x y : Name) → Still ρ β x y → Still ρ γ (bindName i b x) (bindName i b y)
+  still-bind x y s = record { eq = ap (bindName i b) (s .eq); not-private = ap (ρ .isPrivate) (bindName-item i b x) ∙ s .not-private; placed = bindName-placed β i b x p (s .placed) }
+
+  turning-bind : (x y : Name) → Turning ρ β x y → Turning ρ γ (bindName i b x) (bindName i b y)
+  turning-bind x y t = record {
+    private = ap (ρ .isPrivate) (bindName-item i b x) ∙ t .private;
+    old = bindName-number i b x ∙ t .old;
+    new = bindName-number i b y ∙ t .new;
+    item = bindName-item i b x ∙ t .item ∙ sym (bindName-item i b y);
+    first = bindName-placed β i b x p (t .first);
+    second = bindName-placed β i b y p (t .second);
+  }
+
+  template-bind : (x y : Name) → InTemplate ρ β x y → InTemplate ρ γ (bindName i b x) (bindName i b y)
+  template-bind x y (stays s e f) = stays (still-bind x y s) (ap (λ k. eqb k (ρ .old)) (bindName-number i b x) ∙ e) (ap (λ k. eqb k (ρ .new)) (bindName-number i b x) ∙ f)
+  template-bind x y (turns t) = turns (turning-bind x y t)
+
+  moved : (x : Name) → Placed β x → Moved β γ x (bindName i b x)
+  moved x q = record { from = q; to = bindName-placed β i b x p q; number = sym (bindName-number i b x) }
+
+  in-template : (x y : Name) → InTemplate ρ β x y → Placed β x
+  in-template x y (stays s e f) = s .placed
+  in-template x y (turns t) = t .first
+
+  rules-bind : (t u : Tree) → ChosenRules ρ β t u → ChosenRules ρ γ (bind i b t) (bind i b u)
+  unfolding bind
+  rules-bind t u c =
+      let g : TreeOf (Moved β γ) t (onNames (bindName i b) t) = hole-graph (bindName i b) (λ x y s. moved x (s .placed)) (λ t u r. graph (bindName i b) (λ x y s. moved x (in-template x y s)) r) (c .hole) in
+      record {
+        rule = c .rule;
+        hole = hole-onNames (bindName i b) still-bind (λ t u r. onNames-rel _ _ template-bind r) (c .hole);
+        old-free = sym (hasVariable-moved β γ (c .rule) (ρ .old) g) ∙ c .old-free;
+        new-free = sym (hasVariable-moved β γ (c .rule) (ρ .new) g) ∙ c .new-free;
+      }
+
+-- no two names of a form are the same, so the later ones keep their bindings
+and-left : (a b : Bool) → (a && b) ≡ true → a ≡ true
+and-left true b e = refl
+and-left false b e = absurd (false≢true e)
+
+and-right : (a b : Bool) → (a && b) ≡ true → b ≡ true
+and-right true b e = e
+and-right false b e = absurd (false≢true e)
+
+others : (ρ : Renaming) (β : Scope) (i : Name) → Placed β i → (b : Binding) {xs ys : List Name} → not (any (same i) xs) ≡ true → ListRel (Still ρ β) xs ys → ListRel (Still ρ (rebind (i .number) b β)) xs ys
+unfolding any
+others ρ β i p b e ends = ends
+others ρ β i p b e (joins {x = x} {xs = xs} s ss) =
+    joins (record { eq = s .eq; not-private = s .not-private; placed = still-placed β i b x (s .placed) (sym (same-placed β i x p (s .placed)) ∙ neither (same i x) (any (same i) xs) e .0) })
+    (others ρ β i p b (ap not (neither (same i x) (any (same i) xs) e .1)) ss)
+  where
+    neither : (c d : Bool) → not (c || d) ≡ true → (c ≡ false) × (d ≡ false)
+    neither true d e = absurd (false≢true e)
+    neither false true e = absurd (false≢true e)
+    neither false false e = (refl, refl)
+
+module _ (ρ : Renaming) (f : ℕ → Binding) where
+  pub bindAll-still : (xs ys : List Name) (k : ℕ) (β : Scope) → ListRel (Still ρ β) xs ys → distinct xs ≡ true → {t u : Tree} → TreeOf (Still ρ β) t u → TreeOf (Still ρ (rebindAll f k xs β)) (bindAll f k xs t) (bindAll f k ys u)
+  unfolding bindAll bind rebindAll distinct
+  bindAll-still [] [] k β ends e r = r
+  bindAll-still (x ∷ xs) (y ∷ ys) k β (joins s ss) e {t} {u} r =
+      subst (λ z. TreeOf (Still ρ (rebindAll f k (x ∷ xs) β)) (bindAll f (suc k) xs (bind x (f k) t)) (bindAll f (suc k) ys (bind z (f k) u))) (s .eq)
+      (bindAll-still xs ys (suc k) (rebind (x .number) (f k) β) (others ρ β x (s .placed) (f k) (and-left (not (any (same x) xs)) (distinct xs) e) ss) (and-right (not (any (same x) xs)) (distinct xs) e)
+      (onNames-rel _ _ (still-bind ρ β x (s .placed) (f k)) r))
+
+  pub bindAll-hole : (xs ys : List Name) (k : ℕ) (β : Scope) → ListRel (Still ρ β) xs ys → distinct xs ≡ true → {p : List ℕ} {t u : Tree} → Hole (Still ρ β) (ChosenRules ρ β) p t u
+      → Hole (Still ρ (rebindAll f k xs β)) (ChosenRules ρ (rebindAll f k xs β)) p (bindAll f k xs t) (bindAll f k ys u)
+  unfolding bindAll bind rebindAll distinct
+  bindAll-hole [] [] k β ends e r = r
+  bindAll-hole (x ∷ xs) (y ∷ ys) k β (joins s ss) e {p} {t} {u} r =
+      subst (λ z. Hole (Still ρ (rebindAll f k (x ∷ xs) β)) (ChosenRules ρ (rebindAll f k (x ∷ xs) β)) p (bindAll f (suc k) xs (bind x (f k) t)) (bindAll f (suc k) ys (bind z (f k) u))) (s .eq)
+      (bindAll-hole xs ys (suc k) (rebind (x .number) (f k) β) (others ρ β x (s .placed) (f k) (and-left (not (any (same x) xs)) (distinct xs) e) ss) (and-right (not (any (same x) xs)) (distinct xs) e)
+      (hole-onNames (bindName x (f k)) (still-bind ρ β x (s .placed) (f k)) (rules-bind ρ β x (s .placed) (f k)) r))
+
+  pub rebindAll-foreign : (k : ℕ) (β γ : Scope) {xs ys : List Name} → ListRel (Still ρ γ) xs ys → AllFine ρ (bindings f k xs) → Foreign ρ β → Foreign ρ (rebindAll f k xs β)
+  unfolding rebindAll rebind bindings
+  rebindAll-foreign k β γ ends a h = h
+  rebindAll-foreign k β γ (joins {x = x} s ss) (and e a) h = rebindAll-foreign (suc k) _ γ ss a (λ n. go (eqb (x .number) n) n)
+    where
+      go : (c : Bool) (n : ℕ) → ofCopy ρ (cond c (some (f k)) (β n)) ≡ false
+      go true n = binds-fine ρ (f k) x e ∙ not-private-not-copy ρ x (s .not-private)
+      go false n = h n
+
+-- ---- names that are still, as the simulation knows them
+
+module _ (ρ : Renaming) where
+  abbrev pub AtRest : Kind
+  AtRest = λ k i b ms. (ρ .isPrivate i ≡ false) × (ms ≡ [])
+
+  pub rest-coherent : Coherent ρ AtRest
+  rest-coherent = record { old = λ i j a b ms p q. p .0 ∙ sym (q .0); new = λ i j a b ms p q e. absurd (false≢true (sym (q .0) ∙ e)) }
+
+  pub rest-ready : Ready ρ AtRest
+  rest-ready k i b ms p e = absurd (false≢true (sym (p .0) ∙ e))
+
+  pub rest-below : (m : ℕ) → Below m AtRest
+  rest-below m k i b ms p = subst (Older m) (sym (p .1)) tt
+
+  pub still-rel : (raw : Raw ρ) (β : Scope) → Foreign ρ β → (x y : Name) → Still ρ β x y → NameRel ρ raw AtRest x y
+  still-rel raw β h x y s = kept (s .not-private, s .placed .unmarked) (record { eq = s .eq; not-private = s .not-private; free = ap (ofCopy ρ) (s .placed .bound) ∙ h (x .number) })
