@@ -2,7 +2,7 @@
 -- Two runs whose trees differ in a template's private name go side by side, from the form on. Read in this order: relations and what they
 -- keep; names; what may be shown; steps and states; outcomes; forms.
 -- Before the form: Reach, what a run reaches outside results; Origins, each binding is made once; Tables, the tree of a table and of a
--- renumbered one.
+-- renumbered one; Paths, the place of a form in a tree; Before, the run up to the form, and after it.
 pub mod Statement
 pub mod Witnesses
 pub mod Relations
@@ -26,3 +26,5 @@ pub mod Form
 pub mod Reach
 pub mod Origins
 pub mod Tables
+pub mod Paths
+pub mod Before
