@@ -35,7 +35,7 @@ use Rattle.private_names.specs.Paths.{isAt-item, unused-name, uses-eleme
 -- ---- trees that are still are equal
 
 module _ (ρ : Renaming) (β : Scope) where
-  still-eq : {t u : Tree} → TreeOf (Still ρ β) t u → t ≡ u
+  pub still-eq : {t u : Tree} → TreeOf (Still ρ β) t u → t ≡ u
   still-eq empties = refl
   still-eq constants = refl
   still-eq (names₂ s) = ap name (s .eq)

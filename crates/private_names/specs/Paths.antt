@@ -6,11 +6,14 @@ use mathlib.Core.List.{List, [], _∷_, _++_}
 use Prim.Native.Nat.{ℕ, zero, suc, _+_, _≤_, _<_}
 use native.Mathlib.Omega.{arith}
 use lib.Dec.{eqb}
+use Rattle.words.specs.Lists.{any}
 use Rattle.recipe.specs.Name.{Binding, Name, same, giveBinding, bindName}
 use Rattle.recipe.specs.Tree.{Tree, empty, constant, name, pair, onName, elements, element, onNames, bind, bindAll}
 use Rattle.private_names.specs.Shapes.{TreeOf, empties, element-rel}
 use Rattle.private_names.specs.Holes.{Hole, here, first, later}
 use Rattle.private_names.specs.Reach.{isAt, isNameAt, Unheaded, empty₁, constant₁, name₁, pair₁, UnheadedAll, empty₂, constant₂, name₂, pair₂, isAt-bind}
+use Rattle.private_names.specs.Reach.{any-append}
+use Rattle.private_names.specs.Statement.{parts, firstWith, hasHead}
 use Rattle.private_names.specs.Tables.{uses}
 
 -- ---- how many names stem from an item
@@ -55,6 +58,29 @@ pub uses-bindAll : (q : ℕ) (f : ℕ → Binding) (k : ℕ) (xs : List Name) (t
 unfolding bindAll bind
 uses-bindAll q f k [] t = refl
 uses-bindAll q f k (x ∷ xs) t = uses-bindAll q f (suc k) xs (bind x (f k) t) ∙ uses-onNames (bindName x (f k)) (bindName-keeps x (f k)) q t
+
+-- the tree at a place
+unfoldable pub sub : List ℕ → Tree → Tree
+sub [] t = t
+sub (k ∷ l) t = sub l (element k t)
+
+firstWith-here : (f : Tree → Bool) (ts us : List Tree) → any f ts ≡ true → firstWith f (ts ++ us) ≡ firstWith f ts
+unfolding firstWith any
+firstWith-here f [] us e = absurd (false≢true e)
+firstWith-here f (t ∷ ts) us e = go (f t) e (firstWith-here f ts us)
+  where
+    go : (b : Bool) → (b || any f ts) ≡ true → (any f ts ≡ true → firstWith f (ts ++ us) ≡ firstWith f ts) → cond b t (firstWith f (ts ++ us)) ≡ cond b t (firstWith f ts)
+    go true e h = refl
+    go false e h = h e
+
+firstWith-later : (f : Tree → Bool) (ts us : List Tree) → any f ts ≡ false → firstWith f (ts ++ us) ≡ firstWith f us
+unfolding firstWith any
+firstWith-later f [] us e = refl
+firstWith-later f (t ∷ ts) us e = go (f t) e (firstWith-later f ts us)
+  where
+    go : (b : Bool) → (b || any f ts) ≡ false → (any f ts ≡ false → firstWith f (ts ++ us) ≡ firstWith f us) → cond b t (firstWith f (ts ++ us)) ≡ firstWith f us
+    go true e h = absurd (true≢false e)
+    go false e h = h e
 
 -- ---- a list headed by the unproduced name of item p, and its place
 
@@ -128,6 +154,102 @@ module _ (p : ℕ) where
   pub other-unheaded : {k : ℕ} {l : List ℕ} {t : Tree} → Headed (k ∷ l) t → uses p t ≤ 1 → (i : ℕ) → (i ≡ k → ⊥) → Unheaded p (element i t)
   other-unheaded {k} {l} {t} h u i d =
       unused-unheaded (element i t) (omega (arith, headed-uses (headed-element h), uses-elements p i k t d)) .0
+
+  -- ---- whether there is one, and where
+
+  find-pair : (h t : Tree) (c : Bool) → isNameAt p h ≡ c → Unheaded p h ⊎ ((l : List ℕ) × Headed l h) → UnheadedAll p t ⊎ ((k : ℕ) × (l : List ℕ) × Headed (k ∷ l) t)
+      → Unheaded p (pair h t) ⊎ ((l : List ℕ) × Headed l (pair h t))
+  unfolding isNameAt onName
+  find-pair empty t true e a b = absurd (false≢true e)
+  find-pair (constant x) t true e a b = absurd (false≢true e)
+  find-pair (name x) t true e a b = inr ([], headed e)
+  find-pair (pair g u) t true e a b = absurd (false≢true e)
+  find-pair h t false e (inl a) (inl b) = inl (pair₁ e a b)
+  find-pair h t false e (inl a) (inr (k, l, b)) = inr (suc k ∷ l, in-later b)
+  find-pair h t false e (inr (l, a)) b = inr (0 ∷ l, in-first a)
+
+  find-all : (h t : Tree) → Unheaded p h ⊎ ((l : List ℕ) × Headed l h) → UnheadedAll p t ⊎ ((k : ℕ) × (l : List ℕ) × Headed (k ∷ l) t)
+      → UnheadedAll p (pair h t) ⊎ ((k : ℕ) × (l : List ℕ) × Headed (k ∷ l) (pair h t))
+  find-all h t (inl a) (inl b) = inl (pair₂ a b)
+  find-all h t (inl a) (inr (k, l, b)) = inr (suc k, l, in-later b)
+  find-all h t (inr (l, a)) b = inr (0, l, in-first a)
+
+  find-both : (t : Tree) → (Unheaded p t ⊎ ((l : List ℕ) × Headed l t)) × (UnheadedAll p t ⊎ ((k : ℕ) × (l : List ℕ) × Headed (k ∷ l) t))
+  find-both empty = (inl empty₁, inl empty₂)
+  find-both (constant a) = (inl constant₁, inl constant₂)
+  find-both (name x) = (inl name₁, inl name₂)
+  find-both (pair h t) =
+      let a = find-both h in
+      let b = find-both t in
+      (find-pair h t (isNameAt p h) refl (a .0) (b .1), find-all h t (a .0) (b .1))
+
+  pub find : (t : Tree) → Unheaded p t ⊎ ((l : List ℕ) × Headed l t)
+  find t = find-both t .0
+
+  pub headed-of-element : {l : List ℕ} (k : ℕ) (t : Tree) → Headed l (element k t) → Headed (k ∷ l) t
+  unfolding element elements
+  headed-of-element zero (pair h t) i = in-first i
+  headed-of-element (suc k) (pair h t) i = in-later (headed-of-element k t i)
+
+  -- ---- it is the form that the statement takes
+
+  headed-head : {l : List ℕ} {h : Tree} → Headed l h → onName (λ x. eqb (x .item) p) false h ≡ false
+  unfolding onName
+  headed-head (headed e) = refl
+  headed-head (in-first i) = refl
+  headed-head (in-later i) = refl
+
+  head-none : (t : Tree) → uses p t ≡ 0 → onName (λ x. eqb (x .item) p) false t ≡ false
+  unfolding uses onName
+  head-none empty e = refl
+  head-none (constant a) e = refl
+  head-none (name x) e = go (eqb (x .item) p) e
+    where
+      go : (b : Bool) → _≡_ {A = ℕ} (cond b 1 0) 0 → b ≡ false
+      go true e = absurd (omega arith)
+      go false e = refl
+  head-none (pair h t) e = refl
+
+  parts-none : (t : Tree) → uses p t ≡ 0 → any (hasHead p) (parts t) ≡ false
+  unfolding uses parts any hasHead element elements onName
+  parts-none empty e = refl
+  parts-none (constant a) e = refl
+  parts-none (name x) e = refl
+  parts-none (pair h t) e =
+      let i : uses p h ≡ 0 = omega arith in
+      let j : uses p t ≡ 0 = omega arith in
+      ap₂ _||_ (head-none h i) (any-append (hasHead p) (parts h) (parts t) ∙ ap₂ _||_ (parts-none h i) (parts-none t j))
+
+  -- the first part that it heads
+  pub headed-part : {l : List ℕ} {t : Tree} → Headed l t → uses p t ≤ 1 → (any (hasHead p) (parts t) ≡ true) × (firstWith (hasHead p) (parts t) ≡ sub l t)
+  unfolding parts any hasHead element elements onName firstWith sub uses
+  headed-part (headed {x = x} {t = t} e) u = go (eqb (x .item) p) (isAt-item x e)
+    where
+      rest : List Tree
+      rest = parts (name x) ++ parts t
+
+      go : (b : Bool) → b ≡ true → ((b || any (hasHead p) rest) ≡ true) × (cond b (pair (name x) t) (firstWith (hasHead p) rest) ≡ pair (name x) t)
+      go true e = (refl, refl)
+      go false e = absurd (false≢true e)
+  headed-part (in-first {l = l} {h = h} {t = t} i) u = go (headed-head i) (headed-part i (omega arith))
+    where
+      go : onName (λ x. eqb (x .item) p) false h ≡ false → (any (hasHead p) (parts h) ≡ true) × (firstWith (hasHead p) (parts h) ≡ sub l h)
+          → (any (hasHead p) (parts (pair h t)) ≡ true) × (firstWith (hasHead p) (parts (pair h t)) ≡ sub (0 ∷ l) (pair h t))
+      go d a = (
+        ap₂ _||_ d (any-append (hasHead p) (parts h) (parts t) ∙ ap (λ b. b || any (hasHead p) (parts t)) (a .0)),
+        ap (λ b. cond b (pair h t) (firstWith (hasHead p) (parts h ++ parts t))) d ∙ firstWith-here (hasHead p) (parts h) (parts t) (a .0) ∙ a .1,
+      )
+  headed-part (in-later {k = k} {l = l} {h = h} {t = t} i) u = go (headed-part i (omega arith))
+    where
+      z : uses p h ≡ 0
+      z = omega (arith, headed-uses i)
+
+      go : (any (hasHead p) (parts t) ≡ true) × (firstWith (hasHead p) (parts t) ≡ sub (k ∷ l) t)
+          → (any (hasHead p) (parts (pair h t)) ≡ true) × (firstWith (hasHead p) (parts (pair h t)) ≡ sub (suc k ∷ l) (pair h t))
+      go a = (
+        ap₂ _||_ (head-none h z) (any-append (hasHead p) (parts h) (parts t) ∙ ap₂ _||_ (parts-none h z) (a .0)),
+        ap (λ b. cond b (pair h t) (firstWith (hasHead p) (parts h ++ parts t))) (head-none h z) ∙ firstWith-later (hasHead p) (parts h) (parts t) (parts-none h z) ∙ a .1,
+      )
 
 -- ---- trees that differ in one place, element by element
 
