@@ -2,3 +2,4 @@
 // Its definition is termOf of specs/Check.antt.
 mod flags; // the variables in scope
 mod head; // a node's own words
+mod term; // a term's words
