@@ -18,6 +18,8 @@ pub mod HeadLaws
 pub mod Shape
 pub mod ShapeLaws
 pub mod Walk
+pub mod Windows
+pub mod CheckLaws
 pub mod Decimal
 pub mod DecimalLaws
 pub mod Text

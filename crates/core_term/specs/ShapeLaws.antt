@@ -38,14 +38,14 @@ wanted-no false false h e = e
 
 module _ (A : Asked (List ℕ)) (sane : (e : List ℕ) (b : ℕ) (x : Node) → A .test e b x ≡ true → isNode x ≡ true) where
   -- what passes is well-formed
-  every-proper : (t : Plain) (e : List ℕ) (b : ℕ) → every A e b t ≡ true → every proper tt b t ≡ true
+  pub every-proper : (t : Plain) (e : List ℕ) (b : ℕ) → every A e b t ≡ true → every proper tt b t ≡ true
   unfolding proper
   every-proper t e b h =
       every-from (λ (i : Unit {0}). A) proper (b + variables t) (λ f g c. Unit {0})
       (λ f g c x r l k. sane (f tt) c x (k tt)) (λ f g c x r k. tt) (λ f g c n r. tt) t (λ i. e) tt b tt (omega arith) (λ i. h)
 
   -- words begin with one term only
-  only : (t u : Plain) (r s : List ℕ) (e f : List ℕ) (b c : ℕ) → every A e b t ≡ true → every A f c u ≡ true → encode t ++ r ≡ encode u ++ s → (t ≡ u) × (r ≡ s)
+  pub only : (t u : Plain) (r s : List ℕ) (e f : List ℕ) (b c : ℕ) → every A e b t ≡ true → every A f c u ≡ true → encode t ++ r ≡ encode u ++ s → (t ≡ u) × (r ≡ s)
   only t u r s e f b c p q h = encode-unique t u r s b c (every-proper t e b p) (every-proper u f c q) h
 
   module _ (q : Bool) (e : List ℕ) (b : ℕ) (ws : List ℕ) where

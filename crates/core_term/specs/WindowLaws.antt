@@ -54,7 +54,7 @@ marked-length base k (suc n) v fl = put-length base (k + n) v (marked base k n v
 
 -- ---- a flag by its variable
 
-case : {X : Type 0} (a b : ℕ) → (a < b → X) → (b ≤ a → X) → X
+pub case : {X : Type 0} (a b : ℕ) → (a < b → X) → (b ≤ a → X) → X
 case {X} a b x y = go (ltb a b) refl
   where
     go : (c : Bool) → ltb a b ≡ c → X
