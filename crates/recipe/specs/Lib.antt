@@ -3,3 +3,5 @@ pub mod Name
 pub mod Tree
 pub mod TreeLaws
 pub mod Table
+pub mod ItemLaws
+pub mod TreeFrom
