@@ -5,3 +5,4 @@ pub mod TreeLaws
 pub mod Table
 pub mod ItemLaws
 pub mod TreeFrom
+pub mod Layout

@@ -3,3 +3,4 @@ pub mod Limits
 pub mod Lists
 pub mod Options
 pub mod Text
+pub mod TestLaws
