@@ -1,0 +1,2 @@
+-- Laws of the tests that expansion makes before it runs, one for each way through the code.
+pub mod ItemTests
