@@ -4,15 +4,16 @@ use mathlib.Core.Bool.{Bool, true, false, _&&_, and-true, and-false}
 use mathlib.Core.List.{List, [], _∷_}
 use Prim.Native.Nat.{ℕ, zero, suc, _+_, _-_, _*_, _<_, _≤_}
 use native.Mathlib.Omega.{arith}
+use native.Mathlib.Numerals.{add-one}
 use lib.Dec.{eqb, ltb, leb}
-use lib.ListN.{length, getD, drop}
+use lib.ListN.{length, getD, drop, drop-of-length-le}
 use borrow.Author.Tests.{ne-eqb, le-leb, lt-leb}
 use Rattle.words.specs.Limits.{namesMost}
 use Rattle.words.specs.Lists.{within, all}
 use Rattle.words.specs.TestLaws.{and-none-left, and-none-right}
 use Rattle.datum.specs.Constant.{isConstant}
-use Rattle.recipe.specs.Table.{items, byKind, constantOf, kindAt, isPairItem, isItem}
-use Rattle.recipe.specs.ItemLaws.{itemAt, items-drop}
+use Rattle.recipe.specs.Table.{Item, items, byKind, constantOf, kindAt, isPairItem, isItem}
+use Rattle.recipe.specs.ItemLaws.{itemAt, items-length, items-drop}
 use Rattle.recipe.specs.TreeFrom.{headAt, tailAt}
 use Rattle.recipe.specs.Layout.{isListKind}
 
@@ -110,3 +111,20 @@ module _ (ws : List ℕ) (n i : ℕ) where
       let c : kindAt ws i ≡ 4 → ⊥ = λ e. omega arith in
       let h : 2 < kindAt ws i = omega arith in
       rw (ne-eqb (kindAt ws i) 0 a, ne-eqb (kindAt ws i) 3 b, ne-eqb (kindAt ws i) 4 c) (constant-high (kindAt ws i) (headAt ws i) (tailAt ws i) h)
+
+-- ---- a test of all items, as a loop makes it
+
+module _ (f : Item → Bool) (ws : List ℕ) (n : ℕ) (e : length ws ≡ 3 * n) where
+  all-step : (i : ℕ) → i < n → all f (drop i (items 0 ws)) ≡ (f (itemAt ws i) && all f (drop (i + 1) (items 0 ws)))
+  unfolding all
+  all-step i h = rw (add-one, items-drop ws n i e h)
+
+  pub all-misfit : (i : ℕ) → i < n → f (itemAt ws i) ≡ false → all f (drop i (items 0 ws)) ≡ false
+  all-misfit i h p = all-step i h ∙ rw p
+
+  pub all-more : (i : ℕ) → i < n → f (itemAt ws i) ≡ true → all f (drop i (items 0 ws)) ≡ all f (drop (i + 1) (items 0 ws))
+  all-more i h p = all-step i h ∙ rw p
+
+  pub all-end : all f (drop n (items 0 ws)) ≡ true
+  unfolding all
+  all-end = rw (drop-of-length-le (items 0 ws) {i = n} (omega (arith, items-length 0 n ws e)))

@@ -62,3 +62,46 @@ fn is_pair(table: &[u32], n: usize, i: usize) -> bool
     }
     is_list_kind(kind(table, t))
 }
+
+// Item i's words are those of its kind, unused ones 0; n items in all.
+fn is_item(table: &[u32], n: usize, i: usize) -> bool
+    requires { ⌜ (length (now table) ≡ 3 * n) × (i < n) ⌝ }
+    ensures { λ r. ⌜ r ≡ isItem (now (table .entry)) n (itemAt (now (table .entry)) i) ⌝ }
+{
+    let k = kind(table, i);
+    if k == 4 {
+        return is_pair(table, n, i);
+    }
+    if tail(table, i) != 0 {
+        return false;
+    }
+    let word = head(table, i);
+    if k == 0 {
+        return word == 0;
+    }
+    if k == 1 {
+        return true;
+    }
+    if k == 2 {
+        return word < 2;
+    }
+    if k == 3 {
+        return word < words::NAMES;
+    }
+    false
+}
+
+// Every item's words are those of its kind.
+pub fn items_fit(table: &[u32], n: usize) -> bool
+    requires { ⌜ length (now table) ≡ 3 * n ⌝ }
+    ensures { λ r. ⌜ r ≡ all (isItem (now (table .entry)) n) (items 0 (now (table .entry))) ⌝ }
+{
+    let mut i = 0;
+    while i < n {
+        if !is_item(table, n, i) {
+            return false;
+        }
+        i += 1;
+    }
+    true
+}
