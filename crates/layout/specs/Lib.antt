@@ -1,2 +1,3 @@
 -- Laws of the tests that expansion makes before it runs, one for each way through the code.
 pub mod ItemTests
+pub mod Counts
