@@ -6,7 +6,7 @@ use Prim.Native.Nat.{ℕ, zero, suc, _+_, _-_, _*_, _<_, _≤_}
 use native.Mathlib.Omega.{arith}
 use native.Mathlib.Numerals.{add-one}
 use lib.Dec.{eqb}
-use lib.ListN.{length, getD, set, drop, drop-of-length-le}
+use lib.ListN.{length, getD, set, drop, replicate, getD-replicate, drop-of-length-le}
 use lib.Seq.{getD-set-same, getD-set-other}
 use borrow.Author.Tests.{eqb-true, eqb-false, eq-eqb, ne-eqb}
 use Rattle.words.specs.Limits.{itemsMost}
@@ -23,6 +23,10 @@ Counted before after refs = (k : ℕ) → k < itemsMost → getD after k 0 ≡ g
 -- no count is above m
 abbrev pub AtMost : ℕ → List ℕ → Type 0
 AtMost m counts = (k : ℕ) → k < itemsMost → getD counts k 0 ≤ m
+
+-- each count is that of the table's references
+abbrev pub Referred : (ws counts : List ℕ) → Type 0
+Referred ws counts = (k : ℕ) → k < itemsMost → getD counts k 0 ≡ occurrences k (references (items 0 ws))
 
 -- ---- one reference
 
@@ -61,6 +65,10 @@ counted-past counts x l k h = let n : k ≡ x → ⊥ = λ e. omega arith in rw 
 pub counted-none : (counts : List ℕ) → Counted counts counts []
 unfolding occurrences
 counted-none counts k h = omega arith
+
+-- no count yet
+pub most-zero : AtMost 0 (replicate itemsMost 0)
+most-zero k h = omega (arith, getD-replicate {A = ℕ} itemsMost k 0 0 h)
 
 -- ---- one item
 
@@ -105,24 +113,24 @@ unfolding references occurrences
 occurrences-most k [] = omega arith
 occurrences-most k (x ∷ xs) = omega (arith, occurrences-item k x xs, occurrences-two k x, occurrences-most k xs)
 
-module _ (ws : List ℕ) (n : ℕ) (e : length ws ≡ 3 * n) where
-  -- counted so far and left to count, together, are all references
-  abbrev pub Counting : ℕ → List ℕ → Type 0
-  Counting i counts = (k : ℕ) → k < itemsMost → getD counts k 0 + occurrences k (references (drop i (items 0 ws))) ≡ occurrences k (references (items 0 ws))
+-- counted so far and left to count, together, are all references
+abbrev pub Counting : (ws : List ℕ) (i : ℕ) (counts : List ℕ) → Type 0
+Counting ws i counts = (k : ℕ) → k < itemsMost → getD counts k 0 + occurrences k (references (drop i (items 0 ws))) ≡ occurrences k (references (items 0 ws))
 
-  pub counting-start : (counts : List ℕ) → AtMost 0 counts → Counting 0 counts
+module _ (ws : List ℕ) (n : ℕ) (e : length ws ≡ 3 * n) where
+  pub counting-start : (counts : List ℕ) → AtMost 0 counts → Counting ws 0 counts
   counting-start counts z k h = omega (arith, z k h)
 
-  pub counting-most : (i : ℕ) (counts : List ℕ) → Counting i counts → AtMost (2 * n) counts
+  pub counting-most : (i : ℕ) (counts : List ℕ) → Counting ws i counts → AtMost (2 * n) counts
   counting-most i counts c k h = omega (arith, c k h, occurrences-most k (items 0 ws), items-length 0 n ws e)
 
-  pub counting-more : (i : ℕ) (a b : List ℕ) → i < n → Counting i a → Counted a b (references (itemAt ws i ∷ [])) → Counting (i + 1) b
+  pub counting-more : (i : ℕ) (a b : List ℕ) → i < n → Counting ws i a → Counted a b (references (itemAt ws i ∷ [])) → Counting ws (i + 1) b
   counting-more i a b h c d k l =
       let s : occurrences k (references (drop i (items 0 ws))) ≡ occurrences k (references (itemAt ws i ∷ [])) + occurrences k (references (drop (i + 1) (items 0 ws)))
       = rw (add-one, items-drop ws n i e h) (occurrences-item k (itemAt ws i) (drop (suc i) (items 0 ws))) in
       omega (arith, c k l, d k l, s)
 
-  pub counting-end : (counts : List ℕ) → Counting n counts → (k : ℕ) → k < itemsMost → getD counts k 0 ≡ occurrences k (references (items 0 ws))
+  pub counting-end : (counts : List ℕ) → Counting ws n counts → Referred ws counts
   unfolding references occurrences
   counting-end counts c k h =
       let d : drop n (items 0 ws) ≡ [] = drop-of-length-le (items 0 ws) {i = n} (omega (arith, items-length 0 n ws e)) in
@@ -135,7 +143,7 @@ module _ (ws : List ℕ) (n : ℕ) (e : length ws ≡ 3 * n) where
   unfolding isReferredOnce itemAt
   once-first h = all-more (isReferredOnce (references (items 0 ws))) ws n e 0 h refl
 
-  module _ (counts : List ℕ) (c : (k : ℕ) → k < itemsMost → getD counts k 0 ≡ occurrences k (references (items 0 ws))) (i : ℕ) (z : 0 < i) (l : i < itemsMost) where
+  module _ (counts : List ℕ) (c : Referred ws counts) (i : ℕ) (z : 0 < i) (l : i < itemsMost) where
     once-is : isReferredOnce (references (items 0 ws)) (itemAt ws i) ≡ eqb (getD counts i 0) 1
     unfolding isReferredOnce itemAt
     once-is = let nz : i ≡ 0 → ⊥ = λ q. omega arith in rw (ne-eqb i 0 nz, c i l)
