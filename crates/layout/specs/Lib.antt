@@ -1,3 +1,5 @@
 -- Laws of the tests that expansion makes before it runs, one for each way through the code.
 pub mod ItemTests
 pub mod Counts
+pub mod Begins
+pub mod Ground7
