@@ -3,3 +3,4 @@ pub mod ItemTests
 pub mod Counts
 pub mod Begins
 pub mod Ground7
+pub mod Places
