@@ -4,3 +4,4 @@ pub mod Counts
 pub mod Begins
 pub mod Ground7
 pub mod Places
+pub mod Operations

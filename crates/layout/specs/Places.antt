@@ -45,21 +45,21 @@ plainNames (p ∷ ps) = plainName (p .0) (p .1) ∷ plainNames ps
 unfoldable pub numbers : List Name → List ℕ
 numbers xs = map (λ x. x .number) xs
 
-numbers-append : (xs ys : List Name) → numbers (xs ++ ys) ≡ numbers xs ++ numbers ys
+pub numbers-append : (xs ys : List Name) → numbers (xs ++ ys) ≡ numbers xs ++ numbers ys
 unfolding numbers
 numbers-append [] ys = refl
 numbers-append (x ∷ xs) ys = ap (λ (l : List ℕ). x .number ∷ l) (numbers-append xs ys)
 
-numbers-length : (xs : List Name) → length (numbers xs) ≡ length xs
+pub numbers-length : (xs : List Name) → length (numbers xs) ≡ length xs
 unfolding numbers
 numbers-length xs = length-map xs (λ x. x .number)
 
-plain-append : (ps qs : List (ℕ × ℕ)) → plainNames (ps ++ qs) ≡ plainNames ps ++ plainNames qs
+pub plain-append : (ps qs : List (ℕ × ℕ)) → plainNames (ps ++ qs) ≡ plainNames ps ++ plainNames qs
 unfolding plainNames
 plain-append [] qs = refl
 plain-append (p ∷ ps) qs = ap (λ (l : List Name). plainName (p .0) (p .1) ∷ l) (plain-append ps qs)
 
-plain-length : (ps : List (ℕ × ℕ)) → length (plainNames ps) ≡ length ps
+pub plain-length : (ps : List (ℕ × ℕ)) → length (plainNames ps) ≡ length ps
 unfolding plainNames
 plain-length [] = refl
 plain-length (p ∷ ps) = ap suc (plain-length ps)
@@ -116,7 +116,7 @@ unfolding any
 any-append f [] ys = refl
 any-append f (x ∷ xs) ys = ap (λ (b : Bool). f x || b) (any-append f xs ys) ∙ sym (or-assoc (f x) (any f xs) (any f ys))
 
-distinct-more : (k n i : ℕ) (ps : List (ℕ × ℕ)) → placeFrom k n (numbers (plainNames ps)) ≡ nothing → distinct (plainNames ps) ≡ true → distinct (plainNames ps ++ (plainName n i ∷ [])) ≡ true
+pub distinct-more : (k n i : ℕ) (ps : List (ℕ × ℕ)) → placeFrom k n (numbers (plainNames ps)) ≡ nothing → distinct (plainNames ps) ≡ true → distinct (plainNames ps ++ (plainName n i ∷ [])) ≡ true
 unfolding plainNames numbers distinct any plainName
 distinct-more k n i [] h d = refl
 distinct-more k n i (p ∷ ps) h d =
@@ -126,7 +126,7 @@ distinct-more k n i (p ∷ ps) h d =
     let r = distinct-more (suc k) n i ps (absent-rest k n (p .0) (numbers (plainNames ps)) h) (and-right (not (any (same x) (plainNames ps))) (distinct (plainNames ps)) d) in
     rw (a, r) (rw (and-left (not (any (same x) (plainNames ps))) (distinct (plainNames ps)) d))
 
-distinct-twice : (k n i : ℕ) (ps : List (ℕ × ℕ)) (ys : List Name) → (placeFrom k n (numbers (plainNames ps)) ≡ nothing → ⊥) → distinct (plainNames ps ++ plainName n i ∷ ys) ≡ false
+pub distinct-twice : (k n i : ℕ) (ps : List (ℕ × ℕ)) (ys : List Name) → (placeFrom k n (numbers (plainNames ps)) ≡ nothing → ⊥) → distinct (plainNames ps ++ plainName n i ∷ ys) ≡ false
 unfolding plainNames numbers placeFrom distinct any plainName
 distinct-twice k n i [] ys h = absurd (h refl)
 distinct-twice k n i (p ∷ ps) ys h =
