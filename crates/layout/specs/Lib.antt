@@ -5,3 +5,5 @@ pub mod Begins
 pub mod Ground7
 pub mod Places
 pub mod Operations
+pub mod OperationItems
+pub mod Walk
