@@ -1,13 +1,15 @@
 // The tests that expansion makes before it runs: ground 7 (the layout of the item table), 8 and 9 (fuel and lent
 // tables) and 10 (the operations). None of them touches a lent table.
 pub mod item;
-mod operation;
+pub mod operation;
 mod reference;
 
 ghost use mathlib.Core.Path.{_≡_};
 ghost use mathlib.Core.Bool.{true, _&&_};
-ghost use Prim.Native.Nat.{_*_, _<_};
+ghost use Prim.Native.Nat.{_+_, _*_, _≤_, _<_};
+ghost use lib.Dec.{leb};
 ghost use lib.ListN.{length};
+ghost use Rattle.words.specs.Limits.{itemsMost, fuelMost, workRate, coreRate};
 ghost use Rattle.words.specs.Lists.{all};
 ghost use Rattle.recipe.specs.Tree.{isList, isListOf, element};
 ghost use Rattle.recipe.specs.Table.{items, isItem, treeOf, isLayout};
@@ -53,4 +55,23 @@ pub fn is_layout(table: &[u32]) -> bool
         return false;
     }
     begins_two(table, n)
+}
+
+// Ground 8.
+pub fn fuel_fits(fuel: u32) -> bool
+    ensures { λ r. ⌜ r ≡ leb fuel fuelMost ⌝ }
+{
+    fuel <= words::FUEL
+}
+
+// Ground 9 of n items and lent tables of these lengths, past grounds 7 and 8: so the products are small.
+pub fn tables_fit(n: usize, fuel: u32, work: usize, core: usize) -> bool
+    requires { ⌜ (n ≤ itemsMost) × (fuel ≤ fuelMost) ⌝ }
+    ensures { λ r. ⌜ r ≡ (leb (workRate * (n + fuel)) work && leb (coreRate * (n + fuel)) core) ⌝ }
+{
+    let need = n + fuel as usize;
+    if work < words::WORK_RATE * need {
+        return false;
+    }
+    words::CORE_RATE * need <= core
 }
