@@ -6,7 +6,7 @@ use mathlib.Core.List.{List, [], _∷_, _++_, append-nil, append-assoc}
 use mathlib.Core.Option.{Option}
 use Prim.Native.Nat.{ℕ, zero, suc, _+_, _≤_}
 use native.Mathlib.Omega.{arith}
-use lib.ListN.{length, getD, length-append, length-map}
+use lib.ListN.{length, getD}
 use Rattle.words.specs.Each.{Each, noneOf, also, each-all, each-mapped, given-any}
 use Rattle.recipe.specs.Name.{Binding, variable, macro, Name}
 use Rattle.recipe.specs.Tree.{Tree, empty, constant, name, pair, names, element, tail, mark, bindAll}
@@ -16,7 +16,7 @@ use Rattle.expansion.specs.Match.{firstFit}
 use Rattle.expansion.specs.Computation.{State, looked, quoted, reached, binds, Events, Out, M, _>>=_, _>>_, give, refuse, show, test, orRefuse, get}
 use Rattle.expansion.specs.Forms.{formals, keywords, rulesForms, bindings, expandAll, expandQuote, expandIf, expandLambda, expandMacros, expandUse, expandOperands, expandList, expandName, expandApplication, expandPair, expandTree, expand}
 use Rattle.expansion.specs.Outcomes.{Holds, isStarved, give-holds, refuse-holds, test-holds, show-holds, get-holds, addVariables-holds, addMacros-holds, addStep-holds, then-holds, orRefuse-holds, weaken}
-use Rattle.expansion.specs.FormLaws.{Unbinding, looking, quoting, reaching, readRules-holds, keywords-count}
+use Rattle.expansion.specs.FormLaws.{Unbinding, looking, quoting, reaching, rules-added, readRules-holds, keywords-count}
 
 -- ---- the numbers bound
 
@@ -259,9 +259,9 @@ module _ (limit : ℕ) (operations : List ℕ) (fuel : ℕ) (rec : Tree → M (T
       (then-holds _ _ _ s (readRules-holds (λ r. Unit {0}) (each-all _ (λ r. given-any _)) s (λ g l h. (length (keywords t), macros-way s s (keywords t) _ h refl refl refl refl (omega arith)))) λ rules u l read.
       addMacros-holds _ _ u
       (let ev = bindings macro (length (s .macros)) (keywords t) in
-      let count : length (u .macros ++ rules) ≡ length (s .macros) + length (keywords t) =
-      length-append (u .macros) rules ∙ omega (arith, ap (λ (z : State). length (z .macros)) (read .unchanged), read .count, keywords-count limit t shape, length-map (rulesForms t) (cond inside (bindAll macro (length (s .macros)) (keywords t)) (λ r. r))) in
-      let w : Way s _ 0 (ev ++ l) = macros-way s _ (keywords t) 0 (read .shown) (ap (λ (z : State). z .steps) (read .unchanged)) (ap (λ (z : State). z .sum) (read .unchanged)) (ap (λ (z : State). z .variables) (read .unchanged)) (omega (arith, count)) (omega (arith, count)) in
+      let same = rules-added (cond inside (bindAll macro (length (s .macros)) (keywords t)) (λ r. r)) (rulesForms t) read in
+      let count = keywords-count limit t shape in
+      let w : Way s _ 0 (ev ++ l) = macros-way s _ (keywords t) 0 (read .shown) (same .steps) (same .sum) (same .variables) (omega (arith, same, count)) (omega (arith, same)) in
       weaken (good _ _) (λ x. x) (λ g v k q. (q .0, subst (Way s v (q .0)) (append-assoc ev l k) (way-then w (q .1)))) (λ a v k q. subst (Way s v 0) (append-assoc ev l k) (way-then w q))))))
 
   use-keeps : (n : ℕ) (t : Tree) → Keeps (expandUse limit operations fuel rec n t)

@@ -3,21 +3,20 @@ use mathlib.Core.Path.{_≡_}
 use mathlib.Core.List.{List}
 use Prim.Native.Nat.{ℕ, _+_}
 use native.Mathlib.Omega.{arith}
-use lib.ListN.{length}
 use Rattle.words.specs.Limits.{macrosMost}
 use Rattle.recipe.specs.Tree.{Tree, size, element}
 use Rattle.recipe.specs.TreeLaws.{element-size}
 use Rattle.recipe.specs.Table.{treeOf}
-use Rattle.core_term.specs.Words.{encode}
 use Rattle.expansion.specs.Computation.{start}
 use Rattle.expansion.specs.Run.{accepted, turnedBack, unfinished, ended, operationNumbers, expandRecipe, run}
 use Rattle.expansion.specs.RunLaws.{unbegun, run-holds}
-use Rattle.expansion.specs.Budget.{Spent, Spends, expand-spends}
+use Rattle.expansion.specs.Budget.{SpendsTerm, expand-spends}
 
 -- a recipe's expansion is not out of gas, and spends no more than it may
-pub expandRecipe-spends : (fuel : ℕ) (t : Tree) → Spends macrosMost (operationNumbers t) fuel (λ w u. Spent macrosMost (operationNumbers t) fuel (size (element 1 t)) start (length (encode w)) u) (expandRecipe fuel t)
+pub expandRecipe-spends : (fuel : ℕ) (t : Tree) → SpendsTerm fuel (size (element 1 t)) start (expandRecipe fuel t)
 unfolding expandRecipe start
-expandRecipe-spends fuel t = expand-spends macrosMost (operationNumbers t) fuel (size t + fuel) (element 1 t) start (omega arith) (omega (arith, element-size 1 t))
+expandRecipe-spends fuel t =
+    expand-spends macrosMost (operationNumbers t) fuel (size t + fuel) (element 1 t) start (record { paid = omega arith; bounded = omega arith }) (omega (arith, element-size 1 t))
 
 turnedBack-finished : (g : ℕ) → turnedBack g ≡ unfinished → ⊥
 turnedBack-finished g e = let z : _≡_ {A = ℕ} 0 1 = cc in omega arith
