@@ -50,6 +50,28 @@ binds ifN = 0
 binds (lambdaN first n) = n
 binds (applicationN n) = 0
 
+-- codes 2 to 5 begin a datum
+unfoldable pub isDatumNode : Node → Bool
+isDatumNode (variableN n) = false
+isDatumNode (operationN n) = false
+isDatumNode (constantN a) = true
+isDatumNode (nameN n) = true
+isDatumNode (listN n) = true
+isDatumNode ifN = false
+isDatumNode (lambdaN first n) = false
+isDatumNode (applicationN n) = false
+
+-- the parts of a quoted list are data
+unfoldable pub isListNode : Node → Bool
+isListNode (variableN n) = false
+isListNode (operationN n) = false
+isListNode (constantN a) = false
+isListNode (nameN n) = false
+isListNode (listN n) = true
+isListNode ifN = false
+isListNode (lambdaN first n) = false
+isListNode (applicationN n) = false
+
 -- booleans are 0 or 1, and a lambda has 0 to 8 variables
 unfoldable pub isNode : Node → Bool
 isNode (variableN n) = true
