@@ -1,6 +1,6 @@
 -- The words of an accepted run are one term that passes ground 19, with the recipe's count of operations and no name table.
 -- So a term that expansion gives is always written.
-use mathlib.Core.Path.{_≡_, refl, ap, _∙_}
+use mathlib.Core.Path.{_≡_, refl, ap, _∙_, subst}
 use mathlib.Core.Bool.{Bool, true, false, false≢true}
 use mathlib.Core.List.{List}
 use mathlib.Core.Option.{some}
@@ -20,8 +20,9 @@ use Rattle.recipe.specs.TableTidy.{treeOf-tidy}
 use Rattle.core_term.specs.Node.{Node, isNode}
 use Rattle.core_term.specs.Term.{Term, variables, forget}
 use Rattle.core_term.specs.Words.{encode}
-use Rattle.core_term.specs.Every.{every, proper, wellFormed}
-use Rattle.core_term.specs.Check.{Scope, outside, variableInside, firstNumber, known, asked, scoped, numbered, allKnown, passes, small, passing, termOf}
+use Rattle.core_term.specs.Every.{Asked, every, proper, wellFormed}
+use Rattle.core_term.specs.EveryLaws.{every-from}
+use Rattle.core_term.specs.Check.{Scope, outside, inside, variableInside, firstNumber, known, asked, scoped, numbered, allKnown, passes, small, passing, termOf}
 use Rattle.core_term.specs.DecodeLaws.{decode-encode}
 use Rattle.expansion.specs.Computation.{start}
 use Rattle.expansion.specs.Run.{accepted, turnedBack, unfinished, ended, operationNumbers, areOperations, expandRecipe, run}
@@ -29,7 +30,7 @@ use Rattle.expansion.specs.RunLaws.{unbegun, run-holds}
 use Rattle.expansion.specs.World.{World, fine-plain}
 use Rattle.expansion.specs.WorldState.{Closed}
 use Rattle.expansion.specs.Sound.{sound, MakesTerm, expand-made}
-use Rattle.expansion.specs.EveryLaws.{every-implies, every-forget}
+use Rattle.expansion.specs.ForgetLaws.{every-forget}
 
 -- ---- sound terms pass
 
@@ -43,14 +44,24 @@ module _ (operations : ℕ) (e : Scope) (b : ℕ) (x : Node) (h : sound operatio
       (p .0, q .0, r .0, r .1)
 
 module _ (operations : ℕ) (t : Term Name) (h : every (sound operations) outside 0 t ≡ true) where
+  -- a weaker test, of an environment that f makes of the scope
+  sound-implies : {E : Type 0} (B : Asked E) (f : Scope → E) → ((e : Scope) (b : ℕ) (x : Node) → sound operations .test e b x ≡ true → B .test (f e) b x ≡ true)
+      → ((e : Scope) (b : ℕ) (x : Node) → f (inside e b x) ≡ B .enter (f e) b x) → every B (f outside) 0 t ≡ true
+  unfolding sound
+  sound-implies B f test enter =
+      every-from (λ (i : Unit {0}). sound operations) B (0 + variables t) (λ e g b. f (e tt) ≡ g)
+      (λ e g b x r l k. subst (λ z. B .test z b x ≡ true) r (test (e tt) b x (k tt)))
+      (λ e g b x r k. enter (e tt) b x ∙ ap (λ z. B .enter z b x) r)
+      (λ e g b n r. r) t (λ i. outside) (f outside) 0 refl (omega arith) (λ i. h)
+
   sound-wellFormed : wellFormed t ≡ true
   unfolding wellFormed proper
-  sound-wellFormed = every-implies (sound operations) proper (λ e. tt) (λ e b x p. sound-parts operations e b x p .0) (λ e b x. refl) t outside 0 h
+  sound-wellFormed = sound-implies proper (λ e. tt) (λ e b x p. sound-parts operations e b x p .0) (λ e b x. refl)
 
   -- a test of ground 19
   sound-asked : (test : Scope → ℕ → Node → Bool) → ((e : Scope) (b : ℕ) (x : Node) → sound operations .test e b x ≡ true → test e b x ≡ true) → every (asked test) outside 0 (forget t) ≡ true
-  unfolding sound asked
-  sound-asked test k = every-forget (asked test) t outside 0 ∙ every-implies (sound operations) (asked test) (λ e. e) k (λ e b x. refl) t outside 0 h
+  unfolding asked
+  sound-asked test k = every-forget (asked test) t outside 0 ∙ sound-implies (asked test) (λ e. e) k (λ e b x. refl)
 
   sound-passes : passes operations small (forget t) ≡ true
   unfolding passes scoped numbered allKnown

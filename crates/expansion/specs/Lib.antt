@@ -17,7 +17,7 @@ pub mod TidyRules
 pub mod World
 pub mod WorldState
 pub mod Sound
-pub mod EveryLaws
+pub mod ForgetLaws
 pub mod CoreTerm
 pub mod Bindings
 pub mod OwnNames
