@@ -19,7 +19,7 @@ pub run-sum : (items : List ℕ) (fuel work core : ℕ) → run items fuel work 
 unfolding unbegun ended
 run-sum items fuel work core =
     run-holds (λ r. r .sum ≤ fuel) items fuel work core (λ b. expandRecipe-spends fuel (treeOf items))
-    (λ g. omega arith)
+    (λ g _. omega arith)
     (λ b t s l q. q .solvent .bounded)
     (λ b g s l r. r .bounded)
     (λ b l x. absurd x)
@@ -29,7 +29,7 @@ pub run-steps : (items : List ℕ) (fuel work core : ℕ) → run items fuel wor
 unfolding unbegun ended
 run-steps items fuel work core =
     run-holds (λ r. r .steps ≤ r .sum) items fuel work core (λ b. expandRecipe-spends fuel (treeOf items))
-    (λ g. omega arith)
+    (λ g _. omega arith)
     (λ b t s l q. q .solvent .paid)
     (λ b g s l r. r .paid)
     (λ b l x. absurd x)
@@ -43,7 +43,7 @@ module _ (items : List ℕ) (fuel work core : ℕ) where
   unfolding unbegun ended
   run-core =
       run-holds (λ r. length (r .core) ≤ coreRate * (itemCount items + fuel)) items fuel work core (λ b. expandRecipe-spends fuel (treeOf items))
-      (λ g. omega arith)
+      (λ g _. omega arith)
       (λ b t s l q. words-bound b q)
       (λ b g s l r. omega arith)
       (λ b l x. absurd x)
@@ -53,7 +53,7 @@ module _ (items : List ℕ) (fuel work core : ℕ) where
   unfolding unbegun ended
   run-core-fits =
       run-holds (λ r. length (r .core) ≤ core) items fuel work core (λ b. expandRecipe-spends fuel (treeOf items))
-      (λ g. omega arith)
+      (λ g _. omega arith)
       (λ b t s l q. omega (arith, words-bound b q, b .core-room))
       (λ b g s l r. omega arith)
       (λ b l x. absurd x)

@@ -180,7 +180,7 @@ module _ (limit : ℕ) (operations : List ℕ) (fuel : ℕ) where
         test-holds _ _ _ s low λ _.
         get-holds _ s
         (show-holds _ _ s
-        (then-holds _ _ _ s (readRules-holds (λ r. Unit {0}) (each-all _ (λ r. given-any _)) s (λ g l _. low)) λ rules u l read.
+        (then-holds _ _ _ s (readRules-holds (λ r. Unit {0}) (each-all _ (λ r. given-any _)) s (λ l _. low)) λ rules u l read.
         addMacros-holds _ _ u
         (let e = macros-size limit macro (length (s .macros)) (keywords t) t shape in
         let same = rules-added (cond inside (bindAll macro (length (s .macros)) (keywords t)) (λ r. r)) (rulesForms t) read in

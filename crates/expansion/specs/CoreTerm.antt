@@ -114,7 +114,7 @@ pub run-term : (items : List ℕ) (fuel work core : ℕ) → run items fuel work
 unfolding unbegun ended start nowhere
 run-term items fuel work core =
     run-holds (λ r. r .outcome ≡ accepted → CoreTerm (length (operationNumbers (treeOf items))) (r .core)) items fuel work core (λ b. expandRecipe-made fuel items (b .layout))
-    (λ g e. absurd (turnedBack-unaccepted g e))
+    (λ g _ e. absurd (turnedBack-unaccepted g e))
     (λ b t s l q e. record { term = t; words = refl; passes = sound-termOf _ t (q .passed) (operations-most (treeOf items) (b .operations)) })
     (λ b g s l r e. absurd (turnedBack-unaccepted g e))
     (λ b l x e. absurd (unfinished-unaccepted e))

@@ -52,14 +52,14 @@ rules-added {rules = rules} {t = t} f rs read = record {
 }
 
 pub readRules-holds : {S : Type 0} {R : ℕ → State → Events → Type 0} (P : List Rule → Type 0) {rs : List Tree} → Each (λ r. Given P (rulesOf r)) rs
-    → (s : State) → ((g : ℕ) (l : Events) → Each Unbinding l → R g s l) → Holds S R (RulesRead P rs s) (readRules rs s)
+    → (s : State) → ((l : Events) → Each Unbinding l → R 15 s l) → Holds S R (RulesRead P rs s) (readRules rs s)
 unfolding readRules
 readRules-holds P noneOf s r = give-holds [] s (record { unchanged = refl; count = refl; each = noneOf; shown = noneOf })
 readRules-holds P (also {x} g gs) s r =
     let h = head-looks (element 0 x) in
     show-holds _ _ s
-    (orRefuse-holds _ _ _ s (r _ _ (each-append h noneOf)) λ a e.
-    then-holds _ _ _ s (readRules-holds P gs s (λ g l k. r g _ (each-append h k))) λ b t l q.
+    (orRefuse-holds _ _ _ s (r _ (each-append h noneOf)) λ a e.
+    then-holds _ _ _ s (readRules-holds P gs s (λ l k. r _ (each-append h k))) λ b t l q.
     give-holds _ t (record { unchanged = q .unchanged; count = ap suc (q .count); each = also (given-at g e) (q .each); shown = each-append h (each-append (q .shown) noneOf) }))
 
 pub firstNames-length : (cs : List Tree) → all isMacro cs ≡ true → length (firstNames cs) ≡ length cs

@@ -28,7 +28,7 @@ pub run-finished : (items : List ℕ) (fuel work core : ℕ) → run items fuel 
 unfolding unbegun ended
 run-finished items fuel work core =
     run-holds (λ r. r .outcome ≡ unfinished → ⊥) items fuel work core (λ b. expandRecipe-spends fuel (treeOf items))
-    turnedBack-finished
+    (λ g _. turnedBack-finished g)
     (λ b t s l q. accepted-finished)
     (λ b g s l r. turnedBack-finished g)
     (λ b l x. absurd x)

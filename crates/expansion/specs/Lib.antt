@@ -20,4 +20,6 @@ pub mod Sound
 pub mod ForgetLaws
 pub mod CoreTerm
 pub mod Bindings
+pub mod Ways
 pub mod OwnNames
+pub mod Grounds

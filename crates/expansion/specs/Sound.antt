@@ -207,7 +207,7 @@ module _ (limit : ℕ) (operations : List ℕ) (fuel : ℕ) where
         test-holds _ _ _ s tt λ _.
         get-holds _ s
         (show-holds _ _ s
-        (then-holds _ _ _ s (readRules-holds (FineRules (withMacros k (length xs) W)) (each-weaken (λ r. rulesOf-tidy) (forms-fine inside k xs (rulesForms-fine f))) s (λ g l _. tt)) λ rules u l read.
+        (then-holds _ _ _ s (readRules-holds (FineRules (withMacros k (length xs) W)) (each-weaken (λ r. rulesOf-tidy) (forms-fine inside k xs (rulesForms-fine f))) s (λ l _. tt)) λ rules u l read.
         addMacros-holds _ _ u
         (let added : u .macros ++ rules ≡ s .macros ++ rules = ap (λ (z : State). z .macros ++ rules) (read .unchanged) in
         let enough : length xs ≤ length rules = omega (arith, read .count, keywords-count limit t shape, length-map (rulesForms t) (cond inside (bindAll macro k xs) (λ r. r))) in
