@@ -1,4 +1,7 @@
--- The bounds of a run: its steps are at most its sum, its sum is at most the fuel, and its core words are at most 2 × (N + fuel), so that they fit a lent table.
+-- The bounds of a run: its steps are at most its sum, its sum is at most the fuel, and its core words are at most 2 × (N + fuel),
+-- so that they fit a lent table.
+pub mod Budget
+pub mod Gas
 use mathlib.Core.List.{List}
 use Prim.Native.Nat.{ℕ, _+_, _*_, _≤_}
 use native.Mathlib.Omega.{arith}
@@ -11,8 +14,8 @@ use Rattle.recipe.specs.TableLaws.{treeOf-size}
 use Rattle.expansion.specs.Computation.{State, start}
 use Rattle.expansion.specs.Run.{ended, run}
 use Rattle.expansion.specs.RunLaws.{unbegun, Begun, run-holds}
-use Rattle.expansion.specs.Budget.{Spent}
-use Rattle.expansion.specs.Gas.{expandRecipe-spends}
+use Rattle.expansion.specs.Bounds.Budget.{Spent}
+use Rattle.expansion.specs.Bounds.Gas.{expandRecipe-spends}
 
 -- of every run, accepted or not
 pub run-sum : (items : List ℕ) (fuel work core : ℕ) → run items fuel work core .sum ≤ fuel

@@ -1,5 +1,9 @@
 -- The words of an accepted run are one term that passes ground 19, with the recipe's count of operations and no name table.
 -- So a term that expansion gives is always written.
+pub mod Worlds
+pub mod WorldState
+pub mod Sound
+pub mod Forget
 use mathlib.Core.Path.{_≡_, refl, ap, _∙_, subst}
 use mathlib.Core.Bool.{Bool, true, false, false≢true}
 use mathlib.Core.List.{List}
@@ -27,10 +31,10 @@ use Rattle.core_term.specs.DecodeLaws.{decode-encode}
 use Rattle.expansion.specs.Computation.{start}
 use Rattle.expansion.specs.Run.{accepted, turnedBack, unfinished, ended, operationNumbers, areOperations, expandRecipe, run}
 use Rattle.expansion.specs.RunLaws.{unbegun, run-holds}
-use Rattle.expansion.specs.World.{World, fine-plain}
-use Rattle.expansion.specs.WorldState.{Closed}
-use Rattle.expansion.specs.Sound.{sound, MakesTerm, expand-made}
-use Rattle.expansion.specs.ForgetLaws.{every-forget}
+use Rattle.expansion.specs.CoreTerm.Worlds.{World, fine-plain}
+use Rattle.expansion.specs.CoreTerm.WorldState.{Closed}
+use Rattle.expansion.specs.CoreTerm.Sound.{sound, MakesTerm, expand-made}
+use Rattle.expansion.specs.CoreTerm.Forget.{every-forget}
 
 -- ---- sound terms pass
 

@@ -1,5 +1,6 @@
 -- The definition of expansion: what marks and substitutions carried through the whole tree immediately give.
 -- Read in this order: what a name means; rules, matching and transcribing; forms; the run.
+-- Then its laws: of outcomes, rules, forms and runs; bounds, the core term, and the ways that computations keep to.
 pub mod Lookup
 pub mod Rules
 pub mod Match
@@ -8,18 +9,9 @@ pub mod Computation
 pub mod Forms
 pub mod Run
 pub mod Outcomes
-pub mod FormLaws
-pub mod Budget
-pub mod RunLaws
-pub mod Gas
-pub mod Bounds
 pub mod TidyRules
-pub mod World
-pub mod WorldState
-pub mod Sound
-pub mod ForgetLaws
+pub mod FormLaws
+pub mod RunLaws
+pub mod Bounds
 pub mod CoreTerm
-pub mod Bindings
 pub mod Ways
-pub mod OwnNames
-pub mod Grounds

@@ -1,5 +1,8 @@
 -- What every computation keeps to, on its way from one state to another: counts only grow, the variables and macros that its events bind
 -- are numbered in order from the state's counts on, and it is refused on grounds 11 to 18 alone.
+pub mod Bindings
+pub mod OwnNames
+pub mod Grounds
 use mathlib.Core.Path.{_≡_, refl, ap, ap₂, _∙_, subst}
 use mathlib.Core.Bool.{Bool, true, false, cond}
 use mathlib.Core.List.{List, [], _++_, append-nil, append-assoc}
@@ -17,7 +20,7 @@ use Rattle.expansion.specs.Computation.{State, looked, quoted, Events, O
 use Rattle.expansion.specs.Forms.{formals, keywords, rulesForms, bindings, expandAll, expandQuote, expandIf, expandLambda, expandMacros, expandUse, expandOperands, expandList, expandName, expandApplication, expandPair, expandTree, expand}
 use Rattle.expansion.specs.Outcomes.{Holds, isStarved, give-holds, refuse-holds, test-holds, show-holds, get-holds, addVariables-holds, addMacros-holds, addStep-holds, then-holds, orRefuse-holds, weaken}
 use Rattle.expansion.specs.FormLaws.{Unbinding, looking, quoting, reaching, rules-added, readRules-holds, keywords-count}
-use Rattle.expansion.specs.Bindings.{variableNumber, macroNumber, boundBy, upFrom, boundBy-append, upFrom-append, unbinding-binds, variables-bind, macros-bind, no-macros-bind, no-variables-bind}
+use Rattle.expansion.specs.Ways.Bindings.{variableNumber, macroNumber, boundBy, upFrom, boundBy-append, upFrom-append, unbinding-binds, variables-bind, macros-bind, no-macros-bind, no-variables-bind}
 
 -- ---- on the way from one state to another
 

@@ -25,9 +25,9 @@ use Rattle.expansion.specs.Computation.{State, Out, M}
 use Rattle.expansion.specs.Forms.{isLambda, formals, keywords, rulesForms, expandAll, expandQuote, expandIf, expandLambda, expandMacros, expandUse, expandOperands, expandList, expandName, expandApplication, expandPair, expandTree, expand}
 use Rattle.expansion.specs.Outcomes.{Holds, isStarved, give-holds, refuse-holds, test-holds, show-holds, get-holds, addVariables-holds, addMacros-holds, addStep-holds, then-holds, orRefuse-holds, weaken}
 use Rattle.expansion.specs.FormLaws.{readRules-holds, keywords-count}
-use Rattle.expansion.specs.World.{World, reachesVariable, reachesMacro, FineTree, FineRules, fine-within, fine-mark, fine-produce, fine-give, Meant, meantVariable, meantMacro, meantForm, meantOperation, meantNothing, lookup-meant}
+use Rattle.expansion.specs.CoreTerm.Worlds.{World, reachesVariable, reachesMacro, FineTree, FineRules, fine-within, fine-mark, fine-produce, fine-give, Meant, meantVariable, meantMacro, meantForm, meantOperation, meantNothing, lookup-meant}
 use Rattle.expansion.specs.TidyRules.{rulesOf-tidy, firstFit-tidy, transcribe-tidy}
-use Rattle.expansion.specs.WorldState.{Closed, Grown, grown-same, grown-then, closed-grown, widen, widen-new, withVariables, withMacros, variables-within, macros-within, closed-variables, closed-macros}
+use Rattle.expansion.specs.CoreTerm.WorldState.{Closed, Grown, grown-same, grown-then, closed-grown, widen, widen-new, withVariables, withMacros, variables-within, macros-within, closed-variables, closed-macros}
 
 -- ---- what is asked of every node: that it is one, and all of ground 19
 

@@ -16,7 +16,7 @@ use Rattle.recipe.specs.Name.{variable, macro}
 use Rattle.core_term.specs.Term.{variables}
 use Rattle.expansion.specs.Rules.{Rule}
 use Rattle.expansion.specs.Computation.{State}
-use Rattle.expansion.specs.World.{FineRules, fine-within, World, Within}
+use Rattle.expansion.specs.CoreTerm.Worlds.{FineRules, fine-within, World, Within}
 use Rattle.expansion.specs.TidyRules.{template-weaken}
 
 -- ---- states

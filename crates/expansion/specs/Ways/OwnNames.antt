@@ -10,8 +10,8 @@ use Rattle.expansion.specs.Computation.{start, looked, quoted, reached, 
 use Rattle.expansion.specs.Run.{run, ended, expandRecipe}
 use Rattle.expansion.specs.RunLaws.{unbegun, run-holds}
 use Rattle.expansion.specs.Outcomes.{both-hold}
-use Rattle.expansion.specs.Gas.{expandRecipe-spends}
-use Rattle.expansion.specs.Bindings.{variableNumber, macroNumber, boundBy, upFrom}
+use Rattle.expansion.specs.Bounds.Gas.{expandRecipe-spends}
+use Rattle.expansion.specs.Ways.Bindings.{variableNumber, macroNumber, boundBy, upFrom}
 use Rattle.expansion.specs.Ways.{expand-keeps}
 
 -- the bindings made, in order, each with its own name

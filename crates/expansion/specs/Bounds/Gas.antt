@@ -10,7 +10,7 @@ use Rattle.recipe.specs.Table.{treeOf}
 use Rattle.expansion.specs.Computation.{start}
 use Rattle.expansion.specs.Run.{accepted, turnedBack, unfinished, ended, operationNumbers, expandRecipe, run}
 use Rattle.expansion.specs.RunLaws.{unbegun, run-holds}
-use Rattle.expansion.specs.Budget.{SpendsTerm, expand-spends}
+use Rattle.expansion.specs.Bounds.Budget.{SpendsTerm, expand-spends}
 
 -- a recipe's expansion is not out of gas, and spends no more than it may
 pub expandRecipe-spends : (fuel : ℕ) (t : Tree) → SpendsTerm fuel (size (element 1 t)) start (expandRecipe fuel t)
