@@ -2,15 +2,14 @@
 -- So a term that expansion gives is always written.
 pub mod Worlds
 pub mod WorldState
+pub mod Forget
 pub mod SoundTerms
 pub mod Sound
-pub mod Forget
-use mathlib.Core.Path.{_≡_, refl}
+use mathlib.Core.Path.{_≡_, refl, sym}
 use mathlib.Core.Bool.{true, false, false≢true}
 use mathlib.Core.List.{List}
 use mathlib.Core.Option.{some}
 use Prim.Native.Nat.{ℕ, _+_, _≤_}
-use native.Mathlib.Omega.{arith}
 use lib.Dec.{leb}
 use lib.ListN.{length}
 use borrow.Author.Tests.{leb-true}
@@ -22,12 +21,12 @@ use Rattle.recipe.specs.Tree.{Tree, isName, elements, element, size}
 use Rattle.recipe.specs.Tidy.{tidy-element, tidy-weaken}
 use Rattle.recipe.specs.Table.{isLayout, treeOf}
 use Rattle.recipe.specs.TableTidy.{treeOf-tidy}
-use Rattle.core_term.specs.Term.{Term, variables, forget}
+use Rattle.core_term.specs.Term.{Term, forget}
 use Rattle.core_term.specs.Words.{encode}
-use Rattle.core_term.specs.Check.{outside, passes, small, termOf}
+use Rattle.core_term.specs.Check.{outside, small, termOf}
 use Rattle.expansion.specs.Computation.{start}
-use Rattle.expansion.specs.Run.{accepted, turnedBack, unfinished, ended, operationNumbers, areOperations, expandRecipe, run}
-use Rattle.expansion.specs.RunLaws.{unbegun, run-holds}
+use Rattle.expansion.specs.Run.{accepted, ended, operationNumbers, areOperations, expandRecipe, run}
+use Rattle.expansion.specs.RunLaws.{accepted≢turnedBack, accepted≢unfinished, unbegun, run-holds}
 use Rattle.expansion.specs.CoreTerm.Worlds.{World, fine-plain}
 use Rattle.expansion.specs.CoreTerm.WorldState.{Closed}
 use Rattle.expansion.specs.CoreTerm.SoundTerms.{sound-termOf}
@@ -58,17 +57,11 @@ operations-most t e =
     let p = and-parts (all isName (elements (element 0 t))) _ e in
     leb-true (length (operationNumbers t)) operationsMost (and-parts (leb (length (operationNumbers t)) operationsMost) _ (p .1) .0)
 
-turnedBack-unaccepted : (g : ℕ) → turnedBack g ≡ accepted → ⊥
-turnedBack-unaccepted g e = let z : _≡_ {A = ℕ} 0 1 = cc in omega arith
-
-unfinished-unaccepted : unfinished ≡ accepted → ⊥
-unfinished-unaccepted e = let z : _≡_ {A = ℕ} 0 1 = cc in omega arith
-
 pub run-term : (items : List ℕ) (fuel work core : ℕ) → run items fuel work core .outcome ≡ accepted → CoreTerm (length (operationNumbers (treeOf items))) (run items fuel work core .core)
 unfolding unbegun ended start nowhere
 run-term items fuel work core =
     run-holds (λ r. r .outcome ≡ accepted → CoreTerm (length (operationNumbers (treeOf items))) (r .core)) items fuel work core (λ b. expandRecipe-made fuel items (b .layout))
-    (λ g _ e. absurd (turnedBack-unaccepted g e))
+    (λ g _ e. absurd (accepted≢turnedBack g (sym e)))
     (λ b t s l q e. record { term = t; words = refl; passes = sound-termOf _ t (q .passed) (operations-most (treeOf items) (b .operations)) })
-    (λ b g s l r e. absurd (turnedBack-unaccepted g e))
-    (λ b l x e. absurd (unfinished-unaccepted e))
+    (λ b g s l r e. absurd (accepted≢turnedBack g (sym e)))
+    (λ b l x e. absurd (accepted≢unfinished (sym e)))

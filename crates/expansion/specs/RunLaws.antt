@@ -12,8 +12,21 @@ use Rattle.recipe.specs.Name.{Name}
 use Rattle.recipe.specs.Table.{itemCount, isLayout, treeOf}
 use Rattle.core_term.specs.Term.{Term}
 use Rattle.expansion.specs.Computation.{State, Events, Out, done, refused, starved}
-use Rattle.expansion.specs.Run.{turnedBack, Run, ended, require, areOperations, expandRecipe, run}
+use Rattle.expansion.specs.Run.{accepted, turnedBack, unfinished, Run, ended, require, areOperations, expandRecipe, run}
 use Rattle.expansion.specs.Outcomes.{Holds, isDone, isRefused, isStarved}
+
+-- ---- outcomes are told apart
+
+pub accepted≢turnedBack : (g : ℕ) → accepted ≡ turnedBack g → ⊥
+accepted≢turnedBack g e = let z : _≡_ {A = ℕ} 0 1 = cc in omega arith
+
+pub accepted≢unfinished : accepted ≡ unfinished → ⊥
+accepted≢unfinished e = let z : _≡_ {A = ℕ} 0 1 = cc in omega arith
+
+pub turnedBack≢unfinished : (g : ℕ) → turnedBack g ≡ unfinished → ⊥
+turnedBack≢unfinished g e = let z : _≡_ {A = ℕ} 0 1 = cc in omega arith
+
+-- ---- claims about runs
 
 -- turned back on ground g before it begins
 unfoldable pub unbegun : (ground : ℕ) → Run

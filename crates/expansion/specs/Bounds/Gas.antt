@@ -8,8 +8,8 @@ use Rattle.recipe.specs.Tree.{Tree, size, element}
 use Rattle.recipe.specs.TreeLaws.{element-size}
 use Rattle.recipe.specs.Table.{treeOf}
 use Rattle.expansion.specs.Computation.{start}
-use Rattle.expansion.specs.Run.{accepted, turnedBack, unfinished, ended, operationNumbers, expandRecipe, run}
-use Rattle.expansion.specs.RunLaws.{unbegun, run-holds}
+use Rattle.expansion.specs.Run.{unfinished, ended, operationNumbers, expandRecipe, run}
+use Rattle.expansion.specs.RunLaws.{accepted≢unfinished, turnedBack≢unfinished, unbegun, run-holds}
 use Rattle.expansion.specs.Bounds.Budget.{SpendsTerm, expand-spends}
 
 -- a recipe's expansion is not out of gas, and spends no more than it may
@@ -18,17 +18,11 @@ unfolding expandRecipe start
 expandRecipe-spends fuel t =
     expand-spends macrosMost (operationNumbers t) fuel (size t + fuel) (element 1 t) start (record { paid = omega arith; bounded = omega arith }) (omega (arith, element-size 1 t))
 
-turnedBack-finished : (g : ℕ) → turnedBack g ≡ unfinished → ⊥
-turnedBack-finished g e = let z : _≡_ {A = ℕ} 0 1 = cc in omega arith
-
-accepted-finished : accepted ≡ unfinished → ⊥
-accepted-finished e = let z : _≡_ {A = ℕ} 0 1 = cc in omega arith
-
 pub run-finished : (items : List ℕ) (fuel work core : ℕ) → run items fuel work core .outcome ≡ unfinished → ⊥
 unfolding unbegun ended
 run-finished items fuel work core =
     run-holds (λ r. r .outcome ≡ unfinished → ⊥) items fuel work core (λ b. expandRecipe-spends fuel (treeOf items))
-    (λ g _. turnedBack-finished g)
-    (λ b t s l q. accepted-finished)
-    (λ b g s l r. turnedBack-finished g)
+    (λ g _. turnedBack≢unfinished g)
+    (λ b t s l q. accepted≢unfinished)
+    (λ b g s l r. turnedBack≢unfinished g)
     (λ b l x. absurd x)

@@ -2,6 +2,7 @@
 -- as that term, and pass.
 use mathlib.Core.Path.{_≡_, refl, ap, subst, _∙_}
 use mathlib.Core.Bool.{Bool, true, _&&_}
+use mathlib.Core.Option.{some}
 use Prim.Native.Nat.{ℕ, _+_, _≤_, _<_}
 use native.Mathlib.Omega.{arith}
 use lib.Dec.{eqb, leb}
@@ -16,11 +17,10 @@ use Rattle.core_term.specs.Node.{isNode, variableN, operationN, constantN, name
 use Rattle.core_term.specs.Term.{Term, variables, forget}
 use Rattle.core_term.specs.Every.{Asked, everyDatum, everyData, every, proper, wellFormed}
 use Rattle.core_term.specs.Check.{Scope, inside, variableInside, firstNumber, known, small, outside, asked, scoped, numbered, allKnown, passes, passing, termOf}
-use Rattle.expansion.specs.CoreTerm.Worlds.{World, FineTree}
-use mathlib.Core.Option.{some}
 use Rattle.core_term.specs.Words.{encode}
 use Rattle.core_term.specs.EveryLaws.{every-from}
 use Rattle.core_term.specs.DecodeLaws.{decode-encode}
+use Rattle.expansion.specs.CoreTerm.Worlds.{World, FineTree}
 use Rattle.expansion.specs.CoreTerm.Forget.{every-forget}
 
 -- ---- what is asked of every node: that it is one, and all of ground 19

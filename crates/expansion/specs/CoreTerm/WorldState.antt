@@ -1,8 +1,8 @@
 -- A world that is closed in a state: each of its macros has rules of the world. It stays closed as macros are added,
 -- and forms widen it: a lambda by variables, let-syntax and letrec-syntax by macros.
 use mathlib.Core.Path.{_≡_, ap, sym, _∙_, subst}
-use mathlib.Core.Bool.{Bool, true, _&&_, _||_, false, cond}
 use mathlib.Core.Logic.{_⊎_, inl, inr}
+use mathlib.Core.Bool.{Bool, true, _&&_, _||_, false, cond}
 use mathlib.Core.List.{List, [], _++_, append-nil, append-assoc, map}
 use Prim.Native.Nat.{ℕ, _+_, _-_, _≤_, _<_}
 use native.Mathlib.Omega.{arith}
@@ -13,14 +13,14 @@ use borrow.Author.Tests.{leb-true, ltb-true, le-leb, lt-ltb}
 use Rattle.words.specs.TestLaws.{and-parts, and-both, or-left, or-right, or-cases}
 use Rattle.words.specs.Each.{Each, noneOf, each-weaken, each-getD, each-map}
 use Rattle.recipe.specs.Name.{variable, macro, Name}
+use Rattle.recipe.specs.Tree.{Tree, bindAll}
+use Rattle.recipe.specs.Tidy.{tidy-weaken, tidy-bindAll}
 use Rattle.core_term.specs.Term.{variables}
+use Rattle.core_term.specs.Check.{inside}
 use Rattle.expansion.specs.Rules.{Rule}
 use Rattle.expansion.specs.Computation.{State}
 use Rattle.expansion.specs.CoreTerm.Worlds.{FineRules, fine-within, World, Within, reachesVariable, reachesMacro, FineTree, fine-give}
 use Rattle.expansion.specs.TidyRules.{template-weaken}
-use Rattle.recipe.specs.Tree.{Tree, bindAll}
-use Rattle.recipe.specs.Tidy.{tidy-weaken, tidy-bindAll}
-use Rattle.core_term.specs.Check.{inside}
 
 -- ---- states
 

@@ -1,11 +1,10 @@
 -- The grounds of a run: 7 to 10 before it begins, with no counts and no words, and 11 to 18 in its expansion.
-use mathlib.Core.Path.{_≡_, refl, subst}
+use mathlib.Core.Path.{_≡_, refl, sym, subst}
 use mathlib.Core.List.{List}
 use Prim.Native.Nat.{ℕ, _≤_}
-use native.Mathlib.Omega.{arith}
 use Rattle.expansion.specs.Computation.{start}
 use Rattle.expansion.specs.Run.{turnedBack, Run, ended, expandRecipe, run}
-use Rattle.expansion.specs.RunLaws.{unbegun, run-holds}
+use Rattle.expansion.specs.RunLaws.{accepted≢turnedBack, turnedBack≢unfinished, unbegun, run-holds}
 use Rattle.expansion.specs.Ways.{expand-keeps}
 
 -- turned back on g, before it begins or later
@@ -21,6 +20,6 @@ unfolding unbegun ended expandRecipe
 run-ground items fuel work core h =
     run-holds (λ r. r .outcome ≡ turnedBack h → TurnedBack h r) items fuel work core (λ b. expand-keeps _ _ fuel _ _ start)
     (λ g l e. subst (λ z. TurnedBack z (unbegun g)) (same-ground g h e) (atOnce l refl))
-    (λ b t s l q e. let z : _≡_ {A = ℕ} 0 1 = cc in absurd (omega arith))
+    (λ b t s l q e. absurd (accepted≢turnedBack h e))
     (λ b g s l q e. later (subst (λ z. (11 ≤ z) × (z ≤ 18)) (same-ground g h e) (q .ground)))
-    (λ b l x e. let z : _≡_ {A = ℕ} 0 1 = cc in absurd (omega arith))
+    (λ b l x e. absurd (turnedBack≢unfinished h (sym e)))
