@@ -3,6 +3,7 @@ use mathlib.Core.Path.{_≡_, refl}
 use mathlib.Core.Bool.{Bool, true, false}
 use mathlib.Core.List.{List, []}
 use Prim.Native.Nat.{ℕ, _+_, _*_, _≤_}
+use native.Mathlib.Omega.{arith}
 use lib.Dec.{leb}
 use borrow.Author.Tests.{leb-true}
 use Rattle.words.specs.Limits.{fuelMost, workRate, coreRate}
@@ -11,8 +12,21 @@ use Rattle.recipe.specs.Name.{Name}
 use Rattle.recipe.specs.Table.{itemCount, isLayout, treeOf}
 use Rattle.core_term.specs.Term.{Term}
 use Rattle.expansion.specs.Computation.{State, Events, Out, done, refused, starved}
-use Rattle.expansion.specs.Run.{turnedBack, Run, ended, require, areOperations, expandRecipe, run}
+use Rattle.expansion.specs.Run.{accepted, turnedBack, unfinished, Run, ended, require, areOperations, expandRecipe, run}
 use Rattle.expansion.specs.Outcomes.{Holds, isDone, isRefused, isStarved}
+
+-- ---- outcomes are told apart
+
+pub accepted≢turnedBack : (g : ℕ) → accepted ≡ turnedBack g → ⊥
+accepted≢turnedBack g e = let z : _≡_ {A = ℕ} 0 1 = cc in omega arith
+
+pub accepted≢unfinished : accepted ≡ unfinished → ⊥
+accepted≢unfinished e = let z : _≡_ {A = ℕ} 0 1 = cc in omega arith
+
+pub turnedBack≢unfinished : (g : ℕ) → turnedBack g ≡ unfinished → ⊥
+turnedBack≢unfinished g e = let z : _≡_ {A = ℕ} 0 1 = cc in omega arith
+
+-- ---- claims about runs
 
 -- turned back on ground g before it begins
 unfoldable pub unbegun : (ground : ℕ) → Run
@@ -32,14 +46,14 @@ module _ (P : Run → Type 0) where
   require-holds g true r p k = k refl
   require-holds g false r p k = p
 
-  begun-holds : (items : List ℕ) (fuel work core : ℕ) → ((g : ℕ) → P (unbegun g)) → (Begun items fuel work core → P (ended (expandRecipe fuel (treeOf items)))) → P (run items fuel work core)
+  begun-holds : (items : List ℕ) (fuel work core : ℕ) → ((g : ℕ) → (7 ≤ g) × (g ≤ 10) → P (unbegun g)) → (Begun items fuel work core → P (ended (expandRecipe fuel (treeOf items)))) → P (run items fuel work core)
   unfolding run
   begun-holds items fuel work core p k =
       let need = itemCount items + fuel in
-      require-holds 7 _ _ (p 7) λ a.
-      require-holds 8 _ _ (p 8) λ b.
-      require-holds 9 _ _ (p 9) λ c.
-      require-holds 10 _ _ (p 10) λ d.
+      require-holds 7 _ _ (p 7 (omega arith)) λ a.
+      require-holds 8 _ _ (p 8 (omega arith)) λ b.
+      require-holds 9 _ _ (p 9 (omega arith)) λ c.
+      require-holds 10 _ _ (p 10 (omega arith)) λ d.
       let rooms = and-parts (leb (workRate * need) work) (leb (coreRate * need) core) c in
       k (record { layout = a; fuelled = leb-true _ _ b; work-room = leb-true _ _ (rooms .0); core-room = leb-true _ _ (rooms .1); operations = d })
 
@@ -51,7 +65,7 @@ module _ (P : Run → Type 0) where
     ended-holds (starved l) (isStarved e) x y z = z l e
 
     pub run-holds : (items : List ℕ) (fuel work core : ℕ) → (Begun items fuel work core → Holds S R Q (expandRecipe fuel (treeOf items)))
-        → ((g : ℕ) → P (unbegun g))
+        → ((g : ℕ) → (7 ≤ g) × (g ≤ 10) → P (unbegun g))
         → (Begun items fuel work core → (t : Term Name) (s : State) (l : Events) → Q t s l → P (ended (done t s l)))
         → (Begun items fuel work core → (g : ℕ) (s : State) (l : Events) → R g s l → P (ended (refused g s l)))
         → (Begun items fuel work core → (l : Events) → S → P (ended (starved l)))

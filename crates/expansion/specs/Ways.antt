@@ -1,93 +1,26 @@
--- The bindings of a run: variables and macros are numbered from 0 in the order in which their forms are reached, each number once,
--- and the counts of a state only grow.
-use mathlib.Core.Path.{_≡_, refl, ap, ap₂, sym, _∙_, subst}
+-- What every computation keeps to, on its way from one state to another: counts only grow, the variables and macros that its events bind
+-- are numbered in order from the state's counts on, and it is refused on grounds 11 to 18 alone.
+pub mod Bindings
+pub mod OwnNames
+pub mod Grounds
+use mathlib.Core.Path.{_≡_, refl, ap, ap₂, _∙_, subst}
 use mathlib.Core.Bool.{Bool, true, false, cond}
-use mathlib.Core.List.{List, [], _∷_, _++_, append-nil, append-assoc}
+use mathlib.Core.List.{List, [], _++_, append-nil, append-assoc}
 use mathlib.Core.Option.{Option}
 use Prim.Native.Nat.{ℕ, zero, suc, _+_, _≤_}
 use native.Mathlib.Omega.{arith}
-use lib.ListN.{length, getD, length-append, length-map}
+use lib.ListN.{length, getD}
 use Rattle.words.specs.Each.{Each, noneOf, also, each-all, each-mapped, given-any}
-use Rattle.recipe.specs.Name.{Binding, variable, macro, Name}
+use Rattle.recipe.specs.Name.{variable, macro, Name}
 use Rattle.recipe.specs.Tree.{Tree, empty, constant, name, pair, names, element, tail, mark, bindAll}
 use Rattle.core_term.specs.Term.{Term}
 use Rattle.expansion.specs.Lookup.{quote, if, lambda, let-syntax, letrec-syntax, auxiliary, Found, bound, form, operation, nothing, lookup}
 use Rattle.expansion.specs.Match.{firstFit}
-use Rattle.expansion.specs.Computation.{State, looked, quoted, reached, binds, Events, Out, M, _>>=_, _>>_, give, refuse, show, test, orRefuse, get}
+use Rattle.expansion.specs.Computation.{State, looked, quoted, Events, Out, M, _>>=_, _>>_, give, refuse, show, test, orRefuse, get}
 use Rattle.expansion.specs.Forms.{formals, keywords, rulesForms, bindings, expandAll, expandQuote, expandIf, expandLambda, expandMacros, expandUse, expandOperands, expandList, expandName, expandApplication, expandPair, expandTree, expand}
 use Rattle.expansion.specs.Outcomes.{Holds, isStarved, give-holds, refuse-holds, test-holds, show-holds, get-holds, addVariables-holds, addMacros-holds, addStep-holds, then-holds, orRefuse-holds, weaken}
-use Rattle.expansion.specs.FormLaws.{Unbinding, looking, quoting, reaching, readRules-holds, keywords-count}
-
--- ---- the numbers bound
-
--- of a binding: its number where it is a variable's, or a macro's
-unfoldable pub variableNumber : Binding → List ℕ
-variableNumber (variable n) = n ∷ []
-variableNumber (macro n) = []
-
-unfoldable pub macroNumber : Binding → List ℕ
-macroNumber (variable n) = []
-macroNumber (macro n) = n ∷ []
-
--- of events: what `number` tells of each binding made, in order
-unfoldable pub boundBy : (number : Binding → List ℕ) → Events → List ℕ
-boundBy number [] = []
-boundBy number (looked x ∷ l) = boundBy number l
-boundBy number (quoted x ∷ l) = boundBy number l
-boundBy number (reached x ∷ l) = boundBy number l
-boundBy number (binds b x ∷ l) = number b ++ boundBy number l
-
--- k, k + 1, .., n of them
-unfoldable pub upFrom : ℕ → ℕ → List ℕ
-upFrom k zero = []
-upFrom k (suc n) = k ∷ upFrom (suc k) n
-
-boundBy-append : (number : Binding → List ℕ) (l k : Events) → boundBy number (l ++ k) ≡ boundBy number l ++ boundBy number k
-unfolding boundBy
-boundBy-append number [] k = refl
-boundBy-append number (looked x ∷ l) k = boundBy-append number l k
-boundBy-append number (quoted x ∷ l) k = boundBy-append number l k
-boundBy-append number (reached x ∷ l) k = boundBy-append number l k
-boundBy-append number (binds b x ∷ l) k = ap (λ (r : List ℕ). number b ++ r) (boundBy-append number l k) ∙ sym (append-assoc (number b) (boundBy number l) (boundBy number k))
-
-upFrom-append : (k m n : ℕ) → upFrom k m ++ upFrom (k + m) n ≡ upFrom k (m + n)
-unfolding upFrom
-upFrom-append k zero n =
-    let p : k + 0 ≡ k = omega arith in
-    let q : n ≡ 0 + n = omega arith in
-    ap₂ upFrom p q
-upFrom-append k (suc m) n =
-    let p : k + suc m ≡ suc k + m = omega arith in
-    let q : suc (m + n) ≡ suc m + n = omega arith in
-    ap (λ j. k ∷ (upFrom (suc k) m ++ upFrom j n)) p ∙ ap (λ (r : List ℕ). k ∷ r) (upFrom-append (suc k) m n) ∙ ap (upFrom k) q
-
-unbinding-binds : (number : Binding → List ℕ) {l : Events} → Each Unbinding l → boundBy number l ≡ []
-unfolding boundBy
-unbinding-binds number noneOf = refl
-unbinding-binds number (also looking h) = unbinding-binds number h
-unbinding-binds number (also quoting h) = unbinding-binds number h
-unbinding-binds number (also reaching h) = unbinding-binds number h
-
--- a form's own bindings
-variables-bind : (k : ℕ) (xs : List Name) → boundBy variableNumber (bindings variable k xs) ≡ upFrom k (length xs)
-unfolding boundBy bindings upFrom variableNumber
-variables-bind k [] = refl
-variables-bind k (x ∷ xs) = ap (λ (r : List ℕ). k ∷ r) (variables-bind (suc k) xs)
-
-macros-bind : (k : ℕ) (xs : List Name) → boundBy macroNumber (bindings macro k xs) ≡ upFrom k (length xs)
-unfolding boundBy bindings upFrom macroNumber
-macros-bind k [] = refl
-macros-bind k (x ∷ xs) = ap (λ (r : List ℕ). k ∷ r) (macros-bind (suc k) xs)
-
-no-macros-bind : (k : ℕ) (xs : List Name) → boundBy macroNumber (bindings variable k xs) ≡ []
-unfolding boundBy bindings macroNumber
-no-macros-bind k [] = refl
-no-macros-bind k (x ∷ xs) = no-macros-bind (suc k) xs
-
-no-variables-bind : (k : ℕ) (xs : List Name) → boundBy variableNumber (bindings macro k xs) ≡ []
-unfolding boundBy bindings variableNumber
-no-variables-bind k [] = refl
-no-variables-bind k (x ∷ xs) = no-variables-bind (suc k) xs
+use Rattle.expansion.specs.FormLaws.{Unbinding, looking, quoting, reaching, rules-added, readRules-holds, keywords-count}
+use Rattle.expansion.specs.Ways.Bindings.{variableNumber, macroNumber, boundBy, upFrom, boundBy-append, upFrom-append, unbinding-binds, variables-bind, macros-bind, no-macros-bind, no-variables-bind}
 
 -- ---- on the way from one state to another
 
@@ -103,9 +36,11 @@ pub record Way (s u : State) (late : ℕ) (l : Events) : Type 0 where
   pub macros : length (u .macros) + late ≡ length (s .macros) + m
   pub macros-grown : length (s .macros) ≤ length (u .macros)
 
--- to a refusal
-abbrev pub Broken : State → State → Events → Type 0
-Broken s u l = (late : ℕ) × Way s u late l
+-- to a refusal, on a ground from 11 to 18
+pub record Broken (s : State) (g : ℕ) (u : State) (l : Events) : Type 0 where
+  pub ground : (11 ≤ g) × (g ≤ 18)
+  pub late : ℕ
+  pub way : Way s u late l
 
 way-then : {s t u : State} {late : ℕ} {l k : Events} → Way s t 0 l → Way t u late k → Way s u late (l ++ k)
 way-then {s} {t} {l = l} {k = k} p q =
@@ -122,33 +57,39 @@ way-then {s} {t} {l = l} {k = k} p q =
       macros-grown = omega (arith, p .macros-grown, q .macros-grown);
     }
 
+broken-after : {s t u : State} {g : ℕ} {l k : Events} → Way s t 0 l → Broken t g u k → Broken s g u (l ++ k)
+broken-after p q = record { ground = q .ground; late = q .late; way = way-then p (q .way) }
+
 -- no binding is made, and counts stay
 way-none : (s : State) {l : Events} → Each Unbinding l → Way s s 0 l
 unfolding upFrom
 way-none s h = record { v = 0; m = 0; variables-bound = unbinding-binds variableNumber h; macros-bound = unbinding-binds macroNumber h; steps = omega arith; sum = omega arith; variables = omega arith; macros = omega arith; macros-grown = omega arith }
 
+broken-here : (s : State) (g : ℕ) → (11 ≤ g) × (g ≤ 18) → Broken s g s []
+broken-here s g r = record { ground = r; late = 0; way = way-none s noneOf }
+
 -- ---- a computation that keeps to the way, from every state
 
 abbrev pub Keeps : {A : Type 0} → M A → Type 0
-Keeps n = (s : State) → Holds (Unit {0}) (λ g u l. Broken s u l) (λ a u l. Way s u 0 l) (n s)
+Keeps n = (s : State) → Holds (Unit {0}) (Broken s) (λ a u l. Way s u 0 l) (n s)
 
 -- after l, on the way from s to t
 module _ {A : Type 0} {s t : State} {l : Events} (w : Way s t 0 l) where
-  holds-after : (o : Out A) → Holds (Unit {0}) (λ g u k. Broken t u k) (λ a u k. Way t u 0 k) o → Holds (Unit {0}) (λ g u k. Broken s u (l ++ k)) (λ a u k. Way s u 0 (l ++ k)) o
-  holds-after o h = weaken h (λ x. x) (λ g u k q. (q .0, way-then w (q .1))) (λ a u k q. way-then w q)
+  holds-after : (o : Out A) → Holds (Unit {0}) (Broken t) (λ a u k. Way t u 0 k) o → Holds (Unit {0}) (λ g u k. Broken s g u (l ++ k)) (λ a u k. Way s u 0 (l ++ k)) o
+  holds-after o h = weaken h (λ x. x) (λ g u k q. broken-after w q) (λ a u k q. way-then w q)
 
 module _ {A : Type 0} where
   keeps-give : (a : A) → Keeps (give a)
   keeps-give a s = give-holds a s (way-none s noneOf)
 
-  keeps-refuse : (g : ℕ) → Keeps (refuse {A = A} g)
-  keeps-refuse g s = refuse-holds g s (0, way-none s noneOf)
+  keeps-refuse : (g : ℕ) → (11 ≤ g) × (g ≤ 18) → Keeps (refuse {A = A} g)
+  keeps-refuse g r s = refuse-holds g s (broken-here s g r)
 
   keeps-get : (f : State → M A) → ((z : State) → Keeps (f z)) → Keeps (_>>=_ get f)
   keeps-get f k s = get-holds f s (k s s)
 
-  keeps-test : (g : ℕ) (b : Bool) (n : M A) → (b ≡ true → Keeps n) → Keeps (_>>_ (test g b) n)
-  keeps-test g b n k s = test-holds g b n s (0, way-none s noneOf) λ e. k e s
+  keeps-test : (g : ℕ) (b : Bool) (n : M A) → (11 ≤ g) × (g ≤ 18) → (b ≡ true → Keeps n) → Keeps (_>>_ (test g b) n)
+  keeps-test g b n r k s = test-holds g b n s (broken-here s g r) λ e. k e s
 
   keeps-show : (l : Events) (n : M A) → Each Unbinding l → Keeps n → Keeps (_>>_ (show l) n)
   keeps-show l n h k s = show-holds l n s (holds-after (way-none s h) (n s) (k s))
@@ -157,8 +98,8 @@ module _ {A B : Type 0} where
   keeps-then : (n : M A) (f : A → M B) → Keeps n → ((a : A) → Keeps (f a)) → Keeps (_>>=_ n f)
   keeps-then n f h k s = then-holds _ n f s (h s) λ a t l w. holds-after w (f a t) (k a t)
 
-  keeps-orRefuse : (g : ℕ) (o : Option A) (f : A → M B) → ((a : A) → Keeps (f a)) → Keeps (_>>=_ (orRefuse g o) f)
-  keeps-orRefuse g o f k s = orRefuse-holds g o f s (0, way-none s noneOf) λ a e. k a s
+  keeps-orRefuse : (g : ℕ) (o : Option A) (f : A → M B) → (11 ≤ g) × (g ≤ 18) → ((a : A) → Keeps (f a)) → Keeps (_>>=_ (orRefuse g o) f)
+  keeps-orRefuse g o f r k s = orRefuse-holds g o f s (broken-here s g r) λ a e. k a s
 
 -- ---- forms
 
@@ -232,17 +173,17 @@ module _ (limit : ℕ) (operations : List ℕ) (fuel : ℕ) (rec : Tree → M (T
 
   quote-keeps : (t : Tree) → Keeps (expandQuote limit operations fuel rec t)
   unfolding expandQuote
-  quote-keeps t = keeps-test _ _ _ λ _. keeps-show _ _ (each-mapped quoted (λ x. quoting) (names (element 1 t))) (keeps-give _)
+  quote-keeps t = keeps-test 13 _ _ (omega arith) λ _. keeps-show _ _ (each-mapped quoted (λ x. quoting) (names (element 1 t))) (keeps-give _)
 
   if-keeps : (t : Tree) → Keeps (expandIf limit operations fuel rec t)
   unfolding expandIf
-  if-keeps t = keeps-test _ _ _ λ _. keeps-then _ _ (good _) λ a. keeps-then _ _ (good _) λ b. keeps-then _ _ (good _) λ c. keeps-give _
+  if-keeps t = keeps-test 13 _ _ (omega arith) λ _. keeps-then _ _ (good _) λ a. keeps-then _ _ (good _) λ b. keeps-then _ _ (good _) λ c. keeps-give _
 
   lambda-keeps : (t : Tree) → Keeps (expandLambda limit operations fuel rec t)
   unfolding expandLambda
   lambda-keeps t =
-      keeps-test _ _ _ λ _.
-      keeps-test _ _ _ λ _ s.
+      keeps-test 13 _ _ (omega arith) λ _.
+      keeps-test 14 _ _ (omega arith) λ _ s.
       get-holds _ s
       (show-holds _ _ s
       (addVariables-holds _ _ s
@@ -252,26 +193,26 @@ module _ (limit : ℕ) (operations : List ℕ) (fuel : ℕ) (rec : Tree → M (T
   unfolding expandMacros
   macros-keeps inside x t =
       keeps-show _ _ (also reaching noneOf)
-      (keeps-test _ _ _ λ shape.
-      keeps-test _ _ _ λ _ s.
+      (keeps-test 13 _ _ (omega arith) λ shape.
+      keeps-test 14 _ _ (omega arith) λ _ s.
       get-holds _ s
       (show-holds _ _ s
-      (then-holds _ _ _ s (readRules-holds (λ r. Unit {0}) (each-all _ (λ r. given-any _)) s (λ g l h. (length (keywords t), macros-way s s (keywords t) _ h refl refl refl refl (omega arith)))) λ rules u l read.
+      (then-holds _ _ _ s (readRules-holds (λ r. Unit {0}) (each-all _ (λ r. given-any _)) s (λ l h. record { ground = omega arith; late = length (keywords t); way = macros-way s s (keywords t) _ h refl refl refl refl (omega arith) })) λ rules u l read.
       addMacros-holds _ _ u
       (let ev = bindings macro (length (s .macros)) (keywords t) in
-      let count : length (u .macros ++ rules) ≡ length (s .macros) + length (keywords t) =
-      length-append (u .macros) rules ∙ omega (arith, ap (λ (z : State). length (z .macros)) (read .unchanged), read .count, keywords-count limit t shape, length-map (rulesForms t) (cond inside (bindAll macro (length (s .macros)) (keywords t)) (λ r. r))) in
-      let w : Way s _ 0 (ev ++ l) = macros-way s _ (keywords t) 0 (read .shown) (ap (λ (z : State). z .steps) (read .unchanged)) (ap (λ (z : State). z .sum) (read .unchanged)) (ap (λ (z : State). z .variables) (read .unchanged)) (omega (arith, count)) (omega (arith, count)) in
-      weaken (good _ _) (λ x. x) (λ g v k q. (q .0, subst (Way s v (q .0)) (append-assoc ev l k) (way-then w (q .1)))) (λ a v k q. subst (Way s v 0) (append-assoc ev l k) (way-then w q))))))
+      let same = rules-added (cond inside (bindAll macro (length (s .macros)) (keywords t)) (λ r. r)) (rulesForms t) read in
+      let count = keywords-count limit t shape in
+      let w : Way s _ 0 (ev ++ l) = macros-way s _ (keywords t) 0 (read .shown) (same .steps) (same .sum) (same .variables) (omega (arith, same, count)) (omega (arith, same)) in
+      weaken (good _ _) (λ x. x) (λ g v k q. subst (Broken s g v) (append-assoc ev l k) (broken-after w q)) (λ a v k q. subst (Way s v 0) (append-assoc ev l k) (way-then w q))))))
 
   use-keeps : (n : ℕ) (t : Tree) → Keeps (expandUse limit operations fuel rec n t)
   unfolding expandUse
   use-keeps n t =
       keeps-get _ λ z.
       keeps-show _ _ (each-mapped looked (λ x. looking) (firstFit (getD (z .macros) n []) (tail (mark (suc (z .steps)) t)) .0))
-      (keeps-orRefuse _ _ _ λ r.
-      keeps-test _ _ _ λ _.
-      keeps-test _ _ _ λ _ s.
+      (keeps-orRefuse 16 _ _ (omega arith) λ r.
+      keeps-test 17 _ _ (omega arith) λ _.
+      keeps-test 18 _ _ (omega arith) λ _ s.
       addStep-holds _ _ s
       (holds-after (step-way s _ _ refl refl refl refl) _ (good _ _)))
 
@@ -284,17 +225,17 @@ module _ (limit : ℕ) (operations : List ℕ) (fuel : ℕ) (rec : Tree → M (T
   list-keeps (form lambda) x t = lambda-keeps t
   list-keeps (form let-syntax) x t = macros-keeps false x t
   list-keeps (form letrec-syntax) x t = macros-keeps true x t
-  list-keeps (form auxiliary) x t = keeps-refuse 12
+  list-keeps (form auxiliary) x t = keeps-refuse 12 (omega arith)
   list-keeps (operation p) x t = operands-keeps _ _
-  list-keeps nothing x t = keeps-refuse 11
+  list-keeps nothing x t = keeps-refuse 11 (omega arith)
 
   name-keeps : (f : Found) → Keeps (expandName limit operations fuel rec f)
   unfolding expandName
   name-keeps (bound (variable n)) = keeps-give _
-  name-keeps (bound (macro n)) = keeps-refuse 12
-  name-keeps (form f) = keeps-refuse 12
+  name-keeps (bound (macro n)) = keeps-refuse 12 (omega arith)
+  name-keeps (form f) = keeps-refuse 12 (omega arith)
   name-keeps (operation p) = keeps-give _
-  name-keeps nothing = keeps-refuse 11
+  name-keeps nothing = keeps-refuse 11 (omega arith)
 
   pair-keeps : (h t : Tree) → Keeps (expandPair limit operations fuel rec h t)
   unfolding expandPair
@@ -305,7 +246,7 @@ module _ (limit : ℕ) (operations : List ℕ) (fuel : ℕ) (rec : Tree → M (T
 
   tree-keeps : (t : Tree) → Keeps (expandTree limit operations fuel rec t)
   unfolding expandTree
-  tree-keeps empty = keeps-refuse 13
+  tree-keeps empty = keeps-refuse 13 (omega arith)
   tree-keeps (constant a) = keeps-give _
   tree-keeps (name x) = keeps-show _ _ (also looking noneOf) (name-keeps (lookup operations x))
   tree-keeps (pair h t) = pair-keeps h t

@@ -10,8 +10,9 @@ use Rattle.expansion.specs.Computation.{start, looked, quoted, reached, 
 use Rattle.expansion.specs.Run.{run, ended, expandRecipe}
 use Rattle.expansion.specs.RunLaws.{unbegun, run-holds}
 use Rattle.expansion.specs.Outcomes.{both-hold}
-use Rattle.expansion.specs.Gas.{expandRecipe-spends}
-use Rattle.expansion.specs.Bindings.{variableNumber, macroNumber, boundBy, upFrom, expand-keeps}
+use Rattle.expansion.specs.Bounds.Gas.{expandRecipe-spends}
+use Rattle.expansion.specs.Ways.Bindings.{variableNumber, macroNumber, boundBy, upFrom}
+use Rattle.expansion.specs.Ways.{expand-keeps}
 
 -- the bindings made, in order, each with its own name
 unfoldable pub bindingsMade : Events → List (Binding × Name)
@@ -118,9 +119,9 @@ unfolding unbegun ended expandRecipe start boundBy upFrom
 run-inOrder items fuel work core =
     run-holds (λ r. InOrder (r .events)) items fuel work core
     (λ b. both-hold (expandRecipe-spends fuel (treeOf items)) (expand-keeps _ _ fuel _ _ start))
-    (λ g. record { v = 0; m = 0; variables = refl; macros = refl })
+    (λ g _. record { v = 0; m = 0; variables = refl; macros = refl })
     (λ b t s l q. record { v = q .1 .v; m = q .1 .m; variables = q .1 .variables-bound; macros = q .1 .macros-bound })
-    (λ b g s l q. record { v = q .1 .1 .v; m = q .1 .1 .m; variables = q .1 .1 .variables-bound; macros = q .1 .1 .macros-bound })
+    (λ b g s l q. record { v = q .1 .way .v; m = q .1 .way .m; variables = q .1 .way .variables-bound; macros = q .1 .way .macros-bound })
     (λ b l x. absurd (x .0))
 
 -- a binding of the run has one own name

@@ -1,9 +1,9 @@
 -- A world that is closed in a state: each of its macros has rules of the world. It stays closed as macros are added,
 -- and forms widen it: a lambda by variables, let-syntax and letrec-syntax by macros.
 use mathlib.Core.Path.{_≡_, ap, sym, _∙_, subst}
-use mathlib.Core.Bool.{Bool, true, _&&_, _||_}
 use mathlib.Core.Logic.{_⊎_, inl, inr}
-use mathlib.Core.List.{List, [], _++_, append-nil, append-assoc}
+use mathlib.Core.Bool.{Bool, true, _&&_, _||_, false, cond}
+use mathlib.Core.List.{List, [], _++_, append-nil, append-assoc, map}
 use Prim.Native.Nat.{ℕ, _+_, _-_, _≤_, _<_}
 use native.Mathlib.Omega.{arith}
 use lib.Dec.{ltb, leb}
@@ -11,12 +11,15 @@ use lib.ListN.{length, getD, length-append, List·getD-append}
 use lib.Seq.{getD-append-add}
 use borrow.Author.Tests.{leb-true, ltb-true, le-leb, lt-ltb}
 use Rattle.words.specs.TestLaws.{and-parts, and-both, or-left, or-right, or-cases}
-use Rattle.words.specs.Each.{Each, noneOf, each-weaken, each-getD}
-use Rattle.recipe.specs.Name.{variable, macro}
+use Rattle.words.specs.Each.{Each, noneOf, each-weaken, each-getD, each-map}
+use Rattle.recipe.specs.Name.{variable, macro, Name}
+use Rattle.recipe.specs.Tree.{Tree, bindAll}
+use Rattle.recipe.specs.Tidy.{tidy-weaken, tidy-bindAll}
 use Rattle.core_term.specs.Term.{variables}
+use Rattle.core_term.specs.Check.{inside}
 use Rattle.expansion.specs.Rules.{Rule}
 use Rattle.expansion.specs.Computation.{State}
-use Rattle.expansion.specs.World.{FineRules, fine-within, World, Within}
+use Rattle.expansion.specs.CoreTerm.Worlds.{FineRules, fine-within, World, Within, reachesVariable, reachesMacro, FineTree, fine-give}
 use Rattle.expansion.specs.TidyRules.{template-weaken}
 
 -- ---- states
@@ -81,6 +84,24 @@ variables-within k n W = record { variable = widen-old k n (W .variables); macro
 pub macros-within : (k n : ℕ) (W : World) → Within W (withMacros k n W)
 unfolding withMacros
 macros-within k n W = record { variable = λ j e. e; macro = widen-old k n (W .macros) }
+
+-- a tree in the scope of new variables, and of new macros
+pub variables-fine : (k : ℕ) (xs : List Name) {W : World} {t : Tree} → FineTree W t → FineTree (withVariables k (length xs) W) (bindAll variable k xs t)
+unfolding withVariables
+variables-fine k xs {W} f =
+    tidy-bindAll variable k xs (λ j h l. fine-give (variable j) (reachesVariable (widen-new k (length xs) (W .variables) j h l)))
+    (tidy-weaken (fine-within (variables-within k (length xs) W)) f)
+
+pub macros-fine : (k : ℕ) (xs : List Name) {W : World} {t : Tree} → FineTree W t → FineTree (withMacros k (length xs) W) (bindAll macro k xs t)
+unfolding withMacros
+macros-fine k xs {W} f =
+    tidy-bindAll macro k xs (λ j h l. fine-give (macro j) (reachesMacro (widen-new k (length xs) (W .macros) j h l)))
+    (tidy-weaken (fine-within (macros-within k (length xs) W)) f)
+
+-- rules forms, in the scope of their macros or not
+pub forms-fine : (inside : Bool) (k : ℕ) (xs : List Name) {W : World} {rs : List Tree} → Each (FineTree W) rs → Each (FineTree (withMacros k (length xs) W)) (map (cond inside (bindAll macro k xs) (λ r. r)) rs)
+forms-fine true k xs fs = each-map _ (λ r. macros-fine k xs) fs
+forms-fine false k xs {W} fs = each-map _ (λ r. tidy-weaken (fine-within (macros-within k (length xs) W))) fs
 
 rules-within : {W W′ : World} {rules : List Rule} → Within W W′ → FineRules W rules → FineRules W′ rules
 rules-within i f = each-weaken (λ r g. template-weaken (fine-within i) g) f

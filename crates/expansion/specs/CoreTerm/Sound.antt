@@ -2,74 +2,31 @@
 -- inside, its lambdas' first numbers go on from the state's count, its operations and names are known, and the world stays closed.
 use mathlib.Core.Path.{_≡_, refl, ap, subst}
 use mathlib.Core.Bool.{Bool, true, false, _&&_, cond}
-use mathlib.Core.List.{List, [], _++_, map}
+use mathlib.Core.List.{List, [], _++_}
 use Prim.Native.Nat.{ℕ, zero, suc, _+_, _≤_, _<_}
 use native.Mathlib.Omega.{arith}
-use lib.Dec.{eqb, leb}
 use lib.ListN.{length, length-map}
-use borrow.Author.Tests.{leb-true, le-leb, lt-ltb, eq-eqb}
-use Rattle.words.specs.Limits.{namesMost, formalsMost}
+use borrow.Author.Tests.{leb-true}
+use Rattle.words.specs.Limits.{formalsMost}
 use Rattle.words.specs.Lists.{all}
 use Rattle.words.specs.TestLaws.{and-parts, and-both}
 use Rattle.words.specs.Each.{Each, each-weaken, each-map, given-at}
-use Rattle.datum.specs.Constant.{Constant, isConstant}
-use Rattle.recipe.specs.Name.{variable, macro, Name}
-use Rattle.recipe.specs.Tree.{Tree, strip, stripTail, isList, isListOf, isOrdinaryName, elements, element, tail, mark, bindAll}
-use Rattle.recipe.specs.Tidy.{tidyEmpty, tidyConstant, tidyName, tidyPair, tidy-elements, tidy-element, tidy-tail, tidy-weaken, tidy-mark, tidy-produce, tidy-bindAll, tidy-formals}
-use Rattle.core_term.specs.Node.{isNode, variableN, operationN, constantN, nameN, lambdaN}
+use Rattle.recipe.specs.Name.{macro, Name}
+use Rattle.recipe.specs.Tree.{Tree, isList, isListOf, isOrdinaryName, elements, element, tail, mark, bindAll}
+use Rattle.recipe.specs.Tidy.{tidyEmpty, tidyConstant, tidyName, tidyPair, tidy-elements, tidy-element, tidy-tail, tidy-mark, tidy-produce, tidy-formals}
+use Rattle.core_term.specs.Node.{isNode}
 use Rattle.core_term.specs.Term.{Term, variableC, operationC, ifC, applicationC, noneC, moreC, variables, variablesAll}
-use Rattle.core_term.specs.Every.{Asked, everyDatum, everyData, every, everyTerm}
-use Rattle.core_term.specs.Check.{Scope, inside, variableInside, firstNumber, known, small}
+use Rattle.core_term.specs.Every.{Asked, everyDatum, every, everyTerm}
+use Rattle.core_term.specs.Check.{Scope, inside, variableInside, firstNumber, known}
 use Rattle.expansion.specs.Lookup.{quote, if, lambda, let-syntax, letrec-syntax, auxiliary, Found}
 use Rattle.expansion.specs.Computation.{State, Out, M}
 use Rattle.expansion.specs.Forms.{isLambda, formals, keywords, rulesForms, expandAll, expandQuote, expandIf, expandLambda, expandMacros, expandUse, expandOperands, expandList, expandName, expandApplication, expandPair, expandTree, expand}
 use Rattle.expansion.specs.Outcomes.{Holds, isStarved, give-holds, refuse-holds, test-holds, show-holds, get-holds, addVariables-holds, addMacros-holds, addStep-holds, then-holds, orRefuse-holds, weaken}
 use Rattle.expansion.specs.FormLaws.{readRules-holds, keywords-count}
-use Rattle.expansion.specs.World.{World, reachesVariable, reachesMacro, FineTree, FineRules, fine-within, fine-mark, fine-produce, fine-give, Meant, meantVariable, meantMacro, meantForm, meantOperation, meantNothing, lookup-meant}
+use Rattle.expansion.specs.CoreTerm.Worlds.{World, FineTree, FineRules, fine-mark, fine-produce, Meant, meantVariable, meantMacro, meantForm, meantOperation, meantNothing, lookup-meant}
 use Rattle.expansion.specs.TidyRules.{rulesOf-tidy, firstFit-tidy, transcribe-tidy}
-use Rattle.expansion.specs.WorldState.{Closed, Grown, grown-same, grown-then, closed-grown, widen, widen-new, withVariables, withMacros, variables-within, macros-within, closed-variables, closed-macros}
-
--- ---- what is asked of every node: that it is one, and all of ground 19
-
-unfoldable pub sound : (operations : ℕ) → Asked Scope
-sound operations = record { test = λ e b x. isNode x && (variableInside e b x && (firstNumber e b x && known operations small e b x)); enter = inside }
-
-module _ (operations : ℕ) (e : Scope) (b : ℕ) where
-  variable-sound : (n : ℕ) → e n ≡ true → sound operations .test e b (variableN n) ≡ true
-  unfolding sound isNode variableInside firstNumber known
-  variable-sound n h = and-both (e n) true h refl
-
-  operation-sound : (p : ℕ) → p < operations → sound operations .test e b (operationN p) ≡ true
-  unfolding sound isNode variableInside firstNumber known
-  operation-sound p h = lt-ltb p operations h
-
-  constant-sound : (a : Constant) → isConstant a ≡ true → sound operations .test e b (constantN a) ≡ true
-  unfolding sound isNode variableInside firstNumber known
-  constant-sound a c = and-both (isConstant a) true c refl
-
-  name-sound : (n : ℕ) → n < namesMost → sound operations .test e b (nameN n) ≡ true
-  unfolding sound isNode variableInside firstNumber known small
-  name-sound n h = lt-ltb n namesMost h
-
-  lambda-sound : (n : ℕ) → n ≤ formalsMost → sound operations .test e b (lambdaN b n) ≡ true
-  unfolding sound isNode variableInside firstNumber known
-  lambda-sound n h = and-both (leb n formalsMost) _ (le-leb n formalsMost h) (and-both (eqb b b) true (eq-eqb b b refl) refl)
-
-  module _ {W : World} where
-    mutual
-      unfolding everyDatum sound isNode inside variableInside firstNumber known strip
-
-      strip-sound : {t : Tree} → FineTree W t → everyDatum (sound operations) e b (strip t) ≡ true
-      strip-sound tidyEmpty = refl
-      strip-sound (tidyConstant {a} c) = constant-sound a c
-      strip-sound (tidyName {x} f) = name-sound (x .number) (f .small)
-      strip-sound (tidyPair h t l) = and-both _ _ (strip-sound h) (tail-sound t)
-
-      tail-sound : {t : Tree} → FineTree W t → everyData (sound operations) e b (stripTail t) ≡ true
-      tail-sound tidyEmpty = refl
-      tail-sound (tidyConstant c) = refl
-      tail-sound (tidyName f) = refl
-      tail-sound (tidyPair h t l) = and-both _ _ (strip-sound h) (tail-sound t)
+use Rattle.expansion.specs.CoreTerm.SoundTerms.{sound, variable-sound, operation-sound, constant-sound, lambda-sound, strip-sound}
+use Rattle.expansion.specs.CoreTerm.WorldState.{variables-fine, macros-fine, forms-fine, Closed, Grown, grown-same, grown-then, closed-grown, widen, withVariables, withMacros, closed-variables, closed-macros}
 
 -- a lambda binds as many names as it has formals, at most 8
 formals-most : {W : World} {t : Tree} → FineTree W t → isLambda t ≡ true → length (formals t) ≤ formalsMost
@@ -171,31 +128,17 @@ module _ (limit : ℕ) (operations : List ℕ) (fuel : ℕ) where
     lambda-made {t} f s c =
         let k = s .variables in
         let n = length (formals t) in
-        let W′ = withVariables k n W in
-        let body = tidy-bindAll variable k (formals t) (λ j h l. fine-give (variable j) (reachesVariable (widen-new k n (W .variables) j h l))) (tidy-weaken (fine-within (variables-within k n W)) (tidy-element 2 f)) in
         test-holds _ _ _ s tt λ shape.
         test-holds _ _ _ s tt λ _.
         get-holds _ s
         (show-holds _ _ s
         (addVariables-holds _ _ s
-        (then-holds _ _ _ _ (good W′ _ body _ (closed-grown (closed-variables k n c) (grown-same refl))) λ w u l p.
+        (then-holds _ _ _ _ (good (withVariables k n W) _ (variables-fine k (formals t) (tidy-element 2 f)) _ (closed-grown (closed-variables k n c) (grown-same refl))) λ w u l p.
         give-holds _ u (record {
           passed = and-both _ _ (lambda-sound (length operations) (W .variables) k n (formals-most f shape)) (p .passed);
           counted = omega (arith, p .counted);
           grown = grown-then (grown-same refl) (p .grown);
         }))))
-
-    -- a tree in the scope of new macros
-    scoped-fine : (k : ℕ) (xs : List Name) (t : Tree) → FineTree W t → FineTree (withMacros k (length xs) W) (bindAll macro k xs t)
-    unfolding withMacros
-    scoped-fine k xs t f =
-        tidy-bindAll macro k xs (λ j h l. fine-give (macro j) (reachesMacro (widen-new k (length xs) (W .macros) j h l)))
-        (tidy-weaken (fine-within (macros-within k (length xs) W)) f)
-
-    -- the rules forms, in the scope of their macros or not
-    forms-fine : (inside : Bool) (k : ℕ) (xs : List Name) {rs : List Tree} → Each (FineTree W) rs → Each (FineTree (withMacros k (length xs) W)) (map (cond inside (bindAll macro k xs) (λ r. r)) rs)
-    forms-fine true k xs fs = each-map _ (scoped-fine k xs) fs
-    forms-fine false k xs fs = each-map _ (λ r. tidy-weaken (fine-within (macros-within k (length xs) W))) fs
 
     macros-made : (inside : Bool) (x : Name) {t : Tree} → FineTree W t → (s : State) → Closed W s → MakesTerm W s (expandMacros limit operations fuel rec inside x t s)
     unfolding expandMacros withMacros
@@ -207,11 +150,11 @@ module _ (limit : ℕ) (operations : List ℕ) (fuel : ℕ) where
         test-holds _ _ _ s tt λ _.
         get-holds _ s
         (show-holds _ _ s
-        (then-holds _ _ _ s (readRules-holds (FineRules (withMacros k (length xs) W)) (each-weaken (λ r. rulesOf-tidy) (forms-fine inside k xs (rulesForms-fine f))) s (λ g l _. tt)) λ rules u l read.
+        (then-holds _ _ _ s (readRules-holds (FineRules (withMacros k (length xs) W)) (each-weaken (λ r. rulesOf-tidy) (forms-fine inside k xs (rulesForms-fine f))) s (λ l _. tt)) λ rules u l read.
         addMacros-holds _ _ u
         (let added : u .macros ++ rules ≡ s .macros ++ rules = ap (λ (z : State). z .macros ++ rules) (read .unchanged) in
         let enough : length xs ≤ length rules = omega (arith, read .count, keywords-count limit t shape, length-map (rulesForms t) (cond inside (bindAll macro k xs) (λ r. r))) in
-        weaken (good (withMacros k (length xs) W) _ (scoped-fine k xs _ (tidy-element 2 f)) _ (closed-macros (length xs) rules c enough (read .each) added)) (λ x. x) (λ g v j r. r) λ w v j p.
+        weaken (good (withMacros k (length xs) W) _ (macros-fine k xs (tidy-element 2 f)) _ (closed-macros (length xs) rules c enough (read .each) added)) (λ x. x) (λ g v j r. r) λ w v j p.
         made-after (λ b. every asks (W .variables) b w) (ap (λ (z : State). z .variables) (read .unchanged)) (record { more = rules; macros = added }) p))))
 
     use-made : (n : ℕ) → W .macros n ≡ true → {t : Tree} → FineTree W t → (s : State) → Closed W s → MakesTerm W s (expandUse limit operations fuel rec n t s)
