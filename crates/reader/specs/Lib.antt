@@ -4,10 +4,12 @@ pub mod Meaning
 pub mod Numbering
 pub mod Elements
 pub mod Read
+pub mod Answers
 pub mod Rows
 pub mod RecipeText
 pub mod TokenLaws
 pub mod MeaningLaws
+pub mod NumberLaws
 pub mod ElementLaws
 pub mod Accepts
 pub mod AcceptedLaws

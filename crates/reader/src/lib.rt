@@ -1,2 +1,3 @@
 // The reading service. Its meaning stands in specs/Read.antt.
 pub mod bytes;
+pub mod number;
