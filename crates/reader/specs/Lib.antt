@@ -10,6 +10,8 @@ pub mod RecipeText
 pub mod TokenLaws
 pub mod MeaningLaws
 pub mod NumberLaws
+pub mod Told
+pub mod ToldLaws
 pub mod ElementLaws
 pub mod Accepts
 pub mod AcceptedLaws

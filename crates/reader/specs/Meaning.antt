@@ -53,13 +53,16 @@ integerOf cs = cond (all isDigit (unsigned cs)) (signed (isNegative cs) (size cs
 -- ---- names
 
 -- 1 to 63 bytes, and not a single dot
+unfoldable pub isName : List ℕ → Bool
+isName cs = within 1 nameLengthMost (length cs) && not (equal cs (46 ∷ []))
+
 unfoldable pub nameOf : List ℕ → Meaning
-nameOf cs = cond (within 1 nameLengthMost (length cs) && not (equal cs (46 ∷ []))) (name cs) (refused 3)
+nameOf cs = cond (isName cs) (name cs) (refused 3)
 
 -- ---- tokens
 
 unfoldable pub meaningOf : Token → Meaning
-unfolding isNegative unsigned isNumeral valueFrom size signed integerOf nameOf isDigit within all equal integer boolean
+unfolding isNegative unsigned isNumeral valueFrom size signed integerOf isName nameOf isDigit within all equal integer boolean
 meaningOf open′ = begins
 meaningOf close′ = ends
 meaningOf bad = refused 3

@@ -29,6 +29,7 @@ use Rattle.reader.specs.Meaning.{
   size,
   signed,
   integerOf,
+  isName,
   nameOf,
   meaningOf,
 }
@@ -77,11 +78,11 @@ numeral-starts (c ∷ cs) h =
 
 -- ---- what a run means
 
-numeral-means : (cs : List ℕ) → isNumeral cs ≡ true → meaningOf (run cs) ≡ integerOf cs
+pub numeral-means : (cs : List ℕ) → isNumeral cs ≡ true → meaningOf (run cs) ≡ integerOf cs
 unfolding meaningOf
 numeral-means cs h = rw h
 
-other-means : (cs : List ℕ) → isNumeral cs ≡ false → meaningOf (run cs) ≡ nameOf cs
+pub other-means : (cs : List ℕ) → isNumeral cs ≡ false → meaningOf (run cs) ≡ nameOf cs
 unfolding meaningOf
 other-means cs h = rw h
 
@@ -93,9 +94,17 @@ pub integer-malformed : (cs : List ℕ) → all isDigit (unsigned cs) ≡ false 
 unfolding integerOf
 integer-malformed cs h = rw h
 
-name-is : (cs : List ℕ) → within 1 nameLengthMost (length cs) ≡ true → equal cs (46 ∷ []) ≡ false → nameOf cs ≡ name cs
+pub name-is : (cs : List ℕ) → isName cs ≡ true → nameOf cs ≡ name cs
 unfolding nameOf
-name-is cs h k = rw (h, k)
+name-is cs h = rw h
+
+pub name-malformed : (cs : List ℕ) → isName cs ≡ false → nameOf cs ≡ refused 3
+unfolding nameOf
+name-malformed cs h = rw h
+
+is-name : (cs : List ℕ) → within 1 nameLengthMost (length cs) ≡ true → equal cs (46 ∷ []) ≡ false → isName cs ≡ true
+unfolding isName
+is-name cs h k = rw (h, k)
 
 -- ---- what a token means is what meaningOf gives
 
@@ -128,8 +137,8 @@ unfolding within
 named-is cs n l u d =
     either (isNumeral cs) (λ h. absurd (n (numeral-starts cs h)))
     (λ h. other-means cs h
-    ∙ name-is cs (rw (le-leb _ _ l, le-leb _ _ u))
-    (either (equal cs (46 ∷ [])) (λ e. absurd (d (equal-true cs (46 ∷ []) e))) (λ e. e)))
+    ∙ name-is cs (is-name cs (rw (le-leb _ _ l, le-leb _ _ u))
+    (either (equal cs (46 ∷ [])) (λ e. absurd (d (equal-true cs (46 ∷ []) e))) (λ e. e))))
 
 pub means-is : {t : Token} {m : Meaning} → Means t m → meaningOf t ≡ m
 unfolding meaningOf
@@ -179,14 +188,16 @@ module _ (cs : List ℕ) where
       (λ d. never refl (rw (integer-malformed cs d) at h))
 
   name-means : isNumeral cs ≡ false → isRefused (nameOf cs) ≡ false → Means (run cs) (nameOf cs)
-  unfolding isRefused nameOf
+  unfolding isRefused isName
   name-means n h =
-      either (within 1 nameLengthMost (length cs))
-      (λ w. either (equal cs (46 ∷ []))
-      (λ d. never refl (rw (w, d, nameOf) at h))
-      (λ d. rw (name-is cs w d)
-      (named (λ s. never (starts-numeral s) n) (within-low 1 63 (length cs) w) (within-high 1 63 (length cs) w) (λ e. never (equal-refl (46 ∷ [])) (subst (λ l. equal l (46 ∷ []) ≡ false) e d)))))
-      (λ w. never refl (rw (w, nameOf) at h))
+      let w = within 1 nameLengthMost (length cs) in
+      let d = equal cs (46 ∷ []) in
+      either (isName cs)
+      (λ k. let l = and-left w (not d) k in
+      rw (name-is cs k)
+      (named (λ s. never (starts-numeral s) n) (within-low 1 63 (length cs) l) (within-high 1 63 (length cs) l)
+      (λ e. never (subst (λ l. equal l (46 ∷ []) ≡ true) (sym e) (equal-refl (46 ∷ []))) (not-true d (and-right w (not d) k)))))
+      (λ k. never refl (rw (name-malformed cs k) at h))
 
   run-means : isRefused (meaningOf (run cs)) ≡ false → Means (run cs) (meaningOf (run cs))
   run-means h =

@@ -12,12 +12,12 @@ use lib.Seq.{drop-cons, drop-length}
 use mir.Syntax.{w32}
 use mir.Val.{SFits, toZ, ofZ}
 use mir.Facts.{toZ-pos, toZ-ofZ}
-use borrow.Author.Tests.{le-leb, lt-leb, leb-true, leb-false}
-use Rattle.words.specs.Lists.{within, all}
-use Rattle.words.specs.ListLaws.{either, never, and-left, and-right, within-low, within-high}
+use borrow.Author.Tests.{le-leb, lt-leb, leb-true, leb-false, eq-eqb, ne-eqb}
+use Rattle.words.specs.Lists.{within, all, rest}
+use Rattle.words.specs.ListLaws.{either, never, and-left, and-right, within-low, within-high, rest-is}
 use Rattle.datum.specs.Constant.{integer}
 use Rattle.reader.specs.Token.{isDigit}
-use Rattle.reader.specs.Meaning.{Meaning, constant, refused, valueFrom, signed}
+use Rattle.reader.specs.Meaning.{Meaning, constant, refused, isNegative, unsigned, isNumeral, valueFrom, size, signed, integerOf}
 
 -- ---- digits
 
@@ -113,3 +113,42 @@ module _ (n : ℕ) (h : n ≤ 2147483648) (p : n ≡ 0 → ⊥) where
   unfolding signed
   negative-is =
       ap (λ z. constant (integer (ofZ w32 z))) (toZ-ofZ negative-fits ∙ value ∙ negated n p) ∙ rw (le-leb n 2147483648 h)
+
+-- ---- runs, way by way through the code
+
+module _ (cs : List ℕ) where
+  pub numeral-plain : (getD cs 0 0 ≡ 45 → ⊥) → isDigit (getD cs 0 0) ≡ isNumeral cs
+  unfolding isNumeral unsigned isNegative
+  numeral-plain h = rw (ne-eqb _ _ h)
+
+  pub integer-plain : (getD cs 0 0 ≡ 45 → ⊥) → cond (all isDigit cs) (signed false (valueFrom 0 cs)) (refused 3) ≡ integerOf cs
+  unfolding integerOf unsigned isNegative size
+  integer-plain h = rw (ne-eqb _ _ h)
+
+  pub integer-minus : getD cs 0 0 ≡ 45 → cond (all isDigit (rest 1 cs)) (signed true (valueFrom 0 (rest 1 cs))) (refused 3) ≡ integerOf cs
+  unfolding integerOf unsigned isNegative size
+  integer-minus h = rw (rest-is 1 cs, eq-eqb _ _ h)
+
+pub numeral-none : (cs : List ℕ) → length cs ≡ 0 → false ≡ isNumeral cs
+unfolding isNumeral unsigned isNegative isDigit within
+numeral-none [] h = refl
+numeral-none (c ∷ cs) h = absurd (omega arith)
+
+pub numeral-one : (cs : List ℕ) → length cs ≡ 1 → getD cs 0 0 ≡ 45 → false ≡ isNumeral cs
+unfolding isNumeral unsigned isNegative isDigit within
+numeral-one [] h e = refl
+numeral-one (c ∷ []) h e = rw e
+numeral-one (c ∷ d ∷ cs) h e = absurd (omega arith)
+
+pub numeral-minus : (cs : List ℕ) → getD cs 0 0 ≡ 45 → isDigit (getD cs 1 0) ≡ isNumeral cs
+unfolding isNumeral unsigned isNegative
+numeral-minus [] e = absurd (omega arith)
+numeral-minus (c ∷ cs) e = rw e
+
+-- digits that are not all digits, and those that are, by their value as far as it matters
+module _ (cs ds : List ℕ) (t : Bool) (w : cond (all isDigit ds) (signed t (valueFrom 0 ds)) (refused 3) ≡ integerOf cs) where
+  pub digits-malformed : all isDigit ds ≡ false → refused 3 ≡ integerOf cs
+  digits-malformed h = rw h at w
+
+  pub digits-value : (m : Meaning) (n : ℕ) → all isDigit ds ≡ true → m ≡ signed t n → n ≡ min (valueFrom 0 ds) 2147483649 → m ≡ integerOf cs
+  digits-value m n h e k = e ∙ ap (signed t) k ∙ signed-most t (valueFrom 0 ds) ∙ (rw h at w)

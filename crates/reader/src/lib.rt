@@ -1,3 +1,4 @@
 // The reading service. Its meaning stands in specs/Read.antt.
 pub mod bytes;
 pub mod number;
+pub mod token;

@@ -74,3 +74,37 @@ fn signed(negative: bool, size: u64) -> Integer
     }
     Integer::Value(-1 - (size - 1) as i32)
 }
+
+// The run starts with a digit, or with a minus and a digit.
+pub fn is_numeral(word: &[u8]) -> bool
+    ensures { λ r. ⌜ r ≡ isNumeral (now (word .entry)) ⌝ }
+{
+    if word.len() == 0 {
+        return false;
+    }
+    if word[0] != b'-' {
+        return is_digit(word[0]);
+    }
+    if word.len() == 1 {
+        return false;
+    }
+    is_digit(word[1])
+}
+
+// The integer that a run starting as a number is.
+pub fn integer_of(word: &[u8]) -> Integer
+    requires { ⌜ 1 ≤ length (now word) ⌝ }
+    ensures { λ r. ⌜ integerMeaning r ≡ integerOf (now (word .entry)) ⌝ }
+{
+    if word[0] == b'-' {
+        let digits = &word[1..];
+        if !are_digits(digits) {
+            return Integer::Malformed;
+        }
+        return signed(true, magnitude(digits));
+    }
+    if !are_digits(word) {
+        return Integer::Malformed;
+    }
+    signed(false, magnitude(word))
+}
