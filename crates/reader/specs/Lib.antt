@@ -12,6 +12,8 @@ pub mod MeaningLaws
 pub mod NumberLaws
 pub mod Told
 pub mod ToldLaws
+pub mod Stored
+pub mod StoredLaws
 pub mod ElementLaws
 pub mod Accepts
 pub mod AcceptedLaws

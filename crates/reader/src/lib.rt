@@ -1,4 +1,5 @@
 // The reading service. Its meaning stands in specs/Read.antt.
 pub mod bytes;
+pub mod names;
 pub mod number;
 pub mod token;
