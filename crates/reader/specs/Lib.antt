@@ -14,6 +14,9 @@ pub mod Told
 pub mod ToldLaws
 pub mod Stored
 pub mod StoredLaws
+pub mod Placed
+pub mod PlacedLaws
+pub mod StepLaws
 pub mod ElementLaws
 pub mod Accepts
 pub mod AcceptedLaws

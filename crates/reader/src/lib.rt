@@ -2,4 +2,5 @@
 pub mod bytes;
 pub mod names;
 pub mod number;
+pub mod place;
 pub mod token;
