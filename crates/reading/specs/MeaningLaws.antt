@@ -27,9 +27,9 @@ use Rattle.reading.specs.Meaning.{
   isNumeral,
   valueFrom,
   size,
-  inRange,
-  value,
+  signed,
   integerOf,
+  isName,
   nameOf,
   meaningOf,
 }
@@ -78,21 +78,33 @@ numeral-starts (c ∷ cs) h =
 
 -- ---- what a run means
 
-numeral-means : (cs : List ℕ) → isNumeral cs ≡ true → meaningOf (run cs) ≡ integerOf cs
+pub numeral-means : (cs : List ℕ) → isNumeral cs ≡ true → meaningOf (run cs) ≡ integerOf cs
 unfolding meaningOf
 numeral-means cs h = rw h
 
-other-means : (cs : List ℕ) → isNumeral cs ≡ false → meaningOf (run cs) ≡ nameOf cs
+pub other-means : (cs : List ℕ) → isNumeral cs ≡ false → meaningOf (run cs) ≡ nameOf cs
 unfolding meaningOf
 other-means cs h = rw h
 
-integer-is : (cs : List ℕ) → all isDigit (unsigned cs) ≡ true → inRange cs ≡ true → integerOf cs ≡ constant (integer (ofZ w32 (value cs)))
+pub integer-is : (cs : List ℕ) → all isDigit (unsigned cs) ≡ true → integerOf cs ≡ signed (isNegative cs) (size cs)
 unfolding integerOf
-integer-is cs h k = rw (h, k)
+integer-is cs h = rw h
 
-name-is : (cs : List ℕ) → within 1 nameLengthMost (length cs) ≡ true → equal cs (46 ∷ []) ≡ false → nameOf cs ≡ name cs
+pub integer-malformed : (cs : List ℕ) → all isDigit (unsigned cs) ≡ false → integerOf cs ≡ refused 3
+unfolding integerOf
+integer-malformed cs h = rw h
+
+pub name-is : (cs : List ℕ) → isName cs ≡ true → nameOf cs ≡ name cs
 unfolding nameOf
-name-is cs h k = rw (h, k)
+name-is cs h = rw h
+
+pub name-malformed : (cs : List ℕ) → isName cs ≡ false → nameOf cs ≡ refused 3
+unfolding nameOf
+name-malformed cs h = rw h
+
+is-name : (cs : List ℕ) → within 1 nameLengthMost (length cs) ≡ true → equal cs (46 ∷ []) ≡ false → isName cs ≡ true
+unfolding isName
+is-name cs h k = rw (h, k)
 
 -- ---- what a token means is what meaningOf gives
 
@@ -105,18 +117,19 @@ module _ (c : ℕ) (cs : List ℕ) (h : all isDigit (c ∷ cs) ≡ true) where
   plain = digit-no-minus c first-digit
 
   positive-is : valueFrom 0 (c ∷ cs) ≤ 2147483647 → meaningOf (run (c ∷ cs)) ≡ constant (integer (valueFrom 0 (c ∷ cs)))
-  unfolding isNumeral inRange value size isNegative
+  unfolding size signed isNegative
   positive-is k =
       numeral-means (c ∷ cs) (starts-numeral (digit first-digit))
-      ∙ integer-is (c ∷ cs) (rw (unsigned-plain c cs plain) h) (rw (plain, unsigned-plain c cs plain) (le-leb _ _ k))
-      ∙ rw (plain, unsigned-plain c cs plain)
+      ∙ integer-is (c ∷ cs) (rw (unsigned-plain c cs plain) h)
+      ∙ rw (plain, unsigned-plain c cs plain, le-leb _ _ k)
 
   negative-is : valueFrom 0 (c ∷ cs) ≤ 2147483648
       → meaningOf (run (45 ∷ c ∷ cs)) ≡ constant (integer (ofZ w32 (negℤ (pos (valueFrom 0 (c ∷ cs))))))
-  unfolding inRange value size isNegative unsigned
+  unfolding size signed isNegative unsigned
   negative-is k =
       numeral-means (45 ∷ c ∷ cs) (starts-numeral (minus first-digit))
-      ∙ integer-is (45 ∷ c ∷ cs) h (le-leb _ _ k)
+      ∙ integer-is (45 ∷ c ∷ cs) h
+      ∙ rw (le-leb _ _ k)
 
 named-is : (cs : List ℕ) → (StartsNumber cs → ⊥) → 1 ≤ length cs → length cs ≤ nameLengthMost → (cs ≡ 46 ∷ [] → ⊥)
     → meaningOf (run cs) ≡ name cs
@@ -124,8 +137,8 @@ unfolding within
 named-is cs n l u d =
     either (isNumeral cs) (λ h. absurd (n (numeral-starts cs h)))
     (λ h. other-means cs h
-    ∙ name-is cs (rw (le-leb _ _ l, le-leb _ _ u))
-    (either (equal cs (46 ∷ [])) (λ e. absurd (d (equal-true cs (46 ∷ []) e))) (λ e. e)))
+    ∙ name-is cs (is-name cs (rw (le-leb _ _ l, le-leb _ _ u))
+    (either (equal cs (46 ∷ [])) (λ e. absurd (d (equal-true cs (46 ∷ []) e))) (λ e. e))))
 
 pub means-is : {t : Token} {m : Meaning} → Means t m → meaningOf t ≡ m
 unfolding meaningOf
@@ -145,31 +158,46 @@ isRefused (constant a) = false
 isRefused (name cs) = false
 isRefused (refused g) = true
 
-number-means : (cs : List ℕ) → StartsNumber cs → all isDigit (unsigned cs) ≡ true → inRange cs ≡ true
-    → Means (run cs) (constant (integer (ofZ w32 (value cs))))
-unfolding inRange value size isNegative unsigned
+-- digits within the range, and not otherwise
+positive-means : (c : ℕ) (cs : List ℕ) → all isDigit (c ∷ cs) ≡ true → isRefused (signed false (valueFrom 0 (c ∷ cs))) ≡ false
+    → Means (run (c ∷ cs)) (signed false (valueFrom 0 (c ∷ cs)))
+unfolding signed isRefused
+positive-means c cs h k =
+    either (leb (valueFrom 0 (c ∷ cs)) 2147483647) (λ r. rw r (positive h (leb-true _ _ r))) (λ r. never refl (rw r at k))
+
+negative-means : (c : ℕ) (cs : List ℕ) → all isDigit (c ∷ cs) ≡ true → isRefused (signed true (valueFrom 0 (c ∷ cs))) ≡ false
+    → Means (run (45 ∷ c ∷ cs)) (signed true (valueFrom 0 (c ∷ cs)))
+unfolding signed isRefused
+negative-means c cs h k =
+    either (leb (valueFrom 0 (c ∷ cs)) 2147483648) (λ r. rw r (negative h (leb-true _ _ r))) (λ r. never refl (rw r at k))
+
+number-means : (cs : List ℕ) → StartsNumber cs → all isDigit (unsigned cs) ≡ true → isRefused (signed (isNegative cs) (size cs)) ≡ false
+    → Means (run cs) (signed (isNegative cs) (size cs))
+unfolding size isNegative unsigned
 number-means cs (digit {c} {cs = ds} d) h k =
     let e = digit-no-minus c d in
-    rw e (positive (rw e at h) (leb-true _ _ (rw e at k)))
-number-means cs (minus {c} {cs = ds} d) h k = negative h (leb-true _ _ k)
+    rw e (positive-means c ds (rw e at h) (rw e at k))
+number-means cs (minus {c} {cs = ds} d) h k = negative-means c ds h k
 
 module _ (cs : List ℕ) where
   integer-means : isNumeral cs ≡ true → isRefused (integerOf cs) ≡ false → Means (run cs) (integerOf cs)
-  unfolding isRefused integerOf
+  unfolding isRefused
   integer-means n h =
       either (all isDigit (unsigned cs))
-      (λ d. either (inRange cs) (λ r. rw (integer-is cs d r) (number-means cs (numeral-starts cs n) d r)) (λ r. never refl (rw (d, r, integerOf) at h)))
-      (λ d. never refl (rw (d, integerOf) at h))
+      (λ d. let e = integer-is cs d in rw e (number-means cs (numeral-starts cs n) d (rw e at h)))
+      (λ d. never refl (rw (integer-malformed cs d) at h))
 
   name-means : isNumeral cs ≡ false → isRefused (nameOf cs) ≡ false → Means (run cs) (nameOf cs)
-  unfolding isRefused nameOf
+  unfolding isRefused isName
   name-means n h =
-      either (within 1 nameLengthMost (length cs))
-      (λ w. either (equal cs (46 ∷ []))
-      (λ d. never refl (rw (w, d, nameOf) at h))
-      (λ d. rw (name-is cs w d)
-      (named (λ s. never (starts-numeral s) n) (within-low 1 63 (length cs) w) (within-high 1 63 (length cs) w) (λ e. never (equal-refl (46 ∷ [])) (subst (λ l. equal l (46 ∷ []) ≡ false) e d)))))
-      (λ w. never refl (rw (w, nameOf) at h))
+      let w = within 1 nameLengthMost (length cs) in
+      let d = equal cs (46 ∷ []) in
+      either (isName cs)
+      (λ k. let l = and-left w (not d) k in
+      rw (name-is cs k)
+      (named (λ s. never (starts-numeral s) n) (within-low 1 63 (length cs) l) (within-high 1 63 (length cs) l)
+      (λ e. never (subst (λ l. equal l (46 ∷ []) ≡ true) (sym e) (equal-refl (46 ∷ []))) (not-true d (and-right w (not d) k)))))
+      (λ k. never refl (rw (name-malformed cs k) at h))
 
   run-means : isRefused (meaningOf (run cs)) ≡ false → Means (run cs) (meaningOf (run cs))
   run-means h =

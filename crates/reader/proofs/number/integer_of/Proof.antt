@@ -1,0 +1,85 @@
+use borrow.Author.Needs.{needs}
+use Rattle.reader.proofs.number.integer_of.Statement.{statement}
+use Rattle.reader.proofs.number.integer_of.Tie as tie
+use mathlib.Core.Path.{_≡_, sym, _∙_}
+use mathlib.Core.Bool.{true, false}
+use borrow.Author.Tests.{not-true, not-false}
+use Rattle.words.specs.Lists.{rest}
+use Rattle.reader.specs.NumberLaws.{integer-plain, integer-minus, digits-malformed, digits-value}
+
+shared-slice-read-if1 : tie.Need-shared-slice-read-if1
+shared-slice-read-if1 c =
+    search needs
+
+sub-digits : tie.Need-sub-digits
+sub-digits c =
+    search needs
+
+part-digits-start : tie.Need-part-digits-start
+part-digits-start c =
+    search needs
+
+part-digits-end : tie.Need-part-digits-end
+part-digits-end c =
+    search needs
+
+are-digits-requires : tie.Need-are-digits-requires
+are-digits-requires c κs =
+    search needs
+
+returns : tie.Need-returns
+returns c =
+    digits-malformed (c .before .before .before .before .before .before .args .word .now) (rest 1 (c .before .before .before .before .before .before .args .word .now)) true (integer-minus (c .before .before .before .before .before .before .args .word .now) (c .before .before .before .if1 .taken)) (sym (c .before .are-digits .ensures) ∙ not-true (c .before .are-digits .result) (c .if2 .taken))
+
+magnitude-requires : tie.Need-magnitude-requires
+magnitude-requires c κs =
+    sym (c .before .are-digits .ensures) ∙ not-false (c .before .are-digits .result) (c .if2 .left)
+
+signed-requires : tie.Need-signed-requires
+signed-requires c κs =
+    search needs
+
+returns-2 : tie.Need-returns-2
+returns-2 c =
+    digits-value (c .before .before .before .before .before .before .before .before .args .word .now) (rest 1 (c .before .before .before .before .before .before .before .before .args .word .now)) true (integer-minus (c .before .before .before .before .before .before .before .before .args .word .now) (c .before .before .before .before .before .if1 .taken)) _ _
+    (sym (c .before .before .before .are-digits .ensures) ∙ not-false (c .before .before .before .are-digits .result) (c .before .before .if2 .left)) (c .signed .ensures) (c .before .magnitude .ensures)
+
+are-digits-requires-2 : tie.Need-are-digits-requires-2
+are-digits-requires-2 c κs =
+    search needs
+
+returns-3 : tie.Need-returns-3
+returns-3 c =
+    digits-malformed (c .before .before .before .before .before .args .word .now) (c .before .before .before .before .before .args .word .now) false (integer-plain (c .before .before .before .before .before .args .word .now) (c .before .before .if1 .left)) (sym (c .before .are-digits2 .ensures) ∙ not-true (c .before .are-digits2 .result) (c .if3 .taken))
+
+magnitude-requires-2 : tie.Need-magnitude-requires-2
+magnitude-requires-2 c κs =
+    sym (c .before .are-digits2 .ensures) ∙ not-false (c .before .are-digits2 .result) (c .if3 .left)
+
+signed-requires-2 : tie.Need-signed-requires-2
+signed-requires-2 c κs =
+    search needs
+
+returns-4 : tie.Need-returns-4
+returns-4 c =
+    digits-value (c .before .before .before .before .before .before .before .args .word .now) (c .before .before .before .before .before .before .before .args .word .now) false (integer-plain (c .before .before .before .before .before .before .before .args .word .now) (c .before .before .before .before .if1 .left)) _ _
+    (sym (c .before .before .before .are-digits2 .ensures) ∙ not-false (c .before .before .before .are-digits2 .result) (c .before .before .if3 .left)) (c .signed2 .ensures) (c .before .magnitude2 .ensures)
+
+pub integer-of-spec : {M : Type 1} → statement M
+integer-of-spec =
+    tie.close
+    (tie.spec
+    shared-slice-read-if1
+    sub-digits
+    part-digits-start
+    part-digits-end
+    are-digits-requires
+    returns
+    magnitude-requires
+    signed-requires
+    returns-2
+    are-digits-requires-2
+    returns-3
+    magnitude-requires-2
+    signed-requires-2
+    returns-4)

@@ -1,0 +1,84 @@
+-- The loop's invariant: the digits that are left take the value so far to the value of all.
+use Rattle.reader.proofs.number.magnitude.Statement.{statement}
+use Rattle.reader.proofs.number.magnitude.Tie as tie
+use native.Mathlib.Omega.{arith}
+use mathlib.Core.Path.{_≡_, refl, sym, ap, _∙_}
+use Prim.Native.Nat.{_≤_, _-_, _<_, _+_, _*_, min}
+use lib.ListN.{length, drop, getD}
+use Rattle.words.specs.Lists.{all}
+use Rattle.reader.specs.Token.{isDigit}
+use Rattle.reader.specs.Meaning.{valueFrom}
+use Rattle.reader.specs.NumberLaws.{all-at, digit-range, value-step, value-end, value-least}
+use borrow.Author.Needs.{needs}
+
+abbrev Inv-loop : tie.InvT-loop
+Inv-loop digits value₀ i₀ value i =
+    (i ≤ length digits) × (value ≤ 2147483648) × (valueFrom value (drop i digits) ≡ valueFrom 0 digits)
+
+abbrev μ-loop : tie.MeasureT-loop
+μ-loop digits value₀ i₀ value i =
+    length digits - i
+
+loop-holds : tie.Need-loop-holds Inv-loop μ-loop
+loop-holds c =
+    (omega arith, omega arith, refl)
+
+mul-value : tie.Need-mul-value Inv-loop μ-loop
+mul-value c =
+    omega arith
+
+shared-slice-read-wide : tie.Need-shared-slice-read-wide Inv-loop μ-loop
+shared-slice-read-wide c =
+    search needs
+
+wide-requires : tie.Need-wide-requires Inv-loop μ-loop
+wide-requires c κs =
+    search needs
+
+sub-value : tie.Need-sub-value Inv-loop μ-loop
+sub-value c =
+    let d = digit-range _ (all-at (c .before .before .before .before .before .args .digits .now) (c .before .before .before .loop .i) (c .before .before .before .before .before .pre) (c .before .before .loop-test .taken)) in omega (arith, d .0, c .wide .ensures)
+
+add-value : tie.Need-add-value Inv-loop μ-loop
+add-value c =
+    let d = digit-range _ (all-at (c .before .before .before .before .before .args .digits .now) (c .before .before .before .loop .i) (c .before .before .before .before .before .pre) (c .before .before .loop-test .taken)) in omega (arith, d .0, d .1, c .wide .ensures)
+
+returns : tie.Need-returns Inv-loop μ-loop
+returns c =
+    let l = c .before .before .before .before .before .before .args .digits .now in let i = c .before .before .before .before .loop .i in let v = c .before .before .before .before .loop .value in let n = 10 * v + (getD l i 0 - 48) in
+    omega (arith, c .before .wide .ensures, c .before .before .before .before .loop .inv .2, value-step l i (c .before .before .before .loop-test .taken) v, value-least n (drop (i + 1) l))
+
+add-i : tie.Need-add-i Inv-loop μ-loop
+add-i c =
+    search needs
+
+loop-less : tie.Need-loop-less Inv-loop μ-loop
+loop-less c =
+    search needs
+
+loop-again : tie.Need-loop-again Inv-loop μ-loop
+loop-again c =
+    let l = c .before .before .before .before .before .before .args .digits .now in let i = c .before .before .before .before .loop .i in let v = c .before .before .before .before .loop .value in
+    (omega arith, omega arith, rw (c .before .wide .ensures) (sym (value-step l i (c .before .before .before .loop-test .taken) v) ∙ c .before .before .before .before .loop .inv .2))
+
+returns-2 : tie.Need-returns-2 Inv-loop μ-loop
+returns-2 c =
+    omega (arith, c .before .loop .inv .2, value-end (c .before .before .before .args .digits .now) (c .before .loop .i) (c .before .loop .value) (c .loop-test .left) (c .before .loop .inv .0))
+
+pub magnitude-spec : {M : Type 1} → statement M
+magnitude-spec =
+    tie.close
+    (tie.spec
+    Inv-loop
+    μ-loop
+    loop-holds
+    mul-value
+    shared-slice-read-wide
+    wide-requires
+    sub-value
+    add-value
+    returns
+    add-i
+    loop-less
+    loop-again
+    returns-2)

@@ -1,0 +1,99 @@
+use borrow.Author.Needs.{needs}
+use Rattle.reader.proofs.token.run_token.Statement.{statement}
+use Rattle.reader.proofs.token.run_token.Tie as tie
+use mathlib.Core.Path.{_≡_, refl, sym, ap, _∙_}
+use mathlib.Core.Bool.{true, false}
+use native.Mathlib.Omega.{arith}
+use borrow.Author.Tests.{not-true, not-false}
+use Rattle.words.specs.Lists.{part}
+use Rattle.words.specs.ListLaws.{length-part}
+use mir.Syntax.{w32}
+use mir.Val.{ofZ}
+use mir.Facts.{toZ-ofZ}
+use Rattle.datum.specs.Constant.{integer}
+use Rattle.reader.specs.Meaning.{constant}
+use Rattle.reader.specs.Answers.{integerMeaning}
+use Rattle.reader.specs.MeaningLaws.{numeral-means, other-means, name-is, name-malformed}
+
+sub-word : tie.Need-sub-word
+sub-word c =
+    search needs
+
+part-word-start : tie.Need-part-word-start
+part-word-start c =
+    search needs
+
+part-word-end : tie.Need-part-word-end
+part-word-end c =
+    search needs
+
+is-numeral-requires : tie.Need-is-numeral-requires
+is-numeral-requires c κs =
+    search needs
+
+is-name-requires : tie.Need-is-name-requires
+is-name-requires c κs =
+    search needs
+
+returns : tie.Need-returns
+returns c =
+    let w = part (c .before .before .before .before .before .before .args .from) (c .before .before .before .before .before .before .args .to) (c .before .before .before .before .before .before .args .text .now) in
+    (refl, refl, other-means w (sym (c .before .before .before .is-numeral .ensures) ∙ not-true (c .before .before .before .is-numeral .result) (c .before .before .if1 .taken)) ∙ name-is w (sym (c .before .is-name .ensures) ∙ c .if2 .taken))
+
+returns-2 : tie.Need-returns-2
+returns-2 c =
+    let w = part (c .before .before .before .before .before .before .args .from) (c .before .before .before .before .before .before .args .to) (c .before .before .before .before .before .before .args .text .now) in
+    other-means w (sym (c .before .before .before .is-numeral .ensures) ∙ not-true (c .before .before .before .is-numeral .result) (c .before .before .if1 .taken)) ∙ name-malformed w (sym (c .before .is-name .ensures) ∙ c .if2 .left)
+
+integer-of-requires : tie.Need-integer-of-requires
+integer-of-requires c κs =
+    omega (arith, length-part (c .before .before .before .before .args .from) (c .before .before .before .before .args .to) (c .before .before .before .before .args .text .now) (omega arith) (omega arith))
+
+enum-known-z : tie.Need-enum-known-z
+enum-known-z c =
+    search needs
+
+enum-told : tie.Need-enum-told
+enum-told c =
+    search needs
+
+enum-told-2 : tie.Need-enum-told-2
+enum-told-2 c =
+    search needs
+
+returns-3 : tie.Need-returns-3
+returns-3 c =
+    let w = part (c .before .before .before .before .before .before .before .before .args .from) (c .before .before .before .before .before .before .before .before .args .to) (c .before .before .before .before .before .before .before .before .args .text .now) in (
+      refl,
+      numeral-means w (sym (c .before .before .before .before .before .is-numeral .ensures) ∙ not-false (c .before .before .before .before .before .is-numeral .result) (c .before .before .before .before .if1 .left)) ∙ sym (c .before .before .before .integer-of .ensures) ∙ ap integerMeaning (c .before .z .given .1)
+          ∙ ap (λ z. constant (integer (ofZ w32 z))) (sym (toZ-ofZ {w = w32} {z = c .before .z .given .0 .0} (record { sfits = c .known-told .given .0 .1 }))),
+    )
+
+returns-4 : tie.Need-returns-4
+returns-4 c =
+    let w = part (c .before .before .before .before .before .before .before .args .from) (c .before .before .before .before .before .before .before .args .to) (c .before .before .before .before .before .before .before .args .text .now) in
+    numeral-means w (sym (c .before .before .before .before .is-numeral .ensures) ∙ not-false (c .before .before .before .before .is-numeral .result) (c .before .before .before .if1 .left)) ∙ sym (c .before .before .integer-of .ensures) ∙ ap integerMeaning (c .enum-told .given .1)
+
+returns-5 : tie.Need-returns-5
+returns-5 c =
+    let w = part (c .before .before .before .before .before .before .before .args .from) (c .before .before .before .before .before .before .before .args .to) (c .before .before .before .before .before .before .before .args .text .now) in
+    numeral-means w (sym (c .before .before .before .before .is-numeral .ensures) ∙ not-false (c .before .before .before .before .is-numeral .result) (c .before .before .before .if1 .left)) ∙ sym (c .before .before .integer-of .ensures) ∙ ap integerMeaning (c .enum-told2 .given .1)
+
+pub run-token-spec : {M : Type 1} → statement M
+run-token-spec =
+    tie.close
+    (tie.spec
+    sub-word
+    part-word-start
+    part-word-end
+    is-numeral-requires
+    is-name-requires
+    returns
+    returns-2
+    integer-of-requires
+    enum-known-z
+    enum-told
+    enum-told-2
+    returns-3
+    returns-4
+    returns-5)

@@ -1,0 +1,68 @@
+-- The loop's invariant: nothing passed had a meaning.
+use Rattle.reader.proofs.token.skip.Statement.{statement}
+use Rattle.reader.proofs.token.skip.Tie as tie
+use native.Mathlib.Omega.{arith}
+use mathlib.Core.Path.{_≡_, refl, sym, _∙_}
+use Prim.Native.Nat.{_≤_, _<_, _-_}
+use borrow.Author.Tests.{not-true, not-false}
+use lib.ListN.{length}
+use Rattle.reader.specs.Told.{meaningsFrom}
+use Rattle.reader.specs.ToldLaws.{separator-step}
+use borrow.Author.Needs.{needs}
+
+abbrev Inv-loop : tie.InvT-loop
+Inv-loop text from at₀ at =
+    (from ≤ at) × (at ≤ length text) × (meaningsFrom text from ≡ meaningsFrom text at)
+
+abbrev μ-loop : tie.MeasureT-loop
+μ-loop text from at₀ at =
+    length text - at
+
+loop-holds : tie.Need-loop-holds Inv-loop μ-loop
+loop-holds c =
+    (omega arith, c .before .pre, refl)
+
+shared-slice-read-is-separating : tie.Need-shared-slice-read-is-separating Inv-loop μ-loop
+shared-slice-read-is-separating c =
+    search needs
+
+is-separating-requires : tie.Need-is-separating-requires Inv-loop μ-loop
+is-separating-requires c κs =
+    search needs
+
+returns : tie.Need-returns Inv-loop μ-loop
+returns c =
+    let r = sym (c .before .is-separating .ensures) ∙ not-true (c .before .is-separating .result) (c .if1 .taken) in
+    record { low = c .before .before .before .before .loop .inv .0; high = c .before .before .before .before .loop .inv .1; same = c .before .before .before .before .loop .inv .2; stops = λ h. r }
+
+add-at : tie.Need-add-at Inv-loop μ-loop
+add-at c =
+    search needs
+
+loop-less : tie.Need-loop-less Inv-loop μ-loop
+loop-less c =
+    search needs
+
+loop-again : tie.Need-loop-again Inv-loop μ-loop
+loop-again c =
+    let r = sym (c .before .is-separating .ensures) ∙ not-false (c .before .is-separating .result) (c .if1 .left) in
+    (omega arith, omega arith, c .before .before .before .before .loop .inv .2 ∙ separator-step (c .before .before .before .before .before .before .args .text .now) (c .before .before .before .before .loop .at) (c .before .before .before .loop-test .taken) r)
+
+returns-2 : tie.Need-returns-2 Inv-loop μ-loop
+returns-2 c =
+    record { low = c .before .loop .inv .0; high = c .before .loop .inv .1; same = c .before .loop .inv .2; stops = λ h. absurd (omega arith) }
+
+pub skip-spec : {M : Type 1} → statement M
+skip-spec =
+    tie.close
+    (tie.spec
+    Inv-loop
+    μ-loop
+    loop-holds
+    shared-slice-read-is-separating
+    is-separating-requires
+    returns
+    add-at
+    loop-less
+    loop-again
+    returns-2)

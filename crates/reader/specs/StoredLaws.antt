@@ -1,0 +1,92 @@
+-- Laws of finding and storing names, in the shape of the code's loops.
+use mathlib.Core.Path.{_≡_, refl, sym, ap, ap₂, subst, _∙_}
+use mathlib.Core.Bool.{Bool, true, false, _&&_, cond}
+use mathlib.Core.List.{List, [], _∷_, _++_, append-assoc, append-nil}
+use Prim.Native.Nat.{ℕ, zero, suc, _+_, _*_, _-_, _≤_, _<_}
+use native.Mathlib.Omega.{arith}
+use native.Mathlib.Numerals.{add-one}
+use lib.Dec.{eqb, leb}
+use lib.ListN.{length, getD, take, drop, set, replicate, length-drop, length-set, length-append}
+use lib.Seq.{drop-cons, drop-length, length-take-le, getD-take, getD-drop, paste, paste-suc, append-snoc, getD-append-seam}
+use borrow.Author.Tests.{eq-eqb, ne-eqb}
+use Rattle.words.specs.Lists.{equal, all}
+use Rattle.words.specs.ListLaws.{either, never, equal-true}
+use Rattle.datum.specs.NameTable.{slot, slots, lengthAt, nameAt}
+use Rattle.datum.specs.NameTableLaws.{isShort, length-slots, name-at}
+use Rattle.reader.specs.Numbering.{numberOf}
+use Rattle.reader.specs.Stored.{namesIn, stored}
+
+-- ---- comparing
+
+pub unequal-lengths : (a b : List ℕ) → (length b ≡ length a → ⊥) → false ≡ equal a b
+unequal-lengths a b h = either (equal a b) (λ e. absurd (h (ap length (sym (equal-true a b e))))) (λ e. sym e)
+
+module _ (a b : List ℕ) (same : length b ≡ length a) (i : ℕ) (h : i < length a) where
+  k : i < length b
+  k = omega arith
+
+  pub equal-step : getD b i 0 ≡ getD a i 0 → equal (drop i a) (drop i b) ≡ equal (drop (i + 1) a) (drop (i + 1) b)
+  unfolding equal
+  equal-step e = rw (drop-cons a i 0 h, drop-cons b i 0 k, add-one, eq-eqb (getD a i 0) (getD b i 0) (sym e))
+
+  pub equal-stop : (getD b i 0 ≡ getD a i 0 → ⊥) → equal (drop i a) (drop i b) ≡ false
+  unfolding equal
+  equal-stop n = rw (drop-cons a i 0 h, drop-cons b i 0 k, ne-eqb (getD a i 0) (getD b i 0) (λ e. n (sym e)))
+
+pub equal-end : (a b : List ℕ) (i : ℕ) → length b ≡ length a → i ≡ length a → equal (drop i a) (drop i b) ≡ true
+unfolding equal
+equal-end a b i s e = rw (e, drop-length) (rw (← s, drop-length))
+
+-- ---- a slot
+
+module _ (table : List ℕ) (n : ℕ) (room : 64 * n + 64 ≤ length table) (short : lengthAt table n ≤ 63) where
+  pub name-length : length (nameAt table n) ≡ lengthAt table n
+  unfolding nameAt
+  name-length =
+      let l : lengthAt table n ≤ length (drop (suc (64 * n)) table) = omega (arith, length-drop (suc (64 * n)) table) in
+      length-take-le (lengthAt table n) (drop (suc (64 * n)) table) l
+
+  pub name-byte : (i : ℕ) → i < lengthAt table n → getD (nameAt table n) i 0 ≡ getD table (64 * n + 1 + i) 0
+  unfolding nameAt
+  name-byte i h =
+      let e : suc (64 * n) + i ≡ 64 * n + 1 + i = omega arith in
+      getD-take (lengthAt table n) (drop (suc (64 * n)) table) i 0 h ∙ getD-drop (suc (64 * n)) table i 0 ∙ ap (λ j. getD table j 0) e
+
+-- ---- finding
+
+module _ (word table : List ℕ) (n known : ℕ) (h : n < known) where
+  m : known - n ≡ suc (known - (n + 1))
+  m = omega arith
+
+  pub find-step : equal word (nameAt table n) ≡ false
+      → n + numberOf word (namesIn table n (known - n)) ≡ n + 1 + numberOf word (namesIn table (n + 1) (known - (n + 1)))
+  unfolding namesIn numberOf
+  find-step e = rw (m, e, add-one) (omega arith)
+
+  pub find-here : equal word (nameAt table n) ≡ true → n + numberOf word (namesIn table n (known - n)) ≡ n
+  unfolding namesIn numberOf
+  find-here e = rw (m, e) (omega arith)
+
+pub find-start : (word table : List ℕ) (known : ℕ) → numberOf word (namesIn table 0 known) ≡ 0 + numberOf word (namesIn table 0 (known - 0))
+find-start word table known = let z : known - 0 ≡ known = omega arith in rw z (omega arith)
+
+pub find-end : (word table : List ℕ) (n known : ℕ) → n ≡ known → n + numberOf word (namesIn table n (known - n)) ≡ n
+unfolding namesIn numberOf
+find-end word table n known e = let z : known - n ≡ 0 = omega arith in rw z (omega arith)
+
+-- the slots of names spell them
+names-in-from : (more names : List (List ℕ)) (rest : List ℕ) → all isShort (names ++ more) ≡ true
+    → namesIn (slots (names ++ more) ++ rest) (length names) (length more) ≡ more
+unfolding namesIn
+names-in-from [] names rest h = refl
+names-in-from (cs ∷ more) names rest h =
+    let e : names ++ (cs ∷ []) ++ more ≡ names ++ cs ∷ more = append-snoc names cs more in
+    let l : length (names ++ (cs ∷ [])) ≡ suc (length names) = omega (arith, length-append names (cs ∷ [])) in
+    let k : length names < length (names ++ cs ∷ more) = omega (arith, length-append names (cs ∷ more)) in
+    let a = name-at (names ++ cs ∷ more) rest (length names) h k ∙ getD-append-seam names cs more [] in
+    let b = names-in-from more (names ++ (cs ∷ [])) rest (subst (λ ks. all isShort ks ≡ true) (sym e) h) in
+    let b′ : namesIn (slots (names ++ cs ∷ more) ++ rest) (suc (length names)) (length more) ≡ more = rw (e, l) at b in
+    ap₂ _∷_ a b′
+
+pub names-in : (names : List (List ℕ)) (rest : List ℕ) → all isShort names ≡ true → namesIn (slots names ++ rest) 0 (length names) ≡ names
+names-in names rest h = names-in-from names [] rest h

@@ -1,0 +1,62 @@
+// The name table: names found and stored.
+ghost use mathlib.Core.Path.{_≡_};
+ghost use Prim.Native.Nat.{ℕ, _+_, _*_, _≤_, _<_};
+ghost use lib.ListN.{length};
+ghost use Rattle.words.specs.Lists.{equal};
+ghost use Rattle.datum.specs.NameTable.{lengthAt, nameAt};
+ghost use Rattle.reader.specs.Numbering.{numberOf};
+ghost use Rattle.reader.specs.Stored.{stored, namesIn};
+
+fn wide(b: u8) -> usize
+    ensures { λ r. ⌜ r ≡ b ⌝ }
+{
+    b as usize
+}
+
+// A slot spells the word: its length first, then its bytes from the left.
+pub fn spells(names: &[u8], number: usize, word: &[u8]) -> bool
+    requires { ⌜ (64 * number + 64 ≤ length (now names)) × (lengthAt (now names) number ≤ 63) ⌝ }
+    ensures { λ r. ⌜ r ≡ equal (now (word .entry)) (nameAt (now (names .entry)) number) ⌝ }
+{
+    let start = words::SLOT * number;
+    if wide(names[start]) != word.len() {
+        return false;
+    }
+    let mut i = 0;
+    while i < word.len() {
+        if names[start + 1 + i] != word[i] {
+            return false;
+        }
+        i += 1;
+    }
+    true
+}
+
+// The number of the word among the first names, or the next number.
+pub fn find(names: &[u8], known: usize, word: &[u8]) -> usize
+    requires { ⌜ (64 * known ≤ length (now names)) × ((n : ℕ) → n < known → lengthAt (now names) n ≤ 63) ⌝ }
+    ensures { λ r. ⌜ r ≡ numberOf (now (word .entry)) (namesIn (now (names .entry)) 0 known) ⌝ }
+{
+    let mut n = 0;
+    while n < known {
+        if spells(names, n, word) {
+            return n;
+        }
+        n += 1;
+    }
+    n
+}
+
+// The word in a slot, over zeros.
+pub fn store(names: &mut [u8], number: usize, word: &[u8])
+    requires { ⌜ (64 * number + 64 ≤ length (now names)) × (length (now word) ≤ 63) ⌝ }
+    ensures { λ _. ⌜ now (names .exit) ≡ stored (now (names .entry)) number (now (word .entry)) ⌝ }
+{
+    let start = words::SLOT * number;
+    names[start] = word.len() as u8;
+    let mut i = 0;
+    while i < word.len() {
+        names[start + 1 + i] = word[i];
+        i += 1;
+    }
+}
