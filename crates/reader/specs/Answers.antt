@@ -5,7 +5,7 @@ use mir.Val.{ofZ}
 use Rattle.datum.specs.Constant.{integer}
 use Rattle.reader.specs.declared.number.Integer.{Integer}
 use Rattle.reader.specs.declared.number.Integer.the-variants.{Value, Malformed, OutOfRange}
-use Rattle.reader.specs.Meaning.{Meaning, constant, refused}
+use Rattle.reading.specs.Meaning.{Meaning, constant, refused}
 
 -- an integer run: its word, or ground 3 or 4
 abbrev pub integerMeaning : Integer → Meaning

@@ -1,14 +1,5 @@
 -- Reading: a recipe text's bytes to tokens, tokens to two elements, elements to items and names.
-pub mod Token
-pub mod Meaning
-pub mod Numbering
-pub mod Elements
-pub mod Read
 pub mod Answers
-pub mod Rows
-pub mod RecipeText
-pub mod TokenLaws
-pub mod MeaningLaws
 pub mod NumberLaws
 pub mod Told
 pub mod ToldLaws
@@ -17,6 +8,3 @@ pub mod StoredLaws
 pub mod Placed
 pub mod PlacedLaws
 pub mod StepLaws
-pub mod ElementLaws
-pub mod Accepts
-pub mod AcceptedLaws

@@ -16,8 +16,8 @@ use borrow.Author.Tests.{le-leb, lt-leb, leb-true, leb-false, eq-eqb, ne-eqb}
 use Rattle.words.specs.Lists.{within, all, rest}
 use Rattle.words.specs.ListLaws.{either, never, and-left, and-right, within-low, within-high, rest-is}
 use Rattle.datum.specs.Constant.{integer}
-use Rattle.reader.specs.Token.{isDigit}
-use Rattle.reader.specs.Meaning.{Meaning, constant, refused, isNegative, unsigned, isNumeral, valueFrom, size, signed, integerOf}
+use Rattle.reading.specs.Token.{isDigit}
+use Rattle.reading.specs.Meaning.{Meaning, constant, refused, isNegative, unsigned, isNumeral, valueFrom, size, signed, integerOf}
 
 -- ---- digits
 

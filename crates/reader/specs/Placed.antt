@@ -13,10 +13,10 @@ use Rattle.datum.specs.NameTableLaws.{isShort}
 use Rattle.reader.specs.declared.place.Place.{Place}
 use Rattle.reader.specs.declared.place.Step.{Step}
 use Rattle.reader.specs.declared.place.Step.the-variants.{Went, Refused}
-use Rattle.reader.specs.Numbering.{datumWords}
-use Rattle.reader.specs.Elements.{Answer, got, back, Reading}
-use Rattle.reader.specs.ElementLaws.{Within}
-use Rattle.reader.specs.Read.{filled}
+use Rattle.reading.specs.Numbering.{datumWords}
+use Rattle.reading.specs.Elements.{Answer, got, back, Reading}
+use Rattle.reading.specs.ElementLaws.{Within}
+use Rattle.reading.specs.Read.{filled}
 
 -- ---- items
 

@@ -6,9 +6,9 @@ use native.Mathlib.Omega.{arith}
 use lib.ListN.{length, getD, take, drop, set, replicate, length-append, length-replicate, length-set}
 use lib.Seq.{set-at, getD-at}
 use Rattle.datum.specs.Datum.{Datum, Data, constantD, nameD, listD, noneD, moreD, datumItems, dataItems}
-use Rattle.reader.specs.Numbering.{datumWords, dataWords}
-use Rattle.reader.specs.Elements.{Reading, onto}
-use Rattle.reader.specs.Read.{filled}
+use Rattle.reading.specs.Numbering.{datumWords, dataWords}
+use Rattle.reading.specs.Elements.{Reading, onto}
+use Rattle.reading.specs.Read.{filled}
 use Rattle.reader.specs.Placed.{put3, itemsOf, wordsOf, itemsAround, openPair, wordsAround, nextItem, placed}
 
 -- ---- three words an item

@@ -13,8 +13,8 @@ use Rattle.datum.specs.Datum.{Datum, Data, listD, noneD, datumItems, dataItems}
 use Rattle.datum.specs.NameTable.{slots}
 use Rattle.datum.specs.NameTableLaws.{isShort}
 use Rattle.reader.specs.declared.place.Place.{Place}
-use Rattle.reader.specs.Numbering.{datumWords}
-use Rattle.reader.specs.Elements.{
+use Rattle.reading.specs.Numbering.{datumWords}
+use Rattle.reading.specs.Elements.{
   Answer,
   got,
   back,
@@ -28,8 +28,8 @@ use Rattle.reader.specs.Elements.{
   isWithin,
   begin,
 }
-use Rattle.reader.specs.ElementLaws.{Within, within-is}
-use Rattle.reader.specs.Read.{filled}
+use Rattle.reading.specs.ElementLaws.{Within, within-is}
+use Rattle.reading.specs.Read.{filled}
 use Rattle.reader.specs.Placed.{
   put3,
   itemsOf,

@@ -13,7 +13,7 @@ use Rattle.words.specs.Lists.{equal, all}
 use Rattle.words.specs.ListLaws.{either, never, equal-true}
 use Rattle.datum.specs.NameTable.{slot, slots, lengthAt, nameAt}
 use Rattle.datum.specs.NameTableLaws.{isShort, length-slots, name-at}
-use Rattle.reader.specs.Numbering.{numberOf}
+use Rattle.reading.specs.Numbering.{numberOf}
 use Rattle.reader.specs.Stored.{namesIn, stored}
 
 -- ---- comparing

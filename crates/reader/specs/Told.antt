@@ -11,9 +11,9 @@ use Rattle.datum.specs.Constant.{integer, boolean}
 use Rattle.reader.specs.declared.token.Cursor.{Cursor}
 use Rattle.reader.specs.declared.token.Token as T
 use Rattle.reader.specs.declared.token.Token.the-variants.{End, Open, Close, Boolean, Integer, Name, Refused}
-use Rattle.reader.specs.Token.{nothing, hash, tokensAfter, isRunning, isSeparating, run}
-use Rattle.reader.specs.Meaning.{Meaning, begins, ends, constant, name, refused, meaningOf}
-use Rattle.reader.specs.RecipeText.{EndsRun}
+use Rattle.reading.specs.Token.{nothing, hash, tokensAfter, isRunning, isSeparating, run}
+use Rattle.reading.specs.Meaning.{Meaning, begins, ends, constant, name, refused, meaningOf}
+use Rattle.reading.specs.RecipeText.{EndsRun}
 
 -- the meanings of the tokens from a place on
 unfoldable pub meaningsFrom : List ℕ → ℕ → List Meaning

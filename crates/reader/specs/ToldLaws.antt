@@ -13,7 +13,7 @@ use Rattle.words.specs.Lists.{within, all, any, equal, part}
 use Rattle.words.specs.ListLaws.{either, never, and-left, all-append, part-more, part-split, length-part}
 use Rattle.words.specs.Text.{bytes}
 use Rattle.datum.specs.Constant.{boolean}
-use Rattle.reader.specs.Token.{
+use Rattle.reading.specs.Token.{
   Class,
   foreign,
   Token,
@@ -36,9 +36,9 @@ use Rattle.reader.specs.Token.{
   ended,
   tokensAfter,
 }
-use Rattle.reader.specs.Meaning.{Meaning, begins, ends, constant, name, refused, meaningOf, isName, isNumeral, integerOf, nameOf}
-use Rattle.reader.specs.RecipeText.{EndsRun, atEnd, before}
-use Rattle.reader.specs.TokenLaws.{separator-skipped, run-taken}
+use Rattle.reading.specs.Meaning.{Meaning, begins, ends, constant, name, refused, meaningOf, isName, isNumeral, integerOf, nameOf}
+use Rattle.reading.specs.RecipeText.{EndsRun, atEnd, before}
+use Rattle.reading.specs.TokenLaws.{separator-skipped, run-taken}
 use Rattle.reader.specs.Told.{meaningsFrom, Skipped, RunTo, Took, TurnedBack, Told, RunTold, FlagTold}
 use Rattle.reader.specs.declared.token.Token as T
 use Rattle.reader.specs.declared.token.Token.the-variants.{End, Open, Close, Boolean, Integer, Name, Refused}

@@ -4,7 +4,7 @@ ghost use Prim.Native.Nat.{ℕ, _+_, _*_, _≤_, _<_};
 ghost use lib.ListN.{length};
 ghost use Rattle.words.specs.Lists.{equal};
 ghost use Rattle.datum.specs.NameTable.{lengthAt, nameAt};
-ghost use Rattle.reader.specs.Numbering.{numberOf};
+ghost use Rattle.reading.specs.Numbering.{numberOf};
 ghost use Rattle.reader.specs.Stored.{stored, namesIn};
 
 fn wide(b: u8) -> usize

@@ -4,8 +4,8 @@ ghost use mathlib.Core.Bool.{true};
 ghost use Prim.Native.Nat.{_≤_, min};
 ghost use lib.ListN.{length, drop};
 ghost use Rattle.words.specs.Lists.{all};
-ghost use Rattle.reader.specs.Token.{isDigit};
-ghost use Rattle.reader.specs.Meaning.{isNegative, isNumeral, unsigned, valueFrom, signed, integerOf};
+ghost use Rattle.reading.specs.Token.{isDigit};
+ghost use Rattle.reading.specs.Meaning.{isNegative, isNumeral, unsigned, valueFrom, signed, integerOf};
 ghost use Rattle.reader.specs.Answers.{integerMeaning};
 use crate::bytes::is_digit;
 

@@ -4,7 +4,7 @@ use Rattle.reader.proofs.names.find.Tie as tie
 use native.Mathlib.Omega.{arith}
 use mathlib.Core.Path.{_≡_, refl, sym, _∙_}
 use Prim.Native.Nat.{_≤_, _<_, _-_, _+_}
-use Rattle.reader.specs.Numbering.{numberOf}
+use Rattle.reading.specs.Numbering.{numberOf}
 use Rattle.reader.specs.Stored.{namesIn}
 use Rattle.reader.specs.StoredLaws.{find-start, find-step, find-here, find-end}
 use borrow.Author.Needs.{needs}

@@ -7,7 +7,7 @@ use Prim.Native.Nat.{_≤_, _-_, _<_}
 use borrow.Author.Tests.{not-true, not-false}
 use lib.ListN.{length, drop}
 use Rattle.words.specs.Lists.{all}
-use Rattle.reader.specs.Token.{isDigit}
+use Rattle.reading.specs.Token.{isDigit}
 use Rattle.reader.specs.NumberLaws.{digits-step, digits-stop, digits-end}
 use borrow.Author.Needs.{needs}
 

@@ -6,8 +6,8 @@ use mathlib.Core.Path.{_≡_, refl, sym, ap, _∙_}
 use Prim.Native.Nat.{_≤_, _-_, _<_, _+_, _*_, min}
 use lib.ListN.{length, drop, getD}
 use Rattle.words.specs.Lists.{all}
-use Rattle.reader.specs.Token.{isDigit}
-use Rattle.reader.specs.Meaning.{valueFrom}
+use Rattle.reading.specs.Token.{isDigit}
+use Rattle.reading.specs.Meaning.{valueFrom}
 use Rattle.reader.specs.NumberLaws.{all-at, digit-range, value-step, value-end, value-least}
 use borrow.Author.Needs.{needs}
 

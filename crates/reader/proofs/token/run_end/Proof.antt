@@ -9,7 +9,7 @@ use borrow.Author.Tests.{not-true, not-false}
 use lib.ListN.{length}
 use Rattle.words.specs.Lists.{all, part}
 use Rattle.words.specs.ListLaws.{part-none}
-use Rattle.reader.specs.Token.{isRunning}
+use Rattle.reading.specs.Token.{isRunning}
 use Rattle.reader.specs.ToldLaws.{run-step, run-stops, end-stops}
 use borrow.Author.Needs.{needs}
 

@@ -11,9 +11,9 @@ use mir.Syntax.{w32}
 use mir.Val.{ofZ}
 use mir.Facts.{toZ-ofZ}
 use Rattle.datum.specs.Constant.{integer}
-use Rattle.reader.specs.Meaning.{constant}
+use Rattle.reading.specs.Meaning.{constant}
 use Rattle.reader.specs.Answers.{integerMeaning}
-use Rattle.reader.specs.MeaningLaws.{numeral-means, other-means, name-is, name-malformed}
+use Rattle.reading.specs.MeaningLaws.{numeral-means, other-means, name-is, name-malformed}
 
 sub-word : tie.Need-sub-word
 sub-word c =

@@ -7,7 +7,7 @@ use mathlib.Core.Bool.{true, false}
 use Prim.Native.Nat.{_<_, _+_}
 use borrow.Author.Tests.{not-true, not-false}
 use lib.ListN.{length}
-use Rattle.reader.specs.Meaning.{begins, ends}
+use Rattle.reading.specs.Meaning.{begins, ends}
 use Rattle.reader.specs.ToldLaws.{end-taken, opening-taken, closing-taken, foreign-taken, run-longer, took-skipped, back-skipped, run-told, flag-told}
 
 skip-requires : tie.Need-skip-requires
