@@ -47,7 +47,7 @@ module _ (number : Binding → List ℕ) (is : Numbering number) where
   boundBy-numbers (binds b x ∷ l) = ap (λ (r : List ℕ). number b ++ r) (boundBy-numbers l)
 
   module _ {b : Binding} {n : ℕ} (h : number b ≡ n ∷ []) where
-    -- the first of these pairs, and the rest, which is numbered from i on
+    -- the first of these pairs has no number or the number k, and the rest goes on from there
     data First (p : Binding × Name) (ps : List (Binding × Name)) (k : ℕ) : Type 0 where
       skipped : (v : ℕ) → (b ≡ p .0 → ⊥) → numbers ps ≡ upFrom k v → First p ps k
       taken : (v : ℕ) → (b ≡ p .0 → n ≡ k) → numbers ps ≡ upFrom (suc k) v → First p ps k
