@@ -13,7 +13,7 @@ use Rattle.recipe.specs.Tree.{Tree, name, pair, element, tail, mark, produce, b
 use Rattle.core_term.specs.Term.{Term}
 use Rattle.expansion.specs.Lookup.{quote, if, lambda, let-syntax, letrec-syntax, auxiliary, Found, bound, form, operation, nothing, lookup}
 use Rattle.expansion.specs.Transcribe.{transcribe}
-use Rattle.expansion.specs.Computation.{State, looked, M, addVariables, addMacros, addStep}
+use Rattle.expansion.specs.Computation.{looked, M, addVariables, addMacros, addStep}
 use Rattle.expansion.specs.Forms.{formals, keywords, rulesForms, expandAll, expandQuote, expandIf, expandLambda, expandMacros, expandUse, expandOperands, expandList, expandName, expandApplication, expandPair, expandTree, expand}
 use Rattle.private_names.specs.Relations.{ListRel, length-rel, list-map, map-rel}
 use Rattle.private_names.specs.Shapes.{empties, constants, names₂, pairs, RuleOf, tree-map, size-rel, names-rel, isListOf-rel, element-rel, tail-rel}
@@ -23,17 +23,17 @@ use Rattle.private_names.specs.Names.{Kind, Coherent, Ready, Raw, NameRe
 use Rattle.private_names.specs.Lookups.{lookup-rel, strip-eq}
 use Rattle.private_names.specs.Steps.{older-le, Below, Marked, Transcribed, Result, mark-rel, produce-rel, result-is, result-below, result-ready, result-coherent}
 use Rattle.private_names.specs.Terms.{noneCs, moreCs, variableCs, operationCs, datumCs, datumCs-eq, ifCs, lambdaCs-eq, applicationCs, TermRel, TermsRel, formal-rel}
-use Rattle.private_names.specs.States.{StateRel, macros-up, macros-length, macros-append, macro-at, new-macros}
-use Rattle.private_names.specs.Outcomes.{starvations, Agree, earlier, bind-agree, give-agree, refuse-agree, test-agree, show-agree, goes-agree, get-agree, orRule-agree}
+use Rattle.private_names.specs.States.{macros-up, macros-length, macros-append, macro-at, new-macros}
+use Rattle.private_names.specs.Outcomes.{starvations, Agree, Agrees, earlier, bind-agree, give-agree, refuse-agree, test-agree, show-agree, goes-agree, get-agree, orRule-agree}
 use Rattle.private_names.specs.FormsKept.{isLambda-rel, isMacros-rel, keywords-rel, rulesForms-rel, distinct-names, readRules-agree, firstFit-rel, scoped-rel}
 
 module _ (ρ : Renaming) (raw : Raw ρ) where
   -- ---- the forms, where expansion keeps the relation
 
   module _ (limit : ℕ) (operations : List ℕ) (fuel : ℕ) (rec rec′ : Tree → M (Term Name))
-      (good : (k : ℕ) (Q : Kind) → Coherent ρ Q → Ready ρ Q → Below k Q → (t u : Tree) → TreeRel ρ raw Q t u → (s s′ : State) → StateRel ρ raw k s s′ → Agree ρ raw k (TermRel ρ) (rec t s) (rec′ u s′))
+      (good : (k : ℕ) (Q : Kind) → Coherent ρ Q → Ready ρ Q → Below k Q → (t u : Tree) → TreeRel ρ raw Q t u → Agrees ρ raw k (TermRel ρ) (rec t) (rec′ u))
       (k : ℕ) (Q : Kind) (co : Coherent ρ Q) (rd : Ready ρ Q) (be : Below k Q) where
-    all-agree : {t u : Tree} → TreeRel ρ raw Q t u → (s s′ : State) → StateRel ρ raw k s s′ → Agree ρ raw k (TermsRel ρ) (expandAll limit operations fuel rec t s) (expandAll limit operations fuel rec′ u s′)
+    pub all-agree : {t u : Tree} → TreeRel ρ raw Q t u → Agrees ρ raw k (TermsRel ρ) (expandAll limit operations fuel rec t) (expandAll limit operations fuel rec′ u)
     unfolding expandAll
     all-agree empties s s′ q = give-agree ρ raw k _ _ s s′ noneCs q
     all-agree constants s s′ q = give-agree ρ raw k _ _ s s′ noneCs q
@@ -43,26 +43,26 @@ module _ (ρ : Renaming) (raw : Raw ρ) where
         bind-agree ρ raw k {R = TermsRel ρ} _ _ _ _ u u′ (all-agree r u u′ q′) λ v′ w′ z z′ e′ q″.
         give-agree ρ raw k _ _ z z′ (moreCs e e′) q″
 
-    operands-agree : (a b : Term Name) → TermRel ρ a b → {t u : Tree} → TreeRel ρ raw Q t u → (s s′ : State) → StateRel ρ raw k s s′ → Agree ρ raw k (TermRel ρ) (expandOperands limit operations fuel rec a t s) (expandOperands limit operations fuel rec′ b u s′)
+    pub operands-agree : (a b : Term Name) → TermRel ρ a b → {t u : Tree} → TreeRel ρ raw Q t u → Agrees ρ raw k (TermRel ρ) (expandOperands limit operations fuel rec a t) (expandOperands limit operations fuel rec′ b u)
     unfolding expandOperands
     operands-agree a b e r s s′ q =
         bind-agree ρ raw k {R = TermsRel ρ} _ _ _ _ s s′ (all-agree r s s′ q) λ v w u u′ e′ q′.
         give-agree ρ raw k _ _ u u′ (applicationCs e e′) q′
 
-    application-agree : {a b t u : Tree} → TreeRel ρ raw Q a b → TreeRel ρ raw Q t u → (s s′ : State) → StateRel ρ raw k s s′ → Agree ρ raw k (TermRel ρ) (expandApplication limit operations fuel rec a t s) (expandApplication limit operations fuel rec′ b u s′)
+    application-agree : {a b t u : Tree} → TreeRel ρ raw Q a b → TreeRel ρ raw Q t u → Agrees ρ raw k (TermRel ρ) (expandApplication limit operations fuel rec a t) (expandApplication limit operations fuel rec′ b u)
     unfolding expandApplication
     application-agree p r s s′ q =
         bind-agree ρ raw k {R = TermRel ρ} _ _ _ _ s s′ (good k Q co rd be _ _ p s s′ q) λ v w u u′ e q′.
         operands-agree v w e r u u′ q′
 
-    quote-agree : {t u : Tree} → TreeRel ρ raw Q t u → (s s′ : State) → StateRel ρ raw k s s′ → Agree ρ raw k (TermRel ρ) (expandQuote limit operations fuel rec t s) (expandQuote limit operations fuel rec′ u s′)
+    quote-agree : {t u : Tree} → TreeRel ρ raw Q t u → Agrees ρ raw k (TermRel ρ) (expandQuote limit operations fuel rec t) (expandQuote limit operations fuel rec′ u)
     unfolding expandQuote
     quote-agree r s s′ q =
         test-agree ρ raw k 13 _ _ _ _ s s′ (isListOf-rel 2 r) q
         (show-agree ρ raw k _ _ _ _ s s′ λ fine.
         give-agree ρ raw k _ _ s s′ (datumCs-eq (strip-eq ρ raw rd (element-rel 1 r) fine)) q)
 
-    if-agree : {t u : Tree} → TreeRel ρ raw Q t u → (s s′ : State) → StateRel ρ raw k s s′ → Agree ρ raw k (TermRel ρ) (expandIf limit operations fuel rec t s) (expandIf limit operations fuel rec′ u s′)
+    if-agree : {t u : Tree} → TreeRel ρ raw Q t u → Agrees ρ raw k (TermRel ρ) (expandIf limit operations fuel rec t) (expandIf limit operations fuel rec′ u)
     unfolding expandIf
     if-agree r s s′ q =
         test-agree ρ raw k 13 _ _ _ _ s s′ (isListOf-rel 4 r) q
@@ -71,7 +71,7 @@ module _ (ρ : Renaming) (raw : Raw ρ) where
         bind-agree ρ raw k {R = TermRel ρ} _ _ _ _ v v′ (good k Q co rd be _ _ (element-rel 3 r) v v′ q″) λ c c′ w w′ e″ p.
         give-agree ρ raw k _ _ w w′ (ifCs e e′ e″) p)
 
-    lambda-agree : {t u : Tree} → TreeRel ρ raw Q t u → (s s′ : State) → StateRel ρ raw k s s′ → Agree ρ raw k (TermRel ρ) (expandLambda limit operations fuel rec t s) (expandLambda limit operations fuel rec′ u s′)
+    lambda-agree : {t u : Tree} → TreeRel ρ raw Q t u → Agrees ρ raw k (TermRel ρ) (expandLambda limit operations fuel rec t) (expandLambda limit operations fuel rec′ u)
     unfolding expandLambda formals addVariables
     lambda-agree {t} {u} r s s′ q =
         let f = names-rel (element-rel 1 r) in
@@ -86,7 +86,7 @@ module _ (ρ : Renaming) (raw : Raw ρ) where
         λ a b y y′ e q″.
         give-agree ρ raw k _ _ y y′ (lambdaCs-eq (q .variables) (list-map (formal-rel ρ rd raw) f) e) q″))))
 
-    macros-agree : (inside : Bool) (x y : Name) {t u : Tree} → TreeRel ρ raw Q t u → (s s′ : State) → StateRel ρ raw k s s′ → Agree ρ raw k (TermRel ρ) (expandMacros limit operations fuel rec inside x t s) (expandMacros limit operations fuel rec′ inside y u s′)
+    macros-agree : (inside : Bool) (x y : Name) {t u : Tree} → TreeRel ρ raw Q t u → Agrees ρ raw k (TermRel ρ) (expandMacros limit operations fuel rec inside x t) (expandMacros limit operations fuel rec′ inside y u)
     unfolding expandMacros addMacros
     macros-agree inside x y {t} {u} r s s′ q =
         let j = length (s .macros) in
@@ -110,7 +110,7 @@ module _ (ρ : Renaming) (raw : Raw ρ) where
           macros = macros-append ρ raw (q′ .macros) (new-macros ρ raw _ Q co rd (λ j i b ms x. older-le k _ ms (q′ .enough) (be j i b ms x)) e);
         })))))
 
-    use-agree : (j : ℕ) {t u : Tree} → TreeRel ρ raw Q t u → (s s′ : State) → StateRel ρ raw k s s′ → Agree ρ raw k (TermRel ρ) (expandUse limit operations fuel rec j t s) (expandUse limit operations fuel rec′ j u s′)
+    use-agree : (j : ℕ) {t u : Tree} → TreeRel ρ raw Q t u → Agrees ρ raw k (TermRel ρ) (expandUse limit operations fuel rec j t) (expandUse limit operations fuel rec′ j u)
     unfolding expandUse addStep
     use-agree j {t} {u} r s s′ q =
         let m = suc (s .steps) in
@@ -135,7 +135,7 @@ module _ (ρ : Renaming) (raw : Raw ρ) where
 
     -- ---- by what the head finds
 
-    list-agree : (f : Found) (x y : Name) {t u : Tree} → TreeRel ρ raw Q t u → (s s′ : State) → StateRel ρ raw k s s′ → Agree ρ raw k (TermRel ρ) (expandList limit operations fuel rec f x t s) (expandList limit operations fuel rec′ f y u s′)
+    list-agree : (f : Found) (x y : Name) {t u : Tree} → TreeRel ρ raw Q t u → Agrees ρ raw k (TermRel ρ) (expandList limit operations fuel rec f x t) (expandList limit operations fuel rec′ f y u)
     unfolding expandList
     list-agree (bound (variable n)) x y r s s′ q = operands-agree _ _ variableCs (tail-rel r) s s′ q
     list-agree (bound (macro n)) x y r s s′ q = use-agree n r s s′ q
@@ -148,7 +148,7 @@ module _ (ρ : Renaming) (raw : Raw ρ) where
     list-agree (operation p) x y r s s′ q = operands-agree _ _ operationCs (tail-rel r) s s′ q
     list-agree nothing x y r s s′ q = refuse-agree ρ raw k 11 s s′ q
 
-    name-agree : (f : Found) (s s′ : State) → StateRel ρ raw k s s′ → Agree ρ raw k (TermRel ρ) (expandName limit operations fuel rec f s) (expandName limit operations fuel rec′ f s′)
+    name-agree : (f : Found) → Agrees ρ raw k (TermRel ρ) (expandName limit operations fuel rec f) (expandName limit operations fuel rec′ f)
     unfolding expandName
     name-agree (bound (variable n)) s s′ q = give-agree ρ raw k _ _ s s′ variableCs q
     name-agree (bound (macro n)) s s′ q = refuse-agree ρ raw k 12 s s′ q
@@ -159,7 +159,7 @@ module _ (ρ : Renaming) (raw : Raw ρ) where
     head-fine : (x : Name) → AllFine ρ (looked x ∷ []) → Fine ρ (looked x)
     head-fine x (and f a) = f
 
-    pair-agree : {a b t u : Tree} → TreeRel ρ raw Q a b → TreeRel ρ raw Q t u → (s s′ : State) → StateRel ρ raw k s s′ → Agree ρ raw k (TermRel ρ) (expandPair limit operations fuel rec a t s) (expandPair limit operations fuel rec′ b u s′)
+    pair-agree : {a b t u : Tree} → TreeRel ρ raw Q a b → TreeRel ρ raw Q t u → Agrees ρ raw k (TermRel ρ) (expandPair limit operations fuel rec a t) (expandPair limit operations fuel rec′ b u)
     unfolding expandPair
     pair-agree empties r s s′ q = application-agree empties r s s′ q
     pair-agree constants r s s′ q = application-agree constants r s s′ q
@@ -168,7 +168,7 @@ module _ (ρ : Renaming) (raw : Raw ρ) where
         (list-agree (lookup operations x) x y (pairs (names₂ p) r) s s′ q)
     pair-agree (pairs c d) r s s′ q = application-agree (pairs c d) r s s′ q
 
-    tree-agree : (t u : Tree) → TreeRel ρ raw Q t u → (s s′ : State) → StateRel ρ raw k s s′ → Agree ρ raw k (TermRel ρ) (expandTree limit operations fuel rec t s) (expandTree limit operations fuel rec′ u s′)
+    tree-agree : (t u : Tree) → TreeRel ρ raw Q t u → Agrees ρ raw k (TermRel ρ) (expandTree limit operations fuel rec t) (expandTree limit operations fuel rec′ u)
     unfolding expandTree
     tree-agree _ _ empties s s′ q = refuse-agree ρ raw k 13 s s′ q
     tree-agree _ _ constants s s′ q = give-agree ρ raw k _ _ s s′ datumCs q
@@ -179,8 +179,7 @@ module _ (ρ : Renaming) (raw : Raw ρ) where
 
   -- ---- any expression
 
-  pub expand-agree : (limit : ℕ) (operations : List ℕ) (fuel gas k : ℕ) (Q : Kind) → Coherent ρ Q → Ready ρ Q → Below k Q → (t u : Tree) → TreeRel ρ raw Q t u → (s s′ : State) → StateRel ρ raw k s s′
-      → Agree ρ raw k (TermRel ρ) (expand limit operations fuel gas t s) (expand limit operations fuel gas u s′)
+  pub expand-agree : (limit : ℕ) (operations : List ℕ) (fuel gas k : ℕ) (Q : Kind) → Coherent ρ Q → Ready ρ Q → Below k Q → (t u : Tree) → TreeRel ρ raw Q t u → Agrees ρ raw k (TermRel ρ) (expand limit operations fuel gas t) (expand limit operations fuel gas u)
   unfolding expand
   expand-agree limit ops fuel zero k Q co rd b t u r s s′ q = λ fine. starvations
   expand-agree limit ops fuel (suc gas) k Q co rd b t u r s s′ q = tree-agree limit ops fuel (expand limit ops fuel gas) (expand limit ops fuel gas) (expand-agree limit ops fuel gas) k Q co rd b t u r s s′ q

@@ -21,7 +21,8 @@ use Rattle.private_names.specs.Names.{Kind, Coherent, Raw, NameRel, kept
 use Rattle.private_names.specs.Steps.{Older, Below}
 use Rattle.private_names.specs.States.{Literal, RuleRel, RulesRel, no-rule, rule, MacrosRel, no-macro, with}
 use Rattle.private_names.specs.Holes.{Hole, first, later, hole-tree, hole-here, hole-elements, hole-element-0, hole-element-1}
-use Rattle.private_names.specs.Places.{Scope, hasVariable, Still, InTemplate, stays, turns, still-dots, still-wild, template-dots, ChosenRules, Foreign, AtRest, rest-coherent, rest-below, still-rel}
+use Rattle.private_names.specs.Scopes.{Scope, hasVariable}
+use Rattle.private_names.specs.Places.{Still, InTemplate, stays, turns, still-dots, still-wild, template-dots, ChosenRules, Foreign, AtRest, rest-coherent, rest-below, still-rel}
 
 -- ---- no variable of this number
 
@@ -73,7 +74,7 @@ module _ (ρ : Renaming) (β : Scope) where
       let p = hole-element-0 r in
       let vs = variables isEllipsis ls 0 (tail (element 0 t)) in
       let ws : vs ≡ variables isEllipsis ms 0 (tail (element 0 u)) = ap₂ (λ l p. variables isEllipsis l 0 (tail p)) (list-eq (λ x y q. q .eq) l) (still-tree p) in
-      ruleOf-by (Still ρ β) still-same (still-dots ρ β) (still-wild ρ β) l (InTemplate ρ β) (template-dots ρ β) t u
+      ruleOf-by (Still ρ β) still-same (still-wild ρ β) isEllipsis isEllipsis (still-dots ρ β) l (InTemplate ρ β) (template-dots ρ β) t u
       (isListOf-rel 2 (hole-tree {R = λ x y. Unit {0}} (λ x y s. tt) (λ t u q. tree-map (λ x y s. tt) q) r)) p (hole-here (hole-element-1 r))
       (λ x y q. subst (λ l. variableFrom 0 vs x ≡ variableFrom 0 l y) ws (variable-eq vs e f x y q))
     where
@@ -87,13 +88,13 @@ module _ (ρ : Renaming) (β : Scope) where
       → OptionRel (ListRel FormRule) (traverse (ruleOf isEllipsis ls) (elements t)) (traverse (ruleOf isEllipsis ms) (elements u))
   unfolding traverse element elements
   chosen-rules l (first r s) e f = mapBoth-rel _∷_ _∷_ (λ x y u v p q. joins (chosen p) q) (chosen-rule l r e f)
-      (plain-rules (traverse-rel _ _ (ruleOf-rel (Still ρ β) still-same (still-dots ρ β) (still-wild ρ β) l) (elements-rel s)))
-  chosen-rules l (later s r) e f = mapBoth-rel _∷_ _∷_ (λ x y u v p q. joins (plain p) q) (ruleOf-rel (Still ρ β) still-same (still-dots ρ β) (still-wild ρ β) l _ _ s) (chosen-rules l r e f)
+      (plain-rules (traverse-rel _ _ (ruleOf-rel (Still ρ β) still-same (still-wild ρ β) isEllipsis isEllipsis (still-dots ρ β) l) (elements-rel s)))
+  chosen-rules l (later s r) e f = mapBoth-rel _∷_ _∷_ (λ x y u v p q. joins (plain p) q) (ruleOf-rel (Still ρ β) still-same (still-wild ρ β) isEllipsis isEllipsis (still-dots ρ β) l _ _ s) (chosen-rules l r e f)
 
   chosen-form : (j : ℕ) {t u : Tree} → Hole (Still ρ β) (TreeOf (InTemplate ρ β)) (suc (suc j) ∷ 1 ∷ []) t u → hasVariable j (ρ .old) t ≡ false → hasVariable j (ρ .new) t ≡ false → OptionRel (ListRel FormRule) (rulesOf t) (rulesOf u)
   unfolding rulesOf hasVariable element elements tail onPair
   chosen-form j (later h (later l r)) e f =
-      guard-rel (isRulesForm-rel (Still ρ β) still-same (still-dots ρ β) (still-wild ρ β) _ _ (onName-rel _ _ (λ x y s. ap isSyntaxRules (s .eq)) false h) l (length-rel (hole-elements r)))
+      guard-rel (isRulesForm-rel (Still ρ β) (still-dots ρ β) (still-wild ρ β) _ _ (onName-rel _ _ (λ x y s. ap isSyntaxRules (s .eq)) false h) l (length-rel (hole-elements r)))
       (chosen-rules (names-rel l) r e f)
 
   -- a rules form of the form
@@ -101,7 +102,7 @@ module _ (ρ : Renaming) (β : Scope) where
   FormRules t u = TreeOf (Still ρ β) t u ⊎ ChosenRules ρ β t u
 
   pub formRules-read : (t u : Tree) → FormRules t u → OptionRel (ListRel FormRule) (rulesOf t) (rulesOf u)
-  formRules-read t u (inl r) = plain-rules (rulesOf-rel (Still ρ β) still-same (still-dots ρ β) (still-wild ρ β) t u r (onName-rel _ _ (λ x y s. ap isSyntaxRules (s .eq)) false (element-rel 0 r)))
+  formRules-read t u (inl r) = plain-rules (rulesOf-rel (Still ρ β) (still-dots ρ β) (still-wild ρ β) still-same t u r (onName-rel _ _ (λ x y s. ap isSyntaxRules (s .eq)) false (element-rel 0 r)))
   formRules-read t u (inr c) = chosen-form (c .rule) (c .hole) (c .old-free) (c .new-free)
 
   -- ---- as the simulation knows them

@@ -22,7 +22,8 @@ use Rattle.private_names.specs.Outcomes.{eventsOf, OutRel, Agree, bind-a
 use Rattle.private_names.specs.FormsKept.{isMacros-rel, readRules-by}
 use Rattle.private_names.specs.Agree.{expand-agree}
 use Rattle.private_names.specs.Holes.{Hole, here, hole-here, hole-tree, hole-elements, hole-element-0, hole-element-1, hole-element-2}
-use Rattle.private_names.specs.Places.{Scope, rebindAll, Still, InTemplate, still-dots, still-wild, template-dots, template-wild, ChosenRules, Foreign, bindAll-still, bindAll-hole, rebindAll-foreign, AtRest, rest-coherent, rest-ready, rest-below, still-rel}
+use Rattle.private_names.specs.Scopes.{Scope, rebindAll}
+use Rattle.private_names.specs.Places.{Still, InTemplate, still-dots, still-wild, template-dots, template-wild, ChosenRules, Foreign, bindAll-still, bindAll-hole, rebindAll-foreign, AtRest, rest-coherent, rest-ready, rest-below, still-rel}
 use Rattle.private_names.specs.ChosenRule.{FormRule, FormRules, formRules-read, formMacros-rel}
 
 -- the scope of a form's rules: letrec-syntax binds its names there too
@@ -64,10 +65,11 @@ module _ (ρ : Renaming) (β : Scope) where
     unfolding rulesForms
     rulesForms-hole = map-rel (element 1) (element 1) go (hole-elements (hole-element-1 r))
       where
-        go : (t u : Tree) → TreeOf (Still ρ β) t u ⊎ Hole (Still ρ β) (ChosenRules ρ β) (1 ∷ []) t u → FormRules ρ β (element 1 t) (element 1 u)
+        go : (t u : Tree) → Entry t u → FormRules ρ β (element 1 t) (element 1 u)
         go t u (inl q) = inl (element-rel 1 q)
         go t u (inr q) = inr (hole-here (hole-element-1 q))
 
+    -- the rules forms as they are read
     scoped-hole : (inside : Bool) (k : ℕ) → distinct (keywords F) ≡ true → ListRel (FormRules ρ (formScope β inside k F)) (map (cond inside (bindAll macro k (keywords F)) (λ r. r)) (rulesForms F)) (map (cond inside (bindAll macro k (keywords F′)) (λ r. r)) (rulesForms F′))
     unfolding formScope
     scoped-hole true k d = map-rel _ _ go rulesForms-hole
@@ -143,6 +145,8 @@ module _ (ρ : Renaming) where
           macros = macros-append ρ (rawIn γ) (q′ .macros) (formMacros-rel ρ γ (rawIn γ) h (foreign-eq (γ (ρ .old)) (h (ρ .old))) (foreign-eq (γ (ρ .new)) (h (ρ .new))) (suc (v .steps)) e);
         }))))
 
+    -- from a state whose macros have no private name (whatever the template's own names are bound to), the form comes to the same in both runs,
+    -- where what the first shows is fine
     pub form-agree : ((raw : Raw ρ) → StateRel ρ raw 0 s s) → AllFine ρ (eventsOf (expandMacros limit operations fuel (expand limit operations fuel gas) inside x F s))
         → Joined (expandMacros limit operations fuel (expand limit operations fuel gas) inside x F s) (expandMacros limit operations fuel (expand limit operations fuel gas) inside x F′ s)
     form-agree calm fine = record { raw = rawIn γ; outcomes = form-steps (calm (rawIn γ)) fine }

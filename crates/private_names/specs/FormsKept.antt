@@ -56,7 +56,7 @@ module _ {R : Name → Name → Type 0} where
 
 module _ (ρ : Renaming) (raw : Raw ρ) where
   pub distinct-names : (Q : Kind) → Coherent ρ Q → {xs ys : List Name} → ListRel (NameRel ρ raw Q) xs ys → distinct xs ≡ distinct ys
-  distinct-names Q co r = distinct-rel (NameRel ρ raw Q) (same-rel ρ raw Q co) (dots-rel ρ raw) (wild-rel ρ raw) r
+  distinct-names Q co r = distinct-rel (NameRel ρ raw Q) (same-rel ρ raw Q co) r
 
   -- ---- rules
 
@@ -75,7 +75,7 @@ module _ (ρ : Renaming) (raw : Raw ρ) where
   pub readRules-agree : (k : ℕ) (Q : Kind) → Coherent ρ Q → Ready ρ Q → {rs ss : List Tree} → ListRel (TreeRel ρ raw Q) rs ss → (s t : State) → StateRel ρ raw k s t
       → Agree ρ raw k (ListRel (ListRel (RuleOf (NameRel ρ raw Q) (NameRel ρ raw Q)))) (readRules rs s) (readRules ss t)
   readRules-agree k Q co rd r s t q = readRules-by k (TreeRel ρ raw Q) (ListRel (RuleOf (NameRel ρ raw Q) (NameRel ρ raw Q)))
-      (λ t u r fine. rulesOf-rel (NameRel ρ raw Q) (same-rel ρ raw Q co) (dots-rel ρ raw) (wild-rel ρ raw) t u r (isSyntaxRules-rel ρ raw rd (element-rel 0 r) fine)) r s t q
+      (λ t u r fine. rulesOf-rel (NameRel ρ raw Q) (dots-rel ρ raw) (wild-rel ρ raw) (same-rel ρ raw Q co) t u r (isSyntaxRules-rel ρ raw rd (element-rel 0 r) fine)) r s t q
 
   -- the same rule fits in both runs
   pub firstFit-rel : (k : ℕ) (P : Kind) → Ready ρ P → {rs ss : List Rule} → RulesRel ρ raw k rs ss → (t u : Tree) → TreeRel ρ raw P t u → Looks ρ (firstFit rs t .0) → RuleOption ρ raw k (firstFit rs t .1) (firstFit ss u .1)

@@ -20,6 +20,7 @@ pub mod Outcomes
 pub mod FormsKept
 pub mod Agree
 pub mod Holes
+pub mod Scopes
 pub mod Places
 pub mod ChosenRule
 pub mod Form

@@ -42,6 +42,10 @@ module _ (ρ : Renaming) (raw : Raw ρ) where
   abbrev pub Agree : ℕ → {A : Type 0} (R : A → A → Type 0) → Out A → Out A → Type 1
   Agree k R x y = AllFine ρ (eventsOf x) → OutRel k R x y
 
+  -- the same from any two states that agree
+  abbrev pub Agrees : ℕ → {A : Type 0} (R : A → A → Type 0) → M A → M A → Type 1
+  Agrees k R m m′ = (s s′ : State) → StateRel ρ raw k s s′ → Agree k R (m s) (m′ s′)
+
   pub after-rel : (k : ℕ) {A : Type 0} {R : A → A → Type 0} (l l′ : Events) {x y : Out A} → OutRel k R x y → OutRel k R (after l x) (after l′ y)
   unfolding after
   after-rel k l l′ (dones r s) = dones r s

@@ -1,101 +1,21 @@
--- Trees in place, whose names never stood in a result: they have no marks, and their number tells their binding.
--- Two such trees that differ in the private name of one template, and what binding names does to them.
-use mathlib.Core.Path.{_≡_, refl, ap, ap₂, sym, _∙_, subst}
+-- The trees of the two runs in place: equal but for the private names of one template. What binding names does to them.
+use mathlib.Core.Path.{_≡_, refl, ap, sym, _∙_, subst}
 use mathlib.Core.Bool.{Bool, true, false, not, _&&_, _||_, cond, false≢true}
 use mathlib.Core.List.{List, [], _∷_}
-use mathlib.Core.Option.{Option, some}
+use mathlib.Core.Option.{some}
 use Prim.Native.Nat.{ℕ, suc}
-use borrow.Author.Tests.{eq-eqb}
-use lib.Dec.{T, eqb, eqb→eq}
+use lib.Dec.{eqb}
 use Rattle.words.specs.Lists.{any}
-use Rattle.recipe.specs.Name.{Binding, Name, same, distinct, isEllipsis, isWildcard, giveBinding, bindName}
-use Rattle.recipe.specs.Tree.{Tree, names, element, tail, onNames, bind, bindAll}
-use Rattle.expansion.specs.Rules.{variables}
+use Rattle.recipe.specs.Name.{Binding, Name, same, distinct, isEllipsis, isWildcard, bindName}
+use Rattle.recipe.specs.Tree.{Tree, onNames, bind, bindAll}
 use Rattle.expansion.specs.Forms.{bindings}
-use Rattle.private_names.specs.Relations.{ListRel, ends, joins, any-rel}
-use Rattle.private_names.specs.Shapes.{TreeOf, names-rel, element-rel, tail-rel, onNames-rel}
+use Rattle.private_names.specs.Relations.{ListRel, ends, joins}
+use Rattle.private_names.specs.Shapes.{TreeOf, onNames-rel}
 use Rattle.private_names.specs.Holes.{Hole, hole-onNames, graph, hole-graph}
-use Rattle.private_names.specs.RulesKept.{variables-rel}
-use Rattle.private_names.specs.Sameness.{iff-eq, same→Same, Same→same}
 use Rattle.private_names.specs.Shown.{Renaming, ofCopy, not-private-not-copy, binds-fine, AllFine, and}
 use Rattle.private_names.specs.Names.{Kind, Coherent, Ready, Raw, NameRel, kept}
 use Rattle.private_names.specs.Steps.{Older, Below}
-
--- ---- names in place
-
--- the bindings in force, by number
-abbrev pub Scope : Type 0
-Scope = ℕ → Option Binding
-
-pub record Placed (β : Scope) (x : Name) : Type 0 where
-  pub unproduced : x .produced ≡ false
-  pub unmarked : x .marks ≡ []
-  pub bound : x .binding ≡ β (x .number)
-
--- they are the same when their numbers are equal
-pub same-placed : (β : Scope) (x y : Name) → Placed β x → Placed β y → same x y ≡ eqb (x .number) (y .number)
-same-placed β x y p q = iff-eq (same x y) (eqb (x .number) (y .number))
-    (λ s. subst T (sym (eq-eqb _ _ (same→Same x y s .number))) tt)
-    (λ t. let e : x .number ≡ y .number = eqb→eq _ _ t in
-    Same→same x y (record { number = e; marks = p .unmarked ∙ sym (q .unmarked); binding = p .bound ∙ ap β e ∙ sym (q .bound) }))
-
--- a name is bound
-unfoldable pub rebind : ℕ → Binding → Scope → Scope
-rebind n b β = λ k. cond (eqb n k) (some b) (β k)
-
-unfoldable pub rebindAll : (ℕ → Binding) → ℕ → List Name → Scope → Scope
-rebindAll f k [] β = β
-rebindAll f k (x ∷ xs) β = rebindAll f (suc k) xs (rebind (x .number) (f k) β)
-
-bindName-placed : (β : Scope) (i : Name) (b : Binding) (x : Name) → Placed β i → Placed β x → Placed (rebind (i .number) b β) (bindName i b x)
-unfolding bindName giveBinding rebind
-bindName-placed β i b x p q = go (same i x) (same-placed β i x p q)
-  where
-    go : (c : Bool) → c ≡ eqb (i .number) (x .number) → Placed (rebind (i .number) b β) (cond c (giveBinding b x) x)
-    go true e = record { unproduced = q .unproduced; unmarked = q .unmarked; bound = rw (sym e) }
-    go false e = record { unproduced = q .unproduced; unmarked = q .unmarked; bound = rw (sym e) (q .bound) }
-
-bindName-number : (i : Name) (b : Binding) (x : Name) → bindName i b x .number ≡ x .number
-unfolding bindName giveBinding
-bindName-number i b x = go (same i x)
-  where
-    go : (c : Bool) → cond c (giveBinding b x) x .number ≡ x .number
-    go true = refl
-    go false = refl
-
-bindName-item : (i : Name) (b : Binding) (x : Name) → bindName i b x .item ≡ x .item
-unfolding bindName giveBinding
-bindName-item i b x = go (same i x)
-  where
-    go : (c : Bool) → cond c (giveBinding b x) x .item ≡ x .item
-    go true = refl
-    go false = refl
-
--- a name of another number keeps its binding
-still-placed : (β : Scope) (i : Name) (b : Binding) (x : Name) → Placed β x → eqb (i .number) (x .number) ≡ false → Placed (rebind (i .number) b β) x
-unfolding rebind
-still-placed β i b x p e = record { unproduced = p .unproduced; unmarked = p .unmarked; bound = rw e (p .bound) }
-
--- ---- the variables of a rule, by number
-
--- the rule of this rules form, counted from 0, has a variable of this number
-unfoldable pub hasVariable : (rule number : ℕ) → Tree → Bool
-hasVariable j n t = any (λ v. eqb (v .0 .number) n) (variables isEllipsis (names (element 1 t)) 0 (tail (element 0 (element j (tail (tail t))))))
-
--- names of one number in two scopes
-record Moved (β γ : Scope) (x y : Name) : Type 0 where
-  from : Placed β x
-  to : Placed γ y
-  number : x .number ≡ y .number
-
-hasVariable-moved : (β γ : Scope) (j n : ℕ) {t u : Tree} → TreeOf (Moved β γ) t u → hasVariable j n t ≡ hasVariable j n u
-unfolding hasVariable isEllipsis isWildcard
-hasVariable-moved β γ j n r =
-    any-rel _ _ (λ v w q. ap (λ k. eqb k n) (q .names .number))
-    (variables-rel (Moved β γ) (λ i k x y p q. same-placed β i x (p .from) (q .from) ∙ ap₂ eqb (p .number) (q .number) ∙ sym (same-placed γ k y (p .to) (q .to)))
-    (λ x y p. ap (λ k. eqb k 6) (p .number)) (λ x y p. ap (λ k. eqb k 7) (p .number)) (names-rel (element-rel 1 r)) 0 (tail-rel (element-rel 0 (element-rel j (tail-rel (tail-rel r))))))
-
--- ---- the trees of the two runs
+pub use Rattle.private_names.specs.Scopes.{Scope, Placed, same-placed, rebind, rebindAll, bindName-placed, bindName-number, bindName-item, still-placed, hasVariable, Moved, hasVariable-moved}
 
 module _ (ρ : Renaming) (β : Scope) where
   -- a name that is not private is the same in both
@@ -187,7 +107,6 @@ module _ (ρ : Renaming) (β : Scope) (i : Name) (p : Placed β i) (b : Binding)
         new-free = sym (hasVariable-moved β γ (c .rule) (ρ .new) g) ∙ c .new-free;
       }
 
--- no two names of a form are the same, so the later ones keep their bindings
 and-left : (a b : Bool) → (a && b) ≡ true → a ≡ true
 and-left true b e = refl
 and-left false b e = absurd (false≢true e)
@@ -196,6 +115,7 @@ and-right : (a b : Bool) → (a && b) ≡ true → b ≡ true
 and-right true b e = e
 and-right false b e = absurd (false≢true e)
 
+-- no two names of a form are the same, so the later ones keep their bindings
 others : (ρ : Renaming) (β : Scope) (i : Name) → Placed β i → (b : Binding) {xs ys : List Name} → not (any (same i) xs) ≡ true → ListRel (Still ρ β) xs ys → ListRel (Still ρ (rebind (i .number) b β)) xs ys
 unfolding any
 others ρ β i p b e ends = ends

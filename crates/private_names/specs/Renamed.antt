@@ -15,7 +15,8 @@ use Rattle.private_names.specs.Statement.{Choice, formAt, rulesAt, ruleA
 use Rattle.private_names.specs.Shapes.{TreeOf, empties, constants, names₂, pairs}
 use Rattle.private_names.specs.Shown.{Renaming}
 use Rattle.private_names.specs.Holes.{Hole, here, first, later}
-use Rattle.private_names.specs.Places.{Scope, Placed, hasVariable, Still, Turning, InTemplate, stays, turns, ChosenRules}
+use Rattle.private_names.specs.Scopes.{Scope, Placed, hasVariable}
+use Rattle.private_names.specs.Places.{Still, Turning, InTemplate, stays, turns, ChosenRules}
 use Rattle.private_names.specs.Reach.{any-append}
 use Rattle.private_names.specs.Tables.{TreeAll, all-empty, all-constant, all-name, all-pair, uses, Plain, renumberName}
 use Rattle.private_names.specs.Paths.{sub, uses-element}
