@@ -26,7 +26,8 @@ use Rattle.private_names.specs.Outcomes.{eventsOf, events-after, OutRel,
 use Rattle.private_names.specs.FormsKept.{isLambda-rel, isMacros-rel, keywords-rel, rulesForms-rel, readRules-agree, scoped-rel}
 use Rattle.private_names.specs.Agree.{expand-agree}
 use Rattle.private_names.specs.Holes.{Hole, here, first, later}
-use Rattle.private_names.specs.Places.{Scope, rebindAll, Placed, Still, ChosenRules, Foreign, bindAll-still, bindAll-hole, rebindAll-foreign, AtRest, rest-coherent, rest-ready, rest-below, still-rel}
+use Rattle.private_names.specs.Places.{Still, ChosenRules, Foreign, bindAll-still, bindAll-hole, rebindAll-foreign, AtRest, rest-coherent, rest-ready, rest-below, still-rel}
+use Rattle.private_names.specs.Scopes.{Scope, rebindAll}
 use Rattle.private_names.specs.Form.{hole-alike, Joined, form-agree}
 use Rattle.private_names.specs.Reach.{any-append, isAt, isNameAt, Unheaded, UnheadedAll, unheaded-bindAll, Unreached, unreached, none-reached, give-unreached, bind-unreached, bindings-none, read-unreached, all-unreached, operands-unreached, quote-unreached, if-unreached, lambda-unreached, macros-unreached, use-unreached, refuse-unreached, expand-unreached}
 use Rattle.private_names.specs.Tables.{uses}

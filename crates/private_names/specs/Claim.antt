@@ -27,8 +27,8 @@ use Rattle.private_names.specs.Terms.{TermRel, encode-rel}
 use Rattle.private_names.specs.States.{StateRel, no-macro}
 use Rattle.private_names.specs.Outcomes.{eventsOf, OutRel, dones, refusals, starvations}
 use Rattle.private_names.specs.Holes.{Hole, here}
-use Rattle.private_names.specs.Scopes.{hasVariable}
 use Rattle.private_names.specs.Places.{Still, ChosenRules}
+use Rattle.private_names.specs.Scopes.{hasVariable}
 use Rattle.private_names.specs.Reach.{Unheaded, none-reached, expand-unreached}
 use Rattle.private_names.specs.Origins.{All, nil, cons, OwnName, of-look, of-quote, of-form, of-binding, expand-own}
 use Rattle.private_names.specs.Tables.{TreeAll, uses, Layout, layout-true, true-layout, layout-uses, Plain, new-plain, numberAt, tree-numbered, renumberName, treeOf-renumber, count-renumber, layout-renumber, element-onNames}
