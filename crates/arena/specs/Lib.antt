@@ -11,3 +11,4 @@ pub mod Cells
 pub mod CellLaws
 pub mod Names
 pub mod NameLaws
+pub mod Nodes

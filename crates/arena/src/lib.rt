@@ -3,4 +3,5 @@
 pub mod cells;
 pub mod marks;
 pub mod names;
+pub mod nodes;
 pub mod wraps;

@@ -1,0 +1,58 @@
+-- `nodes::open`, by the node's kind.
+use borrow.Author.Needs.{needs}
+use Rattle.arena.proofs.nodes.open.Statement.{statement}
+use Rattle.arena.proofs.nodes.open.Tie as tie
+use Rattle.arena.specs.Nodes.{opens-empty, opens-name, opens-pair, opens-constant}
+
+word-requires : tie.Need-word-requires
+word-requires c κs = search needs
+
+returns : tie.Need-returns
+returns c =
+    let a = c .before .before .before .args in opens-empty (a .work .now) (a .node) _ (c .before .word .ensures) (c .if1 .taken)
+
+word-requires-2 : tie.Need-word-requires-2
+word-requires-2 c κs = search needs
+
+reference-requires : tie.Need-reference-requires
+reference-requires c κs = search needs
+
+returns-2 : tie.Need-returns-2
+returns-2 c =
+    let a = c .before .before .before .before .before .before .args in opens-name (a .work .now) (a .node) _ (c .before .before .before .before .word .ensures) _ _ (c .before .before .if2 .taken) (c .before .word2 .ensures) (c .reference .ensures)
+
+reference-requires-2 : tie.Need-reference-requires-2
+reference-requires-2 c κs = search needs
+
+reference-requires-3 : tie.Need-reference-requires-3
+reference-requires-3 c κs = search needs
+
+returns-3 : tie.Need-returns-3
+returns-3 c =
+    let a = c .before .before .before .before .before .before .before .args in opens-pair (a .work .now) (a .node) _ (c .before .before .before .before .before .word .ensures) _ _ (c .before .before .if3 .taken) (c .before .reference2 .ensures) (c .reference3 .ensures)
+
+word-requires-3 : tie.Need-word-requires-3
+word-requires-3 c κs = search needs
+
+word-requires-4 : tie.Need-word-requires-4
+word-requires-4 c κs = search needs
+
+returns-4 : tie.Need-returns-4
+returns-4 c =
+    let a = c .before .before .before .before .before .before .before .args in opens-constant (a .work .now) (a .node) _ (c .before .before .before .before .before .word .ensures) _ _ (c .before .before .before .before .if1 .left) (c .before .before .before .if2 .left) (c .before .before .if3 .left) (c .before .word3 .ensures) (c .word4 .ensures)
+
+pub open-spec : {M : Type 1} → statement M
+open-spec =
+    tie.close
+    (tie.spec
+    word-requires
+    returns
+    word-requires-2
+    reference-requires
+    returns-2
+    reference-requires-2
+    reference-requires-3
+    returns-3
+    word-requires-3
+    word-requires-4
+    returns-4)
