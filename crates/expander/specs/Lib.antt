@@ -1,0 +1,3 @@
+-- The expansion service: what its tables mean while it runs, and what a call answers and leaves.
+pub mod Memory
+pub mod Service
