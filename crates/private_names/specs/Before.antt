@@ -1,37 +1,36 @@
 -- The run before the form is reached: `before-agree`. Parts before the form are expanded alike, the form comes to the same (Form), and so
 -- do the parts after it (Agree).
 use mathlib.Core.Path.{_≡_, refl, ap, ap₂, sym, _∙_, subst, subst₂}
-use mathlib.Core.Bool.{Bool, true, false, not, _&&_, _||_, cond, true≢false, false≢true}
+use mathlib.Core.Bool.{Bool, true, false, _||_, cond, true≢false, false≢true}
 use mathlib.Core.List.{List, [], _∷_, _++_, map}
-use mathlib.Core.Option.{Option, none, some}
-use Prim.Native.Nat.{ℕ, zero, suc, _+_, _≤_}
+use mathlib.Core.Option.{none}
+use Prim.Native.Nat.{ℕ, zero, suc, _≤_}
 use native.Mathlib.Omega.{arith}
-use lib.ListN.{length, getD}
+use lib.ListN.{length}
 use Rattle.words.specs.Lists.{any}
-use Rattle.recipe.specs.Name.{Binding, variable, macro, Name, distinct, isEllipsis, isWildcard}
-use Rattle.recipe.specs.Tree.{Tree, empty, constant, name, pair, names, onPair, isListOf, elements, element, tail, bindAll}
-use Rattle.core_term.specs.Term.{Term, Terms, variableC, operationC, lambdaC}
-use Rattle.expansion.specs.Lookup.{Form, quote, if, lambda, let-syntax, letrec-syntax, auxiliary, Found, bound, form, operation, nothing, lookup}
-use Rattle.expansion.specs.Rules.{Rule}
-use Rattle.expansion.specs.Computation.{State, Event, looked, quoted, reached, binds, Events, Out, done, refused, starved, M, after, goOn, _>>=_, _>>_, give, refuse, show, test, get, addVariables, addMacros}
-use Rattle.expansion.specs.Forms.{isLambda, formals, isMacros, firstNames, keywords, rulesForms, bindings, readRules, expandAll, expandIf, expandLambda, expandMacros, expandOperands, expandList, expandName, expandApplication, expandPair, expandTree, expand}
+use Rattle.recipe.specs.Name.{variable, macro, Name, distinct}
+use Rattle.recipe.specs.Tree.{Tree, empty, name, pair, names, onPair, elements, element, tail, bindAll}
+use Rattle.core_term.specs.Term.{Term, lambdaC}
+use Rattle.expansion.specs.Lookup.{quote, if, lambda, let-syntax, letrec-syntax, auxiliary, Found, bound, form, operation, nothing, lookup}
+use Rattle.expansion.specs.Computation.{State, reached, Events, Out, done, refused, starved, M, after, goOn, _>>=_, _>>_, give, show, test, get, addVariables, addMacros}
+use Rattle.expansion.specs.Forms.{isLambda, formals, isMacros, firstNames, keywords, rulesForms, bindings, readRules, expandAll, expandIf, expandLambda, expandMacros, expandOperands, expandList, expandApplication, expandPair, expandTree, expand}
 use Rattle.private_names.specs.Statement.{isReachedAt}
-use Rattle.private_names.specs.Relations.{ListRel, ends, joins, map-rel, list-map, list-eq}
-use Rattle.private_names.specs.Shapes.{TreeOf, empties, constants, names₂, pairs, RuleOf, tree-map, names-rel, isListOf-rel, element-rel}
-use Rattle.private_names.specs.Shown.{Renaming, ofCopy, not-private-not-copy, Fine, AllFine, none-left, and, fine-left, fine-right}
-use Rattle.private_names.specs.Names.{Kind, Raw, NameRel, TreeRel}
+use Rattle.private_names.specs.Relations.{ListRel, ends, joins, map-rel, list-map}
+use Rattle.private_names.specs.Shapes.{TreeOf, empties, constants, names₂, pairs, RuleOf, tree-map, names-rel, isListOf-rel}
+use Rattle.private_names.specs.Shown.{Renaming, ofCopy, not-private-not-copy, AllFine, fine-left, fine-right}
+use Rattle.private_names.specs.Names.{Raw, NameRel, TreeRel}
 use Rattle.private_names.specs.Terms.{variableCs, operationCs, noneCs, moreCs, ifCs, applicationCs, lambdaCs, TermRel, TermsRel, FormalRel, same-formal}
 use Rattle.private_names.specs.States.{StateRel, macros-append, new-macros}
-use Rattle.private_names.specs.Outcomes.{eventsOf, events-after, OutRel, dones, refusals, starvations, Agree, after-rel, first-fine, goOn-agree, bind-agree, give-agree}
+use Rattle.private_names.specs.Outcomes.{eventsOf, events-after, OutRel, dones, Agree, after-rel, first-fine, goOn-agree, bind-agree, give-agree}
 use Rattle.private_names.specs.FormsKept.{isLambda-rel, isMacros-rel, keywords-rel, rulesForms-rel, readRules-agree, scoped-rel}
 use Rattle.private_names.specs.Agree.{expand-agree}
-use Rattle.private_names.specs.Holes.{Hole, here, first, later}
-use Rattle.private_names.specs.Places.{Still, ChosenRules, Foreign, bindAll-still, bindAll-hole, rebindAll-foreign, AtRest, rest-coherent, rest-ready, rest-below, still-rel}
+use Rattle.private_names.specs.Holes.{Hole, first, later}
+use Rattle.private_names.specs.Places.{Still, ChosenRules, Foreign, bindAll-hole, rebindAll-foreign, AtRest, rest-coherent, rest-ready, rest-below, still-rel}
 use Rattle.private_names.specs.Scopes.{Scope, rebindAll}
 use Rattle.private_names.specs.Form.{hole-alike, Joined, form-agree}
-use Rattle.private_names.specs.Reach.{any-append, isAt, isNameAt, Unheaded, UnheadedAll, unheaded-bindAll, Unreached, unreached, none-reached, give-unreached, bind-unreached, bindings-none, read-unreached, all-unreached, operands-unreached, quote-unreached, if-unreached, lambda-unreached, macros-unreached, use-unreached, refuse-unreached, expand-unreached}
+use Rattle.private_names.specs.Reach.{any-append, isAt, Unheaded, Unreached, unreached, none-reached, give-unreached, bind-unreached, bindings-none, read-unreached, all-unreached, operands-unreached, quote-unreached, if-unreached, lambda-unreached, macros-unreached, use-unreached, refuse-unreached, expand-unreached}
 use Rattle.private_names.specs.Tables.{uses}
-use Rattle.private_names.specs.Paths.{isAt-item, unused-name, uses-element, uses-elements, uses-bindAll, Headed, headed, in-first, in-later, headed-uses, headed-element, headed-bindAll, unused-unheaded, other-unheaded, hole-at, hole-off}
+use Rattle.private_names.specs.Paths.{isAt-item, unused-name, uses-element, uses-bindAll, Headed, headed, in-first, in-later, headed-uses, headed-element, headed-bindAll, unused-unheaded, other-unheaded, hole-at, hole-off}
 
 -- ---- trees that are still are equal
 

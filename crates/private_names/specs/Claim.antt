@@ -1,10 +1,10 @@
 -- Demand 3, proved: `private-names`.
-use mathlib.Core.Path.{_≡_, refl, ap, ap₂, sym, _∙_, subst, subst₂}
+use mathlib.Core.Path.{_≡_, refl, ap, ap₂, sym, _∙_, subst}
 use mathlib.Core.Logic.{_⊎_, inl, inr}
-use mathlib.Core.Bool.{Bool, true, false, not, _&&_, _||_, cond, true≢false, false≢true}
-use mathlib.Core.List.{List, [], _∷_, _++_, map}
+use mathlib.Core.Bool.{Bool, true, false, not, _&&_, _||_, false≢true}
+use mathlib.Core.List.{List, [], _∷_, map}
 use mathlib.Core.Option.{Option, none, some}
-use Prim.Native.Nat.{ℕ, zero, suc, _+_, _*_, _≤_}
+use Prim.Native.Nat.{ℕ, suc, _+_, _*_, _≤_}
 use native.Mathlib.Omega.{arith}
 use borrow.Author.Tests.{ltb-false, not-true, ne-eqb}
 use lib.Dec.{eqb, ltb, leb}
@@ -16,29 +16,23 @@ use Rattle.recipe.specs.Tree.{Tree, size, names, isName, elements, element, tai
 use Rattle.recipe.specs.TreeLaws.{onNames-size}
 use Rattle.recipe.specs.Table.{itemCount, isLayout, treeOf}
 use Rattle.core_term.specs.Term.{Term}
-use Rattle.expansion.specs.Computation.{start, Event, looked, quoted, reached, binds, Events, Out, done, refused, starved}
+use Rattle.expansion.specs.Computation.{start, Event, Events, Out, done, refused, starved}
 use Rattle.expansion.specs.Forms.{expand}
-use Rattle.expansion.specs.Run.{Outcome, accepted, turnedBack, unfinished, Run, ended, require, operationNumbers, areOperations, expandRecipe, run}
+use Rattle.expansion.specs.Run.{accepted, turnedBack, Run, ended, require, operationNumbers, areOperations, expandRecipe, run}
 use Rattle.private_names.specs.Statement as S
-use Rattle.private_names.specs.Statement.{Choice, formAt, rulesAt, ruleAt, templateAt, isVariableAt, isOldItem, isNew, renamed, isReachedAt, bindsCopy, isOwnedByCopy, isHidden, hypotheses, Answer, answerOf, PrivateNames}
+use Rattle.private_names.specs.Statement.{Choice, formAt, rulesAt, ruleAt, templateAt, isVariableAt, isOldItem, isNew, renamed, isReachedAt, isOwnedByCopy, quotesNoCopy, findsOwn, hypotheses, answerOf, PrivateNames}
 use Rattle.private_names.specs.Shown.{Renaming, isCopy, ofCopy, Fine, AllFine, none-left, and}
 use Rattle.private_names.specs.Names.{Raw}
 use Rattle.private_names.specs.Terms.{TermRel, encode-rel}
 use Rattle.private_names.specs.States.{StateRel, no-macro}
 use Rattle.private_names.specs.Outcomes.{eventsOf, OutRel, dones, refusals, starvations}
-use Rattle.private_names.specs.Holes.{Hole, here}
-use Rattle.private_names.specs.Places.{Still, ChosenRules}
 use Rattle.private_names.specs.Scopes.{hasVariable}
-use Rattle.private_names.specs.Reach.{Unheaded, none-reached, expand-unreached}
+use Rattle.private_names.specs.Reach.{both-true, Unheaded, none-reached, expand-unreached}
 use Rattle.private_names.specs.Origins.{All, nil, cons, OwnName, of-look, of-quote, of-form, of-binding, expand-own}
-use Rattle.private_names.specs.Tables.{TreeAll, uses, Layout, layout-true, true-layout, layout-uses, Plain, new-plain, numberAt, tree-numbered, renumberName, treeOf-renumber, count-renumber, layout-renumber, element-onNames}
-use Rattle.private_names.specs.Paths.{sub, Headed, find, headed-of-element, headed-part, uses-element, uses-elements}
+use Rattle.private_names.specs.Tables.{TreeAll, Layout, layout-true, true-layout, layout-uses, tree-plain, tree-new, numberAt, tree-numbered, treeOf-renumber, count-renumber, layout-renumber, element-onNames}
+use Rattle.private_names.specs.Paths.{sub, Headed, find, headed-of-element, headed-part, uses-elements}
 use Rattle.private_names.specs.Before.{Joins, before-agree, still-eq}
-use Rattle.private_names.specs.Renamed.{isOld, old-some, unbound, Holds, treeAll-element, treeAll-sub, still-tree, path-hole, chosen-rules, rules-hold, uses-sub}
-
-both-true : (a b : Bool) → (a && b) ≡ true → (a ≡ true) × (b ≡ true)
-both-true true b e = (refl, e)
-both-true false b e = absurd (false≢true e)
+use Rattle.private_names.specs.Renamed.{treeAll-element, treeAll-tail, treeAll-sub, element-tail, isOld, old-some, variables-none, unbound, renew, still-tree, Held, held-element, templateIn, Chosen, renamed-holds, renamed-hole}
 
 -- ---- a run that shows the form has passed grounds 7 to 10
 
@@ -106,27 +100,38 @@ module _ (C : ℕ → Bool) (shown : Events) (ρ : Renaming) (items : (i : ℕ) 
   implied true b e f = e
   implied false b e f = absurd (false≢true f)
 
-  hidden-fine : {e : Event} → isHidden C shown e ≡ true → OwnName C shown e → Fine ρ e
-  unfolding isHidden Fine
-  hidden-fine h (of-look {x = x}) = λ c. owned-eq (x .binding) ∙ implied (S.isCopy C x) (isOwnedByCopy C shown (x .binding)) h (sym (copy-eq x) ∙ c)
-  hidden-fine h (of-quote {x = x}) = copy-eq x ∙ not-true (S.isCopy C x) h
-  hidden-fine h of-form = tt
-  hidden-fine h (of-binding {b = b} {x = x} e) = owned-eq (some b) ∙ e ∙ sym (copy-eq x)
+  event-fine : {e : Event} → quotesNoCopy C e ≡ true → findsOwn C shown e ≡ true → OwnName C shown e → Fine ρ e
+  unfolding quotesNoCopy findsOwn Fine
+  event-fine q h (of-look {x = x}) = λ c. owned-eq (x .binding) ∙ implied (S.isCopy C x) (isOwnedByCopy C shown (x .binding)) h (sym (copy-eq x) ∙ c)
+  event-fine q h (of-quote {x = x}) = copy-eq x ∙ not-true (S.isCopy C x) q
+  event-fine q h of-form = tt
+  event-fine q h (of-binding {b = b} {x = x} e) = owned-eq (some b) ∙ e ∙ sym (copy-eq x)
 
-  all-fine : (l : Events) → all (isHidden C shown) l ≡ true → All (OwnName C shown) l → AllFine ρ l
+  all-fine : (l : Events) → all (quotesNoCopy C) l ≡ true → all (findsOwn C shown) l ≡ true → All (OwnName C shown) l → AllFine ρ l
   unfolding all
-  all-fine [] h nil = none-left
-  all-fine (e ∷ l) h (cons o a) = let p = both-true (isHidden C shown e) (all (isHidden C shown) l) h in and (hidden-fine (p .0) o) (all-fine l (p .1) a)
+  all-fine [] q h nil = none-left
+  all-fine (e ∷ l) q h (cons o a) =
+      let r = both-true (quotesNoCopy C e) (all (quotesNoCopy C) l) q in
+      let p = both-true (findsOwn C shown e) (all (findsOwn C shown) l) h in
+      and (event-fine (r .0) (p .0) o) (all-fine l (r .1) (p .1) a)
 
--- ---- the expression and the renumbered one
+-- ---- an expression and the renumbered one, from the start
 
-same-operations : (t u : Tree) → element 0 t ≡ element 0 u → operationNumbers t ≡ operationNumbers u
-unfolding operationNumbers
-same-operations t u e = ap (λ z. map (λ x. x .number) (names z)) e
+calm-start : (ρ : Renaming) (raw : Raw ρ) → StateRel ρ raw 0 start start
+unfolding start
+calm-start ρ raw = record { enough = omega arith; steps = refl; sum = refl; variables = refl; macros = no-macro }
 
-same-test : (t u : Tree) → element 0 t ≡ element 0 u → areOperations t ≡ areOperations u
-unfolding areOperations operationNumbers
-same-test t u e = ap (λ z. all isName (elements z) && (leb (length (map (λ x. x .number) (names z))) operationsMost && (all (ltb 7) (map (λ x. x .number) (names z)) && distinct (names z)))) e
+-- whatever the limit, operations, fuel and gas: where the form of the chosen rule lies at l, with its head name of item p
+pub expressions-agree : (ρ : Renaming) (p limit : ℕ) (operations : List ℕ) (fuel gas : ℕ) (N : ℕ → ℕ) (l : List ℕ) (b j : ℕ) (t : Tree)
+    → Headed p l t → Held N t → Chosen ρ j (element 1 (element b (element 1 (sub l t))))
+    → any (isReachedAt p) (eventsOf (expand limit operations fuel gas t start)) ≡ true
+    → AllFine ρ (eventsOf (expand limit operations fuel gas t start))
+    → Joins ρ p (TermRel ρ) (expand limit operations fuel gas t start) (expand limit operations fuel gas (onNames (renew ρ) t) start)
+unfolding ofCopy
+expressions-agree ρ p limit operations fuel gas N l b j t i held chosen reaches fine =
+    before-agree ρ p limit operations fuel gas b unbound (λ n. refl) l t (onNames (renew ρ) t) i (held .once p) (renamed-hole ρ N l b j t held chosen) start (calm-start ρ) reaches fine
+
+-- ---- the renaming that the statement takes, and its rule
 
 module _ (ws : List ℕ) (c : Choice) (layout : Layout ws) (private : S.isPrivate (treeOf ws) c ≡ true) (new : isNew ws (c .new) ≡ true) (shown : Events) where
   abbrev T : Tree
@@ -163,76 +168,62 @@ module _ (ws : List ℕ) (c : Choice) (layout : Layout ws) (private : S.isPrivat
     new-7 = ne-eqb (c .new) 7 (λ e. omega (arith, new-large .0));
   }
 
-  plain-all : TreeAll (Plain (c .new)) T
-  plain-all = new-plain ws (c .new) new
+  held : Held (numberAt ws) T
+  held = record { plain = tree-plain ws; numbered = tree-numbered ws; once = layout-uses ws layout }
 
-  numbered-all : TreeAll (λ x. x .number ≡ numberAt ws (x .item)) T
-  numbered-all = tree-numbered ws
-
-  once-all : (q : ℕ) → uses q T ≤ 1
-  once-all = layout-uses ws layout
-
-  -- the form's rules, where the form lies at l of the expression
+  -- where the form lies at l of the expression
   module _ (l : List ℕ) (i : Headed (c .form) l (element 1 T)) where
-    abbrev F : Tree
-    F = sub l (element 1 T)
-
     abbrev R : Tree
-    R = element 1 (element (c .macro) (element 1 F))
+    R = element 1 (element (c .macro) (element 1 (sub l (element 1 T))))
 
     rules-at : rulesAt T c ≡ R
     unfolding rulesAt formAt sub
-    rules-at = ap (λ t. element 1 (element (c .macro) (element 1 t))) (headed-part (c .form) (headed-of-element (c .form) 1 T i) (once-all (c .form)) .1)
+    rules-at = ap (λ t. element 1 (element (c .macro) (element 1 t))) (headed-part (c .form) (headed-of-element (c .form) 1 T i) (held .once (c .form)) .1)
 
-    once-form : (q : ℕ) → uses q F ≤ 1
-    once-form q = omega (arith, once-all q, uses-element q 1 T, uses-sub q l (element 1 T))
+    new-rules : TreeAll (λ x. eqb (x .number) (c .new) ≡ false) R
+    new-rules = treeAll-element 1 (treeAll-element (c .macro) (treeAll-element 1 (treeAll-sub l (treeAll-element 1 (tree-new ws (c .new) new)))))
 
-    once-rules : (q : ℕ) → uses q R ≤ 1
-    once-rules q = omega (arith, once-form q, uses-element q 1 F, uses-element q (c .macro) (element 1 F), uses-element q 1 (element (c .macro) (element 1 F)))
+    template-at : templateAt T c ≡ templateIn (c .rule) R
+    unfolding templateAt ruleAt templateIn
+    template-at = ap (λ r. element 1 (element (c .rule) (tail (tail r)))) rules-at ∙ ap (element 1) (element-tail (c .rule) (tail R) ∙ element-tail (suc (c .rule)) R)
 
-    form-all : {P : Name → Type 0} → TreeAll P T → TreeAll P F
-    form-all a = treeAll-sub l (treeAll-element 1 a)
+    items-at : (q : ℕ) → isOldItem T c q ≡ any (isOld (c .old) q) (names (templateIn (c .rule) R))
+    unfolding isOldItem isOld
+    items-at q = ap (λ t. any (isOld (c .old) q) (names t)) template-at
 
-    rules-all : {P : Name → Type 0} → TreeAll P T → TreeAll P R
-    rules-all a = treeAll-element 1 (treeAll-element (c .macro) (treeAll-element 1 (form-all a)))
-
-    private-here : (q : ℕ) → isOldItem T c q ≡ any (isOld (c .old) q) (names (element 1 (element (c .rule) (tail (tail R)))))
-    unfolding isOldItem isOld templateAt ruleAt
-    private-here q = ap (λ r. any (isOld (c .old) q) (names (element 1 (element (c .rule) (tail (tail r)))))) rules-at
-
-    free-here : hasVariable (c .rule) (c .old) R ≡ false
+    old-at : hasVariable (c .rule) (c .old) R ≡ false
     unfolding hasVariable isVariableAt ruleAt
-    free-here = sym (ap (hasVariable (c .rule) (c .old)) rules-at) ∙ old-free .1 .1
+    old-at = sym (ap (hasVariable (c .rule) (c .old)) rules-at) ∙ old-free .1 .1
 
-    chosen : ChosenRules renaming unbound R (onNames (renumberName (isOldItem T c) (c .new)) R)
-    chosen = chosen-rules renaming (numberAt ws) (c .rule) R private-here some-private free-here (rules-all plain-all) (rules-all numbered-all) once-rules
+    new-at : hasVariable (c .rule) (c .new) R ≡ false
+    unfolding hasVariable
+    new-at = variables-none (names (element 1 R)) (c .new) 0 (treeAll-tail (treeAll-element 0 (treeAll-element (c .rule) (treeAll-tail (treeAll-tail new-rules)))))
 
-    rules-private : Holds renaming R
-    rules-private = rules-hold renaming (numberAt ws) (c .rule) R private-here some-private free-here (rules-all plain-all) (rules-all numbered-all) once-rules
+    new-template : TreeAll (λ x. eqb (x .number) (c .new) ≡ false) (templateIn (c .rule) R)
+    unfolding templateIn
+    new-template = treeAll-element 1 (treeAll-element (suc (suc (c .rule))) new-rules)
 
-    form-private : Holds renaming F
-    form-private q e = omega (arith, rules-private q e, uses-element q 1 F, uses-element q (c .macro) (element 1 F), uses-element q 1 (element (c .macro) (element 1 F)))
+    chosen : Chosen renaming (c .rule) R
+    chosen = record { private = items-at; some = some-private; fresh = new-template; old-free = old-at; new-free = new-at }
 
-    expression-hole : Hole (Still renaming unbound) (ChosenRules renaming unbound) (l ++ (1 ∷ c .macro ∷ 1 ∷ [])) (element 1 T) (onNames (renumberName (isOldItem T c) (c .new)) (element 1 T))
-    unfolding sub
-    expression-hole =
-        path-hole renaming (some-private .0) (some-private .1) l (treeAll-element 1 plain-all) (λ q. omega (arith, once-all q, uses-element q 1 T)) form-private
-        (path-hole renaming (some-private .0) (some-private .1) (1 ∷ c .macro ∷ 1 ∷ []) (form-all plain-all) once-form rules-private (here chosen))
-
-    -- the operations are the same
-    operations-same : element 0 (onNames (renumberName (isOldItem T c) (c .new)) T) ≡ element 0 T
+    -- the first element has no private item
+    operations-same : element 0 (onNames (renew renaming) T) ≡ element 0 T
     operations-same =
-        element-onNames (renumberName (isOldItem T c) (c .new)) 0 T
-        ∙ sym (still-eq renaming unbound (still-tree renaming (treeAll-element 0 plain-all)
-        (λ q e. omega (arith, once-all q, form-private q e, uses-sub q l (element 1 T), uses-elements q 0 1 T (omega arith)))))
+        element-onNames (renew renaming) 0 T
+        ∙ sym (still-eq renaming unbound (still-tree renaming (treeAll-element 0 (held .plain))
+        (λ q e. omega (arith, held .once q, renamed-holds renaming (numberAt ws) l (c .macro) (c .rule) (element 1 T) (held-element (numberAt ws) 1 T held) chosen q e, uses-elements q 0 1 T (omega arith)))))
 
 -- ---- both runs
 
-calm-start : (ρ : Renaming) (raw : Raw ρ) → StateRel ρ raw 0 start start
-unfolding start
-calm-start ρ raw = record { enough = omega arith; steps = refl; sum = refl; variables = refl; macros = no-macro }
+same-operations : (t u : Tree) → element 0 t ≡ element 0 u → operationNumbers t ≡ operationNumbers u
+unfolding operationNumbers
+same-operations t u e = ap (λ z. map (λ x. x .number) (names z)) e
 
--- the expression's expansion, with the operations, fuel and gas of the recipe t
+same-test : (t u : Tree) → element 0 t ≡ element 0 u → areOperations t ≡ areOperations u
+unfolding areOperations operationNumbers
+same-test t u e = ap (λ z. all isName (elements z) && (leb (length (map (λ x. x .number) (names z))) operationsMost && (all (ltb 7) (map (λ x. x .number) (names z)) && distinct (names z)))) e
+
+-- an expression's expansion, with the operations, fuel and gas of the recipe t
 expansionOf : ℕ → Tree → Tree → Out (Term Name)
 expansionOf fuel t e = expand macrosMost (operationNumbers t) fuel (size t + fuel) e start
 
@@ -246,79 +237,93 @@ renamed-is fuel f t e =
     ap₂ (λ operations gas. expand macrosMost operations fuel (gas + fuel) (element 1 (onNames f t)) start) (same-operations (onNames f t) t e) (onNames-size f t)
     ∙ ap (λ u. expand macrosMost (operationNumbers t) fuel (size t + fuel) u start) (element-onNames f 1 t)
 
-module _ (ws : List ℕ) (fuel work core : ℕ) (c : Choice) (tested : Tested ws fuel work core) (private : S.isPrivate (treeOf ws) c ≡ true) (new : isNew ws (c .new) ≡ true)
-    (reaches : any (isReachedAt (c .form)) (eventsOf (expansionOf fuel (treeOf ws) (element 1 (treeOf ws)))) ≡ true)
-    (hidden : all (isHidden (isOldItem (treeOf ws) c) (eventsOf (expansionOf fuel (treeOf ws) (element 1 (treeOf ws))))) (eventsOf (expansionOf fuel (treeOf ws) (element 1 (treeOf ws)))) ≡ true) where
-  abbrev first : Out (Term Name)
-  first = expansionOf fuel (treeOf ws) (element 1 (treeOf ws))
+-- the expansion of the first run
+firstOf : ℕ → List ℕ → Out (Term Name)
+firstOf fuel ws = expansionOf fuel (treeOf ws) (element 1 (treeOf ws))
 
-  abbrev renew : Name → Name
-  renew = renumberName (isOldItem (treeOf ws) c) (c .new)
+-- the hypotheses, of that expansion
+record Case (ws : List ℕ) (fuel work core : ℕ) (c : Choice) : Type 0 where
+  tested : Tested ws fuel work core
+  reaches : any (isReachedAt (c .form)) (eventsOf (firstOf fuel ws)) ≡ true
+  private : S.isPrivate (treeOf ws) c ≡ true
+  new : isNew ws (c .new) ≡ true
+  unquoted : all (quotesNoCopy (isOldItem (treeOf ws) c)) (eventsOf (firstOf fuel ws)) ≡ true
+  own : all (findsOwn (isOldItem (treeOf ws) c) (eventsOf (firstOf fuel ws))) (eventsOf (firstOf fuel ws)) ≡ true
 
+module _ (ws : List ℕ) (fuel work core : ℕ) (c : Choice) (k : Case ws fuel work core c) where
   layout : Layout ws
-  layout = layout-true ws (tested .layout)
+  layout = layout-true ws (k .tested .layout)
 
   abbrev ρ : Renaming
-  ρ = renaming ws c layout private new (eventsOf first)
+  ρ = renaming ws c layout (k .private) (k .new) (eventsOf (firstOf fuel ws))
 
-  fine : AllFine ρ (eventsOf first)
-  unfolding expansionOf
-  fine = all-fine (isOldItem (treeOf ws) c) (eventsOf first) ρ (λ i. refl) (λ b. refl) (eventsOf first) hidden (expand-own (isOldItem (treeOf ws) c) macrosMost (operationNumbers (treeOf ws)) fuel (size (treeOf ws) + fuel) (element 1 (treeOf ws)) start)
+  fine : AllFine ρ (eventsOf (firstOf fuel ws))
+  unfolding firstOf expansionOf
+  fine =
+      all-fine (isOldItem (treeOf ws) c) (eventsOf (firstOf fuel ws)) ρ (λ i. refl) (λ b. refl) (eventsOf (firstOf fuel ws)) (k .unquoted) (k .own)
+      (expand-own (isOldItem (treeOf ws) c) macrosMost (operationNumbers (treeOf ws)) fuel (size (treeOf ws) + fuel) (element 1 (treeOf ws)) start)
 
   -- where the form lies at l
   module _ (l : List ℕ) (i : Headed (c .form) l (element 1 (treeOf ws))) where
-    joins : Joins ρ (c .form) (TermRel ρ) first (expansionOf fuel (treeOf ws) (onNames renew (element 1 (treeOf ws))))
-    unfolding expansionOf ofCopy
+    joins : Joins ρ (c .form) (TermRel ρ) (firstOf fuel ws) (expansionOf fuel (treeOf ws) (onNames (renew ρ) (element 1 (treeOf ws))))
+    unfolding firstOf expansionOf
     joins =
-        before-agree ρ (c .form) macrosMost (operationNumbers (treeOf ws)) fuel (size (treeOf ws) + fuel) (c .macro) unbound (λ n. refl) l (element 1 (treeOf ws)) (onNames renew (element 1 (treeOf ws))) i
-        (omega (arith, once-all ws c layout private new (eventsOf first) (c .form), uses-element (c .form) 1 (treeOf ws)))
-        (expression-hole ws c layout private new (eventsOf first) l i) start (calm-start ρ) reaches fine
+        expressions-agree ρ (c .form) macrosMost (operationNumbers (treeOf ws)) fuel (size (treeOf ws) + fuel) (numberAt ws) l (c .macro) (c .rule) (element 1 (treeOf ws)) i
+        (held-element (numberAt ws) 1 (treeOf ws) (held ws c layout (k .private) (k .new) (eventsOf (firstOf fuel ws)))) (chosen ws c layout (k .private) (k .new) (eventsOf (firstOf fuel ws)) l i) (k .reaches) fine
 
-    same : element 0 (onNames renew (treeOf ws)) ≡ element 0 (treeOf ws)
-    same = operations-same ws c layout private new (eventsOf first) l i
+    same : element 0 (onNames (renew ρ) (treeOf ws)) ≡ element 0 (treeOf ws)
+    same = operations-same ws c layout (k .private) (k .new) (eventsOf (firstOf fuel ws)) l i
 
     second-tested : Tested (renamed ws c) fuel work core
     unfolding renamed
-    second-tested =
-        let n = count-renumber (isOldItem (treeOf ws) c) (c .new) ws in
-        record {
-          layout = true-layout _ (layout-renumber (isOldItem (treeOf ws) c) (c .new) (new-large ws c layout private new (eventsOf first) .1) ws layout);
-          enough = tested .enough;
-          tables = subst (λ m. (leb (workRate * (m + fuel)) work && leb (coreRate * (m + fuel)) core) ≡ true) (sym n) (tested .tables);
-          operations = ap areOperations (treeOf-renumber (isOldItem (treeOf ws) c) (c .new) ws) ∙ same-test (onNames renew (treeOf ws)) (treeOf ws) same ∙ tested .operations;
-        }
+    second-tested = record {
+      layout = true-layout _ (layout-renumber (isOldItem (treeOf ws) c) (c .new) (new-large ws c layout (k .private) (k .new) (eventsOf (firstOf fuel ws)) .1) ws layout);
+      enough = k .tested .enough;
+      tables = subst (λ m. (leb (workRate * (m + fuel)) work && leb (coreRate * (m + fuel)) core) ≡ true) (sym (count-renumber (isOldItem (treeOf ws) c) (c .new) ws)) (k .tested .tables);
+      operations = ap areOperations (treeOf-renumber (isOldItem (treeOf ws) c) (c .new) ws) ∙ same-test (onNames (renew ρ) (treeOf ws)) (treeOf ws) same ∙ k .tested .operations;
+    }
 
-    second-is : run (renamed ws c) fuel work core ≡ ended (expansionOf fuel (treeOf ws) (onNames renew (element 1 (treeOf ws))))
+    second-is : run (renamed ws c) fuel work core ≡ ended (expansionOf fuel (treeOf ws) (onNames (renew ρ) (element 1 (treeOf ws))))
     unfolding renamed
     second-is =
         tested-run (renamed ws c) fuel work core second-tested
         ∙ ap (λ t. ended (expandRecipe fuel t)) (treeOf-renumber (isOldItem (treeOf ws) c) (c .new) ws)
-        ∙ ap ended (renamed-is fuel renew (treeOf ws) same)
+        ∙ ap ended (renamed-is fuel (renew ρ) (treeOf ws) same)
+
+    first-is : run ws fuel work core ≡ ended (firstOf fuel ws)
+    unfolding firstOf
+    first-is = tested-run ws fuel work core (k .tested) ∙ ap ended (recipe-is fuel (treeOf ws))
 
     answers : answerOf (run (renamed ws c) fuel work core) ≡ answerOf (run ws fuel work core)
-    answers =
-        ap answerOf second-is
-        ∙ ended-answer ρ (joins .raw) (joins .outcomes)
-        ∙ sym (ap answerOf (tested-run ws fuel work core tested ∙ ap ended (recipe-is fuel (treeOf ws))))
+    answers = ap answerOf second-is ∙ ended-answer ρ (joins .raw) (joins .outcomes) ∙ sym (ap answerOf first-is)
 
-  found : Unheaded (c .form) (element 1 (treeOf ws)) ⊎ ((l : List ℕ) × Headed (c .form) l (element 1 (treeOf ws))) → answerOf (run (renamed ws c) fuel work core) ≡ answerOf (run ws fuel work core)
-  unfolding expansionOf
-  found (inl u) = absurd (false≢true (sym (none-reached (c .form) (expand-unreached (c .form) macrosMost (operationNumbers (treeOf ws)) fuel (size (treeOf ws) + fuel) (element 1 (treeOf ws)) u start)) ∙ reaches))
-  found (inr (l, i)) = answers l i
+  -- the form lies somewhere, since the run comes to it
+  located : Unheaded (c .form) (element 1 (treeOf ws)) ⊎ ((l : List ℕ) × Headed (c .form) l (element 1 (treeOf ws))) → answerOf (run (renamed ws c) fuel work core) ≡ answerOf (run ws fuel work core)
+  unfolding firstOf expansionOf
+  located (inl u) = absurd (false≢true
+      (sym (none-reached (c .form) (expand-unreached (c .form) macrosMost (operationNumbers (treeOf ws)) fuel (size (treeOf ws) + fuel) (element 1 (treeOf ws)) u start)) ∙ k .reaches))
+  located (inr (l, i)) = answers l i
 
--- demand 3
+-- ---- demand 3
+
 pub private-names : PrivateNames
-unfolding PrivateNames hypotheses all
+unfolding PrivateNames hypotheses all firstOf
 private-names ws fuel work core c h =
     let r = run ws fuel work core in
     let a = both-true (any (isReachedAt (c .form)) (r .events)) _ h in
     let b = both-true (S.isPrivate (treeOf ws) c) _ (a .1) in
     let d = both-true (isNew ws (c .new)) _ (b .1) in
-    let e = both-true (all (isHidden (isOldItem (treeOf ws) c) (r .events)) (r .events)) true (d .1) in
+    let q = both-true (all (quotesNoCopy (isOldItem (treeOf ws) c)) (r .events)) _ (d .1) in
+    let o = both-true (all (findsOwn (isOldItem (treeOf ws) c) (r .events)) (r .events)) true (q .1) in
     let tested = run-tested ws fuel work core (isReachedAt (c .form)) (a .0) in
-    let events : r .events ≡ eventsOf (expansionOf fuel (treeOf ws) (element 1 (treeOf ws))) =
+    let events : r .events ≡ eventsOf (firstOf fuel ws) =
     ap (λ z. z .events) (tested-run ws fuel work core tested) ∙ ended-events (expandRecipe fuel (treeOf ws)) ∙ ap eventsOf (recipe-is fuel (treeOf ws)) in
-    found ws fuel work core c tested (b .0) (d .0)
-    (subst (λ l. any (isReachedAt (c .form)) l ≡ true) events (a .0))
-    (subst (λ l. all (isHidden (isOldItem (treeOf ws) c) l) l ≡ true) events (e .0))
-    (find (c .form) (element 1 (treeOf ws)))
+    let k : Case ws fuel work core c = record {
+      tested = tested;
+      reaches = subst (λ l. any (isReachedAt (c .form)) l ≡ true) events (a .0);
+      private = b .0;
+      new = d .0;
+      unquoted = subst (λ l. all (quotesNoCopy (isOldItem (treeOf ws) c)) l ≡ true) events (q .0);
+      own = subst (λ l. all (findsOwn (isOldItem (treeOf ws) c) l) l ≡ true) events (o .0);
+    } in
+    located ws fuel work core c k (find (c .form) (element 1 (treeOf ws)))

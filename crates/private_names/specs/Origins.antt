@@ -1,24 +1,23 @@
 -- Bindings are numbered through the run, from one computation to the next: each is made once, so its own name is one name.
 use mathlib.Core.Path.{_≡_, refl, ap, ap₂, sym, _∙_, subst, subst₂}
-use mathlib.Core.Bool.{Bool, true, false, not, _&&_, _||_, cond}
+use mathlib.Core.Bool.{Bool, true, false, _||_, cond}
 use mathlib.Core.List.{List, [], _∷_, _++_, map}
 use mathlib.Core.Option.{Option, none, some}
 use Prim.Native.Nat.{ℕ, zero, suc, _+_, _*_, _≤_, _<_}
 use native.Mathlib.Omega.{arith}
 use borrow.Author.Tests.{ne-eqb, eq-eqb}
-use lib.Dec.{eqb, leb}
 use lib.ListN.{length, getD, length-append, length-map}
-use Rattle.words.specs.Lists.{any, all, within}
-use Rattle.recipe.specs.Name.{Binding, variable, macro, Name, bindingKey, distinct}
-use Rattle.recipe.specs.Tree.{Tree, empty, constant, name, pair, size, names, onName, onPair, isOrdinaryName, isList, isListOf, elements, element, tail, mark, produce, bindAll}
+use Rattle.words.specs.Lists.{any, all}
+use Rattle.recipe.specs.Name.{Binding, variable, macro, Name, bindingKey}
+use Rattle.recipe.specs.Tree.{Tree, empty, constant, name, pair, names, onName, isOrdinaryName, isList, isListOf, elements, element, tail, mark, bindAll}
 use Rattle.core_term.specs.Term.{Term}
-use Rattle.expansion.specs.Lookup.{Form, quote, if, lambda, let-syntax, letrec-syntax, auxiliary, Found, bound, form, operation, nothing, lookup}
+use Rattle.expansion.specs.Lookup.{quote, if, lambda, let-syntax, letrec-syntax, auxiliary, Found, bound, form, operation, nothing, lookup}
 use Rattle.expansion.specs.Rules.{Rule, rulesOf}
 use Rattle.expansion.specs.Match.{firstFit}
 use Rattle.expansion.specs.Computation.{State, Event, looked, quoted, reached, binds, Events, Out, done, refused, starved, M, after, goOn, _>>=_, _>>_, give, refuse, show, test, orRefuse, get, addVariables, addMacros, addStep}
-use Rattle.expansion.specs.Forms.{isLambda, formals, isMacro, isMacros, firstNames, keywords, rulesForms, bindings, readRules, expandAll, expandQuote, expandIf, expandLambda, expandMacros, expandUse, expandOperands, expandList, expandName, expandApplication, expandPair, expandTree, expand}
+use Rattle.expansion.specs.Forms.{formals, isMacro, isMacros, firstNames, keywords, rulesForms, bindings, readRules, expandAll, expandQuote, expandIf, expandLambda, expandMacros, expandUse, expandOperands, expandList, expandName, expandApplication, expandPair, expandTree, expand}
 use Rattle.private_names.specs.Statement.{isCopy, bindsCopy, isOwnedByCopy}
-use Rattle.private_names.specs.Reach.{any-append}
+use Rattle.private_names.specs.Reach.{any-append, both-true, neither}
 use Rattle.private_names.specs.Outcomes.{eventsOf}
 
 -- ---- events that bind the variables from v to w and the macros from m to n, each once and in order
@@ -86,19 +85,16 @@ module _ (C : ℕ → Bool) where
   unfolding bindsCopy
   this-one b x = rw (eq-eqb (bindingKey (some b)) (bindingKey (some b)) refl)
 
-  either : (a b : Bool) → a ≡ false → b ≡ false → (a || b) ≡ false
-  either a b e f = ap₂ _||_ e f
-
   earlier-none : (b : Binding) {v m w n : ℕ} {l : Events} → Numbered v m l w n → Earlier v m b → any (bindsCopy C b) l ≡ false
   unfolding any bindsCopy
   earlier-none b no-more h = refl
   earlier-none b (a-look p) h = earlier-none b p h
   earlier-none b (a-quote p) h = earlier-none b p h
   earlier-none b (a-form p) h = earlier-none b p h
-  earlier-none (variable k) (a-variable {v = v} {x = x} p) h = either _ _ (other-variables k v x (omega arith)) (earlier-none (variable k) p (omega arith))
-  earlier-none (macro k) (a-variable {v = v} {x = x} p) h = either _ _ (other-kinds′ k v x) (earlier-none (macro k) p h)
-  earlier-none (variable k) (a-macro {m = m} {x = x} p) h = either _ _ (other-kinds k m x) (earlier-none (variable k) p h)
-  earlier-none (macro k) (a-macro {m = m} {x = x} p) h = either _ _ (other-macros k m x (omega arith)) (earlier-none (macro k) p (omega arith))
+  earlier-none (variable k) (a-variable {v = v} {x = x} p) h = neither _ _ (other-variables k v x (omega arith)) (earlier-none (variable k) p (omega arith))
+  earlier-none (macro k) (a-variable {v = v} {x = x} p) h = neither _ _ (other-kinds′ k v x) (earlier-none (macro k) p h)
+  earlier-none (variable k) (a-macro {m = m} {x = x} p) h = neither _ _ (other-kinds k m x) (earlier-none (variable k) p h)
+  earlier-none (macro k) (a-macro {m = m} {x = x} p) h = neither _ _ (other-macros k m x (omega arith)) (earlier-none (macro k) p (omega arith))
 
   later-none : (b : Binding) {v m w n : ℕ} {l : Events} → Numbered v m l w n → Later w n b → any (bindsCopy C b) l ≡ false
   unfolding any bindsCopy
@@ -106,10 +102,10 @@ module _ (C : ℕ → Bool) where
   later-none b (a-look p) h = later-none b p h
   later-none b (a-quote p) h = later-none b p h
   later-none b (a-form p) h = later-none b p h
-  later-none (variable k) (a-variable {v = v} {x = x} p) h = let g = numbered-grows p in either _ _ (other-variables k v x (omega arith)) (later-none (variable k) p h)
-  later-none (macro k) (a-variable {v = v} {x = x} p) h = either _ _ (other-kinds′ k v x) (later-none (macro k) p h)
-  later-none (variable k) (a-macro {m = m} {x = x} p) h = either _ _ (other-kinds k m x) (later-none (variable k) p h)
-  later-none (macro k) (a-macro {m = m} {x = x} p) h = let g = numbered-grows p in either _ _ (other-macros k m x (omega arith)) (later-none (macro k) p h)
+  later-none (variable k) (a-variable {v = v} {x = x} p) h = let g = numbered-grows p in neither _ _ (other-variables k v x (omega arith)) (later-none (variable k) p h)
+  later-none (macro k) (a-variable {v = v} {x = x} p) h = neither _ _ (other-kinds′ k v x) (later-none (macro k) p h)
+  later-none (variable k) (a-macro {m = m} {x = x} p) h = neither _ _ (other-kinds k m x) (later-none (variable k) p h)
+  later-none (macro k) (a-macro {m = m} {x = x} p) h = let g = numbered-grows p in neither _ _ (other-macros k m x (omega arith)) (later-none (macro k) p h)
 
   -- among these events, the binding's own name is a copy just where this event's name is
   pub data OwnName (whole : Events) : Event → Type 0 where
@@ -274,10 +270,6 @@ read-reads (r ∷ rs) s = after-reads _ (λ v m. head-numbered (element 0 r)) (f
 
 -- ---- as many macros are bound as there are rules forms
 
-both : (a b : Bool) → (a && b) ≡ true → (a ≡ true) × (b ≡ true)
-both true b e = (refl, e)
-both false b e = let z : _≡_ {A = ℕ} 0 1 = cc in absurd (omega arith)
-
 one-name : (t : Tree) → isOrdinaryName t ≡ true → length (names t) ≡ 1
 unfolding isOrdinaryName onName names
 one-name empty e = let z : _≡_ {A = ℕ} 0 1 = cc in absurd (omega arith)
@@ -289,16 +281,16 @@ firstNames-length : (cs : List Tree) → all isMacro cs ≡ true → length (fir
 unfolding firstNames all isMacro
 firstNames-length [] e = refl
 firstNames-length (c ∷ cs) e =
-    let p = both (isMacro c) (all isMacro cs) e in
-    let q = both (isListOf 2 c) (isOrdinaryName (element 0 c)) (p .0) in
+    let p = both-true (isMacro c) (all isMacro cs) e in
+    let q = both-true (isListOf 2 c) (isOrdinaryName (element 0 c)) (p .0) in
     length-append (names (element 0 c)) (firstNames cs) ∙ ap₂ _+_ (one-name (element 0 c) (q .1)) (firstNames-length cs (p .1)) ∙ omega arith
 
 pub keywords-length : (limit : ℕ) (t : Tree) → isMacros limit t ≡ true → length (keywords t) ≡ length (rulesForms t)
 unfolding isMacros keywords rulesForms
 keywords-length limit t e =
-    let p = both (isListOf 3 t) _ e in
-    let q = both (isList (element 1 t)) _ (p .1) in
-    let r = both (all isMacro (elements (element 1 t))) _ (q .1) in
+    let p = both-true (isListOf 3 t) _ e in
+    let q = both-true (isList (element 1 t)) _ (p .1) in
+    let r = both-true (all isMacro (elements (element 1 t))) _ (q .1) in
     firstNames-length (elements (element 1 t)) (r .0) ∙ sym (length-map (elements (element 1 t)) (element 1))
 
 -- ---- forms

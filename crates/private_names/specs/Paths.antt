@@ -3,14 +3,14 @@ use mathlib.Core.Path.{_≡_, refl, ap, ap₂, sym, _∙_, subst}
 use mathlib.Core.Logic.{_⊎_, inl, inr}
 use mathlib.Core.Bool.{Bool, true, false, not, _&&_, _||_, cond, true≢false, false≢true}
 use mathlib.Core.List.{List, [], _∷_, _++_}
-use Prim.Native.Nat.{ℕ, zero, suc, _+_, _≤_, _<_}
+use Prim.Native.Nat.{ℕ, zero, suc, _+_, _≤_}
 use native.Mathlib.Omega.{arith}
 use lib.Dec.{eqb}
 use Rattle.words.specs.Lists.{any}
 use Rattle.recipe.specs.Name.{Binding, Name, same, giveBinding, bindName}
 use Rattle.recipe.specs.Tree.{Tree, empty, constant, name, pair, onName, elements, element, onNames, bind, bindAll}
-use Rattle.private_names.specs.Shapes.{TreeOf, empties, element-rel}
-use Rattle.private_names.specs.Holes.{Hole, here, first, later}
+use Rattle.private_names.specs.Shapes.{TreeOf, element-rel}
+use Rattle.private_names.specs.Holes.{Hole, first, later}
 use Rattle.private_names.specs.Reach.{isAt, isNameAt, Unheaded, empty₁, constant₁, name₁, pair₁, UnheadedAll, empty₂, constant₂, name₂, pair₂, isAt-bind}
 use Rattle.private_names.specs.Reach.{any-append}
 use Rattle.private_names.specs.Statement.{parts, firstWith, hasHead}

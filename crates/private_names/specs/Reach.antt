@@ -1,23 +1,22 @@
 -- What a computation reaches outside results stems from the tree at hand: where no list of an expression is headed by the unproduced name
 -- of item p, its expansion shows no form reached by that name.
-use mathlib.Core.Path.{_≡_, refl, ap, ap₂, sym, _∙_}
-use mathlib.Core.Bool.{Bool, true, false, not, _&&_, _||_, cond}
+use mathlib.Core.Path.{_≡_, refl, ap, ap₂, _∙_}
+use mathlib.Core.Bool.{Bool, true, false, not, _&&_, _||_, cond, false≢true}
 use mathlib.Core.List.{List, [], _∷_, _++_, map}
 use mathlib.Core.Option.{Option, none, some}
-use Prim.Native.Nat.{ℕ, zero, suc, _+_}
-use lib.Dec.{eqb, leb}
+use Prim.Native.Nat.{ℕ, zero, suc}
+use lib.Dec.{eqb}
 use lib.ListN.{length, getD}
 use Rattle.words.specs.Lists.{any}
 use Rattle.datum.specs.Constant.{Constant}
-use Rattle.recipe.specs.Name.{Binding, variable, macro, Name, distinct, same, markName, produceName, giveBinding, bindName}
-use Rattle.recipe.specs.Tree.{Tree, empty, constant, name, pair, size, names, strip, onName, onPair, isListOf, elements, element, tail, onNames, mark, produce, bind, bindAll}
+use Rattle.recipe.specs.Name.{Binding, variable, macro, Name, same, produceName, giveBinding, bindName}
+use Rattle.recipe.specs.Tree.{Tree, empty, constant, name, pair, names, onName, onPair, elements, element, tail, onNames, mark, produce, bind, bindAll}
 use Rattle.core_term.specs.Term.{Term}
-use Rattle.expansion.specs.Lookup.{Form, quote, if, lambda, let-syntax, letrec-syntax, auxiliary, Found, bound, form, operation, nothing, lookup}
-use Rattle.expansion.specs.Rules.{Rule, rulesOf}
+use Rattle.expansion.specs.Lookup.{quote, if, lambda, let-syntax, letrec-syntax, auxiliary, Found, bound, form, operation, nothing, lookup}
+use Rattle.expansion.specs.Rules.{rulesOf}
 use Rattle.expansion.specs.Match.{firstFit}
-use Rattle.expansion.specs.Transcribe.{equalLengths, transcribe}
-use Rattle.expansion.specs.Computation.{State, Event, looked, quoted, reached, binds, Events, Out, done, refused, starved, M, after, goOn, _>>=_, _>>_, give, refuse, show, test, orRefuse, get, addVariables, addMacros, addStep}
-use Rattle.expansion.specs.Forms.{isLambda, formals, isMacros, keywords, rulesForms, bindings, readRules, expandAll, expandQuote, expandIf, expandLambda, expandMacros, expandUse, expandOperands, expandList, expandName, expandApplication, expandPair, expandTree, expand}
+use Rattle.expansion.specs.Computation.{State, looked, quoted, Events, Out, done, refused, starved, M, after, goOn, _>>=_, _>>_, give, refuse, show, test, orRefuse, get, addVariables, addMacros, addStep}
+use Rattle.expansion.specs.Forms.{formals, keywords, bindings, readRules, expandAll, expandQuote, expandIf, expandLambda, expandMacros, expandUse, expandOperands, expandList, expandName, expandApplication, expandPair, expandTree, expand}
 use Rattle.private_names.specs.Statement.{isReachedAt}
 use Rattle.private_names.specs.Outcomes.{eventsOf, events-after}
 
@@ -30,7 +29,11 @@ any-append f (x ∷ xs) ys = go (f x) (any-append f xs ys)
     go true e = refl
     go false e = e
 
-neither : (a b : Bool) → a ≡ false → b ≡ false → (a || b) ≡ false
+pub both-true : (a b : Bool) → (a && b) ≡ true → (a ≡ true) × (b ≡ true)
+both-true true b e = (refl, e)
+both-true false b e = absurd (false≢true e)
+
+pub neither : (a b : Bool) → a ≡ false → b ≡ false → (a || b) ≡ false
 neither a b e f = ap₂ _||_ e f
 
 module _ (p : ℕ) where

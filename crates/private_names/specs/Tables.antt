@@ -1,20 +1,21 @@
 -- The tree of a table of the layout: each item is the origin of at most one name, every name is as its item holds it, and a table with
 -- other numbers in some name items holds the tree with those numbers.
 use mathlib.Core.Path.{_≡_, refl, ap, ap₂, sym, _∙_, subst}
-use mathlib.Core.Bool.{Bool, true, false, not, _&&_, _||_, cond, true≢false, false≢true}
-use mathlib.Core.List.{List, [], _∷_, _++_, map}
+use mathlib.Core.Bool.{Bool, true, false, not, _&&_, _||_, cond, false≢true}
+use mathlib.Core.List.{List, [], _∷_, map}
 use Prim.Native.Nat.{ℕ, zero, suc, _+_, _*_, _-_, _/_, _≤_, _<_}
 use native.Mathlib.Omega.{arith}
-use borrow.Author.Tests.{ltb-true, ltb-false, leb-true, eqb-true, eqb-false, le-leb, lt-ltb, eq-eqb, ne-eqb}
+use borrow.Author.Tests.{ltb-true, ltb-false, leb-true, eqb-true, eqb-false, eq-eqb, ne-eqb}
 use lib.Dec.{eqb, ltb, leb}
-use lib.ListN.{length, getD, length-append}
-use Rattle.words.specs.Limits.{namesMost, itemsLeast, itemsMost}
-use Rattle.words.specs.Lists.{within, all, any}
+use lib.ListN.{length, getD}
+use Rattle.words.specs.Limits.{namesMost, baseNameCount, itemsLeast, itemsMost}
+use Rattle.words.specs.Lists.{within, all}
 use Rattle.datum.specs.Constant.{Constant, isConstant}
 use Rattle.recipe.specs.Name.{Name, plainName}
-use Rattle.recipe.specs.Tree.{Tree, empty, constant, name, pair, names, onEmpty, onPair, isList, isListOf, elements, element, onNames}
+use Rattle.recipe.specs.Tree.{Tree, empty, constant, name, pair, onEmpty, onPair, isList, isListOf, elements, element, onNames}
 use Rattle.recipe.specs.Table.{Item, items, byKind, constantOf, references, occurrences, kindAt, isPairItem, isItem, isReferredOnce, trees, treeOf, itemCount, isLayout}
 use Rattle.private_names.specs.Statement.{isNew, renumber}
+use Rattle.private_names.specs.Reach.{both-true}
 use Rattle.private_names.specs.Origins.{All, nil, cons}
 
 -- ---- names of a tree
@@ -117,10 +118,6 @@ unreferred xs k = eqb (occurrences k (references xs)) 0
 
 minus : (ℕ → Bool) → ℕ → ℕ → Bool
 minus ρ a k = ρ k && not (eqb k a)
-
-both-true : (a b : Bool) → (a && b) ≡ true → (a ≡ true) × (b ≡ true)
-both-true true b e = (refl, e)
-both-true false b e = absurd (false≢true e)
 
 module _ (q : ℕ) where
   -- the uses of q by those trees, the first at place i, that ρ tells
@@ -419,38 +416,50 @@ module _ (ws : List ℕ) (l : Layout ws) where
 
 -- ---- every name is as its item holds it
 
--- as an item holds it, with another number than n
-pub record Plain (n : ℕ) (x : Name) : Type 0 where
-  pub eq : x ≡ plainName (x .number) (x .item)
-  pub other : eqb (x .number) n ≡ false
+module _ (P : Name → Type 0) where
+  shape-all : (x : Item) (later : List Tree) → (eqb (x .kind) 3 ≡ true → P (plainName (x .first) (x .place))) → All (TreeAll P) later → {t : Tree} → Shape x later t → TreeAll P t
+  shape-all x later h a of-empty = all-empty
+  shape-all x later h a of-constant = all-constant
+  shape-all x later h a (of-name e) = all-name (h e)
+  shape-all x later h a (of-pair e) =
+      all-pair (getD-all (TreeAll P) empty all-empty a (x .first - suc (x .place))) (getD-all (TreeAll P) empty all-empty a (x .second - suc (x .place)))
 
-shape-plain : (n : ℕ) (x : Item) (later : List Tree) → not (eqb (x .kind) 3 && eqb (x .first) n) ≡ true → All (TreeAll (Plain n)) later → {t : Tree} → Shape x later t → TreeAll (Plain n) t
+  trees-all : {xs : List Item} → All (λ x. eqb (x .kind) 3 ≡ true → P (plainName (x .first) (x .place))) xs → All (TreeAll P) (trees xs)
+  unfolding trees
+  trees-all nil = nil
+  trees-all (cons {x = x} {xs = xs} h a) =
+      let later = trees-all a in
+      subst (All (TreeAll P)) (sym (trees-step x xs)) (cons (shape-all x (trees xs) h later (treeAt-shape x (trees xs))) later)
+
+  -- what holds of the name of each name item holds of every name of the tree
+  tree-all : (ws : List ℕ) → All (λ x. eqb (x .kind) 3 ≡ true → P (plainName (x .first) (x .place))) (items 0 ws) → TreeAll P (treeOf ws)
+  unfolding treeOf
+  tree-all ws a = getD-all (TreeAll P) empty all-empty (trees-all a) 0
+
+-- no marks, no binding, and in no result
+abbrev pub Plain : Name → Type 0
+Plain x = x ≡ plainName (x .number) (x .item)
+
+each-item : {P : Item → Type 0} → ((x : Item) → P x) → (xs : List Item) → All P xs
+each-item h [] = nil
+each-item h (x ∷ xs) = cons (h x) (each-item h xs)
+
+pub tree-plain : (ws : List ℕ) → TreeAll Plain (treeOf ws)
 unfolding plainName
-shape-plain n x later h a of-empty = all-empty
-shape-plain n x later h a of-constant = all-constant
-shape-plain n x later h a (of-name e) = all-name (record { eq = refl; other = go (eqb (x .kind) 3) (eqb (x .first) n) e h })
+tree-plain ws = tree-all Plain ws (each-item (λ x e. refl) (items 0 ws))
+
+-- a new number is that of no name
+pub tree-new : (ws : List ℕ) (n : ℕ) → isNew ws n ≡ true → TreeAll (λ x. eqb (x .number) n ≡ false) (treeOf ws)
+unfolding isNew plainName
+tree-new ws n e =
+    let a = both-true (not (ltb n baseNameCount)) _ e in
+    let b = both-true (ltb n namesMost) _ (a .1) in
+    tree-all (λ x. eqb (x .number) n ≡ false) ws (All-map (λ x h d. go (eqb (x .kind) 3) (eqb (x .first) n) d h) (all-All _ _ (b .1)))
   where
     go : (b c : Bool) → b ≡ true → not (b && c) ≡ true → c ≡ false
     go true true e h = absurd (false≢true h)
     go true false e h = refl
     go false c e h = absurd (false≢true e)
-shape-plain n x later h a (of-pair e) =
-    all-pair (getD-all (TreeAll (Plain n)) empty all-empty a (x .first - suc (x .place))) (getD-all (TreeAll (Plain n)) empty all-empty a (x .second - suc (x .place)))
-
-trees-plain : (n : ℕ) {xs : List Item} → All (λ x. not (eqb (x .kind) 3 && eqb (x .first) n) ≡ true) xs → All (TreeAll (Plain n)) (trees xs)
-unfolding trees
-trees-plain n nil = nil
-trees-plain n (cons {x = x} {xs = xs} h a) =
-    let later = trees-plain n a in
-    subst (All (TreeAll (Plain n))) (sym (trees-step x xs)) (cons (shape-plain n x (trees xs) h later (treeAt-shape x (trees xs))) later)
-
--- a new number is that of no name
-pub new-plain : (ws : List ℕ) (n : ℕ) → isNew ws n ≡ true → TreeAll (Plain n) (treeOf ws)
-unfolding treeOf isNew
-new-plain ws n e =
-    let a = both-true (not (ltb n 8)) _ e in
-    let b = both-true (ltb n namesMost) _ (a .1) in
-    getD-all (TreeAll (Plain n)) empty all-empty (trees-plain n (all-All _ _ (b .1))) 0
 
 -- an item tells its name's number
 unfoldable pub numberAt : List ℕ → ℕ → ℕ
@@ -468,26 +477,11 @@ items-numbered i (items-from {x = x} {xs = xs} e p) =
         → (i ≤ y .place) × (y .first ≡ getD (map (λ y. y .first) (x ∷ xs)) (y .place - i) 0)
     later y h = let d : y .place - i ≡ suc (y .place - suc i) = omega arith in (omega arith, rw d (h .1))
 
-shape-numbered : (N : ℕ → ℕ) (x : Item) (later : List Tree) → x .first ≡ N (x .place) → All (TreeAll (λ y. y .number ≡ N (y .item))) later → {t : Tree} → Shape x later t → TreeAll (λ y. y .number ≡ N (y .item)) t
-unfolding plainName
-shape-numbered N x later h a of-empty = all-empty
-shape-numbered N x later h a of-constant = all-constant
-shape-numbered N x later h a (of-name e) = all-name h
-shape-numbered N x later h a (of-pair e) =
-    all-pair (getD-all (TreeAll (λ y. y .number ≡ N (y .item))) empty all-empty a (x .first - suc (x .place))) (getD-all (TreeAll (λ y. y .number ≡ N (y .item))) empty all-empty a (x .second - suc (x .place)))
-
-trees-numbered : (N : ℕ → ℕ) {xs : List Item} → All (λ x. x .first ≡ N (x .place)) xs → All (TreeAll (λ y. y .number ≡ N (y .item))) (trees xs)
-unfolding trees
-trees-numbered N nil = nil
-trees-numbered N (cons {x = x} {xs = xs} h a) =
-    let later = trees-numbered N a in
-    subst (All (TreeAll (λ y. y .number ≡ N (y .item)))) (sym (trees-step x xs)) (cons (shape-numbered N x (trees xs) h later (treeAt-shape x (trees xs))) later)
-
 pub tree-numbered : (ws : List ℕ) → TreeAll (λ x. x .number ≡ numberAt ws (x .item)) (treeOf ws)
-unfolding treeOf numberAt
+unfolding numberAt plainName
 tree-numbered ws =
-    let a : All (λ x. x .first ≡ numberAt ws (x .place)) (items 0 ws) = All-map (λ x h. h .1 ∙ ap (λ k. getD (map (λ y. y .first) (items 0 ws)) k 0) (omega arith)) (items-numbered 0 (items-placed 0 ws)) in
-    getD-all (TreeAll (λ x. x .number ≡ numberAt ws (x .item))) empty all-empty (trees-numbered (numberAt ws) a) 0
+    tree-all (λ x. x .number ≡ numberAt ws (x .item)) ws
+    (All-map (λ x h d. h .1 ∙ ap (λ k. getD (map (λ y. y .first) (items 0 ws)) k 0) (omega arith)) (items-numbered 0 (items-placed 0 ws)))
 
 -- ---- other numbers in some name items
 
