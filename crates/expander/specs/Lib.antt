@@ -2,4 +2,6 @@
 pub mod Ends
 pub mod EndLaws
 pub mod Memory
+pub mod MemoryLaws
+pub mod Turns
 pub mod Service

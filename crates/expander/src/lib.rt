@@ -25,8 +25,20 @@ pub enum Ended {
 
 // What is left of an expression after one turn: another expression in its place, operands, or nothing.
 pub enum Turn {
-    Again { node: u32, wrap: u32, reached: Reached },
-    Operands { list: u32, wrap: u32, reached: Reached },
+    Again {
+        node: u32,
+        wrap: u32,
+        reached: Reached,
+    },
+    Operands {
+        list: u32,
+        wrap: u32,
+        reached: Reached,
+    },
     Done(Reached),
-    Refused { ground: u32, steps: u32, sum: u32 },
+    Refused {
+        ground: u32,
+        steps: u32,
+        sum: u32,
+    },
 }
