@@ -2,17 +2,17 @@
 use mathlib.Core.Path.{_≡_, refl, sym, ap, subst, _∙_}
 use mathlib.Core.Bool.{Bool, true, false}
 use mathlib.Core.List.{List, []}
-use Prim.Native.Nat.{ℕ, _+_, _*_, _<_, _≤_}
+use Prim.Native.Nat.{ℕ, _+_, _*_, _<_}
 use native.Mathlib.Omega.{arith}
 use lib.Dec.{eqb}
 use lib.ListN.{length, getD, set, length-set}
 use borrow.Author.Tests.{eqb-true, eqb-false}
 use Rattle.words.specs.Limits.{namesMost, operationsMost}
 use Rattle.recipe.specs.Name.{plainName}
-use Rattle.recipe.specs.Tree.{Tree, empty, name, pair, names, element}
-use Rattle.recipe.specs.Table.{kindAt, treeOf, itemCount, isLayout}
+use Rattle.recipe.specs.Tree.{Tree, empty, name, pair, names}
+use Rattle.recipe.specs.Table.{kindAt, treeOf, itemCount}
 use Rattle.recipe.specs.TreeFrom.{treeFrom, headAt, tailAt}
-use Rattle.recipe.specs.Layout.{isListKind, PairItem, Layout, layout, layoutPair, emptyTree, pairTree, Root, root}
+use Rattle.recipe.specs.Layout.{isListKind, PairItem, Layout, layoutPair, emptyTree, pairTree, root}
 use Rattle.expansion.specs.Run.{operationNumbers, areOperations}
 use Rattle.layout.specs.Begins.{list-kind}
 use Rattle.layout.specs.Places.{Places, numbers}

@@ -1,37 +1,27 @@
+-- `begins_two` answers how item 0 begins: one law of `Begins` for each way.
 use borrow.Author.Needs.{needs}
 use Rattle.layout.proofs.begins_two.Statement.{statement}
 use Rattle.layout.proofs.begins_two.Tie as tie
-use Rattle.layout.proofs.begins_two.Reads as reads
-use Rattle.layout.proofs.begins_two.Lts as lts
-use Rattle.layout.proofs.item.head.Reads as head-reads
-use Rattle.layout.proofs.item.is_list_kind.Reads as is-list-kind-reads
-use Rattle.layout.proofs.item.kind.Reads as kind-reads
-use Rattle.layout.proofs.item.tail.Reads as tail-reads
 use mathlib.Core.Path.{_≡_, ap, sym, _∙_}
-use Prim.Native.Nat.{_+_, _*_, _<_}
 use native.Mathlib.Omega.{arith}
 use Rattle.recipe.specs.Table.{kindAt}
-use Rattle.recipe.specs.TreeFrom.{headAt, tailAt}
+use Rattle.recipe.specs.TreeFrom.{tailAt}
 use Rattle.recipe.specs.Layout.{isListKind}
 use Rattle.layout.specs.Begins.{list-kind, pairAt, none, one, three, two}
 
--- src/lib.rt:20:8
 kind-requires : tie.Need-kind-requires
 kind-requires c κs =
     search needs
 
--- src/lib.rt:21:9
 returns : tie.Need-returns
 returns c =
     let ws = c .before .before .before .args .table .now in let k : kindAt ws 0 ≡ 4 → ⊥ = λ q. c .if1 .taken (c .before .kind .ensures ∙ q) in
     sym (none ws (c .before .before .before .args .n) (c .before .before .before .pre .0) (c .before .before .before .pre .2) (c .before .before .before .pre .1) k)
 
--- src/lib.rt:23:9
 tail-requires : tie.Need-tail-requires
 tail-requires c κs =
     search needs
 
--- src/lib.rt:24:8
 kind-requires-2 : tie.Need-kind-requires-2
 kind-requires-2 c κs =
     let ws = c .before .before .before .before .args .table .now in let n = c .before .before .before .before .args .n in let e = c .before .before .before .before .pre .0 in let g = c .before .before .before .before .pre .2 in
@@ -39,7 +29,6 @@ kind-requires-2 c κs =
     let p0 = pairAt ws n e g 0 (c .before .before .before .before .pre .1) k0 in
     omega (arith, p0 .tailBelow)
 
--- src/lib.rt:25:9
 returns-2 : tie.Need-returns-2
 returns-2 c =
     let ws = c .before .before .before .before .before .before .args .table .now in let n = c .before .before .before .before .before .before .args .n in let e = c .before .before .before .before .before .before .pre .0 in let g = c .before .before .before .before .before .before .pre .2 in
@@ -48,7 +37,6 @@ returns-2 c =
     let k1 : kindAt ws (tailAt ws 0) ≡ 4 → ⊥ = λ q. c .if2 .taken (c .before .kind2 .ensures ∙ (ap (kindAt ws) (c .before .before .tail .ensures) ∙ q)) in
     sym (one ws n e g (c .before .before .before .before .before .before .pre .1) k0 (p0 .tailBelow) k1)
 
--- src/lib.rt:27:9
 tail-requires-2 : tie.Need-tail-requires-2
 tail-requires-2 c κs =
     let ws = c .before .before .before .before .before .before .args .table .now in let n = c .before .before .before .before .before .before .args .n in let e = c .before .before .before .before .before .before .pre .0 in let g = c .before .before .before .before .before .before .pre .2 in
@@ -56,7 +44,6 @@ tail-requires-2 c κs =
     let p0 = pairAt ws n e g 0 (c .before .before .before .before .before .before .pre .1) k0 in
     omega (arith, p0 .tailBelow)
 
--- src/lib.rt:28:8
 kind-requires-3 : tie.Need-kind-requires-3
 kind-requires-3 c κs =
     let ws = c .before .before .before .before .before .before .before .args .table .now in let n = c .before .before .before .before .before .before .before .args .n in let e = c .before .before .before .before .before .before .before .pre .0 in let g = c .before .before .before .before .before .before .before .pre .2 in
@@ -67,7 +54,6 @@ kind-requires-3 c κs =
     let t2 : c .tail2 .result ≡ tailAt ws (tailAt ws 0) = c .tail2 .ensures ∙ ap (tailAt ws) (c .before .before .before .tail .ensures) in
     omega (arith, p1 .tailBelow)
 
--- src/lib.rt:29:9
 returns-3 : tie.Need-returns-3
 returns-3 c =
     let ws = c .before .before .before .before .before .before .before .before .before .args .table .now in let n = c .before .before .before .before .before .before .before .before .before .args .n in let e = c .before .before .before .before .before .before .before .before .before .pre .0 in let g = c .before .before .before .before .before .before .before .before .before .pre .2 in
@@ -79,12 +65,10 @@ returns-3 c =
     let u : kindAt ws (tailAt ws (tailAt ws 0)) ≡ 4 = list-kind (kindAt ws (tailAt ws (tailAt ws 0))) (p1 .tailKind) (λ q. c .if3 .taken (c .before .kind3 .ensures ∙ (ap (kindAt ws) t2 ∙ q))) in
     sym (three ws n e g (c .before .before .before .before .before .before .before .before .before .pre .1) k0 (p0 .tailBelow) k1 (p1 .tailBelow) u)
 
--- src/lib.rt:31:9
 head-requires : tie.Need-head-requires
 head-requires c κs =
     search needs
 
--- src/lib.rt:32:24
 kind-requires-4 : tie.Need-kind-requires-4
 kind-requires-4 c κs =
     let ws = c .before .before .before .before .before .before .before .before .before .before .args .table .now in let n = c .before .before .before .before .before .before .before .before .before .before .args .n in let e = c .before .before .before .before .before .before .before .before .before .before .pre .0 in let g = c .before .before .before .before .before .before .before .before .before .before .pre .2 in
@@ -92,12 +76,10 @@ kind-requires-4 c κs =
     let p0 = pairAt ws n e g 0 (c .before .before .before .before .before .before .before .before .before .before .pre .1) k0 in
     omega (arith, p0 .headBelow)
 
--- src/lib.rt:32:5
 is-list-kind-requires : tie.Need-is-list-kind-requires
 is-list-kind-requires c κs =
     search needs
 
--- src/lib.rt:16:1
 returns-4 : tie.Need-returns-4
 returns-4 c =
     let ws = c .before .before .before .before .before .before .before .before .before .before .before .before .args .table .now in let n = c .before .before .before .before .before .before .before .before .before .before .before .before .args .n in let e = c .before .before .before .before .before .before .before .before .before .before .before .before .pre .0 in let g = c .before .before .before .before .before .before .before .before .before .before .before .before .pre .2 in
