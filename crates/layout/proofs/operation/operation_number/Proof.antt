@@ -12,30 +12,31 @@ use Rattle.layout.specs.Walk.{item-words}
 
 kind-requires : tie.Need-kind-requires
 kind-requires c κs =
-    item-words (c .before .args .table .now) (layout (c .before .args .table .now) (c .before .pre .0)) (c .before .args .i) (c .before .pre .1)
+    let a = c .before .args in item-words (a .i) (layout (a .table .now) (c .before .pre .0)) (c .before .pre .1)
 
 returns : tie.Need-returns
 returns c =
-    let ws = c .before .before .before .args .table .now in let k : kindAt ws (c .before .before .before .args .i) ≡ 3 → ⊥ = λ q. c .if1 .taken (c .before .kind .ensures ∙ q) in
-    (sym (number-other ws (layout ws (c .before .before .before .pre .0)) (c .before .before .before .args .i) (c .before .before .before .pre .1) k), omega arith)
+    let a = c .before .before .before .args in let ws = a .table .now in let l = layout ws (c .before .before .before .pre .0) in
+    let k : kindAt ws (a .i) ≡ 3 → ⊥ = λ q. c .if1 .taken (c .before .kind .ensures ∙ q) in
+    (sym (number-other ws l (a .i) (c .before .before .before .pre .1) k), omega arith)
 
 head-requires : tie.Need-head-requires
 head-requires c κs =
-    item-words (c .before .before .before .args .table .now) (layout (c .before .before .before .args .table .now) (c .before .before .before .pre .0)) (c .before .before .before .args .i) (c .before .before .before .pre .1)
+    let a = c .before .before .before .args in item-words (a .i) (layout (a .table .now) (c .before .before .before .pre .0)) (c .before .before .before .pre .1)
 
 returns-2 : tie.Need-returns-2
 returns-2 c =
-    let ws = c .before .before .before .before .before .args .table .now in let k : kindAt ws (c .before .before .before .before .before .args .i) ≡ 3 = sym (c .before .before .before .kind .ensures) ∙ c .before .before .if1 .left in
-    let h : headAt ws (c .before .before .before .before .before .args .i) ≤ 7 = omega arith in
-    (sym (number-low ws (layout ws (c .before .before .before .before .before .pre .0)) (c .before .before .before .before .before .args .i) (c .before .before .before .before .before .pre .1) k h), omega arith)
+    let a = c .before .before .before .before .before .args in let ws = a .table .now in let l = layout ws (c .before .before .before .before .before .pre .0) in
+    let k : kindAt ws (a .i) ≡ 3 = sym (c .before .before .before .kind .ensures) ∙ c .before .before .if1 .left in
+    let h : headAt ws (a .i) ≤ 7 = omega arith in
+    (sym (number-low ws l (a .i) (c .before .before .before .before .before .pre .1) k h), omega arith)
 
 returns-3 : tie.Need-returns-3
 returns-3 c =
-    let ws = c .before .before .before .before .before .args .table .now in let k : kindAt ws (c .before .before .before .before .before .args .i) ≡ 3 = sym (c .before .before .before .kind .ensures) ∙ c .before .before .if1 .left in
-    let h : 7 < headAt ws (c .before .before .before .before .before .args .i) = omega arith in (
-      c .before .head .ensures ∙ sym (number-name ws (layout ws (c .before .before .before .before .before .pre .0)) (c .before .before .before .before .before .args .i) (c .before .before .before .before .before .pre .1) k h),
-      omega (arith, layoutName ws (layout ws (c .before .before .before .before .before .pre .0)) (c .before .before .before .before .before .args .i) (c .before .before .before .before .before .pre .1) k),
-    )
+    let a = c .before .before .before .before .before .args in let ws = a .table .now in let l = layout ws (c .before .before .before .before .before .pre .0) in
+    let k : kindAt ws (a .i) ≡ 3 = sym (c .before .before .before .kind .ensures) ∙ c .before .before .if1 .left in
+    let h : 7 < headAt ws (a .i) = omega arith in
+    (c .before .head .ensures ∙ sym (number-name ws l (a .i) (c .before .before .before .before .before .pre .1) k h), omega (arith, layoutName ws l (a .i) (c .before .before .before .before .before .pre .1) k))
 
 pub operation-number-spec : {M : Type 1} → statement M
 operation-number-spec =
