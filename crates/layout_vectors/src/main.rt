@@ -72,7 +72,7 @@ fn layouts() {
     items(b"X10", b"412 000 433 000");
 }
 
-// More of ground 7: kinds, references, lengths, a tail that is a name, and the largest tables.
+// More of ground 7: kinds, references, lengths, a tail that is a name.
 fn more_layouts() {
     items(b"nothing", b"");
     items(b"two items and two words", b"412 000 43");
