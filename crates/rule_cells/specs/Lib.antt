@@ -1,3 +1,5 @@
 -- Rules as cells of the arena: what the cells of patterns, templates and rules mean, and its laws.
 pub mod Cells
 pub mod CellLaws
+pub mod Made
+pub mod MadeLaws

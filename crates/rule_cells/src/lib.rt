@@ -1,1 +1,3 @@
-// Rules as cells of the arena: their meaning stands in specs/.
+// Rules as cells of the arena: read once, when their form is reached. What the cells mean stands in specs/.
+
+pub mod cells;
