@@ -58,6 +58,10 @@ pub referenceAt-falls : (work : List ℕ) (at k : ℕ) → 0 < at → referenceA
 unfolding referenceAt
 referenceAt-falls work at k h = falling-falls at (wordAt work at k) h
 
+pub referenceAt-most : (work : List ℕ) (at k : ℕ) → referenceAt work at k ≤ at
+unfolding referenceAt falling
+referenceAt-most work at k = cases (ltb (wordAt work at k) at) (λ t. rw t (omega (arith, ltb-true (wordAt work at k) at t))) (λ t. rw t (omega arith))
+
 pub referenceAt-below : (a b : List ℕ) (at k : ℕ) → 0 < k → take at a ≡ take at b → referenceAt a at k ≡ referenceAt b at k
 unfolding referenceAt
 referenceAt-below a b at k p e = ap (falling at) (wordAt-below a b at k p e)

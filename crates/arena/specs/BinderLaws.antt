@@ -55,7 +55,7 @@ fifth-fails e true true false d h = refl
 fifth-fails e true false c d h = refl
 fifth-fails e false b c d h = refl
 
-equal-lengths : (a b : List ℕ) → (length a ≡ length b → ⊥) → equal a b ≡ false
+pub equal-lengths : (a b : List ℕ) → (length a ≡ length b → ⊥) → equal a b ≡ false
 equal-lengths a b h = cases (equal a b) (λ t. absurd (h (ap length (equal-true a b t)))) (λ t. t)
 
 module _ (work : List ℕ) (w : ℕ) (x : Name) where

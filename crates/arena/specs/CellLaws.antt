@@ -10,11 +10,12 @@ use lib.ListN.{length, getD, take, set, length-set}
 use lib.Seq.{getD-set-same, getD-set-other, take-set-le}
 use borrow.Author.Tests.{ltb-true, ltb-false}
 use Rattle.recipe.specs.Name.{Binding, Name, plainName, bindingKey, markName, bindName}
-use Rattle.recipe.specs.Tree.{Tree, empty, constant, name, pair}
+use Rattle.recipe.specs.Tree.{Tree, empty, constant, name, pair, onNames, mark, bind}
+use Rattle.recipe.specs.TreeLaws.{onNames-∘, onNames-cong}
 use Rattle.arena.specs.Arena.{wordAt, falling, referenceAt, markLimit, marked, newest, ownMarks, rebound, wrapAt, nodeName, nameAt, constantAt, treeAt}
 use Rattle.arena.specs.ArenaLaws.{cases, wordAt-in, wordAt-out, wordAt-below, falling-is, take-less, wrapAt-below, wrapAt-mark, wrapAt-join, wrapAt-binder, marked-is, Own, rebound-is}
-use Rattle.arena.specs.NodeLaws.{treeAt-below, treeAt-empty, treeAt-name, treeAt-pair, treeAt-constant}
-use Rattle.arena.specs.Cells.{itemName, Room, Cell, Wrapped, Described, Bound, Grown}
+use Rattle.arena.specs.NodeLaws.{treeAt-wrap, treeAt-below, treeAt-empty, treeAt-name, treeAt-pair, treeAt-constant}
+use Rattle.arena.specs.Cells.{itemName, Room, Cell, Wrapped, Described, Bound, Binds, Grown}
 
 -- ---- three words at the top
 
@@ -185,3 +186,25 @@ module _ (old new : List ℕ) (top r : ℕ) where
             treeAt-constant items new r w (λ z. n3 (sym (c .first) ∙ z)) (λ z. n4 (sym (c .first) ∙ z)) (λ z. n5 (sym (c .first) ∙ z))
             ∙ rw (c .first, c .second, c .third);
       }
+
+-- ---- trees under a new wrap: what waits is carried through the tree under the parent
+
+module _ (items old new : List ℕ) (top r node : ℕ) (below : node ≤ top) (kept : take top new ≡ take top old) where
+  pub tree-after : (f : Name → Name) (v : ℕ) → ((x : Name) → wrapAt new r x ≡ f (wrapAt old v x)) → treeAt items new node r ≡ onNames f (treeAt items old node v)
+  tree-after f v e =
+      treeAt-wrap items new node r
+      ∙ onNames-cong _ _ e _
+      ∙ ap (onNames (λ x. f (wrapAt old v x))) (tree-kept items old new top node 0 below (omega arith) kept)
+      ∙ sym (onNames-∘ f (wrapAt old v) _)
+      ∙ ap (onNames f) (sym (treeAt-wrap items old node v))
+
+  pub tree-mark : (m parent : ℕ) → Wrapped (λ x. markName m (wrapAt old parent x)) 3 old new top r → treeAt items new node r ≡ mark m (treeAt items old node parent)
+  unfolding mark
+  tree-mark m parent c = tree-after (markName m) parent (c .means)
+
+  pub tree-join : (outer inner : ℕ) → Wrapped (λ x. wrapAt old outer (wrapAt old inner x)) 3 old new top r → treeAt items new node r ≡ onNames (wrapAt old outer) (treeAt items old node inner)
+  tree-join outer inner c = tree-after (wrapAt old outer) inner (c .means)
+
+  pub tree-bind : (own w key parent : ℕ) (b : Binding) → key ≡ bindingKey (some b) → Binds items own w key parent old new top r → treeAt items new node r ≡ bind (nameAt items old own w) b (treeAt items old node parent)
+  unfolding bind
+  tree-bind own w key parent b e c = tree-after (bindName (nameAt items old own w) b) parent (c .means b e)

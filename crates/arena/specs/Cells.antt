@@ -8,7 +8,7 @@ use lib.Dec.{ltb}
 use lib.ListN.{length, take}
 use Rattle.recipe.specs.Name.{Binding, Name, bindingKey, markName, bindName, plainName}
 use Rattle.recipe.specs.Tree.{Tree, empty, constant, name, pair}
-use Rattle.arena.specs.Arena.{wordAt, wrapAt, newest, numberAt, treeAt}
+use Rattle.arena.specs.Arena.{wordAt, wrapAt, newest, numberAt, nameAt, treeAt}
 
 -- room for a cell of n words: the budget of ground 9 gives it, and references fit a word
 pub record Room (work : List ℕ) (top n : ℕ) : Type 0 where
@@ -43,6 +43,12 @@ pub record Bound (number binding count mark own pending key parent : ℕ) (old n
   pub kept : take top new ≡ take top old
   pub means : (i : Name) (b : Binding) → Described old i number binding count mark own pending → key ≡ bindingKey (some b)
       → (x : Name) → wrapAt new r x ≡ bindName i b (wrapAt old parent x)
+
+-- it binds the name of a node under a wrap
+pub record Binds (items : List ℕ) (node w key parent : ℕ) (old new : List ℕ) (top r : ℕ) : Type 0 where
+  pub end : r ≡ top + 9
+  pub kept : take top new ≡ take top old
+  pub means : (b : Binding) → key ≡ bindingKey (some b) → (x : Name) → wrapAt new r x ≡ bindName (nameAt items old node w) b (wrapAt old parent x)
 
 -- a name item's name, produced or not, before any wrap
 unfoldable pub itemName : List ℕ → ℕ → Bool → Name

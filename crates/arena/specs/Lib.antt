@@ -9,3 +9,5 @@ pub mod BinderLaws
 pub mod WalkLaws
 pub mod Cells
 pub mod CellLaws
+pub mod Names
+pub mod NameLaws

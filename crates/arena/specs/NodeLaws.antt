@@ -8,10 +8,9 @@ use native.Mathlib.Omega.{arith}
 use lib.Dec.{eqb, ltb}
 use lib.ListN.{length, take}
 use borrow.Author.Tests.{ne-eqb}
-use Rattle.recipe.specs.Name.{Binding, Name, bindingKey, markName, bindName}
-use Rattle.recipe.specs.Tree.{Tree, empty, constant, name, pair, onNames, mark, bind}
+use Rattle.recipe.specs.Name.{Name}
+use Rattle.recipe.specs.Tree.{Tree, empty, constant, name, pair, onNames}
 use Rattle.recipe.specs.Table.{byKind}
-use Rattle.recipe.specs.TreeLaws.{onNames-∘, onNames-cong}
 use Rattle.arena.specs.Arena.{wordAt, referenceAt, marked, markLimit, wrapAt, nodeName, nameAt, constantAt, treeStep, treeFrom, treeAt}
 use Rattle.arena.specs.ArenaLaws.{cases, wordAt-some, wordAt-out, wordAt-below, referenceAt-below, referenceAt-falls, take-less, wrapAt-below, wrapAt-none}
 
@@ -122,23 +121,3 @@ treeFrom-wrap items work (suc gas) node w =
 pub treeAt-wrap : (items work : List ℕ) (node w : ℕ) → treeAt items work node w ≡ onNames (wrapAt work w) (treeAt items work node 0)
 unfolding treeAt
 treeAt-wrap items work node w = treeFrom-wrap items work node node w
-
--- a wrap that maps names by f after the wrap v
-treeAt-after : (items work : List ℕ) (node v w : ℕ) (f : Name → Name) → ((x : Name) → wrapAt work w x ≡ f (wrapAt work v x)) → treeAt items work node w ≡ onNames f (treeAt items work node v)
-treeAt-after items work node v w f e =
-    treeAt-wrap items work node w
-    ∙ onNames-cong _ _ e _
-    ∙ sym (onNames-∘ f (wrapAt work v) _)
-    ∙ ap (onNames f) (sym (treeAt-wrap items work node v))
-
-module _ (items work : List ℕ) (node v w : ℕ) where
-  pub treeAt-mark : (m : ℕ) → ((x : Name) → wrapAt work w x ≡ markName m (wrapAt work v x)) → treeAt items work node w ≡ mark m (treeAt items work node v)
-  unfolding mark
-  treeAt-mark m e = treeAt-after items work node v w (markName m) e
-
-  pub treeAt-bind : (i : Name) (b : Binding) → ((x : Name) → wrapAt work w x ≡ bindName i b (wrapAt work v x)) → treeAt items work node w ≡ bind i b (treeAt items work node v)
-  unfolding bind
-  treeAt-bind i b e = treeAt-after items work node v w (bindName i b) e
-
-  pub treeAt-join : (u : ℕ) → ((x : Name) → wrapAt work w x ≡ wrapAt work u (wrapAt work v x)) → treeAt items work node w ≡ onNames (wrapAt work u) (treeAt items work node v)
-  treeAt-join u e = treeAt-after items work node v w (wrapAt work u) e

@@ -2,4 +2,5 @@
 
 pub mod cells;
 pub mod marks;
+pub mod names;
 pub mod wraps;

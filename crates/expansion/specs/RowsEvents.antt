@@ -13,6 +13,10 @@ use Rattle.expansion.specs.Row.{filingFuel, runOf}
 unfoldable pub placed : (number item : ℕ) → Option Binding → Name
 placed number item binding = record { number = number; item = item; produced = false; marks = []; binding = binding }
 
+-- such a name in a marked use, without a binding
+unfoldable pub used : (number item : ℕ) → (marks : List ℕ) → Name
+used number item marks = record { number = number; item = item; produced = false; marks = marks; binding = none }
+
 -- a name of a step's result
 unfoldable pub produced : (number item : ℕ) → (marks : List ℕ) → Option Binding → Name
 produced number item marks binding = record { number = number; item = item; produced = true; marks = marks; binding = binding }
@@ -40,18 +44,20 @@ pub E28-shows : eventsOf "() (lambda (t) (let-syntax ((or2 (syntax-rules () ((_ 
 unfolding eventsOf placed produced
 E28-shows = refl
 
--- a literal is looked up on both sides, that of the use with the step's mark; what is quoted
-pub literal-shows : eventsOf "() (let-syntax ((m (syntax-rules (else) ((_ else) (quote (m else)))))) (m else))" ≡
+-- literals are looked up on both sides, those of the use with the step's mark: none after a misfit, none of a rule that is not tried
+pub literals-show : eventsOf "() (let-syntax ((m (syntax-rules (else) ((_ 1 else) 1) ((_ else else) (quote (m else))) ((_ else else) 2)))) (m else else))" ≡
     looked (placed 3 4 none) ∷
     reached (placed 3 4 none) ∷
     binds (macro 0) (placed 8 8 none) ∷
     looked (placed 5 11 none) ∷
-    looked (placed 8 39 (some (macro 0))) ∷
-    looked (placed 9 21 none) ∷
-    looked (record { number = 9; item = 41; produced = false; marks = 1 ∷ []; binding = none }) ∷
-    looked (produced 0 25 (1 ∷ []) none) ∷
-    quoted (produced 8 28 (1 ∷ []) none) ∷
-    quoted (produced 9 30 (1 ∷ []) none) ∷
+    looked (placed 8 65 (some (macro 0))) ∷
+    looked (placed 9 33 none) ∷
+    looked (used 9 67 (1 ∷ [])) ∷
+    looked (placed 9 35 none) ∷
+    looked (used 9 69 (1 ∷ [])) ∷
+    looked (produced 0 39 (1 ∷ []) none) ∷
+    quoted (produced 8 42 (1 ∷ []) none) ∷
+    quoted (produced 9 44 (1 ∷ []) none) ∷
     []
-unfolding eventsOf placed produced
-literal-shows = refl
+unfolding eventsOf placed used produced
+literals-show = refl

@@ -35,12 +35,27 @@ recipes =
     -- Private: a form that is quoted and not reached
     gives "() (quote (let-syntax ((m (syntax-rules () ((_) x)))) 1))"
     0 0 (5 ∷ 3 ∷ 4 ∷ 3 ∷ 5 ∷ 1 ∷ 5 ∷ 2 ∷ 4 ∷ 8 ∷ 5 ∷ 3 ∷ 4 ∷ 5 ∷ 5 ∷ 0 ∷ 5 ∷ 2 ∷ 5 ∷ 1 ∷ 4 ∷ 7 ∷ 4 ∷ 9 ∷ 2 ∷ 1 ∷ []) ∷
+    -- Names: inserted by two steps, not the same
+    gives "() (let-syntax ((k (syntax-rules () ((_ x) (lambda (t x) (t x)))))) (let-syntax ((w (syntax-rules () ((_) (k t))))) (w)))"
+    2 20 (7 ∷ 0 ∷ 2 ∷ 8 ∷ 1 ∷ 0 ∷ 0 ∷ 0 ∷ 1 ∷ []) ∷
     -- Names: an inserted _ as a bare expression
     refuses "() (let-syntax ((m (syntax-rules () ((_) _)))) (m))" 12 1 1 ∷
     -- Names: an inserted _ matches anything, each by itself
     gives "() (let-syntax ((m (syntax-rules () ((_) (let-syntax ((n (syntax-rules () ((_ _ _) 1)))) (n 2 3)))))) (m))" 2 36 (2 ∷ 1 ∷ []) ∷
     -- Names: a quoted name that is bound keeps its number
     gives "() (lambda (x) (quote (m x)))" 0 0 (7 ∷ 0 ∷ 1 ∷ 5 ∷ 2 ∷ 4 ∷ 9 ∷ 4 ∷ 8 ∷ []) ∷
+    -- Matching: variables after a list, after a constant and after _
+    gives "(list) (let-syntax ((m (syntax-rules () ((_ (a b) c) (list a b c))))) (m (1 2) 3))" 1 9 (8 ∷ 3 ∷ 1 ∷ 0 ∷ 2 ∷ 1 ∷ 2 ∷ 2 ∷ 2 ∷ 3 ∷ []) ∷
+    gives "(list) (let-syntax ((m (syntax-rules () ((_ 0 a _ b) (list a b))))) (m 0 1 2 3))" 1 7 (8 ∷ 2 ∷ 1 ∷ 0 ∷ 2 ∷ 1 ∷ 2 ∷ 3 ∷ []) ∷
+    -- Matching: every element before ... is matched
+    gives "() (let-syntax ((m (syntax-rules () ((_ 1 ...) 1) ((_ _ ...) 2)))) (m 1 2))" 1 1 (2 ∷ 2 ∷ []) ∷
+    -- Driving lists: of variables on both sides of an inner ellipsis
+    gives "(list) (let-syntax ((z (syntax-rules () ((_ ((a ...) ...) (b ...)) (list (list a ... b) ...))))) (z ((1 2) ()) (3 4)))"
+    1 19 (8 ∷ 2 ∷ 1 ∷ 0 ∷ 8 ∷ 3 ∷ 1 ∷ 0 ∷ 2 ∷ 1 ∷ 2 ∷ 2 ∷ 2 ∷ 3 ∷ 8 ∷ 1 ∷ 1 ∷ 0 ∷ 2 ∷ 4 ∷ []) ∷
+    refuses "(list) (let-syntax ((z (syntax-rules () ((_ ((a ...) ...) (b ...)) (list (list a ... b) ...))))) (z ((1) (2)) (3)))" 17 0 0 ∷
+    -- Driving lists: of a later ellipsis, and of one in a list that is not the last
+    refuses "(list) (let-syntax ((z (syntax-rules () ((_ (a ...) (b ...) (c ...)) (list a ... (list b c) ...))))) (z (1) (2) (3 4)))" 17 0 0 ∷
+    refuses "(list) (let-syntax ((z (syntax-rules () ((_ (a ...) (b ...)) (if (list (list a b) ...) 1 2))))) (z (1) (2 3)))" 17 0 0 ∷
     -- Order: from the left: 13
     refuses "(f) (f () x)" 13 0 0 ∷
     -- Order: from the left: 11

@@ -1,9 +1,12 @@
 -- Known runs of item tables with given fuel and lengths of the lent tables: grounds 7 to 10 in this order.
 use mathlib.Core.Path.{_≡_, refl}
+use mathlib.Core.Bool.{true, false}
 use mathlib.Core.List.{List, [], _∷_, map}
-use Prim.Native.Nat.{ℕ}
+use Prim.Native.Nat.{ℕ, zero, suc}
+use Rattle.recipe.specs.Name.{plainName}
+use Rattle.recipe.specs.Tree.{Tree, empty, name, pair}
 use Rattle.recipe.specs.Rows.{X1, X2, X3}
-use Rattle.expansion.specs.Run.{Outcome, accepted, turnedBack, Run}
+use Rattle.expansion.specs.Run.{Outcome, accepted, turnedBack, Run, areOperations}
 use Rattle.expansion.specs.Computed.{computed}
 
 pub record Row : Type 0 where
@@ -54,3 +57,14 @@ rows =
 pub rows-hold : map ran rows ≡ rows
 unfolding ran rows
 rows-hold = refl
+
+-- ---- ground 10: at most 256 operations
+
+-- n operations, numbered from k
+unfoldable pub operationsFrom : ℕ → ℕ → Tree
+operationsFrom k zero = empty
+operationsFrom k (suc n) = pair (name (plainName k 0)) (operationsFrom (suc k) n)
+
+pub operations-hold : map (λ n. areOperations (pair (operationsFrom 8 n) empty)) (256 ∷ 257 ∷ []) ≡ true ∷ false ∷ []
+unfolding operationsFrom computed
+operations-hold = refl

@@ -18,7 +18,8 @@ use Rattle.expansion.specs.Match.{firstFit}
 use Rattle.expansion.specs.Computation.{State, Event, looked, quoted, reached, binds, Events, Out, done, refused, starved, M, after, goOn, _>>=_, _>>_, give, refuse, show, test, orRefuse, get, addVariables, addMacros, addStep}
 use Rattle.expansion.specs.Forms.{isLambda, formals, isMacro, isMacros, firstNames, keywords, rulesForms, bindings, readRules, expandAll, expandQuote, expandIf, expandLambda, expandMacros, expandUse, expandOperands, expandList, expandName, expandApplication, expandPair, expandTree, expand}
 use Rattle.private_names.specs.Statement.{isCopy, bindsCopy, isOwnedByCopy}
-use Rattle.private_names.specs.Reach.{shown, any-append}
+use Rattle.private_names.specs.Reach.{any-append}
+use Rattle.private_names.specs.Outcomes.{eventsOf}
 
 -- ---- events that bind the variables from v to w and the macros from m to n, each once and in order
 
@@ -159,11 +160,11 @@ pub record Shows (v m : ℕ) (l : Events) : Type 0 where
   pub macros : ℕ
   pub numbered : Numbered v m l variables macros
 
-pub counts-shown : {A : Type 0} {v m : ℕ} {o : Out A} → Counts v m o → Shows v m (shown o)
-unfolding shown
-counts-shown (counts-done p) = record { variables = _; macros = _; numbered = p }
-counts-shown (counts-refused p) = record { variables = _; macros = _; numbered = p }
-counts-shown (counts-starved p) = record { variables = _; macros = _; numbered = p }
+pub counts-events : {A : Type 0} {v m : ℕ} {o : Out A} → Counts v m o → Shows v m (eventsOf o)
+unfolding eventsOf
+counts-events (counts-done p) = record { variables = _; macros = _; numbered = p }
+counts-events (counts-refused p) = record { variables = _; macros = _; numbered = p }
+counts-events (counts-starved p) = record { variables = _; macros = _; numbered = p }
 
 -- the counts of the state at hand
 abbrev pub CountsFrom : {A : Type 0} → State → Out A → Type 0
@@ -422,5 +423,5 @@ expand-counts limit operations fuel (suc gas) t s = tree-counts limit operations
 
 -- so in what it shows a binding's own name is one name
 pub expand-own : (C : ℕ → Bool) (limit : ℕ) (operations : List ℕ) (fuel gas : ℕ) (t : Tree) (s : State)
-    → All (OwnName C (shown (expand limit operations fuel gas t s))) (shown (expand limit operations fuel gas t s))
-expand-own C limit operations fuel gas t s = own-name C (counts-shown (expand-counts limit operations fuel gas t s) .numbered)
+    → All (OwnName C (eventsOf (expand limit operations fuel gas t s))) (eventsOf (expand limit operations fuel gas t s))
+expand-own C limit operations fuel gas t s = own-name C (counts-events (expand-counts limit operations fuel gas t s) .numbered)

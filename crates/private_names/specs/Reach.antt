@@ -19,18 +19,7 @@ use Rattle.expansion.specs.Transcribe.{equalLengths, transcribe}
 use Rattle.expansion.specs.Computation.{State, Event, looked, quoted, reached, binds, Events, Out, done, refused, starved, M, after, goOn, _>>=_, _>>_, give, refuse, show, test, orRefuse, get, addVariables, addMacros, addStep}
 use Rattle.expansion.specs.Forms.{isLambda, formals, isMacros, keywords, rulesForms, bindings, readRules, expandAll, expandQuote, expandIf, expandLambda, expandMacros, expandUse, expandOperands, expandList, expandName, expandApplication, expandPair, expandTree, expand}
 use Rattle.private_names.specs.Statement.{isReachedAt}
-
--- what a computation shows
-unfoldable pub shown : {A : Type 0} → Out A → Events
-shown (done a s l) = l
-shown (refused g s l) = l
-shown (starved l) = l
-
-pub shown-after : {A : Type 0} (l : Events) (o : Out A) → shown (after l o) ≡ l ++ shown o
-unfolding shown after
-shown-after l (done a s k) = refl
-shown-after l (refused g s k) = refl
-shown-after l (starved k) = refl
+use Rattle.private_names.specs.Outcomes.{eventsOf, events-after}
 
 pub any-append : {A : Type 0} (f : A → Bool) (xs ys : List A) → any f (xs ++ ys) ≡ (any f xs || any f ys)
 unfolding any
@@ -105,7 +94,7 @@ module _ (p : ℕ) where
       unheadedAll-onNames name₂ = name₂
       unheadedAll-onNames (pair₂ u v) = pair₂ (unheaded-onNames u) (unheadedAll-onNames v)
 
-  isAt-bind : (i : Name) (b : Binding) (x : Name) → isAt (bindName i b x) ≡ isAt x
+  pub isAt-bind : (i : Name) (b : Binding) (x : Name) → isAt (bindName i b x) ≡ isAt x
   unfolding isAt bindName giveBinding
   isAt-bind i b x = go (same i x)
     where
@@ -139,44 +128,44 @@ module _ (p : ℕ) where
   -- ---- what is not reached
 
   pub data Unreached {A : Type 0} : Out A → Type 0 where
-    unreached : {o : Out A} → any (isReachedAt p) (shown o) ≡ false → Unreached o
+    unreached : {o : Out A} → any (isReachedAt p) (eventsOf o) ≡ false → Unreached o
 
-  pub none-reached : {A : Type 0} {o : Out A} → Unreached o → any (isReachedAt p) (shown o) ≡ false
+  pub none-reached : {A : Type 0} {o : Out A} → Unreached o → any (isReachedAt p) (eventsOf o) ≡ false
   none-reached (unreached e) = e
 
   module _ {A : Type 0} where
-    after-unreached : (l : Events) (o : Out A) → any (isReachedAt p) l ≡ false → Unreached o → Unreached (after l o)
+    pub after-unreached : (l : Events) (o : Out A) → any (isReachedAt p) l ≡ false → Unreached o → Unreached (after l o)
     after-unreached l o e (unreached f) =
-        unreached (ap (any (isReachedAt p)) (shown-after l o) ∙ any-append (isReachedAt p) l (shown o) ∙ neither _ _ e f)
+        unreached (ap (any (isReachedAt p)) (events-after l o) ∙ any-append (isReachedAt p) l (eventsOf o) ∙ neither _ _ e f)
 
-    give-unreached : (a : A) (s : State) → Unreached (give a s)
-    unfolding give shown any
+    pub give-unreached : (a : A) (s : State) → Unreached (give a s)
+    unfolding give eventsOf any
     give-unreached a s = unreached refl
 
-    refuse-unreached : (g : ℕ) (s : State) → Unreached {A = A} (refuse g s)
-    unfolding refuse shown any
+    pub refuse-unreached : (g : ℕ) (s : State) → Unreached {A = A} (refuse g s)
+    unfolding refuse eventsOf any
     refuse-unreached g s = unreached refl
 
-    test-unreached : (g : ℕ) (b : Bool) (n : M A) (s : State) → Unreached (n s) → Unreached ((_>>_ (test g b) n) s)
-    unfolding _>>_ goOn test shown any
+    pub test-unreached : (g : ℕ) (b : Bool) (n : M A) (s : State) → Unreached (n s) → Unreached ((_>>_ (test g b) n) s)
+    unfolding _>>_ goOn test eventsOf any
     test-unreached g true n s k = after-unreached [] (n s) refl k
     test-unreached g false n s k = unreached refl
 
-    show-unreached : (l : Events) (n : M A) (s : State) → any (isReachedAt p) l ≡ false → Unreached (n s) → Unreached ((_>>_ (show l) n) s)
+    pub show-unreached : (l : Events) (n : M A) (s : State) → any (isReachedAt p) l ≡ false → Unreached (n s) → Unreached ((_>>_ (show l) n) s)
     unfolding _>>_ goOn show
     show-unreached l n s e k = after-unreached l (n s) e k
 
-    goes-unreached : (m : M (Unit {0})) (n : M A) (s t : State) → m s ≡ done tt t [] → Unreached (n t) → Unreached ((_>>_ m n) s)
+    pub goes-unreached : (m : M (Unit {0})) (n : M A) (s t : State) → m s ≡ done tt t [] → Unreached (n t) → Unreached ((_>>_ m n) s)
     unfolding _>>_ goOn any
     goes-unreached m n s t e k = rw e (after-unreached [] (n t) refl k)
 
-    get-unreached : (n : State → M A) (s : State) → Unreached (n s s) → Unreached ((_>>=_ get n) s)
+    pub get-unreached : (n : State → M A) (s : State) → Unreached (n s s) → Unreached ((_>>=_ get n) s)
     unfolding _>>=_ goOn get any
     get-unreached n s k = after-unreached [] (n s s) refl k
 
   module _ {A B : Type 0} where
-    bind-unreached : (m : M A) (f : A → M B) (s : State) → Unreached (m s) → ((a : A) (t : State) → Unreached (f a t)) → Unreached ((_>>=_ m f) s)
-    unfolding _>>=_ goOn shown
+    pub bind-unreached : (m : M A) (f : A → M B) (s : State) → Unreached (m s) → ((a : A) (t : State) → Unreached (f a t)) → Unreached ((_>>=_ m f) s)
+    unfolding _>>=_ goOn eventsOf
     bind-unreached m f s h k = go (m s) h
       where
         go : (o : Out A) → Unreached o → Unreached (goOn f o)
@@ -184,35 +173,35 @@ module _ (p : ℕ) where
         go (refused g t l) (unreached e) = unreached e
         go (starved l) (unreached e) = unreached e
 
-    found-unreached : (g : ℕ) (o : Option A) (f : A → M B) (s : State) → ((a : A) → Unreached (f a s)) → Unreached ((_>>=_ (orRefuse g o) f) s)
-    unfolding _>>=_ goOn orRefuse shown any
+    pub found-unreached : (g : ℕ) (o : Option A) (f : A → M B) (s : State) → ((a : A) → Unreached (f a s)) → Unreached ((_>>=_ (orRefuse g o) f) s)
+    unfolding _>>=_ goOn orRefuse eventsOf any
     found-unreached g none f s k = unreached refl
     found-unreached g (some a) f s k = after-unreached [] (f a s) refl (k a)
 
   -- lookups, quoted names and bindings are no forms reached
-  quoted-none : (xs : List Name) → any (isReachedAt p) (map quoted xs) ≡ false
+  pub quoted-none : (xs : List Name) → any (isReachedAt p) (map quoted xs) ≡ false
   unfolding any isReachedAt
   quoted-none [] = refl
   quoted-none (x ∷ xs) = quoted-none xs
 
-  looked-none : (xs : List Name) → any (isReachedAt p) (map looked xs) ≡ false
+  pub looked-none : (xs : List Name) → any (isReachedAt p) (map looked xs) ≡ false
   unfolding any isReachedAt
   looked-none [] = refl
   looked-none (x ∷ xs) = looked-none xs
 
-  bindings-none : (f : ℕ → Binding) (k : ℕ) (xs : List Name) → any (isReachedAt p) (bindings f k xs) ≡ false
+  pub bindings-none : (f : ℕ → Binding) (k : ℕ) (xs : List Name) → any (isReachedAt p) (bindings f k xs) ≡ false
   unfolding any isReachedAt bindings
   bindings-none f k [] = refl
   bindings-none f k (x ∷ xs) = bindings-none f (suc k) xs
 
-  head-none : (t : Tree) → any (isReachedAt p) (onName (λ x. looked x ∷ []) [] t) ≡ false
+  pub head-none : (t : Tree) → any (isReachedAt p) (onName (λ x. looked x ∷ []) [] t) ≡ false
   unfolding any isReachedAt onName
   head-none empty = refl
   head-none (constant a) = refl
   head-none (name x) = refl
   head-none (pair h t) = refl
 
-  read-unreached : (rs : List Tree) (s : State) → Unreached (readRules rs s)
+  pub read-unreached : (rs : List Tree) (s : State) → Unreached (readRules rs s)
   unfolding readRules
   read-unreached [] s = give-unreached [] s
   read-unreached (r ∷ rs) s =
@@ -225,7 +214,7 @@ module _ (p : ℕ) where
 
   module _ (limit : ℕ) (operations : List ℕ) (fuel : ℕ) (rec : Tree → M (Term Name))
       (good : (t : Tree) → Unheaded t → (s : State) → Unreached (rec t s)) where
-    all-unreached : {t : Tree} → UnheadedAll t → (s : State) → Unreached (expandAll limit operations fuel rec t s)
+    pub all-unreached : {t : Tree} → UnheadedAll t → (s : State) → Unreached (expandAll limit operations fuel rec t s)
     unfolding expandAll
     all-unreached empty₂ s = give-unreached _ s
     all-unreached constant₂ s = give-unreached _ s
@@ -235,41 +224,41 @@ module _ (p : ℕ) where
         bind-unreached _ _ w (all-unreached v w) λ b z.
         give-unreached _ z
 
-    operands-unreached : (head : Term Name) {t : Tree} → UnheadedAll t → (s : State) → Unreached (expandOperands limit operations fuel rec head t s)
+    pub operands-unreached : (head : Term Name) {t : Tree} → UnheadedAll t → (s : State) → Unreached (expandOperands limit operations fuel rec head t s)
     unfolding expandOperands
     operands-unreached head u s = bind-unreached _ _ s (all-unreached u s) λ a w. give-unreached _ w
 
-    application-unreached : {h t : Tree} → Unheaded h → UnheadedAll t → (s : State) → Unreached (expandApplication limit operations fuel rec h t s)
+    pub application-unreached : {h t : Tree} → Unheaded h → UnheadedAll t → (s : State) → Unreached (expandApplication limit operations fuel rec h t s)
     unfolding expandApplication
     application-unreached {h} u v s = bind-unreached _ _ s (good h u s) λ a w. operands-unreached a v w
 
-    quote-unreached : (t : Tree) (s : State) → Unreached (expandQuote limit operations fuel rec t s)
+    pub quote-unreached : (t : Tree) (s : State) → Unreached (expandQuote limit operations fuel rec t s)
     unfolding expandQuote
     quote-unreached t s = test-unreached 13 _ _ s (show-unreached _ _ s (quoted-none (names (element 1 t))) (give-unreached _ s))
 
-    if-unreached : {t : Tree} → UnheadedAll t → (s : State) → Unreached (expandIf limit operations fuel rec t s)
+    pub if-unreached : (t : Tree) → Unheaded (element 1 t) → Unheaded (element 2 t) → Unheaded (element 3 t) → (s : State) → Unreached (expandIf limit operations fuel rec t s)
     unfolding expandIf
-    if-unreached u s =
+    if-unreached t i j k s =
         test-unreached 13 _ _ s
-        (bind-unreached _ _ s (good _ (unheaded-element 1 u) s) λ a v.
-        bind-unreached _ _ v (good _ (unheaded-element 2 u) v) λ b w.
-        bind-unreached _ _ w (good _ (unheaded-element 3 u) w) λ c z.
+        (bind-unreached _ _ s (good _ i s) λ a v.
+        bind-unreached _ _ v (good _ j v) λ b w.
+        bind-unreached _ _ w (good _ k w) λ c z.
         give-unreached _ z)
 
-    lambda-unreached : {t : Tree} → UnheadedAll t → (s : State) → Unreached (expandLambda limit operations fuel rec t s)
+    pub lambda-unreached : (t : Tree) → Unheaded (element 2 t) → (s : State) → Unreached (expandLambda limit operations fuel rec t s)
     unfolding expandLambda addVariables
-    lambda-unreached {t} u s =
+    lambda-unreached t u s =
         test-unreached 13 _ _ s
         (test-unreached 14 _ _ s
         (get-unreached _ s
         (show-unreached _ _ s (bindings-none variable (s .variables) (formals t))
         (goes-unreached _ _ s _ refl
-        (bind-unreached _ _ _ (good _ (unheaded-bindAll variable (s .variables) (formals t) (unheaded-element 2 u)) _) λ b z.
+        (bind-unreached _ _ _ (good _ (unheaded-bindAll variable (s .variables) (formals t) u) _) λ b z.
         give-unreached _ z)))))
 
-    macros-unreached : (inside : Bool) (x : Name) → isAt x ≡ false → {t : Tree} → UnheadedAll t → (s : State) → Unreached (expandMacros limit operations fuel rec inside x t s)
+    pub macros-unreached : (inside : Bool) (x : Name) → isAt x ≡ false → (t : Tree) → Unheaded (element 2 t) → (s : State) → Unreached (expandMacros limit operations fuel rec inside x t s)
     unfolding expandMacros addMacros any isReachedAt isAt
-    macros-unreached inside x e {t} u s =
+    macros-unreached inside x e t u s =
         show-unreached _ _ s (ap (λ b. b || false) e)
         (test-unreached 13 _ _ s
         (test-unreached 14 _ _ s
@@ -277,9 +266,9 @@ module _ (p : ℕ) where
         (show-unreached _ _ s (bindings-none macro (length (s .macros)) (keywords t))
         (bind-unreached _ _ s (read-unreached _ s) λ rules v.
         goes-unreached _ _ v _ refl
-        (good _ (unheaded-bindAll macro (length (s .macros)) (keywords t) (unheaded-element 2 u)) _))))))
+        (good _ (unheaded-bindAll macro (length (s .macros)) (keywords t) u) _))))))
 
-    use-unreached : (n : ℕ) (t : Tree) (s : State) → Unreached (expandUse limit operations fuel rec n t s)
+    pub use-unreached : (n : ℕ) (t : Tree) (s : State) → Unreached (expandUse limit operations fuel rec n t s)
     unfolding expandUse addStep
     use-unreached n t s =
         get-unreached _ s
@@ -295,15 +284,17 @@ module _ (p : ℕ) where
     list-unreached (bound (variable n)) x e u s = operands-unreached _ u s
     list-unreached (bound (macro n)) x e u s = use-unreached n _ s
     list-unreached (form quote) x e u s = quote-unreached _ s
-    list-unreached (form if) x e u s = if-unreached (pair₂ name₁ u) s
-    list-unreached (form lambda) x e u s = lambda-unreached (pair₂ name₁ u) s
-    list-unreached (form let-syntax) x e u s = macros-unreached false x e (pair₂ name₁ u) s
-    list-unreached (form letrec-syntax) x e u s = macros-unreached true x e (pair₂ name₁ u) s
+    list-unreached (form if) x e u s =
+        let v = pair₂ {h = name x} name₁ u in
+        if-unreached _ (unheaded-element 1 v) (unheaded-element 2 v) (unheaded-element 3 v) s
+    list-unreached (form lambda) x e u s = lambda-unreached _ (unheaded-element 2 (pair₂ {h = name x} name₁ u)) s
+    list-unreached (form let-syntax) x e u s = macros-unreached false x e _ (unheaded-element 2 (pair₂ {h = name x} name₁ u)) s
+    list-unreached (form letrec-syntax) x e u s = macros-unreached true x e _ (unheaded-element 2 (pair₂ {h = name x} name₁ u)) s
     list-unreached (form auxiliary) x e u s = refuse-unreached 12 s
     list-unreached (operation k) x e u s = operands-unreached _ u s
     list-unreached nothing x e u s = refuse-unreached 11 s
 
-    name-unreached : (f : Found) (s : State) → Unreached (expandName limit operations fuel rec f s)
+    pub name-unreached : (f : Found) (s : State) → Unreached (expandName limit operations fuel rec f s)
     unfolding expandName
     name-unreached (bound (variable n)) s = give-unreached _ s
     name-unreached (bound (macro n)) s = refuse-unreached 12 s
@@ -327,7 +318,7 @@ module _ (p : ℕ) where
 
   -- Reach: what is reached outside results is a list of the tree at hand, by its head
   pub expand-unreached : (limit : ℕ) (operations : List ℕ) (fuel gas : ℕ) (t : Tree) → Unheaded t → (s : State) → Unreached (expand limit operations fuel gas t s)
-  unfolding expand shown any
+  unfolding expand eventsOf any
   expand-unreached limit operations fuel zero t u s = unreached refl
   expand-unreached limit operations fuel (suc gas) t u s =
       tree-unreached limit operations fuel (expand limit operations fuel gas) (expand-unreached limit operations fuel gas) t u s

@@ -143,7 +143,7 @@ unfoldable pub answerOf : Run → Answer
 answerOf r = record { outcome = r .outcome; steps = r .steps; sum = r .sum; core = r .core }
 
 -- demand 3: whatever the recipe, fuel and lengths of lent tables
-pub PrivateNames : Type 0
+unfoldable pub PrivateNames : Type 0
 PrivateNames =
     (ws : List ℕ) (fuel work core : ℕ) (c : Choice)
     → all (λ h. h) (hypotheses ws c (run ws fuel work core .events)) ≡ true

@@ -452,6 +452,43 @@ new-plain ws n e =
     let b = both-true (ltb n namesMost) _ (a .1) in
     getD-all (TreeAll (Plain n)) empty all-empty (trees-plain n (all-All _ _ (b .1))) 0
 
+-- an item tells its name's number
+unfoldable pub numberAt : List ℕ → ℕ → ℕ
+numberAt ws i = getD (map (λ x. x .first) (items 0 ws)) i 0
+
+items-numbered : (i : ℕ) {xs : List Item} → Placed i xs → All (λ x. (i ≤ x .place) × (x .first ≡ getD (map (λ y. y .first) xs) (x .place - i) 0)) xs
+items-numbered i no-items = nil
+items-numbered i (items-from {x = x} {xs = xs} e p) =
+    cons {x = x} (omega arith, here (x .place - i) (omega arith)) (All-map later (items-numbered (suc i) p))
+  where
+    here : (k : ℕ) → k ≡ 0 → x .first ≡ getD (map (λ y. y .first) (x ∷ xs)) k 0
+    here k d = rw d
+
+    later : (y : Item) → (suc i ≤ y .place) × (y .first ≡ getD (map (λ y. y .first) xs) (y .place - suc i) 0)
+        → (i ≤ y .place) × (y .first ≡ getD (map (λ y. y .first) (x ∷ xs)) (y .place - i) 0)
+    later y h = let d : y .place - i ≡ suc (y .place - suc i) = omega arith in (omega arith, rw d (h .1))
+
+shape-numbered : (N : ℕ → ℕ) (x : Item) (later : List Tree) → x .first ≡ N (x .place) → All (TreeAll (λ y. y .number ≡ N (y .item))) later → {t : Tree} → Shape x later t → TreeAll (λ y. y .number ≡ N (y .item)) t
+unfolding plainName
+shape-numbered N x later h a of-empty = all-empty
+shape-numbered N x later h a of-constant = all-constant
+shape-numbered N x later h a (of-name e) = all-name h
+shape-numbered N x later h a (of-pair e) =
+    all-pair (getD-all (TreeAll (λ y. y .number ≡ N (y .item))) empty all-empty a (x .first - suc (x .place))) (getD-all (TreeAll (λ y. y .number ≡ N (y .item))) empty all-empty a (x .second - suc (x .place)))
+
+trees-numbered : (N : ℕ → ℕ) {xs : List Item} → All (λ x. x .first ≡ N (x .place)) xs → All (TreeAll (λ y. y .number ≡ N (y .item))) (trees xs)
+unfolding trees
+trees-numbered N nil = nil
+trees-numbered N (cons {x = x} {xs = xs} h a) =
+    let later = trees-numbered N a in
+    subst (All (TreeAll (λ y. y .number ≡ N (y .item)))) (sym (trees-step x xs)) (cons (shape-numbered N x (trees xs) h later (treeAt-shape x (trees xs))) later)
+
+pub tree-numbered : (ws : List ℕ) → TreeAll (λ x. x .number ≡ numberAt ws (x .item)) (treeOf ws)
+unfolding treeOf numberAt
+tree-numbered ws =
+    let a : All (λ x. x .first ≡ numberAt ws (x .place)) (items 0 ws) = All-map (λ x h. h .1 ∙ ap (λ k. getD (map (λ y. y .first) (items 0 ws)) k 0) (omega arith)) (items-numbered 0 (items-placed 0 ws)) in
+    getD-all (TreeAll (λ x. x .number ≡ numberAt ws (x .item))) empty all-empty (trees-numbered (numberAt ws) a) 0
+
 -- ---- other numbers in some name items
 
 module _ (C : ℕ → Bool) (n : ℕ) where

@@ -7,3 +7,6 @@ pub mod Table
 pub mod Rows
 pub mod TableLaws
 pub mod TableTidy
+pub mod ItemLaws
+pub mod TreeFrom
+pub mod Layout

@@ -9,7 +9,6 @@ use Prim.Native.Nat.{_≤_, _<_, _-_}
 use borrow.Author.Tests.{lt-ltb, le-ltb}
 use Rattle.core_term.specs.WindowLaws.{noted-below, noted-flag, noted-past}
 
-
 -- src/flags.rt:38:9
 returns : tie.Need-returns
 returns c =

@@ -12,7 +12,6 @@ use lib.ListN.{length}
 use Rattle.core_term.specs.Window.{put, marked}
 use Rattle.core_term.specs.WindowLaws.{marked-more, marked-length}
 
-
 abbrev Inv-loop : tie.InvT-loop
 Inv-loop flags₀ base from to value k₀ flags k =
     (length flags ≡ length flags₀) × (from ≤ k) × (k - from ≤ to - from) × (flags ≡ marked base from (k - from) value flags₀)

@@ -9,7 +9,6 @@ use mathlib.Core.Path.{_≡_, sym}
 use lib.ListN.{length}
 use Rattle.core_term.specs.WindowLaws.{put-below, put-in, put-past}
 
-
 -- src/flags.rt:13:9
 returns : tie.Need-returns
 returns c =

@@ -9,7 +9,6 @@ use mathlib.Core.Path.{_≡_, sym}
 use borrow.Author.Tests.{not-true, not-false}
 use Rattle.core_term.specs.WindowLaws.{good-past, good-free, good-short, good-some, good-empty}
 
-
 -- src/head.rt:39:9
 returns : tie.Need-returns
 returns c =

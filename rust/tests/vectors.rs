@@ -1,23 +1,6 @@
-//! The second expander on recipes, texts, tables and words with right answers.
+//! The second expander on texts, tables and words with right answers.
 
-use reference::{core, expand, file, text};
-
-/// What the filing program prints for each recipe of recipes.txt.
-#[test]
-fn recipes() {
-    let rows = include_str!("recipes.txt").lines().filter(|line| !line.is_empty() && !line.starts_with('#'));
-    let mut count = 0;
-    for row in rows {
-        let [label, fuel, answer, core, recipe] = row.splitn(5, " | ").collect::<Vec<_>>()[..] else { panic!("{row}") };
-        let expected = match answer.strip_prefix("0 ") {
-            Some(counts) => format!("accepted {counts}\n{core}\n"),
-            None => format!("refused {answer}\n"),
-        };
-        assert_eq!(file(recipe.as_bytes(), fuel.parse().unwrap()), expected, "{label}");
-        count += 1;
-    }
-    assert!(count > 80, "{count} recipes");
-}
+use reference::{core, expand, text};
 
 /// The ground, N and the count of names of each text.
 #[test]

@@ -1,0 +1,60 @@
+-- `names::lookup`: the binding by its key, else what the unbound name means.
+use borrow.Author.Needs.{needs}
+use Rattle.arena.proofs.names.lookup.Statement.{statement}
+use Rattle.arena.proofs.names.lookup.Tie as tie
+use Rattle.arena.specs.Arena.{nameAt}
+use Rattle.arena.specs.NameLaws.{nameAt-number, lookup-none, lookup-variable, lookup-macro}
+use mathlib.Core.Path.{sym, _∙_}
+
+binding-of-requires : tie.Need-binding-of-requires
+binding-of-requires c κs = search needs
+
+number-of-requires : tie.Need-number-of-requires
+number-of-requires c κs = search needs
+
+unbound-requires : tie.Need-unbound-requires
+unbound-requires c κs = search needs
+
+same-length : tie.Need-same-length
+same-length c =
+    c .before .before .before .before .before .binding-of .kept .1 .1 .0
+
+returns : tie.Need-returns
+returns c =
+    let a = c .before .before .before .before .before .before .before .before .before .before .before .args in
+    let x = nameAt (a .items .now) (a .work .now) (a .node) (a .w) in
+    lookup-none (a .operations .now) x _ (c .before .before .before .before .before .binding-of .ensures) (c .before .before .if1 .taken) _ (c .before .number-of .ensures ∙ sym (nameAt-number (a .items .now) (a .work .now) (a .node) (a .w))) _ (c .unbound .ensures)
+
+same-length-2 : tie.Need-same-length-2
+same-length-2 c =
+    c .before .before .before .before .binding-of .kept .1 .1 .0
+
+returns-2 : tie.Need-returns-2
+returns-2 c =
+    let a = c .before .before .before .before .before .before .before .before .before .before .args in lookup-variable (a .operations .now) (nameAt (a .items .now) (a .work .now) (a .node) (a .w)) _ (c .before .before .before .before .binding-of .ensures) (c .before .if1 .left) (c .if2 .taken)
+
+sub-t14 : tie.Need-sub-t14
+sub-t14 c = search needs
+
+same-length-3 : tie.Need-same-length-3
+same-length-3 c =
+    c .before .before .before .before .binding-of .kept .1 .1 .0
+
+returns-3 : tie.Need-returns-3
+returns-3 c =
+    let a = c .before .before .before .before .before .before .before .before .before .before .args in lookup-macro (a .operations .now) (nameAt (a .items .now) (a .work .now) (a .node) (a .w)) _ (c .before .before .before .before .binding-of .ensures) (c .before .if1 .left) (c .if2 .left)
+
+pub lookup-spec : {M : Type 1} → statement M
+lookup-spec =
+    tie.close
+    (tie.spec
+    binding-of-requires
+    number-of-requires
+    unbound-requires
+    same-length
+    returns
+    same-length-2
+    returns-2
+    sub-t14
+    same-length-3
+    returns-3)

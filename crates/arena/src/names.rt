@@ -1,0 +1,188 @@
+// Names in the arena: resolved, compared, looked up. The definition's functions of names are in recipe/specs/Name.antt and
+// expansion/specs/Lookup.antt. `table` is lent for marks in hand; nothing is promised of what is left in it.
+
+ghost use mathlib.Core.Path.{_≡_};
+ghost use Prim.Native.Nat.{_+_, _*_, _≤_, _<_};
+ghost use lib.ListN.{length};
+ghost use Rattle.recipe.specs.Name.{same, bindingKey};
+ghost use Rattle.arena.specs.Arena.{wordAt, markLimit, nameAt};
+ghost use Rattle.arena.specs.Cells.{Room, Binds};
+ghost use Rattle.arena.specs.Names.{numberOf, Resolved, meansOf, lookupIn, unboundIn, Agrees};
+use crate::cells;
+use crate::marks;
+use crate::wraps;
+use crate::wraps::InHand;
+
+// What a lookup finds: bound variable n, macro n, form k, the place of an operation, or nothing.
+pub enum Meaning {
+    Variable(u32),
+    Macro(u32),
+    Form(u32),
+    Operation(u32),
+    Nothing,
+}
+
+// The number of a name node, read from the item that it stems from.
+pub fn number_of(items: &[u32], work: &[u32], node: u32) -> u32
+    ensures { λ r. ⌜ r ≡ numberOf (now (items .entry)) (now (work .entry)) node ⌝ }
+{
+    let at = 3 * (cells::word(work, node, 2) as usize) + 1;
+    if at < items.len() {
+        return items[at];
+    }
+    0
+}
+
+// A name node under a pending wrap: its marks from `start`, their count, and its binding's key.
+pub fn resolve(
+    items: &[u32],
+    work: &[u32],
+    table: &mut [u32],
+    start: usize,
+    node: u32,
+    w: u32,
+) -> InHand
+    requires { ⌜ start + markLimit + markLimit < length (now table) ⌝ }
+    ensures { λ r. ⌜ Resolved (now (items .entry)) (now (work .entry)) node w (now (table .entry)) (now (table .exit)) start (r .count) (r .binding) ⌝ }
+{
+    let number = number_of(items, work, node);
+    let own = cells::reference(work, node, 1);
+    let s = wraps::walk(work, table, start, 0, number, 0, own);
+    let n = s.count;
+    let b = s.binding;
+    wraps::walk(work, table, start, n, number, b, w)
+}
+
+// The key of a name's binding.
+pub fn binding_of(items: &[u32], work: &[u32], table: &mut [u32], node: u32, w: u32) -> u32
+    requires { ⌜ 2 * markLimit < length (now table) ⌝ }
+    ensures { λ r. ⌜ r ≡ bindingKey (nameAt (now (items .entry)) (now (work .entry)) node w .binding) ⌝ }
+{
+    let x = resolve(items, work, table, 0, node, w);
+    x.binding
+}
+
+// Whether two names are the same: number, marks and binding together.
+pub fn same_names(
+    items: &[u32],
+    work: &[u32],
+    table: &mut [u32],
+    a: u32,
+    v: u32,
+    b: u32,
+    w: u32,
+) -> bool
+    requires { ⌜ 3 * markLimit < length (now table) ⌝ }
+    ensures { λ r. ⌜ r ≡ same (nameAt (now (items .entry)) (now (work .entry)) a v) (nameAt (now (items .entry)) (now (work .entry)) b w) ⌝ }
+{
+    if number_of(items, work, a) != number_of(items, work, b) {
+        return false;
+    }
+    let x = resolve(items, work, table, 0, a, v);
+    let count = x.count;
+    let y = resolve(items, work, table, count, b, w);
+    if x.binding != y.binding {
+        return false;
+    }
+    if count != y.count {
+        return false;
+    }
+    marks::equal_marks(table, 0, count, count)
+}
+
+// A binder of a name under wrap w, after what `parent` means: the binding with this key goes to every name that is the same.
+pub fn bind(
+    items: &[u32],
+    work: &mut [u32],
+    table: &mut [u32],
+    top: u32,
+    node: u32,
+    w: u32,
+    key: u32,
+    parent: u32,
+) -> u32
+    requires { ⌜ (Room (now work) top 9) × (node ≤ top) × (w ≤ top) × (parent ≤ top) × (2 * markLimit < length (now table)) ⌝ }
+    ensures { λ r. ⌜ Binds (now (items .entry)) node w key parent (now (work .entry)) (now (work .exit)) top r ⌝ }
+{
+    let number = number_of(items, work, node);
+    let x = resolve(items, work, table, 0, node, w);
+    let count = x.count;
+    let newest = marks::newest_of(table, 0, count);
+    let own = cells::reference(work, node, 1);
+    cells::put_binder(
+        work,
+        top,
+        number,
+        x.binding,
+        count as u32,
+        newest,
+        own,
+        w,
+        key,
+        parent,
+    )
+}
+
+// What a name without a binding means: a base form, an operation by the table of their places, or nothing.
+pub fn unbound(operations: &[u32], number: u32) -> Meaning
+    ensures { λ r. ⌜ meansOf r ≡ unboundIn (now (operations .entry)) number ⌝ }
+{
+    if number < 8 {
+        return Meaning::Form(number);
+    }
+    let i = number as usize;
+    if operations.len() <= i {
+        return Meaning::Nothing;
+    }
+    let place = operations[i];
+    if place == 0 {
+        return Meaning::Nothing;
+    }
+    Meaning::Operation(place - 1)
+}
+
+// A lookup finds the binding; without one, a base form, an operation, or nothing.
+pub fn lookup(
+    items: &[u32],
+    work: &[u32],
+    operations: &[u32],
+    table: &mut [u32],
+    node: u32,
+    w: u32,
+) -> Meaning
+    requires { ⌜ 2 * markLimit < length (now table) ⌝ }
+    ensures { λ r. ⌜ meansOf r ≡ lookupIn (now (operations .entry)) (nameAt (now (items .entry)) (now (work .entry)) node w) ⌝ }
+{
+    let b = binding_of(items, work, table, node, w);
+    if b == 0 {
+        let number = number_of(items, work, node);
+        return unbound(operations, number);
+    }
+    if b % 2 == 1 {
+        return Meaning::Variable(b / 2);
+    }
+    Meaning::Macro(b / 2 - 1)
+}
+
+// Whether a literal, by its number and its binding's key, agrees with a name.
+pub fn agrees(
+    items: &[u32],
+    work: &[u32],
+    table: &mut [u32],
+    number: u32,
+    binding: u32,
+    node: u32,
+    w: u32,
+) -> bool
+    requires { ⌜ 2 * markLimit < length (now table) ⌝ }
+    ensures { λ r. ⌜ Agrees number binding (nameAt (now (items .entry)) (now (work .entry)) node w) r ⌝ }
+{
+    let b = binding_of(items, work, table, node, w);
+    if b != binding {
+        return false;
+    }
+    if b != 0 {
+        return true;
+    }
+    number == number_of(items, work, node)
+}

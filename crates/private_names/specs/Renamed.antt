@@ -1,0 +1,290 @@
+-- The recipe's expression and the renumbered one differ in one place, the chosen template: `renamed-hole`.
+use mathlib.Core.Path.{_≡_, refl, ap, ap₂, sym, _∙_, subst}
+use mathlib.Core.Bool.{Bool, true, false, not, _&&_, _||_, cond, true≢false, false≢true}
+use mathlib.Core.List.{List, [], _∷_, _++_}
+use mathlib.Core.Option.{Option, none}
+use Prim.Native.Nat.{ℕ, zero, suc, _+_, _≤_}
+use native.Mathlib.Omega.{arith}
+use borrow.Author.Tests.{eqb-true, eq-eqb}
+use lib.Dec.{eqb}
+use Rattle.words.specs.Lists.{any}
+use Rattle.recipe.specs.Name.{Name, plainName, isEllipsis}
+use Rattle.recipe.specs.Tree.{Tree, empty, constant, name, pair, names, onPair, elements, element, tail, onNames}
+use Rattle.expansion.specs.Rules.{variables, isVariable, depthBefore}
+use Rattle.private_names.specs.Statement.{Choice, formAt, rulesAt, ruleAt, templateAt, isVariableAt, isOldItem, isPrivate}
+use Rattle.private_names.specs.Shapes.{TreeOf, empties, constants, names₂, pairs}
+use Rattle.private_names.specs.Shown.{Renaming}
+use Rattle.private_names.specs.Holes.{Hole, here, first, later}
+use Rattle.private_names.specs.Places.{Scope, Placed, hasVariable, Still, Turning, InTemplate, stays, turns, ChosenRules}
+use Rattle.private_names.specs.Reach.{any-append}
+use Rattle.private_names.specs.Tables.{TreeAll, all-empty, all-constant, all-name, all-pair, uses, Plain, renumberName}
+use Rattle.private_names.specs.Paths.{sub, uses-element}
+
+-- ---- names of trees
+
+pub treeAll-map : {P Q : Name → Type 0} → ((x : Name) → P x → Q x) → {t : Tree} → TreeAll P t → TreeAll Q t
+treeAll-map h all-empty = all-empty
+treeAll-map h all-constant = all-constant
+treeAll-map h (all-name p) = all-name (h _ p)
+treeAll-map h (all-pair p q) = all-pair (treeAll-map h p) (treeAll-map h q)
+
+pub treeAll-both : {P Q : Name → Type 0} {t : Tree} → TreeAll P t → TreeAll Q t → TreeAll (λ x. P x × Q x) t
+treeAll-both all-empty q = all-empty
+treeAll-both all-constant q = all-constant
+treeAll-both (all-name p) (all-name q) = all-name (p, q)
+treeAll-both (all-pair p p′) (all-pair q q′) = all-pair (treeAll-both p q) (treeAll-both p′ q′)
+
+pub treeAll-element : {P : Name → Type 0} (k : ℕ) {t : Tree} → TreeAll P t → TreeAll P (element k t)
+unfolding element elements
+treeAll-element k all-empty = all-empty
+treeAll-element k all-constant = all-empty
+treeAll-element k (all-name p) = all-empty
+treeAll-element zero (all-pair p q) = p
+treeAll-element (suc k) (all-pair p q) = treeAll-element k q
+
+pub treeAll-tail : {P : Name → Type 0} {t : Tree} → TreeAll P t → TreeAll P (tail t)
+unfolding tail onPair
+treeAll-tail all-empty = all-empty
+treeAll-tail all-constant = all-empty
+treeAll-tail (all-name p) = all-empty
+treeAll-tail (all-pair p q) = q
+
+pub treeAll-sub : {P : Name → Type 0} (l : List ℕ) {t : Tree} → TreeAll P t → TreeAll P (sub l t)
+unfolding sub
+treeAll-sub [] a = a
+treeAll-sub (k ∷ l) a = treeAll-sub l (treeAll-element k a)
+
+pub uses-sub : (q : ℕ) (l : List ℕ) (t : Tree) → uses q (sub l t) ≤ uses q t
+unfolding sub
+uses-sub q [] t = omega arith
+uses-sub q (k ∷ l) t = omega (arith, uses-sub q l (element k t), uses-element q k t)
+
+element-tail : (k : ℕ) (t : Tree) → element k (tail t) ≡ element (suc k) t
+unfolding element elements tail onPair
+element-tail k empty = refl
+element-tail k (constant a) = refl
+element-tail k (name x) = refl
+element-tail k (pair h t) = refl
+
+-- ---- the items of the private name
+
+or-either : (a b : Bool) → (a || b) ≡ true → (a ≡ false → b ≡ true)
+or-either true b e f = absurd (true≢false f)
+or-either false b e f = e
+
+or-first : (a b : Bool) → a ≡ true → (a || b) ≡ true
+or-first a b e = ap (λ c. c || b) e
+
+or-second : (a b : Bool) → b ≡ true → (a || b) ≡ true
+or-second true b e = refl
+or-second false b e = e
+
+module _ (o : ℕ) where
+  -- a name of the old number that stems from item i
+  unfoldable pub isOld : ℕ → Name → Bool
+  isOld i x = eqb (x .number) o && eqb (x .item) i
+
+  -- it is one of the tree's names
+  old-uses : (i : ℕ) (t : Tree) → any (isOld i) (names t) ≡ true → 1 ≤ uses i t
+  unfolding any names isOld uses
+  old-uses i empty e = absurd (false≢true e)
+  old-uses i (constant a) e = absurd (false≢true e)
+  old-uses i (name x) e = go (eqb (x .number) o) (eqb (x .item) i) e
+    where
+      go : (a b : Bool) → ((a && b) || false) ≡ true → 1 ≤ cond b 1 0
+      go a true e = omega arith
+      go true false e = absurd (false≢true e)
+      go false false e = absurd (false≢true e)
+  old-uses i (pair h t) e = go (any (isOld i) (names h)) (any (isOld i) (names t)) (sym (any-append (isOld i) (names h) (names t)) ∙ e) (old-uses i h) (old-uses i t)
+    where
+      go : (a b : Bool) → (a || b) ≡ true → (a ≡ true → 1 ≤ uses i h) → (b ≡ true → 1 ≤ uses i t) → 1 ≤ uses i h + uses i t
+      go true b e f g = omega (arith, f refl)
+      go false b e f g = omega (arith, g e)
+
+  -- where numbers go by items, its item's number is the old one
+  old-number : (N : ℕ → ℕ) (i : ℕ) {t : Tree} → TreeAll (λ x. x .number ≡ N (x .item)) t → any (isOld i) (names t) ≡ true → N i ≡ o
+  unfolding any names isOld
+  old-number N i all-empty e = absurd (false≢true e)
+  old-number N i all-constant e = absurd (false≢true e)
+  old-number N i (all-name {x = x} p) e = go (eqb (x .number) o) (eqb (x .item) i) refl refl e
+    where
+      go : (a b : Bool) → eqb (x .number) o ≡ a → eqb (x .item) i ≡ b → ((a && b) || false) ≡ true → N i ≡ o
+      go true true d f e = ap N (sym (eqb-true (x .item) i f)) ∙ sym p ∙ eqb-true (x .number) o d
+      go true false d f e = absurd (false≢true e)
+      go false b d f e = absurd (false≢true e)
+  old-number N i (all-pair {h = h} {t = t} p q) e = go (any (isOld i) (names h)) (any (isOld i) (names t)) (sym (any-append (isOld i) (names h) (names t)) ∙ e) (old-number N i p) (old-number N i q)
+    where
+      go : (a b : Bool) → (a || b) ≡ true → (a ≡ true → N i ≡ o) → (b ≡ true → N i ≡ o) → N i ≡ o
+      go true b e f g = f refl
+      go false b e f g = g e
+
+  -- each name of the old number is one
+  old-each : (t : Tree) → TreeAll (λ x. eqb (x .number) o ≡ true → any (isOld (x .item)) (names t) ≡ true) t
+  unfolding names isOld any
+  old-each empty = all-empty
+  old-each (constant a) = all-constant
+  old-each (name x) = all-name (λ e. ap₂ (λ a b. (a && b) || false) e (eq-eqb (x .item) (x .item) refl))
+  old-each (pair h t) = all-pair
+      (treeAll-map (λ x f e. any-append (isOld (x .item)) (names h) (names t) ∙ or-first _ _ (f e)) (old-each h))
+      (treeAll-map (λ x f e. any-append (isOld (x .item)) (names h) (names t) ∙ or-second (any (isOld (x .item)) (names h)) _ (f e)) (old-each t))
+
+  -- there is one, where a name has the old number
+  pub old-some : (xs : List Name) → any (λ x. eqb (x .number) o) xs ≡ true → (i : ℕ) × (any (isOld i) xs ≡ true)
+  unfolding any isOld
+  old-some [] e = absurd (false≢true e)
+  old-some (x ∷ xs) e = go (eqb (x .number) o) refl e (old-some xs)
+    where
+      go : (b : Bool) → eqb (x .number) o ≡ b → (b || any (λ x. eqb (x .number) o) xs) ≡ true → (any (λ x. eqb (x .number) o) xs ≡ true → (i : ℕ) × (any (isOld i) xs ≡ true))
+          → (i : ℕ) × (any (isOld i) (x ∷ xs) ≡ true)
+      go true d e h = (x .item, or-first (isOld (x .item) x) (any (isOld (x .item)) xs) (ap₂ _&&_ d (eq-eqb (x .item) (x .item) refl)))
+      go false d e h = let w = h e in (w .0, or-second (isOld (w .0) x) (any (isOld (w .0)) xs) (w .1))
+
+-- ---- no variable has a number that no name has
+
+variables-none : (literals : List Name) (n d : ℕ) {t : Tree} → TreeAll (λ x. eqb (x .number) n ≡ false) t → any (λ v. eqb (v .0 .number) n) (variables isEllipsis literals d t) ≡ false
+unfolding variables any
+variables-none literals n d all-empty = refl
+variables-none literals n d all-constant = refl
+variables-none literals n d (all-name {x = x} e) = go (isVariable isEllipsis literals x)
+  where
+    go : (b : Bool) → any (λ (v : Name × ℕ). eqb (v .0 .number) n) (cond b ((x, d) ∷ []) []) ≡ false
+    go true = ap (λ c. c || false) e
+    go false = refl
+variables-none literals n d (all-pair {h = h} {t = t} p q) =
+    any-append (λ v. eqb (v .0 .number) n) (variables isEllipsis literals (depthBefore isEllipsis t d) h) (variables isEllipsis literals d t)
+    ∙ ap₂ _||_ (variables-none literals n (depthBefore isEllipsis t d) p) (variables-none literals n d q)
+
+-- ---- trees as an item table holds them, and renumbered
+
+-- nothing is bound at the start
+abbrev pub unbound : Scope
+unbound = λ n. none
+
+module _ (ρ : Renaming) where
+  abbrev renew : Name → Name
+  renew = renumberName (ρ .isPrivate) (ρ .new)
+
+  plain-placed : (x : Name) → Plain (ρ .new) x → Placed unbound x
+  unfolding plainName
+  plain-placed x p = record { unproduced = ap (λ y. y .produced) (p .eq); unmarked = ap (λ y. y .marks) (p .eq); bound = ap (λ y. y .binding) (p .eq) }
+
+  -- a name that is not private stays
+  still-name : (x : Name) → Plain (ρ .new) x → ρ .isPrivate (x .item) ≡ false → Still ρ unbound x (renew x)
+  unfolding renumberName
+  still-name x p e = record { eq = sym (ap (λ b. cond b (plainName (ρ .new) (x .item)) x) e); not-private = e; placed = plain-placed x p }
+
+  -- a private one turns
+  turning-name : (x : Name) → Plain (ρ .new) x → ρ .isPrivate (x .item) ≡ true → x .number ≡ ρ .old → Turning ρ unbound x (renew x)
+  unfolding renumberName plainName
+  turning-name x p e o =
+      let r : plainName (ρ .new) (x .item) ≡ renew x = sym (ap (λ b. cond b (plainName (ρ .new) (x .item)) x) e) in
+      record {
+        private = e;
+        old = o;
+        new = sym (ap (λ y. y .number) r);
+        item = ap (λ y. y .item) r;
+        first = plain-placed x p;
+        second = subst (Placed unbound) r (record { unproduced = refl; unmarked = refl; bound = refl });
+      }
+
+  -- a tree without private names
+  pub still-tree : {t : Tree} → TreeAll (Plain (ρ .new)) t → ((q : ℕ) → ρ .isPrivate q ≡ true → uses q t ≡ 0) → TreeOf (Still ρ unbound) t (onNames renew t)
+  unfolding onNames uses
+  still-tree all-empty h = empties
+  still-tree all-constant h = constants
+  still-tree (all-name {x = x} p) h = names₂ (still-name x p (go (ρ .isPrivate (x .item)) refl))
+    where
+      go : (b : Bool) → ρ .isPrivate (x .item) ≡ b → b ≡ false
+      go true e = let z : _≡_ {A = ℕ} (cond (eqb (x .item) (x .item)) 1 0) 0 = h (x .item) e in let d = eq-eqb (x .item) (x .item) refl in let w : _≡_ {A = ℕ} 1 0 = rw d at z in absurd (omega arith)
+      go false e = refl
+  still-tree (all-pair {h = a} {t = b} p q) h = pairs (still-tree p (λ i e. omega (arith, h i e))) (still-tree q (λ i e. omega (arith, h i e)))
+
+  -- every private item is in the tree
+  abbrev pub Holds : Tree → Type 0
+  Holds t = (q : ℕ) → ρ .isPrivate q ≡ true → 1 ≤ uses q t
+
+  abbrev pub Once : Tree → Type 0
+  Once t = (q : ℕ) → uses q t ≤ 1
+
+  once-element : (k : ℕ) (t : Tree) → Once t → Once (element k t)
+  once-element k t h q = omega (arith, h q, uses-element q k t)
+
+  module _ (i : ℕ) (some : ρ .isPrivate i ≡ true) {T : Tree → Tree → Type 0} where
+    -- where all private names are in one element
+    element-hole : (k : ℕ) {t : Tree} → TreeAll (Plain (ρ .new)) t → Once t → Holds (element k t) → {l : List ℕ} → Hole (Still ρ unbound) T l (element k t) (onNames renew (element k t)) → Hole (Still ρ unbound) T (k ∷ l) t (onNames renew t)
+    unfolding element elements onNames uses
+    element-hole k all-empty u h r = absurd (omega (arith, h i some))
+    element-hole k all-constant u h r = absurd (omega (arith, h i some))
+    element-hole k (all-name p) u h r = absurd (omega (arith, h i some))
+    element-hole zero (all-pair {h = a} {t = b} p q) u h r = first r (still-tree q (λ j e. omega (arith, u j, h j e)))
+    element-hole (suc k) (all-pair {h = a} {t = b} p q) u h r =
+        later (still-tree p (λ j e. omega (arith, u j, h j e, uses-element j k b))) (element-hole k q (λ j. omega (arith, u j)) h r)
+
+    pub path-hole : (l : List ℕ) {t : Tree} → TreeAll (Plain (ρ .new)) t → Once t → Holds (sub l t) → {m : List ℕ} → Hole (Still ρ unbound) T m (sub l t) (onNames renew (sub l t)) → Hole (Still ρ unbound) T (l ++ m) t (onNames renew t)
+    unfolding sub
+    path-hole [] a u h r = r
+    path-hole (k ∷ l) {t} a u h r =
+        element-hole k a u (λ q e. omega (arith, h q e, uses-sub q l (element k t))) (path-hole l (treeAll-element k a) (once-element k t u) h r)
+
+  -- ---- the template
+
+  on-each : {R : Name → Name → Type 0} {t : Tree} → TreeAll (λ x. R x (renew x)) t → TreeOf R t (onNames renew t)
+  unfolding onNames
+  on-each all-empty = empties
+  on-each all-constant = constants
+  on-each (all-name p) = names₂ p
+  on-each (all-pair p q) = pairs (on-each p) (on-each q)
+
+  template-name : (x : Name) → Plain (ρ .new) x → (eqb (x .number) (ρ .old) ≡ true → ρ .isPrivate (x .item) ≡ true) → (ρ .isPrivate (x .item) ≡ true → x .number ≡ ρ .old) → InTemplate ρ unbound x (renew x)
+  template-name x p f g = go (ρ .isPrivate (x .item)) (eqb (x .number) (ρ .old)) refl refl
+    where
+      go : (a b : Bool) → ρ .isPrivate (x .item) ≡ a → eqb (x .number) (ρ .old) ≡ b → InTemplate ρ unbound x (renew x)
+      go true b d e = turns (turning-name x p d (g d))
+      go false true d e = absurd (false≢true (sym d ∙ f e))
+      go false false d e = stays (still-name x p d) e (p .other)
+
+  -- the private items are those of the old number in the template T
+  module _ (N : ℕ → ℕ) (T : Tree) (private : (i : ℕ) → ρ .isPrivate i ≡ any (isOld (ρ .old) i) (names T))
+      (plain : TreeAll (Plain (ρ .new)) T) (numbered : TreeAll (λ x. x .number ≡ N (x .item)) T) where
+    template-rel : TreeOf (InTemplate ρ unbound) T (onNames renew T)
+    template-rel = on-each (treeAll-map go (treeAll-both plain (treeAll-both numbered (old-each (ρ .old) T))))
+      where
+        go : (x : Name) → Plain (ρ .new) x × ((x .number ≡ N (x .item)) × (eqb (x .number) (ρ .old) ≡ true → any (isOld (ρ .old) (x .item)) (names T) ≡ true)) → InTemplate ρ unbound x (renew x)
+        go x (p, (e, f)) = template-name x p (λ d. private (x .item) ∙ f d) (λ d. e ∙ old-number (ρ .old) N (x .item) numbered (sym (private (x .item)) ∙ d))
+
+    template-holds : Holds T
+    template-holds q e = old-uses (ρ .old) q T (sym (private q) ∙ e)
+
+  -- ---- the rules form
+
+  module _ (N : ℕ → ℕ) (j : ℕ) (t : Tree) (private : (i : ℕ) → ρ .isPrivate i ≡ any (isOld (ρ .old) i) (names (element 1 (element j (tail (tail t))))))
+      (some : (i : ℕ) × (ρ .isPrivate i ≡ true)) (free : hasVariable j (ρ .old) t ≡ false)
+      (plain : TreeAll (Plain (ρ .new)) t) (numbered : TreeAll (λ x. x .number ≡ N (x .item)) t) (once : Once t) where
+    rule-at : element j (tail (tail t)) ≡ element (suc (suc j)) t
+    rule-at = element-tail j (tail t) ∙ element-tail (suc j) t
+
+    rule-private : (i : ℕ) → ρ .isPrivate i ≡ any (isOld (ρ .old) i) (names (element 1 (element (suc (suc j)) t)))
+    rule-private i = private i ∙ ap (λ r. any (isOld (ρ .old) i) (names (element 1 r))) rule-at
+
+    rule-plain : TreeAll (Plain (ρ .new)) (element (suc (suc j)) t)
+    rule-plain = treeAll-element (suc (suc j)) plain
+
+    rule-holds : Holds (element 1 (element (suc (suc j)) t))
+    rule-holds = template-holds N (element 1 (element (suc (suc j)) t)) rule-private (treeAll-element 1 rule-plain) (treeAll-element 1 (treeAll-element (suc (suc j)) numbered))
+
+    new-none : hasVariable j (ρ .new) t ≡ false
+    unfolding hasVariable
+    new-none = variables-none (names (element 1 t)) (ρ .new) 0 (treeAll-map (λ x p. p .other) (treeAll-tail (treeAll-element 0 (treeAll-element j (treeAll-tail (treeAll-tail plain))))))
+
+    pub chosen-rules : ChosenRules ρ unbound t (onNames renew t)
+    chosen-rules = record {
+      rule = j;
+      hole = element-hole (some .0) (some .1) (suc (suc j)) plain once (λ q e. omega (arith, rule-holds q e, uses-element q 1 (element (suc (suc j)) t)))
+          (element-hole (some .0) (some .1) 1 rule-plain (once-element (suc (suc j)) t once) rule-holds
+          (here (template-rel N (element 1 (element (suc (suc j)) t)) rule-private (treeAll-element 1 rule-plain) (treeAll-element 1 (treeAll-element (suc (suc j)) numbered)))));
+      old-free = free;
+      new-free = new-none;
+    }
+
+    pub rules-hold : Holds t
+    rules-hold q e = omega (arith, rule-holds q e, uses-element q 1 (element (suc (suc j)) t), uses-element q (suc (suc j)) t)
