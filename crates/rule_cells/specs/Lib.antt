@@ -3,3 +3,5 @@ pub mod Cells
 pub mod CellLaws
 pub mod Made
 pub mod MadeLaws
+pub mod Trees
+pub mod TreeLaws

@@ -1,3 +1,4 @@
 // Rules as cells of the arena: read once, when their form is reached. What the cells mean stands in specs/.
 
 pub mod cells;
+pub mod trees;
