@@ -5,3 +5,5 @@ pub mod Made
 pub mod MadeLaws
 pub mod Trees
 pub mod TreeLaws
+pub mod Variables
+pub mod VariableLaws
