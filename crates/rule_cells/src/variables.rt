@@ -2,20 +2,26 @@
 // node and depth of each. specs/Variables.antt says what the table holds. All names here lie under one pending wrap.
 
 ghost use mathlib.Core.Path.{_≡_};
-ghost use mathlib.Core.Bool.{true};
-ghost use Prim.Native.Nat.{_+_, _*_, _≤_, _<_};
+ghost use mathlib.Core.List.{[], _∷_};
+ghost use Prim.Native.Nat.{_+_, _*_, _^_, _≤_, _<_};
 ghost use lib.ListN.{length};
 ghost use Rattle.words.specs.Lists.{any};
-ghost use Rattle.recipe.specs.Name.{same, isEllipsis};
+ghost use Rattle.recipe.specs.Name.{same};
 ghost use Rattle.recipe.specs.Tree.{names};
 ghost use Rattle.expansion.specs.Rules.{variableFrom};
 ghost use Rattle.arena.specs.Arena.{markLimit, nameAt, treeAt};
-ghost use Rattle.rule_cells.specs.Variables.{variablesFrom, knownOf};
+ghost use Rattle.rule_cells.specs.Variables.{variablesFrom, knownOf, Deeper, Held, Gathered};
+use crate::trees;
 use arena::cells;
 use arena::names;
 
 // Room for the variables of a rule, two words each.
 pub const TABLE: usize = 32;
+
+// The most variables of a pattern, and the most ellipses over one.
+pub const MOST: u32 = 16;
+
+pub const DEPTH: u32 = 2;
 
 // The variable that a name is the same as: its number and its depth.
 pub enum Known {
@@ -73,4 +79,53 @@ pub fn find(
         return Known::At(i, vars[at + 1]);
     }
     find(items, work, table, vars, i + 1, left - 1, node, w)
+}
+
+// How many variables the table holds, or none where there are more than 16, two the same, or one under three ellipses.
+pub enum Kept {
+    Count(u32),
+    Bad,
+}
+
+// The depth of an element before this rest of its list.
+pub fn depth_before(items: &[u32], work: &[u32], rest: u32, d: u32) -> u32
+    requires { ⌜ d + 1 < 2 ^ 32 ⌝ }
+    ensures { λ r. ⌜ Deeper (now (items .entry)) (now (work .entry)) rest d r ⌝ }
+{
+    if trees::dots_next(items, work, rest) {
+        return d + 1;
+    }
+    d
+}
+
+// One more variable behind the n of the table, under d ellipses.
+pub fn add(
+    items: &[u32],
+    work: &[u32],
+    table: &mut [u32],
+    vars: &mut [u32],
+    node: u32,
+    w: u32,
+    d: u32,
+    n: u32,
+) -> Kept
+    requires { ⌜ (3 * markLimit < length (now table)) × (32 ≤ length (now vars)) × (Held (now items) (now work) w (now vars) n) ⌝ }
+    ensures { λ r. ⌜ Gathered ((nameAt (now (items .entry)) (now (work .entry)) node w, d) ∷ []) (now (items .entry)) (now (work .entry)) w node n (now (vars .entry)) (now (vars .exit)) r ⌝ }
+{
+    if DEPTH < d {
+        return Kept::Bad;
+    }
+    if MOST <= n {
+        return Kept::Bad;
+    }
+    match find(items, work, table, vars, 0, n, node, w) {
+        Known::At(k, e) => {
+            return Kept::Bad;
+        }
+        Known::Not => {}
+    }
+    let at = 2 * (n as usize);
+    vars[at] = node;
+    vars[at + 1] = d;
+    Kept::Count(n + 1)
 }
