@@ -1,0 +1,3 @@
+-- A macro step on cells: what its functions mean, and laws.
+pub mod Lists
+pub mod ListLaws
