@@ -121,3 +121,37 @@ module _ (work : List ℕ) (p tag : ℕ) (tag-is : tag ≡ wordAt work p 1) wher
             two zero x y = absurd (x refl)
             two (suc zero) x y = absurd (y refl)
             two (suc (suc n)) x y = part-at outer (inner ∷ []) m c
+
+-- ---- the innermost d of the indices
+
+-- as many as there are
+indices-few : (n d outer inner : ℕ) → n < d → reverse (take d (indices n outer inner)) ≡ outward n outer inner
+unfolding outward indices
+indices-few n zero outer inner h = absurd (omega arith)
+indices-few zero (suc d) outer inner h = refl
+indices-few (suc zero) (suc zero) outer inner h = refl
+indices-few (suc zero) (suc (suc d)) outer inner h = refl
+indices-few (suc (suc n)) (suc zero) outer inner h = absurd (omega arith)
+indices-few (suc (suc n)) (suc (suc zero)) outer inner h = refl
+indices-few (suc (suc n)) (suc (suc (suc d))) outer inner h = refl
+
+indices-all : (n d outer inner : ℕ) → d ≤ n → reverse (take d (indices n outer inner)) ≡ outward d outer inner
+unfolding outward indices
+indices-all zero zero outer inner h = refl
+indices-all zero (suc d) outer inner h = absurd (omega arith)
+indices-all (suc zero) zero outer inner h = refl
+indices-all (suc zero) (suc zero) outer inner h = refl
+indices-all (suc zero) (suc (suc d)) outer inner h = absurd (omega arith)
+indices-all (suc (suc n)) zero outer inner h = refl
+indices-all (suc (suc n)) (suc zero) outer inner h = refl
+indices-all (suc (suc n)) (suc (suc zero)) outer inner h = refl
+indices-all (suc (suc n)) (suc (suc (suc d))) outer inner h = refl
+
+module _ (work : List ℕ) (p u n outer inner k d r : ℕ) where
+  pub taken-few : n < d → Part work p k (outward n outer inner) u r → Taken work p u n outer inner k d r
+  unfolding taken
+  taken-few h c = record { is-taken = λ items w. c .is-part items w ∙ rw (indices-few n d outer inner h) refl; low = c .low }
+
+  pub taken-all : d ≤ n → Part work p k (outward d outer inner) u r → Taken work p u n outer inner k d r
+  unfolding taken
+  taken-all h c = record { is-taken = λ items w. c .is-part items w ∙ rw (indices-all n d outer inner h) refl; low = c .low }

@@ -79,3 +79,13 @@ pub fn part(work: &[u32], p: u32, k: u32, d: u32, outer: u32, inner: u32, u: u32
         lists::element(work, u, outer),
     )
 }
+
+// What variable k takes under the innermost d of the n indices.
+pub fn taken(work: &[u32], p: u32, u: u32, n: u32, outer: u32, inner: u32, k: u32, d: u32) -> u32
+    ensures { λ r. ⌜ Taken (now (work .entry)) p u n outer inner k d r ⌝ }
+{
+    if n < d {
+        return part(work, p, k, n, outer, inner, u);
+    }
+    part(work, p, k, d, outer, inner, u)
+}
