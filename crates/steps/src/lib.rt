@@ -1,0 +1,4 @@
+// A macro step on cells: lists and parts of a use, matching, lengths and cost, and the result's nodes.
+
+pub mod lists;
+pub mod parts;
