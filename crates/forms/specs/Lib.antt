@@ -1,0 +1,3 @@
+-- Forms on cells: what its functions answer, and laws.
+pub mod Lists
+pub mod ListLaws

@@ -1,0 +1,3 @@
+// Forms on cells: what a form needs outside the cycle of expansion. Shapes, distinct names, binders, quoting.
+
+pub mod lists;
