@@ -4,7 +4,7 @@ use mathlib.Core.Bool.{Bool, true, false, _&&_}
 use mathlib.Core.List.{List, [], _∷_}
 use Prim.Native.Nat.{ℕ, zero, suc, _+_, _-_, _≤_, _<_}
 use native.Mathlib.Omega.{arith}
-use lib.Dec.{eqb}
+use lib.Dec.{eqb, eqb·suc-suc}
 use lib.ListN.{length, getD}
 use borrow.Author.Tests.{eqb-true, eqb-false, eq-eqb, ne-eqb}
 use Rattle.datum.specs.Constant.{Constant}
@@ -34,12 +34,6 @@ module _ (work : List ℕ) (node kind : ℕ) (kind-is : kind ≡ wordAt work nod
 
 pub treeAt-nothing : (items work : List ℕ) (w : ℕ) → treeAt items work 0 w ≡ empty
 treeAt-nothing items work w = treeAt-empty items work 0 w (wordAt-out work 0 3 (omega arith))
-
-eqb-suc : (a b : ℕ) → eqb a b ≡ eqb (suc a) (suc b)
-eqb-suc a b =
-    cases (eqb a b)
-    (λ t. t ∙ sym (eq-eqb (suc a) (suc b) (ap suc (eqb-true a b t))))
-    (λ t. t ∙ sym (ne-eqb (suc a) (suc b) (λ z. eqb-false a b t (omega arith))))
 
 eqb-swap : (a b : ℕ) → eqb a b ≡ eqb b a
 eqb-swap a b =
@@ -92,7 +86,7 @@ module _ (work : List ℕ) (node kind : ℕ) (kind-is : kind ≡ wordAt work nod
   count-later (suc n) rest r p z q h =
       λ items w.
       let e : suc n - 1 ≡ n = omega arith in
-      h items w ∙ rw (e, a-pair work node kind kind-is p items w, q) (eqb-suc (length (elements (treeAt items work (referenceAt work node 1) w))) n)
+      h items w ∙ rw (e, a-pair work node kind kind-is p items w, q) (sym (eqb·suc-suc (length (elements (treeAt items work (referenceAt work node 1) w))) n))
 
   -- ---- lists
 
