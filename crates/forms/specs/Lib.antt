@@ -1,0 +1,5 @@
+-- Forms on cells: what its functions answer, and laws.
+pub mod Lists
+pub mod ListLaws
+pub mod Shapes
+pub mod ShapeLaws

@@ -1,0 +1,4 @@
+// Forms on cells: what a form needs outside the cycle of expansion. Shapes, distinct names, binders, quoting.
+
+pub mod lists;
+pub mod shapes;
