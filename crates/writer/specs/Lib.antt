@@ -1,0 +1,3 @@
+-- Writing: the text of a term laid into an output, byte by byte.
+pub mod Laid
+pub mod LaidLaws
