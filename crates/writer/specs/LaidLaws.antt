@@ -59,9 +59,9 @@ laid-append true x y at to d e h =
     let m : at + length (x ++ y) ≡ to + length y = omega (arith, length-append x y) in
     let p : take to (take at d ++ x ++ drop (at + length x) d) ≡ take at d ++ x = take-at (take at d ++ x) (drop (at + length x) d) to l in
     let q : drop (to + length y) (take at d ++ x ++ drop (at + length x) d) ≡ drop (to + length y) d =
-        sym (drop-drop (length y) to (take at d ++ x ++ drop (at + length x) d))
-        ∙ ap (drop (length y)) (drop-at (take at d ++ x) (drop (at + length x) d) to l ∙ ap (λ (n : ℕ). drop n d) (sym e))
-        ∙ drop-drop (length y) to d in
+    sym (drop-drop (length y) to (take at d ++ x ++ drop (at + length x) d))
+    ∙ ap (drop (length y)) (drop-at (take at d ++ x) (drop (at + length x) d) to l ∙ ap (λ (n : ℕ). drop n d) (sym e))
+    ∙ drop-drop (length y) to d in
     rw (p, q, m) (simp append-assoc)
 
 module _ {ink : Bool} {x : List ℕ} {at : ℕ} {d e : List ℕ} where

@@ -10,7 +10,6 @@ use borrow.Author.Tests.{not-true, not-false}
 use Rattle.writer.specs.LaidLaws.{laid-dry, laid-wet, laid-byte}
 use Rattle.writer.specs.Laid.{done, full}
 
-
 -- src/bytes.rt:19:9
 returns : tie.Need-returns
 returns c =

@@ -12,7 +12,6 @@ use borrow.Author.Tests.{not-true, not-false}
 use Rattle.writer.specs.LaidLaws.{laid-dry, copy-more, copy-done}
 use Rattle.writer.specs.Laid.{done, full}
 
-
 abbrev Inv-loop : tie.InvT-loop
 Inv-loop src out₀ at ink to i₀ out i =
     (length out ≡ length out₀) × (i ≤ length src) × (out ≡ paste out₀ at src i)

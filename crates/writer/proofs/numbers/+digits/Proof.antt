@@ -15,7 +15,6 @@ use Rattle.writer.specs.LaidLaws.{left-length, left-room, left-full, lef
 use Rattle.core_term.specs.Decimal.{decimal}
 use Rattle.core_term.specs.DecimalLaws.{decimal-one, decimal-more}
 
-
 abbrev μ-digits : Measures 1 digits-kinds.ps ℕ
 μ-digits κs a =
     a .0

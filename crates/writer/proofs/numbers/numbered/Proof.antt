@@ -11,7 +11,6 @@ use mathlib.Core.List.{List, [], _∷_, _++_}
 use Prim.Native.Nat.{ℕ, _≤_, _<_, _+_, _-_, _*_, _/_, _%_}
 use Rattle.writer.specs.LaidLaws.{left-length, left-room, left-full, left-then, left-is, left-none}
 
-
 -- src/numbers.rt:31:25
 byte-requires : tie.Need-byte-requires
 byte-requires c κs =
