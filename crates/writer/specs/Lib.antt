@@ -3,3 +3,5 @@ pub mod Laid
 pub mod LaidLaws
 pub mod Pieces
 pub mod PiecesLaws
+pub mod Opened
+pub mod OpenedLaws

@@ -8,7 +8,7 @@ use native.Mathlib.Numerals.{add-one}
 use lib.ListN.{length}
 use Rattle.words.specs.Text.{bytes}
 use Rattle.datum.specs.Datum.{Datum, constantD, nameD, listD, Data, noneD, moreD}
-use Rattle.core_term.specs.Node.{isDatumNode, isListNode}
+use Rattle.core_term.specs.Node.{Node, isDatumNode, isListNode, variableN, operationN, constantN, nameN, listN, ifN, lambdaN, applicationN}
 use Rattle.core_term.specs.Term.{variableC, operationC, datumC, ifC, lambdaC, applicationC, noneC, moreC, Plain, Plains}
 use Rattle.core_term.specs.Decimal.{decimal}
 use Rattle.core_term.specs.Text.{variableText, spacedAfter, spaced, parenthesized, formalTexts, bare, bares, outermost, text, texts}
@@ -109,3 +109,26 @@ gap-yes wanted h = rw h
 pub gap-no : (wanted : Bool) → wanted ≡ false → gapText wanted ≡ []
 unfolding gapText
 gap-no wanted h = rw h
+
+-- ---- openings and closings as code lays them
+
+module _ (spell : ℕ → List ℕ) (inner : Bool) where
+  pub name-inner : (n : ℕ) → inner ≡ true → opening spell inner (nameN n) ≡ spell n
+  unfolding opening
+  name-inner n h = rw h
+
+  pub name-quoted : (n : ℕ) → inner ≡ false → opening spell inner (nameN n) ≡ (40 ∷ 113 ∷ 117 ∷ 111 ∷ 116 ∷ 101 ∷ 32 ∷ []) ++ (spell n ++ (41 ∷ []))
+  unfolding opening bytes
+  name-quoted n h = rw h
+
+  pub list-inner : (n : ℕ) → inner ≡ true → opening spell inner (listN n) ≡ 40 ∷ []
+  unfolding opening bytes
+  list-inner n h = rw h
+
+  pub list-quoted : (n : ℕ) → inner ≡ false → opening spell inner (listN n) ≡ 40 ∷ 113 ∷ 117 ∷ 111 ∷ 116 ∷ 101 ∷ 32 ∷ 40 ∷ []
+  unfolding opening bytes
+  list-quoted n h = rw h
+
+pub lambda-bytes : (first n : ℕ) → bytes "(lambda (" ++ (formalsText false first n ++ bytes ")") ≡ (40 ∷ 108 ∷ 97 ∷ 109 ∷ 98 ∷ 100 ∷ 97 ∷ 32 ∷ 40 ∷ []) ++ (formalsText false first n ++ (41 ∷ []))
+unfolding bytes
+lambda-bytes first n = refl
