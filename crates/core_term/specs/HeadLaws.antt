@@ -225,7 +225,7 @@ lambda-short ws e l = go (length ws) refl
 -- ---- no datum
 
 -- the code of a node that begins a datum
-pub datum-code : (x : Node) (r : List ℕ) → isNode x ≡ true → isDatumNode x ≡ true → (2 ≤ getD (nodeWords x ++ r) 0 0) × (getD (nodeWords x ++ r) 0 0 ≤ 5)
+datum-code : (x : Node) (r : List ℕ) → isNode x ≡ true → isDatumNode x ≡ true → (2 ≤ getD (nodeWords x ++ r) 0 0) × (getD (nodeWords x ++ r) 0 0 ≤ 5)
 unfolding isNode isDatumNode nodeWords constantWords isConstant
 datum-code (variableN n) r p h = absurd (false≢true h)
 datum-code (operationN n) r p h = absurd (false≢true h)

@@ -10,7 +10,6 @@ ghost use Rattle.core_term.specs.Node.{Node, nodeAt, got, nameN};
 ghost use Rattle.writer.specs.Laid.{Left};
 ghost use Rattle.writer.specs.Pieces.{formalsText, opening, closing};
 ghost use Rattle.writer.specs.Opened.{Opened};
-
 use crate::bytes::Put;
 use crate::bytes::byte;
 use crate::bytes::copy;
@@ -66,4 +65,79 @@ fn lambda_opening(first: usize, count: usize, out: &mut [u8], at: usize, ink: bo
         return Put::Full;
     };
     byte(b')', out, b, ink)
+}
+
+// What opens a datum: a constant, a name or a list.
+fn datum_opening(
+    words: &[u32],
+    names: &[u8],
+    out: &mut [u8],
+    at: usize,
+    inner: bool,
+    ink: bool,
+) -> Put
+    requires { ⌜ (at ≤ length (now out)) × Opened (now names) (now words) × (2 ≤ getD (now words) 0 0) × (getD (now words) 0 0 ≤ 5) ⌝ }
+    ensures { λ r. ⌜ ((x : Node) (left : List ℕ) → nodeAt (now (words .entry)) ≡ got x left → Left ink (opening (nameAt (now (names .entry))) inner x) at (now (out .entry)) (now (out .exit)) r) ⌝ }
+{
+    let code = words[0];
+    let a = words[1];
+    if code == 2 {
+        return integer(a, out, at, ink);
+    }
+    if code == 3 {
+        if a == 0 {
+            return copy(b"#f", out, at, ink);
+        }
+        return copy(b"#t", out, at, ink);
+    }
+    if code == 4 {
+        return name_opening(wide(a), names, out, at, inner, ink);
+    }
+    if inner {
+        return byte(b'(', out, at, ink);
+    }
+    copy(b"(quote (", out, at, ink)
+}
+
+// What opens the node at the beginning of words.
+pub fn open(words: &[u32], names: &[u8], out: &mut [u8], at: usize, inner: bool, ink: bool) -> Put
+    requires { ⌜ (at ≤ length (now out)) × Opened (now names) (now words) ⌝ }
+    ensures { λ r. ⌜ ((x : Node) (left : List ℕ) → nodeAt (now (words .entry)) ≡ got x left → Left ink (opening (nameAt (now (names .entry))) inner x) at (now (out .entry)) (now (out .exit)) r) ⌝ }
+{
+    let code = words[0];
+    if code == 6 {
+        return copy(b"(if", out, at, ink);
+    }
+    let a = wide(words[1]);
+    if code == 0 {
+        return numbered(b'v', a, out, at, ink);
+    }
+    if code == 1 {
+        return numbered(b'o', a, out, at, ink);
+    }
+    if code <= 5 {
+        return datum_opening(words, names, out, at, inner, ink);
+    }
+    if code == 7 {
+        return lambda_opening(a, wide(words[2]), out, at, ink);
+    }
+    byte(b'(', out, at, ink)
+}
+
+// What closes it.
+pub fn close(words: &[u32], out: &mut [u8], at: usize, inner: bool, ink: bool) -> Put
+    requires { ⌜ (at ≤ length (now out)) × (1 ≤ length (now words)) ⌝ }
+    ensures { λ r. ⌜ ((x : Node) (left : List ℕ) → nodeAt (now (words .entry)) ≡ got x left → Left ink (closing inner x) at (now (out .entry)) (now (out .exit)) r) ⌝ }
+{
+    let code = words[0];
+    if code < 5 {
+        return Put::Done(at);
+    }
+    if code > 5 {
+        return byte(b')', out, at, ink);
+    }
+    if inner {
+        return byte(b')', out, at, ink);
+    }
+    copy(b"))", out, at, ink)
 }

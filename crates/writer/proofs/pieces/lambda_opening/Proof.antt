@@ -13,7 +13,6 @@ use Prim.Native.Nat.{ℕ, _≤_, _<_, _+_, _-_, _*_, _/_, _%_}
 use Rattle.writer.specs.LaidLaws.{left-length, left-room, left-full, left-then, left-is, left-none}
 use Rattle.writer.specs.PiecesLaws.{lambda-bytes}
 
-
 -- src/pieces.rt:62:29
 slice-aggregate-copy : tie.Need-slice-aggregate-copy
 slice-aggregate-copy c =

@@ -12,7 +12,6 @@ use Prim.Native.Nat.{ℕ, _≤_, _<_, _+_, _-_, _*_, _/_, _%_}
 use Rattle.writer.specs.LaidLaws.{left-length, left-room, left-full, left-then, left-is, left-none}
 use Rattle.writer.specs.OpenedLaws.{Slot, slot-of, name-cut}
 
-
 -- src/pieces.rt:34:17
 mul-start : tie.Need-mul-start
 mul-start c =

@@ -13,7 +13,6 @@ use Prim.Native.Nat.{ℕ, _≤_, _<_, _+_, _-_, _*_, _/_, _%_}
 use Rattle.writer.specs.LaidLaws.{left-length, left-room, left-full, left-then, left-is, left-none}
 use Rattle.writer.specs.PiecesLaws.{name-inner, name-quoted}
 
-
 -- src/pieces.rt:46:9
 name-requires : tie.Need-name-requires
 name-requires c κs =
