@@ -17,6 +17,7 @@ pub mod StoredLaws
 pub mod Placed
 pub mod PlacedLaws
 pub mod StepLaws
+pub mod NameStepLaws
 pub mod ElementLaws
 pub mod Accepts
 pub mod AcceptedLaws

@@ -5,16 +5,16 @@ use mathlib.Core.List.{List, [], _∷_, _++_}
 use Prim.Native.Nat.{ℕ, suc, _+_, _*_, _-_, _≤_, _<_}
 use lib.Dec.{eqb, leb}
 use lib.ListN.{length, set}
-use Rattle.words.specs.Limits.{itemWordsLeast, nameBytesLeast, elementsMost, namesMost, openListsMost}
+use Rattle.words.specs.Limits.{itemWordsLeast, nameBytesLeast, elementsMost, namesMost, openListsMost, nameLengthMost}
 use Rattle.words.specs.Lists.{all}
 use Rattle.datum.specs.Datum.{Datum, datumItems}
-use Rattle.datum.specs.NameTable.{slots}
+use Rattle.datum.specs.NameTable.{slots, lengthAt}
 use Rattle.datum.specs.NameTableLaws.{isShort}
 use Rattle.reader.specs.declared.place.Place.{Place}
 use Rattle.reader.specs.declared.place.Step.{Step}
 use Rattle.reader.specs.declared.place.Step.the-variants.{Went, Refused}
 use Rattle.reader.specs.Numbering.{datumWords}
-use Rattle.reader.specs.Meaning.{begins, ends}
+use Rattle.reader.specs.Meaning.{begins, ends, name}
 use Rattle.reader.specs.Elements.{Answer, got, back, Reading, noneOpen, begin, takes}
 use Rattle.reader.specs.ElementLaws.{Within}
 use Rattle.reader.specs.Read.{filled}
@@ -93,6 +93,10 @@ pub record Sound (p : Place) (words : ℕ) : Type 0 where
   pub pair : 0 < p .depth → p .pair < p .next
   pub room : itemWordsLeast ≤ words
 
+pub record NamesSound (p : Place) (bytes : List ℕ) : Type 0 where
+  pub room : nameBytesLeast ≤ length bytes
+  pub short : (n : ℕ) → n < p .known → lengthAt bytes n ≤ nameLengthMost
+
 -- grounds 5 and 6 at a token that begins an element, with the names and open lists that it makes; 0 where it is taken
 unfoldable pub groundAt : Place → ℕ → ℕ → ℕ
 groundAt p known depth =
@@ -127,3 +131,6 @@ ListOpened p words words′ s = (r : Reading) (bytes : List ℕ) → Holds r p w
 
 abbrev pub ListClosed : Place → List ℕ → List ℕ → Step → Type 0
 ListClosed p words words′ s = (r : Reading) (bytes : List ℕ) → Holds r p words bytes → Stepped (takes ends r) words′ bytes s
+
+abbrev pub NamePut : Place → List ℕ → List ℕ → List ℕ → List ℕ → List ℕ → Step → Type 0
+NamePut p word words words′ bytes bytes′ s = (r : Reading) → Holds r p words bytes → Stepped (takes (name word) r) words′ bytes′ s
