@@ -2,4 +2,5 @@
 pub mod Limits
 pub mod ListLaws
 pub mod Lists
+pub mod SignedLaws
 pub mod Text
