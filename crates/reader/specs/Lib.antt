@@ -18,6 +18,8 @@ pub mod Placed
 pub mod PlacedLaws
 pub mod StepLaws
 pub mod NameStepLaws
+pub mod Moved
+pub mod MovedLaws
 pub mod ElementLaws
 pub mod Accepts
 pub mod AcceptedLaws

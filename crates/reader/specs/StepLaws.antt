@@ -64,10 +64,15 @@ use Rattle.reader.specs.PlacedLaws.{
 
 -- ---- grounds 5 and 6
 
-none-open : (ls : List (List Datum)) → noneOpen ls ≡ eqb (length ls) 0
+pub none-open : (ls : List (List Datum)) → noneOpen ls ≡ eqb (length ls) 0
 unfolding noneOpen
 none-open [] = refl
 none-open (l ∷ ls) = sym (eqb·suc-zero (length ls))
+
+pub complete-is : (r : Reading) (p : Place) (words bytes : List ℕ) → Holds r p words bytes
+    → isComplete r ≡ eqb (p .depth) 0 && eqb (p .missing) 0
+unfolding isComplete
+complete-is r p words bytes h = rw (none-open (r .around), h .depth, h .missing)
 
 -- an answer by two tests, and its ground
 abbrev by : Bool → Bool → ℕ
@@ -86,8 +91,7 @@ passed a b false false e f h = absurd (omega (arith, h))
 module _ (r : Reading) (p : Place) (words bytes : List ℕ) (h : Holds r p words bytes) (q : Reading) (known depth : ℕ)
     (k : known ≡ length (q .known)) (d : depth ≡ length (q .around)) (c : q .count ≡ suc (r .count)) where
   same-complete : isComplete r ≡ eqb (p .depth) 0 && eqb (p .missing) 0
-  unfolding isComplete
-  same-complete = rw (none-open (r .around), h .depth, h .missing)
+  same-complete = complete-is r p words bytes h
 
   same-within : isWithin q ≡ leb (suc (p .count)) elementsMost && (leb known namesMost && leb depth openListsMost)
   unfolding isWithin
