@@ -15,7 +15,7 @@ use Rattle.datum.specs.NameTable.{slot, slots, lengthAt, nameAt}
 use Rattle.datum.specs.NameTableLaws.{isShort, length-slots, slots-append, name-at}
 use Rattle.reader.specs.Read.{filled}
 use Rattle.reader.specs.Numbering.{numberOf}
-use Rattle.reader.specs.Stored.{namesIn, stored}
+use Rattle.reader.specs.Stored.{namesIn, stored, NameTable, FourStored}
 
 -- ---- comparing
 
@@ -160,3 +160,29 @@ module _ (names : List (List ℕ)) (word t : List ℕ) (n : ℕ) (at : n ≡ len
       let l = length-set t (64 * n) (length word) in
       let h : 64 * n + 1 + length word ≤ length u = omega (arith, l) in
       length-paste u (64 * n + 1) word (length word) h (omega arith) ∙ l
+
+-- a table of names with one more
+pub table-more : (names : List (List ℕ)) (word t u : List ℕ) (n : ℕ) → NameTable names t → n ≡ length names → length word ≤ 63 → n < 1024
+    → u ≡ stored t n word → NameTable (names ++ (word ∷ [])) u
+unfolding filled
+table-more names word t u n h e w l s =
+    let room : 64 * n + 64 ≤ length t = omega (arith, h .room) in
+    let same : length u ≡ length t = ap length s ∙ stored-length names word t n e (h .short) w (h .bytes) room in
+    let f = stored-filled names word t n e (h .short) w (h .bytes) room in
+    record {
+      short = short-more names word t n e (h .short) w (h .bytes) room;
+      bytes = s ∙ f ∙ rw same;
+      room = omega (arith, same, h .room);
+    }
+
+-- four of them, one after another
+pub four-more : (t t1 t2 t3 t4 : List ℕ) (n : ℕ) (a b c d : List ℕ) → n < 8 → length a ≤ 63 → length b ≤ 63 → length c ≤ 63 → length d ≤ 63
+    → t1 ≡ stored t n a → t2 ≡ stored t1 (n + 1) b → t3 ≡ stored t2 (n + 2) c → t4 ≡ stored t3 (n + 3) d → FourStored t t4 n a b c d
+four-more t t1 t2 t3 t4 n a b c d h la lb lc ld e1 e2 e3 e4 names w k =
+    let w1 = table-more names a t t1 n w k la (omega arith) e1 in
+    let k1 : n + 1 ≡ length (names ++ (a ∷ [])) = omega (arith, length-append names (a ∷ [])) in
+    let w2 = table-more (names ++ (a ∷ [])) b t1 t2 (n + 1) w1 k1 lb (omega arith) e2 in
+    let k2 : n + 2 ≡ length (names ++ (a ∷ []) ++ (b ∷ [])) = omega (arith, length-append (names ++ (a ∷ [])) (b ∷ []), k1) in
+    let w3 = table-more (names ++ (a ∷ []) ++ (b ∷ [])) c t2 t3 (n + 2) w2 k2 lc (omega arith) e3 in
+    let k3 : n + 3 ≡ length (names ++ (a ∷ []) ++ (b ∷ []) ++ (c ∷ [])) = omega (arith, length-append (names ++ (a ∷ []) ++ (b ∷ [])) (c ∷ []), k2) in
+    table-more (names ++ (a ∷ []) ++ (b ∷ []) ++ (c ∷ [])) d t3 t4 (n + 3) w3 k3 ld (omega arith) e4
