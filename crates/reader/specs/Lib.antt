@@ -20,6 +20,9 @@ pub mod StepLaws
 pub mod NameStepLaws
 pub mod Moved
 pub mod MovedLaws
+pub mod GroundLaws
+pub mod Served
+pub mod ServedLaws
 pub mod ElementLaws
 pub mod Accepts
 pub mod AcceptedLaws
