@@ -8,8 +8,8 @@ use lib.Dec.{leb}
 use Rattle.words.specs.Lists.{all}
 use Rattle.words.specs.ListLaws.{either}
 use Rattle.datum.specs.Datum.{Datum, constantD}
-use Rattle.reader.specs.Token.{Token, open′, close′, bad, flag, run, isDigit, tokens}
-use Rattle.reader.specs.Meaning.{
+use Rattle.reading.specs.Token.{Token, open′, close′, bad, flag, run, isDigit, tokens}
+use Rattle.reading.specs.Meaning.{
   Meaning,
   begins,
   ends,
@@ -24,8 +24,8 @@ use Rattle.reader.specs.Meaning.{
   nameOf,
   meaningOf,
 }
-use Rattle.reader.specs.Numbering.{baseNames}
-use Rattle.reader.specs.Elements.{
+use Rattle.reading.specs.Numbering.{baseNames}
+use Rattle.reading.specs.Elements.{
   Answer,
   got,
   back,
@@ -43,7 +43,7 @@ use Rattle.reader.specs.Elements.{
   takes,
   takesAll,
 }
-use Rattle.reader.specs.Read.{Recipe, finished, recipeOver, recipeOf}
+use Rattle.reading.specs.Read.{Recipe, finished, recipeOver, recipeOf}
 
 -- a ground of a meaning, and of an answer, is at least 3
 abbrev High : Meaning → Type 0

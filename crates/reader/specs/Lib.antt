@@ -14,6 +14,3 @@ pub mod MovedLaws
 pub mod GroundLaws
 pub mod Served
 pub mod ServedLaws
-pub mod ElementLaws
-pub mod Accepts
-pub mod AcceptedLaws

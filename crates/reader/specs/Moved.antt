@@ -12,8 +12,8 @@ use Rattle.reader.specs.declared.place.Step as S
 use Rattle.reader.specs.declared.place.Step.the-variants as SV
 use Rattle.reader.specs.declared.element.Move.{Move}
 use Rattle.reader.specs.declared.element.Move.the-variants.{On, Done, Refused}
-use Rattle.reader.specs.Elements.{Answer, got, back, then, Reading, onto, takesAll}
-use Rattle.reader.specs.Read.{Recipe, finished, itemWords, nameBytes, filled}
+use Rattle.reading.specs.Elements.{Answer, got, back, then, Reading, onto, takesAll}
+use Rattle.reading.specs.Read.{Recipe, finished, itemWords, nameBytes, filled}
 use Rattle.reader.specs.Told.{meaningsFrom}
 use Rattle.reader.specs.Placed.{Holds}
 

@@ -16,10 +16,10 @@ use Rattle.reader.specs.declared.place.Step as S
 use Rattle.reader.specs.declared.place.Step.the-variants as SV
 use Rattle.reader.specs.declared.element.Move.{Move}
 use Rattle.reader.specs.declared.element.Move.the-variants.{On, Done, Refused}
-use Rattle.reader.specs.Meaning.{Meaning, constant, refused}
-use Rattle.reader.specs.Numbering.{datumWords, dataWords}
-use Rattle.reader.specs.Elements.{Answer, got, back, then, Reading, onto, noneOpen, isComplete, counted, put, takes, takesAll}
-use Rattle.reader.specs.Read.{Recipe, finished, itemWords, nameBytes, filled}
+use Rattle.reading.specs.Meaning.{Meaning, constant, refused}
+use Rattle.reading.specs.Numbering.{datumWords, dataWords}
+use Rattle.reading.specs.Elements.{Answer, got, back, then, Reading, onto, noneOpen, isComplete, counted, put, takes, takesAll}
+use Rattle.reading.specs.Read.{Recipe, finished, itemWords, nameBytes, filled}
 use Rattle.reader.specs.Told.{meaningsFrom, Took, TurnedBack}
 use Rattle.reader.specs.Placed.{Holds, Stepped, IsToken, withToken, TokenPut, itemsOf, wordsOf, itemsAround, wordsAround, nextItem, placed}
 use Rattle.reader.specs.PlacedLaws.{onto-items, onto-words, length-words, zeros, refill}

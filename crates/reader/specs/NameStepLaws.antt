@@ -16,11 +16,11 @@ use Rattle.datum.specs.NameTableLaws.{isShort, length-at}
 use Rattle.reader.specs.declared.place.Place.{Place}
 use Rattle.reader.specs.declared.place.Step.{Step}
 use Rattle.reader.specs.declared.place.Step.the-variants.{Went, Refused}
-use Rattle.reader.specs.Meaning.{name}
-use Rattle.reader.specs.Numbering.{numberOf, withName, datumWords}
-use Rattle.reader.specs.Elements.{Answer, got, back, Reading, counted, named, begin, takes}
-use Rattle.reader.specs.Read.{filled}
-use Rattle.reader.specs.AcceptedLaws.{number-most}
+use Rattle.reading.specs.Meaning.{name}
+use Rattle.reading.specs.Numbering.{numberOf, withName, datumWords}
+use Rattle.reading.specs.Elements.{Answer, got, back, Reading, counted, named, begin, takes}
+use Rattle.reading.specs.Read.{filled}
+use Rattle.reading.specs.AcceptedLaws.{number-most}
 use Rattle.reader.specs.Stored.{namesIn, stored}
 use Rattle.reader.specs.StoredLaws.{names-in, length-names-in, short-more, stored-filled, stored-length}
 use Rattle.reader.specs.Placed.{Holds, Stepped, groundAt, IsToken, withToken, TokenPut, NamesSound}

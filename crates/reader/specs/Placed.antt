@@ -13,18 +13,11 @@ use Rattle.datum.specs.NameTableLaws.{isShort}
 use Rattle.reader.specs.declared.place.Place.{Place}
 use Rattle.reader.specs.declared.place.Step.{Step}
 use Rattle.reader.specs.declared.place.Step.the-variants.{Went, Refused}
-<<<<<<< HEAD
 use Rattle.reading.specs.Numbering.{datumWords}
-use Rattle.reading.specs.Elements.{Answer, got, back, Reading}
+use Rattle.reading.specs.Meaning.{begins, ends, name}
+use Rattle.reading.specs.Elements.{Answer, got, back, Reading, noneOpen, begin, takes}
 use Rattle.reading.specs.ElementLaws.{Within}
 use Rattle.reading.specs.Read.{filled}
-=======
-use Rattle.reader.specs.Numbering.{datumWords}
-use Rattle.reader.specs.Meaning.{begins, ends, name}
-use Rattle.reader.specs.Elements.{Answer, got, back, Reading, noneOpen, begin, takes}
-use Rattle.reader.specs.ElementLaws.{Within}
-use Rattle.reader.specs.Read.{filled}
->>>>>>> fde55e800834699c87a2bb6fe5e01d8f3393d8f2
 
 -- ---- items
 

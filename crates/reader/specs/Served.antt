@@ -8,9 +8,9 @@ use Rattle.reader.specs.declared.Reading.{Reading}
 use Rattle.reader.specs.declared.Reading.the-variants.{Read, Refused}
 use Rattle.reader.specs.declared.place.Place.{Place}
 use Rattle.reader.specs.declared.token.Cursor.{Cursor}
-use Rattle.reader.specs.Elements as E
-use Rattle.reader.specs.Elements.{Answer, got, back}
-use Rattle.reader.specs.Read.{Recipe, recipeOf, read, itemsAfter, namesAfter}
+use Rattle.reading.specs.Elements as E
+use Rattle.reading.specs.Elements.{Answer, got, back}
+use Rattle.reading.specs.Read.{Recipe, recipeOf, read, itemsAfter, namesAfter}
 use Rattle.reader.specs.Placed.{Holds}
 use Rattle.reader.specs.Moved.{outcomeFrom, Whole}
 

@@ -16,11 +16,11 @@ use Rattle.reader.specs.declared.place.Place.{Place}
 use Rattle.reader.specs.declared.token.Cursor.{Cursor}
 use Rattle.reader.specs.declared.element.Move as M
 use Rattle.reader.specs.declared.element.Move.the-variants as MV
-use Rattle.reader.specs.Token.{tokens}
-use Rattle.reader.specs.Numbering.{baseNames}
-use Rattle.reader.specs.Elements as E
-use Rattle.reader.specs.Elements.{got, back, start}
-use Rattle.reader.specs.Read.{
+use Rattle.reading.specs.Token.{tokens}
+use Rattle.reading.specs.Numbering.{baseNames}
+use Rattle.reading.specs.Elements as E
+use Rattle.reading.specs.Elements.{got, back, start}
+use Rattle.reading.specs.Read.{
   Recipe,
   recipeOver,
   recipeOf,

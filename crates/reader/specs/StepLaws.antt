@@ -14,15 +14,10 @@ use Rattle.datum.specs.Datum.{Datum, Data, listD, noneD, datumItems, dataItems}
 use Rattle.datum.specs.NameTable.{slots}
 use Rattle.datum.specs.NameTableLaws.{isShort}
 use Rattle.reader.specs.declared.place.Place.{Place}
-<<<<<<< HEAD
-use Rattle.reading.specs.Numbering.{datumWords}
-use Rattle.reading.specs.Elements.{
-=======
 use Rattle.reader.specs.declared.place.Step.the-variants.{Went, Refused}
-use Rattle.reader.specs.Numbering.{datumWords}
-use Rattle.reader.specs.Meaning.{begins, ends}
-use Rattle.reader.specs.Elements.{
->>>>>>> fde55e800834699c87a2bb6fe5e01d8f3393d8f2
+use Rattle.reading.specs.Numbering.{datumWords}
+use Rattle.reading.specs.Meaning.{begins, ends}
+use Rattle.reading.specs.Elements.{
   Answer,
   got,
   back,
@@ -37,13 +32,8 @@ use Rattle.reader.specs.Elements.{
   begin,
   takes,
 }
-<<<<<<< HEAD
-use Rattle.reading.specs.ElementLaws.{Within, within-is}
+use Rattle.reading.specs.ElementLaws.{Within, within-is, begin-is}
 use Rattle.reading.specs.Read.{filled}
-=======
-use Rattle.reader.specs.ElementLaws.{Within, within-is, begin-is}
-use Rattle.reader.specs.Read.{filled}
->>>>>>> fde55e800834699c87a2bb6fe5e01d8f3393d8f2
 use Rattle.reader.specs.Placed.{
   put3,
   itemsOf,

@@ -12,16 +12,10 @@ use borrow.Author.Tests.{eq-eqb, ne-eqb, le-leb}
 use Rattle.words.specs.Lists.{equal, all}
 use Rattle.words.specs.ListLaws.{either, never, equal-true, all-append}
 use Rattle.datum.specs.NameTable.{slot, slots, lengthAt, nameAt}
-<<<<<<< HEAD
-use Rattle.datum.specs.NameTableLaws.{isShort, length-slots, name-at}
-use Rattle.reading.specs.Numbering.{numberOf}
-use Rattle.reader.specs.Stored.{namesIn, stored}
-=======
 use Rattle.datum.specs.NameTableLaws.{isShort, length-slots, slots-append, name-at}
-use Rattle.reader.specs.Read.{filled}
-use Rattle.reader.specs.Numbering.{numberOf}
+use Rattle.reading.specs.Read.{filled}
+use Rattle.reading.specs.Numbering.{numberOf}
 use Rattle.reader.specs.Stored.{namesIn, stored, NameTable, FourStored}
->>>>>>> fde55e800834699c87a2bb6fe5e01d8f3393d8f2
 
 -- ---- comparing
 

@@ -2,7 +2,7 @@
 ghost use mathlib.Core.Path.{_≡_};
 ghost use Prim.Native.Nat.{_≤_};
 ghost use lib.ListN.{length, replicate};
-ghost use Rattle.reader.specs.Numbering.{baseNames};
+ghost use Rattle.reading.specs.Numbering.{baseNames};
 ghost use Rattle.reader.specs.Stored.{NameTable};
 ghost use Rattle.reader.specs.Served.{Ended, Served};
 use crate::element::Move;

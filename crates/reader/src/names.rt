@@ -5,13 +5,8 @@ ghost use Prim.Native.Nat.{ℕ, _+_, _*_, _≤_, _<_};
 ghost use lib.ListN.{length};
 ghost use Rattle.words.specs.Lists.{equal};
 ghost use Rattle.datum.specs.NameTable.{lengthAt, nameAt};
-<<<<<<< HEAD
-ghost use Rattle.reading.specs.Numbering.{numberOf};
-ghost use Rattle.reader.specs.Stored.{stored, namesIn};
-=======
-ghost use Rattle.reader.specs.Numbering.{numberOf, baseNames};
+ghost use Rattle.reading.specs.Numbering.{numberOf, baseNames};
 ghost use Rattle.reader.specs.Stored.{stored, namesIn, NameTable, FourStored};
->>>>>>> fde55e800834699c87a2bb6fe5e01d8f3393d8f2
 
 fn wide(b: u8) -> usize
     ensures { λ r. ⌜ r ≡ b ⌝ }

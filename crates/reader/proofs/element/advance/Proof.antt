@@ -9,7 +9,7 @@ use mir.Val.{ofZ}
 use mir.Facts.{toZ-ofZ}
 use Rattle.words.specs.Lists.{part}
 use Rattle.datum.specs.Constant.{integer, boolean}
-use Rattle.reader.specs.Meaning.{begins, ends, constant, name}
+use Rattle.reading.specs.Meaning.{begins, ends, constant, name}
 use Rattle.reader.specs.Told.{Told}
 use Rattle.reader.specs.MovedLaws.{stepped-moved, constant-stepped, refused-moved, end-moved}
 

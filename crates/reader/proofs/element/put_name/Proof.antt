@@ -5,8 +5,8 @@ use mathlib.Core.Path.{_≡_, sym, subst, _∙_}
 use native.Mathlib.Omega.{arith}
 use Prim.Native.Nat.{_≤_, _+_, _*_}
 use lib.ListN.{length}
-use Rattle.reader.specs.Meaning.{name}
-use Rattle.reader.specs.Elements.{takes}
+use Rattle.reading.specs.Meaning.{name}
+use Rattle.reading.specs.Elements.{takes}
 use Rattle.reader.specs.Placed.{Stepped}
 use Rattle.reader.specs.NameStepLaws.{found-most, name-known, name-full, name-new}
 

@@ -5,7 +5,7 @@ use mathlib.Core.Path.{_≡_, refl, _∙_}
 use mathlib.Core.List.{[]}
 use native.Mathlib.Omega.{arith}
 use Rattle.words.specs.Text.{bytes}
-use Rattle.reader.specs.Numbering.{baseNames}
+use Rattle.reading.specs.Numbering.{baseNames}
 
 slice-aggregate-store-four : tie.Need-slice-aggregate-store-four
 slice-aggregate-store-four c =

@@ -13,12 +13,8 @@ use mir.Facts.{toZ-ofZ}
 use Rattle.datum.specs.Constant.{integer}
 use Rattle.reading.specs.Meaning.{constant}
 use Rattle.reader.specs.Answers.{integerMeaning}
-<<<<<<< HEAD
 use Rattle.reading.specs.MeaningLaws.{numeral-means, other-means, name-is, name-malformed}
-=======
-use Rattle.reader.specs.MeaningLaws.{numeral-means, other-means, name-is, name-malformed}
 use Rattle.reader.specs.ToldLaws.{name-short}
->>>>>>> fde55e800834699c87a2bb6fe5e01d8f3393d8f2
 
 sub-word : tie.Need-sub-word
 sub-word c =
