@@ -5,3 +5,5 @@ pub mod Pieces
 pub mod PiecesLaws
 pub mod Opened
 pub mod OpenedLaws
+pub mod Walk
+pub mod WalkLaws
