@@ -7,3 +7,5 @@ pub mod Opened
 pub mod OpenedLaws
 pub mod Walk
 pub mod WalkLaws
+pub mod Writing
+pub mod Written
