@@ -5,3 +5,7 @@ pub mod Pieces
 pub mod PiecesLaws
 pub mod Opened
 pub mod OpenedLaws
+pub mod Walk
+pub mod WalkLaws
+pub mod Writing
+pub mod Written

@@ -149,7 +149,7 @@ module _ (ws : List ℕ) (x : Node) (r : List ℕ) (is : nodeAt ws ≡ got x r) 
   closes-list inner e h = rw (is-list e, h)
 
   -- the code, as the node has it
-  code-is : getD ws 0 0 ≡ getD (nodeWords x ++ r) 0 0
+  pub code-is : getD ws 0 0 ≡ getD (nodeWords x ++ r) 0 0
   code-is = ap (λ (l : List ℕ). getD l 0 0) (node-read ws x r is .words)
 
 -- a leaf, and what has parts

@@ -100,7 +100,7 @@ fn datum_opening(
 }
 
 // What opens the node at the beginning of words.
-pub fn open(words: &[u32], names: &[u8], out: &mut [u8], at: usize, inner: bool, ink: bool) -> Put
+pub fn begin(words: &[u32], names: &[u8], out: &mut [u8], at: usize, inner: bool, ink: bool) -> Put
     requires { ⌜ (at ≤ length (now out)) × Opened (now names) (now words) ⌝ }
     ensures { λ r. ⌜ ((x : Node) (left : List ℕ) → nodeAt (now (words .entry)) ≡ got x left → Left ink (opening (nameAt (now (names .entry))) inner x) at (now (out .entry)) (now (out .exit)) r) ⌝ }
 {
@@ -125,7 +125,7 @@ pub fn open(words: &[u32], names: &[u8], out: &mut [u8], at: usize, inner: bool,
 }
 
 // What closes it.
-pub fn close(words: &[u32], out: &mut [u8], at: usize, inner: bool, ink: bool) -> Put
+pub fn finish(words: &[u32], out: &mut [u8], at: usize, inner: bool, ink: bool) -> Put
     requires { ⌜ (at ≤ length (now out)) × (1 ≤ length (now words)) ⌝ }
     ensures { λ r. ⌜ ((x : Node) (left : List ℕ) → nodeAt (now (words .entry)) ≡ got x left → Left ink (closing inner x) at (now (out .entry)) (now (out .exit)) r) ⌝ }
 {
