@@ -13,7 +13,7 @@ use Rattle.reader.specs.ServedLaws.{ground-is, items-are, names-are}
 use Rattle.writer.specs.declared.Writing.{Writing}
 use Rattle.writer.specs.Writing as W
 use Rattle.writer.specs.Written.{Wrote}
-use Rattle.library.specs.Calls.{told}
+use Rattle.grebetallboy.specs.Calls.{told}
 
 pub told-short : (a b : ℕ) (c : List ℕ) → length c < 2 → c ≡ told a b c
 unfolding told

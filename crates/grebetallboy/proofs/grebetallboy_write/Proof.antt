@@ -1,11 +1,11 @@
 use borrow.Author.Needs.{needs}
-use Rattle.library.proofs.grebetallboy_write.Statement.{statement}
-use Rattle.library.proofs.grebetallboy_write.Tie as tie
-use Rattle.library.proofs.grebetallboy_write.Reads as reads
-use Rattle.library.proofs.grebetallboy_write.Lts as lts
-use Rattle.library.proofs.tell.Reads as tell-reads
+use Rattle.grebetallboy.proofs.grebetallboy_write.Statement.{statement}
+use Rattle.grebetallboy.proofs.grebetallboy_write.Tie as tie
+use Rattle.grebetallboy.proofs.grebetallboy_write.Reads as reads
+use Rattle.grebetallboy.proofs.grebetallboy_write.Lts as lts
+use Rattle.grebetallboy.proofs.tell.Reads as tell-reads
 use Rattle.writer.proofs.write.Reads as write-reads
-use Rattle.library.specs.CallLaws.{write-told}
+use Rattle.grebetallboy.specs.CallLaws.{write-told}
 use Rattle.writer.specs.Writing.{groundOf, lengthOf}
 
 -- src/lib.rt:61:11

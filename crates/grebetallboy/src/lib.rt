@@ -5,7 +5,7 @@ ghost use mathlib.Core.Path.{_≡_};
 ghost use lib.ListN.{length};
 ghost use Rattle.reading.specs.Read.{read, groundOf, itemCount, nameCount, itemsAfter, namesAfter};
 ghost use Rattle.writer.specs.Writing.{textOf, ground, size, after};
-ghost use Rattle.library.specs.Calls.{told};
+ghost use Rattle.grebetallboy.specs.Calls.{told};
 use reader::Reading;
 use writer::Writing;
 

@@ -1,9 +1,9 @@
 use borrow.Author.Needs.{needs}
-use Rattle.library.proofs.tell.Statement.{statement}
-use Rattle.library.proofs.tell.Tie as tie
-use Rattle.library.proofs.tell.Reads as reads
-use Rattle.library.proofs.tell.Lts as lts
-use Rattle.library.specs.CallLaws.{told-short, told-long}
+use Rattle.grebetallboy.proofs.tell.Statement.{statement}
+use Rattle.grebetallboy.proofs.tell.Tie as tie
+use Rattle.grebetallboy.proofs.tell.Reads as reads
+use Rattle.grebetallboy.proofs.tell.Lts as lts
+use Rattle.grebetallboy.specs.CallLaws.{told-short, told-long}
 
 -- src/lib.rt:17:9
 returns : tie.Need-returns

@@ -1,11 +1,11 @@
 use borrow.Author.Needs.{needs}
-use Rattle.library.proofs.grebetallboy_read.Statement.{statement}
-use Rattle.library.proofs.grebetallboy_read.Tie as tie
-use Rattle.library.proofs.grebetallboy_read.Reads as reads
-use Rattle.library.proofs.grebetallboy_read.Lts as lts
-use Rattle.library.proofs.tell.Reads as tell-reads
+use Rattle.grebetallboy.proofs.grebetallboy_read.Statement.{statement}
+use Rattle.grebetallboy.proofs.grebetallboy_read.Tie as tie
+use Rattle.grebetallboy.proofs.grebetallboy_read.Reads as reads
+use Rattle.grebetallboy.proofs.grebetallboy_read.Lts as lts
+use Rattle.grebetallboy.proofs.tell.Reads as tell-reads
 use Rattle.reader.proofs.read.Reads as read-reads
-use Rattle.library.specs.CallLaws.{read-told}
+use Rattle.grebetallboy.specs.CallLaws.{read-told}
 use Rattle.reader.specs.Served.{ground, items, names}
 
 -- src/lib.rt:36:11
