@@ -15,19 +15,19 @@ use Rattle.expansion.specs.Lookup.{quote, if, lambda, let-syntax, letrec-syntax
 use Rattle.expansion.specs.Computation.{State, reached, Events, Out, done, refused, starved, M, after, goOn, _>>=_, _>>_, give, show, test, get, addVariables, addMacros}
 use Rattle.expansion.specs.Forms.{isLambda, formals, isMacros, firstNames, keywords, rulesForms, bindings, readRules, expandAll, expandIf, expandLambda, expandMacros, expandOperands, expandList, expandApplication, expandPair, expandTree, expand}
 use Rattle.private_names.specs.Statement.{isReachedAt}
-use Rattle.private_names.specs.Relations.{ListRel, ends, joins, map-rel, list-map}
-use Rattle.private_names.specs.Shapes.{TreeOf, empties, constants, names₂, pairs, RuleOf, tree-map, names-rel, isListOf-rel}
-use Rattle.private_names.specs.Shown.{Renaming, ofCopy, not-private-not-copy, AllFine, fine-left, fine-right}
-use Rattle.private_names.specs.Names.{Raw, NameRel, TreeRel}
-use Rattle.private_names.specs.Terms.{variableCs, operationCs, noneCs, moreCs, ifCs, applicationCs, lambdaCs, TermRel, TermsRel, FormalRel, same-formal}
-use Rattle.private_names.specs.States.{StateRel, macros-append, new-macros}
-use Rattle.private_names.specs.Outcomes.{eventsOf, events-after, OutRel, dones, Agree, after-rel, first-fine, goOn-agree, bind-agree, give-agree}
-use Rattle.private_names.specs.FormsKept.{isLambda-rel, isMacros-rel, keywords-rel, rulesForms-rel, readRules-agree, scoped-rel}
-use Rattle.private_names.specs.Agree.{expand-agree}
-use Rattle.private_names.specs.Holes.{Hole, first, later}
-use Rattle.private_names.specs.Places.{Still, ChosenRules, Foreign, bindAll-hole, rebindAll-foreign, AtRest, rest-coherent, rest-ready, rest-below, still-rel}
-use Rattle.private_names.specs.Scopes.{Scope, rebindAll}
-use Rattle.private_names.specs.Form.{hole-alike, Joined, form-agree}
+use Rattle.simulation.specs.Relations.{ListRel, ends, joins, map-rel, list-map}
+use Rattle.simulation.specs.Shapes.{TreeOf, empties, constants, names₂, pairs, RuleOf, tree-map, names-rel, isListOf-rel}
+use Rattle.simulation.specs.Names.Shown.{Renaming, ofCopy, not-private-not-copy, AllFine, fine-left, fine-right}
+use Rattle.simulation.specs.Names.{Raw, NameRel, TreeRel}
+use Rattle.simulation.specs.Terms.{variableCs, operationCs, noneCs, moreCs, ifCs, applicationCs, lambdaCs, TermRel, TermsRel, FormalRel, same-formal}
+use Rattle.simulation.specs.States.{StateRel, macros-append, new-macros}
+use Rattle.simulation.specs.Outcomes.{eventsOf, events-after, OutRel, dones, Agree, after-rel, first-fine, goOn-agree, bind-agree, give-agree}
+use Rattle.simulation.specs.FormsKept.{isLambda-rel, isMacros-rel, keywords-rel, rulesForms-rel, readRules-agree, scoped-rel}
+use Rattle.simulation.specs.Agree.{expand-agree}
+use Rattle.simulation.specs.Form.Holes.{Hole, first, later}
+use Rattle.simulation.specs.Form.Places.{Still, ChosenRules, Foreign, bindAll-hole, rebindAll-foreign, AtRest, rest-coherent, rest-ready, rest-below, still-rel}
+use Rattle.simulation.specs.Form.Scopes.{Scope, rebindAll}
+use Rattle.simulation.specs.Form.{hole-alike, Joined, form-agree}
 use Rattle.private_names.specs.Reach.{any-append, isAt, Unheaded, Unreached, unreached, none-reached, give-unreached, bind-unreached, bindings-none, read-unreached, all-unreached, operands-unreached, quote-unreached, if-unreached, lambda-unreached, macros-unreached, use-unreached, refuse-unreached, expand-unreached}
 use Rattle.private_names.specs.Tables.{uses}
 use Rattle.private_names.specs.Paths.{isAt-item, unused-name, uses-element, uses-bindAll, Headed, headed, in-first, in-later, headed-uses, headed-element, headed-bindAll, unused-unheaded, other-unheaded, hole-at, hole-off}

@@ -21,12 +21,12 @@ use Rattle.expansion.specs.Forms.{expand}
 use Rattle.expansion.specs.Run.{accepted, turnedBack, Run, ended, require, operationNumbers, areOperations, expandRecipe, run}
 use Rattle.private_names.specs.Statement as S
 use Rattle.private_names.specs.Statement.{Choice, formAt, rulesAt, ruleAt, templateAt, isVariableAt, isOldItem, isNew, renamed, isReachedAt, isOwnedByCopy, quotesNoCopy, findsOwn, hypotheses, answerOf, PrivateNames}
-use Rattle.private_names.specs.Shown.{Renaming, isCopy, ofCopy, Fine, AllFine, none-left, and}
-use Rattle.private_names.specs.Names.{Raw}
-use Rattle.private_names.specs.Terms.{TermRel, encode-rel}
-use Rattle.private_names.specs.States.{StateRel, no-macro}
-use Rattle.private_names.specs.Outcomes.{eventsOf, OutRel, dones, refusals, starvations}
-use Rattle.private_names.specs.Scopes.{hasVariable}
+use Rattle.simulation.specs.Names.Shown.{Renaming, isCopy, ofCopy, Fine, AllFine, none-left, and}
+use Rattle.simulation.specs.Names.{Raw}
+use Rattle.simulation.specs.Terms.{TermRel, encode-rel}
+use Rattle.simulation.specs.States.{StateRel, no-macro}
+use Rattle.simulation.specs.Outcomes.{eventsOf, OutRel, dones, refusals, starvations}
+use Rattle.simulation.specs.Form.Scopes.{hasVariable}
 use Rattle.private_names.specs.Reach.{both-true, Unheaded, none-reached, expand-unreached}
 use Rattle.private_names.specs.Origins.{All, nil, cons, OwnName, of-look, of-quote, of-form, of-binding, expand-own}
 use Rattle.private_names.specs.Tables.{TreeAll, Layout, layout-true, true-layout, layout-uses, tree-plain, tree-new, numberAt, tree-numbered, treeOf-renumber, count-renumber, layout-renumber, element-onNames}

@@ -18,7 +18,7 @@ use Rattle.expansion.specs.Computation.{State, Event, looked, quoted, reached, 
 use Rattle.expansion.specs.Forms.{formals, isMacro, isMacros, firstNames, keywords, rulesForms, bindings, readRules, expandAll, expandQuote, expandIf, expandLambda, expandMacros, expandUse, expandOperands, expandList, expandName, expandApplication, expandPair, expandTree, expand}
 use Rattle.private_names.specs.Statement.{isCopy, bindsCopy, isOwnedByCopy}
 use Rattle.private_names.specs.Reach.{any-append, both-true, neither}
-use Rattle.private_names.specs.Outcomes.{eventsOf}
+use Rattle.simulation.specs.Outcomes.{eventsOf}
 
 -- ---- events that bind the variables from v to w and the macros from m to n, each once and in order
 

@@ -9,8 +9,8 @@ use lib.Dec.{eqb}
 use Rattle.words.specs.Lists.{any}
 use Rattle.recipe.specs.Name.{Binding, Name, same, giveBinding, bindName}
 use Rattle.recipe.specs.Tree.{Tree, empty, constant, name, pair, onName, elements, element, onNames, bind, bindAll}
-use Rattle.private_names.specs.Shapes.{TreeOf, element-rel}
-use Rattle.private_names.specs.Holes.{Hole, first, later}
+use Rattle.simulation.specs.Shapes.{TreeOf, element-rel}
+use Rattle.simulation.specs.Form.Holes.{Hole, first, later}
 use Rattle.private_names.specs.Reach.{isAt, isNameAt, Unheaded, empty₁, constant₁, name₁, pair₁, UnheadedAll, empty₂, constant₂, name₂, pair₂, isAt-bind}
 use Rattle.private_names.specs.Reach.{any-append}
 use Rattle.private_names.specs.Statement.{parts, firstWith, hasHead}

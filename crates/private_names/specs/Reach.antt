@@ -18,7 +18,7 @@ use Rattle.expansion.specs.Match.{firstFit}
 use Rattle.expansion.specs.Computation.{State, looked, quoted, Events, Out, done, refused, starved, M, after, goOn, _>>=_, _>>_, give, refuse, show, test, orRefuse, get, addVariables, addMacros, addStep}
 use Rattle.expansion.specs.Forms.{formals, keywords, bindings, readRules, expandAll, expandQuote, expandIf, expandLambda, expandMacros, expandUse, expandOperands, expandList, expandName, expandApplication, expandPair, expandTree, expand}
 use Rattle.private_names.specs.Statement.{isReachedAt}
-use Rattle.private_names.specs.Outcomes.{eventsOf, events-after}
+use Rattle.simulation.specs.Outcomes.{eventsOf, events-after}
 
 pub any-append : {A : Type 0} (f : A → Bool) (xs ys : List A) → any f (xs ++ ys) ≡ (any f xs || any f ys)
 unfolding any

@@ -12,11 +12,11 @@ use Rattle.recipe.specs.Name.{Name, plainName, isEllipsis}
 use Rattle.recipe.specs.Tree.{Tree, empty, constant, name, pair, names, onPair, elements, element, tail, onNames}
 use Rattle.expansion.specs.Rules.{variables, isVariable, depthBefore}
 use Rattle.private_names.specs.Statement.{isPrivate}
-use Rattle.private_names.specs.Shapes.{TreeOf, empties, constants, names₂, pairs}
-use Rattle.private_names.specs.Shown.{Renaming}
-use Rattle.private_names.specs.Holes.{Hole, here, first, later}
-use Rattle.private_names.specs.Scopes.{Scope, Placed, hasVariable}
-use Rattle.private_names.specs.Places.{Still, Turning, InTemplate, stays, turns, ChosenRules}
+use Rattle.simulation.specs.Shapes.{TreeOf, empties, constants, names₂, pairs}
+use Rattle.simulation.specs.Names.Shown.{Renaming}
+use Rattle.simulation.specs.Form.Holes.{Hole, here, first, later}
+use Rattle.simulation.specs.Form.Scopes.{Scope, Placed, hasVariable}
+use Rattle.simulation.specs.Form.Places.{Still, Turning, InTemplate, stays, turns, ChosenRules}
 use Rattle.private_names.specs.Reach.{any-append}
 use Rattle.private_names.specs.Tables.{TreeAll, all-empty, all-constant, all-name, all-pair, uses, Plain, renumberName}
 use Rattle.private_names.specs.Paths.{sub, uses-element}

@@ -10,10 +10,10 @@ use Rattle.words.specs.Lists.{any}
 use Rattle.recipe.specs.Name.{Binding, Name, same, isEllipsis, isWildcard, giveBinding, bindName}
 use Rattle.recipe.specs.Tree.{Tree, names, element, tail}
 use Rattle.expansion.specs.Rules.{variables}
-use Rattle.private_names.specs.Relations.{any-rel}
-use Rattle.private_names.specs.Shapes.{TreeOf, names-rel, element-rel, tail-rel}
-use Rattle.private_names.specs.RulesKept.{variables-rel}
-use Rattle.private_names.specs.Sameness.{iff-eq, same→Same, Same→same}
+use Rattle.simulation.specs.Relations.{any-rel}
+use Rattle.simulation.specs.Shapes.{TreeOf, names-rel, element-rel, tail-rel}
+use Rattle.simulation.specs.RulesKept.{variables-rel}
+use Rattle.simulation.specs.Names.Sameness.{iff-eq, same→Same, Same→same}
 
 -- the bindings in force, by number
 abbrev pub Scope : Type 0

@@ -8,9 +8,9 @@ use Rattle.recipe.specs.Name.{Name}
 use Rattle.core_term.specs.Term.{Term, variableC, operationC, datumC, ifC, lambdaC, applicationC, Terms, noneC, moreC, count}
 use Rattle.core_term.specs.Node.{nodeWords, ifN, lambdaN, applicationN}
 use Rattle.core_term.specs.Words.{encode, encodeAll}
-use Rattle.private_names.specs.Relations.{ListRel, length-rel}
-use Rattle.private_names.specs.Shown.{Renaming, isCopy, not-private-not-copy, private-copy}
-use Rattle.private_names.specs.Names.{Kind, Ready, Raw, NameRel, kept, turned}
+use Rattle.simulation.specs.Relations.{ListRel, length-rel}
+use Rattle.simulation.specs.Names.Shown.{Renaming, isCopy, not-private-not-copy, private-copy}
+use Rattle.simulation.specs.Names.{Kind, Ready, Raw, NameRel, kept, turned}
 
 -- terms of one shape whose formals are related
 mutual

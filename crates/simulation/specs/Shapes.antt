@@ -7,7 +7,7 @@ use Rattle.datum.specs.Constant.{Constant}
 use Rattle.recipe.specs.Name.{Name, isEllipsis, isWildcard, isOrdinary}
 use Rattle.recipe.specs.Tree.{Tree, empty, constant, name, pair, size, names, onEmpty, onName, onPair, isOrdinaryName, isList, isListOf, elements, element, tail, onNames}
 use Rattle.expansion.specs.Rules.{Pattern, variableP, literalP, wildcardP, constantP, emptyP, pairP, ellipsisP, Template, variableT, insertT, constantT, emptyT, pairT, ellipsisT, Rule}
-use Rattle.private_names.specs.Relations.{ListRel, ends, joins, length-rel, append-rel, getD-rel}
+use Rattle.simulation.specs.Relations.{ListRel, ends, joins, length-rel, append-rel, getD-rel}
 
 pub data TreeOf (R : Name → Name → Type 0) : Tree → Tree → Type 0 where
   empties : TreeOf R empty empty

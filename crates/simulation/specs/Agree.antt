@@ -15,17 +15,17 @@ use Rattle.expansion.specs.Lookup.{quote, if, lambda, let-syntax, letrec-syntax
 use Rattle.expansion.specs.Transcribe.{transcribe}
 use Rattle.expansion.specs.Computation.{looked, M, addVariables, addMacros, addStep}
 use Rattle.expansion.specs.Forms.{formals, keywords, rulesForms, expandAll, expandQuote, expandIf, expandLambda, expandMacros, expandUse, expandOperands, expandList, expandName, expandApplication, expandPair, expandTree, expand}
-use Rattle.private_names.specs.Relations.{ListRel, length-rel, list-map, map-rel}
-use Rattle.private_names.specs.Shapes.{empties, constants, names₂, pairs, RuleOf, tree-map, size-rel, names-rel, isListOf-rel, element-rel, tail-rel}
-use Rattle.private_names.specs.MatchKept.{equalLengths-rel, transcribe-rel}
-use Rattle.private_names.specs.Shown.{Renaming, Fine, AllFine, and}
-use Rattle.private_names.specs.Names.{Kind, Coherent, Ready, Raw, NameRel, TreeRel, name-map, dots-rel, wild-rel, bindAll-rel}
-use Rattle.private_names.specs.Lookups.{lookup-rel, strip-eq}
-use Rattle.private_names.specs.Steps.{older-le, Below, Marked, Transcribed, Result, mark-rel, produce-rel, result-is, result-below, result-ready, result-coherent}
-use Rattle.private_names.specs.Terms.{noneCs, moreCs, variableCs, operationCs, datumCs, datumCs-eq, ifCs, lambdaCs-eq, applicationCs, TermRel, TermsRel, formal-rel}
-use Rattle.private_names.specs.States.{macros-up, macros-length, macros-append, macro-at, new-macros}
-use Rattle.private_names.specs.Outcomes.{starvations, Agree, Agrees, earlier, bind-agree, give-agree, refuse-agree, test-agree, show-agree, goes-agree, get-agree, orRule-agree}
-use Rattle.private_names.specs.FormsKept.{isLambda-rel, isMacros-rel, keywords-rel, rulesForms-rel, distinct-names, readRules-agree, firstFit-rel, scoped-rel}
+use Rattle.simulation.specs.Relations.{ListRel, length-rel, list-map, map-rel}
+use Rattle.simulation.specs.Shapes.{empties, constants, names₂, pairs, RuleOf, tree-map, size-rel, names-rel, isListOf-rel, element-rel, tail-rel}
+use Rattle.simulation.specs.MatchKept.{equalLengths-rel, transcribe-rel}
+use Rattle.simulation.specs.Names.Shown.{Renaming, Fine, AllFine, and}
+use Rattle.simulation.specs.Names.{Kind, Coherent, Ready, Raw, NameRel, TreeRel, name-map, dots-rel, wild-rel, bindAll-rel}
+use Rattle.simulation.specs.Lookups.{lookup-rel, strip-eq}
+use Rattle.simulation.specs.Steps.{older-le, Below, Marked, Transcribed, Result, mark-rel, produce-rel, result-is, result-below, result-ready, result-coherent}
+use Rattle.simulation.specs.Terms.{noneCs, moreCs, variableCs, operationCs, datumCs, datumCs-eq, ifCs, lambdaCs-eq, applicationCs, TermRel, TermsRel, formal-rel}
+use Rattle.simulation.specs.States.{macros-up, macros-length, macros-append, macro-at, new-macros}
+use Rattle.simulation.specs.Outcomes.{starvations, Agree, Agrees, earlier, bind-agree, give-agree, refuse-agree, test-agree, show-agree, goes-agree, get-agree, orRule-agree}
+use Rattle.simulation.specs.FormsKept.{isLambda-rel, isMacros-rel, keywords-rel, rulesForms-rel, distinct-names, readRules-agree, firstFit-rel, scoped-rel}
 
 module _ (ρ : Renaming) (raw : Raw ρ) where
   -- ---- the forms, where expansion keeps the relation

@@ -12,8 +12,8 @@ use Rattle.recipe.specs.Name.{Name, same, distinct, isEllipsis, isWildcard}
 use Rattle.recipe.specs.Tree.{Tree, onName, onPair, names, isOrdinaryName, isListOf, elements, element, tail}
 use Rattle.expansion.specs.Lookup.{isSyntaxRules}
 use Rattle.expansion.specs.Rules.{pairP, ellipsisP, Template, pairT, ellipsisT, drivers, isDriven, variableFrom, nameTemplate, areVariables, dotsNext, depthBefore, isVariable, variables, patternOf, templateOf, ruleOf, isRulesForm, rulesOf}
-use Rattle.private_names.specs.Relations.{ListRel, ends, joins, any-rel, OptionRel, nones, somes, length-rel, append-rel, map-rel, all-rel, cond-rel, guard-rel, mapSome-rel, mapBoth-rel, traverse-rel}
-use Rattle.private_names.specs.Shapes.{TreeOf, empties, constants, names₂, pairs, PatternOf, variablePs, literalPs, wildcardPs, constantPs, emptyPs, pairPs, ellipsisPs, TemplateOf, variableTs, insertTs, constantTs, emptyTs, pairTs, ellipsisTs, RuleOf, names-rel, onName-rel, isList-rel, elements-rel, isListOf-rel, element-rel, tail-rel, isOrdinaryName-rel}
+use Rattle.simulation.specs.Relations.{ListRel, ends, joins, any-rel, OptionRel, nones, somes, length-rel, append-rel, map-rel, all-rel, cond-rel, guard-rel, mapSome-rel, mapBoth-rel, traverse-rel}
+use Rattle.simulation.specs.Shapes.{TreeOf, empties, constants, names₂, pairs, PatternOf, variablePs, literalPs, wildcardPs, constantPs, emptyPs, pairPs, ellipsisPs, TemplateOf, variableTs, insertTs, constantTs, emptyTs, pairTs, ellipsisTs, RuleOf, names-rel, onName-rel, isList-rel, elements-rel, isListOf-rel, element-rel, tail-rel, isOrdinaryName-rel}
 
 -- ---- templates
 

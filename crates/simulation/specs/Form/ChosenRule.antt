@@ -13,16 +13,16 @@ use Rattle.recipe.specs.Name.{Name, bindingKey, same, isEllipsis}
 use Rattle.recipe.specs.Tree.{Tree, name, pair, onPair, elements, element, tail}
 use Rattle.expansion.specs.Lookup.{isSyntaxRules}
 use Rattle.expansion.specs.Rules.{Rule, variableFrom, variables, ruleOf, rulesOf}
-use Rattle.private_names.specs.Relations.{ListRel, ends, joins, OptionRel, nones, somes, length-rel, list-map, list-eq, guard-rel, mapBoth-rel, traverse-rel}
-use Rattle.private_names.specs.Shapes.{TreeOf, empties, constants, names₂, pairs, RuleOf, tree-map, pattern-map, template-map, names-rel, elements-rel, isListOf-rel, element-rel, onName-rel}
-use Rattle.private_names.specs.RulesKept.{ruleOf-by, ruleOf-rel, isRulesForm-rel, rulesOf-rel}
-use Rattle.private_names.specs.Shown.{Renaming, ofCopy}
-use Rattle.private_names.specs.Names.{Kind, Coherent, Raw, NameRel, kept, turned, unowned}
-use Rattle.private_names.specs.Steps.{Older, Below}
-use Rattle.private_names.specs.States.{Literal, RuleRel, RulesRel, no-rule, rule, MacrosRel, no-macro, with}
-use Rattle.private_names.specs.Holes.{Hole, first, later, hole-tree, hole-here, hole-elements, hole-element-0, hole-element-1}
-use Rattle.private_names.specs.Scopes.{Scope, hasVariable}
-use Rattle.private_names.specs.Places.{Still, InTemplate, stays, turns, still-dots, still-wild, template-dots, ChosenRules, Foreign, AtRest, rest-coherent, rest-below, still-rel}
+use Rattle.simulation.specs.Relations.{ListRel, ends, joins, OptionRel, nones, somes, length-rel, list-map, list-eq, guard-rel, mapBoth-rel, traverse-rel}
+use Rattle.simulation.specs.Shapes.{TreeOf, empties, constants, names₂, pairs, RuleOf, tree-map, pattern-map, template-map, names-rel, elements-rel, isListOf-rel, element-rel, onName-rel}
+use Rattle.simulation.specs.RulesKept.{ruleOf-by, ruleOf-rel, isRulesForm-rel, rulesOf-rel}
+use Rattle.simulation.specs.Names.Shown.{Renaming, ofCopy}
+use Rattle.simulation.specs.Names.{Kind, Coherent, Raw, NameRel, kept, turned, unowned}
+use Rattle.simulation.specs.Steps.{Older, Below}
+use Rattle.simulation.specs.States.{Literal, RuleRel, RulesRel, no-rule, rule, MacrosRel, no-macro, with}
+use Rattle.simulation.specs.Form.Holes.{Hole, first, later, hole-tree, hole-here, hole-elements, hole-element-0, hole-element-1}
+use Rattle.simulation.specs.Form.Scopes.{Scope, hasVariable}
+use Rattle.simulation.specs.Form.Places.{Still, InTemplate, stays, turns, still-dots, still-wild, template-dots, ChosenRules, Foreign, AtRest, rest-coherent, rest-below, still-rel}
 
 -- ---- no variable of this number
 

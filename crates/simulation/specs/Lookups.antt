@@ -10,10 +10,10 @@ use Rattle.recipe.specs.Name.{Binding, Name, bindingKey, isBound}
 use Rattle.recipe.specs.Tree.{Tree, names, name, onName, strip, stripTail}
 use Rattle.expansion.specs.Lookup.{Found, lookup, unboundMeaning, orUnbound, isSyntaxRules, agree}
 use Rattle.expansion.specs.Computation.{looked, quoted}
-use Rattle.private_names.specs.Shapes.{empties, constants, names₂, pairs}
-use Rattle.private_names.specs.Sameness.{bindingKey-apart}
-use Rattle.private_names.specs.Shown.{Renaming, ofCopy, private-copy, owned-apart, map-append, Fine, looked-fine, quoted-fine, AllFine, and, fine-left, fine-right, Looks}
-use Rattle.private_names.specs.Names.{Kind, Of, Ready, Raw, Tie, owned, unowned, Turned, NameRel, kept, turned, TreeRel}
+use Rattle.simulation.specs.Shapes.{empties, constants, names₂, pairs}
+use Rattle.simulation.specs.Names.Sameness.{bindingKey-apart}
+use Rattle.simulation.specs.Names.Shown.{Renaming, ofCopy, private-copy, owned-apart, map-append, Fine, looked-fine, quoted-fine, AllFine, and, fine-left, fine-right, Looks}
+use Rattle.simulation.specs.Names.{Kind, Of, Ready, Raw, Tie, owned, unowned, Turned, NameRel, kept, turned, TreeRel}
 
 module _ (ρ : Renaming) (raw : Raw ρ) where
   -- a copy that is looked up has a binding of a copy's, the same in both runs

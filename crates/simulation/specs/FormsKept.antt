@@ -12,15 +12,15 @@ use Rattle.expansion.specs.Rules.{Rule, rulesOf}
 use Rattle.expansion.specs.Match.{fit, orNext, firstFit}
 use Rattle.expansion.specs.Computation.{State, looked}
 use Rattle.expansion.specs.Forms.{isLambda, isMacro, isMacros, firstNames, keywords, rulesForms, bindings, readRules}
-use Rattle.private_names.specs.Relations.{ListRel, ends, joins, OptionRel, length-rel, append-rel, map-rel, all-rel}
-use Rattle.private_names.specs.Shapes.{TreeOf, RuleOf, names-rel, isList-rel, elements-rel, isListOf-rel, element-rel, isOrdinaryName-rel}
-use Rattle.private_names.specs.RulesKept.{distinct-rel, rulesOf-rel}
-use Rattle.private_names.specs.MatchKept.{fit-rel}
-use Rattle.private_names.specs.Shown.{Renaming, AllFine, Looks, looks-left, looks-right}
-use Rattle.private_names.specs.Names.{Kind, Coherent, Ready, Raw, NameRel, TreeRel, dots-rel, wild-rel, same-rel, bindAll-rel}
-use Rattle.private_names.specs.Lookups.{agree-rel, isSyntaxRules-rel}
-use Rattle.private_names.specs.States.{Literal, RulesRel, no-rule, rule, StateRel, RuleOption, no-one, this}
-use Rattle.private_names.specs.Outcomes.{Agree, bind-agree, give-agree, show-agree, orRefuse-agree}
+use Rattle.simulation.specs.Relations.{ListRel, ends, joins, OptionRel, length-rel, append-rel, map-rel, all-rel}
+use Rattle.simulation.specs.Shapes.{TreeOf, RuleOf, names-rel, isList-rel, elements-rel, isListOf-rel, element-rel, isOrdinaryName-rel}
+use Rattle.simulation.specs.RulesKept.{distinct-rel, rulesOf-rel}
+use Rattle.simulation.specs.MatchKept.{fit-rel}
+use Rattle.simulation.specs.Names.Shown.{Renaming, AllFine, Looks, looks-left, looks-right}
+use Rattle.simulation.specs.Names.{Kind, Coherent, Ready, Raw, NameRel, TreeRel, dots-rel, wild-rel, same-rel, bindAll-rel}
+use Rattle.simulation.specs.Lookups.{agree-rel, isSyntaxRules-rel}
+use Rattle.simulation.specs.States.{Literal, RulesRel, no-rule, rule, StateRel, RuleOption, no-one, this}
+use Rattle.simulation.specs.Outcomes.{Agree, bind-agree, give-agree, show-agree, orRefuse-agree}
 
 -- ---- shapes, over any relation that keeps `...` and `_`
 

@@ -4,8 +4,8 @@ use mathlib.Core.List.{List, [], _∷_}
 use Prim.Native.Nat.{ℕ, suc}
 use Rattle.recipe.specs.Name.{Name}
 use Rattle.recipe.specs.Tree.{Tree, pair, elements, element, onNames}
-use Rattle.private_names.specs.Relations.{ListRel, joins, list-map}
-use Rattle.private_names.specs.Shapes.{TreeOf, empties, constants, names₂, pairs, tree-map, elements-rel, element-rel, onNames-rel}
+use Rattle.simulation.specs.Relations.{ListRel, joins, list-map}
+use Rattle.simulation.specs.Shapes.{TreeOf, empties, constants, names₂, pairs, tree-map, elements-rel, element-rel, onNames-rel}
 
 -- related by S but for one place, told by element numbers from the outermost list on, where they are related by T
 pub data Hole (S : Name → Name → Type 0) (T : Tree → Tree → Type 0) : List ℕ → Tree → Tree → Type 0 where

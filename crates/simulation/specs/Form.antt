@@ -1,4 +1,8 @@
 -- The form of the private name, reached in place: `form-agree`. Both runs read its rules, and go on side by side.
+pub mod Holes
+pub mod Scopes
+pub mod Places
+pub mod ChosenRule
 use mathlib.Core.Path.{_≡_, refl, ap}
 use mathlib.Core.Logic.{_⊎_, inl, inr}
 use mathlib.Core.Bool.{Bool, true, false, cond}
@@ -12,19 +16,19 @@ use Rattle.recipe.specs.Tree.{Tree, element, bindAll}
 use Rattle.core_term.specs.Term.{Term}
 use Rattle.expansion.specs.Computation.{State, Out, addMacros}
 use Rattle.expansion.specs.Forms.{firstNames, keywords, rulesForms, bindings, expandMacros, expand}
-use Rattle.private_names.specs.Relations.{ListRel, ends, joins, append-rel, map-rel, list-eq}
-use Rattle.private_names.specs.Shapes.{TreeOf, tree-map, names-rel, element-rel}
-use Rattle.private_names.specs.Shown.{Renaming, ofCopy, AllFine}
-use Rattle.private_names.specs.Names.{Raw}
-use Rattle.private_names.specs.Terms.{TermRel}
-use Rattle.private_names.specs.States.{StateRel, macros-append}
-use Rattle.private_names.specs.Outcomes.{eventsOf, OutRel, Agree, bind-agree, tested-agree, test-agree, show-agree, goes-agree, get-agree}
-use Rattle.private_names.specs.FormsKept.{isMacros-rel, readRules-by}
-use Rattle.private_names.specs.Agree.{expand-agree}
-use Rattle.private_names.specs.Holes.{Hole, here, hole-here, hole-tree, hole-elements, hole-element-0, hole-element-1, hole-element-2}
-use Rattle.private_names.specs.Scopes.{Scope, rebindAll}
-use Rattle.private_names.specs.Places.{Still, InTemplate, still-dots, still-wild, template-dots, template-wild, ChosenRules, Foreign, bindAll-still, bindAll-hole, rebindAll-foreign, AtRest, rest-coherent, rest-ready, rest-below, still-rel}
-use Rattle.private_names.specs.ChosenRule.{FormRule, FormRules, formRules-read, formMacros-rel}
+use Rattle.simulation.specs.Relations.{ListRel, ends, joins, append-rel, map-rel, list-eq}
+use Rattle.simulation.specs.Shapes.{TreeOf, tree-map, names-rel, element-rel}
+use Rattle.simulation.specs.Names.Shown.{Renaming, ofCopy, AllFine}
+use Rattle.simulation.specs.Names.{Raw}
+use Rattle.simulation.specs.Terms.{TermRel}
+use Rattle.simulation.specs.States.{StateRel, macros-append}
+use Rattle.simulation.specs.Outcomes.{eventsOf, OutRel, Agree, bind-agree, tested-agree, test-agree, show-agree, goes-agree, get-agree}
+use Rattle.simulation.specs.FormsKept.{isMacros-rel, readRules-by}
+use Rattle.simulation.specs.Agree.{expand-agree}
+use Rattle.simulation.specs.Form.Holes.{Hole, here, hole-here, hole-tree, hole-elements, hole-element-0, hole-element-1, hole-element-2}
+use Rattle.simulation.specs.Form.Scopes.{Scope, rebindAll}
+use Rattle.simulation.specs.Form.Places.{Still, InTemplate, still-dots, still-wild, template-dots, template-wild, ChosenRules, Foreign, bindAll-still, bindAll-hole, rebindAll-foreign, AtRest, rest-coherent, rest-ready, rest-below, still-rel}
+use Rattle.simulation.specs.Form.ChosenRule.{FormRule, FormRules, formRules-read, formMacros-rel}
 
 -- the scope of a form's rules: letrec-syntax binds its names there too
 unfoldable formScope : Scope → (inside : Bool) → ℕ → Tree → Scope

@@ -7,10 +7,10 @@ use Prim.Native.Nat.{ℕ, _≤_}
 use native.Mathlib.Omega.{arith}
 use Rattle.expansion.specs.Rules.{Rule}
 use Rattle.expansion.specs.Computation.{State, Events, Out, done, refused, starved, M, after, goOn, _>>=_, _>>_, give, refuse, show, test, orRefuse, get}
-use Rattle.private_names.specs.Relations.{OptionRel, nones, somes}
-use Rattle.private_names.specs.Shown.{Renaming, AllFine, fine-left, fine-right}
-use Rattle.private_names.specs.Names.{Raw}
-use Rattle.private_names.specs.States.{StateRel, RuleRel, RuleOption, no-one, this}
+use Rattle.simulation.specs.Relations.{OptionRel, nones, somes}
+use Rattle.simulation.specs.Names.Shown.{Renaming, AllFine, fine-left, fine-right}
+use Rattle.simulation.specs.Names.{Raw}
+use Rattle.simulation.specs.States.{StateRel, RuleRel, RuleOption, no-one, this}
 
 -- what a computation shows
 unfoldable pub eventsOf : {A : Type 0} → Out A → Events

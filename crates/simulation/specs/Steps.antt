@@ -8,9 +8,9 @@ use native.Mathlib.Omega.{arith}
 use borrow.Author.Tests.{lt-ltb, eq-eqb, ne-eqb}
 use Rattle.recipe.specs.Name.{Name, toggle, markName, produceName}
 use Rattle.recipe.specs.Tree.{Tree, mark, produce}
-use Rattle.private_names.specs.Shapes.{onNames-rel}
-use Rattle.private_names.specs.Shown.{Renaming}
-use Rattle.private_names.specs.Names.{Kind, Coherent, Ready, Raw, NameRel, kept, turned, TreeRel}
+use Rattle.simulation.specs.Shapes.{onNames-rel}
+use Rattle.simulation.specs.Names.Shown.{Renaming}
+use Rattle.simulation.specs.Names.{Kind, Coherent, Ready, Raw, NameRel, kept, turned, TreeRel}
 
 -- ---- marks
 

@@ -12,9 +12,9 @@ use Rattle.expansion.specs.Lookup.{agree}
 use Rattle.expansion.specs.Rules.{Pattern, Template, drivers}
 use Rattle.expansion.specs.Match.{Fit, fitting, misfit, andThen, bothFit, eachFits, fit, holds, part}
 use Rattle.expansion.specs.Transcribe.{copies, allBelow, taken, lengths, copyCount, equalLengths, transcribe}
-use Rattle.private_names.specs.Relations.{cond-rel, length-rel}
-use Rattle.private_names.specs.Shapes.{TreeOf, empties, constants, names₂, pairs, PatternOf, variablePs, literalPs, wildcardPs, constantPs, emptyPs, pairPs, ellipsisPs, TemplateOf, variableTs, insertTs, constantTs, emptyTs, pairTs, ellipsisTs, tree-map, elements-rel, element-rel, tail-rel}
-use Rattle.private_names.specs.RulesKept.{drivers-rel}
+use Rattle.simulation.specs.Relations.{cond-rel, length-rel}
+use Rattle.simulation.specs.Shapes.{TreeOf, empties, constants, names₂, pairs, PatternOf, variablePs, literalPs, wildcardPs, constantPs, emptyPs, pairPs, ellipsisPs, TemplateOf, variableTs, insertTs, constantTs, emptyTs, pairTs, ellipsisTs, tree-map, elements-rel, element-rel, tail-rel}
+use Rattle.simulation.specs.RulesKept.{drivers-rel}
 
 -- ---- whether a pattern fits, where the first's lookups are fine
 

@@ -1,4 +1,6 @@
 -- The names of two runs that differ in a private name, and why sameness and binding agree on them.
+pub mod Sameness
+pub mod Shown
 use mathlib.Core.Path.{_≡_, refl, ap, ap₂, sym, _∙_, subst}
 use mathlib.Core.Bool.{Bool, true, false, cond, true≢false, false≢true}
 use mathlib.Core.List.{List}
@@ -9,10 +11,10 @@ use Rattle.recipe.specs.Name.{Binding, Name, same, isEllipsis, isWildcard, give
 use Rattle.recipe.specs.Tree.{Tree, bind, bindAll}
 use Rattle.expansion.specs.Computation.{binds}
 use Rattle.expansion.specs.Forms.{bindings}
-use Rattle.private_names.specs.Relations.{ListRel, ends, joins}
-use Rattle.private_names.specs.Shapes.{TreeOf, onNames-rel}
-use Rattle.private_names.specs.Sameness.{iff-eq, Same, same→Same, Same→same}
-use Rattle.private_names.specs.Shown.{Renaming, ofCopy, not-private-not-copy, private-copy, owned-apart, Fine, binds-fine, AllFine, and}
+use Rattle.simulation.specs.Relations.{ListRel, ends, joins}
+use Rattle.simulation.specs.Shapes.{TreeOf, onNames-rel}
+use Rattle.simulation.specs.Names.Sameness.{iff-eq, Same, same→Same, Same→same}
+use Rattle.simulation.specs.Names.Shown.{Renaming, ofCopy, not-private-not-copy, private-copy, owned-apart, Fine, binds-fine, AllFine, and}
 
 -- ---- what is known of the names of a tree
 

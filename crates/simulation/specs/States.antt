@@ -10,11 +10,11 @@ use lib.ListN.{length, getD}
 use Rattle.recipe.specs.Name.{Name}
 use Rattle.expansion.specs.Rules.{Rule}
 use Rattle.expansion.specs.Computation.{State}
-use Rattle.private_names.specs.Relations.{ListRel, ends, joins}
-use Rattle.private_names.specs.Shapes.{PatternOf, TemplateOf, RuleOf, pattern-map, pattern-self, template-self}
-use Rattle.private_names.specs.Shown.{Renaming}
-use Rattle.private_names.specs.Names.{Kind, Coherent, Ready, Raw, NameRel, kept, turned, name-map}
-use Rattle.private_names.specs.Steps.{Below, older-le}
+use Rattle.simulation.specs.Relations.{ListRel, ends, joins}
+use Rattle.simulation.specs.Shapes.{PatternOf, TemplateOf, RuleOf, pattern-map, pattern-self, template-self}
+use Rattle.simulation.specs.Names.Shown.{Renaming}
+use Rattle.simulation.specs.Names.{Kind, Coherent, Ready, Raw, NameRel, kept, turned, name-map}
+use Rattle.simulation.specs.Steps.{Below, older-le}
 
 module _ (ρ : Renaming) (raw : Raw ρ) where
   -- a pattern's literals: those that are private are copies

@@ -9,13 +9,13 @@ use Rattle.words.specs.Lists.{any}
 use Rattle.recipe.specs.Name.{Binding, Name, same, distinct, isEllipsis, isWildcard, bindName}
 use Rattle.recipe.specs.Tree.{Tree, onNames, bind, bindAll}
 use Rattle.expansion.specs.Forms.{bindings}
-use Rattle.private_names.specs.Relations.{ListRel, ends, joins}
-use Rattle.private_names.specs.Shapes.{TreeOf, onNames-rel}
-use Rattle.private_names.specs.Holes.{Hole, hole-onNames, graph, hole-graph}
-use Rattle.private_names.specs.Shown.{Renaming, ofCopy, not-private-not-copy, binds-fine, AllFine, and}
-use Rattle.private_names.specs.Names.{Kind, Coherent, Ready, Raw, NameRel, kept}
-use Rattle.private_names.specs.Steps.{Older, Below}
-pub use Rattle.private_names.specs.Scopes.{Scope, Placed, same-placed, rebind, rebindAll, bindName-placed, bindName-number, bindName-item, still-placed, hasVariable, Moved, hasVariable-moved}
+use Rattle.simulation.specs.Relations.{ListRel, ends, joins}
+use Rattle.simulation.specs.Shapes.{TreeOf, onNames-rel}
+use Rattle.simulation.specs.Form.Holes.{Hole, hole-onNames, graph, hole-graph}
+use Rattle.simulation.specs.Names.Shown.{Renaming, ofCopy, not-private-not-copy, binds-fine, AllFine, and}
+use Rattle.simulation.specs.Names.{Kind, Coherent, Ready, Raw, NameRel, kept}
+use Rattle.simulation.specs.Steps.{Older, Below}
+pub use Rattle.simulation.specs.Form.Scopes.{Scope, Placed, same-placed, rebind, rebindAll, bindName-placed, bindName-number, bindName-item, still-placed, hasVariable, Moved, hasVariable-moved}
 
 module _ (ρ : Renaming) (β : Scope) where
   -- a name that is not private is the same in both
