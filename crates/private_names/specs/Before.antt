@@ -8,6 +8,8 @@ use Prim.Native.Nat.{ℕ, zero, suc, _≤_}
 use native.Mathlib.Omega.{arith}
 use lib.ListN.{length}
 use Rattle.words.specs.Lists.{any}
+use Rattle.words.specs.TestLaws.{any-append}
+use Rattle.words.specs.Each.{each-left, each-right}
 use Rattle.recipe.specs.Name.{variable, macro, Name, distinct}
 use Rattle.recipe.specs.Tree.{Tree, empty, name, pair, names, onPair, elements, element, tail, bindAll}
 use Rattle.core_term.specs.Term.{Term, lambdaC}
@@ -17,7 +19,7 @@ use Rattle.expansion.specs.Forms.{isLambda, formals, isMacros, firstNames, keyw
 use Rattle.private_names.specs.Statement.{isReachedAt}
 use Rattle.simulation.specs.Relations.{ListRel, ends, joins, map-rel, list-map}
 use Rattle.simulation.specs.Shapes.{TreeOf, empties, constants, names₂, pairs, RuleOf, tree-map, names-rel, isListOf-rel}
-use Rattle.simulation.specs.Names.Shown.{Renaming, ofCopy, not-private-not-copy, AllFine, fine-left, fine-right}
+use Rattle.simulation.specs.Names.Shown.{Renaming, ofCopy, not-private-not-copy, AllFine}
 use Rattle.simulation.specs.Names.{Raw, NameRel, TreeRel}
 use Rattle.simulation.specs.Terms.{variableCs, operationCs, noneCs, moreCs, ifCs, applicationCs, lambdaCs, TermRel, TermsRel, FormalRel, same-formal}
 use Rattle.simulation.specs.States.{StateRel, macros-append, new-macros}
@@ -28,7 +30,7 @@ use Rattle.simulation.specs.Form.Holes.{Hole, first, later}
 use Rattle.simulation.specs.Form.Places.{Still, ChosenRules, Foreign, bindAll-hole, rebindAll-foreign, AtRest, rest-coherent, rest-ready, rest-below, still-rel}
 use Rattle.simulation.specs.Form.Scopes.{Scope, rebindAll}
 use Rattle.simulation.specs.Form.{hole-alike, Joined, form-agree}
-use Rattle.private_names.specs.Reach.{any-append, isAt, Unheaded, Unreached, unreached, none-reached, give-unreached, bind-unreached, bindings-none, read-unreached, all-unreached, operands-unreached, quote-unreached, if-unreached, lambda-unreached, macros-unreached, use-unreached, refuse-unreached, expand-unreached}
+use Rattle.private_names.specs.Reach.{isAt, Unheaded, Unreached, unreached, none-reached, give-unreached, bind-unreached, bindings-none, read-unreached, all-unreached, operands-unreached, quote-unreached, if-unreached, lambda-unreached, macros-unreached, use-unreached, refuse-unreached, expand-unreached}
 use Rattle.private_names.specs.Tables.{uses}
 use Rattle.private_names.specs.Paths.{isAt-item, unused-name, uses-element, uses-bindAll, Headed, headed, in-first, in-later, headed-uses, headed-element, headed-bindAll, unused-unheaded, other-unheaded, hole-at, hole-off}
 
@@ -85,7 +87,7 @@ module _ (ρ : Renaming) (p : ℕ) where
   after-meets l l′ x y n h e fine =
       let f : AllFine ρ (l ++ eventsOf x) = subst (AllFine ρ) (events-after l x) fine in
       let d = sym (any-append (isReachedAt p) l (eventsOf x)) ∙ ap (any (isReachedAt p)) (sym (events-after l x)) ∙ e in
-      after-joins l l′ (h (fine-left ρ l (eventsOf x) f) (or-right (any (isReachedAt p) l) (any (isReachedAt p) (eventsOf x)) d n) (fine-right ρ l (eventsOf x) f))
+      after-joins l l′ (h (each-left l (eventsOf x) f) (or-right (any (isReachedAt p) l) (any (isReachedAt p) (eventsOf x)) d n) (each-right l (eventsOf x) f))
 
   done-rel : {A : Type 0} {R : A → A → Type 0} (raw : Raw ρ) {a b : A} {u v : State} {l k : Events} → OutRel ρ raw 0 R (done a u l) (done b v k) → R a b × StateRel ρ raw 0 u v
   done-rel raw (dones r q) = (r, q)

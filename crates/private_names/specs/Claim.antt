@@ -11,6 +11,8 @@ use lib.Dec.{eqb, ltb, leb}
 use lib.ListN.{length}
 use Rattle.words.specs.Limits.{operationsMost, namesMost, baseNameCount, fuelMost, workRate, coreRate, macrosMost}
 use Rattle.words.specs.Lists.{all, any}
+use Rattle.words.specs.TestLaws.{and-parts}
+use Rattle.words.specs.Each.{Each, noneOf, also}
 use Rattle.recipe.specs.Name.{Binding, Name, distinct}
 use Rattle.recipe.specs.Tree.{Tree, size, names, isName, elements, element, tail, onNames}
 use Rattle.recipe.specs.TreeLaws.{onNames-size}
@@ -21,14 +23,14 @@ use Rattle.expansion.specs.Forms.{expand}
 use Rattle.expansion.specs.Run.{accepted, turnedBack, Run, ended, require, operationNumbers, areOperations, expandRecipe, run}
 use Rattle.private_names.specs.Statement as S
 use Rattle.private_names.specs.Statement.{Choice, formAt, rulesAt, ruleAt, templateAt, isVariableAt, isOldItem, isNew, renamed, isReachedAt, isOwnedByCopy, quotesNoCopy, findsOwn, hypotheses, answerOf, PrivateNames}
-use Rattle.simulation.specs.Names.Shown.{Renaming, isCopy, ofCopy, Fine, AllFine, none-left, and}
+use Rattle.simulation.specs.Names.Shown.{Renaming, isCopy, ofCopy, Fine, AllFine}
 use Rattle.simulation.specs.Names.{Raw}
 use Rattle.simulation.specs.Terms.{TermRel, encode-rel}
 use Rattle.simulation.specs.States.{StateRel, no-macro}
 use Rattle.simulation.specs.Outcomes.{eventsOf, OutRel, dones, refusals, starvations}
 use Rattle.simulation.specs.Form.Scopes.{hasVariable}
-use Rattle.private_names.specs.Reach.{both-true, Unheaded, none-reached, expand-unreached}
-use Rattle.private_names.specs.Origins.{All, nil, cons, OwnName, of-look, of-quote, of-form, of-binding, expand-own}
+use Rattle.private_names.specs.Reach.{Unheaded, none-reached, expand-unreached}
+use Rattle.private_names.specs.OwnNames.{OwnName, of-look, of-quote, of-form, of-binding, run-own}
 use Rattle.private_names.specs.Tables.{TreeAll, Layout, layout-true, true-layout, layout-uses, tree-plain, tree-new, numberAt, tree-numbered, treeOf-renumber, count-renumber, layout-renumber, element-onNames}
 use Rattle.private_names.specs.Paths.{sub, Headed, find, headed-of-element, headed-part, uses-elements}
 use Rattle.private_names.specs.Before.{Joins, before-agree, still-eq}
@@ -107,13 +109,13 @@ module _ (C : ℕ → Bool) (shown : Events) (ρ : Renaming) (items : (i : ℕ) 
   event-fine q h of-form = tt
   event-fine q h (of-binding {b = b} {x = x} e) = owned-eq (some b) ∙ e ∙ sym (copy-eq x)
 
-  all-fine : (l : Events) → all (quotesNoCopy C) l ≡ true → all (findsOwn C shown) l ≡ true → All (OwnName C shown) l → AllFine ρ l
+  all-fine : (l : Events) → all (quotesNoCopy C) l ≡ true → all (findsOwn C shown) l ≡ true → Each (OwnName C shown) l → AllFine ρ l
   unfolding all
-  all-fine [] q h nil = none-left
-  all-fine (e ∷ l) q h (cons o a) =
-      let r = both-true (quotesNoCopy C e) (all (quotesNoCopy C) l) q in
-      let p = both-true (findsOwn C shown e) (all (findsOwn C shown) l) h in
-      and (event-fine (r .0) (p .0) o) (all-fine l (r .1) (p .1) a)
+  all-fine [] q h noneOf = noneOf
+  all-fine (e ∷ l) q h (also o a) =
+      let r = and-parts (quotesNoCopy C e) (all (quotesNoCopy C) l) q in
+      let p = and-parts (findsOwn C shown e) (all (findsOwn C shown) l) h in
+      also (event-fine (r .0) (p .0) o) (all-fine l (r .1) (p .1) a)
 
 -- ---- an expression and the renumbered one, from the start
 
@@ -140,20 +142,20 @@ module _ (ws : List ℕ) (c : Choice) (layout : Layout ws) (private : S.isPrivat
   old-free : (eqb (c .old) 6 ≡ false) × ((eqb (c .old) 7 ≡ false) × (isVariableAt T c (c .old) ≡ false))
   unfolding S.isPrivate
   old-free =
-      let a = both-true (any (λ x. eqb (x .number) (c .old)) (names (templateAt T c))) _ private in
-      let b = both-true (not (eqb (c .old) 6)) _ (a .1) in
-      let d = both-true (not (eqb (c .old) 7)) (not (isVariableAt T c (c .old))) (b .1) in
+      let a = and-parts (any (λ x. eqb (x .number) (c .old)) (names (templateAt T c))) _ private in
+      let b = and-parts (not (eqb (c .old) 6)) _ (a .1) in
+      let d = and-parts (not (eqb (c .old) 7)) (not (isVariableAt T c (c .old))) (b .1) in
       (not-true _ (b .0), (not-true _ (d .0), not-true _ (d .1)))
 
   some-private : (i : ℕ) × (isOldItem T c i ≡ true)
   unfolding S.isPrivate isOldItem isOld
-  some-private = old-some (c .old) (names (templateAt T c)) (both-true (any (λ x. eqb (x .number) (c .old)) (names (templateAt T c))) _ private .0)
+  some-private = old-some (c .old) (names (templateAt T c)) (and-parts (any (λ x. eqb (x .number) (c .old)) (names (templateAt T c))) _ private .0)
 
   new-large : (baseNameCount ≤ c .new) × (ltb (c .new) namesMost ≡ true)
   unfolding isNew
   new-large =
-      let a = both-true (not (ltb (c .new) baseNameCount)) _ new in
-      let b = both-true (ltb (c .new) namesMost) _ (a .1) in
+      let a = and-parts (not (ltb (c .new) baseNameCount)) _ new in
+      let b = and-parts (ltb (c .new) namesMost) _ (a .1) in
       (ltb-false (c .new) baseNameCount (not-true (ltb (c .new) baseNameCount) (a .0)), b .0)
 
   abbrev renaming : Renaming
@@ -241,6 +243,13 @@ renamed-is fuel f t e =
 firstOf : ℕ → List ℕ → Out (Term Name)
 firstOf fuel ws = expansionOf fuel (treeOf ws) (element 1 (treeOf ws))
 
+first-is : (ws : List ℕ) (fuel work core : ℕ) → Tested ws fuel work core → run ws fuel work core ≡ ended (firstOf fuel ws)
+unfolding firstOf
+first-is ws fuel work core t = tested-run ws fuel work core t ∙ ap ended (recipe-is fuel (treeOf ws))
+
+first-events : (ws : List ℕ) (fuel work core : ℕ) → Tested ws fuel work core → run ws fuel work core .events ≡ eventsOf (firstOf fuel ws)
+first-events ws fuel work core t = ap (λ z. z .events) (first-is ws fuel work core t) ∙ ended-events (firstOf fuel ws)
+
 -- the hypotheses, of that expansion
 record Case (ws : List ℕ) (fuel work core : ℕ) (c : Choice) : Type 0 where
   tested : Tested ws fuel work core
@@ -257,11 +266,11 @@ module _ (ws : List ℕ) (fuel work core : ℕ) (c : Choice) (k : Case ws fuel w
   abbrev ρ : Renaming
   ρ = renaming ws c layout (k .private) (k .new) (eventsOf (firstOf fuel ws))
 
+  own-names : Each (OwnName (isOldItem (treeOf ws) c) (eventsOf (firstOf fuel ws))) (eventsOf (firstOf fuel ws))
+  own-names = subst (λ l. Each (OwnName (isOldItem (treeOf ws) c) l) l) (first-events ws fuel work core (k .tested)) (run-own (isOldItem (treeOf ws) c) ws fuel work core)
+
   fine : AllFine ρ (eventsOf (firstOf fuel ws))
-  unfolding firstOf expansionOf
-  fine =
-      all-fine (isOldItem (treeOf ws) c) (eventsOf (firstOf fuel ws)) ρ (λ i. refl) (λ b. refl) (eventsOf (firstOf fuel ws)) (k .unquoted) (k .own)
-      (expand-own (isOldItem (treeOf ws) c) macrosMost (operationNumbers (treeOf ws)) fuel (size (treeOf ws) + fuel) (element 1 (treeOf ws)) start)
+  fine = all-fine (isOldItem (treeOf ws) c) (eventsOf (firstOf fuel ws)) ρ (λ i. refl) (λ b. refl) (eventsOf (firstOf fuel ws)) (k .unquoted) (k .own) own-names
 
   -- where the form lies at l
   module _ (l : List ℕ) (i : Headed (c .form) l (element 1 (treeOf ws))) where
@@ -290,12 +299,8 @@ module _ (ws : List ℕ) (fuel work core : ℕ) (c : Choice) (k : Case ws fuel w
         ∙ ap (λ t. ended (expandRecipe fuel t)) (treeOf-renumber (isOldItem (treeOf ws) c) (c .new) ws)
         ∙ ap ended (renamed-is fuel (renew ρ) (treeOf ws) same)
 
-    first-is : run ws fuel work core ≡ ended (firstOf fuel ws)
-    unfolding firstOf
-    first-is = tested-run ws fuel work core (k .tested) ∙ ap ended (recipe-is fuel (treeOf ws))
-
     answers : answerOf (run (renamed ws c) fuel work core) ≡ answerOf (run ws fuel work core)
-    answers = ap answerOf second-is ∙ ended-answer ρ (joins .raw) (joins .outcomes) ∙ sym (ap answerOf first-is)
+    answers = ap answerOf second-is ∙ ended-answer ρ (joins .raw) (joins .outcomes) ∙ sym (ap answerOf (first-is ws fuel work core (k .tested)))
 
   -- the form lies somewhere, since the run comes to it
   located : Unheaded (c .form) (element 1 (treeOf ws)) ⊎ ((l : List ℕ) × Headed (c .form) l (element 1 (treeOf ws))) → answerOf (run (renamed ws c) fuel work core) ≡ answerOf (run ws fuel work core)
@@ -310,14 +315,13 @@ pub private-names : PrivateNames
 unfolding PrivateNames hypotheses all firstOf
 private-names ws fuel work core c h =
     let r = run ws fuel work core in
-    let a = both-true (any (isReachedAt (c .form)) (r .events)) _ h in
-    let b = both-true (S.isPrivate (treeOf ws) c) _ (a .1) in
-    let d = both-true (isNew ws (c .new)) _ (b .1) in
-    let q = both-true (all (quotesNoCopy (isOldItem (treeOf ws) c)) (r .events)) _ (d .1) in
-    let o = both-true (all (findsOwn (isOldItem (treeOf ws) c) (r .events)) (r .events)) true (q .1) in
+    let a = and-parts (any (isReachedAt (c .form)) (r .events)) _ h in
+    let b = and-parts (S.isPrivate (treeOf ws) c) _ (a .1) in
+    let d = and-parts (isNew ws (c .new)) _ (b .1) in
+    let q = and-parts (all (quotesNoCopy (isOldItem (treeOf ws) c)) (r .events)) _ (d .1) in
+    let o = and-parts (all (findsOwn (isOldItem (treeOf ws) c) (r .events)) (r .events)) true (q .1) in
     let tested = run-tested ws fuel work core (isReachedAt (c .form)) (a .0) in
-    let events : r .events ≡ eventsOf (firstOf fuel ws) =
-    ap (λ z. z .events) (tested-run ws fuel work core tested) ∙ ended-events (expandRecipe fuel (treeOf ws)) ∙ ap eventsOf (recipe-is fuel (treeOf ws)) in
+    let events = first-events ws fuel work core tested in
     let k : Case ws fuel work core c = record {
       tested = tested;
       reaches = subst (λ l. any (isReachedAt (c .form)) l ≡ true) events (a .0);

@@ -7,12 +7,12 @@ use Prim.Native.Nat.{ℕ, zero, suc, _+_, _≤_}
 use native.Mathlib.Omega.{arith}
 use lib.Dec.{eqb}
 use Rattle.words.specs.Lists.{any}
+use Rattle.words.specs.TestLaws.{and-right, any-append}
 use Rattle.recipe.specs.Name.{Binding, Name, same, giveBinding, bindName}
 use Rattle.recipe.specs.Tree.{Tree, empty, constant, name, pair, onName, elements, element, onNames, bind, bindAll}
 use Rattle.simulation.specs.Shapes.{TreeOf, element-rel}
 use Rattle.simulation.specs.Form.Holes.{Hole, first, later}
 use Rattle.private_names.specs.Reach.{isAt, isNameAt, Unheaded, empty₁, constant₁, name₁, pair₁, UnheadedAll, empty₂, constant₂, name₂, pair₂, isAt-bind}
-use Rattle.private_names.specs.Reach.{any-append}
 use Rattle.private_names.specs.Statement.{parts, firstWith, hasHead}
 use Rattle.private_names.specs.Tables.{uses}
 
@@ -92,11 +92,7 @@ module _ (p : ℕ) where
 
   pub isAt-item : (x : Name) → isAt p x ≡ true → eqb (x .item) p ≡ true
   unfolding isAt
-  isAt-item x e = go (not (x .produced)) (eqb (x .item) p) e
-    where
-      go : (a b : Bool) → (a && b) ≡ true → b ≡ true
-      go true b e = e
-      go false b e = absurd (false≢true e)
+  isAt-item x e = and-right (not (x .produced)) (eqb (x .item) p) e
 
   pub headed-uses : {l : List ℕ} {t : Tree} → Headed l t → 1 ≤ uses p t
   unfolding uses

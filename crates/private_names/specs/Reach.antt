@@ -1,13 +1,14 @@
 -- What a computation reaches outside results stems from the tree at hand: where no list of an expression is headed by the unproduced name
 -- of item p, its expansion shows no form reached by that name.
-use mathlib.Core.Path.{_≡_, refl, ap, ap₂, _∙_}
-use mathlib.Core.Bool.{Bool, true, false, not, _&&_, _||_, cond, false≢true}
-use mathlib.Core.List.{List, [], _∷_, _++_, map}
+use mathlib.Core.Path.{_≡_, refl, ap, _∙_}
+use mathlib.Core.Bool.{Bool, true, false, not, _&&_, _||_, cond}
+use mathlib.Core.List.{List, [], _∷_, map}
 use mathlib.Core.Option.{Option, none, some}
 use Prim.Native.Nat.{ℕ, zero, suc}
 use lib.Dec.{eqb}
 use lib.ListN.{length, getD}
 use Rattle.words.specs.Lists.{any}
+use Rattle.words.specs.TestLaws.{or-none, any-append}
 use Rattle.datum.specs.Constant.{Constant}
 use Rattle.recipe.specs.Name.{Binding, variable, macro, Name, same, produceName, giveBinding, bindName}
 use Rattle.recipe.specs.Tree.{Tree, empty, constant, name, pair, names, onName, onPair, elements, element, tail, onNames, mark, produce, bind, bindAll}
@@ -19,22 +20,6 @@ use Rattle.expansion.specs.Computation.{State, looked, quoted, Events, Out, don
 use Rattle.expansion.specs.Forms.{formals, keywords, bindings, readRules, expandAll, expandQuote, expandIf, expandLambda, expandMacros, expandUse, expandOperands, expandList, expandName, expandApplication, expandPair, expandTree, expand}
 use Rattle.private_names.specs.Statement.{isReachedAt}
 use Rattle.simulation.specs.Outcomes.{eventsOf, events-after}
-
-pub any-append : {A : Type 0} (f : A → Bool) (xs ys : List A) → any f (xs ++ ys) ≡ (any f xs || any f ys)
-unfolding any
-any-append f [] ys = refl
-any-append f (x ∷ xs) ys = go (f x) (any-append f xs ys)
-  where
-    go : (b : Bool) → any f (xs ++ ys) ≡ (any f xs || any f ys) → (b || any f (xs ++ ys)) ≡ ((b || any f xs) || any f ys)
-    go true e = refl
-    go false e = e
-
-pub both-true : (a b : Bool) → (a && b) ≡ true → (a ≡ true) × (b ≡ true)
-both-true true b e = (refl, e)
-both-true false b e = absurd (false≢true e)
-
-pub neither : (a b : Bool) → a ≡ false → b ≡ false → (a || b) ≡ false
-neither a b e f = ap₂ _||_ e f
 
 module _ (p : ℕ) where
   -- the unproduced name of item p
@@ -139,7 +124,7 @@ module _ (p : ℕ) where
   module _ {A : Type 0} where
     pub after-unreached : (l : Events) (o : Out A) → any (isReachedAt p) l ≡ false → Unreached o → Unreached (after l o)
     after-unreached l o e (unreached f) =
-        unreached (ap (any (isReachedAt p)) (events-after l o) ∙ any-append (isReachedAt p) l (eventsOf o) ∙ neither _ _ e f)
+        unreached (ap (any (isReachedAt p)) (events-after l o) ∙ any-append (isReachedAt p) l (eventsOf o) ∙ or-none _ _ e f)
 
     pub give-unreached : (a : A) (s : State) → Unreached (give a s)
     unfolding give eventsOf any

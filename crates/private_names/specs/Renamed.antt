@@ -1,6 +1,6 @@
 -- The recipe's expression and the renumbered one differ in one place, the chosen template: `renamed-hole`.
 use mathlib.Core.Path.{_≡_, refl, ap, ap₂, sym, _∙_, subst}
-use mathlib.Core.Bool.{Bool, true, false, _&&_, _||_, cond, true≢false, false≢true}
+use mathlib.Core.Bool.{Bool, true, false, _&&_, _||_, cond, false≢true}
 use mathlib.Core.List.{List, [], _∷_, _++_}
 use mathlib.Core.Option.{none}
 use Prim.Native.Nat.{ℕ, zero, suc, _+_, _≤_}
@@ -8,6 +8,7 @@ use native.Mathlib.Omega.{arith}
 use borrow.Author.Tests.{eqb-true, eq-eqb}
 use lib.Dec.{eqb}
 use Rattle.words.specs.Lists.{any}
+use Rattle.words.specs.TestLaws.{or-left, or-right, any-append}
 use Rattle.recipe.specs.Name.{Name, plainName, isEllipsis}
 use Rattle.recipe.specs.Tree.{Tree, empty, constant, name, pair, names, onPair, elements, element, tail, onNames}
 use Rattle.expansion.specs.Rules.{variables, isVariable, depthBefore}
@@ -17,7 +18,6 @@ use Rattle.simulation.specs.Names.Shown.{Renaming}
 use Rattle.simulation.specs.Form.Holes.{Hole, here, first, later}
 use Rattle.simulation.specs.Form.Scopes.{Scope, Placed, hasVariable}
 use Rattle.simulation.specs.Form.Places.{Still, Turning, InTemplate, stays, turns, ChosenRules}
-use Rattle.private_names.specs.Reach.{any-append}
 use Rattle.private_names.specs.Tables.{TreeAll, all-empty, all-constant, all-name, all-pair, uses, Plain, renumberName}
 use Rattle.private_names.specs.Paths.{sub, uses-element}
 
@@ -69,17 +69,6 @@ element-tail k (pair h t) = refl
 
 -- ---- the items of the private name
 
-or-either : (a b : Bool) → (a || b) ≡ true → (a ≡ false → b ≡ true)
-or-either true b e f = absurd (true≢false f)
-or-either false b e f = e
-
-or-first : (a b : Bool) → a ≡ true → (a || b) ≡ true
-or-first a b e = ap (λ c. c || b) e
-
-or-second : (a b : Bool) → b ≡ true → (a || b) ≡ true
-or-second true b e = refl
-or-second false b e = e
-
 module _ (o : ℕ) where
   -- a name of the old number that stems from item i
   unfoldable pub isOld : ℕ → Name → Bool
@@ -126,8 +115,8 @@ module _ (o : ℕ) where
   old-each (constant a) = all-constant
   old-each (name x) = all-name (λ e. ap₂ (λ a b. (a && b) || false) e (eq-eqb (x .item) (x .item) refl))
   old-each (pair h t) = all-pair
-      (treeAll-map (λ x f e. any-append (isOld (x .item)) (names h) (names t) ∙ or-first _ _ (f e)) (old-each h))
-      (treeAll-map (λ x f e. any-append (isOld (x .item)) (names h) (names t) ∙ or-second (any (isOld (x .item)) (names h)) _ (f e)) (old-each t))
+      (treeAll-map (λ x f e. any-append (isOld (x .item)) (names h) (names t) ∙ or-left _ _ (f e)) (old-each h))
+      (treeAll-map (λ x f e. any-append (isOld (x .item)) (names h) (names t) ∙ or-right (any (isOld (x .item)) (names h)) _ (f e)) (old-each t))
 
   -- there is one, where a name has the old number
   pub old-some : (xs : List Name) → any (λ x. eqb (x .number) o) xs ≡ true → (i : ℕ) × (any (isOld i) xs ≡ true)
@@ -137,8 +126,8 @@ module _ (o : ℕ) where
     where
       go : (b : Bool) → eqb (x .number) o ≡ b → (b || any (λ x. eqb (x .number) o) xs) ≡ true → (any (λ x. eqb (x .number) o) xs ≡ true → (i : ℕ) × (any (isOld i) xs ≡ true))
           → (i : ℕ) × (any (isOld i) (x ∷ xs) ≡ true)
-      go true d e h = (x .item, or-first (isOld (x .item) x) (any (isOld (x .item)) xs) (ap₂ _&&_ d (eq-eqb (x .item) (x .item) refl)))
-      go false d e h = let w = h e in (w .0, or-second (isOld (w .0) x) (any (isOld (w .0)) xs) (w .1))
+      go true d e h = (x .item, or-left (isOld (x .item) x) (any (isOld (x .item)) xs) (ap₂ _&&_ d (eq-eqb (x .item) (x .item) refl)))
+      go false d e h = let w = h e in (w .0, or-right (isOld (w .0) x) (any (isOld (w .0)) xs) (w .1))
 
 -- ---- no variable has a number that no name has
 

@@ -10,13 +10,13 @@ use lib.Dec.{eqb, ltb, leb}
 use lib.ListN.{length, getD}
 use Rattle.words.specs.Limits.{namesMost, baseNameCount, itemsLeast, itemsMost}
 use Rattle.words.specs.Lists.{within, all}
+use Rattle.words.specs.TestLaws.{and-parts}
+use Rattle.words.specs.Each.{Each, noneOf, also}
 use Rattle.datum.specs.Constant.{Constant, isConstant}
 use Rattle.recipe.specs.Name.{Name, plainName}
 use Rattle.recipe.specs.Tree.{Tree, empty, constant, name, pair, onEmpty, onPair, isList, isListOf, elements, element, onNames}
 use Rattle.recipe.specs.Table.{Item, items, byKind, constantOf, references, occurrences, kindAt, isPairItem, isItem, isReferredOnce, trees, treeOf, itemCount, isLayout}
 use Rattle.private_names.specs.Statement.{isNew, renumber}
-use Rattle.private_names.specs.Reach.{both-true}
-use Rattle.private_names.specs.Origins.{All, nil, cons}
 
 -- ---- names of a tree
 
@@ -107,10 +107,10 @@ trees-step x xs = refl
 abbrev pub Upward : Item → Type 0
 Upward x = eqb (x .kind) 4 ≡ true → (x .place < x .first) × (x .place < x .second)
 
-getD-all : {A : Type 0} (P : A → Type 0) (d : A) → P d → {xs : List A} → All P xs → (k : ℕ) → P (getD xs k d)
-getD-all P d p nil k = p
-getD-all P d p (cons q qs) zero = q
-getD-all P d p (cons q qs) (suc k) = getD-all P d p qs k
+getD-all : {A : Type 0} (P : A → Type 0) (d : A) → P d → {xs : List A} → Each P xs → (k : ℕ) → P (getD xs k d)
+getD-all P d p noneOf k = p
+getD-all P d p (also q qs) zero = q
+getD-all P d p (also q qs) (suc k) = getD-all P d p qs k
 
 -- no item of this list refers to k
 unreferred : List Item → ℕ → Bool
@@ -147,14 +147,14 @@ module _ (q : ℕ) where
           let d : i ≡ a = eqb-true i a f in
           let z : a - i ≡ 0 = omega arith in
           let r : ρ i ≡ true = ap ρ d ∙ e in
-          rw (z, f, r) (omega (arith, total-mono (suc i) (minus ρ a) ρ ts (λ k g. both-true (ρ k) (not (eqb k a)) g .0)))
+          rw (z, f, r) (omega (arith, total-mono (suc i) (minus ρ a) ρ ts (λ k g. and-parts (ρ k) (not (eqb k a)) g .0)))
       go false f ih =
           let l : suc i ≤ a = omega (arith, eqb-false i a f) in
           let z : a - i ≡ suc (a - suc i) = omega arith in
-          rw z (omega (arith, ih l, cond-mono (minus ρ a i) (ρ i) (uses q t) (λ g. both-true (ρ i) (not (eqb i a)) g .0)))
+          rw z (omega (arith, ih l, cond-mono (minus ρ a i) (ρ i) (uses q t) (λ g. and-parts (ρ i) (not (eqb i a)) g .0)))
 
   -- an item's tree has the item's own name, or the names of later trees
-  shape-older : (x : Item) (later : List Tree) → (x .place ≡ q → ⊥) → All (λ t. uses q t ≡ 0) later → {t : Tree} → Shape x later t → uses q t ≡ 0
+  shape-older : (x : Item) (later : List Tree) → (x .place ≡ q → ⊥) → Each (λ t. uses q t ≡ 0) later → {t : Tree} → Shape x later t → uses q t ≡ 0
   unfolding uses plainName
   shape-older x later h a of-empty = refl
   shape-older x later h a of-constant = refl
@@ -162,17 +162,17 @@ module _ (q : ℕ) where
   shape-older x later h a (of-pair e) =
       ap₂ _+_ (getD-all (λ t. uses q t ≡ 0) empty refl a (x .first - suc (x .place))) (getD-all (λ t. uses q t ≡ 0) empty refl a (x .second - suc (x .place)))
 
-  older : {i : ℕ} {xs : List Item} → Placed i xs → q < i → All (λ t. uses q t ≡ 0) (trees xs)
+  older : {i : ℕ} {xs : List Item} → Placed i xs → q < i → Each (λ t. uses q t ≡ 0) (trees xs)
   unfolding trees
-  older no-items h = nil
+  older no-items h = noneOf
   older (items-from {x = x} {xs = xs} e p) h =
       let later = older p (omega arith) in
-      subst (All (λ t. uses q t ≡ 0)) (sym (trees-step x xs)) (cons (shape-older x (trees xs) (omega arith) later (treeAt-shape x (trees xs))) later)
+      subst (Each (λ t. uses q t ≡ 0)) (sym (trees-step x xs)) (also (shape-older x (trees xs) (omega arith) later (treeAt-shape x (trees xs))) later)
 
-  total-zero : (i : ℕ) (ρ : ℕ → Bool) {ts : List Tree} → All (λ t. uses q t ≡ 0) ts → total i ρ ts ≡ 0
+  total-zero : (i : ℕ) (ρ : ℕ → Bool) {ts : List Tree} → Each (λ t. uses q t ≡ 0) ts → total i ρ ts ≡ 0
   unfolding total
-  total-zero i ρ nil = refl
-  total-zero i ρ (cons {x = t} {xs = ts} e a) = go (ρ i) ∙ omega (arith, total-zero (suc i) ρ a)
+  total-zero i ρ noneOf = refl
+  total-zero i ρ (also {x = t} {xs = ts} e a) = go (ρ i) ∙ omega (arith, total-zero (suc i) ρ a)
     where
       go : (b : Bool) → cond b (uses q t) 0 + total (suc i) ρ ts ≡ 0 + total (suc i) ρ ts
       go true = ap (λ k. k + total (suc i) ρ ts) e
@@ -247,10 +247,10 @@ module _ (q : ℕ) where
       second-apart =
           ap₂ (λ a b. a && not b) second-once (ne-eqb (x .second) (x .first) (λ d. eqb-false (x .first) (x .second) (first-once .1) (sym d)))
 
-  unreferred-once : (i : ℕ) (xs : List Item) → Placed i xs → All Upward xs → ((k : ℕ) → occurrences k (references xs) ≤ 1) → total i (unreferred xs) (trees xs) ≤ 1
+  unreferred-once : (i : ℕ) (xs : List Item) → Placed i xs → Each Upward xs → ((k : ℕ) → occurrences k (references xs) ≤ 1) → total i (unreferred xs) (trees xs) ≤ 1
   unfolding trees total uses plainName
   unreferred-once i _ no-items u once = omega arith
-  unreferred-once i _ (items-from {x = x} {xs = xs} e p) (cons up u) once =
+  unreferred-once i _ (items-from {x = x} {xs = xs} e p) (also up u) once =
       let ih = unreferred-once (suc i) xs p u (λ k. omega (arith, once k, occurrences-grow k x xs)) in
       subst (λ ts. total i (unreferred (x ∷ xs)) ts ≤ 1) (sym (trees-step x xs)) (omega (arith, go (treeAt-shape x (trees xs)) ih, only (unreferred (x ∷ xs) i) (uses q (treeAt x (trees xs)))))
     where
@@ -287,37 +287,37 @@ module _ (q : ℕ) where
 
 -- ---- a table of the layout
 
-all-All : {A : Type 0} (f : A → Bool) (xs : List A) → all f xs ≡ true → All (λ x. f x ≡ true) xs
+all-All : {A : Type 0} (f : A → Bool) (xs : List A) → all f xs ≡ true → Each (λ x. f x ≡ true) xs
 unfolding all
-all-All f [] e = nil
-all-All f (x ∷ xs) e = let p = both-true (f x) (all f xs) e in cons (p .0) (all-All f xs (p .1))
+all-All f [] e = noneOf
+all-All f (x ∷ xs) e = let p = and-parts (f x) (all f xs) e in also (p .0) (all-All f xs (p .1))
 
-All-all : {A : Type 0} (f : A → Bool) {xs : List A} → All (λ x. f x ≡ true) xs → all f xs ≡ true
+All-all : {A : Type 0} (f : A → Bool) {xs : List A} → Each (λ x. f x ≡ true) xs → all f xs ≡ true
 unfolding all
-All-all f nil = refl
-All-all f (cons p ps) = ap₂ _&&_ p (All-all f ps)
+All-all f noneOf = refl
+All-all f (also p ps) = ap₂ _&&_ p (All-all f ps)
 
-All-map : {A : Type 0} {P Q : A → Type 0} → ((x : A) → P x → Q x) → {xs : List A} → All P xs → All Q xs
-All-map h nil = nil
-All-map h (cons p ps) = cons (h _ p) (All-map h ps)
+All-map : {A : Type 0} {P Q : A → Type 0} → ((x : A) → P x → Q x) → {xs : List A} → Each P xs → Each Q xs
+All-map h noneOf = noneOf
+All-map h (also p ps) = also (h _ p) (All-map h ps)
 
 -- what ground 7 tests
 pub record Layout (ws : List ℕ) : Type 0 where
   pub whole : length ws ≡ 3 * itemCount ws
   pub count : within itemsLeast itemsMost (itemCount ws) ≡ true
-  pub each : All (λ x. isItem ws (itemCount ws) x ≡ true) (items 0 ws)
-  pub once : All (λ x. isReferredOnce (references (items 0 ws)) x ≡ true) (items 0 ws)
+  pub each : Each (λ x. isItem ws (itemCount ws) x ≡ true) (items 0 ws)
+  pub once : Each (λ x. isReferredOnce (references (items 0 ws)) x ≡ true) (items 0 ws)
   pub two : isListOf 2 (treeOf ws) ≡ true
   pub list : isList (element 0 (treeOf ws)) ≡ true
 
 pub layout-true : (ws : List ℕ) → isLayout ws ≡ true → Layout ws
 unfolding isLayout
 layout-true ws e =
-    let a = both-true (eqb (length ws) (3 * itemCount ws)) _ e in
-    let b = both-true (within itemsLeast itemsMost (itemCount ws)) _ (a .1) in
-    let c = both-true (all (isItem ws (itemCount ws)) (items 0 ws)) _ (b .1) in
-    let d = both-true (all (isReferredOnce (references (items 0 ws))) (items 0 ws)) _ (c .1) in
-    let f = both-true (isListOf 2 (treeOf ws)) _ (d .1) in
+    let a = and-parts (eqb (length ws) (3 * itemCount ws)) _ e in
+    let b = and-parts (within itemsLeast itemsMost (itemCount ws)) _ (a .1) in
+    let c = and-parts (all (isItem ws (itemCount ws)) (items 0 ws)) _ (b .1) in
+    let d = and-parts (all (isReferredOnce (references (items 0 ws))) (items 0 ws)) _ (c .1) in
+    let f = and-parts (isListOf 2 (treeOf ws)) _ (d .1) in
     record { whole = eqb-true (length ws) (3 * itemCount ws) (a .0); count = b .0; each = all-All _ _ (c .0); once = all-All _ _ (d .0); two = f .0; list = f .1 }
 
 pub true-layout : (ws : List ℕ) → Layout ws → isLayout ws ≡ true
@@ -341,10 +341,10 @@ unfolding isItem byKind isPairItem within
 item-inside ws n x h e k =
     let d : x .kind ≡ 4 = eqb-true (x .kind) 4 k in
     let p : isPairItem ws n x ≡ true = rw d at e in
-    let a = both-true (leb (suc (x .place)) (x .first) && leb (x .first) (n - 1)) _ p in
-    let b = both-true (leb (suc (x .place)) (x .first)) (leb (x .first) (n - 1)) (a .0) in
-    let c = both-true (leb (suc (x .place)) (x .second) && leb (x .second) (n - 1)) _ (a .1) in
-    let f = both-true (leb (suc (x .place)) (x .second)) (leb (x .second) (n - 1)) (c .0) in
+    let a = and-parts (leb (suc (x .place)) (x .first) && leb (x .first) (n - 1)) _ p in
+    let b = and-parts (leb (suc (x .place)) (x .first)) (leb (x .first) (n - 1)) (a .0) in
+    let c = and-parts (leb (suc (x .place)) (x .second) && leb (x .second) (n - 1)) _ (a .1) in
+    let f = and-parts (leb (suc (x .place)) (x .second)) (leb (x .second) (n - 1)) (c .0) in
     record {
       first-up = leb-true _ _ (b .0);
       first-in = omega (arith, leb-true (x .first) (n - 1) (b .1));
@@ -353,20 +353,20 @@ item-inside ws n x h e k =
     }
 
 -- a place that no pair refers to
-not-referred : (k : ℕ) {xs : List Item} → All (λ x. eqb (x .kind) 4 ≡ true → (k ≡ x .first → ⊥) × (k ≡ x .second → ⊥)) xs → occurrences k (references xs) ≡ 0
+not-referred : (k : ℕ) {xs : List Item} → Each (λ x. eqb (x .kind) 4 ≡ true → (k ≡ x .first → ⊥) × (k ≡ x .second → ⊥)) xs → occurrences k (references xs) ≡ 0
 unfolding references occurrences
-not-referred k nil = refl
-not-referred k (cons {x = x} {xs = xs} h a) = go (eqb (x .kind) 4) refl (not-referred k a)
+not-referred k noneOf = refl
+not-referred k (also {x = x} {xs = xs} h a) = go (eqb (x .kind) 4) refl (not-referred k a)
   where
     go : (b : Bool) → eqb (x .kind) 4 ≡ b → occurrences k (references xs) ≡ 0 → occurrences k (cond b (x .first ∷ x .second ∷ references xs) (references xs)) ≡ 0
     go true e d = rw (ne-eqb k (x .first) (h e .0), ne-eqb k (x .second) (h e .1)) d
     go false e d = d
 
 -- a place of the table but 0 is referred to once
-place-once : (refs : List ℕ) (k i : ℕ) {xs : List Item} → Placed i xs → All (λ x. isReferredOnce refs x ≡ true) xs → i ≤ k → k < i + length xs → (k ≡ 0 → ⊥) → occurrences k refs ≡ 1
+place-once : (refs : List ℕ) (k i : ℕ) {xs : List Item} → Placed i xs → Each (λ x. isReferredOnce refs x ≡ true) xs → i ≤ k → k < i + length xs → (k ≡ 0 → ⊥) → occurrences k refs ≡ 1
 unfolding isReferredOnce
 place-once refs k i no-items a h l z = absurd (omega arith)
-place-once refs k i (items-from {x = x} {xs = xs} e p) (cons q a) h l z = go (eqb i k) refl (λ m. place-once refs k (suc i) p a m (omega arith) z)
+place-once refs k i (items-from {x = x} {xs = xs} e p) (also q a) h l z = go (eqb i k) refl (λ m. place-once refs k (suc i) p a m (omega arith) z)
   where
     this : (b : Bool) → x .place ≡ k → eqb (x .place) 0 ≡ b → (b || eqb (occurrences (x .place) refs) 1) ≡ true → occurrences k refs ≡ 1
     this true d f g = absurd (z (omega (arith, eqb-true (x .place) 0 f)))
@@ -379,9 +379,9 @@ place-once refs k i (items-from {x = x} {xs = xs} e p) (cons q a) h l z = go (eq
 module _ (ws : List ℕ) (l : Layout ws) where
   layout-some : 1 ≤ itemCount ws
   unfolding within
-  layout-some = omega (arith, leb-true itemsLeast (itemCount ws) (both-true (leb itemsLeast (itemCount ws)) _ (l .count) .0))
+  layout-some = omega (arith, leb-true itemsLeast (itemCount ws) (and-parts (leb itemsLeast (itemCount ws)) _ (l .count) .0))
 
-  layout-inside : All (λ x. eqb (x .kind) 4 ≡ true → Inside (itemCount ws) x) (items 0 ws)
+  layout-inside : Each (λ x. eqb (x .kind) 4 ≡ true → Inside (itemCount ws) x) (items 0 ws)
   layout-inside = All-map (λ x e. item-inside ws (itemCount ws) x layout-some e) (l .each)
 
   -- every place is referred to at most once
@@ -417,22 +417,22 @@ module _ (ws : List ℕ) (l : Layout ws) where
 -- ---- every name is as its item holds it
 
 module _ (P : Name → Type 0) where
-  shape-all : (x : Item) (later : List Tree) → (eqb (x .kind) 3 ≡ true → P (plainName (x .first) (x .place))) → All (TreeAll P) later → {t : Tree} → Shape x later t → TreeAll P t
+  shape-all : (x : Item) (later : List Tree) → (eqb (x .kind) 3 ≡ true → P (plainName (x .first) (x .place))) → Each (TreeAll P) later → {t : Tree} → Shape x later t → TreeAll P t
   shape-all x later h a of-empty = all-empty
   shape-all x later h a of-constant = all-constant
   shape-all x later h a (of-name e) = all-name (h e)
   shape-all x later h a (of-pair e) =
       all-pair (getD-all (TreeAll P) empty all-empty a (x .first - suc (x .place))) (getD-all (TreeAll P) empty all-empty a (x .second - suc (x .place)))
 
-  trees-all : {xs : List Item} → All (λ x. eqb (x .kind) 3 ≡ true → P (plainName (x .first) (x .place))) xs → All (TreeAll P) (trees xs)
+  trees-all : {xs : List Item} → Each (λ x. eqb (x .kind) 3 ≡ true → P (plainName (x .first) (x .place))) xs → Each (TreeAll P) (trees xs)
   unfolding trees
-  trees-all nil = nil
-  trees-all (cons {x = x} {xs = xs} h a) =
+  trees-all noneOf = noneOf
+  trees-all (also {x = x} {xs = xs} h a) =
       let later = trees-all a in
-      subst (All (TreeAll P)) (sym (trees-step x xs)) (cons (shape-all x (trees xs) h later (treeAt-shape x (trees xs))) later)
+      subst (Each (TreeAll P)) (sym (trees-step x xs)) (also (shape-all x (trees xs) h later (treeAt-shape x (trees xs))) later)
 
   -- what holds of the name of each name item holds of every name of the tree
-  tree-all : (ws : List ℕ) → All (λ x. eqb (x .kind) 3 ≡ true → P (plainName (x .first) (x .place))) (items 0 ws) → TreeAll P (treeOf ws)
+  tree-all : (ws : List ℕ) → Each (λ x. eqb (x .kind) 3 ≡ true → P (plainName (x .first) (x .place))) (items 0 ws) → TreeAll P (treeOf ws)
   unfolding treeOf
   tree-all ws a = getD-all (TreeAll P) empty all-empty (trees-all a) 0
 
@@ -440,9 +440,9 @@ module _ (P : Name → Type 0) where
 abbrev pub Plain : Name → Type 0
 Plain x = x ≡ plainName (x .number) (x .item)
 
-each-item : {P : Item → Type 0} → ((x : Item) → P x) → (xs : List Item) → All P xs
-each-item h [] = nil
-each-item h (x ∷ xs) = cons (h x) (each-item h xs)
+each-item : {P : Item → Type 0} → ((x : Item) → P x) → (xs : List Item) → Each P xs
+each-item h [] = noneOf
+each-item h (x ∷ xs) = also (h x) (each-item h xs)
 
 pub tree-plain : (ws : List ℕ) → TreeAll Plain (treeOf ws)
 unfolding plainName
@@ -452,8 +452,8 @@ tree-plain ws = tree-all Plain ws (each-item (λ x e. refl) (items 0 ws))
 pub tree-new : (ws : List ℕ) (n : ℕ) → isNew ws n ≡ true → TreeAll (λ x. eqb (x .number) n ≡ false) (treeOf ws)
 unfolding isNew plainName
 tree-new ws n e =
-    let a = both-true (not (ltb n baseNameCount)) _ e in
-    let b = both-true (ltb n namesMost) _ (a .1) in
+    let a = and-parts (not (ltb n baseNameCount)) _ e in
+    let b = and-parts (ltb n namesMost) _ (a .1) in
     tree-all (λ x. eqb (x .number) n ≡ false) ws (All-map (λ x h d. go (eqb (x .kind) 3) (eqb (x .first) n) d h) (all-All _ _ (b .1)))
   where
     go : (b c : Bool) → b ≡ true → not (b && c) ≡ true → c ≡ false
@@ -465,10 +465,10 @@ tree-new ws n e =
 unfoldable pub numberAt : List ℕ → ℕ → ℕ
 numberAt ws i = getD (map (λ x. x .first) (items 0 ws)) i 0
 
-items-numbered : (i : ℕ) {xs : List Item} → Placed i xs → All (λ x. (i ≤ x .place) × (x .first ≡ getD (map (λ y. y .first) xs) (x .place - i) 0)) xs
-items-numbered i no-items = nil
+items-numbered : (i : ℕ) {xs : List Item} → Placed i xs → Each (λ x. (i ≤ x .place) × (x .first ≡ getD (map (λ y. y .first) xs) (x .place - i) 0)) xs
+items-numbered i no-items = noneOf
 items-numbered i (items-from {x = x} {xs = xs} e p) =
-    cons {x = x} (omega arith, here (x .place - i) (omega arith)) (All-map later (items-numbered (suc i) p))
+    also {x = x} (omega arith, here (x .place - i) (omega arith)) (All-map later (items-numbered (suc i) p))
   where
     here : (k : ℕ) → k ≡ 0 → x .first ≡ getD (map (λ y. y .first) (x ∷ xs)) k 0
     here k d = rw d
@@ -579,9 +579,9 @@ module _ (C : ℕ → Bool) (n : ℕ) where
       go true e = let d : eqb (x .kind) 3 ≡ false = ne-eqb (x .kind) 3 (omega (arith, eqb-true (x .kind) 4 e)) in rw d
       go false e = refl
 
-  All-renumber : {P Q : Item → Type 0} → ((x : Item) → P x → Q (renumberItem x)) → {xs : List Item} → All P xs → All Q (map renumberItem xs)
-  All-renumber h nil = nil
-  All-renumber h (cons p ps) = cons (h _ p) (All-renumber h ps)
+  All-renumber : {P Q : Item → Type 0} → ((x : Item) → P x → Q (renumberItem x)) → {xs : List Item} → Each P xs → Each Q (map renumberItem xs)
+  All-renumber h noneOf = noneOf
+  All-renumber h (also p ps) = also (h _ p) (All-renumber h ps)
 
   kinds-renumber : (ws : List ℕ) (j : ℕ) → kindAt (renumber C n 0 ws) j ≡ kindAt ws j
   unfolding kindAt
@@ -595,7 +595,7 @@ module _ (C : ℕ → Bool) (n : ℕ) where
       number b = cond (b && C (x .place)) n (x .first)
 
       small-number : (d : Bool) (k : ℕ) → (ltb k namesMost && eqb (x .second) 0) ≡ true → (ltb (cond d n k) namesMost && eqb (x .second) 0) ≡ true
-      small-number true k h = ap₂ _&&_ small (both-true (ltb k namesMost) (eqb (x .second) 0) h .1)
+      small-number true k h = ap₂ _&&_ small (and-parts (ltb k namesMost) (eqb (x .second) 0) h .1)
       small-number false k h = h
 
       tail-kind : (i : ℕ) → (eqb (kindAt ws i) 0 || eqb (kindAt ws i) 4) ≡ (eqb (kindAt (renumber C n 0 ws) i) 0 || eqb (kindAt (renumber C n 0 ws) i) 4)
@@ -624,10 +624,10 @@ module _ (C : ℕ → Bool) (n : ℕ) where
       record {
         whole = length-renumber 0 ws ∙ l .whole ∙ ap (λ m. 3 * m) (sym c);
         count = subst (λ m. within itemsLeast itemsMost m ≡ true) (sym c) (l .count);
-        each = subst (λ ys. All (λ x. isItem (renumber C n 0 ws) (itemCount (renumber C n 0 ws)) x ≡ true) ys) (sym (items-renumber 0 ws))
-            (subst (λ m. All (λ x. isItem (renumber C n 0 ws) m x ≡ true) (map renumberItem xs)) (sym c) (All-renumber (λ x e. item-renumber small ws (itemCount ws) x e) (l .each)));
-        once = subst (λ ys. All (λ x. isReferredOnce (references ys) x ≡ true) ys) (sym (items-renumber 0 ws))
-            (subst (λ r. All (λ x. isReferredOnce r x ≡ true) (map renumberItem xs)) (sym (references-renumber xs)) (All-renumber (λ x e. once-renumber (references xs) x e) (l .once)));
+        each = subst (λ ys. Each (λ x. isItem (renumber C n 0 ws) (itemCount (renumber C n 0 ws)) x ≡ true) ys) (sym (items-renumber 0 ws))
+            (subst (λ m. Each (λ x. isItem (renumber C n 0 ws) m x ≡ true) (map renumberItem xs)) (sym c) (All-renumber (λ x e. item-renumber small ws (itemCount ws) x e) (l .each)));
+        once = subst (λ ys. Each (λ x. isReferredOnce (references ys) x ≡ true) ys) (sym (items-renumber 0 ws))
+            (subst (λ r. Each (λ x. isReferredOnce r x ≡ true) (map renumberItem xs)) (sym (references-renumber xs)) (All-renumber (λ x e. once-renumber (references xs) x e) (l .once)));
         two = ap (isListOf 2) (treeOf-renumber ws) ∙ ap₂ (λ a b. a && eqb b 2) (isList-onNames renumberName (treeOf ws)) (elements-count renumberName (treeOf ws)) ∙ l .two;
         list = ap (λ t. isList (element 0 t)) (treeOf-renumber ws) ∙ ap isList (element-onNames renumberName 0 (treeOf ws)) ∙ isList-onNames renumberName (element 0 (treeOf ws)) ∙ l .list;
       }

@@ -8,6 +8,7 @@ use Prim.Native.Nat.{ℕ, zero, suc, _+_}
 use native.Mathlib.Omega.{arith}
 use lib.Dec.{leb}
 use lib.ListN.{length}
+use Rattle.words.specs.Each.{also}
 use Rattle.recipe.specs.Name.{variable, macro, Name}
 use Rattle.recipe.specs.Tree.{Tree, name, pair, element, tail, mark, produce, bindAll}
 use Rattle.core_term.specs.Term.{Term}
@@ -18,7 +19,7 @@ use Rattle.expansion.specs.Forms.{formals, keywords, rulesForms, expandAll, exp
 use Rattle.simulation.specs.Relations.{ListRel, length-rel, list-map, map-rel}
 use Rattle.simulation.specs.Shapes.{empties, constants, names₂, pairs, RuleOf, tree-map, size-rel, names-rel, isListOf-rel, element-rel, tail-rel}
 use Rattle.simulation.specs.MatchKept.{equalLengths-rel, transcribe-rel}
-use Rattle.simulation.specs.Names.Shown.{Renaming, Fine, AllFine, and}
+use Rattle.simulation.specs.Names.Shown.{Renaming, Fine, AllFine}
 use Rattle.simulation.specs.Names.{Kind, Coherent, Ready, Raw, NameRel, TreeRel, name-map, dots-rel, wild-rel, bindAll-rel}
 use Rattle.simulation.specs.Lookups.{lookup-rel, strip-eq}
 use Rattle.simulation.specs.Steps.{older-le, Below, Marked, Transcribed, Result, mark-rel, produce-rel, result-is, result-below, result-ready, result-coherent}
@@ -157,7 +158,7 @@ module _ (ρ : Renaming) (raw : Raw ρ) where
     name-agree nothing s s′ q = refuse-agree ρ raw k 11 s s′ q
 
     head-fine : (x : Name) → AllFine ρ (looked x ∷ []) → Fine ρ (looked x)
-    head-fine x (and f a) = f
+    head-fine x (also f a) = f
 
     pair-agree : {a b t u : Tree} → TreeRel ρ raw Q a b → TreeRel ρ raw Q t u → Agrees ρ raw k (TermRel ρ) (expandPair limit operations fuel rec a t) (expandPair limit operations fuel rec′ b u)
     unfolding expandPair

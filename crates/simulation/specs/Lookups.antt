@@ -1,10 +1,11 @@
 -- Lookups whose events are fine find the same in both runs; so do comparisons of literals, rules heads and quoted data.
 use mathlib.Core.Path.{_≡_, refl, ap, ap₂, sym, _∙_, subst}
 use mathlib.Core.Bool.{true, false, _&&_, _||_, true≢false, false≢true}
-use mathlib.Core.List.{List, [], _∷_, _++_, map}
+use mathlib.Core.List.{List, [], _∷_, _++_, map, map-append}
 use mathlib.Core.Option.{Option, none, some}
 use Prim.Native.Nat.{ℕ}
 use lib.Dec.{eqb}
+use Rattle.words.specs.Each.{also, each-left, each-right}
 use Rattle.datum.specs.Datum.{listD, moreD}
 use Rattle.recipe.specs.Name.{Binding, Name, bindingKey, isBound}
 use Rattle.recipe.specs.Tree.{Tree, names, name, onName, strip, stripTail}
@@ -12,7 +13,7 @@ use Rattle.expansion.specs.Lookup.{Found, lookup, unboundMeaning, orUnbound, is
 use Rattle.expansion.specs.Computation.{looked, quoted}
 use Rattle.simulation.specs.Shapes.{empties, constants, names₂, pairs}
 use Rattle.simulation.specs.Names.Sameness.{bindingKey-apart}
-use Rattle.simulation.specs.Names.Shown.{Renaming, ofCopy, private-copy, owned-apart, map-append, Fine, looked-fine, quoted-fine, AllFine, and, fine-left, fine-right, Looks}
+use Rattle.simulation.specs.Names.Shown.{Renaming, ofCopy, private-copy, owned-apart, Fine, looked-fine, quoted-fine, AllFine, Looks}
 use Rattle.simulation.specs.Names.{Kind, Of, Ready, Raw, Tie, owned, unowned, Turned, NameRel, kept, turned, TreeRel}
 
 module _ (ρ : Renaming) (raw : Raw ρ) where
@@ -54,15 +55,15 @@ module _ (ρ : Renaming) (raw : Raw ρ) where
   -- literals agree in both runs or in neither
   pub agree-rel : {Q P : Kind} → Ready ρ Q → Ready ρ P → (x x′ y y′ : Name) → NameRel ρ raw Q x x′ → NameRel ρ raw P y y′ → Looks ρ (x ∷ y ∷ []) → agree x y ≡ agree x′ y′
   agree-rel rq rp x x′ y y′ (kept a k) (kept b l) fine = ap₂ agree (k .eq) (l .eq)
-  agree-rel rq rp x x′ y y′ (kept a k) (turned b t) (and f (and g h)) =
+  agree-rel rq rp x x′ y y′ (kept a k) (turned b t) (also f (also g h)) =
       let e = looked-eq rp y y′ b t g in
       agree-false x y (λ d. owned-apart ρ (e .1) (k .free) (sym d))
       ∙ sym (agree-false x′ y′ (λ d. owned-apart ρ (e .1) (k .free) (e .0 ∙ sym d ∙ ap (λ z. z .binding) (sym (k .eq)))))
-  agree-rel rq rp x x′ y y′ (turned a t) (kept b k) (and f g) =
+  agree-rel rq rp x x′ y y′ (turned a t) (kept b k) (also f g) =
       let e = looked-eq rq x x′ a t f in
       agree-false x y (λ d. owned-apart ρ (e .1) (k .free) d)
       ∙ sym (agree-false x′ y′ (λ d. owned-apart ρ (e .1) (k .free) (e .0 ∙ d ∙ ap (λ z. z .binding) (sym (k .eq)))))
-  agree-rel rq rp x x′ y y′ (turned a t) (turned b u) (and f (and g h)) =
+  agree-rel rq rp x x′ y y′ (turned a t) (turned b u) (also f (also g h)) =
       let e = looked-eq rq x x′ a t f in
       let d = looked-eq rp y y′ b u g in
       agree-bound x y (owned-bound (x .binding) (e .1)) ∙ ap₂ (λ p q. eqb (bindingKey p) (bindingKey q) && true) (e .0) (d .0)
@@ -79,7 +80,7 @@ module _ (ρ : Renaming) (raw : Raw ρ) where
   isSyntaxRules-rel rd empties f = refl
   isSyntaxRules-rel rd constants f = refl
   isSyntaxRules-rel rd (names₂ (kept q k)) f = ap isSyntaxRules (k .eq)
-  isSyntaxRules-rel rd (names₂ {x = x} {y = y} (turned q t)) (and g f) =
+  isSyntaxRules-rel rd (names₂ {x = x} {y = y} (turned q t)) (also g f) =
       let e = looked-eq rd x y q t g in
       owned-no-rules x (e .1) ∙ sym (owned-no-rules y (ap (ofCopy ρ) (sym (e .0)) ∙ e .1))
   isSyntaxRules-rel rd (pairs p q) f = refl
@@ -95,10 +96,10 @@ module _ (ρ : Renaming) (raw : Raw ρ) where
       strip-eq empties a = refl
       strip-eq constants a = refl
       strip-eq (names₂ (kept q k)) a = ap (λ x. strip (name x)) (k .eq)
-      strip-eq (names₂ {x = x} (turned q t)) (and f a) = absurd (true≢false (sym (private-copy ρ x (rd _ _ _ _ q (t .private)) (t .private)) ∙ quoted-fine ρ x f))
+      strip-eq (names₂ {x = x} (turned q t)) (also f a) = absurd (true≢false (sym (private-copy ρ x (rd _ _ _ _ q (t .private)) (t .private)) ∙ quoted-fine ρ x f))
       strip-eq (pairs {h = a} {t = b} p r) f =
           let g : AllFine ρ (map quoted (names a) ++ map quoted (names b)) = subst (AllFine ρ) (map-append quoted (names a) (names b)) f in
-          ap₂ (λ d ds. listD (moreD d ds)) (strip-eq p (fine-left ρ (map quoted (names a)) (map quoted (names b)) g)) (stripTail-eq r (fine-right ρ (map quoted (names a)) (map quoted (names b)) g))
+          ap₂ (λ d ds. listD (moreD d ds)) (strip-eq p (each-left (map quoted (names a)) (map quoted (names b)) g)) (stripTail-eq r (each-right (map quoted (names a)) (map quoted (names b)) g))
 
       pub stripTail-eq : {t u : Tree} → TreeRel ρ raw Q t u → AllFine ρ (map quoted (names t)) → stripTail t ≡ stripTail u
       stripTail-eq empties a = refl
@@ -106,4 +107,4 @@ module _ (ρ : Renaming) (raw : Raw ρ) where
       stripTail-eq (names₂ r) a = refl
       stripTail-eq (pairs {h = a} {t = b} p r) f =
           let g : AllFine ρ (map quoted (names a) ++ map quoted (names b)) = subst (AllFine ρ) (map-append quoted (names a) (names b)) f in
-          ap₂ moreD (strip-eq p (fine-left ρ (map quoted (names a)) (map quoted (names b)) g)) (stripTail-eq r (fine-right ρ (map quoted (names a)) (map quoted (names b)) g))
+          ap₂ moreD (strip-eq p (each-left (map quoted (names a)) (map quoted (names b)) g)) (stripTail-eq r (each-right (map quoted (names a)) (map quoted (names b)) g))

@@ -1,20 +1,22 @@
 -- The names of two runs that differ in a private name, and why sameness and binding agree on them.
 pub mod Sameness
 pub mod Shown
-use mathlib.Core.Path.{_≡_, refl, ap, ap₂, sym, _∙_, subst}
+use mathlib.Core.Path.{_≡_, refl, ap, ap₂, sym, _∙_}
 use mathlib.Core.Bool.{Bool, true, false, cond, true≢false, false≢true}
 use mathlib.Core.List.{List}
 use mathlib.Core.Option.{Option}
 use Prim.Native.Nat.{ℕ, suc}
-use lib.Dec.{T, eqb}
+use lib.Dec.{eqb}
+use Rattle.words.specs.TestLaws.{iff-eq}
+use Rattle.words.specs.Each.{also}
 use Rattle.recipe.specs.Name.{Binding, Name, same, isEllipsis, isWildcard, giveBinding, bindName}
 use Rattle.recipe.specs.Tree.{Tree, bind, bindAll}
 use Rattle.expansion.specs.Computation.{binds}
 use Rattle.expansion.specs.Forms.{bindings}
 use Rattle.simulation.specs.Relations.{ListRel, ends, joins}
 use Rattle.simulation.specs.Shapes.{TreeOf, onNames-rel}
-use Rattle.simulation.specs.Names.Sameness.{iff-eq, Same, same→Same, Same→same}
-use Rattle.simulation.specs.Names.Shown.{Renaming, ofCopy, not-private-not-copy, private-copy, owned-apart, Fine, binds-fine, AllFine, and}
+use Rattle.simulation.specs.Names.Sameness.{Same, same→Same, Same→same}
+use Rattle.simulation.specs.Names.Shown.{Renaming, ofCopy, not-private-not-copy, private-copy, owned-apart, Fine, binds-fine, AllFine}
 
 -- ---- what is known of the names of a tree
 
@@ -144,7 +146,7 @@ module _ (ρ : Renaming) (raw : Raw ρ) where
       bindName-rel b i j r f x y q = go (same i x) (same j y) refl (same-rel i j x y r q)
         where
           go : (p p′ : Bool) → same i x ≡ p → p ≡ p′ → NameRel Q (cond p (giveBinding b x) x) (cond p′ (giveBinding b y) y)
-          go true true s t = put-rel b i j x y r q (same→Same i x (subst T (sym s) tt)) f
+          go true true s t = put-rel b i j x y r q (same→Same i x s) f
           go true false s t = absurd (true≢false t)
           go false true s t = absurd (false≢true t)
           go false false s t = q
@@ -152,4 +154,4 @@ module _ (ρ : Renaming) (raw : Raw ρ) where
       pub bindAll-rel : (f : ℕ → Binding) (k : ℕ) {xs ys : List Name} → ListRel (NameRel Q) xs ys → AllFine ρ (bindings f k xs) → {t u : Tree} → TreeRel Q t u → TreeRel Q (bindAll f k xs t) (bindAll f k ys u)
       unfolding bindAll bind bindings
       bindAll-rel f k ends a r = r
-      bindAll-rel f k (joins q qs) (and p a) r = bindAll-rel f (suc k) qs a (onNames-rel _ _ (bindName-rel (f k) _ _ q p) r)
+      bindAll-rel f k (joins q qs) (also p a) r = bindAll-rel f (suc k) qs a (onNames-rel _ _ (bindName-rel (f k) _ _ q p) r)

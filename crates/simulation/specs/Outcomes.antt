@@ -5,10 +5,11 @@ use mathlib.Core.List.{[], _++_}
 use mathlib.Core.Option.{Option}
 use Prim.Native.Nat.{ℕ, _≤_}
 use native.Mathlib.Omega.{arith}
+use Rattle.words.specs.Each.{each-left, each-right}
 use Rattle.expansion.specs.Rules.{Rule}
 use Rattle.expansion.specs.Computation.{State, Events, Out, done, refused, starved, M, after, goOn, _>>=_, _>>_, give, refuse, show, test, orRefuse, get}
 use Rattle.simulation.specs.Relations.{OptionRel, nones, somes}
-use Rattle.simulation.specs.Names.Shown.{Renaming, AllFine, fine-left, fine-right}
+use Rattle.simulation.specs.Names.Shown.{Renaming, AllFine}
 use Rattle.simulation.specs.Names.{Raw}
 use Rattle.simulation.specs.States.{StateRel, RuleRel, RuleOption, no-one, this}
 
@@ -27,7 +28,7 @@ events-after l (starved k) = refl
 -- what the first part shows is fine where all is
 pub first-fine : (ρ : Renaming) {A B : Type 0} (f : A → M B) (x : Out A) → AllFine ρ (eventsOf (goOn f x)) → AllFine ρ (eventsOf x)
 unfolding eventsOf goOn
-first-fine ρ f (done a s l) h = fine-left ρ l (eventsOf (f a s)) (rw events-after at h)
+first-fine ρ f (done a s l) h = each-left l (eventsOf (f a s)) (rw events-after at h)
 first-fine ρ f (refused g s l) h = h
 first-fine ρ f (starved l) h = h
 
@@ -67,7 +68,7 @@ module _ (ρ : Renaming) (raw : Raw ρ) where
   module _ (k : ℕ) {A B : Type 0} {R : A → A → Type 0} {P : B → B → Type 0} where
     pub goOn-agree : (f g : A → M B) {x y : Out A} → OutRel k R x y → ((a b : A) (u v : State) → R a b → StateRel ρ raw k u v → Agree k P (f a u) (g b v)) → Agree k P (goOn f x) (goOn g y)
     unfolding eventsOf goOn
-    goOn-agree f g (dones {a = a} {b = b} {s = u} {t = v} {l = l} {l′ = l′} r q) h fine = after-rel k l l′ (h a b u v r q (fine-right ρ l (eventsOf (f a u)) (rw events-after at fine)))
+    goOn-agree f g (dones {a = a} {b = b} {s = u} {t = v} {l = l} {l′ = l′} r q) h fine = after-rel k l l′ (h a b u v r q (each-right l (eventsOf (f a u)) (rw events-after at fine)))
     goOn-agree f g (refusals q) h fine = refusals q
     goOn-agree f g starvations h fine = starvations
 
@@ -99,7 +100,7 @@ module _ (ρ : Renaming) (raw : Raw ρ) where
     unfolding _>>_ show goOn eventsOf
     show-agree l l′ f h s t g fine =
         let e : AllFine ρ (l ++ eventsOf (f s)) = rw events-after at fine in
-        after-rel k l l′ (g (fine-left ρ l (eventsOf (f s)) e) (fine-right ρ l (eventsOf (f s)) e))
+        after-rel k l l′ (g (each-left l (eventsOf (f s)) e) (each-right l (eventsOf (f s)) e))
 
     -- a computation that only goes on to another state
     pub goes-agree : {A A′ : Type 0} (m : M A) (m′ : M A′) (f h : M B) (s t : State) (a : A) (a′ : A′) (u v : State) → m s ≡ done a u [] → m′ t ≡ done a′ v [] → Agree k P (f u) (h v) → Agree k P ((_>>_ m f) s) ((_>>_ m′ h) t)

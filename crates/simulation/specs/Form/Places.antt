@@ -6,13 +6,14 @@ use mathlib.Core.Option.{some}
 use Prim.Native.Nat.{ℕ, suc}
 use lib.Dec.{eqb}
 use Rattle.words.specs.Lists.{any}
+use Rattle.words.specs.Each.{also}
 use Rattle.recipe.specs.Name.{Binding, Name, same, distinct, isEllipsis, isWildcard, bindName}
 use Rattle.recipe.specs.Tree.{Tree, onNames, bind, bindAll}
 use Rattle.expansion.specs.Forms.{bindings}
 use Rattle.simulation.specs.Relations.{ListRel, ends, joins}
 use Rattle.simulation.specs.Shapes.{TreeOf, onNames-rel}
 use Rattle.simulation.specs.Form.Holes.{Hole, hole-onNames, graph, hole-graph}
-use Rattle.simulation.specs.Names.Shown.{Renaming, ofCopy, not-private-not-copy, binds-fine, AllFine, and}
+use Rattle.simulation.specs.Names.Shown.{Renaming, ofCopy, not-private-not-copy, binds-fine, AllFine}
 use Rattle.simulation.specs.Names.{Kind, Coherent, Ready, Raw, NameRel, kept}
 use Rattle.simulation.specs.Steps.{Older, Below}
 pub use Rattle.simulation.specs.Form.Scopes.{Scope, Placed, same-placed, rebind, rebindAll, bindName-placed, bindName-number, bindName-item, still-placed, hasVariable, Moved, hasVariable-moved}
@@ -149,7 +150,7 @@ module _ (ρ : Renaming) (f : ℕ → Binding) where
   pub rebindAll-foreign : (k : ℕ) (β γ : Scope) {xs ys : List Name} → ListRel (Still ρ γ) xs ys → AllFine ρ (bindings f k xs) → Foreign ρ β → Foreign ρ (rebindAll f k xs β)
   unfolding rebindAll rebind bindings
   rebindAll-foreign k β γ ends a h = h
-  rebindAll-foreign k β γ (joins {x = x} s ss) (and e a) h = rebindAll-foreign (suc k) _ γ ss a (λ n. go (eqb (x .number) n) n)
+  rebindAll-foreign k β γ (joins {x = x} s ss) (also e a) h = rebindAll-foreign (suc k) _ γ ss a (λ n. go (eqb (x .number) n) n)
     where
       go : (c : Bool) (n : ℕ) → ofCopy ρ (cond c (some (f k)) (β n)) ≡ false
       go true n = binds-fine ρ (f k) x e ∙ not-private-not-copy ρ x (s .not-private)

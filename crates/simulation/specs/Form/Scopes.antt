@@ -1,19 +1,20 @@
 -- Names in place, which never stood in a result: they have no marks, and their number tells their binding, in the scope at hand.
-use mathlib.Core.Path.{_≡_, refl, ap, ap₂, sym, _∙_, subst}
+use mathlib.Core.Path.{_≡_, refl, ap, ap₂, sym, _∙_}
 use mathlib.Core.Bool.{Bool, true, false, cond}
 use mathlib.Core.List.{List, [], _∷_}
 use mathlib.Core.Option.{Option, some}
 use Prim.Native.Nat.{ℕ, suc}
-use borrow.Author.Tests.{eq-eqb}
-use lib.Dec.{T, eqb, eqb→eq}
+use borrow.Author.Tests.{eqb-true, eq-eqb}
+use lib.Dec.{eqb}
 use Rattle.words.specs.Lists.{any}
+use Rattle.words.specs.TestLaws.{iff-eq}
 use Rattle.recipe.specs.Name.{Binding, Name, same, isEllipsis, isWildcard, giveBinding, bindName}
 use Rattle.recipe.specs.Tree.{Tree, names, element, tail}
 use Rattle.expansion.specs.Rules.{variables}
 use Rattle.simulation.specs.Relations.{any-rel}
 use Rattle.simulation.specs.Shapes.{TreeOf, names-rel, element-rel, tail-rel}
 use Rattle.simulation.specs.RulesKept.{variables-rel}
-use Rattle.simulation.specs.Names.Sameness.{iff-eq, same→Same, Same→same}
+use Rattle.simulation.specs.Names.Sameness.{same→Same, Same→same}
 
 -- the bindings in force, by number
 abbrev pub Scope : Type 0
@@ -27,8 +28,8 @@ pub record Placed (β : Scope) (x : Name) : Type 0 where
 -- they are the same when their numbers are equal
 pub same-placed : (β : Scope) (x y : Name) → Placed β x → Placed β y → same x y ≡ eqb (x .number) (y .number)
 same-placed β x y p q = iff-eq (same x y) (eqb (x .number) (y .number))
-    (λ s. subst T (sym (eq-eqb _ _ (same→Same x y s .number))) tt)
-    (λ t. let e : x .number ≡ y .number = eqb→eq _ _ t in
+    (λ s. eq-eqb _ _ (same→Same x y s .number))
+    (λ t. let e : x .number ≡ y .number = eqb-true _ _ t in
     Same→same x y (record { number = e; marks = p .unmarked ∙ sym (q .unmarked); binding = p .bound ∙ ap β e ∙ sym (q .bound) }))
 
 -- a name is bound

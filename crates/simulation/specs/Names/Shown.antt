@@ -1,10 +1,12 @@
 -- A renaming of a template's private name, its copies, and what the first run may show of them.
-use mathlib.Core.Path.{_≡_, refl, ap, ap₂, sym, _∙_, subst}
+use mathlib.Core.Path.{_≡_, ap, sym, _∙_, subst}
 use mathlib.Core.Bool.{Bool, true, false, _&&_, true≢false}
-use mathlib.Core.List.{List, [], _∷_, _++_, map}
+use mathlib.Core.List.{List, _++_, map, map-append}
 use mathlib.Core.Option.{Option, none, some}
 use Prim.Native.Nat.{ℕ}
 use lib.Dec.{eqb}
+use Rattle.words.specs.TestLaws.{and-both, and-none-right}
+use Rattle.words.specs.Each.{Each, each-left, each-right}
 use Rattle.recipe.specs.Name.{Binding, Name}
 use Rattle.expansion.specs.Computation.{Event, looked, quoted, reached, binds, Events}
 
@@ -20,10 +22,6 @@ pub record Renaming : Type 0 where
   pub new-6 : eqb new 6 ≡ false
   pub new-7 : eqb new 7 ≡ false
 
-pub map-append : {A B : Type 0} (f : A → B) (xs ys : List A) → map f (xs ++ ys) ≡ map f xs ++ map f ys
-map-append f [] ys = refl
-map-append f (x ∷ xs) ys = ap (f x ∷_) (map-append f xs ys)
-
 module _ (ρ : Renaming) where
   -- a copy: a name in a step's result that stems from an item of the private name
   unfoldable pub isCopy : Name → Bool
@@ -36,15 +34,11 @@ module _ (ρ : Renaming) where
 
   pub not-private-not-copy : (x : Name) → ρ .isPrivate (x .item) ≡ false → isCopy x ≡ false
   unfolding isCopy
-  not-private-not-copy x e = ap (λ b. x .produced && b) e ∙ go (x .produced)
-    where
-      go : (b : Bool) → (b && false) ≡ false
-      go true = refl
-      go false = refl
+  not-private-not-copy x e = and-none-right (x .produced) _ e
 
   pub private-copy : (x : Name) → x .produced ≡ true → ρ .isPrivate (x .item) ≡ true → isCopy x ≡ true
   unfolding isCopy
-  private-copy x e f = ap₂ _&&_ e f
+  private-copy x e f = and-both _ _ e f
 
   pub owned-apart : {b c : Option Binding} → ofCopy b ≡ true → ofCopy c ≡ false → b ≡ c → ⊥
   owned-apart p q e = true≢false (sym p ∙ ap ofCopy e ∙ q)
@@ -69,24 +63,15 @@ module _ (ρ : Renaming) where
   unfolding Fine
   binds-fine b x f = f
 
-  pub data AllFine : Events → Type 0 where
-    none-left : AllFine []
-    and : {e : Event} {l : Events} → Fine e → AllFine l → AllFine (e ∷ l)
-
-  pub fine-left : (l k : Events) → AllFine (l ++ k) → AllFine l
-  fine-left [] k a = none-left
-  fine-left (e ∷ l) k (and p a) = and p (fine-left l k a)
-
-  pub fine-right : (l k : Events) → AllFine (l ++ k) → AllFine k
-  fine-right [] k a = a
-  fine-right (e ∷ l) k (and p a) = fine-right l k a
+  abbrev pub AllFine : Events → Type 0
+  AllFine = Each Fine
 
   -- the same of names looked up
   abbrev pub Looks : List Name → Type 0
   Looks l = AllFine (map looked l)
 
   pub looks-left : (l k : List Name) → Looks (l ++ k) → Looks l
-  looks-left l k f = fine-left (map looked l) (map looked k) (subst AllFine (map-append looked l k) f)
+  looks-left l k f = each-left (map looked l) (map looked k) (subst AllFine (map-append looked l k) f)
 
   pub looks-right : (l k : List Name) → Looks (l ++ k) → Looks k
-  looks-right l k f = fine-right (map looked l) (map looked k) (subst AllFine (map-append looked l k) f)
+  looks-right l k f = each-right (map looked l) (map looked k) (subst AllFine (map-append looked l k) f)
