@@ -12,6 +12,7 @@ use Rattle.words.specs.TestLaws.{any-append}
 use Rattle.words.specs.Each.{each-left, each-right}
 use Rattle.recipe.specs.Name.{variable, macro, Name, distinct}
 use Rattle.recipe.specs.Tree.{Tree, empty, name, pair, names, onPair, elements, element, tail, bindAll}
+use Rattle.recipe.specs.TreeNames.{uses, uses-element, uses-bindAll}
 use Rattle.core_term.specs.Term.{Term, lambdaC}
 use Rattle.expansion.specs.Lookup.{quote, if, lambda, let-syntax, letrec-syntax, auxiliary, Found, bound, form, operation, nothing, lookup}
 use Rattle.expansion.specs.Computation.{State, reached, Events, Out, done, refused, starved, M, after, goOn, _>>=_, _>>_, give, show, test, get, addVariables, addMacros}
@@ -31,8 +32,7 @@ use Rattle.simulation.specs.Form.Places.{Still, ChosenRules, Foreign, bindAll-h
 use Rattle.simulation.specs.Form.Scopes.{Scope, rebindAll}
 use Rattle.simulation.specs.Form.{hole-alike, Joined, form-agree}
 use Rattle.private_names.specs.Reach.{isAt, Unheaded, Unreached, unreached, none-reached, give-unreached, bind-unreached, bindings-none, read-unreached, all-unreached, operands-unreached, quote-unreached, if-unreached, lambda-unreached, macros-unreached, use-unreached, refuse-unreached, expand-unreached}
-use Rattle.private_names.specs.Tables.{uses}
-use Rattle.private_names.specs.Paths.{isAt-item, unused-name, uses-element, uses-bindAll, Headed, headed, in-first, in-later, headed-uses, headed-element, headed-bindAll, unused-unheaded, other-unheaded, hole-at, hole-off}
+use Rattle.private_names.specs.Paths.{isAt-item, unused-name, Headed, headed, in-first, in-later, headed-uses, headed-element, headed-bindAll, unused-unheaded, other-unheaded, hole-at, hole-off}
 
 -- ---- trees that are still are equal
 

@@ -15,8 +15,10 @@ use Rattle.words.specs.TestLaws.{and-parts}
 use Rattle.words.specs.Each.{Each, noneOf, also}
 use Rattle.recipe.specs.Name.{Binding, Name, distinct}
 use Rattle.recipe.specs.Tree.{Tree, size, names, isName, elements, element, tail, onNames}
-use Rattle.recipe.specs.TreeLaws.{onNames-size}
+use Rattle.recipe.specs.TreeLaws.{onNames-size, onNames-element, element-tail}
+use Rattle.recipe.specs.TreeNames.{TreeAll, treeAll-element, treeAll-tail, uses-elements}
 use Rattle.recipe.specs.Table.{itemCount, isLayout, treeOf}
+use Rattle.recipe.specs.TableNames.{numberAt, treeOf-plain, treeOf-numbered, treeOf-uses}
 use Rattle.core_term.specs.Term.{Term}
 use Rattle.expansion.specs.Computation.{start, Event, Events, Out, done, refused, starved}
 use Rattle.expansion.specs.Forms.{expand}
@@ -31,10 +33,10 @@ use Rattle.simulation.specs.Outcomes.{eventsOf, OutRel, dones, refusals, starva
 use Rattle.simulation.specs.Form.Scopes.{hasVariable}
 use Rattle.private_names.specs.Reach.{Unheaded, none-reached, expand-unreached}
 use Rattle.private_names.specs.OwnNames.{OwnName, of-look, of-quote, of-form, of-binding, run-own}
-use Rattle.private_names.specs.Tables.{TreeAll, Layout, layout-true, true-layout, layout-uses, tree-plain, tree-new, numberAt, tree-numbered, treeOf-renumber, count-renumber, layout-renumber, element-onNames}
-use Rattle.private_names.specs.Paths.{sub, Headed, find, headed-of-element, headed-part, uses-elements}
+use Rattle.private_names.specs.Renumber.{tree-new, treeOf-renumber, count-renumber, layout-renumber}
+use Rattle.private_names.specs.Paths.{sub, Headed, find, headed-of-element, headed-part}
 use Rattle.private_names.specs.Before.{Joins, before-agree, still-eq}
-use Rattle.private_names.specs.Renamed.{treeAll-element, treeAll-tail, treeAll-sub, element-tail, isOld, old-some, variables-none, unbound, renew, still-tree, Held, held-element, templateIn, Chosen, renamed-holds, renamed-hole}
+use Rattle.private_names.specs.Renamed.{treeAll-sub, isOld, old-some, variables-none, unbound, renew, still-tree, Held, held-element, templateIn, Chosen, renamed-holds, renamed-hole}
 
 -- ---- a run that shows the form has passed grounds 7 to 10
 
@@ -135,7 +137,7 @@ expressions-agree ρ p limit operations fuel gas N l b j t i held chosen reaches
 
 -- ---- the renaming that the statement takes, and its rule
 
-module _ (ws : List ℕ) (c : Choice) (layout : Layout ws) (private : S.isPrivate (treeOf ws) c ≡ true) (new : isNew ws (c .new) ≡ true) (shown : Events) where
+module _ (ws : List ℕ) (c : Choice) (layout : isLayout ws ≡ true) (private : S.isPrivate (treeOf ws) c ≡ true) (new : isNew ws (c .new) ≡ true) (shown : Events) where
   abbrev T : Tree
   T = treeOf ws
 
@@ -171,7 +173,7 @@ module _ (ws : List ℕ) (c : Choice) (layout : Layout ws) (private : S.isPrivat
   }
 
   held : Held (numberAt ws) T
-  held = record { plain = tree-plain ws; numbered = tree-numbered ws; once = layout-uses ws layout }
+  held = record { plain = treeOf-plain ws; numbered = treeOf-numbered ws; once = λ q. treeOf-uses q ws layout }
 
   -- where the form lies at l of the expression
   module _ (l : List ℕ) (i : Headed (c .form) l (element 1 T)) where
@@ -211,7 +213,7 @@ module _ (ws : List ℕ) (c : Choice) (layout : Layout ws) (private : S.isPrivat
     -- the first element has no private item
     operations-same : element 0 (onNames (renew renaming) T) ≡ element 0 T
     operations-same =
-        element-onNames (renew renaming) 0 T
+        onNames-element (renew renaming) 0 T
         ∙ sym (still-eq renaming unbound (still-tree renaming (treeAll-element 0 (held .plain))
         (λ q e. omega (arith, held .once q, renamed-holds renaming (numberAt ws) l (c .macro) (c .rule) (element 1 T) (held-element (numberAt ws) 1 T held) chosen q e, uses-elements q 0 1 T (omega arith)))))
 
@@ -237,7 +239,7 @@ renamed-is : (fuel : ℕ) (f : Name → Name) (t : Tree) → element 0 (onNames 
 unfolding expandRecipe expansionOf
 renamed-is fuel f t e =
     ap₂ (λ operations gas. expand macrosMost operations fuel (gas + fuel) (element 1 (onNames f t)) start) (same-operations (onNames f t) t e) (onNames-size f t)
-    ∙ ap (λ u. expand macrosMost (operationNumbers t) fuel (size t + fuel) u start) (element-onNames f 1 t)
+    ∙ ap (λ u. expand macrosMost (operationNumbers t) fuel (size t + fuel) u start) (onNames-element f 1 t)
 
 -- the expansion of the first run
 firstOf : ℕ → List ℕ → Out (Term Name)
@@ -260,8 +262,8 @@ record Case (ws : List ℕ) (fuel work core : ℕ) (c : Choice) : Type 0 where
   own : all (findsOwn (isOldItem (treeOf ws) c) (eventsOf (firstOf fuel ws))) (eventsOf (firstOf fuel ws)) ≡ true
 
 module _ (ws : List ℕ) (fuel work core : ℕ) (c : Choice) (k : Case ws fuel work core c) where
-  layout : Layout ws
-  layout = layout-true ws (k .tested .layout)
+  layout : isLayout ws ≡ true
+  layout = k .tested .layout
 
   abbrev ρ : Renaming
   ρ = renaming ws c layout (k .private) (k .new) (eventsOf (firstOf fuel ws))
@@ -286,7 +288,7 @@ module _ (ws : List ℕ) (fuel work core : ℕ) (c : Choice) (k : Case ws fuel w
     second-tested : Tested (renamed ws c) fuel work core
     unfolding renamed
     second-tested = record {
-      layout = true-layout _ (layout-renumber (isOldItem (treeOf ws) c) (c .new) (new-large ws c layout (k .private) (k .new) (eventsOf (firstOf fuel ws)) .1) ws layout);
+      layout = layout-renumber (isOldItem (treeOf ws) c) (c .new) (new-large ws c layout (k .private) (k .new) (eventsOf (firstOf fuel ws)) .1) ws layout;
       enough = k .tested .enough;
       tables = subst (λ m. (leb (workRate * (m + fuel)) work && leb (coreRate * (m + fuel)) core) ≡ true) (sym (count-renumber (isOldItem (treeOf ws) c) (c .new) ws)) (k .tested .tables);
       operations = ap areOperations (treeOf-renumber (isOldItem (treeOf ws) c) (c .new) ws) ∙ same-test (onNames (renew ρ) (treeOf ws)) (treeOf ws) same ∙ k .tested .operations;

@@ -8,56 +8,13 @@ use native.Mathlib.Omega.{arith}
 use lib.Dec.{eqb}
 use Rattle.words.specs.Lists.{any}
 use Rattle.words.specs.TestLaws.{and-right, any-append}
-use Rattle.recipe.specs.Name.{Binding, Name, same, giveBinding, bindName}
+use Rattle.recipe.specs.Name.{Binding, Name, bindName}
 use Rattle.recipe.specs.Tree.{Tree, empty, constant, name, pair, onName, elements, element, onNames, bind, bindAll}
+use Rattle.recipe.specs.TreeNames.{uses, uses-elements}
 use Rattle.simulation.specs.Shapes.{TreeOf, element-rel}
 use Rattle.simulation.specs.Form.Holes.{Hole, first, later}
 use Rattle.private_names.specs.Reach.{isAt, isNameAt, Unheaded, empty₁, constant₁, name₁, pair₁, UnheadedAll, empty₂, constant₂, name₂, pair₂, isAt-bind}
 use Rattle.private_names.specs.Statement.{parts, firstWith, hasHead}
-use Rattle.private_names.specs.Tables.{uses}
-
--- ---- how many names stem from an item
-
-pub uses-element : (q i : ℕ) (t : Tree) → uses q (element i t) ≤ uses q t
-unfolding uses element elements
-uses-element q i empty = omega arith
-uses-element q i (constant a) = omega arith
-uses-element q i (name x) = omega arith
-uses-element q zero (pair h t) = omega arith
-uses-element q (suc i) (pair h t) = omega (arith, uses-element q i t)
-
--- two elements have different names
-pub uses-elements : (q i j : ℕ) (t : Tree) → (i ≡ j → ⊥) → uses q (element i t) + uses q (element j t) ≤ uses q t
-unfolding uses element elements
-uses-elements q i j empty d = omega arith
-uses-elements q i j (constant a) d = omega arith
-uses-elements q i j (name x) d = omega arith
-uses-elements q zero zero (pair h t) d = absurd (d refl)
-uses-elements q zero (suc j) (pair h t) d = omega (arith, uses-element q j t)
-uses-elements q (suc i) zero (pair h t) d = omega (arith, uses-element q i t)
-uses-elements q (suc i) (suc j) (pair h t) d = omega (arith, uses-elements q i j t (λ e. d (ap suc e)))
-
--- names keep their items
-module _ (f : Name → Name) (keeps : (x : Name) → f x .item ≡ x .item) where
-  pub uses-onNames : (q : ℕ) (t : Tree) → uses q (onNames f t) ≡ uses q t
-  unfolding uses onNames
-  uses-onNames q empty = refl
-  uses-onNames q (constant a) = refl
-  uses-onNames q (name x) = ap (λ i. cond (eqb i q) 1 0) (keeps x)
-  uses-onNames q (pair h t) = ap₂ _+_ (uses-onNames q h) (uses-onNames q t)
-
-bindName-keeps : (i : Name) (b : Binding) (x : Name) → bindName i b x .item ≡ x .item
-unfolding bindName giveBinding
-bindName-keeps i b x = go (same i x)
-  where
-    go : (c : Bool) → cond c (giveBinding b x) x .item ≡ x .item
-    go true = refl
-    go false = refl
-
-pub uses-bindAll : (q : ℕ) (f : ℕ → Binding) (k : ℕ) (xs : List Name) (t : Tree) → uses q (bindAll f k xs t) ≡ uses q t
-unfolding bindAll bind
-uses-bindAll q f k [] t = refl
-uses-bindAll q f k (x ∷ xs) t = uses-bindAll q f (suc k) xs (bind x (f k) t) ∙ uses-onNames (bindName x (f k)) (bindName-keeps x (f k)) q t
 
 -- the tree at a place
 unfoldable pub sub : List ℕ → Tree → Tree

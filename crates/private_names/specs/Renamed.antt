@@ -10,7 +10,9 @@ use lib.Dec.{eqb}
 use Rattle.words.specs.Lists.{any}
 use Rattle.words.specs.TestLaws.{or-left, or-right, any-append}
 use Rattle.recipe.specs.Name.{Name, plainName, isEllipsis}
-use Rattle.recipe.specs.Tree.{Tree, empty, constant, name, pair, names, onPair, elements, element, tail, onNames}
+use Rattle.recipe.specs.Tree.{Tree, empty, constant, name, pair, names, elements, element, onNames}
+use Rattle.recipe.specs.TreeNames.{TreeAll, all-empty, all-constant, all-name, all-pair, treeAll-map, treeAll-both, treeAll-element, uses, uses-element}
+use Rattle.recipe.specs.TableNames.{Plain}
 use Rattle.expansion.specs.Rules.{variables, isVariable, depthBefore}
 use Rattle.private_names.specs.Statement.{isPrivate}
 use Rattle.simulation.specs.Shapes.{TreeOf, empties, constants, names₂, pairs}
@@ -18,37 +20,10 @@ use Rattle.simulation.specs.Names.Shown.{Renaming}
 use Rattle.simulation.specs.Form.Holes.{Hole, here, first, later}
 use Rattle.simulation.specs.Form.Scopes.{Scope, Placed, hasVariable}
 use Rattle.simulation.specs.Form.Places.{Still, Turning, InTemplate, stays, turns, ChosenRules}
-use Rattle.private_names.specs.Tables.{TreeAll, all-empty, all-constant, all-name, all-pair, uses, Plain, renumberName}
-use Rattle.private_names.specs.Paths.{sub, uses-element}
+use Rattle.private_names.specs.Renumber.{renumberName}
+use Rattle.private_names.specs.Paths.{sub}
 
 -- ---- names of trees
-
-pub treeAll-map : {P Q : Name → Type 0} → ((x : Name) → P x → Q x) → {t : Tree} → TreeAll P t → TreeAll Q t
-treeAll-map h all-empty = all-empty
-treeAll-map h all-constant = all-constant
-treeAll-map h (all-name p) = all-name (h _ p)
-treeAll-map h (all-pair p q) = all-pair (treeAll-map h p) (treeAll-map h q)
-
-pub treeAll-both : {P Q : Name → Type 0} {t : Tree} → TreeAll P t → TreeAll Q t → TreeAll (λ x. P x × Q x) t
-treeAll-both all-empty q = all-empty
-treeAll-both all-constant q = all-constant
-treeAll-both (all-name p) (all-name q) = all-name (p, q)
-treeAll-both (all-pair p p′) (all-pair q q′) = all-pair (treeAll-both p q) (treeAll-both p′ q′)
-
-pub treeAll-element : {P : Name → Type 0} (k : ℕ) {t : Tree} → TreeAll P t → TreeAll P (element k t)
-unfolding element elements
-treeAll-element k all-empty = all-empty
-treeAll-element k all-constant = all-empty
-treeAll-element k (all-name p) = all-empty
-treeAll-element zero (all-pair p q) = p
-treeAll-element (suc k) (all-pair p q) = treeAll-element k q
-
-pub treeAll-tail : {P : Name → Type 0} {t : Tree} → TreeAll P t → TreeAll P (tail t)
-unfolding tail onPair
-treeAll-tail all-empty = all-empty
-treeAll-tail all-constant = all-empty
-treeAll-tail (all-name p) = all-empty
-treeAll-tail (all-pair p q) = q
 
 pub treeAll-sub : {P : Name → Type 0} (l : List ℕ) {t : Tree} → TreeAll P t → TreeAll P (sub l t)
 unfolding sub
@@ -59,13 +34,6 @@ pub uses-sub : (q : ℕ) (l : List ℕ) (t : Tree) → uses q (sub l t) ≤ uses
 unfolding sub
 uses-sub q [] t = omega arith
 uses-sub q (k ∷ l) t = omega (arith, uses-sub q l (element k t), uses-element q k t)
-
-pub element-tail : (k : ℕ) (t : Tree) → element k (tail t) ≡ element (suc k) t
-unfolding element elements tail onPair
-element-tail k empty = refl
-element-tail k (constant a) = refl
-element-tail k (name x) = refl
-element-tail k (pair h t) = refl
 
 -- ---- the items of the private name
 
