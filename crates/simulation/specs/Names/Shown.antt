@@ -9,6 +9,7 @@ use Rattle.words.specs.TestLaws.{and-both, and-none-right}
 use Rattle.words.specs.Each.{Each, each-left, each-right}
 use Rattle.recipe.specs.Name.{Binding, Name}
 use Rattle.expansion.specs.Computation.{Event, looked, quoted, reached, binds, Events}
+use Rattle.private_names.specs.Statement as Statement
 
 -- the items of the private name in its template; the bindings whose own name is a copy;
 -- its number in the first run and in the second, neither that of `...` nor that of `_`
@@ -23,9 +24,9 @@ pub record Renaming : Type 0 where
   pub new-7 : eqb new 7 ≡ false
 
 module _ (ρ : Renaming) where
-  -- a copy: a name in a step's result that stems from an item of the private name
-  unfoldable pub isCopy : Name → Bool
-  isCopy x = x .produced && ρ .isPrivate (x .item)
+  -- a copy, as the statement has it: a name in a step's result that stems from an item of the private name
+  abbrev pub isCopy : Name → Bool
+  isCopy = Statement.isCopy (ρ .isPrivate)
 
   -- a binding whose own name is a copy
   unfoldable pub ofCopy : Option Binding → Bool
@@ -33,11 +34,11 @@ module _ (ρ : Renaming) where
   ofCopy (some b) = ρ .isOwned b
 
   pub not-private-not-copy : (x : Name) → ρ .isPrivate (x .item) ≡ false → isCopy x ≡ false
-  unfolding isCopy
+  unfolding Statement.isCopy
   not-private-not-copy x e = and-none-right (x .produced) _ e
 
   pub private-copy : (x : Name) → x .produced ≡ true → ρ .isPrivate (x .item) ≡ true → isCopy x ≡ true
-  unfolding isCopy
+  unfolding Statement.isCopy
   private-copy x e f = and-both _ _ e f
 
   pub owned-apart : {b c : Option Binding} → ofCopy b ≡ true → ofCopy c ≡ false → b ≡ c → ⊥

@@ -13,8 +13,8 @@ use Rattle.recipe.specs.Tree.{Tree, empty, constant, name, pair, onName, elemen
 use Rattle.recipe.specs.TreeNames.{uses, uses-elements}
 use Rattle.simulation.specs.Shapes.{TreeOf, element-rel}
 use Rattle.simulation.specs.Form.Holes.{Hole, first, later}
-use Rattle.private_names.specs.Reach.{isAt, isNameAt, Unheaded, empty₁, constant₁, name₁, pair₁, UnheadedAll, empty₂, constant₂, name₂, pair₂, isAt-bind}
+use Rattle.private_names_proof.specs.Reach.{isAt, isNameAt, Unheaded, empty₁, constant₁, name₁, pair₁, UnheadedAll, empty₂, constant₂, name₂, pair₂, isAt-bind}
 use Rattle.private_names.specs.Statement.{parts, firstWith, hasHead}
 
 -- the tree at a place
 unfoldable pub sub : List ℕ → Tree → Tree

@@ -31,8 +31,8 @@ use Rattle.simulation.specs.Form.Holes.{Hole, first, later}
 use Rattle.simulation.specs.Form.Places.{Still, ChosenRules, Foreign, bindAll-hole, rebindAll-foreign, AtRest, rest-coherent, rest-ready, rest-below, still-rel}
 use Rattle.simulation.specs.Form.Scopes.{Scope, rebindAll}
 use Rattle.simulation.specs.Form.{hole-alike, Joined, form-agree}
-use Rattle.private_names.specs.Reach.{isAt, Unheaded, Unreached, unreached, none-reached, give-unreached, bind-unreached, bindings-none, read-unreached, all-unreached, operands-unreached, quote-unreached, if-unreached, lambda-unreached, macros-unreached, use-unreached, refuse-unreached, expand-unreached}
-use Rattle.private_names.specs.Paths.{isAt-item, unused-name, Headed, headed, in-first, in-later, headed-uses, headed-element, headed-bindAll, unused-unheaded, other-unheaded, hole-at, hole-off}
+use Rattle.private_names_proof.specs.Reach.{isAt, Unheaded, Unreached, unreached, none-reached, give-unreached, bind-unreached, bindings-none, read-unreached, all-unreached, operands-unreached, quote-unreached, if-unreached, lambda-unreached, macros-unreached, use-unreached, refuse-unreached, expand-unreached}
+use Rattle.private_names_proof.specs.Paths.{isAt-item, unused-name, Headed, headed, in-first, in-later, headed-uses, headed-element, headed-bindAll, unused-unheaded, other-unheaded, hole-at, hole-off}
 
 -- ---- trees that are still are equal
 

@@ -14,14 +14,14 @@ use Rattle.recipe.specs.Tree.{Tree, empty, constant, name, pair, names, element
 use Rattle.recipe.specs.TreeNames.{TreeAll, all-empty, all-constant, all-name, all-pair, treeAll-map, treeAll-both, treeAll-element, uses, uses-element}
 use Rattle.recipe.specs.TableNames.{Plain}
 use Rattle.expansion.specs.Rules.{variables, isVariable, depthBefore}
 use Rattle.private_names.specs.Statement.{isPrivate}
 use Rattle.simulation.specs.Shapes.{TreeOf, empties, constants, names₂, pairs}
 use Rattle.simulation.specs.Names.Shown.{Renaming}
 use Rattle.simulation.specs.Form.Holes.{Hole, here, first, later}
 use Rattle.simulation.specs.Form.Scopes.{Scope, Placed, hasVariable}
 use Rattle.simulation.specs.Form.Places.{Still, Turning, InTemplate, stays, turns, ChosenRules}
-use Rattle.private_names.specs.Renumber.{renumberName}
-use Rattle.private_names.specs.Paths.{sub}
+use Rattle.private_names_proof.specs.Renumber.{renumberName}
+use Rattle.private_names_proof.specs.Paths.{sub}
 
 -- ---- names of trees
 

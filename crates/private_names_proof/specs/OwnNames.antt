@@ -1,22 +1,23 @@
--- A binding's own name is one name, so that among a run's events a binding is a copy's just where the name at hand is a copy.
--- That each is made once is a law of expansion (`run-own-name`); here it is said of the statement's copies.
-use mathlib.Core.Path.{_≡_, refl, ap, subst}
+-- A binding's own name is one name (expansion's `run-own-name`), so that a binding is a copy's just where the name at hand is a copy.
+-- And so what the statement asks of the first run's events is what the simulation asks of them (`all-fine`).
+use mathlib.Core.Path.{_≡_, refl, ap, _∙_, subst}
 use mathlib.Core.Logic.{_⊎_, inl, inr}
-use mathlib.Core.Bool.{Bool, true, false≢true}
+use mathlib.Core.Bool.{Bool, true, false, not, _||_, false≢true}
 use mathlib.Core.List.{List, [], _∷_, List·Memᴰ, List·Memᴰ·head, List·Memᴰ·tail}
-use mathlib.Core.Option.{some}
+use mathlib.Core.Option.{Option, none, some}
 use Prim.Native.Nat.{ℕ}
 use lib.Dec.{eqb}
-use borrow.Author.Tests.{eqb-true, eq-eqb}
-use Rattle.words.specs.Lists.{any}
-use Rattle.words.specs.TestLaws.{and-parts, and-both, or-left, or-right, or-cases, iff-eq}
+use borrow.Author.Tests.{eqb-true, eq-eqb, not-true}
+use Rattle.words.specs.Lists.{all, any}
+use Rattle.words.specs.TestLaws.{and-parts, and-both, or-left, or-right, or-cases, iff-eq, all-parts}
 use Rattle.words.specs.Each.{Each, noneOf, also}
 use Rattle.recipe.specs.Name.{Binding, Name, bindingKey}
 use Rattle.expansion.specs.Computation.{Event, looked, quoted, reached, binds, Events}
 use Rattle.expansion.specs.Run.{run}
 use Rattle.expansion.specs.Ways.OwnNames.{bindingsMade, run-own-name}
+use Rattle.simulation.specs.Names.Shown.{Renaming, ofCopy, Fine, AllFine}
 use Rattle.simulation.specs.Names.Sameness.{bindingKey-injective}
-use Rattle.private_names.specs.Statement.{isCopy, bindsCopy, isOwnedByCopy}
+use Rattle.private_names.specs.Statement.{isCopy, bindsCopy, isOwnedByCopy, quotesNoCopy, findsOwn}
 
 some-injective : {b c : Binding} → some b ≡ some c → b ≡ c
 some-injective e = cc
@@ -72,3 +73,32 @@ module _ (C : ℕ → Bool) where
   -- so of all that a run shows
   pub run-own : (ws : List ℕ) (fuel work core : ℕ) → Each (OwnName (run ws fuel work core .events)) (run ws fuel work core .events)
   run-own ws fuel work core = own-names (run ws fuel work core .events) (λ b x y p q. run-own-name ws fuel work core b p q) (run ws fuel work core .events) (λ p m. m)
+
+-- ---- the statement's hypotheses, as the simulation takes them
+
+implied : (a b : Bool) → (not a || b) ≡ true → a ≡ true → b ≡ true
+implied true b e f = e
+implied false b e f = absurd (false≢true f)
+
+module _ (ρ : Renaming) (shown : Events) (owned : (b : Binding) → ρ .isOwned b ≡ isOwnedByCopy (ρ .isPrivate) shown (some b)) where
+  abbrev C : ℕ → Bool
+  C = ρ .isPrivate
+
+  owned-eq : (b : Option Binding) → ofCopy ρ b ≡ isOwnedByCopy C shown b
+  unfolding ofCopy isOwnedByCopy
+  owned-eq none = refl
+  owned-eq (some b) = owned b
+
+  event-fine : {e : Event} → quotesNoCopy C e ≡ true → findsOwn C shown e ≡ true → OwnName C shown e → Fine ρ e
+  unfolding quotesNoCopy findsOwn Fine
+  event-fine q h (of-look {x = x}) = λ c. owned-eq (x .binding) ∙ implied (isCopy C x) (isOwnedByCopy C shown (x .binding)) h c
+  event-fine q h (of-quote {x = x}) = not-true (isCopy C x) q
+  event-fine q h of-form = tt
+  event-fine q h (of-binding {b = b} {x = x} e) = owned-eq (some b) ∙ e
+
+  pub all-fine : {l : Events} → all (quotesNoCopy C) l ≡ true → all (findsOwn C shown) l ≡ true → Each (OwnName C shown) l → AllFine ρ l
+  all-fine q h noneOf = noneOf
+  all-fine q h (also {x = e} {xs = l} o a) =
+      let r = all-parts (quotesNoCopy C) e l q in
+      let p = all-parts (findsOwn C shown) e l h in
+      also (event-fine (r .0) (p .0) o) (all-fine (r .1) (p .1) a)
