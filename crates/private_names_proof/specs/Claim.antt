@@ -28,7 +28,8 @@ use Rattle.simulation.specs.Names.{Raw}
 use Rattle.simulation.specs.Terms.{TermRel, encode-rel}
 use Rattle.simulation.specs.States.{StateRel, no-macro}
 use Rattle.simulation.specs.Outcomes.{eventsOf, OutRel, dones, refusals, starvations}
-use Rattle.private_names_proof.specs.Reach.{Unheaded, none-reached, expand-unreached}
+use Rattle.private_names_proof.specs.Reach.Heads.{Unheaded}
+use Rattle.private_names_proof.specs.Reach.{none-reached, expand-unreached}
 use Rattle.private_names_proof.specs.OwnNames.{OwnName, run-own, all-fine}
 use Rattle.private_names_proof.specs.Renumber.{treeOf-renumber, count-renumber, layout-renumber}
 use Rattle.private_names_proof.specs.Paths.{sub, Headed, find}

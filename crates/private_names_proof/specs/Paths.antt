@@ -10,16 +10,26 @@ use Rattle.words.specs.Lists.{any}
 use Rattle.words.specs.TestLaws.{and-right, any-append}
 use Rattle.recipe.specs.Name.{Binding, Name, bindName}
 use Rattle.recipe.specs.Tree.{Tree, empty, constant, name, pair, onName, elements, element, onNames, bind, bindAll}
-use Rattle.recipe.specs.TreeNames.{uses, uses-elements}
+use Rattle.recipe.specs.TreeNames.{TreeAll, treeAll-element, uses, uses-element, uses-elements}
 use Rattle.simulation.specs.Shapes.{TreeOf, element-rel}
 use Rattle.simulation.specs.Form.Holes.{Hole, first, later}
-use Rattle.private_names_proof.specs.Reach.{isAt, isNameAt, Unheaded, empty₁, constant₁, name₁, pair₁, UnheadedAll, empty₂, constant₂, name₂, pair₂, isAt-bind}
+use Rattle.private_names_proof.specs.Reach.Heads.{isAt, isNameAt, Unheaded, empty₁, constant₁, name₁, pair₁, UnheadedAll, empty₂, constant₂, name₂, pair₂, isAt-bind}
 use Rattle.private_names.specs.Statement.{parts, firstWith, hasHead}
 
 -- the tree at a place
 unfoldable pub sub : List ℕ → Tree → Tree
 sub [] t = t
 sub (k ∷ l) t = sub l (element k t)
+
+pub treeAll-sub : {P : Name → Type 0} (l : List ℕ) {t : Tree} → TreeAll P t → TreeAll P (sub l t)
+unfolding sub
+treeAll-sub [] a = a
+treeAll-sub (k ∷ l) a = treeAll-sub l (treeAll-element k a)
+
+pub uses-sub : (q : ℕ) (l : List ℕ) (t : Tree) → uses q (sub l t) ≤ uses q t
+unfolding sub
+uses-sub q [] t = omega arith
+uses-sub q (k ∷ l) t = omega (arith, uses-sub q l (element k t), uses-element q k t)
 
 firstWith-here : (f : Tree → Bool) (ts us : List Tree) → any f ts ≡ true → firstWith f (ts ++ us) ≡ firstWith f ts
 unfolding firstWith any

@@ -1,17 +1,16 @@
 -- What a computation reaches outside results stems from the tree at hand: where no list of an expression is headed by the unproduced name
 -- of item p, its expansion shows no form reached by that name.
+pub mod Heads
 use mathlib.Core.Path.{_≡_, refl, ap, _∙_}
-use mathlib.Core.Bool.{Bool, true, false, not, _&&_, _||_, cond}
+use mathlib.Core.Bool.{Bool, true, false, _||_}
 use mathlib.Core.List.{List, [], _∷_, map}
 use mathlib.Core.Option.{Option, none, some}
 use Prim.Native.Nat.{ℕ, zero, suc}
-use lib.Dec.{eqb}
 use lib.ListN.{length, getD}
 use Rattle.words.specs.Lists.{any}
 use Rattle.words.specs.TestLaws.{or-none, any-append}
-use Rattle.datum.specs.Constant.{Constant}
-use Rattle.recipe.specs.Name.{Binding, variable, macro, Name, same, produceName, giveBinding, bindName}
-use Rattle.recipe.specs.Tree.{Tree, empty, constant, name, pair, names, onName, onPair, elements, element, tail, onNames, mark, produce, bind, bindAll}
+use Rattle.recipe.specs.Name.{Binding, variable, macro, Name}
+use Rattle.recipe.specs.Tree.{Tree, empty, constant, name, pair, names, onName, onPair, element, tail, mark}
 use Rattle.core_term.specs.Term.{Term}
 use Rattle.expansion.specs.Lookup.{quote, if, lambda, let-syntax, letrec-syntax, auxiliary, Found, bound, form, operation, nothing, lookup}
 use Rattle.expansion.specs.Rules.{rulesOf}
@@ -20,99 +19,9 @@ use Rattle.expansion.specs.Computation.{State, looked, quoted, Events, Out, don
 use Rattle.expansion.specs.Forms.{formals, keywords, bindings, readRules, expandAll, expandQuote, expandIf, expandLambda, expandMacros, expandUse, expandOperands, expandList, expandName, expandApplication, expandPair, expandTree, expand}
 use Rattle.private_names.specs.Statement.{isReachedAt}
 use Rattle.simulation.specs.Outcomes.{eventsOf, events-after}
+use Rattle.private_names_proof.specs.Reach.Heads.{isAt, isNameAt, Unheaded, empty₁, constant₁, name₁, pair₁, UnheadedAll, empty₂, constant₂, name₂, pair₂, unheaded-element, unheaded-bindAll, unheaded-produce}
 
 module _ (p : ℕ) where
-  -- the unproduced name of item p
-  unfoldable pub isAt : Name → Bool
-  isAt x = not (x .produced) && eqb (x .item) p
-
-  unfoldable pub isNameAt : Tree → Bool
-  isNameAt = onName isAt false
-
-  -- no list of an expression, or of the elements of a list, is headed by that name
-  mutual
-    pub data Unheaded : Tree → Type 0 where
-      empty₁ : Unheaded empty
-      constant₁ : {a : Constant} → Unheaded (constant a)
-      name₁ : {x : Name} → Unheaded (name x)
-      pair₁ : {h t : Tree} → isNameAt h ≡ false → Unheaded h → UnheadedAll t → Unheaded (pair h t)
-
-    pub data UnheadedAll : Tree → Type 0 where
-      empty₂ : UnheadedAll empty
-      constant₂ : {a : Constant} → UnheadedAll (constant a)
-      name₂ : {x : Name} → UnheadedAll (name x)
-      pair₂ : {h t : Tree} → Unheaded h → UnheadedAll t → UnheadedAll (pair h t)
-
-  pub unheaded-all : {t : Tree} → Unheaded t → UnheadedAll t
-  unheaded-all empty₁ = empty₂
-  unheaded-all constant₁ = constant₂
-  unheaded-all name₁ = name₂
-  unheaded-all (pair₁ e u v) = pair₂ u v
-
-  pub unheaded-element : (k : ℕ) {t : Tree} → UnheadedAll t → Unheaded (element k t)
-  unfolding element elements
-  unheaded-element k empty₂ = empty₁
-  unheaded-element k constant₂ = empty₁
-  unheaded-element k name₂ = empty₁
-  unheaded-element zero (pair₂ u v) = u
-  unheaded-element (suc k) (pair₂ u v) = unheaded-element k v
-
-  -- ---- names keep their item and whether they were produced
-
-  module _ (f : Name → Name) (keeps : (x : Name) → isAt (f x) ≡ isAt x) where
-    isNameAt-onNames : (t : Tree) → isNameAt (onNames f t) ≡ isNameAt t
-    unfolding isNameAt onName onNames
-    isNameAt-onNames empty = refl
-    isNameAt-onNames (constant a) = refl
-    isNameAt-onNames (name x) = keeps x
-    isNameAt-onNames (pair h t) = refl
-
-    mutual
-      unfolding onNames
-
-      pub unheaded-onNames : {t : Tree} → Unheaded t → Unheaded (onNames f t)
-      unheaded-onNames empty₁ = empty₁
-      unheaded-onNames constant₁ = constant₁
-      unheaded-onNames name₁ = name₁
-      unheaded-onNames (pair₁ {h = h} e u v) = pair₁ (isNameAt-onNames h ∙ e) (unheaded-onNames u) (unheadedAll-onNames v)
-
-      pub unheadedAll-onNames : {t : Tree} → UnheadedAll t → UnheadedAll (onNames f t)
-      unheadedAll-onNames empty₂ = empty₂
-      unheadedAll-onNames constant₂ = constant₂
-      unheadedAll-onNames name₂ = name₂
-      unheadedAll-onNames (pair₂ u v) = pair₂ (unheaded-onNames u) (unheadedAll-onNames v)
-
-  pub isAt-bind : (i : Name) (b : Binding) (x : Name) → isAt (bindName i b x) ≡ isAt x
-  unfolding isAt bindName giveBinding
-  isAt-bind i b x = go (same i x)
-    where
-      go : (c : Bool) → isAt (cond c (giveBinding b x) x) ≡ isAt x
-      go true = refl
-      go false = refl
-
-  pub unheaded-bindAll : (f : ℕ → Binding) (k : ℕ) (xs : List Name) {t : Tree} → Unheaded t → Unheaded (bindAll f k xs t)
-  unfolding bindAll bind
-  unheaded-bindAll f k [] u = u
-  unheaded-bindAll f k (x ∷ xs) u = unheaded-bindAll f (suc k) xs (unheaded-onNames (bindName x (f k)) (isAt-bind x (f k)) u)
-
-  -- a step's result has no such name
-  isNameAt-produce : (t : Tree) → isNameAt (produce t) ≡ false
-  unfolding isNameAt onName isAt produce onNames produceName
-  isNameAt-produce empty = refl
-  isNameAt-produce (constant a) = refl
-  isNameAt-produce (name x) = refl
-  isNameAt-produce (pair h t) = refl
-
-  pub unheaded-produce : (t : Tree) → Unheaded (produce t) × UnheadedAll (produce t)
-  unfolding produce onNames
-  unheaded-produce empty = (empty₁, empty₂)
-  unheaded-produce (constant a) = (constant₁, constant₂)
-  unheaded-produce (name x) = (name₁, name₂)
-  unheaded-produce (pair h t) =
-      let a = unheaded-produce h in
-      let b = unheaded-produce t in
-      (pair₁ (isNameAt-produce h) (a .0) (b .1), pair₂ (a .0) (b .1))
-
   -- ---- what is not reached
 
   pub data Unreached {A : Type 0} : Out A → Type 0 where
@@ -201,8 +110,8 @@ module _ (p : ℕ) where
   -- ---- forms
 
   module _ (limit : ℕ) (operations : List ℕ) (fuel : ℕ) (rec : Tree → M (Term Name))
-      (good : (t : Tree) → Unheaded t → (s : State) → Unreached (rec t s)) where
-    pub all-unreached : {t : Tree} → UnheadedAll t → (s : State) → Unreached (expandAll limit operations fuel rec t s)
+      (good : (t : Tree) → Unheaded p t → (s : State) → Unreached (rec t s)) where
+    pub all-unreached : {t : Tree} → UnheadedAll p t → (s : State) → Unreached (expandAll limit operations fuel rec t s)
     unfolding expandAll
     all-unreached empty₂ s = give-unreached _ s
     all-unreached constant₂ s = give-unreached _ s
@@ -212,11 +121,11 @@ module _ (p : ℕ) where
         bind-unreached _ _ w (all-unreached v w) λ b z.
         give-unreached _ z
 
-    pub operands-unreached : (head : Term Name) {t : Tree} → UnheadedAll t → (s : State) → Unreached (expandOperands limit operations fuel rec head t s)
+    pub operands-unreached : (head : Term Name) {t : Tree} → UnheadedAll p t → (s : State) → Unreached (expandOperands limit operations fuel rec head t s)
     unfolding expandOperands
     operands-unreached head u s = bind-unreached _ _ s (all-unreached u s) λ a w. give-unreached _ w
 
-    pub application-unreached : {h t : Tree} → Unheaded h → UnheadedAll t → (s : State) → Unreached (expandApplication limit operations fuel rec h t s)
+    pub application-unreached : {h t : Tree} → Unheaded p h → UnheadedAll p t → (s : State) → Unreached (expandApplication limit operations fuel rec h t s)
     unfolding expandApplication
     application-unreached {h} u v s = bind-unreached _ _ s (good h u s) λ a w. operands-unreached a v w
 
@@ -224,7 +133,7 @@ module _ (p : ℕ) where
     unfolding expandQuote
     quote-unreached t s = test-unreached 13 _ _ s (show-unreached _ _ s (quoted-none (names (element 1 t))) (give-unreached _ s))
 
-    pub if-unreached : (t : Tree) → Unheaded (element 1 t) → Unheaded (element 2 t) → Unheaded (element 3 t) → (s : State) → Unreached (expandIf limit operations fuel rec t s)
+    pub if-unreached : (t : Tree) → Unheaded p (element 1 t) → Unheaded p (element 2 t) → Unheaded p (element 3 t) → (s : State) → Unreached (expandIf limit operations fuel rec t s)
     unfolding expandIf
     if-unreached t i j k s =
         test-unreached 13 _ _ s
@@ -233,7 +142,7 @@ module _ (p : ℕ) where
         bind-unreached _ _ w (good _ k w) λ c z.
         give-unreached _ z)
 
-    pub lambda-unreached : (t : Tree) → Unheaded (element 2 t) → (s : State) → Unreached (expandLambda limit operations fuel rec t s)
+    pub lambda-unreached : (t : Tree) → Unheaded p (element 2 t) → (s : State) → Unreached (expandLambda limit operations fuel rec t s)
     unfolding expandLambda addVariables
     lambda-unreached t u s =
         test-unreached 13 _ _ s
@@ -241,10 +150,10 @@ module _ (p : ℕ) where
         (get-unreached _ s
         (show-unreached _ _ s (bindings-none variable (s .variables) (formals t))
         (goes-unreached _ _ s _ refl
-        (bind-unreached _ _ _ (good _ (unheaded-bindAll variable (s .variables) (formals t) u) _) λ b z.
+        (bind-unreached _ _ _ (good _ (unheaded-bindAll p variable (s .variables) (formals t) u) _) λ b z.
         give-unreached _ z)))))
 
-    pub macros-unreached : (inside : Bool) (x : Name) → isAt x ≡ false → (t : Tree) → Unheaded (element 2 t) → (s : State) → Unreached (expandMacros limit operations fuel rec inside x t s)
+    pub macros-unreached : (inside : Bool) (x : Name) → isAt p x ≡ false → (t : Tree) → Unheaded p (element 2 t) → (s : State) → Unreached (expandMacros limit operations fuel rec inside x t s)
     unfolding expandMacros addMacros any isReachedAt isAt
     macros-unreached inside x e t u s =
         show-unreached _ _ s (ap (λ b. b || false) e)
@@ -254,7 +163,7 @@ module _ (p : ℕ) where
         (show-unreached _ _ s (bindings-none macro (length (s .macros)) (keywords t))
         (bind-unreached _ _ s (read-unreached _ s) λ rules v.
         goes-unreached _ _ v _ refl
-        (good _ (unheaded-bindAll macro (length (s .macros)) (keywords t) u) _))))))
+        (good _ (unheaded-bindAll p macro (length (s .macros)) (keywords t) u) _))))))
 
     pub use-unreached : (n : ℕ) (t : Tree) (s : State) → Unreached (expandUse limit operations fuel rec n t s)
     unfolding expandUse addStep
@@ -265,19 +174,19 @@ module _ (p : ℕ) where
         test-unreached 17 _ _ s
         (test-unreached 18 _ _ s
         (goes-unreached _ _ s _ refl
-        (good _ (unheaded-produce _ .0) _)))))
+        (good _ (unheaded-produce p _ .0) _)))))
 
-    list-unreached : (f : Found) (x : Name) → isAt x ≡ false → {t : Tree} → UnheadedAll t → (s : State) → Unreached (expandList limit operations fuel rec f x (pair (name x) t) s)
+    list-unreached : (f : Found) (x : Name) → isAt p x ≡ false → {t : Tree} → UnheadedAll p t → (s : State) → Unreached (expandList limit operations fuel rec f x (pair (name x) t) s)
     unfolding expandList tail onPair
     list-unreached (bound (variable n)) x e u s = operands-unreached _ u s
     list-unreached (bound (macro n)) x e u s = use-unreached n _ s
     list-unreached (form quote) x e u s = quote-unreached _ s
     list-unreached (form if) x e u s =
         let v = pair₂ {h = name x} name₁ u in
-        if-unreached _ (unheaded-element 1 v) (unheaded-element 2 v) (unheaded-element 3 v) s
-    list-unreached (form lambda) x e u s = lambda-unreached _ (unheaded-element 2 (pair₂ {h = name x} name₁ u)) s
-    list-unreached (form let-syntax) x e u s = macros-unreached false x e _ (unheaded-element 2 (pair₂ {h = name x} name₁ u)) s
-    list-unreached (form letrec-syntax) x e u s = macros-unreached true x e _ (unheaded-element 2 (pair₂ {h = name x} name₁ u)) s
+        if-unreached _ (unheaded-element p 1 v) (unheaded-element p 2 v) (unheaded-element p 3 v) s
+    list-unreached (form lambda) x e u s = lambda-unreached _ (unheaded-element p 2 (pair₂ {h = name x} name₁ u)) s
+    list-unreached (form let-syntax) x e u s = macros-unreached false x e _ (unheaded-element p 2 (pair₂ {h = name x} name₁ u)) s
+    list-unreached (form letrec-syntax) x e u s = macros-unreached true x e _ (unheaded-element p 2 (pair₂ {h = name x} name₁ u)) s
     list-unreached (form auxiliary) x e u s = refuse-unreached 12 s
     list-unreached (operation k) x e u s = operands-unreached _ u s
     list-unreached nothing x e u s = refuse-unreached 11 s
@@ -290,14 +199,14 @@ module _ (p : ℕ) where
     name-unreached (operation k) s = give-unreached _ s
     name-unreached nothing s = refuse-unreached 11 s
 
-    pair-unreached : (h : Tree) {t : Tree} → isNameAt h ≡ false → Unheaded h → UnheadedAll t → (s : State) → Unreached (expandPair limit operations fuel rec h t s)
+    pair-unreached : (h : Tree) {t : Tree} → isNameAt p h ≡ false → Unheaded p h → UnheadedAll p t → (s : State) → Unreached (expandPair limit operations fuel rec h t s)
     unfolding expandPair any isReachedAt isNameAt onName
     pair-unreached empty e u v s = application-unreached u v s
     pair-unreached (constant a) e u v s = application-unreached u v s
     pair-unreached (name x) e u v s = show-unreached _ _ s refl (list-unreached (lookup operations x) x e v s)
     pair-unreached (pair a b) e u v s = application-unreached u v s
 
-    tree-unreached : (t : Tree) → Unheaded t → (s : State) → Unreached (expandTree limit operations fuel rec t s)
+    tree-unreached : (t : Tree) → Unheaded p t → (s : State) → Unreached (expandTree limit operations fuel rec t s)
     unfolding expandTree any isReachedAt
     tree-unreached _ empty₁ s = refuse-unreached 13 s
     tree-unreached _ constant₁ s = give-unreached _ s
@@ -305,7 +214,7 @@ module _ (p : ℕ) where
     tree-unreached _ (pair₁ {h = h} e u v) s = pair-unreached h e u v s
 
   -- Reach: what is reached outside results is a list of the tree at hand, by its head
-  pub expand-unreached : (limit : ℕ) (operations : List ℕ) (fuel gas : ℕ) (t : Tree) → Unheaded t → (s : State) → Unreached (expand limit operations fuel gas t s)
+  pub expand-unreached : (limit : ℕ) (operations : List ℕ) (fuel gas : ℕ) (t : Tree) → Unheaded p t → (s : State) → Unreached (expand limit operations fuel gas t s)
   unfolding expand eventsOf any
   expand-unreached limit operations fuel zero t u s = unreached refl
   expand-unreached limit operations fuel (suc gas) t u s =

@@ -22,9 +22,10 @@ use Rattle.private_names.specs.Statement.{Choice, formAt, rulesAt, ruleAt, temp
 use Rattle.simulation.specs.Names.Shown.{Renaming}
 use Rattle.simulation.specs.Form.Scopes.{hasVariable}
 use Rattle.private_names_proof.specs.Renumber.{tree-new}
-use Rattle.private_names_proof.specs.Paths.{sub, Headed, headed-of-element, headed-part}
+use Rattle.private_names_proof.specs.Paths.{sub, treeAll-sub, Headed, headed-of-element, headed-part}
 use Rattle.private_names_proof.specs.Before.{still-eq}
-use Rattle.private_names_proof.specs.Renamed.{treeAll-sub, isOld, old-some, variables-none, unbound, renew, still-tree, Held, held-element, templateIn, Chosen, renamed-holds}
+use Rattle.private_names_proof.specs.Renamed.OldItems.{isOld, old-some, variables-none}
+use Rattle.private_names_proof.specs.Renamed.{unbound, renew, still-tree, Held, held-element, templateIn, Chosen, renamed-holds}
 
 module _ (ws : List ℕ) (c : Choice) (layout : isLayout ws ≡ true) (private : S.isPrivate (treeOf ws) c ≡ true) (new : isNew ws (c .new) ≡ true) (shown : Events) where
   abbrev T : Tree
