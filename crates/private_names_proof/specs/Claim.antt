@@ -33,7 +33,8 @@ use Rattle.private_names_proof.specs.Reach.{none-reached, expand-unreach
 use Rattle.private_names_proof.specs.OwnNames.{OwnName, run-own, all-fine}
 use Rattle.private_names_proof.specs.Renumber.{treeOf-renumber, count-renumber, layout-renumber}
 use Rattle.private_names_proof.specs.Paths.{sub, Headed, find}
-use Rattle.private_names_proof.specs.Before.{Joins, before-agree}
+use Rattle.private_names_proof.specs.Before.Meeting.{Joins}
+use Rattle.private_names_proof.specs.Before.{before-agree}
 use Rattle.private_names_proof.specs.Renamed.{unbound, renew, Held, held-element, Chosen, renamed-hole}
 use Rattle.private_names_proof.specs.Taken.{new-large, renaming, held, chosen, operations-same}
 

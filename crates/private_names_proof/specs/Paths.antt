@@ -113,6 +113,16 @@ module _ (p : ℕ) where
       let v = unused-unheaded t j in
       (pair₁ (unused-head h i) (u .0) (v .1), pair₂ (u .0) (v .1))
 
+  -- the form's head is its one name of item p
+  pub headed-one : (x : Name) → isAt p x ≡ true → uses p (name x) ≡ 1
+  unfolding uses
+  headed-one x e = ap (λ c. cond c 1 0) (isAt-item x e)
+
+  -- the elements after the head of a list, where that name is the head
+  pub later-unheaded : (x : Name) (t : Tree) → uses p t ≡ 0 → (i : ℕ) → Unheaded p (element (suc i) (pair (name x) t))
+  unfolding element elements
+  later-unheaded x t u i = unused-unheaded (element i t) (omega (arith, uses-element p i t)) .0
+
   -- an element other than the one with the place
   pub other-unheaded : {k : ℕ} {l : List ℕ} {t : Tree} → Headed (k ∷ l) t → uses p t ≤ 1 → (i : ℕ) → (i ≡ k → ⊥) → Unheaded p (element i t)
   other-unheaded {k} {l} {t} h u i d =

@@ -23,7 +23,7 @@ use Rattle.simulation.specs.Names.Shown.{Renaming}
 use Rattle.simulation.specs.Form.Scopes.{hasVariable}
 use Rattle.private_names_proof.specs.Renumber.{tree-new}
 use Rattle.private_names_proof.specs.Paths.{sub, treeAll-sub, Headed, headed-of-element, headed-part}
-use Rattle.private_names_proof.specs.Before.{still-eq}
+use Rattle.private_names_proof.specs.Before.Meeting.{still-eq}
 use Rattle.private_names_proof.specs.Renamed.OldItems.{isOld, old-some, variables-none}
 use Rattle.private_names_proof.specs.Renamed.{unbound, renew, still-tree, Held, held-element, templateIn, Chosen, renamed-holds}
 
