@@ -13,7 +13,7 @@ use Rattle.recipe.specs.Tree.{Tree, name, pair, onPair, tail}
 use Rattle.recipe.specs.TreeNames.{uses}
 use Rattle.core_term.specs.Term.{Term}
 use Rattle.expansion.specs.Lookup.{quote, if, lambda, let-syntax, letrec-syntax, auxiliary, Found, bound, form, operation, nothing, lookup}
-use Rattle.expansion.specs.Computation.{State, Out, M}
+use Rattle.expansion.specs.Computation.{State, M}
 use Rattle.expansion.specs.Forms.{expandList, expandApplication, expandPair, expandTree, expand}
 use Rattle.private_names.specs.Statement.{isReachedAt}
 use Rattle.simulation.specs.Shapes.{TreeOf, empties, constants, names₂, pairs}
@@ -23,11 +23,11 @@ use Rattle.simulation.specs.Outcomes.{eventsOf}
 use Rattle.simulation.specs.Form.Holes.{Hole, first, later}
 use Rattle.simulation.specs.Form.Places.{Still, ChosenRules, Foreign}
 use Rattle.simulation.specs.Form.Scopes.{Scope}
-use Rattle.simulation.specs.Form.{Joined, form-agree}
+use Rattle.simulation.specs.Form.{form-agree}
 use Rattle.private_names_proof.specs.Reach.Heads.{isAt}
 use Rattle.private_names_proof.specs.Reach.{operands-unreached, quote-unreached, if-unreached, lambda-unreached, use-unreached, refuse-unreached}
 use Rattle.private_names_proof.specs.Paths.{later-unheaded, headed-one, unused-name, Headed, headed, in-first, in-later, headed-uses, unused-unheaded}
-use Rattle.private_names_proof.specs.Before.Meeting.{still-eq, still-self, Calm, Joins, Meets, never, show-meets, place, Ahead}
+use Rattle.private_names_proof.specs.Before.Meeting.{still-eq, still-self, Calm, Meets, never, show-meets, place, Ahead}
 use Rattle.private_names_proof.specs.Before.Forms.{rec-unreached, operands-before, application-first, application-later, if-before, lambda-before, macros-before}
 
 module _ (ρ : Renaming) (p : ℕ) where
@@ -54,9 +54,6 @@ module _ (ρ : Renaming) (p : ℕ) where
         list-before (operation n) x a i u q r s calm = operands-before ρ p limit operations fuel gas b β free ahead operationCs i (omega arith) r s calm
         list-before nothing x a i u q r s calm = never ρ p (refuse-unreached p 11 s)
 
-        joined : {x y : Out (Term Name)} → Joined ρ x y → Joins ρ p (TermRel ρ) x y
-        joined j = record { raw = j .raw; outcomes = j .outcomes }
-
         -- the form itself
         list-here : (f : Found) (x : Name) {t t′ : Tree} → uses p t ≡ 0 → Hole (Still ρ β) (ChosenRules ρ β) (place ρ p b []) (pair (name x) t) (pair (name x) t′) → (s : State) → Calm ρ p s
             → Meets ρ p (TermRel ρ) (expandList limit operations fuel rec f x (pair (name x) t) s) (expandList limit operations fuel rec f x (pair (name x) t′) s)
@@ -67,8 +64,8 @@ module _ (ρ : Renaming) (p : ℕ) where
         list-here (form if) x {t} u r s calm =
             never ρ p (if-unreached p limit operations fuel rec (rec-unreached ρ p limit operations fuel gas b) (pair (name x) t) (later-unheaded p x t u 0) (later-unheaded p x t u 1) (later-unheaded p x t u 2) s)
         list-here (form lambda) x {t} u r s calm = never ρ p (lambda-unreached p limit operations fuel rec (rec-unreached ρ p limit operations fuel gas b) (pair (name x) t) (later-unheaded p x t u 1) s)
-        list-here (form let-syntax) x u r s calm = λ e fine. joined (form-agree ρ limit operations fuel gas β free false x r s calm fine)
-        list-here (form letrec-syntax) x u r s calm = λ e fine. joined (form-agree ρ limit operations fuel gas β free true x r s calm fine)
+        list-here (form let-syntax) x u r s calm = λ e fine. form-agree ρ limit operations fuel gas β free false x r s calm fine
+        list-here (form letrec-syntax) x u r s calm = λ e fine. form-agree ρ limit operations fuel gas β free true x r s calm fine
         list-here (form auxiliary) x u r s calm = never ρ p (refuse-unreached p 12 s)
         list-here (operation n) x {t} u r s calm = never ρ p (operands-unreached p limit operations fuel rec (rec-unreached ρ p limit operations fuel gas b) _ (unused-unheaded p t u .1) s)
         list-here nothing x u r s calm = never ρ p (refuse-unreached p 11 s)

@@ -28,12 +28,12 @@ use Rattle.simulation.specs.Names.{Raw}
 use Rattle.simulation.specs.Terms.{TermRel, encode-rel}
 use Rattle.simulation.specs.States.{StateRel, no-macro}
 use Rattle.simulation.specs.Outcomes.{eventsOf, OutRel, dones, refusals, starvations}
+use Rattle.simulation.specs.Form.{Joins}
 use Rattle.private_names_proof.specs.Reach.Heads.{Unheaded}
 use Rattle.private_names_proof.specs.Reach.{none-reached, expand-unreached}
 use Rattle.private_names_proof.specs.OwnNames.{OwnName, run-own, all-fine}
 use Rattle.private_names_proof.specs.Renumber.{treeOf-renumber, count-renumber, layout-renumber}
 use Rattle.private_names_proof.specs.Paths.{sub, Headed, find}
-use Rattle.private_names_proof.specs.Before.Meeting.{Joins}
 use Rattle.private_names_proof.specs.Before.{before-agree}
 use Rattle.private_names_proof.specs.Renamed.{unbound, renew, Held, held-element, Chosen, renamed-hole}
 use Rattle.private_names_proof.specs.Taken.{new-large, renaming, held, chosen, operations-same}
@@ -57,7 +57,7 @@ pub expressions-agree : (ρ : Renaming) (p limit : ℕ) (operations : List ℕ) 
     → Headed p l t → Held N t → Chosen ρ j (element 1 (element b (element 1 (sub l t))))
     → any (isReachedAt p) (eventsOf (expand limit operations fuel gas t start)) ≡ true
     → AllFine ρ (eventsOf (expand limit operations fuel gas t start))
-    → Joins ρ p (TermRel ρ) (expand limit operations fuel gas t start) (expand limit operations fuel gas (onNames (renew ρ) t) start)
+    → Joins ρ (TermRel ρ) (expand limit operations fuel gas t start) (expand limit operations fuel gas (onNames (renew ρ) t) start)
 unfolding ofCopy
 expressions-agree ρ p limit operations fuel gas N l b j t i held chosen reaches fine =
     before-agree ρ p limit operations fuel gas b unbound (λ n. refl) l t (onNames (renew ρ) t) i (held .once p) (renamed-hole ρ N l b j t held chosen) start (calm-start ρ) reaches fine
@@ -127,7 +127,7 @@ module _ (ws : List ℕ) (fuel work core : ℕ) (c : Choice) (k : Case ws fuel w
 
   -- where the form lies at l
   module _ (l : List ℕ) (i : Headed (c .form) l (element 1 (treeOf ws))) where
-    joins : Joins ρ (c .form) (TermRel ρ) (firstOf fuel ws) (expansionOf fuel (treeOf ws) (onNames (renew ρ) (element 1 (treeOf ws))))
+    joins : Joins ρ (TermRel ρ) (firstOf fuel ws) (expansionOf fuel (treeOf ws) (onNames (renew ρ) (element 1 (treeOf ws))))
     unfolding firstOf expansionOf
     joins =
         expressions-agree ρ (c .form) macrosMost (operationNumbers (treeOf ws)) fuel (size (treeOf ws) + fuel) (numberAt ws) l (c .macro) (c .rule) (element 1 (treeOf ws)) i

@@ -116,9 +116,12 @@ module _ (ρ : Renaming) where
   rawIn β = record { first = foreign (β (ρ .old)); second = foreign (β (ρ .new)); first-free = foreign-free (β (ρ .old)); second-free = foreign-free (β (ρ .new)) }
 
   -- outcomes that agree for some bindings of the template's own names
-  pub record Joined (x y : Out (Term Name)) : Type 1 where
+  pub record Joins {A : Type 0} (R : A → A → Type 0) (x y : Out A) : Type 1 where
     pub raw : Raw ρ
-    pub outcomes : OutRel ρ raw 0 (TermRel ρ) x y
+    pub outcomes : OutRel ρ raw 0 R x y
+
+  abbrev pub Joined : Out (Term Name) → Out (Term Name) → Type 1
+  Joined = Joins (TermRel ρ)
 
   module _ (limit : ℕ) (operations : List ℕ) (fuel gas : ℕ) (β : Scope) (free : Foreign ρ β) (inside : Bool) (x : Name) {b : ℕ} {F F′ : Tree} (r : Hole (Still ρ β) (ChosenRules ρ β) (1 ∷ b ∷ 1 ∷ []) F F′) (s : State) where
     abbrev γ : Scope

@@ -15,14 +15,14 @@ use Rattle.expansion.specs.Computation.{State, reached, M, _>>=_, _>>_, give, s
 use Rattle.expansion.specs.Forms.{isLambda, formals, isMacros, firstNames, keywords, rulesForms, bindings, readRules, expandAll, expandIf, expandLambda, expandMacros, expandOperands, expandApplication, expand}
 use Rattle.private_names.specs.Statement.{isReachedAt}
 use Rattle.simulation.specs.Relations.{ListRel, ends, joins, map-rel, list-map}
-use Rattle.simulation.specs.Shapes.{TreeOf, empties, constants, names₂, pairs, RuleOf, tree-map, names-rel, isListOf-rel}
+use Rattle.simulation.specs.Shapes.{TreeOf, empties, pairs, RuleOf, tree-map, names-rel, isListOf-rel}
 use Rattle.simulation.specs.Names.Shown.{Renaming, not-private-not-copy, AllFine}
 use Rattle.simulation.specs.Names.{Raw, NameRel, TreeRel}
-use Rattle.simulation.specs.Terms.{noneCs, moreCs, ifCs, applicationCs, lambdaCs, TermRel, TermsRel, FormalRel, same-formal}
+use Rattle.simulation.specs.Terms.{moreCs, ifCs, applicationCs, lambdaCs, TermRel, TermsRel, FormalRel, same-formal}
 use Rattle.simulation.specs.States.{StateRel, macros-append, new-macros}
 use Rattle.simulation.specs.Outcomes.{Agree, bind-agree, give-agree}
 use Rattle.simulation.specs.FormsKept.{isLambda-rel, isMacros-rel, keywords-rel, rulesForms-rel, readRules-agree, scoped-rel}
-use Rattle.simulation.specs.Agree.{expand-agree}
+use Rattle.simulation.specs.Agree as Both
 use Rattle.simulation.specs.Form.Holes.{Hole, first, later}
 use Rattle.simulation.specs.Form.Places.{Still, ChosenRules, Foreign, bindAll-hole, rebindAll-foreign, AtRest, rest-coherent, rest-ready, rest-below, still-rel}
 use Rattle.simulation.specs.Form.Scopes.{Scope, rebindAll}
@@ -43,24 +43,14 @@ module _ (ρ : Renaming) (p : ℕ) where
     module _ (β : Scope) (free : Foreign ρ β) where
       -- parts that are still
       part-agree : {t u : Tree} → TreeOf (Still ρ β) t u → (raw : Raw ρ) (s s′ : State) → StateRel ρ raw 0 s s′ → Agree ρ raw 0 (TermRel ρ) (rec t s) (rec u s′)
-      part-agree r raw s s′ q = expand-agree ρ raw limit operations fuel gas 0 (AtRest ρ) (rest-coherent ρ) (rest-ready ρ) (rest-below ρ 0) _ _ (tree-map (still-rel ρ raw β free) r) s s′ q
+      part-agree r raw s s′ q = Both.expand-agree ρ raw limit operations fuel gas 0 (AtRest ρ) (rest-coherent ρ) (rest-ready ρ) (rest-below ρ 0) _ _ (tree-map (still-rel ρ raw β free) r) s s′ q
 
       all-agree : {t u : Tree} → TreeOf (Still ρ β) t u → (raw : Raw ρ) (s s′ : State) → StateRel ρ raw 0 s s′ → Agree ρ raw 0 (TermsRel ρ) (expandAll limit operations fuel rec t s) (expandAll limit operations fuel rec u s′)
-      unfolding expandAll
-      all-agree empties raw s s′ q = give-agree ρ raw 0 _ _ s s′ noneCs q
-      all-agree constants raw s s′ q = give-agree ρ raw 0 _ _ s s′ noneCs q
-      all-agree (names₂ r) raw s s′ q = give-agree ρ raw 0 _ _ s s′ noneCs q
-      all-agree (pairs i r) raw s s′ q =
-          bind-agree ρ raw 0 {R = TermRel ρ} _ _ _ _ s s′ (part-agree i raw s s′ q) λ v w u u′ e q′.
-          bind-agree ρ raw 0 {R = TermsRel ρ} _ _ _ _ u u′ (all-agree r raw u u′ q′) λ v′ w′ z z′ e′ q″.
-          give-agree ρ raw 0 _ _ z z′ (moreCs e e′) q″
+      all-agree r raw = Both.all-agree ρ raw limit operations fuel rec rec (Both.expand-agree ρ raw limit operations fuel gas) 0 (AtRest ρ) (rest-coherent ρ) (rest-ready ρ) (rest-below ρ 0) (tree-map (still-rel ρ raw β free) r)
 
       operands-agree : {x y : Term Name} → TermRel ρ x y → {t u : Tree} → TreeOf (Still ρ β) t u → (raw : Raw ρ) (s s′ : State) → StateRel ρ raw 0 s s′
           → Agree ρ raw 0 (TermRel ρ) (expandOperands limit operations fuel rec x t s) (expandOperands limit operations fuel rec y u s′)
-      unfolding expandOperands
-      operands-agree e r raw s s′ q =
-          bind-agree ρ raw 0 {R = TermsRel ρ} _ _ _ _ s s′ (all-agree r raw s s′ q) λ v w u u′ e′ q′.
-          give-agree ρ raw 0 _ _ u u′ (applicationCs e e′) q′
+      operands-agree e r raw = Both.operands-agree ρ raw limit operations fuel rec rec (Both.expand-agree ρ raw limit operations fuel gas) 0 (AtRest ρ) (rest-coherent ρ) (rest-ready ρ) (rest-below ρ 0) _ _ e (tree-map (still-rel ρ raw β free) r)
 
       -- a part before the form
       tree-before : {B : Type 0} {P : B → B → Type 0} {t u : Tree} → TreeOf (Still ρ β) t u → Unheaded p t → (f g : Term Name → M B) (s : State) → Calm ρ p s

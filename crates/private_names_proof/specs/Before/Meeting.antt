@@ -23,6 +23,7 @@ use Rattle.simulation.specs.Outcomes.{eventsOf, events-after, OutRel, dones, Ag
 use Rattle.simulation.specs.Form.Holes.{Hole, first}
 use Rattle.simulation.specs.Form.Places.{Still, ChosenRules, Foreign}
 use Rattle.simulation.specs.Form.Scopes.{Scope}
+use Rattle.simulation.specs.Form.{Joins}
 use Rattle.private_names_proof.specs.Reach.{Unreached, unreached, none-reached}
 use Rattle.private_names_proof.specs.Paths.{Headed}
 
@@ -50,14 +51,9 @@ module _ (ρ : Renaming) (p : ℕ) where
   unfolding ofCopy
   no-raw = record { first = none; second = none; first-free = refl; second-free = refl }
 
-  -- outcomes that agree for some bindings of the template's own names
-  pub record Joins {A : Type 0} (R : A → A → Type 0) (x y : Out A) : Type 1 where
-    pub raw : Raw ρ
-    pub outcomes : OutRel ρ raw 0 R x y
-
   -- they agree where the first computation shows the form, and all that it shows is fine
   abbrev pub Meets : {A : Type 0} (R : A → A → Type 0) → Out A → Out A → Type 1
-  Meets R x y = any (isReachedAt p) (eventsOf x) ≡ true → AllFine ρ (eventsOf x) → Joins R x y
+  Meets R x y = any (isReachedAt p) (eventsOf x) ≡ true → AllFine ρ (eventsOf x) → Joins ρ R x y
 
   -- a computation that does not show it
   pub never : {A : Type 0} {R : A → A → Type 0} {x y : Out A} → Unreached p x → Meets R x y
@@ -71,7 +67,7 @@ module _ (ρ : Renaming) (p : ℕ) where
   or-right true b e f = absurd (true≢false f)
   or-right false b e f = e
 
-  after-joins : {A : Type 0} {R : A → A → Type 0} (l l′ : Events) {x y : Out A} → Joins R x y → Joins R (after l x) (after l′ y)
+  after-joins : {A : Type 0} {R : A → A → Type 0} (l l′ : Events) {x y : Out A} → Joins ρ R x y → Joins ρ R (after l x) (after l′ y)
   after-joins l l′ j = record { raw = j .raw; outcomes = after-rel ρ (j .raw) 0 l l′ (j .outcomes) }
 
   -- what is shown first does not show the form
