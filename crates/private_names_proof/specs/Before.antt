@@ -21,13 +21,13 @@ use Rattle.simulation.specs.Names.Shown.{Renaming}
 use Rattle.simulation.specs.Terms.{variableCs, operationCs, TermRel}
 use Rattle.simulation.specs.Outcomes.{eventsOf}
 use Rattle.simulation.specs.Form.Holes.{Hole, first, later}
-use Rattle.simulation.specs.Form.Places.{Still, ChosenRules, Foreign}
+use Rattle.simulation.specs.Form.Places.{Still, ChosenRules, Foreign, still-eq, still-self}
 use Rattle.simulation.specs.Form.Scopes.{Scope}
 use Rattle.simulation.specs.Form.{form-agree}
 use Rattle.private_names_proof.specs.Reach.Heads.{isAt}
 use Rattle.private_names_proof.specs.Reach.{operands-unreached, quote-unreached, if-unreached, lambda-unreached, use-unreached, refuse-unreached}
 use Rattle.private_names_proof.specs.Paths.{later-unheaded, headed-one, unused-name, Headed, headed, in-first, in-later, headed-uses, unused-unheaded}
-use Rattle.private_names_proof.specs.Before.Meeting.{still-eq, still-self, Calm, Meets, never, show-meets, place, Ahead}
+use Rattle.private_names_proof.specs.Before.Meeting.{Calm, Meets, never, show-meets, place, Ahead}
 use Rattle.private_names_proof.specs.Before.Forms.{rec-unreached, operands-before, application-first, application-later, if-before, lambda-before, macros-before}
 
 module _ (ρ : Renaming) (p : ℕ) where

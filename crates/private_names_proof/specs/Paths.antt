@@ -11,8 +11,6 @@ use Rattle.words.specs.TestLaws.{and-right, any-append}
 use Rattle.recipe.specs.Name.{Binding, Name, bindName}
 use Rattle.recipe.specs.Tree.{Tree, empty, constant, name, pair, onName, elements, element, onNames, bind, bindAll}
 use Rattle.recipe.specs.TreeNames.{TreeAll, treeAll-element, uses, uses-element, uses-elements}
-use Rattle.simulation.specs.Shapes.{TreeOf, element-rel}
-use Rattle.simulation.specs.Form.Holes.{Hole, first, later}
 use Rattle.private_names_proof.specs.Reach.Heads.{isAt, isNameAt, Unheaded, empty₁, constant₁, name₁, pair₁, UnheadedAll, empty₂, constant₂, name₂, pair₂, isAt-bind}
 use Rattle.private_names.specs.Statement.{parts, firstWith, hasHead}
 
@@ -223,18 +221,3 @@ module _ (p : ℕ) where
         ap₂ _||_ (head-none h z) (any-append (hasHead p) (parts h) (parts t) ∙ ap₂ _||_ (parts-none h z) (a .0)),
         ap (λ b. cond b (pair h t) (firstWith (hasHead p) (parts h ++ parts t))) (head-none h z) ∙ firstWith-later (hasHead p) (parts h) (parts t) (parts-none h z) ∙ a .1,
       )
-
--- ---- trees that differ in one place, element by element
-
-module _ {S : Name → Name → Type 0} {T : Tree → Tree → Type 0} where
-  pub hole-at : {k : ℕ} {l : List ℕ} {t u : Tree} → Hole S T (k ∷ l) t u → Hole S T l (element k t) (element k u)
-  unfolding element elements
-  hole-at (first r s) = r
-  hole-at (later s r) = hole-at r
-
-  pub hole-off : {k : ℕ} {l : List ℕ} {t u : Tree} → Hole S T (k ∷ l) t u → (i : ℕ) → (i ≡ k → ⊥) → TreeOf S (element i t) (element i u)
-  unfolding element elements
-  hole-off (first r s) zero d = absurd (d refl)
-  hole-off (first r s) (suc i) d = element-rel i s
-  hole-off (later s r) zero d = s
-  hole-off (later s r) (suc i) d = hole-off r i (λ e. d (ap suc e))

@@ -21,9 +21,9 @@ use Rattle.private_names.specs.Statement as S
 use Rattle.private_names.specs.Statement.{Choice, formAt, rulesAt, ruleAt, templateAt, isVariableAt, isOldItem, isNew, isOwnedByCopy}
 use Rattle.simulation.specs.Names.Shown.{Renaming}
 use Rattle.simulation.specs.Form.Scopes.{hasVariable}
+use Rattle.simulation.specs.Form.Places.{still-eq}
 use Rattle.private_names_proof.specs.Renumber.{tree-new}
 use Rattle.private_names_proof.specs.Paths.{sub, treeAll-sub, Headed, headed-of-element, headed-part}
-use Rattle.private_names_proof.specs.Before.Meeting.{still-eq}
 use Rattle.private_names_proof.specs.Renamed.OldItems.{isOld, old-some, variables-none}
 use Rattle.private_names_proof.specs.Renamed.{unbound, renew, still-tree, Held, held-element, templateIn, Chosen, renamed-holds}
 

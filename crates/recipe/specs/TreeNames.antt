@@ -81,7 +81,7 @@ uses-onNames f keeps q (constant a) = refl
 uses-onNames f keeps q (name x) = ap (λ i. cond (eqb i q) 1 0) (keeps x)
 uses-onNames f keeps q (pair h t) = ap₂ _+_ (uses-onNames f keeps q h) (uses-onNames f keeps q t)
 
-bindName-item : (i : Name) (b : Binding) (x : Name) → bindName i b x .item ≡ x .item
+pub bindName-item : (i : Name) (b : Binding) (x : Name) → bindName i b x .item ≡ x .item
 unfolding bindName giveBinding
 bindName-item i b x = go (same i x)
   where

@@ -25,7 +25,7 @@ use Rattle.simulation.specs.States.{StateRel, macros-append}
 use Rattle.simulation.specs.Outcomes.{eventsOf, OutRel, Agree, bind-agree, tested-agree, test-agree, show-agree, goes-agree, get-agree}
 use Rattle.simulation.specs.FormsKept.{isMacros-rel, readRules-by}
 use Rattle.simulation.specs.Agree.{expand-agree}
-use Rattle.simulation.specs.Form.Holes.{Hole, here, hole-here, hole-tree, hole-elements, hole-element-0, hole-element-1, hole-element-2}
+use Rattle.simulation.specs.Form.Holes.{Hole, here, hole-here, hole-tree, hole-elements, hole-at, hole-off}
 use Rattle.simulation.specs.Form.Scopes.{Scope, rebindAll}
 use Rattle.simulation.specs.Form.Places.{Still, InTemplate, still-dots, still-wild, template-dots, template-wild, ChosenRules, Foreign, bindAll-still, bindAll-hole, rebindAll-foreign, AtRest, rest-coherent, rest-ready, rest-below, still-rel}
 use Rattle.simulation.specs.Form.ChosenRule.{FormRule, FormRules, formRules-read, formMacros-rel}
@@ -58,20 +58,20 @@ module _ (ρ : Renaming) (β : Scope) where
   unfolding firstNames
   firstNames-still ends = ends
   firstNames-still (joins (inl r) rs) = append-rel (names-rel (element-rel 0 r)) (firstNames-still rs)
-  firstNames-still (joins (inr r) rs) = append-rel (names-rel (hole-element-0 r)) (firstNames-still rs)
+  firstNames-still (joins (inr r) rs) = append-rel (names-rel (hole-off r 0 (omega arith))) (firstNames-still rs)
 
   module _ {b : ℕ} {F F′ : Tree} (r : Hole (Still ρ β) (ChosenRules ρ β) (1 ∷ b ∷ 1 ∷ []) F F′) where
     keywords-still : ListRel (Still ρ β) (keywords F) (keywords F′)
     unfolding keywords
-    keywords-still = firstNames-still (hole-elements (hole-element-1 r))
+    keywords-still = firstNames-still (hole-elements (hole-at r))
 
     rulesForms-hole : ListRel (FormRules ρ β) (rulesForms F) (rulesForms F′)
     unfolding rulesForms
-    rulesForms-hole = map-rel (element 1) (element 1) go (hole-elements (hole-element-1 r))
+    rulesForms-hole = map-rel (element 1) (element 1) go (hole-elements (hole-at r))
       where
         go : (t u : Tree) → Entry t u → FormRules ρ β (element 1 t) (element 1 u)
         go t u (inl q) = inl (element-rel 1 q)
-        go t u (inr q) = inr (hole-here (hole-element-1 q))
+        go t u (inr q) = inr (hole-here (hole-at q))
 
     -- the rules forms as they are read
     scoped-hole : (inside : Bool) (k : ℕ) → distinct (keywords F) ≡ true → ListRel (FormRules ρ (formScope β inside k F)) (map (cond inside (bindAll macro k (keywords F)) (λ r. r)) (rulesForms F)) (map (cond inside (bindAll macro k (keywords F′)) (λ r. r)) (rulesForms F′))
@@ -143,7 +143,7 @@ module _ (ρ : Renaming) where
         goes-agree ρ (rawIn γ) 0 _ _ _ _ v v′ _ _ _ _ refl refl
         (let h : Foreign ρ γ = scope-foreign ρ β r free inside k fine in
         expand-agree ρ (rawIn γ) limit operations fuel gas 0 (AtRest ρ) (rest-coherent ρ) (rest-ready ρ) (rest-below ρ 0) _ _
-        (tree-map (still-rel ρ (rawIn γ) (rebindAll macro k (keywords F) β) (rebindAll-foreign ρ macro k β β w fine free)) (bindAll-still ρ macro (keywords F) (keywords F′) k β w d (hole-element-2 r))) _ _
+        (tree-map (still-rel ρ (rawIn γ) (rebindAll macro k (keywords F) β) (rebindAll-foreign ρ macro k β β w fine free)) (bindAll-still ρ macro (keywords F) (keywords F′) k β w d (hole-off r 2 (omega arith)))) _ _
         (record {
           enough = omega arith;
           steps = q′ .steps;

@@ -23,14 +23,14 @@ use Rattle.simulation.specs.States.{StateRel, macros-append, new-macros}
 use Rattle.simulation.specs.Outcomes.{Agree, bind-agree, give-agree}
 use Rattle.simulation.specs.FormsKept.{isLambda-rel, isMacros-rel, keywords-rel, rulesForms-rel, readRules-agree, scoped-rel}
 use Rattle.simulation.specs.Agree as Both
-use Rattle.simulation.specs.Form.Holes.{Hole, first, later}
-use Rattle.simulation.specs.Form.Places.{Still, ChosenRules, Foreign, bindAll-hole, rebindAll-foreign, AtRest, rest-coherent, rest-ready, rest-below, still-rel}
+use Rattle.simulation.specs.Form.Holes.{Hole, first, later, hole-at, hole-off}
+use Rattle.simulation.specs.Form.Places.{Still, ChosenRules, Foreign, bindAll-hole, rebindAll-foreign, AtRest, rest-coherent, rest-ready, rest-below, still-rel, still-eq, still-self}
 use Rattle.simulation.specs.Form.Scopes.{Scope, rebindAll}
 use Rattle.simulation.specs.Form.{hole-alike}
 use Rattle.private_names_proof.specs.Reach.Heads.{isAt, Unheaded}
 use Rattle.private_names_proof.specs.Reach.{Unreached, give-unreached, bind-unreached, bindings-none, read-unreached, all-unreached, operands-unreached, if-unreached, lambda-unreached, macros-unreached, expand-unreached}
-use Rattle.private_names_proof.specs.Paths.{Headed, in-first, in-later, headed-uses, headed-element, headed-bindAll, unused-unheaded, other-unheaded, hole-at, hole-off}
-use Rattle.private_names_proof.specs.Before.Meeting.{still-eq, still-self, Calm, no-raw, Meets, never, part-before, part-with, test-meets, show-meets, goes-meets, get-meets, place, Ahead}
+use Rattle.private_names_proof.specs.Paths.{Headed, in-first, in-later, headed-uses, headed-element, headed-bindAll, unused-unheaded, other-unheaded}
+use Rattle.private_names_proof.specs.Before.Meeting.{Calm, no-raw, Meets, never, part-before, part-with, test-meets, show-meets, goes-meets, get-meets, place, Ahead}
 
 module _ (ρ : Renaming) (p : ℕ) where
   module _ (limit : ℕ) (operations : List ℕ) (fuel gas b : ℕ) where

@@ -1,6 +1,6 @@
 -- Two computations, of which the first shows the form, agree: `Meets`, with a rule for each way to put computations together. What goes
 -- before the form is the same in both, and what goes after it agrees by the simulation.
-use mathlib.Core.Path.{_≡_, refl, ap, ap₂, sym, _∙_, subst}
+use mathlib.Core.Path.{_≡_, refl, ap, sym, _∙_, subst}
 use mathlib.Core.Bool.{Bool, true, false, _||_, true≢false, false≢true}
 use mathlib.Core.List.{List, [], _∷_, _++_}
 use mathlib.Core.Option.{none}
@@ -9,12 +9,11 @@ use Rattle.words.specs.Lists.{any}
 use Rattle.words.specs.TestLaws.{any-append}
 use Rattle.words.specs.Each.{each-left, each-right}
 use Rattle.recipe.specs.Name.{Name}
-use Rattle.recipe.specs.Tree.{Tree, name, pair}
+use Rattle.recipe.specs.Tree.{Tree}
 use Rattle.recipe.specs.TreeNames.{uses}
 use Rattle.core_term.specs.Term.{Term}
 use Rattle.expansion.specs.Computation.{State, Events, Out, done, refused, starved, M, after, goOn, _>>=_, _>>_, show, test, get}
 use Rattle.private_names.specs.Statement.{isReachedAt}
-use Rattle.simulation.specs.Shapes.{TreeOf, empties, constants, names₂, pairs}
 use Rattle.simulation.specs.Names.Shown.{Renaming, ofCopy, AllFine}
 use Rattle.simulation.specs.Names.{Raw}
 use Rattle.simulation.specs.Terms.{TermRel}
@@ -26,21 +25,6 @@ use Rattle.simulation.specs.Form.Scopes.{Scope}
 use Rattle.simulation.specs.Form.{Joins}
 use Rattle.private_names_proof.specs.Reach.{Unreached, unreached, none-reached}
 use Rattle.private_names_proof.specs.Paths.{Headed}
-
--- ---- trees that are still are equal
-
-module _ (ρ : Renaming) (β : Scope) where
-  pub still-eq : {t u : Tree} → TreeOf (Still ρ β) t u → t ≡ u
-  still-eq empties = refl
-  still-eq constants = refl
-  still-eq (names₂ s) = ap name (s .eq)
-  still-eq (pairs r s) = ap₂ pair (still-eq r) (still-eq s)
-
-  pub still-self : {t u : Tree} → TreeOf (Still ρ β) t u → TreeOf (Still ρ β) t t
-  still-self empties = empties
-  still-self constants = constants
-  still-self (names₂ s) = names₂ (record { eq = refl; not-private = s .not-private; placed = s .placed })
-  still-self (pairs r s) = pairs (still-self r) (still-self s)
 
 module _ (ρ : Renaming) (p : ℕ) where
   -- a state that agrees with itself, whatever the template's own names are bound to

@@ -5,24 +5,25 @@ use mathlib.Core.Bool.{Bool, true, false, _&&_, _||_, cond, true≢false, false�
 use mathlib.Core.List.{List, [], _∷_}
 use mathlib.Core.Option.{Option, none, some}
 use Prim.Native.Nat.{ℕ, suc}
+use native.Mathlib.Omega.{arith}
 use borrow.Author.Tests.{eq-eqb}
 use lib.Dec.{eqb}
 use Rattle.words.specs.Lists.{any, equal}
 use Rattle.words.specs.Options.{traverse}
 use Rattle.recipe.specs.Name.{Name, bindingKey, same, isEllipsis}
-use Rattle.recipe.specs.Tree.{Tree, name, pair, onPair, elements, element, tail}
+use Rattle.recipe.specs.Tree.{Tree, onPair, elements, element, tail}
 use Rattle.expansion.specs.Lookup.{isSyntaxRules}
 use Rattle.expansion.specs.Rules.{Rule, variableFrom, variables, ruleOf, rulesOf}
 use Rattle.simulation.specs.Relations.{ListRel, ends, joins, OptionRel, nones, somes, length-rel, list-map, list-eq, guard-rel, mapBoth-rel, traverse-rel}
-use Rattle.simulation.specs.Shapes.{TreeOf, empties, constants, names₂, pairs, RuleOf, tree-map, pattern-map, template-map, names-rel, elements-rel, isListOf-rel, element-rel, onName-rel}
+use Rattle.simulation.specs.Shapes.{TreeOf, RuleOf, tree-map, pattern-map, template-map, names-rel, elements-rel, isListOf-rel, element-rel, onName-rel}
 use Rattle.simulation.specs.RulesKept.{ruleOf-by, ruleOf-rel, isRulesForm-rel, rulesOf-rel}
 use Rattle.simulation.specs.Names.Shown.{Renaming, ofCopy}
 use Rattle.simulation.specs.Names.{Kind, Coherent, Raw, NameRel, kept, turned, unowned}
 use Rattle.simulation.specs.Steps.{Older, Below}
 use Rattle.simulation.specs.States.{Literal, RuleRel, RulesRel, no-rule, rule, MacrosRel, no-macro, with}
-use Rattle.simulation.specs.Form.Holes.{Hole, first, later, hole-tree, hole-here, hole-elements, hole-element-0, hole-element-1}
+use Rattle.simulation.specs.Form.Holes.{Hole, first, later, hole-tree, hole-here, hole-elements, hole-at, hole-at, hole-off}
 use Rattle.simulation.specs.Form.Scopes.{Scope, hasVariable}
-use Rattle.simulation.specs.Form.Places.{Still, InTemplate, stays, turns, still-dots, still-wild, template-dots, ChosenRules, Foreign, AtRest, rest-coherent, rest-below, still-rel}
+use Rattle.simulation.specs.Form.Places.{still-eq, Still, InTemplate, stays, turns, still-dots, still-wild, template-dots, ChosenRules, Foreign, AtRest, rest-coherent, rest-below, still-rel}
 
 -- ---- no variable of this number
 
@@ -48,12 +49,6 @@ module _ (ρ : Renaming) (β : Scope) where
   still-same : (i j x y : Name) → Still ρ β i j → Still ρ β x y → same i x ≡ same j y
   still-same i j x y p q = ap₂ same (p .eq) (q .eq)
 
-  still-tree : {t u : Tree} → TreeOf (Still ρ β) t u → t ≡ u
-  still-tree empties = refl
-  still-tree constants = refl
-  still-tree (names₂ s) = ap name (s .eq)
-  still-tree (pairs r s) = ap₂ pair (still-tree r) (still-tree s)
-
   -- ---- reading
 
   -- a rule of the form: all still, or with the chosen template
@@ -71,11 +66,11 @@ module _ (ρ : Renaming) (β : Scope) where
       → any (λ v. eqb (v .0 .number) (ρ .new)) (variables isEllipsis ls 0 (tail (element 0 t))) ≡ false
       → OptionRel (RuleOf (Still ρ β) (InTemplate ρ β)) (ruleOf isEllipsis ls t) (ruleOf isEllipsis ms u)
   chosen-rule {ls} {ms} l {t} {u} r e f =
-      let p = hole-element-0 r in
+      let p = hole-off r 0 (omega arith) in
       let vs = variables isEllipsis ls 0 (tail (element 0 t)) in
-      let ws : vs ≡ variables isEllipsis ms 0 (tail (element 0 u)) = ap₂ (λ l p. variables isEllipsis l 0 (tail p)) (list-eq (λ x y q. q .eq) l) (still-tree p) in
+      let ws : vs ≡ variables isEllipsis ms 0 (tail (element 0 u)) = ap₂ (λ l p. variables isEllipsis l 0 (tail p)) (list-eq (λ x y q. q .eq) l) (still-eq ρ β p) in
       ruleOf-by (Still ρ β) still-same (still-wild ρ β) isEllipsis isEllipsis (still-dots ρ β) l (InTemplate ρ β) (template-dots ρ β) t u
-      (isListOf-rel 2 (hole-tree {R = λ x y. Unit {0}} (λ x y s. tt) (λ t u q. tree-map (λ x y s. tt) q) r)) p (hole-here (hole-element-1 r))
+      (isListOf-rel 2 (hole-tree {R = λ x y. Unit {0}} (λ x y s. tt) (λ t u q. tree-map (λ x y s. tt) q) r)) p (hole-here (hole-at r))
       (λ x y q. subst (λ l. variableFrom 0 vs x ≡ variableFrom 0 l y) ws (variable-eq vs e f x y q))
     where
       variable-eq : (vs : List (Name × ℕ)) → any (λ v. eqb (v .0 .number) (ρ .old)) vs ≡ false → any (λ v. eqb (v .0 .number) (ρ .new)) vs ≡ false → (x y : Name) → InTemplate ρ β x y → variableFrom 0 vs x ≡ variableFrom 0 vs y

@@ -1,7 +1,8 @@
 -- Trees that differ in one place.
+use mathlib.Core.Path.{_≡_, refl, ap}
 use mathlib.Core.Logic.{_⊎_, inl, inr}
 use mathlib.Core.List.{List, [], _∷_}
-use Prim.Native.Nat.{ℕ, suc}
+use Prim.Native.Nat.{ℕ, zero, suc}
 use Rattle.recipe.specs.Name.{Name}
 use Rattle.recipe.specs.Tree.{Tree, pair, elements, element, onNames}
 use Rattle.simulation.specs.Relations.{ListRel, joins, list-map}
@@ -50,15 +51,15 @@ module _ {S : Name → Name → Type 0} {T : Tree → Tree → Type 0} where
   hole-elements (first r s) = joins (inr r) (list-map (λ t u q. inl q) (elements-rel s))
   hole-elements (later s r) = joins (inl s) (hole-elements r)
 
-  -- where the place is in element 1
-  pub hole-element-0 : {p : List ℕ} {t u : Tree} → Hole S T (1 ∷ p) t u → TreeOf S (element 0 t) (element 0 u)
+  -- the element with the place, and any other
+  pub hole-at : {k : ℕ} {l : List ℕ} {t u : Tree} → Hole S T (k ∷ l) t u → Hole S T l (element k t) (element k u)
   unfolding element elements
-  hole-element-0 (later s r) = s
+  hole-at (first r s) = r
+  hole-at (later s r) = hole-at r
 
-  pub hole-element-1 : {p : List ℕ} {t u : Tree} → Hole S T (1 ∷ p) t u → Hole S T p (element 1 t) (element 1 u)
+  pub hole-off : {k : ℕ} {l : List ℕ} {t u : Tree} → Hole S T (k ∷ l) t u → (i : ℕ) → (i ≡ k → ⊥) → TreeOf S (element i t) (element i u)
   unfolding element elements
-  hole-element-1 (later s (first r q)) = r
-
-  pub hole-element-2 : {p : List ℕ} {t u : Tree} → Hole S T (1 ∷ p) t u → TreeOf S (element 2 t) (element 2 u)
-  unfolding element elements
-  hole-element-2 (later s (first r q)) = element-rel 0 q
+  hole-off (first r s) zero d = absurd (d refl)
+  hole-off (first r s) (suc i) d = element-rel i s
+  hole-off (later s r) zero d = s
+  hole-off (later s r) (suc i) d = hole-off r i (λ e. d (ap suc e))

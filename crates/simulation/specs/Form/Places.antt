@@ -1,22 +1,24 @@
 -- The trees of the two runs in place: equal but for the private names of one template. What binding names does to them.
-use mathlib.Core.Path.{_≡_, refl, ap, sym, _∙_, subst}
-use mathlib.Core.Bool.{Bool, true, false, not, _&&_, _||_, cond, false≢true}
+use mathlib.Core.Path.{_≡_, refl, ap, sym, _∙_, subst, ap₂}
+use mathlib.Core.Bool.{Bool, true, false, not, _||_, cond, false≢true}
 use mathlib.Core.List.{List, [], _∷_}
 use mathlib.Core.Option.{some}
 use Prim.Native.Nat.{ℕ, suc}
 use lib.Dec.{eqb}
 use Rattle.words.specs.Lists.{any}
 use Rattle.words.specs.Each.{also}
+use Rattle.words.specs.TestLaws.{and-left, and-right}
 use Rattle.recipe.specs.Name.{Binding, Name, same, distinct, isEllipsis, isWildcard, bindName}
-use Rattle.recipe.specs.Tree.{Tree, onNames, bind, bindAll}
+use Rattle.recipe.specs.Tree.{Tree, onNames, bind, bindAll, name, pair}
+use Rattle.recipe.specs.TreeNames.{bindName-item}
 use Rattle.expansion.specs.Forms.{bindings}
 use Rattle.simulation.specs.Relations.{ListRel, ends, joins}
-use Rattle.simulation.specs.Shapes.{TreeOf, onNames-rel}
+use Rattle.simulation.specs.Shapes.{TreeOf, onNames-rel, empties, constants, names₂, pairs}
 use Rattle.simulation.specs.Form.Holes.{Hole, hole-onNames, graph, hole-graph}
 use Rattle.simulation.specs.Names.Shown.{Renaming, ofCopy, not-private-not-copy, binds-fine, AllFine}
 use Rattle.simulation.specs.Names.{Kind, Coherent, Ready, Raw, NameRel, kept}
 use Rattle.simulation.specs.Steps.{Older, Below}
-pub use Rattle.simulation.specs.Form.Scopes.{Scope, Placed, same-placed, rebind, rebindAll, bindName-placed, bindName-number, bindName-item, still-placed, hasVariable, Moved, hasVariable-moved}
+pub use Rattle.simulation.specs.Form.Scopes.{Scope, Placed, same-placed, rebind, rebindAll, bindName-placed, bindName-number, still-placed, hasVariable, Moved, hasVariable-moved}
 
 module _ (ρ : Renaming) (β : Scope) where
   -- a name that is not private is the same in both
@@ -67,6 +69,20 @@ module _ (ρ : Renaming) (β : Scope) where
   template-wild x y (stays s e f) = still-wild x y s
   template-wild x y (turns t) = ap (λ k. eqb k 7) (t .old) ∙ ρ .old-7 ∙ sym (ρ .new-7) ∙ ap (λ k. eqb k 7) (sym (t .new))
 
+  -- ---- trees that are still are equal
+
+  pub still-eq : {t u : Tree} → TreeOf Still t u → t ≡ u
+  still-eq empties = refl
+  still-eq constants = refl
+  still-eq (names₂ s) = ap name (s .eq)
+  still-eq (pairs r s) = ap₂ pair (still-eq r) (still-eq s)
+
+  pub still-self : {t u : Tree} → TreeOf Still t u → TreeOf Still t t
+  still-self empties = empties
+  still-self constants = constants
+  still-self (names₂ s) = names₂ (record { eq = refl; not-private = s .not-private; placed = s .placed })
+  still-self (pairs r s) = pairs (still-self r) (still-self s)
+
 -- ---- binding names in them
 
 module _ (ρ : Renaming) (β : Scope) (i : Name) (p : Placed β i) (b : Binding) where
@@ -107,14 +123,6 @@ module _ (ρ : Renaming) (β : Scope) (i : Name) (p : Placed β i) (b : Binding)
         old-free = sym (hasVariable-moved β γ (c .rule) (ρ .old) g) ∙ c .old-free;
         new-free = sym (hasVariable-moved β γ (c .rule) (ρ .new) g) ∙ c .new-free;
       }
-
-and-left : (a b : Bool) → (a && b) ≡ true → a ≡ true
-and-left true b e = refl
-and-left false b e = absurd (false≢true e)
-
-and-right : (a b : Bool) → (a && b) ≡ true → b ≡ true
-and-right true b e = e
-and-right false b e = absurd (false≢true e)
 
 -- no two names of a form are the same, so the later ones keep their bindings
 others : (ρ : Renaming) (β : Scope) (i : Name) → Placed β i → (b : Binding) {xs ys : List Name} → not (any (same i) xs) ≡ true → ListRel (Still ρ β) xs ys → ListRel (Still ρ (rebind (i .number) b β)) xs ys

@@ -56,14 +56,6 @@ bindName-number i b x = go (same i x)
     go true = refl
     go false = refl
 
-pub bindName-item : (i : Name) (b : Binding) (x : Name) → bindName i b x .item ≡ x .item
-unfolding bindName giveBinding
-bindName-item i b x = go (same i x)
-  where
-    go : (c : Bool) → cond c (giveBinding b x) x .item ≡ x .item
-    go true = refl
-    go false = refl
-
 -- a name of another number keeps its binding
 pub still-placed : (β : Scope) (i : Name) (b : Binding) (x : Name) → Placed β x → eqb (i .number) (x .number) ≡ false → Placed (rebind (i .number) b β) x
 unfolding rebind
