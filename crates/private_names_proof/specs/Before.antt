@@ -2,6 +2,7 @@
 -- simulation's `form-agree`), and so do the parts after it (`expand-agree`).
 pub mod Meeting
 pub mod Forms
+pub mod Binders
 use mathlib.Core.Path.{_≡_, refl, sym, subst, subst₂}
 use mathlib.Core.Bool.{true, false, false≢true}
 use mathlib.Core.List.{List, [], _∷_}
@@ -28,7 +29,8 @@ use Rattle.private_names_proof.specs.Reach.Heads.{isAt}
 use Rattle.private_names_proof.specs.Reach.{operands-unreached, quote-unreached, if-unreached, lambda-unreached, use-unreached, refuse-unreached}
 use Rattle.private_names_proof.specs.Paths.{later-unheaded, headed-one, unused-name, Headed, headed, in-first, in-later, headed-uses, unused-unheaded}
 use Rattle.private_names_proof.specs.Before.Meeting.{Calm, Meets, never, show-meets, place, Ahead}
-use Rattle.private_names_proof.specs.Before.Forms.{rec-unreached, operands-before, application-first, application-later, if-before, lambda-before, macros-before}
+use Rattle.private_names_proof.specs.Before.Forms.{rec-unreached, operands-before, application-first, application-later, if-before}
+use Rattle.private_names_proof.specs.Before.Binders.{lambda-before, macros-before}
 
 module _ (ρ : Renaming) (p : ℕ) where
   module _ (limit : ℕ) (operations : List ℕ) (fuel gas b : ℕ) where
