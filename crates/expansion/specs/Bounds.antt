@@ -10,7 +10,7 @@ use Rattle.words.specs.Limits.{coreRate}
 use Rattle.recipe.specs.Tree.{size, element}
 use Rattle.recipe.specs.TreeLaws.{element-size}
 use Rattle.recipe.specs.Table.{itemCount, treeOf}
-use Rattle.recipe.specs.TableLaws.{treeOf-size}
+use Rattle.recipe.specs.TableWeight.{treeOf-size}
 use Rattle.expansion.specs.Computation.{State, start}
 use Rattle.expansion.specs.Run.{ended, run}
 use Rattle.expansion.specs.RunLaws.{unbegun, Begun, run-holds}

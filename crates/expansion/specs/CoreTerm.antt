@@ -2,7 +2,6 @@
 -- So a term that expansion gives is always written.
 pub mod Worlds
 pub mod WorldState
-pub mod Forget
 pub mod SoundTerms
 pub mod Sound
 use mathlib.Core.Path.{_≡_, refl, sym}

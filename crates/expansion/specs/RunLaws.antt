@@ -1,17 +1,18 @@
 -- What holds of a run holds where it is turned back before it begins and of the end of its expansion.
-use mathlib.Core.Path.{_≡_, refl}
-use mathlib.Core.Bool.{Bool, true, false}
+use mathlib.Core.Path.{_≡_, refl, _∙_}
+use mathlib.Core.Bool.{Bool, true, false, false≢true}
 use mathlib.Core.List.{List, []}
 use Prim.Native.Nat.{ℕ, _+_, _*_, _≤_}
 use native.Mathlib.Omega.{arith}
 use lib.Dec.{leb}
-use borrow.Author.Tests.{leb-true}
+use borrow.Author.Tests.{leb-true, le-leb}
 use Rattle.words.specs.Limits.{fuelMost, workRate, coreRate}
-use Rattle.words.specs.TestLaws.{and-parts}
+use Rattle.words.specs.Lists.{any}
+use Rattle.words.specs.TestLaws.{and-parts, and-both}
 use Rattle.recipe.specs.Name.{Name}
 use Rattle.recipe.specs.Table.{itemCount, isLayout, treeOf}
 use Rattle.core_term.specs.Term.{Term}
-use Rattle.expansion.specs.Computation.{State, Events, Out, done, refused, starved}
+use Rattle.expansion.specs.Computation.{State, Event, Events, Out, done, refused, starved}
 use Rattle.expansion.specs.Run.{accepted, turnedBack, unfinished, Run, ended, require, areOperations, expandRecipe, run}
 use Rattle.expansion.specs.Outcomes.{Holds, isDone, isRefused, isStarved}
 
@@ -71,3 +72,25 @@ module _ (P : Run → Type 0) where
         → (Begun items fuel work core → (l : Events) → S → P (ended (starved l)))
         → P (run items fuel work core)
     run-holds items fuel work core h p x y z = begun-holds items fuel work core p λ b. ended-holds (expandRecipe fuel (treeOf items)) (h b) (x b) (y b) (z b)
+
+-- ---- runs that begin
+
+require-passes : (g : ℕ) (b : Bool) (r : Run) → b ≡ true → require g b r ≡ r
+unfolding require
+require-passes g true r e = refl
+require-passes g false r e = absurd (false≢true e)
+
+module _ (items : List ℕ) (fuel work core : ℕ) where
+  -- past those tests a run is its expansion's
+  pub begun-run : Begun items fuel work core → run items fuel work core ≡ ended (expandRecipe fuel (treeOf items))
+  unfolding run
+  begun-run b =
+      require-passes 7 _ _ (b .layout)
+      ∙ require-passes 8 _ _ (le-leb _ _ (b .fuelled))
+      ∙ require-passes 9 _ _ (and-both _ _ (le-leb _ _ (b .work-room)) (le-leb _ _ (b .core-room)))
+      ∙ require-passes 10 _ _ (b .operations)
+
+  -- a run that shows an event has passed them
+  pub shows-begun : (f : Event → Bool) → any f (run items fuel work core .events) ≡ true → Begun items fuel work core
+  unfolding any unbegun
+  shows-begun f = begun-holds (λ r. any f (r .events) ≡ true → Begun items fuel work core) items fuel work core (λ g _ e. absurd (false≢true e)) (λ b e. b)

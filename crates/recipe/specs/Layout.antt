@@ -15,6 +15,7 @@ use Rattle.recipe.specs.Name.{plainName}
 use Rattle.recipe.specs.Tree.{empty, constant, name, pair, isList, isListOf, elements, element}
 use Rattle.recipe.specs.Table.{items, byKind, constantOf, kindAt, references, isPairItem, isItem, isReferredOnce, treeOf, itemCount, isLayout}
 use Rattle.recipe.specs.ItemLaws.{itemAt, items-drop}
+use Rattle.recipe.specs.TableLaws.{isLayout-parts}
 use Rattle.recipe.specs.TreeFrom.{treeFrom, headAt, tailAt, from-empty, from-name, from-pair, from-constant, from-isList}
 
 -- the kind is that of a list
@@ -91,30 +92,9 @@ pub record Layout (ws : List ℕ) : Type 0 where
   pub first : isList (element 0 (treeOf ws)) ≡ true
 
 pub layout : (ws : List ℕ) → isLayout ws ≡ true → Layout ws
-unfolding isLayout
 layout ws l =
-    let n = itemCount ws in
-    let xs = items 0 ws in
-    let t = treeOf ws in
-    let a = eqb (length ws) (3 * n) in
-    let b = within itemsLeast itemsMost n in
-    let c = all (isItem ws n) xs in
-    let d = all (isReferredOnce (references xs)) xs in
-    let e = isListOf 2 t in
-    let f = isList (element 0 t) in
-    let l1 = and-right a (b && (c && (d && (e && f)))) l in
-    let l2 = and-right b (c && (d && (e && f))) l1 in
-    let l3 = and-right c (d && (e && f)) l2 in
-    let l4 = and-right d (e && f) l3 in
-    let q : length ws ≡ 3 * n = eqb-true (length ws) (3 * n) (and-left a (b && (c && (d && (e && f)))) l) in
-    record {
-      long = q;
-      least = within-least itemsLeast itemsMost n (and-left b (c && (d && (e && f))) l1);
-      most = within-most itemsLeast itemsMost n (and-left b (c && (d && (e && f))) l1);
-      good = itemGood ws n q (and-left c (d && (e && f)) l2);
-      two = and-left e f l4;
-      first = and-right e f l4;
-    }
+    let p = isLayout-parts ws l in
+    record { long = p .words; least = p .count .0; most = p .count .1; good = itemGood ws (itemCount ws) (p .words) (p .item); two = p .two; first = p .first }
 
 -- the tree of item i, by its kind
 module _ (ws : List ℕ) (l : Layout ws) (i : ℕ) (h : i < itemCount ws) where

@@ -1,13 +1,13 @@
 -- Laws of tests: what a passed test tells of its parts, and of each element of a list.
 use mathlib.Core.Path.{_≡_, refl, ap, sym, _∙_}
-use mathlib.Core.Bool.{Bool, true, false, _&&_, _||_, and-assoc}
+use mathlib.Core.Bool.{Bool, true, false, _&&_, _||_, and-assoc, false≢true}
 use mathlib.Core.Logic.{_⊎_, inl, inr}
 use mathlib.Core.List.{List, [], _∷_, _++_}
 use Prim.Native.Nat.{ℕ, zero, suc, _≤_}
 use lib.Dec.{leb}
 use lib.ListN.{drop}
 use borrow.Author.Tests.{leb-true}
-use Rattle.words.specs.Lists.{within, all}
+use Rattle.words.specs.Lists.{within, all, any}
 
 -- ---- conjunctions
 
@@ -47,6 +47,17 @@ pub or-cases : (a b : Bool) → (a || b) ≡ true → (a ≡ true) ⊎ (b ≡ tr
 or-cases true b e = inl refl
 or-cases false b e = inr e
 
+pub or-none : (a b : Bool) → a ≡ false → b ≡ false → (a || b) ≡ false
+or-none a b p q = rw (p, q)
+
+-- ---- tests that imply each other are equal
+
+pub iff-eq : (a b : Bool) → (a ≡ true → b ≡ true) → (b ≡ true → a ≡ true) → a ≡ b
+iff-eq true true f g = refl
+iff-eq true false f g = absurd (false≢true (f refl))
+iff-eq false true f g = absurd (false≢true (g refl))
+iff-eq false false f g = refl
+
 -- ---- within
 
 pub within-parts : (a b n : ℕ) → within a b n ≡ true → (a ≤ n) × (n ≤ b)
@@ -81,3 +92,15 @@ module _ {A : Type 0} (f : A → Bool) where
   unfolding all
   all-append [] ys = refl
   all-append (x ∷ xs) ys = ap (λ (b : Bool). f x && b) (all-append xs ys) ∙ sym (and-assoc (f x) (all f xs) (all f ys))
+
+-- ---- any
+
+module _ {A : Type 0} (f : A → Bool) where
+  pub any-append : (xs ys : List A) → any f (xs ++ ys) ≡ (any f xs || any f ys)
+  unfolding any
+  any-append [] ys = refl
+  any-append (x ∷ xs) ys = go (f x) (any-append xs ys)
+    where
+      go : (b : Bool) → any f (xs ++ ys) ≡ (any f xs || any f ys) → (b || any f (xs ++ ys)) ≡ ((b || any f xs) || any f ys)
+      go true e = refl
+      go false e = e
