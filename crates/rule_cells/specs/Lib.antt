@@ -7,3 +7,4 @@ pub mod Trees
 pub mod TreeLaws
 pub mod Variables
 pub mod VariableLaws
+pub mod GatherLaws
