@@ -8,3 +8,6 @@ pub mod TreeLaws
 pub mod Variables
 pub mod VariableLaws
 pub mod GatherLaws
+pub mod Parse
+pub mod ParseLaws
+pub mod PatternLaws
