@@ -8,15 +8,15 @@ use lib.Dec.{eqb}
 use borrow.Author.Tests.{ne-eqb}
 use Rattle.words.specs.Lists.{any}
 use Rattle.recipe.specs.Name.{Name, same, isEllipsis, isWildcard}
-use Rattle.recipe.specs.Tree.{Tree, empty, constant, name, pair, names}
+use Rattle.recipe.specs.Tree.{Tree, empty, constant, name, pair, onName, names}
 use Rattle.expansion.specs.Rules.{areVariables, dotsNext, depthBefore, isVariable, variables}
 use Rattle.arena.specs.Arena.{wordAt, referenceAt, nameAt, treeAt}
 use Rattle.arena.specs.ArenaLaws.{cases}
 use Rattle.arena.specs.NodeLaws.{treeAt-name, treeAt-pair}
 use Rattle.arena.specs.Names.{numberOf}
 use Rattle.arena.specs.NameLaws.{nameAt-number}
-use Rattle.rule_cells.specs.TreeLaws.{tree-cases, pair-falls}
-use Rattle.rule_cells.specs.Variables.{variablesFrom, Held, Under, Stored, Gathered, Deeper}
+use Rattle.rule_cells.specs.TreeLaws.{tree-cases, no-name, pair-falls}
+use Rattle.rule_cells.specs.Variables.{leafCount, variablesFrom, Held, Under, Stored, Gathered, Deeper}
 use Rattle.rule_cells.specs.declared.variables.Kept.{Kept}
 use Rattle.rule_cells.specs.declared.variables.Kept.the-variants.{Count, Bad}
 
@@ -46,6 +46,21 @@ module _ (literals : List Name) (x : Name) where
   variables-one : (d : ℕ) → isVariable isEllipsis literals x ≡ true → variables isEllipsis literals d (name x) ≡ (x, d) ∷ []
   unfolding variables
   variables-one d e = rw e refl
+
+-- ---- leaves
+
+module _ (items work : List ℕ) (node w : ℕ) (literals : List Name) where
+  pub leaf-no-name : (wordAt work node 3 ≡ 3 → ⊥) → 0 ≡ leafCount literals (treeAt items work node w)
+  unfolding leafCount
+  leaf-no-name n = sym (no-name items work node w (λ x. cond (isVariable isEllipsis literals x) 1 0) 0 n)
+
+  pub leaf-none : wordAt work node 3 ≡ 3 → isVariable isEllipsis literals (nameAt items work node w) ≡ false → 0 ≡ leafCount literals (treeAt items work node w)
+  unfolding leafCount onName
+  leaf-none e v = rw (treeAt-name items work node w e, v) refl
+
+  pub leaf-one : wordAt work node 3 ≡ 3 → isVariable isEllipsis literals (nameAt items work node w) ≡ true → 1 ≡ leafCount literals (treeAt items work node w)
+  unfolding leafCount onName
+  leaf-one e v = rw (treeAt-name items work node w e, v) refl
 
 -- an element lies at most one deeper than its list
 pub deeper-most : (items work : List ℕ) (rest d r : ℕ) → Deeper items work rest d r → r ≤ d + 1

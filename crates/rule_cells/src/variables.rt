@@ -10,7 +10,7 @@ ghost use Rattle.recipe.specs.Name.{same, isEllipsis};
 ghost use Rattle.recipe.specs.Tree.{name, names};
 ghost use Rattle.expansion.specs.Rules.{variableFrom, variables};
 ghost use Rattle.arena.specs.Arena.{markLimit, nameAt, treeAt};
-ghost use Rattle.rule_cells.specs.Variables.{variablesFrom, knownOf, Deeper, Held, Gathered};
+ghost use Rattle.rule_cells.specs.Variables.{leafCount, variablesFrom, knownOf, Deeper, Held, Gathered};
 use crate::trees;
 use arena::cells;
 use arena::names;
@@ -54,6 +54,34 @@ pub fn is_literal(
     }
     let rest = cells::reference(work, list, 1);
     is_literal(items, work, table, rest, node, w)
+}
+
+// How many variables a leaf of a pattern is, none or one.
+pub fn leaf_count(
+    items: &[u32],
+    work: &[u32],
+    table: &mut [u32],
+    literals: u32,
+    node: u32,
+    w: u32,
+) -> u32
+    requires { ⌜ 3 * markLimit < length (now table) ⌝ }
+    ensures { λ r. ⌜ r ≡ leafCount (names (treeAt (now (items .entry)) (now (work .entry)) literals w)) (treeAt (now (items .entry)) (now (work .entry)) node w) ⌝ }
+{
+    if cells::word(work, node, 3) != cells::NAME {
+        return 0;
+    }
+    let number = names::number_of(items, work, node);
+    if number == trees::DOTS {
+        return 0;
+    }
+    if number == trees::WILDCARD {
+        return 0;
+    }
+    if is_literal(items, work, table, literals, node, w) {
+        return 0;
+    }
+    1
 }
 
 // Which of `left` variables from number i on a name is the same as.
