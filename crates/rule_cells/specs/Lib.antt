@@ -11,3 +11,4 @@ pub mod GatherLaws
 pub mod Parse
 pub mod ParseLaws
 pub mod PatternLaws
+pub mod Drive
