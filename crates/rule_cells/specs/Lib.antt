@@ -12,3 +12,4 @@ pub mod Parse
 pub mod ParseLaws
 pub mod PatternLaws
 pub mod Drive
+pub mod TemplateLaws

@@ -2,14 +2,29 @@
 // A part that breaks the rules makes the whole bad.
 
 ghost use mathlib.Core.Path.{_≡_};
-ghost use mathlib.Core.Bool.{cond};
-ghost use Prim.Native.Nat.{_+_, _^_, _≤_, _<_};
+ghost use mathlib.Core.Bool.{false, cond};
+ghost use Prim.Native.Nat.{_+_, _*_, _^_, _≤_, _<_};
+ghost use lib.ListN.{length};
+ghost use Rattle.recipe.specs.Tree.{name};
 ghost use Rattle.expansion.specs.Rules.{depthFits, pairT, ellipsisT};
+ghost use Rattle.arena.specs.Arena.{wordAt, markLimit, nameAt, treeAt};
 ghost use Rattle.arena.specs.Cells.{Room};
 ghost use Rattle.rule_cells.specs.Cells.{templateAt};
 ghost use Rattle.rule_cells.specs.Made.{Made};
 ghost use Rattle.rule_cells.specs.Drive.{Drives, Accepts};
+ghost use Rattle.rule_cells.specs.Variables.{variablesFrom};
+ghost use Rattle.rule_cells.specs.Parse.{Asks, TemplateLeft};
 use crate::cells;
+use crate::trees;
+use crate::variables;
+use crate::variables::Known;
+use arena::names;
+
+// The reference of a template or of a list of rules, and the new top.
+pub enum Built {
+    Good(u32, u32),
+    Bad,
+}
 
 // Whether a template holds a variable that drives its copies: one under more ellipses than the j inside the element.
 pub fn driven(work: &[u32], at: u32, j: u32) -> bool
@@ -64,4 +79,64 @@ pub fn put_list(work: &mut [u32], top: u32, dots: bool, element: u32, rest: u32)
         return cells::put_ellipsis_template(work, top, element, rest);
     }
     cells::put_pair_template(work, top, element, rest)
+}
+
+// A template's name under d ellipses: a variable, or inserted; `...` itself is none.
+pub fn template_name(
+    items: &[u32],
+    work: &mut [u32],
+    table: &mut [u32],
+    vars: &[u32],
+    count: u32,
+    node: u32,
+    w: u32,
+    d: u32,
+    top: u32,
+) -> Built
+    requires { ⌜ (3 * markLimit < length (now table)) × (Room (now work) top 5) × (node ≤ top) × (w ≤ top) × (count ≤ 16) × (32 ≤ length (now vars)) ⌝ }
+    ensures { λ r. ⌜ TemplateLeft (variablesFrom (now (items .entry)) (now (work .entry)) w (now (vars .entry)) 0 count) d false (name (nameAt (now (items .entry)) (now (work .entry)) node w)) (now (items .entry)) (now (work .entry)) (now (work .exit)) top r ⌝ }
+{
+    if names::number_of(items, work, node) == trees::DOTS {
+        return Built::Bad;
+    }
+    match variables::find(items, work, table, vars, 0, count, node, w) {
+        Known::At(k, e) => {
+            if depth_fits(e, d) {
+                let r = cells::put_variable_template(work, top, k, e);
+                return Built::Good(r, r);
+            }
+            return Built::Bad;
+        }
+        Known::Not => {}
+    }
+    let r = cells::put_insert(work, top, node, w);
+    Built::Good(r, r)
+}
+
+// A part of a template that is no pair.
+pub fn template_leaf(
+    items: &[u32],
+    work: &mut [u32],
+    table: &mut [u32],
+    vars: &[u32],
+    count: u32,
+    node: u32,
+    w: u32,
+    d: u32,
+    top: u32,
+) -> Built
+    requires { ⌜ (3 * markLimit < length (now table)) × (Asks (now items) (now work) node w top) × (count ≤ 16) × (32 ≤ length (now vars)) × (wordAt (now work) node 3 ≡ 4 → ⊥) ⌝ }
+    ensures { λ r. ⌜ TemplateLeft (variablesFrom (now (items .entry)) (now (work .entry)) w (now (vars .entry)) 0 count) d false (treeAt (now (items .entry)) (now (work .entry)) node w) (now (items .entry)) (now (work .entry)) (now (work .exit)) top r ⌝ }
+{
+    let kind = arena::cells::word(work, node, 3);
+    if kind == arena::cells::NAME {
+        return template_name(items, work, table, vars, count, node, w, d, top);
+    }
+    if kind == arena::cells::EMPTY {
+        return Built::Good(0, top);
+    }
+    let first = arena::cells::word(work, node, 2);
+    let second = arena::cells::word(work, node, 1);
+    let r = cells::put_constant_template(work, top, kind, first, second);
+    Built::Good(r, r)
 }
