@@ -96,3 +96,157 @@ module _ (vs : List (Name × ℕ)) (d : ℕ) (items old : List ℕ) (node w top 
   left-constant kind first second new r e f g n0 n3 n4 c =
       let is : constant (record { kind = kind; first = first; second = second }) ≡ treeAt items old node w = rw (e, f, g) (sym (treeAt-constant items old node w n0 n3 n4)) in
       subst (λ (t : Tree). TemplateLeft vs d false t items old new top (Good r r)) is (constant-left (record { kind = kind; first = first; second = second }) new r c)
+
+-- ---- pairs
+
+module _ (vs : List (Name × ℕ)) (d : ℕ) (h s : Tree) where
+  abbrev firstOf : Option Template
+  firstOf = templateOf isEllipsis vs (depthBefore isEllipsis s d) false h
+
+  abbrev laterOf : Option Template
+  laterOf = templateOf isEllipsis vs d (dotsNext isEllipsis s) s
+
+  pair-taken : templateOf isEllipsis vs d true (pair h s) ≡ templateOf isEllipsis vs d false s
+  unfolding templateOf
+  pair-taken = refl
+
+  pair-is : templateOf isEllipsis vs d false (pair h s) ≡ cond (dotsNext isEllipsis s) (guard (isDriven firstOf) (mapBoth ellipsisT firstOf laterOf)) (mapBoth pairT firstOf laterOf)
+  unfolding templateOf
+  pair-is = refl
+
+  pair-bad : firstOf ≡ none → templateOf isEllipsis vs d false (pair h s) ≡ none
+  unfolding guard mapBoth isDriven
+  pair-bad e = pair-is ∙ rw e (cases (dotsNext isEllipsis s) (λ t. rw t refl) (λ t. rw t refl))
+
+  module _ (x : Template) (f : firstOf ≡ some x) where
+    pair-undriven : false ≡ (not (dotsNext isEllipsis s) || drives 0 x) → templateOf isEllipsis vs d false (pair h s) ≡ none
+    unfolding guard isDriven drives
+    pair-undriven u =
+        pair-is
+        ∙ rw f
+        (cases (dotsNext isEllipsis s)
+        (λ t. let v : false ≡ ltb 0 (length (drivers 0 x)) = rw t at u in rw (t, ← v) refl)
+        (λ t. let v : false ≡ true = rw t at u in absurd (let z : _≡_ {A = ℕ} 0 1 = cc in omega arith)))
+
+    pair-bad-rest : laterOf ≡ none → templateOf isEllipsis vs d false (pair h s) ≡ none
+    unfolding guard mapBoth mapSome
+    pair-bad-rest e =
+        pair-is
+        ∙ rw (f, e)
+        (cases (dotsNext isEllipsis s)
+        (λ t. cases (isDriven (some x)) (λ v. rw (t, v) refl) (λ v. rw (t, v) refl))
+        (λ t. rw t refl))
+
+    pair-both : (y : Template) → true ≡ (not (dotsNext isEllipsis s) || drives 0 x) → laterOf ≡ some y → templateOf isEllipsis vs d false (pair h s) ≡ some (cond (dotsNext isEllipsis s) (ellipsisT x y) (pairT x y))
+    unfolding guard mapBoth mapSome isDriven drives
+    pair-both y u e =
+        pair-is
+        ∙ rw (f, e)
+        (cases (dotsNext isEllipsis s)
+        (λ t. let v : true ≡ ltb 0 (length (drivers 0 x)) = rw t at u in rw (t, ← v) refl)
+        (λ t. rw t refl))
+
+-- ---- the table of variables, after new cells
+
+module _ (items old new : List ℕ) (w top : ℕ) (wrap-below : w ≤ top) (kept : take top new ≡ take top old) (vars : List ℕ) where
+  variables-from : (i n : ℕ) → ((j : ℕ) → j < i + n → getD vars (2 * j) 0 ≤ top) → variablesFrom items new w vars i n ≡ variablesFrom items old w vars i n
+  unfolding variablesFrom variableAt
+  variables-from i zero u = refl
+  variables-from i (suc n) u =
+      ap₂ _∷_ (ap (λ (x : Name). (x, getD vars (2 * i + 1) 0)) (name-kept items old new top kept (getD vars (2 * i) 0) w (u i (omega arith)) wrap-below))
+      (variables-from (suc i) n (λ j l. u j (omega arith)))
+
+  pub variables-kept : (n : ℕ) → Under vars n top → variablesFrom items new w vars 0 n ≡ variablesFrom items old w vars 0 n
+  variables-kept n u = variables-from 0 n (λ j l. u j (omega arith))
+
+-- a leaf may begin after `...` or not
+leaf-taken : (vs : List (Name × ℕ)) (d : ℕ) (taken : Bool) (items old : List ℕ) (node w : ℕ) → (wordAt old node 3 ≡ 4 → ⊥) → templateOf isEllipsis vs d false (treeAt items old node w) ≡ templateOf isEllipsis vs d taken (treeAt items old node w)
+unfolding templateOf
+leaf-taken vs d taken items old node w n =
+    tree-cases items old node w (λ t. templateOf isEllipsis vs d false t ≡ templateOf isEllipsis vs d taken t) (λ e. refl) (λ e. refl) (λ e. absurd (n e)) (λ p q r. refl)
+
+-- one tree's template is another's, no larger
+module _ (vs : List (Name × ℕ)) (items old new : List ℕ) (top d e : ℕ) (taken held : Bool) (t s : Tree) (same : templateOf isEllipsis vs e held s ≡ templateOf isEllipsis vs d taken t) (smaller : size s ≤ size t) where
+  pub left-as : (r : Built) → TemplateLeft vs e held s items old new top r → TemplateLeft vs d taken t items old new top r
+  left-as (Good at upper) m =
+      record {
+        means = sym same ∙ m .means;
+        grows = record { at-most = m .grows .at-most; up = m .grows .up; words = omega (arith, m .grows .words); kept = m .grows .kept };
+      }
+  left-as Bad m = (sym same ∙ m .0, m .1)
+
+pub left-leaf : (vs : List (Name × ℕ)) (d : ℕ) (taken : Bool) (items old : List ℕ) (node w top : ℕ) (new : List ℕ) (r : Built) → (wordAt old node 3 ≡ 4 → ⊥) → TemplateLeft vs d false (treeAt items old node w) items old new top r → TemplateLeft vs d taken (treeAt items old node w) items old new top r
+left-leaf vs d taken items old node w top new r n m = left-as vs items old new top d d taken false _ _ (leaf-taken vs d taken items old node w n) (omega arith) r m
+
+-- what is left after each way through a pair
+module _ (items old : List ℕ) (vars : List ℕ) (count node w d top : ℕ) (asks : Asks items old node w top) (under : Under vars count top) (head rest : ℕ) (e : wordAt old node 3 ≡ 4) (f : head ≡ referenceAt old node 2) (g : rest ≡ referenceAt old node 1) where
+  abbrev vs : List (Name × ℕ)
+  vs = variablesFrom items old w vars 0 count
+
+  abbrev h : Tree
+  h = treeAt items old head w
+
+  abbrev s : Tree
+  s = treeAt items old rest w
+
+  whole-is : treeAt items old node w ≡ pair h s
+  whole-is = tree-is items old node w top asks head rest e f g
+
+  whole-size : size (treeAt items old node w) ≡ suc (size h + size s)
+  whole-size = size-is items old node w top asks head rest e f g
+
+  pub left-taken : (taken : Bool) (new : List ℕ) (r : Built) → taken ≡ true → TemplateLeft vs d false s items old new top r → TemplateLeft vs d taken (treeAt items old node w) items old new top r
+  left-taken taken new r q m = left-as vs items old new top d d taken false (treeAt items old node w) s (rw (q, whole-is) (sym (pair-taken vs d h s))) (omega (arith, whole-size)) r m
+
+  module _ (taken dots : Bool) (inner : ℕ) (untaken : taken ≡ false) (next : dots ≡ dotsNext isEllipsis s) (deeper : Deeper items old rest d inner) where
+    first-is : templateOf isEllipsis vs inner false h ≡ firstOf vs d h s
+    first-is = rw (deeper w) refl
+
+    whole : templateOf isEllipsis vs d taken (treeAt items old node w) ≡ templateOf isEllipsis vs d false (pair h s)
+    whole = rw (untaken, whole-is) refl
+
+    pub left-bad : (mid : List ℕ) (r : Built) → r ≡ Bad → TemplateLeft vs inner false h items old mid top r → TemplateLeft vs d taken (treeAt items old node w) items old mid top Bad
+    left-bad mid r b p =
+        let q : TemplateLeft vs inner false h items old mid top Bad = subst (λ (z : Built). TemplateLeft vs inner false h items old mid top z) b p in
+        (whole ∙ pair-bad vs d h s (sym first-is ∙ q .0), q .1)
+
+    pub made-head : (mid : List ℕ) (r : Built) (a t : ℕ) → r ≡ Good a t → TemplateLeft vs inner false h items old mid top r → TemplateMade vs inner false h items old mid top a t
+    made-head mid r a t b p = subst (λ (z : Built). TemplateLeft vs inner false h items old mid top z) b p
+
+    module _ (mid : List ℕ) (a t : ℕ) (same-length : length mid ≡ length old) (made : TemplateMade vs inner false h items old mid top a t) where
+      head-means : firstOf vs d h s ≡ some (templateAt items mid a)
+      head-means = sym first-is ∙ made .means
+
+      pub left-undriven : false ≡ (not dots || drives 0 (templateAt items mid a)) → TemplateLeft vs d taken (treeAt items old node w) items old mid top Bad
+      left-undriven u = (whole ∙ pair-undriven vs d h s (templateAt items mid a) head-means (u ∙ ap (λ (b : Bool). not b || drives 0 (templateAt items mid a)) next), made .grows .kept)
+
+      pub under-still : Under vars count t
+      under-still i l = omega (arith, under i l, made .grows .up)
+
+      abbrev again : Tree
+      again = treeAt items mid rest w
+
+      abbrev vs-again : List (Name × ℕ)
+      vs-again = variablesFrom items mid w vars 0 count
+
+      rest-means : templateOf isEllipsis vs-again d dots again ≡ laterOf vs d h s
+      rest-means = rw (variables-kept items old mid w top (asks .wrap-below) (made .grows .kept) vars count under, rest-kept items old node w top asks head rest e f g mid a t same-length (made .grows), next) refl
+
+      pub left-bad-rest : (new : List ℕ) (r : Built) → r ≡ Bad → TemplateLeft vs-again d dots again items mid new t r → TemplateLeft vs d taken (treeAt items old node w) items old new top Bad
+      left-bad-rest new r b p =
+          let q : TemplateLeft vs-again d dots again items mid new t Bad = subst (λ (z : Built). TemplateLeft vs-again d dots again items mid new t z) b p in
+          (whole ∙ pair-bad-rest vs d h s (templateAt items mid a) head-means (sym rest-means ∙ q .0), kept-both h old mid new top a t (made .grows) (q .1))
+
+      pub made-rest : (last : List ℕ) (r : Built) (b u : ℕ) → r ≡ Good b u → TemplateLeft vs-again d dots again items mid last t r → TemplateMade vs-again d dots again items mid last t b u
+      made-rest last r b u q p = subst (λ (z : Built). TemplateLeft vs-again d dots again items mid last t z) q p
+
+      pub left-list : (last new : List ℕ) (b u r : ℕ) → true ≡ (not dots || drives 0 (templateAt items mid a)) → TemplateMade vs-again d dots again items mid last t b u → Made templateAt (λ i. cond dots (ellipsisT (templateAt i last a) (templateAt i last b)) (pairT (templateAt i last a) (templateAt i last b))) last new u r → TemplateLeft vs d taken (treeAt items old node w) items old new top (Good r r)
+      left-list last new b u r ok second c =
+          let x-is : templateAt items last a ≡ templateAt items mid a = template-kept items mid last t (second .grows .kept) a (made .grows .at-most) in
+          record {
+            means =
+                whole
+                ∙ pair-both vs d h s (templateAt items mid a) head-means (templateAt items last b) (ok ∙ ap (λ (z : Bool). not z || drives 0 (templateAt items mid a)) next) (sym rest-means ∙ second .means)
+                ∙ ap some (ap₂ (λ (z : Bool) (x : Template). cond z (ellipsisT x (templateAt items last b)) (pairT x (templateAt items last b))) (sym next) (sym x-is) ∙ sym (c .means items));
+            grows = grows-pair items old node w top asks head rest e f g mid a t same-length (made .grows) last new b u r (second .grows) (c .end) (c .kept);
+          }

@@ -12,7 +12,7 @@ ghost use Rattle.arena.specs.Cells.{Room};
 ghost use Rattle.rule_cells.specs.Cells.{templateAt};
 ghost use Rattle.rule_cells.specs.Made.{Made};
 ghost use Rattle.rule_cells.specs.Drive.{Drives, Accepts};
-ghost use Rattle.rule_cells.specs.Variables.{variablesFrom};
+ghost use Rattle.rule_cells.specs.Variables.{variablesFrom, Under};
 ghost use Rattle.rule_cells.specs.Parse.{Asks, TemplateLeft};
 use crate::cells;
 use crate::trees;
@@ -139,4 +139,45 @@ pub fn template_leaf(
     let second = arena::cells::word(work, node, 1);
     let r = cells::put_constant_template(work, top, kind, first, second);
     Built::Good(r, r)
+}
+
+// A part of a template under d ellipses; `taken` where it begins with the `...` that the element before it has taken.
+pub fn template(
+    items: &[u32],
+    work: &mut [u32],
+    table: &mut [u32],
+    vars: &[u32],
+    count: u32,
+    node: u32,
+    w: u32,
+    d: u32,
+    taken: bool,
+    top: u32,
+) -> Built
+    requires { ⌜ (3 * markLimit < length (now table)) × (Asks (now items) (now work) node w top) × (count ≤ 16) × (32 ≤ length (now vars)) × (Under (now vars) count top) × (d + node < 2 ^ 32) ⌝ }
+    ensures { λ r. ⌜ TemplateLeft (variablesFrom (now (items .entry)) (now (work .entry)) w (now (vars .entry)) 0 count) d taken (treeAt (now (items .entry)) (now (work .entry)) node w) (now (items .entry)) (now (work .entry)) (now (work .exit)) top r ⌝ }
+{
+    if arena::cells::word(work, node, 3) != arena::cells::PAIR {
+        return template_leaf(items, work, table, vars, count, node, w, d, top);
+    }
+    let head = arena::cells::reference(work, node, 2);
+    let rest = arena::cells::reference(work, node, 1);
+    if taken {
+        return template(items, work, table, vars, count, rest, w, d, false, top);
+    }
+    let dots = trees::dots_next(items, work, rest);
+    let inner = variables::depth_before(items, work, rest, d);
+    let Built::Good(a, t) = template(items, work, table, vars, count, head, w, inner, false, top)
+    else {
+        return Built::Bad;
+    };
+    if accepted(work, dots, a) {
+        let Built::Good(b, u) = template(items, work, table, vars, count, rest, w, d, dots, t)
+        else {
+            return Built::Bad;
+        };
+        let r = put_list(work, u, dots, a, b);
+        return Built::Good(r, r);
+    }
+    Built::Bad
 }
