@@ -7,3 +7,9 @@ pub mod Trees
 pub mod TreeLaws
 pub mod Variables
 pub mod VariableLaws
+pub mod GatherLaws
+pub mod Parse
+pub mod ParseLaws
+pub mod PatternLaws
+pub mod Drive
+pub mod TemplateLaws
