@@ -3,3 +3,5 @@ pub mod Lists
 pub mod ListLaws
 pub mod Parts
 pub mod PartLaws
+pub mod Fits
+pub mod FitLaws

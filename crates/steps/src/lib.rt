@@ -1,4 +1,5 @@
 // A macro step on cells: lists and parts of a use, matching, lengths and cost, and the result's nodes.
 
+pub mod fits;
 pub mod lists;
 pub mod parts;
