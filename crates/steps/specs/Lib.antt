@@ -5,3 +5,5 @@ pub mod Parts
 pub mod PartLaws
 pub mod Fits
 pub mod FitLaws
+pub mod Lengths
+pub mod LengthLaws
