@@ -8,10 +8,11 @@ use lib.ListN.{length}
 use Rattle.words.specs.Lists.{all}
 use Rattle.recipe.specs.Tree.{elements}
 use Rattle.expansion.specs.Rules.{Template, variableT, insertT, constantT, emptyT, pairT, ellipsisT, drivers}
-use Rattle.expansion.specs.Transcribe.{taken, copyCount, equalLengths}
+use Rattle.expansion.specs.Transcribe.{allBelow, taken, copyCount, equalLengths}
 use Rattle.arena.specs.Arena.{treeAt}
 use Rattle.rule_cells.specs.Cells.{patternAt, templateAt}
 use Rattle.steps.specs.Parts.{indices}
+use Rattle.steps.specs.Plain.{Plain}
 use Rattle.steps.specs.declared.lengths.Driving.{Driving}
 use Rattle.steps.specs.declared.lengths.Driving.the-variants.{None, Length}
 
@@ -42,3 +43,15 @@ Copies work p u n outer inner e r = (items : List ℕ) (w : ℕ) → r ≡ copyC
 -- the ellipses round the first part of a cell: one more for an element
 unfoldable pub deeper : ℕ → ℕ → ℕ
 deeper tag j = cond (eqb tag 7) (suc j) j
+
+-- ---- ground 17
+
+-- driving lists are of one length in all of a template
+abbrev pub LengthsAgree : (work : List ℕ) (p u n outer inner t : ℕ) → Bool → Type 0
+LengthsAgree work p u n outer inner t r =
+    (items : List ℕ) (w : ℕ) → Plain (templateAt items work t) → r ≡ equalLengths (patternAt items work p) (treeAt items work u w) (indices n outer inner) (templateAt items work t)
+
+-- in the first c copies of an element
+abbrev pub CopiesAgree : (work : List ℕ) (p u n outer inner e c : ℕ) → Bool → Type 0
+CopiesAgree work p u n outer inner e c r =
+    (items : List ℕ) (w : ℕ) → Plain (templateAt items work e) → r ≡ allBelow (λ k. equalLengths (patternAt items work p) (treeAt items work u w) (k ∷ indices n outer inner) (templateAt items work e)) c

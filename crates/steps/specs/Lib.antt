@@ -7,3 +7,5 @@ pub mod Fits
 pub mod FitLaws
 pub mod Lengths
 pub mod LengthLaws
+pub mod Plain
+pub mod AgreeLaws
