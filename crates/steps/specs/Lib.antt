@@ -9,3 +9,5 @@ pub mod Lengths
 pub mod LengthLaws
 pub mod Plain
 pub mod AgreeLaws
+pub mod Cost
+pub mod CostLaws
