@@ -11,3 +11,5 @@ pub mod Plain
 pub mod AgreeLaws
 pub mod Cost
 pub mod CostLaws
+pub mod Build
+pub mod BuildLaws
