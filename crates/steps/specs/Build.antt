@@ -56,6 +56,7 @@ pub record CopiesBuildable (work : List ℕ) (top p u w n outer inner e c : ℕ)
 
 -- copies k to c - 1 of an element, before the list that ended at the old top
 pub record Behind (old new : List ℕ) (top p u w n outer inner e c k r : ℕ) : Type 0 where
+  pub left : k ≤ c
   pub above : top ≤ r
   pub most : (items : List ℕ) → r + nodeWords * added (copyAt items old p u w n outer inner e) k ≤ top + nodeWords * added (copyAt items old p u w n outer inner e) c
   pub kept : take top new ≡ take top old

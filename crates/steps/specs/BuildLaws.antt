@@ -111,7 +111,7 @@ module _ (old : List ℕ) (top node w item own : ℕ) (item-is : item ≡ wordAt
 
 -- ---- room
 
-abbrev Whole : (work : List ℕ) (node w : ℕ) → List ℕ → Tree
+abbrev pub Whole : (work : List ℕ) (node w : ℕ) → List ℕ → Tree
 Whole work node w = λ items. treeAt items work node w
 
 pub room-is : (A B : List ℕ → Tree) (work : List ℕ) (top : ℕ) → ((items : List ℕ) → A items ≡ B items) → RoomFor B work top → RoomFor A work top

@@ -90,7 +90,7 @@ unfolding added
 added-more f k zero = let e : k + 0 ≡ k = omega arith in rw e (omega arith)
 added-more f k (suc n) = let e : k + suc n ≡ suc (k + n) = omega arith in rw e (omega (arith, added-more f k n))
 
-added-cong : (f g : ℕ → Tree) (n : ℕ) → ((i : ℕ) → f i ≡ g i) → added f n ≡ added g n
+pub added-cong : (f g : ℕ → Tree) (n : ℕ) → ((i : ℕ) → f i ≡ g i) → added f n ≡ added g n
 unfolding added
 added-cong f g zero h = refl
 added-cong f g (suc n) h = ap₂ (λ (x : ℕ) (t : Tree). x + suc (size t)) (added-cong f g n h) (h n)

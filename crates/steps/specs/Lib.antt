@@ -13,3 +13,4 @@ pub mod Cost
 pub mod CostLaws
 pub mod Build
 pub mod BuildLaws
+pub mod ResultLaws

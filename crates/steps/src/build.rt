@@ -1,12 +1,19 @@
 // A step's result, built into fresh nodes above the top, the root last: what is answered is the new top and the root's reference.
 // A name from the use gets the use's pending wrap, joined with its own; an inserted name the wrap of its cell, likewise.
 
+ghost use mathlib.Core.Path.{_≡_};
 ghost use Prim.Native.Nat.{_≤_};
 ghost use Rattle.recipe.specs.Tree.{name};
-ghost use Rattle.arena.specs.Arena.{nameAt, treeAt};
+ghost use Rattle.arena.specs.Arena.{wordAt, nameAt, treeAt};
 ghost use Rattle.arena.specs.Cells.{Room};
-ghost use Rattle.steps.specs.Build.{Waiting, Built};
+ghost use Rattle.steps.specs.Build.{Waiting, Built, Buildable, CopiesBuildable, Behind};
+ghost use Rattle.steps.specs.ResultLaws.{Made};
+use crate::fits;
+use crate::parts;
 use arena::cells;
+
+// The tag of an inserted name; the others are a pattern's.
+pub const INSERT: u32 = 2;
 
 // A fresh name from a name's node and a wrap that waits on it.
 pub fn copy_name(work: &mut [u32], top: u32, node: u32, w: u32) -> u32
@@ -44,4 +51,40 @@ pub fn copy_tree(work: &mut [u32], top: u32, node: u32, w: u32) -> u32
     let tail = copy_tree(work, top, rest, w);
     let head = copy_tree(work, tail, first, w);
     cells::put_pair(work, head, head, tail)
+}
+
+// What a template's cell without parts gives.
+pub fn build_leaf(
+    work: &mut [u32],
+    top: u32,
+    p: u32,
+    u: u32,
+    w: u32,
+    n: u32,
+    outer: u32,
+    inner: u32,
+    t: u32,
+) -> u32
+    requires { ⌜ (Buildable (now work) top p u w n outer inner t) × (wordAt (now work) t 1 ≡ 6 → ⊥) × (wordAt (now work) t 1 ≡ 7 → ⊥) ⌝ }
+    ensures { λ r. ⌜ Made (now (work .entry)) (now (work .exit)) top p u w n outer inner t r ⌝ }
+{
+    let tag = cells::word(work, t, 1);
+    if tag == parts::VARIABLE {
+        let k = cells::word(work, t, 3);
+        let d = cells::word(work, t, 2);
+        let node = parts::taken(work, p, u, n, outer, inner, k, d);
+        return copy_tree(work, top, node, w);
+    }
+    if tag == INSERT {
+        let node = cells::reference(work, t, 3);
+        let wrap = cells::reference(work, t, 2);
+        return copy_name(work, top, node, wrap);
+    }
+    if tag == fits::CONSTANT {
+        let kind = cells::word(work, t, 4);
+        let a = cells::word(work, t, 3);
+        let b = cells::word(work, t, 2);
+        return cells::put_constant(work, top, kind, a, b);
+    }
+    cells::put_empty(work, top)
 }
