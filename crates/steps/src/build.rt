@@ -8,7 +8,9 @@ ghost use Rattle.arena.specs.Arena.{wordAt, nameAt, treeAt};
 ghost use Rattle.arena.specs.Cells.{Room};
 ghost use Rattle.steps.specs.Build.{Waiting, Built, Buildable, CopiesBuildable, Behind};
 ghost use Rattle.steps.specs.ResultLaws.{Made};
+use crate::agree;
 use crate::fits;
+use crate::lengths;
 use crate::parts;
 use arena::cells;
 
@@ -87,4 +89,65 @@ pub fn build_leaf(
         return cells::put_constant(work, top, kind, a, b);
     }
     cells::put_empty(work, top)
+}
+
+// What a template gives, the rest of a list before its head.
+pub fn build(
+    work: &mut [u32],
+    top: u32,
+    p: u32,
+    u: u32,
+    w: u32,
+    n: u32,
+    outer: u32,
+    inner: u32,
+    t: u32,
+) -> u32
+    requires { ⌜ Buildable (now work) top p u w n outer inner t ⌝ }
+    ensures { λ r. ⌜ Made (now (work .entry)) (now (work .exit)) top p u w n outer inner t r ⌝ }
+{
+    let tag = cells::word(work, t, 1);
+    if tag < parts::PAIR {
+        return build_leaf(work, top, p, u, w, n, outer, inner, t);
+    }
+    if parts::ELLIPSIS < tag {
+        return build_leaf(work, top, p, u, w, n, outer, inner, t);
+    }
+    let first = cells::reference(work, t, 3);
+    let rest = cells::reference(work, t, 2);
+    if tag == parts::PAIR {
+        let tail = build(work, top, p, u, w, n, outer, inner, rest);
+        let head = build(work, tail, p, u, w, n, outer, inner, first);
+        return cells::put_pair(work, head, head, tail);
+    }
+    let c = lengths::copies(work, p, u, n, outer, inner, first);
+    let tail = build(work, top, p, u, w, n, outer, inner, rest);
+    build_copies(work, tail, p, u, w, n, outer, inner, first, c)
+}
+
+// The copies of an element, the last first, before the list that ends at the top.
+pub fn build_copies(
+    work: &mut [u32],
+    top: u32,
+    p: u32,
+    u: u32,
+    w: u32,
+    n: u32,
+    outer: u32,
+    inner: u32,
+    e: u32,
+    c: u32,
+) -> u32
+    requires { ⌜ CopiesBuildable (now work) top p u w n outer inner e c ⌝ }
+    ensures { λ r. ⌜ Behind (now (work .entry)) (now (work .exit)) top p u w n outer inner e c 0 r ⌝ }
+{
+    let m = agree::deepen(n);
+    let mut tail = top;
+    let mut k = c;
+    while k != 0 {
+        k -= 1;
+        let head = build(work, tail, p, u, w, m, inner, k, e);
+        tail = cells::put_pair(work, head, head, tail);
+    }
+    tail
 }
