@@ -2,4 +2,6 @@
 pub mod Lists
 pub mod ListLaws
 pub mod Shapes
+pub mod Binders
+pub mod BinderLaws
 pub mod ShapeLaws
