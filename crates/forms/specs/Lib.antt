@@ -4,4 +4,5 @@ pub mod ListLaws
 pub mod Shapes
 pub mod Binders
 pub mod BinderLaws
+pub mod ScopeLaws
 pub mod ShapeLaws
