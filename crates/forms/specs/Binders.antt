@@ -37,13 +37,12 @@ unfoldable pub bindNames : (ℕ → Binding) → ℕ → List Name → Name → 
 bindNames f k [] x = x
 bindNames f k (y ∷ ys) x = bindNames f (suc k) ys (bindName y (f k) x)
 
--- room for binders: nine words a name, and numbers that fit a word
-pub record Space (macros : Bool) (t : Tree) (work table : List ℕ) (list w number parent top : ℕ) : Type 0 where
-  pub ordinary : AllNames macros t
-  pub fits : top + 9 * length (namesIn macros t) ≤ length work
-  pub small : top + 9 * length (namesIn macros t) < 2 ^ 32
-  pub numbers : number + length (namesIn macros t) ≤ 2 ^ 30
-  pub list-below : list ≤ top
+-- room for binders of names xs: nine words a name, and numbers that fit a word; node, wraps and marks in hand as they should be
+pub record Space (xs : List Name) (work table : List ℕ) (node w number parent top : ℕ) : Type 0 where
+  pub fits : top + 9 * length xs ≤ length work
+  pub small : top + 9 * length xs < 2 ^ 32
+  pub numbers : number + length xs ≤ 2 ^ 30
+  pub node-below : node ≤ top
   pub w-below : w ≤ top
   pub parent-below : parent ≤ top
   pub marks : 2 * markLimit < length table

@@ -11,9 +11,9 @@ use Rattle.datum.specs.Constant.{Constant}
 use Rattle.recipe.specs.Name.{Name}
 use Rattle.recipe.specs.Tree.{Tree, empty, constant, name, pair, onEmpty, onPair, isList, isListOf, elements, element}
 use Rattle.arena.specs.Arena.{wordAt, referenceAt, treeAt}
-use Rattle.arena.specs.ArenaLaws.{cases, wordAt-out, referenceAt-most}
+use Rattle.arena.specs.ArenaLaws.{cases, wordAt-out, wordAt-some, referenceAt-most, referenceAt-falls}
 use Rattle.arena.specs.NodeLaws.{treeAt-empty, treeAt-name, treeAt-pair, treeAt-constant}
-use Rattle.forms.specs.Lists.{Part, Tests, elementAt, countIs}
+use Rattle.forms.specs.Lists.{Part, Tests, elementAt, countIs, Counted, Counting}
 
 -- ---- kinds of nodes
 
@@ -114,3 +114,35 @@ list-of work node n r s h e g items w = g items w ∙ rw (sym (h items w) ∙ e)
 pub list-not : (work : List ℕ) (node n : ℕ) (r : Bool) → Tests isList work node r → r ≡ false → Tests (isListOf n) work node false
 unfolding isListOf
 list-not work node n r h e items w = rw (sym (h items w) ∙ e)
+
+-- ---- counting
+
+pub counting-none : (work : List ℕ) (list : ℕ) → Counting work list list 0
+counting-none work list = record { most = omega arith; means = λ items w. omega arith }
+
+module _ (work : List ℕ) (list rest n kind : ℕ) (counted : Counting work list rest n) (kind-is : kind ≡ wordAt work rest 3) where
+  pub counting-end : (kind ≡ 4 → ⊥) → Counted work list n
+  unfolding elements
+  counting-end other =
+      record {
+        most = omega (arith, counted .most);
+        means = λ items w.
+            let z : length (elements (treeAt items work rest w)) ≡ 0 = no-pair work rest kind kind-is (λ t. length (elements t) ≡ 0) refl (λ x. refl) (λ a. refl) other items w in
+            omega (arith, counted .means items w);
+      }
+
+  module _ (a-list : kind ≡ 4) (next : ℕ) (next-is : next ≡ referenceAt work rest 1) where
+    pub next-falls : next < rest
+    next-falls =
+        let some : 0 < rest = wordAt-some work rest 3 (omega arith) (λ z. omega (arith, kind-is ∙ z)) in
+        rw next-is (referenceAt-falls work rest 1 some)
+
+    pub counting-more : Counting work list next (n + 1)
+    unfolding elements
+    counting-more =
+        record {
+          most = omega (arith, counted .most, next-falls);
+          means = λ items w.
+              let e : length (elements (treeAt items work rest w)) ≡ suc (length (elements (treeAt items work next w))) = rw (a-pair work rest kind kind-is a-list items w, next-is) in
+              omega (arith, counted .means items w);
+        }

@@ -2,7 +2,7 @@
 use mathlib.Core.Path.{_≡_}
 use mathlib.Core.Bool.{Bool}
 use mathlib.Core.List.{List}
-use Prim.Native.Nat.{ℕ, _≤_}
+use Prim.Native.Nat.{ℕ, _+_, _≤_}
 use lib.Dec.{eqb}
 use lib.ListN.{length}
 use Rattle.recipe.specs.Tree.{Tree, elements, element}
@@ -23,3 +23,13 @@ elementAt n t = element n t
 
 unfoldable pub countIs : ℕ → Tree → Bool
 countIs n t = eqb (length (elements t)) n
+
+-- a list's count of elements
+pub record Counted (work : List ℕ) (node r : ℕ) : Type 0 where
+  pub most : r ≤ node
+  pub means : (items : List ℕ) (w : ℕ) → r ≡ length (elements (treeAt items work node w))
+
+-- n elements of `list` have been counted, up to `rest`
+pub record Counting (work : List ℕ) (list rest n : ℕ) : Type 0 where
+  pub most : n + rest ≤ list
+  pub means : (items : List ℕ) (w : ℕ) → n + length (elements (treeAt items work rest w)) ≡ length (elements (treeAt items work list w))

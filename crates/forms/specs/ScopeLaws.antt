@@ -47,10 +47,10 @@ scoped-none f k xs parent old top e h = record { end-is = rw e (omega arith); wr
 -- ---- one name more
 
 module _ (items old : List ℕ) (list kind : ℕ) (kind-is : kind ≡ wordAt old list 3) (w : ℕ) (macros : Bool) (a-list : kind ≡ 4)
-    (table : List ℕ) (number parent top : ℕ) (space : Space macros (treeAt items old list w) old table list w number parent top)
+    (table : List ℕ) (number parent top : ℕ) (ordinary : AllNames macros (treeAt items old list w)) (space : Space (namesIn macros (treeAt items old list w)) old table list w number parent top)
     (first own rest : ℕ) (first-is : first ≡ referenceAt old list 2) (own-is : Part (ownName macros) old first own) (rest-is : rest ≡ referenceAt old list 1) where
   xs-is : namesIn macros (treeAt items old list w) ≡ nameAt items old own w ∷ namesIn macros (treeAt items old rest w)
-  xs-is = names-more items old list kind kind-is w macros a-list (space .ordinary) first own rest first-is own-is rest-is
+  xs-is = names-more items old list kind kind-is w macros a-list ordinary first own rest first-is own-is rest-is
 
   count-is : length (namesIn macros (treeAt items old list w)) ≡ suc (length (namesIn macros (treeAt items old rest w)))
   count-is = ap length xs-is
@@ -59,7 +59,7 @@ module _ (items old : List ℕ) (list kind : ℕ) (kind-is : kind ≡ wordAt old
   rest-falls = part-falls items old list kind kind-is w macros a-list 1 rest rest-is
 
   pub own-below : own ≤ top
-  own-below = omega (arith, own-is .below, space .list-below, part-falls items old list kind kind-is w macros a-list 2 first first-is)
+  own-below = omega (arith, own-is .below, space .node-below, part-falls items old list kind kind-is w macros a-list 2 first first-is)
 
   pub room-one : Room old top 9
   room-one = record { fits = omega (arith, space .fits, count-is); small = omega (arith, space .small, count-is) }
@@ -69,7 +69,7 @@ module _ (items old : List ℕ) (list kind : ℕ) (kind-is : kind ≡ wordAt old
 
   module _ (key next : ℕ) (mid : List ℕ) (key-is : key ≡ bindingKey (some (bindsTo macros number))) (bound : Binds items own w key parent old mid top next) where
     rest-kept : treeAt items mid rest w ≡ treeAt items old rest w
-    rest-kept = tree-kept items old mid top rest w (omega (arith, space .list-below, rest-falls)) (space .w-below) (bound .kept)
+    rest-kept = tree-kept items old mid top rest w (omega (arith, space .node-below, rest-falls)) (space .w-below) (bound .kept)
 
     more-is : namesIn macros (treeAt items old list w) ≡ nameAt items old own w ∷ namesIn macros (treeAt items mid rest w)
     more-is = rw rest-kept xs-is
@@ -77,14 +77,16 @@ module _ (items old : List ℕ) (list kind : ℕ) (kind-is : kind ≡ wordAt old
     more-count : length (namesIn macros (treeAt items old list w)) ≡ suc (length (namesIn macros (treeAt items mid rest w)))
     more-count = ap length more-is
 
-    pub space-next : (table′ : List ℕ) → length mid ≡ length old → length table′ ≡ length table → Space macros (treeAt items mid rest w) mid table′ rest w (number + 1) next next
+    pub ordinary-next : AllNames macros (treeAt items mid rest w)
+    ordinary-next = rw rest-kept (rest-names items old list kind kind-is w macros a-list ordinary rest rest-is)
+
+    pub space-next : (table′ : List ℕ) → length mid ≡ length old → length table′ ≡ length table → Space (namesIn macros (treeAt items mid rest w)) mid table′ rest w (number + 1) next next
     space-next table′ l m =
         record {
-          ordinary = rw rest-kept (rest-names items old list kind kind-is w macros a-list (space .ordinary) rest rest-is);
           fits = omega (arith, space .fits, more-count, bound .end);
           small = omega (arith, space .small, more-count, bound .end);
           numbers = omega (arith, space .numbers, more-count);
-          list-below = omega (arith, space .list-below, rest-falls, bound .end);
+          node-below = omega (arith, space .node-below, rest-falls, bound .end);
           w-below = omega (arith, space .w-below, bound .end);
           parent-below = omega arith;
           marks = omega (arith, space .marks);
@@ -170,3 +172,29 @@ first-names (c ∷ cs) = ap (λ (xs : List Name). names (element 0 c) ++ xs) (fi
 pub keywords-are : (t : Tree) → namesIn true (element 1 t) ≡ keywords t
 unfolding namesIn keywords
 keywords-are t = first-names (elements (element 1 t))
+
+-- ---- a form's binders
+
+-- room for a form's names is room for those of its list
+pub space-list : (xs ys : List Name) (work table : List ℕ) (node w number parent top list : ℕ) → xs ≡ ys → list ≤ node → Space ys work table node w number parent top → Space xs work table list w number parent top
+space-list xs ys work table node w number parent top list e l s =
+    record {
+      fits = rw e (s .fits);
+      small = rw e (s .small);
+      numbers = rw e (s .numbers);
+      node-below = omega (arith, s .node-below);
+      w-below = s .w-below;
+      parent-below = s .parent-below;
+      marks = s .marks;
+    }
+
+pub scoped-names : (f g : ℕ → Binding) (k : ℕ) (xs ys : List Name) (parent : ℕ) (old new : List ℕ) (top wrap end : ℕ) → f ≡ g → xs ≡ ys → Scoped f k xs parent old new top wrap end → Scoped g k ys parent old new top wrap end
+scoped-names f g k xs ys parent old new top wrap end d e s = subst (λ (h : ℕ → Binding). Scoped h k ys parent old new top wrap end) d (subst (λ (zs : List Name). Scoped f k zs parent old new top wrap end) e s)
+
+pub to-variables : bindsTo false ≡ variable
+unfolding bindsTo
+to-variables = refl
+
+pub to-macros : bindsTo true ≡ macro
+unfolding bindsTo
+to-macros = refl
