@@ -58,6 +58,9 @@ written-then at d c b e g n r l p q =
 pub written-two : (d : List ℕ) (at a b : ℕ) → at + 2 ≤ length d → Written (a ∷ b ∷ []) d (set (set d at a) (at + 1) b) at (at + 2)
 written-two d at a b h = record { end = refl; words = rw (add-one at) (sets-eq (a ∷ b ∷ []) d at h) }
 
+pub written-as : (ws vs d e : List ℕ) (at r : ℕ) → ws ≡ vs → Written ws d e at r → Written vs d e at r
+written-as ws vs d e at r h w = subst (λ (l : List ℕ). Written l d e at r) h w
+
 -- ---- waiting does not change what is quoted
 
 module _ (f : Name → Name) (same : (x : Name) → f x .number ≡ x .number) where
@@ -149,6 +152,13 @@ module _ (items work : List ℕ) (node kind : ℕ) (kind-is : kind ≡ wordAt wo
       let n : count ≡ D.count (stripTail (treeAt items work node 0)) = c .means items 0 ∙ sym (count-elements (treeAt items work node 0)) in
       rw (n, t)
 
+  pub quoted-list : kind ≡ 4 → (count : ℕ) → Counted work node count → (d e g : List ℕ) (at n r : ℕ) → at + length (quotedAt items work node) ≤ length d
+      → Written (5 ∷ count ∷ []) d e at n → Written (elementsAt items work node) e g n r → Written (quotedAt items work node) d g at r
+  quoted-list h count c d e g at n r room p q =
+      let same = quoted-pair h count c in
+      written-as _ (quotedAt items work node) d g at r same
+      (written-then at d (5 ∷ count ∷ []) (elementsAt items work node) e g n r (omega (arith, ap length same, p .end, q .end)) p q)
+
   -- ---- a list's elements
 
   pub elements-none : (kind ≡ 4 → ⊥) → elementsAt items work node ≡ []
@@ -189,6 +199,9 @@ module _ (items work : List ℕ) (list at : ℕ) (d : List ℕ) (rest n : ℕ) (
 
     some-word : 0 < rest
     some-word = wordAt-some work rest 3 (omega arith) (λ z. omega (arith, kind-is ∙ z))
+
+    pub after-falls : (next : ℕ) → next ≡ after → next < rest
+    after-falls next e′ = omega (arith, e′, referenceAt-falls work rest 1 some-word)
 
     pub first-low : first < list
     first-low = omega (arith, walked .low, first-is, referenceAt-falls work rest 2 some-word)

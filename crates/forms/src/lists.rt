@@ -2,7 +2,7 @@
 
 ghost use mathlib.Core.Path.{_≡_};
 ghost use Rattle.recipe.specs.Tree.{isList, isListOf};
-ghost use Rattle.forms.specs.Lists.{Part, Tests, elementAt, countIs};
+ghost use Rattle.forms.specs.Lists.{Part, Tests, elementAt, countIs, Counted};
 use arena::cells;
 
 // Element k, from 0; the empty list where there is none.
@@ -52,4 +52,17 @@ pub fn is_list_of(work: &[u32], node: u32, n: u32) -> bool
         return has_length(work, node, n);
     }
     false
+}
+
+// How many elements a list has.
+pub fn count(work: &[u32], list: u32) -> u32
+    ensures { λ r. ⌜ Counted (now (work .entry)) list r ⌝ }
+{
+    let mut rest = list;
+    let mut n: u32 = 0;
+    while cells::word(work, rest, 3) == cells::PAIR {
+        rest = cells::reference(work, rest, 1);
+        n += 1;
+    }
+    n
 }
