@@ -31,7 +31,7 @@ ordinary-name items work node w h =
     (λ t. never h (sym (ordinary-other items work node (wordAt work node 3) refl (eqb-false (wordAt work node 3) 3 t) w)))
 
 -- an element that binds as it should has an ordinary name
-binds-ordinary : (macros : Bool) (c : Tree) → bindsOne macros c ≡ true → isOrdinaryName (ownName macros c) ≡ true
+pub binds-ordinary : (macros : Bool) (c : Tree) → bindsOne macros c ≡ true → isOrdinaryName (ownName macros c) ≡ true
 unfolding bindsOne ownName isMacro
 binds-ordinary false c h = h
 binds-ordinary true c h = and-right (isListOf 2 c) (isOrdinaryName (element 0 c)) h

@@ -58,6 +58,12 @@ written-then at d c b e g n r l p q =
 pub written-two : (d : List ℕ) (at a b : ℕ) → at + 2 ≤ length d → Written (a ∷ b ∷ []) d (set (set d at a) (at + 1) b) at (at + 2)
 written-two d at a b h = record { end = refl; words = rw (add-one at) (sets-eq (a ∷ b ∷ []) d at h) }
 
+-- what stood before is kept
+pub written-kept : (ws d e : List ℕ) (at r : ℕ) → r ≤ length d → Written ws d e at r → take at e ≡ take at d
+written-kept ws d e at r l p =
+    let k : at ≤ length d = omega (arith, p .end) in
+    ap (take at) (p .words ∙ append-assoc (take at d) ws (drop r d)) ∙ take-at (take at d) (ws ++ drop r d) at (length-take-le at d k)
+
 pub written-as : (ws vs d e : List ℕ) (at r : ℕ) → ws ≡ vs → Written ws d e at r → Written vs d e at r
 written-as ws vs d e at r h w = subst (λ (l : List ℕ). Written l d e at r) h w
 

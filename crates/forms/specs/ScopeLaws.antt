@@ -8,16 +8,17 @@ use Prim.Native.Nat.{ℕ, zero, suc, _+_, _*_, _-_, _^_, _≤_, _<_}
 use native.Mathlib.Omega.{arith}
 use native.Mathlib.Numerals.{add-one}
 use lib.Dec.{leb}
-use lib.ListN.{length, take}
+use lib.ListN.{length, take, length-append}
+use borrow.Author.Tests.{leb-true}
 use Rattle.words.specs.Limits.{formalsMost}
 use Rattle.words.specs.Lists.{within, all}
 use Rattle.words.specs.ListLaws.{never}
-use Rattle.words.specs.TestLaws.{and-left, and-right}
+use Rattle.words.specs.TestLaws.{and-left, and-right, all-parts, within-most}
 use Rattle.datum.specs.Constant.{Constant}
 use Rattle.recipe.specs.Name.{Binding, variable, macro, Name, bindingKey, bindName}
 use Rattle.recipe.specs.Tree.{Tree, empty, constant, name, pair, names, isOrdinaryName, isList, isListOf, onEmpty, onPair, elements, element, onNames, bind, bindAll}
 use Rattle.recipe.specs.TreeLaws.{onNames-∘}
-use Rattle.recipe.specs.Tidy.{Tidy, tidyEmpty, tidyConstant, tidyName, tidyPair, tidy-element}
+use Rattle.recipe.specs.Tidy.{Tidy, tidyEmpty, tidyConstant, tidyName, tidyPair, tidy-element, ordinary-names}
 use Rattle.expansion.specs.Forms.{isLambda, formals, isMacro, isMacros, firstNames, keywords}
 use Rattle.arena.specs.Arena.{wordAt, referenceAt, wrapAt, nameAt, treeAt}
 use Rattle.arena.specs.ArenaLaws.{take-less}
@@ -26,7 +27,7 @@ use Rattle.arena.specs.CellLaws.{tree-kept, tree-after}
 use Rattle.forms.specs.Lists.{Part}
 use Rattle.forms.specs.Shapes.{ownName, bindsOne}
 use Rattle.forms.specs.Binders.{AllNames, ownNames, namesIn, Proper, bindsTo, bindNames, Space, Scoped}
-use Rattle.forms.specs.BinderLaws.{part-falls, rest-names, names-more}
+use Rattle.forms.specs.BinderLaws.{binds-ordinary, part-falls, rest-names, names-more}
 
 -- ---- keys
 
@@ -172,6 +173,35 @@ first-names (c ∷ cs) = ap (λ (xs : List Name). names (element 0 c) ++ xs) (fi
 pub keywords-are : (t : Tree) → namesIn true (element 1 t) ≡ keywords t
 unfolding namesIn keywords
 keywords-are t = first-names (elements (element 1 t))
+
+-- ---- how many they are
+
+own-count : (macros : Bool) (cs : List Tree) → all (bindsOne macros) cs ≡ true → length (ownNames macros cs) ≡ length cs
+unfolding ownNames
+own-count macros [] h = refl
+own-count macros (c ∷ cs) h =
+    let g = all-parts (bindsOne macros) c cs h in
+    length-append (names (ownName macros c)) (ownNames macros cs) ∙ omega (arith, ordinary-names (ownName macros c) (binds-ordinary macros c (g .0)), own-count macros cs (g .1))
+
+pub names-count : (macros : Bool) (t : Tree) → AllNames macros t → length (namesIn macros t) ≡ length (elements t)
+unfolding namesIn
+names-count macros t h = own-count macros (elements t) h
+
+module _ (t : Tree) where
+  pub formals-count : isLambda t ≡ true → Proper t → length (formals t) ≡ length (elements (element 1 t))
+  formals-count shape p = sym (ap length (formals-are t shape p)) ∙ names-count false (element 1 t) (lambda-names t shape)
+
+  pub formals-most : isLambda t ≡ true → Proper t → length (formals t) ≤ 8
+  formals-most shape p =
+      omega (arith, formals-count shape p, leb-true (length (elements (element 1 t))) 8 (and-right (all isOrdinaryName (elements (element 1 t))) _ (and-right (isList (element 1 t)) _ (within-shape t shape))))
+
+  pub keywords-count : AllNames true (element 1 t) → length (keywords t) ≡ length (elements (element 1 t))
+  keywords-count h = sym (ap length (keywords-are t)) ∙ names-count true (element 1 t) h
+
+  pub keywords-most : (limit : ℕ) → isMacros limit t ≡ true → length (keywords t) ≤ limit
+  unfolding isMacros
+  keywords-most limit shape =
+      omega (arith, keywords-count (macros-names t limit shape), within-most 1 limit (length (elements (element 1 t))) (and-right (all isMacro (elements (element 1 t))) _ (and-right (isList (element 1 t)) _ (and-right (isListOf 3 t) _ shape))))
 
 -- ---- a form's binders
 
