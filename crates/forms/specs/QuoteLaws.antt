@@ -21,7 +21,7 @@ use Rattle.arena.specs.ArenaLaws.{wrapAt-number, wordAt-some, referenceAt-falls
 use Rattle.arena.specs.NodeLaws.{treeAt-wrap, treeAt-empty, treeAt-name, treeAt-constant}
 use Rattle.arena.specs.Names.{numberOf}
 use Rattle.arena.specs.NameLaws.{nameAt-number}
-use Rattle.forms.specs.Lists.{Counted}
+use Rattle.forms.specs.Lists.{Counts}
 use Rattle.forms.specs.ListLaws.{no-pair, a-pair}
 use Rattle.forms.specs.Quotes.{quotedAt, elementsAt, Quotable, Written, Walked}
 
@@ -151,14 +151,14 @@ module _ (items work : List ℕ) (node kind : ℕ) (kind-is : kind ≡ wordAt wo
     unfolding constantAt
     constant-small q = rw kind-is (constant-kind (subst Quotable constant-is q))
 
-  pub quoted-pair : kind ≡ 4 → (count : ℕ) → Counted work node count → (5 ∷ count ∷ []) ++ elementsAt items work node ≡ quotedAt items work node
+  pub quoted-pair : kind ≡ 4 → (count : ℕ) → Counts work node count → (5 ∷ count ∷ []) ++ elementsAt items work node ≡ quotedAt items work node
   unfolding quotedAt elementsAt strip datumWords nodeWords D.count elements
   quoted-pair e count c =
       let t = a-pair work node kind kind-is e items 0 in
-      let n : count ≡ D.count (stripTail (treeAt items work node 0)) = c .means items 0 ∙ sym (count-elements (treeAt items work node 0)) in
+      let n : count ≡ D.count (stripTail (treeAt items work node 0)) = c .is items 0 ∙ sym (count-elements (treeAt items work node 0)) in
       rw (n, t)
 
-  pub quoted-list : kind ≡ 4 → (count : ℕ) → Counted work node count → (d e g : List ℕ) (at n r : ℕ) → at + length (quotedAt items work node) ≤ length d
+  pub quoted-list : kind ≡ 4 → (count : ℕ) → Counts work node count → (d e g : List ℕ) (at n r : ℕ) → at + length (quotedAt items work node) ≤ length d
       → Written (5 ∷ count ∷ []) d e at n → Written (elementsAt items work node) e g n r → Written (quotedAt items work node) d g at r
   quoted-list h count c d e g at n r room p q =
       let same = quoted-pair h count c in

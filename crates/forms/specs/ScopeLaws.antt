@@ -24,10 +24,9 @@ use Rattle.arena.specs.Arena.{wordAt, referenceAt, wrapAt, nameAt, treeAt}
 use Rattle.arena.specs.ArenaLaws.{take-less}
 use Rattle.arena.specs.Cells.{Room, Binds}
 use Rattle.arena.specs.CellLaws.{tree-kept, tree-after}
-use Rattle.forms.specs.Lists.{Part}
 use Rattle.forms.specs.Shapes.{ownName, bindsOne}
-use Rattle.forms.specs.Binders.{AllNames, ownNames, namesIn, Proper, bindsTo, bindNames, Space, Scoped}
-use Rattle.forms.specs.BinderLaws.{binds-ordinary, part-falls, rest-names, names-more}
+use Rattle.forms.specs.Binders.{AllNames, ownNames, namesIn, Proper, bindsTo, bindNames, Opened, Space, Scoped}
+use Rattle.forms.specs.BinderLaws.{binds-ordinary}
 
 -- ---- keys
 
@@ -47,20 +46,13 @@ scoped-none f k xs parent old top e h = record { end-is = rw e (omega arith); wr
 
 -- ---- one name more
 
-module _ (items old : List ℕ) (list kind : ℕ) (kind-is : kind ≡ wordAt old list 3) (w : ℕ) (macros : Bool) (a-list : kind ≡ 4)
-    (table : List ℕ) (number parent top : ℕ) (ordinary : AllNames macros (treeAt items old list w)) (space : Space (namesIn macros (treeAt items old list w)) old table list w number parent top)
-    (first own rest : ℕ) (first-is : first ≡ referenceAt old list 2) (own-is : Part (ownName macros) old first own) (rest-is : rest ≡ referenceAt old list 1) where
-  xs-is : namesIn macros (treeAt items old list w) ≡ nameAt items old own w ∷ namesIn macros (treeAt items old rest w)
-  xs-is = names-more items old list kind kind-is w macros a-list ordinary first own rest first-is own-is rest-is
-
+module _ (items old : List ℕ) (list w : ℕ) (macros : Bool) (table : List ℕ) (number parent top own rest : ℕ)
+    (space : Space (namesIn macros (treeAt items old list w)) old table list w number parent top) (open′ : Opened items old list w macros own rest) where
   count-is : length (namesIn macros (treeAt items old list w)) ≡ suc (length (namesIn macros (treeAt items old rest w)))
-  count-is = ap length xs-is
-
-  pub rest-falls : rest < list
-  rest-falls = part-falls items old list kind kind-is w macros a-list 1 rest rest-is
+  count-is = ap length (open′ .names-are)
 
   pub own-below : own ≤ top
-  own-below = omega (arith, own-is .below, space .node-below, part-falls items old list kind kind-is w macros a-list 2 first first-is)
+  own-below = omega (arith, space .node-below, open′ .own-low)
 
   pub room-one : Room old top 9
   room-one = record { fits = omega (arith, space .fits, count-is); small = omega (arith, space .small, count-is) }
@@ -70,16 +62,16 @@ module _ (items old : List ℕ) (list kind : ℕ) (kind-is : kind ≡ wordAt old
 
   module _ (key next : ℕ) (mid : List ℕ) (key-is : key ≡ bindingKey (some (bindsTo macros number))) (bound : Binds items own w key parent old mid top next) where
     rest-kept : treeAt items mid rest w ≡ treeAt items old rest w
-    rest-kept = tree-kept items old mid top rest w (omega (arith, space .node-below, rest-falls)) (space .w-below) (bound .kept)
+    rest-kept = tree-kept items old mid top rest w (omega (arith, space .node-below, open′ .rest-low)) (space .w-below) (bound .kept)
 
     more-is : namesIn macros (treeAt items old list w) ≡ nameAt items old own w ∷ namesIn macros (treeAt items mid rest w)
-    more-is = rw rest-kept xs-is
+    more-is = rw rest-kept (open′ .names-are)
 
     more-count : length (namesIn macros (treeAt items old list w)) ≡ suc (length (namesIn macros (treeAt items mid rest w)))
     more-count = ap length more-is
 
     pub ordinary-next : AllNames macros (treeAt items mid rest w)
-    ordinary-next = rw rest-kept (rest-names items old list kind kind-is w macros a-list ordinary rest rest-is)
+    ordinary-next = rw rest-kept (open′ .ordinary)
 
     pub space-next : (table′ : List ℕ) → length mid ≡ length old → length table′ ≡ length table → Space (namesIn macros (treeAt items mid rest w)) mid table′ rest w (number + 1) next next
     space-next table′ l m =
@@ -87,7 +79,7 @@ module _ (items old : List ℕ) (list kind : ℕ) (kind-is : kind ≡ wordAt old
           fits = omega (arith, space .fits, more-count, bound .end);
           small = omega (arith, space .small, more-count, bound .end);
           numbers = omega (arith, space .numbers, more-count);
-          node-below = omega (arith, space .node-below, rest-falls, bound .end);
+          node-below = omega (arith, space .node-below, open′ .rest-low, bound .end);
           w-below = omega (arith, space .w-below, bound .end);
           parent-below = omega arith;
           marks = omega (arith, space .marks);

@@ -24,9 +24,9 @@ bind-names-requires : tie.Need-bind-names-requires
 bind-names-requires c κs =
     let a = c .before .before .before .before .before .before .before .args in
     let t : Tree = treeAt (a .items .now) (a .work .now) (a .node) (a .w) in
-    let same = c .before .before .element .ensures .means (a .items .now) (a .w) in (
+    let same = c .before .before .element .ensures .is (a .items .now) (a .w) in (
       subst (AllNames false) (sym same) (lambda-names t (c .before .before .before .before .before .before .before .pre .0)),
-      space-list _ (formals t) (a .work .now) _ (a .node) (a .w) (a .first) (a .w) (a .top) _ (ap (namesIn false) same ∙ formals-are t (c .before .before .before .before .before .before .before .pre .0) (c .before .before .before .before .before .before .before .pre .1)) (c .before .before .element .ensures .below) (c .before .before .before .before .before .before .before .pre .2),
+      space-list _ (formals t) (a .work .now) _ (a .node) (a .w) (a .first) (a .w) (a .top) _ (ap (namesIn false) same ∙ formals-are t (c .before .before .before .before .before .before .before .pre .0) (c .before .before .before .before .before .before .before .pre .1)) (c .before .before .element .ensures .low) (c .before .before .before .before .before .before .before .pre .2),
     )
 
 same-length : tie.Need-same-length
@@ -41,7 +41,7 @@ returns : tie.Need-returns
 returns c =
     let a = c .before .before .before .before .before .before .before .before .before .before .before .before .args in
     let t : Tree = treeAt (a .items .now) (a .work .now) (a .node) (a .w) in
-    let same = c .before .before .before .before .before .before .before .element .ensures .means (a .items .now) (a .w) in
+    let same = c .before .before .before .before .before .before .before .element .ensures .is (a .items .now) (a .w) in
     scoped-names _ _ (a .first) _ (formals t) (a .w) (a .work .now) _ (a .top) _ _ to-variables (ap (namesIn false) same ∙ formals-are t (c .before .before .before .before .before .before .before .before .before .before .before .before .pre .0) (c .before .before .before .before .before .before .before .before .before .before .before .before .pre .1)) (c .before .before .before .before .bind-names .ensures)
 
 pub bind-formals-spec : {M : Type 1} → statement M

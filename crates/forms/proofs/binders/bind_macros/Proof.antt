@@ -24,9 +24,9 @@ bind-names-requires : tie.Need-bind-names-requires
 bind-names-requires c κs =
     let a = c .before .before .before .before .before .before .before .args in
     let t : Tree = treeAt (a .items .now) (a .work .now) (a .node) (a .w) in
-    let same = c .before .before .element .ensures .means (a .items .now) (a .w) in (
+    let same = c .before .before .element .ensures .is (a .items .now) (a .w) in (
       subst (AllNames true) (sym same) (c .before .before .before .before .before .before .before .pre .0),
-      space-list _ (keywords t) (a .work .now) _ (a .node) (a .w) (a .first) (a .w) (a .top) _ (ap (namesIn true) same ∙ keywords-are t) (c .before .before .element .ensures .below) (c .before .before .before .before .before .before .before .pre .1),
+      space-list _ (keywords t) (a .work .now) _ (a .node) (a .w) (a .first) (a .w) (a .top) _ (ap (namesIn true) same ∙ keywords-are t) (c .before .before .element .ensures .low) (c .before .before .before .before .before .before .before .pre .1),
     )
 
 same-length : tie.Need-same-length
@@ -41,7 +41,7 @@ returns : tie.Need-returns
 returns c =
     let a = c .before .before .before .before .before .before .before .before .before .before .before .before .args in
     let t : Tree = treeAt (a .items .now) (a .work .now) (a .node) (a .w) in
-    let same = c .before .before .before .before .before .before .before .element .ensures .means (a .items .now) (a .w) in
+    let same = c .before .before .before .before .before .before .before .element .ensures .is (a .items .now) (a .w) in
     scoped-names _ _ (a .first) _ (keywords t) (a .w) (a .work .now) _ (a .top) _ _ to-macros (ap (namesIn true) same ∙ keywords-are t) (c .before .before .before .before .bind-names .ensures)
 
 pub bind-macros-spec : {M : Type 1} → statement M

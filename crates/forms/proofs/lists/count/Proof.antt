@@ -33,7 +33,7 @@ reference-requires c κs =
 add-n : tie.Need-add-n Inv-loop μ-loop
 add-n c =
     let a = c .before .before .before .before .before .args in
-    omega (arith, c .before .before .before .loop .inv .most, next-falls (a .work .now) (a .list) _ _ _ (c .before .before .before .loop .inv) (c .before .before .word .ensures) (c .before .if1 .taken) _ (c .reference .ensures), c .before .before .before .before .before .fits .list)
+    omega (arith, c .before .before .before .loop .inv .low, next-falls (a .work .now) (a .list) _ _ _ (c .before .before .before .loop .inv) (c .before .before .word .ensures) (c .before .if1 .taken) _ (c .reference .ensures), c .before .before .before .before .before .fits .list)
 
 loop-less : tie.Need-loop-less Inv-loop μ-loop
 loop-less c =
