@@ -14,3 +14,4 @@ pub mod NameLaws
 pub mod Nodes
 pub mod LayOut
 pub mod Lists
+pub mod Copy

@@ -21,11 +21,18 @@ pub record OpensPair (work : List ℕ) (node head tail : ℕ) : Type 0 where
   pub tail-falls : tail < node
   pub tree : (items : List ℕ) (w : ℕ) → treeAt items work node w ≡ pair (treeAt items work head w) (treeAt items work tail w)
 
+-- a constant's kind is no other node's
+pub record OpensConstant (work : List ℕ) (node k a b : ℕ) : Type 0 where
+  pub not-empty : k ≡ 0 → ⊥
+  pub not-name : k ≡ 3 → ⊥
+  pub not-pair : k ≡ 4 → ⊥
+  pub tree : (items : List ℕ) (w : ℕ) → treeAt items work node w ≡ constant (record { kind = k; first = a; second = b })
+
 abbrev pub Opens : List ℕ → ℕ → Node → Type 0
 Opens work node Empty = (items : List ℕ) (w : ℕ) → treeAt items work node w ≡ empty
 Opens work node (Name item own) = OpensName work node item own
 Opens work node (Pair head tail) = OpensPair work node head tail
-Opens work node (Constant k a b) = (items : List ℕ) (w : ℕ) → treeAt items work node w ≡ constant (record { kind = k; first = a; second = b })
+Opens work node (Constant k a b) = OpensConstant work node k a b
 
 module _ (work : List ℕ) (node kind : ℕ) (kind-is : kind ≡ wordAt work node 3) where
   pub opens-empty : kind ≡ 0 → Opens work node Empty
@@ -45,4 +52,10 @@ module _ (work : List ℕ) (node kind : ℕ) (kind-is : kind ≡ wordAt work nod
 
   pub opens-constant : (a b : ℕ) → (kind ≡ 0 → ⊥) → (kind ≡ 3 → ⊥) → (kind ≡ 4 → ⊥) → a ≡ wordAt work node 2 → b ≡ wordAt work node 1 → Opens work node (Constant kind a b)
   unfolding constantAt
-  opens-constant a b x y z p q items w = rw (kind-is, p, q) (treeAt-constant items work node w (λ h. x (kind-is ∙ h)) (λ h. y (kind-is ∙ h)) (λ h. z (kind-is ∙ h)))
+  opens-constant a b x y z p q =
+      record {
+        not-empty = x;
+        not-name = y;
+        not-pair = z;
+        tree = λ items w. rw (kind-is, p, q) (treeAt-constant items work node w (λ h. x (kind-is ∙ h)) (λ h. y (kind-is ∙ h)) (λ h. z (kind-is ∙ h)));
+      }

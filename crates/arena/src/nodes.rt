@@ -15,38 +15,38 @@ pub enum Node {
     Constant(u32, u32, u32),
 }
 
-pub fn open(work: &[u32], node: u32) -> Node
+pub fn opened(work: &[u32], node: u32) -> Node
     ensures { λ r. ⌜ Opens (now (work .entry)) node r ⌝ }
 {
-    let kind = cells::word(work, node, 3);
+    let kind = cells::word(work, node, cells::KIND);
     if kind == cells::EMPTY {
         return Node::Empty;
     }
     if kind == cells::NAME {
-        let item = cells::word(work, node, 2);
-        let own = cells::reference(work, node, 1);
+        let item = cells::word(work, node, cells::ITEM);
+        let own = cells::reference(work, node, cells::OWN);
         return Node::Name(item, own);
     }
     if kind == cells::PAIR {
-        let head = cells::reference(work, node, 2);
-        let tail = cells::reference(work, node, 1);
+        let head = cells::reference(work, node, cells::HEAD);
+        let tail = cells::reference(work, node, cells::TAIL);
         return Node::Pair(head, tail);
     }
-    let first = cells::word(work, node, 2);
-    let second = cells::word(work, node, 1);
+    let first = cells::word(work, node, cells::FIRST);
+    let second = cells::word(work, node, cells::SECOND);
     Node::Constant(kind, first, second)
 }
 
 pub fn is_name(work: &[u32], node: u32) -> bool
     ensures { λ r. ⌜ Tests isName (now (work .entry)) node r ⌝ }
 {
-    cells::word(work, node, 3) == cells::NAME
+    cells::word(work, node, cells::KIND) == cells::NAME
 }
 
 pub fn is_list(work: &[u32], node: u32) -> bool
     ensures { λ r. ⌜ Tests isList (now (work .entry)) node r ⌝ }
 {
-    let kind = cells::word(work, node, 3);
+    let kind = cells::word(work, node, cells::KIND);
     if kind == cells::EMPTY {
         return true;
     }
@@ -57,8 +57,8 @@ pub fn is_list(work: &[u32], node: u32) -> bool
 pub fn head_of(work: &[u32], node: u32) -> u32
     ensures { λ r. ⌜ Part (element 0) (now (work .entry)) node r ⌝ }
 {
-    if cells::word(work, node, 3) == cells::PAIR {
-        return cells::reference(work, node, 2);
+    if cells::word(work, node, cells::KIND) == cells::PAIR {
+        return cells::reference(work, node, cells::HEAD);
     }
     0
 }
@@ -67,8 +67,8 @@ pub fn head_of(work: &[u32], node: u32) -> u32
 pub fn tail_of(work: &[u32], node: u32) -> u32
     ensures { λ r. ⌜ Rest (now (work .entry)) node r ⌝ }
 {
-    if cells::word(work, node, 3) == cells::PAIR {
-        return cells::reference(work, node, 1);
+    if cells::word(work, node, cells::KIND) == cells::PAIR {
+        return cells::reference(work, node, cells::TAIL);
     }
     0
 }
@@ -92,11 +92,11 @@ pub fn length_of(work: &[u32], list: u32) -> u32
 {
     let mut at = list;
     let mut n: u32 = 0;
-    let mut kind = cells::word(work, at, 3);
+    let mut kind = cells::word(work, at, cells::KIND);
     while kind == cells::PAIR {
-        at = cells::reference(work, at, 1);
+        at = cells::reference(work, at, cells::TAIL);
         n += 1;
-        kind = cells::word(work, at, 3);
+        kind = cells::word(work, at, cells::KIND);
     }
     n
 }
@@ -109,11 +109,11 @@ pub fn size_of(work: &[u32], node: u32, from: u32, limit: u32) -> u32
     if limit < from {
         return from;
     }
-    if cells::word(work, node, 3) != cells::PAIR {
+    if cells::word(work, node, cells::KIND) != cells::PAIR {
         return from + 1;
     }
-    let head = cells::reference(work, node, 2);
-    let tail = cells::reference(work, node, 1);
+    let head = cells::reference(work, node, cells::HEAD);
+    let tail = cells::reference(work, node, cells::TAIL);
     let n = size_of(work, head, from + 1, limit);
     size_of(work, tail, n, limit)
 }

@@ -89,7 +89,8 @@ fn bind(
         return 0;
     }
     let items = [3, 8, 0];
-    names::bind(&items, work, table, top, node, w, 1 + 2 * n, parent)
+    let key = names::variable_key(n);
+    names::bind(&items, work, table, top, node, w, key, parent)
 }
 
 // What x at `node` under wrap w finds; x is operation 0 where it has no binding.

@@ -20,33 +20,49 @@ abbrev μ-loop : tie.MeasureT-loop
 cast-count : tie.Need-cast-count Inv-loop μ-loop
 unfolding itemCount
 cast-count c =
-    let a = c .before .before .args in omega (arith, most (a .items .now) (c .before .before .pre .0))
+    let a = c .before .before .args in
+    let pre = c .before .before .pre in
+    omega (arith, most (a .items .now) (pre .0))
 
 loop-holds : tie.Need-loop-holds Inv-loop μ-loop
 loop-holds c =
-    let a = c .before .before .args in (omega arith, refl, laid-none (a .items .now) (a .work .now))
+    let a = c .before .before .args in
+    (omega arith, refl, laid-none (a .items .now) (a .work .now))
 
 lay-item-requires : tie.Need-lay-item-requires Inv-loop μ-loop
 unfolding itemCount
 lay-item-requires c κs =
-    let a = c .before .before .before .before .before .args in record { layout = c .before .before .before .before .before .pre .0; count-is = refl; more = c .before .loop-test .taken; fits = omega (arith, c .before .before .before .before .before .pre .1, c .before .before .loop .inv .1); laid = c .before .before .loop .inv .2 }
+    let entry = c .before .before .before .before .before in
+    let a = entry .args in
+    let pre = entry .pre in
+    let loop-test = c .before .loop-test in
+    let loop = c .before .before .loop in
+    record { layout = pre .0; count-is = refl; more = loop-test .taken; fits = omega (arith, pre .1, loop .inv .1); laid = loop .inv .2 }
 
 add-laid : tie.Need-add-laid Inv-loop μ-loop
 unfolding itemCount
 add-laid c =
-    let a = c .before .before .before .before .before .before .before .before .args in omega (arith, most (a .items .now) (c .before .before .before .before .before .before .before .before .pre .0))
+    let entry = c .before .before .before .before .before .before .before .before in
+    let a = entry .args in
+    let pre = entry .pre in
+    omega (arith, most (a .items .now) (pre .0))
 
 loop-less : tie.Need-loop-less Inv-loop μ-loop
 loop-less c = search needs
 
 loop-again : tie.Need-loop-again Inv-loop μ-loop
 loop-again c =
-    (omega arith, c .before .before .lay-item .kept .1 .0 ∙ c .before .before .before .before .before .loop .inv .1, c .before .before .lay-item .ensures)
+    let lay-item = c .before .before .lay-item in
+    let loop = c .before .before .before .before .before .loop in
+    (omega arith, lay-item .kept .1 .0 ∙ loop .inv .1, lay-item .ensures)
 
 mul-result : tie.Need-mul-result Inv-loop μ-loop
 unfolding itemCount
 mul-result c =
-    let a = c .before .before .before .before .args in omega (arith, most (a .items .now) (c .before .before .before .before .pre .0))
+    let entry = c .before .before .before .before in
+    let a = entry .args in
+    let pre = entry .pre in
+    omega (arith, most (a .items .now) (pre .0))
 
 same-length : tie.Need-same-length Inv-loop μ-loop
 same-length c = search needs
@@ -54,7 +70,11 @@ same-length c = search needs
 returns : tie.Need-returns Inv-loop μ-loop
 unfolding itemCount
 returns c =
-    let a = c .before .before .before .before .args in let e : c .before .loop .laid ≡ length (a .items .now) / 3 = omega (arith, c .before .loop .inv .0) in laid-all (a .items .now) _ _ (c .before .before .before .before .pre .0) refl (subst (λ (n : ℕ). Laid (a .items .now) (c .before .loop .work) n) e (c .before .loop .inv .2))
+    let entry = c .before .before .before .before in
+    let a = entry .args in
+    let loop = c .before .loop in
+    let pre = entry .pre in
+    let e : loop .laid ≡ length (a .items .now) / 3 = omega (arith, loop .inv .0) in laid-all (a .items .now) _ _ (pre .0) refl (subst (λ (n : ℕ). Laid (a .items .now) (loop .work) n) e (loop .inv .2))
 
 pub lay-out-spec : {M : Type 1} → statement M
 lay-out-spec =

@@ -28,7 +28,9 @@ size-of-claims t = (word-reads.Asked, word-reads.Learnt, reference-reads.Asked, 
 
 size-of-returns : (t : ℕ) → size-of-lts.Need-returns (size-of-claims t) (size-of-at t) size-of.Post
 size-of-returns t c =
-    let a = c .before .before .args in (size-full (a .work .now) (a .node) (a .from) (a .limit) (c .if1 .taken) (omega (arith, c .before .before .pre .1)), c .before .before .pre .1 .0)
+    let a = c .before .before .args in
+    let pre = c .before .before .pre in
+    (size-full (a .work .now) (a .node) (a .from) (a .limit) (c .if1 .taken) (omega (arith, pre .1)), pre .1 .0)
 
 size-of-word-requires : (t : ℕ) → size-of-lts.Need-word-requires (size-of-claims t) (size-of-at t) size-of.Post
 size-of-word-requires t c κs = search needs
@@ -38,7 +40,9 @@ size-of-add-result t c = search needs
 
 size-of-returns-2 : (t : ℕ) → size-of-lts.Need-returns-2 (size-of-claims t) (size-of-at t) size-of.Post
 size-of-returns-2 t c =
-    let a = c .before .before .before .before .args in (size-leaf (a .work .now) (a .node) _ (c .before .word .ensures) (a .from) (a .limit) (omega arith) (c .if2 .taken), omega arith)
+    let a = c .before .before .before .before .args in
+    let word = c .before .word in
+    (size-leaf (a .work .now) (a .node) _ (word .ensures) (a .from) (a .limit) (omega arith) (c .if2 .taken), omega arith)
 
 size-of-reference-requires : (t : ℕ) → size-of-lts.Need-reference-requires (size-of-claims t) (size-of-at t) size-of.Post
 size-of-reference-requires t c κs = search needs
@@ -51,15 +55,33 @@ size-of-add-size-of t c = search needs
 
 size-of-size-of-requires : (t : ℕ) → size-of-lts.Need-size-of-requires (size-of-claims t) (size-of-at t) size-of.Post
 size-of-size-of-requires t c κs =
-    let a = c .before .before .before .before .before .before .args in (omega (arith, c .before .before .before .before .before .before .pre .0, part-falls (a .work .now) (a .node) _ (c .before .before .before .word .ensures) 2 _ (c .before .before .if2 .left) (c .before .reference .ensures)), (omega (arith, c .before .before .before .before .before .before .pre .1), c .before .before .before .before .before .before .pre .1 .1))
+    let entry = c .before .before .before .before .before .before in
+    let a = entry .args in
+    let pre = entry .pre in
+    let word = c .before .before .before .word in
+    let if2 = c .before .before .if2 in
+    let reference = c .before .reference in
+    (omega (arith, pre .0, part-falls (a .work .now) (a .node) _ (word .ensures) 2 _ (if2 .left) (reference .ensures)), (omega (arith, pre .1), pre .1 .1))
 
 size-of-size-of-requires-2 : (t : ℕ) → size-of-lts.Need-size-of-requires-2 (size-of-claims t) (size-of-at t) size-of.Post
 size-of-size-of-requires-2 t c κs =
-    let a = c .before .before .before .before .before .before .before .args in (omega (arith, c .before .before .before .before .before .before .before .pre .0, part-falls (a .work .now) (a .node) _ (c .before .before .before .before .word .ensures) 1 _ (c .before .before .before .if2 .left) (c .before .reference2 .ensures)), (c .size-of .ensures .1, c .before .before .before .before .before .before .before .pre .1 .1))
+    let entry = c .before .before .before .before .before .before .before in
+    let a = entry .args in
+    let pre = entry .pre in
+    let word = c .before .before .before .before .word in
+    let if2 = c .before .before .before .if2 in
+    let reference2 = c .before .reference2 in
+    (omega (arith, pre .0, part-falls (a .work .now) (a .node) _ (word .ensures) 1 _ (if2 .left) (reference2 .ensures)), (c .size-of .ensures .1, pre .1 .1))
 
 size-of-returns-3 : (t : ℕ) → size-of-lts.Need-returns-3 (size-of-claims t) (size-of-at t) size-of.Post
 size-of-returns-3 t c =
-    let a = c .before .before .before .before .before .before .before .before .args in (size-pair (a .work .now) (a .node) _ (c .before .before .before .before .before .word .ensures) _ _ (a .from) (a .limit) _ _ (c .before .before .before .before .if2 .left) (c .before .before .before .reference .ensures) (c .before .before .reference2 .ensures) (c .before .size-of .ensures .0) (c .size-of2 .ensures .0), c .size-of2 .ensures .1)
+    let a = c .before .before .before .before .before .before .before .before .args in
+    let word = c .before .before .before .before .before .word in
+    let if2 = c .before .before .before .before .if2 in
+    let reference = c .before .before .before .reference in
+    let reference2 = c .before .before .reference2 in
+    let size-of = c .before .size-of in
+    (size-pair (a .work .now) (a .node) _ (word .ensures) _ _ (a .from) (a .limit) _ _ (if2 .left) (reference .ensures) (reference2 .ensures) (size-of .ensures .0) (c .size-of2 .ensures .0), c .size-of2 .ensures .1)
 
 pub +size-of-spec : {M : Type 1} → statement M
 +size-of-spec = close μ-size-of λ t. size-of-lts.spec (

@@ -33,14 +33,18 @@ loop-less c = search needs
 
 loop-again : tie.Need-loop-again Inv-loop μ-loop
 loop-again c =
-    let a = c .before .before .before .before .args in λ items w. c .before .before .loop .inv items w ∙ element-on (a .work .now) (c .before .before .loop .at) _ (c .before .before .loop .left) (λ z. omega arith) (c .tail-of .ensures) items w
+    let a = c .before .before .before .before .args in
+    let loop = c .before .before .loop in
+    λ items w. loop .inv items w ∙ element-on (a .work .now) (loop .at) _ (loop .left) (λ z. omega arith) (c .tail-of .ensures) items w
 
 head-of-requires : tie.Need-head-of-requires Inv-loop μ-loop
 head-of-requires c κs = search needs
 
 returns : tie.Need-returns Inv-loop μ-loop
 returns c =
-    let a = c .before .before .before .before .args in λ items w. let e : c .before .before .loop .left ≡ 0 = omega arith in c .head-of .ensures items w ∙ sym (c .before .before .loop .inv items w ∙ ap (λ (i : ℕ). element i (treeAt items (a .work .now) (c .before .before .loop .at) w)) e)
+    let a = c .before .before .before .before .args in
+    let loop = c .before .before .loop in
+    λ items w. let e : loop .left ≡ 0 = omega arith in c .head-of .ensures items w ∙ sym (loop .inv items w ∙ ap (λ (i : ℕ). element i (treeAt items (a .work .now) (loop .at) w)) e)
 
 pub element-of-spec : {M : Type 1} → statement M
 element-of-spec =

@@ -9,11 +9,15 @@ word-requires c κs = search needs
 
 returns : tie.Need-returns
 returns c =
-    let a = c .before .before .before .args in list-empty (a .work .now) (a .node) _ (c .before .word .ensures) (c .if1 .taken)
+    let a = c .before .before .before .args in
+    let word = c .before .word in
+    list-empty (a .work .now) (a .node) _ (word .ensures) (c .if1 .taken)
 
 returns-2 : tie.Need-returns-2
 returns-2 c =
-    let a = c .before .before .before .args in list-pair (a .work .now) (a .node) _ (c .before .word .ensures) (c .if1 .left)
+    let a = c .before .before .before .args in
+    let word = c .before .word in
+    list-pair (a .work .now) (a .node) _ (word .ensures) (c .if1 .left)
 
 pub is-list-spec : {M : Type 1} → statement M
 is-list-spec = tie.close (tie.spec word-requires returns returns-2)

@@ -9,7 +9,8 @@ word-requires c κs = search needs
 
 returns : tie.Need-returns
 returns c =
-    let a = c .before .before .args in name-test (a .work .now) (a .node) _ (c .word .ensures)
+    let a = c .before .before .args in
+    name-test (a .work .now) (a .node) _ (c .word .ensures)
 
 pub is-name-spec : {M : Type 1} → statement M
 is-name-spec = tie.close (tie.spec word-requires returns)

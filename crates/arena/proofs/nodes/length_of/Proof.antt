@@ -31,26 +31,38 @@ reference-requires c κs = search needs
 
 add-n : tie.Need-add-n Inv-loop μ-loop
 add-n c =
-    let a = c .before .before .before .before .before .args in omega (arith, c .before .before .loop .inv .1, part-falls (a .work .now) (c .before .before .loop .at) _ (c .before .before .loop .inv .0) 1 _ (c .before .loop-test .taken) (c .reference .ensures))
+    let a = c .before .before .before .before .before .args in
+    let loop = c .before .before .loop in
+    let loop-test = c .before .loop-test in
+    omega (arith, loop .inv .1, part-falls (a .work .now) (loop .at) _ (loop .inv .0) 1 _ (loop-test .taken) (c .reference .ensures))
 
 word-requires-2 : tie.Need-word-requires-2 Inv-loop μ-loop
 word-requires-2 c κs = search needs
 
 loop-less : tie.Need-loop-less Inv-loop μ-loop
 loop-less c =
-    let a = c .before .before .before .before .before .before .args in part-falls (a .work .now) (c .before .before .before .loop .at) _ (c .before .before .before .loop .inv .0) 1 _ (c .before .before .loop-test .taken) (c .before .reference .ensures)
+    let a = c .before .before .before .before .before .before .args in
+    let loop = c .before .before .before .loop in
+    let loop-test = c .before .before .loop-test in
+    let reference = c .before .reference in
+    part-falls (a .work .now) (loop .at) _ (loop .inv .0) 1 _ (loop-test .taken) (reference .ensures)
 
 loop-again : tie.Need-loop-again Inv-loop μ-loop
 loop-again c =
-    let a = c .before .before .before .before .before .before .args in (
+    let a = c .before .before .before .before .before .before .args in
+    let loop = c .before .before .before .loop in
+    let loop-test = c .before .before .loop-test in
+    let reference = c .before .reference in (
       c .word2 .ensures,
-      omega (arith, c .before .before .before .loop .inv .1, part-falls (a .work .now) (c .before .before .before .loop .at) _ (c .before .before .before .loop .inv .0) 1 _ (c .before .before .loop-test .taken) (c .before .reference .ensures)),
-      λ items w. omega (arith, c .before .before .before .loop .inv .2 items w, length-pair (a .work .now) (c .before .before .before .loop .at) _ (c .before .before .before .loop .inv .0) _ (c .before .before .loop-test .taken) (c .before .reference .ensures) items w),
+      omega (arith, loop .inv .1, part-falls (a .work .now) (loop .at) _ (loop .inv .0) 1 _ (loop-test .taken) (reference .ensures)),
+      λ items w. omega (arith, loop .inv .2 items w, length-pair (a .work .now) (loop .at) _ (loop .inv .0) _ (loop-test .taken) (reference .ensures) items w),
     )
 
 returns : tie.Need-returns Inv-loop μ-loop
 returns c =
-    let a = c .before .before .before .before .args in λ items w. omega (arith, c .before .loop .inv .2 items w, length-none (a .work .now) (c .before .loop .at) _ (c .before .loop .inv .0) (c .loop-test .left) items w)
+    let a = c .before .before .before .before .args in
+    let loop = c .before .loop in
+    λ items w. omega (arith, loop .inv .2 items w, length-none (a .work .now) (loop .at) _ (loop .inv .0) (c .loop-test .left) items w)
 
 pub length-of-spec : {M : Type 1} → statement M
 length-of-spec =
