@@ -6,13 +6,8 @@ use lib.ListN.{length}
 use Rattle.datum.specs.Datum.{dataItems}
 use Rattle.reader.specs.declared.Reading.{Reading}
 use Rattle.reader.specs.declared.Reading.the-variants.{Read, Refused}
-use Rattle.reader.specs.declared.place.Place.{Place}
-use Rattle.reader.specs.declared.token.Cursor.{Cursor}
-use Rattle.reading.specs.Elements as E
 use Rattle.reading.specs.Elements.{Answer, got, back}
-use Rattle.reading.specs.Read.{Recipe, recipeOf, read, itemsAfter, namesAfter}
-use Rattle.reader.specs.Placed.{Holds}
-use Rattle.reader.specs.Moved.{outcomeFrom, Whole}
+use Rattle.reading.specs.Read.{Recipe, read, itemsAfter, namesAfter}
 
 -- ---- this paper's numbers for each answer
 
@@ -42,17 +37,3 @@ pub record Served (text words words′ bytes bytes′ : List ℕ) (r : Reading) 
   pub answer : r ≡ answerOf (read text (length words) (length bytes))
   pub items : words′ ≡ itemsAfter (read text (length words) (length bytes)) words
   pub names : bytes′ ≡ namesAfter (read text (length words) (length bytes)) bytes
-
--- ---- while a text is read
-
--- what all tokens come to
-abbrev pub Ended : List ℕ → List ℕ → List ℕ → Reading → Type 0
-Ended text words bytes (Read i n) = Whole (recipeOf text) i n words bytes
-Ended text words bytes (Refused g) = recipeOf text ≡ back g
-
--- a place from which the rest of the text has the outcome of the whole
-pub record Reached (text words bytes : List ℕ) (p : Place) (c : Cursor) : Type 0 where
-  pub reading : E.Reading
-  pub holds : Holds reading p words bytes
-  pub high : c .at ≤ length text
-  pub same : outcomeFrom text (c .at) reading ≡ recipeOf text

@@ -2,8 +2,8 @@
 ghost use mathlib.Core.Path.{_≡_};
 ghost use Prim.Native.Nat.{_≤_};
 ghost use lib.ListN.{length};
-ghost use Rattle.reader.specs.Placed.{Sound, NamesSound, NamePut};
-ghost use Rattle.reader.specs.Moved.{movedBy, finishOf, Advanced};
+ghost use Rattle.reader.specs.Code.Placed.{Sound, NamesSound, NamePut};
+ghost use Rattle.reader.specs.Code.Moved.{movedBy, finishOf, Advanced};
 use crate::names::find;
 use crate::names::store;
 use crate::place::Place;

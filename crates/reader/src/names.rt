@@ -6,7 +6,7 @@ ghost use lib.ListN.{length};
 ghost use Rattle.words.specs.Lists.{equal};
 ghost use Rattle.datum.specs.NameTable.{lengthAt, nameAt};
 ghost use Rattle.reading.specs.Numbering.{numberOf, baseNames};
-ghost use Rattle.reader.specs.Stored.{stored, namesIn, NameTable, FourStored};
+ghost use Rattle.reader.specs.Code.Stored.{stored, namesIn, NameTable, FourStored};
 
 fn wide(b: u8) -> usize
     ensures { λ r. ⌜ r ≡ b ⌝ }

@@ -6,7 +6,7 @@ ghost use lib.ListN.{length, drop};
 ghost use Rattle.words.specs.Lists.{all};
 ghost use Rattle.reading.specs.Token.{isDigit};
 ghost use Rattle.reading.specs.Meaning.{isNegative, isNumeral, unsigned, valueFrom, signed, integerOf};
-ghost use Rattle.reader.specs.Answers.{integerMeaning};
+ghost use Rattle.reader.specs.Code.Answers.{integerMeaning};
 use crate::bytes::is_digit;
 
 // What a run that starts as a number is.

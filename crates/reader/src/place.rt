@@ -4,7 +4,7 @@ ghost use mathlib.Core.Bool.{_&&_, cond};
 ghost use Prim.Native.Nat.{_+_, _*_, _-_, _≤_};
 ghost use lib.Dec.{eqb};
 ghost use lib.ListN.{length};
-ghost use Rattle.reader.specs.Placed.{put3, Sound, groundAt, TokenPut, ListOpened, ListClosed};
+ghost use Rattle.reader.specs.Code.Placed.{put3, Sound, groundAt, TokenPut, ListOpened, ListClosed};
 
 // Words of an item.
 const ITEM: usize = 3;

@@ -3,7 +3,7 @@ ghost use mathlib.Core.Path.{_≡_};
 ghost use Prim.Native.Nat.{_≤_, _<_};
 ghost use lib.ListN.{length};
 ghost use Rattle.reading.specs.Meaning.{isName};
-ghost use Rattle.reader.specs.Told.{Skipped, RunTo, Told, RunTold, FlagTold};
+ghost use Rattle.reader.specs.Code.Told.{Skipped, RunTo, Told, RunTold, FlagTold};
 use crate::bytes::is_running;
 use crate::bytes::is_separating;
 use crate::number::Integer;

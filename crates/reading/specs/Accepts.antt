@@ -35,9 +35,9 @@ use Rattle.reading.specs.RecipeText.{
   RecipeText,
   recipe,
 }
-use Rattle.reading.specs.TokenLaws.{tokens-are, tokens-had}
-use Rattle.reading.specs.MeaningLaws.{means-is, isRefused, is-meant}
-use Rattle.reading.specs.ElementLaws.{got-only, never-got, then-got, Fits, after, element-taken, element-fits, names-grow, Rest, last, rest}
+use Rattle.reader.specs.Laws.Tokens.{tokens-are, tokens-had}
+use Rattle.reader.specs.Laws.Meanings.{means-is, isRefused, is-meant}
+use Rattle.reader.specs.Laws.Elements.{got-only, never-got, then-got, Fits, after, element-taken, element-fits, names-grow, Rest, last, rest}
 
 -- ---- meanings of all tokens
 

@@ -2,7 +2,7 @@ use borrow.Author.Needs.{needs}
 use Rattle.reader.proofs.begin.Statement.{statement}
 use Rattle.reader.proofs.begin.Tie as tie
 use mathlib.Core.Path.{_≡_, _∙_}
-use Rattle.reader.specs.ServedLaws.{zeroed, zeroed-names}
+use Rattle.reader.specs.Code.ServedLaws.{zeroed, zeroed-names}
 
 zero-words-requires : tie.Need-zero-words-requires
 zero-words-requires c κs =
@@ -14,7 +14,10 @@ zero-bytes-requires c κs =
 
 store-base-requires : tie.Need-store-base-requires
 store-base-requires c κs =
-    zeroed-names (c .before .before .before .before .before .before .before .before .before .before .before .args .names .now) (c .before .before .before .zero-bytes .last .0) (c .before .before .before .before .before .before .before .before .before .before .before .pre) (c .before .before .before .zero-bytes .kept .0) (c .before .before .before .zero-bytes .ensures)
+    let args = c .before .before .before .before .before .before .before .before .before .before .before .args in
+    let zero-bytes = c .before .before .before .zero-bytes in
+    let pre = c .before .before .before .before .before .before .before .before .before .before .before .pre in
+    zeroed-names (args .names .now) (zero-bytes .last .0) (pre) (zero-bytes .kept .0) (zero-bytes .ensures)
 
 same-length : tie.Need-same-length
 same-length c =
@@ -26,7 +29,10 @@ same-length-2 c =
 
 returns : tie.Need-returns
 returns c =
-    (zeroed (c .before .before .before .before .before .before .before .before .before .before .before .before .before .before .args .items .now) (c .before .before .before .before .before .before .before .before .before .before .zero-words .last .0) (c .before .before .before .before .before .before .before .before .before .before .zero-words .kept .0) (c .before .before .before .before .before .before .before .before .before .before .zero-words .ensures), c .before .before .store-base .ensures)
+    let args = c .before .before .before .before .before .before .before .before .before .before .before .before .before .before .args in
+    let zero-words = c .before .before .before .before .before .before .before .before .before .before .zero-words in
+    let store-base = c .before .before .store-base in
+    (zeroed (args .items .now) (zero-words .last .0) (zero-words .kept .0) (zero-words .ensures), store-base .ensures)
 
 pub begin-spec : {M : Type 1} → statement M
 begin-spec =

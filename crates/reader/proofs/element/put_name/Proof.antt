@@ -7,8 +7,8 @@ use Prim.Native.Nat.{_≤_, _+_, _*_}
 use lib.ListN.{length}
 use Rattle.reading.specs.Meaning.{name}
 use Rattle.reading.specs.Elements.{takes}
-use Rattle.reader.specs.Placed.{Stepped}
-use Rattle.reader.specs.NameStepLaws.{found-most, name-known, name-full, name-new}
+use Rattle.reader.specs.Code.Placed.{Stepped}
+use Rattle.reader.specs.Code.NameStepLaws.{found-most, name-known, name-full, name-new}
 
 find-requires : tie.Need-find-requires
 find-requires c κs =
@@ -32,7 +32,12 @@ same-length-2 c =
 
 returns : tie.Need-returns
 returns c =
-    λ r h. name-known r (c .before .before .before .before .before .before .before .before .before .before .before .args .place) (c .before .before .before .before .before .before .before .before .before .before .before .args .items .now) (c .before .before .before .before .before .before .before .before .before .before .before .args .names .now) h (c .before .before .before .before .before .before .before .before .before .before .before .args .word .now) (c .before .before .before .before .before .before .find .result) (c .before .before .before .before .before .before .find .ensures) _ (c .before .before .put-token .result) (c .before .before .before .before .if1 .taken) (c .before .before .put-token .ensures)
+    λ r h.
+    let args = c .before .before .before .before .before .before .before .before .before .before .before .args in
+    let find = c .before .before .before .before .before .before .find in
+    let put-token = c .before .before .put-token in
+    let if1 = c .before .before .before .before .if1 in
+    name-known r (args .place) (args .items .now) (args .names .now) h (args .word .now) (find .result) (find .ensures) _ (put-token .result) (if1 .taken) (put-token .ensures)
 
 add-ground-at : tie.Need-add-ground-at
 add-ground-at c =
@@ -48,20 +53,34 @@ same-length-3 c =
 
 returns-2 : tie.Need-returns-2
 returns-2 c =
-    λ r h. name-full r (c .before .before .before .before .before .before .before .before .before .args .place) (c .before .before .before .before .before .before .before .before .before .args .items .now) (c .before .before .before .before .before .before .before .before .before .args .names .now) h (c .before .before .before .before .before .before .before .before .before .args .word .now) (c .before .before .before .before .find .result) (c .before .before .before .before .find .ensures) (c .before .before .if1 .left) (c .before .before .before .before .before .before .before .before .before .pre .1 .1) _ _ (c .ground-at .result) (c .before .if2 .taken) (c .ground-at .ensures)
+    λ r h.
+    let args = c .before .before .before .before .before .before .before .before .before .args in
+    let find = c .before .before .before .before .find in
+    let if1 = c .before .before .if1 in
+    let pre = c .before .before .before .before .before .before .before .before .before .pre in
+    name-full r (args .place) (args .items .now) (args .names .now) h (args .word .now) (find .result) (find .ensures) (if1 .left) (pre .1 .1) _ _ (c .ground-at .result) (c .before .if2 .taken) (c .ground-at .ensures)
 
 store-requires : tie.Need-store-requires
 store-requires c κs =
-    let l = found-most (c .before .before .before .before .before .before .before .before .before .args .word .now) (c .before .before .before .before .before .before .before .before .before .args .names .now) (c .before .before .before .before .before .before .before .before .before .args .place .known) (c .before .before .before .before .find .result) (c .before .before .before .before .find .ensures) in
-    (omega (arith, l, c .before .if2 .left, c .before .before .before .before .before .before .before .before .before .pre .0 .names, c .before .before .before .before .before .before .before .before .before .pre .1 .0 .room), c .before .before .before .before .before .before .before .before .before .pre .1 .1)
+    let args = c .before .before .before .before .before .before .before .before .before .args in
+    let find = c .before .before .before .before .find in
+    let pre = c .before .before .before .before .before .before .before .before .before .pre in
+    let l = found-most (args .word .now) (args .names .now) (args .place .known) (find .result) (find .ensures) in
+    (omega (arith, l, c .before .if2 .left, pre .0 .names, pre .1 .0 .room), pre .1 .1)
 
 cast-put-token-2 : tie.Need-cast-put-token-2
 cast-put-token-2 c =
-    let l = found-most (c .before .before .before .before .before .before .before .before .before .before .before .before .before .args .word .now) (c .before .before .before .before .before .before .before .before .before .before .before .before .before .args .names .now) (c .before .before .before .before .before .before .before .before .before .before .before .before .before .args .place .known) (c .before .before .before .before .before .before .before .before .find .result) (c .before .before .before .before .before .before .before .before .find .ensures) in omega (arith, l, c .before .before .before .before .before .before .before .before .before .before .before .before .before .pre .0 .names)
+    let args = c .before .before .before .before .before .before .before .before .before .before .before .before .before .args in
+    let find = c .before .before .before .before .before .before .before .before .find in
+    let pre = c .before .before .before .before .before .before .before .before .before .before .before .before .before .pre in
+    let l = found-most (args .word .now) (args .names .now) (args .place .known) (find .result) (find .ensures) in omega (arith, l, pre .0 .names)
 
 add-put-token : tie.Need-add-put-token
 add-put-token c =
-    let l = found-most (c .before .before .before .before .before .before .before .before .before .before .before .before .before .args .word .now) (c .before .before .before .before .before .before .before .before .before .before .before .before .before .args .names .now) (c .before .before .before .before .before .before .before .before .before .before .before .before .before .args .place .known) (c .before .before .before .before .before .before .before .before .find .result) (c .before .before .before .before .before .before .before .before .find .ensures) in omega (arith, l, c .before .before .before .before .before .before .before .before .before .before .before .before .before .pre .0 .names)
+    let args = c .before .before .before .before .before .before .before .before .before .before .before .before .before .args in
+    let find = c .before .before .before .before .before .before .before .before .find in
+    let pre = c .before .before .before .before .before .before .before .before .before .before .before .before .before .pre in
+    let l = found-most (args .word .now) (args .names .now) (args .place .known) (find .result) (find .ensures) in omega (arith, l, pre .0 .names)
 
 put-token-requires-2 : tie.Need-put-token-requires-2
 put-token-requires-2 c κs =
@@ -77,9 +96,17 @@ same-length-5 c =
 
 returns-3 : tie.Need-returns-3
 returns-3 c =
-    λ r h. let l = found-most (c .before .before .before .before .before .before .before .before .before .before .before .before .before .before .before .before .args .word .now) (c .before .before .before .before .before .before .before .before .before .before .before .before .before .before .before .before .args .names .now) (c .before .before .before .before .before .before .before .before .before .before .before .before .before .before .before .before .args .place .known) (c .before .before .before .before .before .before .before .before .before .before .before .find .result) (c .before .before .before .before .before .before .before .before .before .before .before .find .ensures) in
-    let room : 64 * c .before .before .before .before .before .before .before .before .before .before .before .find .result + 64 ≤ length (c .before .before .before .before .before .before .before .before .before .before .before .before .before .before .before .before .args .names .now) = omega (arith, l, c .before .before .before .before .before .before .before .before .if2 .left, c .before .before .before .before .before .before .before .before .before .before .before .before .before .before .before .before .pre .0 .names, c .before .before .before .before .before .before .before .before .before .before .before .before .before .before .before .before .pre .1 .0 .room) in
-    rw (c .before .before .before .before .before .before .store .ensures) (name-new r (c .before .before .before .before .before .before .before .before .before .before .before .before .before .before .before .before .args .place) (c .before .before .before .before .before .before .before .before .before .before .before .before .before .before .before .before .args .items .now) (c .before .before .before .before .before .before .before .before .before .before .before .before .before .before .before .before .args .names .now) h (c .before .before .before .before .before .before .before .before .before .before .before .before .before .before .before .before .args .word .now) (c .before .before .before .before .before .before .before .before .before .before .before .find .result) (c .before .before .before .before .before .before .before .before .before .before .before .find .ensures) (c .before .before .before .before .before .before .before .before .before .if1 .left) (c .before .before .before .before .before .before .before .before .before .before .before .before .before .before .before .before .pre .1 .1) _ (c .before .before .put-token2 .result) room (c .before .before .put-token2 .ensures))
+    λ r h.
+    let args = c .before .before .before .before .before .before .before .before .before .before .before .before .before .before .before .before .args in
+    let find = c .before .before .before .before .before .before .before .before .before .before .before .find in
+    let if2 = c .before .before .before .before .before .before .before .before .if2 in
+    let pre = c .before .before .before .before .before .before .before .before .before .before .before .before .before .before .before .before .pre in
+    let store = c .before .before .before .before .before .before .store in
+    let if1 = c .before .before .before .before .before .before .before .before .before .if1 in
+    let put-token2 = c .before .before .put-token2 in
+    let l = found-most (args .word .now) (args .names .now) (args .place .known) (find .result) (find .ensures) in
+    let room : 64 * find .result + 64 ≤ length (args .names .now) = omega (arith, l, if2 .left, pre .0 .names, pre .1 .0 .room) in
+    rw (store .ensures) (name-new r (args .place) (args .items .now) (args .names .now) h (args .word .now) (find .result) (find .ensures) (if1 .left) (pre .1 .1) _ (put-token2 .result) room (put-token2 .ensures))
 
 pub put-name-spec : {M : Type 1} → statement M
 put-name-spec =

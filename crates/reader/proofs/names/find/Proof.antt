@@ -5,8 +5,8 @@ use native.Mathlib.Omega.{arith}
 use mathlib.Core.Path.{_≡_, refl, sym, _∙_}
 use Prim.Native.Nat.{_≤_, _<_, _-_, _+_}
 use Rattle.reading.specs.Numbering.{numberOf}
-use Rattle.reader.specs.Stored.{namesIn}
-use Rattle.reader.specs.StoredLaws.{find-start, find-step, find-here, find-end}
+use Rattle.reader.specs.Code.Stored.{namesIn}
+use Rattle.reader.specs.Code.StoredLaws.{find-start, find-step, find-here, find-end}
 use borrow.Author.Needs.{needs}
 
 abbrev Inv-loop : tie.InvT-loop
@@ -19,15 +19,20 @@ abbrev μ-loop : tie.MeasureT-loop
 
 loop-holds : tie.Need-loop-holds Inv-loop μ-loop
 loop-holds c =
-    (omega arith, find-start (c .before .before .args .word .now) (c .before .before .args .names .now) (c .before .before .args .known))
+    let args = c .before .before .args in
+    (omega arith, find-start (args .word .now) (args .names .now) (args .known))
 
 spells-requires : tie.Need-spells-requires Inv-loop μ-loop
 spells-requires c κs =
-    (omega (arith, c .before .before .before .before .pre .0, c .loop-test .taken), c .before .before .before .before .pre .1 (c .before .loop .n) (c .loop-test .taken))
+    let pre = c .before .before .before .before .pre in
+    (omega (arith, pre .0, c .loop-test .taken), pre .1 (c .before .loop .n) (c .loop-test .taken))
 
 returns : tie.Need-returns Inv-loop μ-loop
 returns c =
-    sym (c .before .before .before .loop .inv .1 ∙ find-here (c .before .before .before .before .before .before .args .word .now) (c .before .before .before .before .before .before .args .names .now) (c .before .before .before .loop .n) (c .before .before .before .before .before .before .args .known) (c .before .before .loop-test .taken) (sym (c .before .spells .ensures) ∙ c .if1 .taken))
+    let loop = c .before .before .before .loop in
+    let args = c .before .before .before .before .before .before .args in
+    let loop-test = c .before .before .loop-test in
+    sym (loop .inv .1 ∙ find-here (args .word .now) (args .names .now) (loop .n) (args .known) (loop-test .taken) (sym (c .before .spells .ensures) ∙ c .if1 .taken))
 
 add-n : tie.Need-add-n Inv-loop μ-loop
 add-n c =
@@ -39,12 +44,17 @@ loop-less c =
 
 loop-again : tie.Need-loop-again Inv-loop μ-loop
 loop-again c =
-    (omega arith, c .before .before .before .loop .inv .1 ∙ find-step (c .before .before .before .before .before .before .args .word .now) (c .before .before .before .before .before .before .args .names .now) (c .before .before .before .loop .n) (c .before .before .before .before .before .before .args .known) (c .before .before .loop-test .taken) (sym (c .before .spells .ensures) ∙ c .if1 .left))
+    let loop = c .before .before .before .loop in
+    let args = c .before .before .before .before .before .before .args in
+    let loop-test = c .before .before .loop-test in
+    (omega arith, loop .inv .1 ∙ find-step (args .word .now) (args .names .now) (loop .n) (args .known) (loop-test .taken) (sym (c .before .spells .ensures) ∙ c .if1 .left))
 
 returns-2 : tie.Need-returns-2 Inv-loop μ-loop
 returns-2 c =
-    let e : c .before .loop .n ≡ c .before .before .before .before .args .known = omega arith in
-    sym (c .before .loop .inv .1 ∙ find-end (c .before .before .before .before .args .word .now) (c .before .before .before .before .args .names .now) (c .before .loop .n) (c .before .before .before .before .args .known) e)
+    let loop = c .before .loop in
+    let args = c .before .before .before .before .args in
+    let e : loop .n ≡ args .known = omega arith in
+    sym (loop .inv .1 ∙ find-end (args .word .now) (args .names .now) (loop .n) (args .known) e)
 
 pub find-spec : {M : Type 1} → statement M
 find-spec =

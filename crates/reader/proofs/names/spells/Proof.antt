@@ -7,7 +7,7 @@ use Prim.Native.Nat.{_≤_, _<_, _-_}
 use lib.ListN.{length, drop}
 use Rattle.words.specs.Lists.{equal}
 use Rattle.datum.specs.NameTable.{lengthAt, nameAt}
-use Rattle.reader.specs.StoredLaws.{unequal-lengths, equal-step, equal-stop, equal-end, name-length, name-byte}
+use Rattle.reader.specs.Code.StoredLaws.{unequal-lengths, equal-step, equal-stop, equal-end, name-length, name-byte}
 use borrow.Author.Needs.{needs}
 
 abbrev Inv-loop : tie.InvT-loop
@@ -33,8 +33,11 @@ wide-requires c κs =
 returns : tie.Need-returns Inv-loop μ-loop
 unfolding lengthAt
 returns c =
-    let table = c .before .before .before .before .before .args .names .now in let n = c .before .before .before .before .before .args .number in
-    unequal-lengths (c .before .before .before .before .before .args .word .now) (nameAt table n) (λ e. c .if1 .taken (c .before .wide .ensures ∙ sym (name-length table n (c .before .before .before .before .before .pre .0) (c .before .before .before .before .before .pre .1)) ∙ e))
+    let args = c .before .before .before .before .before .args in
+    let pre = c .before .before .before .before .before .pre in
+    let table = args .names .now in
+    let n = args .number in
+    unequal-lengths (args .word .now) (nameAt table n) (λ e. c .if1 .taken (c .before .wide .ensures ∙ sym (name-length table n (pre .0) (pre .1)) ∙ e))
 
 loop-holds : tie.Need-loop-holds Inv-loop μ-loop
 loop-holds c =
@@ -51,7 +54,10 @@ add-if2-2 c =
 shared-slice-read-if2 : tie.Need-shared-slice-read-if2 Inv-loop μ-loop
 unfolding lengthAt
 shared-slice-read-if2 c =
-    omega (arith, c .before .before .before .before .before .before .before .before .pre .0, c .before .before .before .before .before .before .before .before .pre .1, c .before .before .before .before .wide .ensures, c .before .before .before .if1 .left)
+    let pre = c .before .before .before .before .before .before .before .before .pre in
+    let wide = c .before .before .before .before .wide in
+    let if1 = c .before .before .before .if1 in
+    omega (arith, pre .0, pre .1, wide .ensures, if1 .left)
 
 shared-slice-read-if2-2 : tie.Need-shared-slice-read-if2-2 Inv-loop μ-loop
 shared-slice-read-if2-2 c =
@@ -60,10 +66,19 @@ shared-slice-read-if2-2 c =
 returns-2 : tie.Need-returns-2 Inv-loop μ-loop
 unfolding lengthAt
 returns-2 c =
-    let table = c .before .before .before .before .before .before .before .before .before .before .args .names .now in let n = c .before .before .before .before .before .before .before .before .before .before .args .number in let word = c .before .before .before .before .before .before .before .before .before .before .args .word .now in let i = c .before .before .before .before .loop .i in
-    let s : length (nameAt table n) ≡ length word = name-length table n (c .before .before .before .before .before .before .before .before .before .before .pre .0) (c .before .before .before .before .before .before .before .before .before .before .pre .1) ∙ sym (c .before .before .before .before .before .before .wide .ensures) ∙ c .before .before .before .before .before .if1 .left in
-    let h : i < lengthAt table n = omega (arith, c .before .before .before .before .before .before .wide .ensures, c .before .before .before .before .before .if1 .left, c .before .before .before .loop-test .taken) in
-    sym (equal-stop word (nameAt table n) s i (c .before .before .before .loop-test .taken) (λ e. c .if2 .taken (sym (name-byte table n (c .before .before .before .before .before .before .before .before .before .before .pre .0) (c .before .before .before .before .before .before .before .before .before .before .pre .1) i h) ∙ e))) ∙ c .before .before .before .before .loop .inv .1
+    let args = c .before .before .before .before .before .before .before .before .before .before .args in
+    let loop = c .before .before .before .before .loop in
+    let pre = c .before .before .before .before .before .before .before .before .before .before .pre in
+    let wide = c .before .before .before .before .before .before .wide in
+    let if1 = c .before .before .before .before .before .if1 in
+    let loop-test = c .before .before .before .loop-test in
+    let table = args .names .now in
+    let n = args .number in
+    let word = args .word .now in
+    let i = loop .i in
+    let s : length (nameAt table n) ≡ length word = name-length table n (pre .0) (pre .1) ∙ sym (wide .ensures) ∙ if1 .left in
+    let h : i < lengthAt table n = omega (arith, wide .ensures, if1 .left, loop-test .taken) in
+    sym (equal-stop word (nameAt table n) s i (loop-test .taken) (λ e. c .if2 .taken (sym (name-byte table n (pre .0) (pre .1) i h) ∙ e))) ∙ loop .inv .1
 
 add-i : tie.Need-add-i Inv-loop μ-loop
 add-i c =
@@ -76,18 +91,35 @@ loop-less c =
 loop-again : tie.Need-loop-again Inv-loop μ-loop
 unfolding lengthAt
 loop-again c =
-    let table = c .before .before .before .before .before .before .before .before .before .before .args .names .now in let n = c .before .before .before .before .before .before .before .before .before .before .args .number in let word = c .before .before .before .before .before .before .before .before .before .before .args .word .now in let i = c .before .before .before .before .loop .i in
-    let s : length (nameAt table n) ≡ length word = name-length table n (c .before .before .before .before .before .before .before .before .before .before .pre .0) (c .before .before .before .before .before .before .before .before .before .before .pre .1) ∙ sym (c .before .before .before .before .before .before .wide .ensures) ∙ c .before .before .before .before .before .if1 .left in
-    let h : i < lengthAt table n = omega (arith, c .before .before .before .before .before .before .wide .ensures, c .before .before .before .before .before .if1 .left, c .before .before .before .loop-test .taken) in
-    (omega arith, sym (equal-step word (nameAt table n) s i (c .before .before .before .loop-test .taken) (name-byte table n (c .before .before .before .before .before .before .before .before .before .before .pre .0) (c .before .before .before .before .before .before .before .before .before .before .pre .1) i h ∙ c .if2 .left)) ∙ c .before .before .before .before .loop .inv .1)
+    let args = c .before .before .before .before .before .before .before .before .before .before .args in
+    let loop = c .before .before .before .before .loop in
+    let pre = c .before .before .before .before .before .before .before .before .before .before .pre in
+    let wide = c .before .before .before .before .before .before .wide in
+    let if1 = c .before .before .before .before .before .if1 in
+    let loop-test = c .before .before .before .loop-test in
+    let table = args .names .now in
+    let n = args .number in
+    let word = args .word .now in
+    let i = loop .i in
+    let s : length (nameAt table n) ≡ length word = name-length table n (pre .0) (pre .1) ∙ sym (wide .ensures) ∙ if1 .left in
+    let h : i < lengthAt table n = omega (arith, wide .ensures, if1 .left, loop-test .taken) in
+    (omega arith, sym (equal-step word (nameAt table n) s i (loop-test .taken) (name-byte table n (pre .0) (pre .1) i h ∙ c .if2 .left)) ∙ loop .inv .1)
 
 returns-3 : tie.Need-returns-3 Inv-loop μ-loop
 unfolding lengthAt
 returns-3 c =
-    let table = c .before .before .before .before .before .before .before .args .names .now in let n = c .before .before .before .before .before .before .before .args .number in let word = c .before .before .before .before .before .before .before .args .word .now in let i = c .before .loop .i in
-    let s : length (nameAt table n) ≡ length word = name-length table n (c .before .before .before .before .before .before .before .pre .0) (c .before .before .before .before .before .before .before .pre .1) ∙ sym (c .before .before .before .wide .ensures) ∙ c .before .before .if1 .left in
+    let args = c .before .before .before .before .before .before .before .args in
+    let loop = c .before .loop in
+    let pre = c .before .before .before .before .before .before .before .pre in
+    let wide = c .before .before .before .wide in
+    let if1 = c .before .before .if1 in
+    let table = args .names .now in
+    let n = args .number in
+    let word = args .word .now in
+    let i = loop .i in
+    let s : length (nameAt table n) ≡ length word = name-length table n (pre .0) (pre .1) ∙ sym (wide .ensures) ∙ if1 .left in
     let e : i ≡ length word = omega arith in
-    sym (equal-end word (nameAt table n) i s e) ∙ c .before .loop .inv .1
+    sym (equal-end word (nameAt table n) i s e) ∙ loop .inv .1
 
 pub spells-spec : {M : Type 1} → statement M
 spells-spec =

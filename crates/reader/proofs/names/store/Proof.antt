@@ -47,7 +47,10 @@ add-names-2 c =
 
 slice-write-names-2 : tie.Need-slice-write-names-2 Inv-loop μ-loop
 slice-write-names-2 c =
-    omega (arith, c .before .before .before .pre .0, c .before .before .before .pre .1, c .before .before .loop .inv .0, length-set (c .before .before .before .args .names .now) (64 * c .before .before .before .args .number) (length (c .before .before .before .args .word .now)))
+    let pre = c .before .before .before .pre in
+    let loop = c .before .before .loop in
+    let args = c .before .before .before .args in
+    omega (arith, pre .0, pre .1, loop .inv .0, length-set (args .names .now) (64 * args .number) (length (args .word .now)))
 
 add-i : tie.Need-add-i Inv-loop μ-loop
 add-i c =
@@ -59,21 +62,30 @@ loop-less c =
 
 loop-again : tie.Need-loop-again Inv-loop μ-loop
 loop-again c =
-    let word = c .before .before .before .args .word .now in let at = 64 * c .before .before .before .args .number + 1 in let i = c .before .before .loop .i in
-    let d = set (c .before .before .before .args .names .now) (64 * c .before .before .before .args .number) (length word) in
-    let h : at + i < length d = omega (arith, c .before .before .before .pre .0, c .before .before .before .pre .1, length-set (c .before .before .before .args .names .now) (64 * c .before .before .before .args .number) (length word)) in
-    (length-set (c .before .before .loop .names) (at + i) (getD word i 0) ∙ c .before .before .loop .inv .0, omega arith, ap (λ l. set l (at + i) (getD word i 0)) (c .before .before .loop .inv .2) ∙ paste-more d at word i h (c .before .loop-test .taken))
+    let args = c .before .before .before .args in
+    let loop = c .before .before .loop in
+    let pre = c .before .before .before .pre in
+    let word = args .word .now in
+    let at = 64 * args .number + 1 in
+    let i = loop .i in
+    let d = set (args .names .now) (64 * args .number) (length word) in
+    let h : at + i < length d = omega (arith, pre .0, pre .1, length-set (args .names .now) (64 * args .number) (length word)) in
+    (length-set (loop .names) (at + i) (getD word i 0) ∙ loop .inv .0, omega arith, ap (λ l. set l (at + i) (getD word i 0)) (loop .inv .2) ∙ paste-more d at word i h (c .before .loop-test .taken))
 
 same-length : tie.Need-same-length Inv-loop μ-loop
 same-length c =
-    c .before .loop .inv .0 ∙ length-set (c .before .before .args .names .now) (64 * c .before .before .args .number) (length (c .before .before .args .word .now))
+    let args = c .before .before .args in
+    c .before .loop .inv .0 ∙ length-set (args .names .now) (64 * args .number) (length (args .word .now))
 
 returns : tie.Need-returns Inv-loop μ-loop
 returns c =
-    let word = c .before .before .args .word .now in let at = 64 * c .before .before .args .number + 1 in
-    let d = set (c .before .before .args .names .now) (64 * c .before .before .args .number) (length word) in
-    let e : c .before .loop .i ≡ length word = omega arith in
-    c .before .loop .inv .2 ∙ ap (paste d at word) e
+    let args = c .before .before .args in
+    let loop = c .before .loop in
+    let word = args .word .now in
+    let at = 64 * args .number + 1 in
+    let d = set (args .names .now) (64 * args .number) (length word) in
+    let e : loop .i ≡ length word = omega arith in
+    loop .inv .2 ∙ ap (paste d at word) e
 
 pub store-spec : {M : Type 1} → statement M
 store-spec =

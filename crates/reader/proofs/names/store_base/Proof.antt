@@ -49,12 +49,17 @@ store-four-requires-2 c κs =
 
 same-length : tie.Need-same-length
 same-length c =
-    c .before .before .store-four2 .kept .0 ∙ c .before .before .before .before .before .before .before .before .before .before .store-four .kept .0
+    let store-four2 = c .before .before .store-four2 in
+    let store-four = c .before .before .before .before .before .before .before .before .before .before .store-four in
+    store-four2 .kept .0 ∙ store-four .kept .0
 
 returns : tie.Need-returns
 unfolding baseNames bytes
 returns c =
-    c .before .before .store-four2 .ensures _ (c .before .before .before .before .before .before .before .before .before .before .store-four .ensures [] (c .before .before .before .before .before .before .before .before .before .before .before .before .before .before .before .before .before .pre) refl) refl
+    let store-four2 = c .before .before .store-four2 in
+    let store-four = c .before .before .before .before .before .before .before .before .before .before .store-four in
+    let pre = c .before .before .before .before .before .before .before .before .before .before .before .before .before .before .before .before .before .pre in
+    store-four2 .ensures _ (store-four .ensures [] (pre) refl) refl
 
 pub store-base-spec : {M : Type 1} → statement M
 store-base-spec =

@@ -3,11 +3,12 @@ use Rattle.reader.proofs.names.store_four.Statement.{statement}
 use Rattle.reader.proofs.names.store_four.Tie as tie
 use mathlib.Core.Path.{_≡_, _∙_}
 use native.Mathlib.Omega.{arith}
-use Rattle.reader.specs.StoredLaws.{four-more}
+use Rattle.reader.specs.Code.StoredLaws.{four-more}
 
 store-requires : tie.Need-store-requires
 store-requires c κs =
-    (omega (arith, c .before .before .before .before .before .before .pre .0 .0, c .before .before .before .before .before .before .pre .0 .1), c .before .before .before .before .before .before .pre .1 .0)
+    let pre = c .before .before .before .before .before .before .pre in
+    (omega (arith, pre .0 .0, pre .0 .1), pre .1 .0)
 
 add-store : tie.Need-add-store
 add-store c =
@@ -15,7 +16,9 @@ add-store c =
 
 store-requires-2 : tie.Need-store-requires-2
 store-requires-2 c κs =
-    (omega (arith, c .before .before .before .before .before .before .before .before .before .before .pre .0 .0, c .before .before .before .before .before .before .before .before .before .before .pre .0 .1, c .before .before .before .store .kept .0), c .before .before .before .before .before .before .before .before .before .before .pre .1 .1)
+    let pre = c .before .before .before .before .before .before .before .before .before .before .pre in
+    let store = c .before .before .before .store in
+    (omega (arith, pre .0 .0, pre .0 .1, store .kept .0), pre .1 .1)
 
 add-store-2 : tie.Need-add-store-2
 add-store-2 c =
@@ -23,7 +26,10 @@ add-store-2 c =
 
 store-requires-3 : tie.Need-store-requires-3
 store-requires-3 c κs =
-    (omega (arith, c .before .before .before .before .before .before .before .before .before .before .before .before .before .before .pre .0 .0, c .before .before .before .before .before .before .before .before .before .before .before .before .before .before .pre .0 .1, c .before .before .before .before .before .before .before .store .kept .0, c .before .before .before .store2 .kept .0), c .before .before .before .before .before .before .before .before .before .before .before .before .before .before .pre .1 .2)
+    let pre = c .before .before .before .before .before .before .before .before .before .before .before .before .before .before .pre in
+    let store = c .before .before .before .before .before .before .before .store in
+    let store2 = c .before .before .before .store2 in
+    (omega (arith, pre .0 .0, pre .0 .1, store .kept .0, store2 .kept .0), pre .1 .2)
 
 add-store-3 : tie.Need-add-store-3
 add-store-3 c =
@@ -31,16 +37,30 @@ add-store-3 c =
 
 store-requires-4 : tie.Need-store-requires-4
 store-requires-4 c κs =
-    (omega (arith, c .before .before .before .before .before .before .before .before .before .before .before .before .before .before .before .before .before .before .pre .0 .0, c .before .before .before .before .before .before .before .before .before .before .before .before .before .before .before .before .before .before .pre .0 .1, c .before .before .before .before .before .before .before .before .before .before .before .store .kept .0, c .before .before .before .before .before .before .before .store2 .kept .0, c .before .before .before .store3 .kept .0), c .before .before .before .before .before .before .before .before .before .before .before .before .before .before .before .before .before .before .pre .1 .3)
+    let pre = c .before .before .before .before .before .before .before .before .before .before .before .before .before .before .before .before .before .before .pre in
+    let store = c .before .before .before .before .before .before .before .before .before .before .before .store in
+    let store2 = c .before .before .before .before .before .before .before .store2 in
+    let store3 = c .before .before .before .store3 in
+    (omega (arith, pre .0 .0, pre .0 .1, store .kept .0, store2 .kept .0, store3 .kept .0), pre .1 .3)
 
 same-length : tie.Need-same-length
 same-length c =
-    c .before .before .store4 .kept .0 ∙ c .before .before .before .before .before .before .store3 .kept .0 ∙ c .before .before .before .before .before .before .before .before .before .before .store2 .kept .0 ∙ c .before .before .before .before .before .before .before .before .before .before .before .before .before .before .store .kept .0
+    let store4 = c .before .before .store4 in
+    let store3 = c .before .before .before .before .before .before .store3 in
+    let store2 = c .before .before .before .before .before .before .before .before .before .before .store2 in
+    let store = c .before .before .before .before .before .before .before .before .before .before .before .before .before .before .store in
+    store4 .kept .0 ∙ store3 .kept .0 ∙ store2 .kept .0 ∙ store .kept .0
 
 returns : tie.Need-returns
 returns c =
-    four-more (c .before .before .before .before .before .before .before .before .before .before .before .before .before .before .before .before .before .before .before .before .before .args .names .now) (c .before .before .before .before .before .before .before .before .before .before .before .before .before .before .store .last .0) (c .before .before .before .before .before .before .before .before .before .before .store2 .last .0) (c .before .before .before .before .before .before .store3 .last .0) (c .before .before .store4 .last .0) (c .before .before .before .before .before .before .before .before .before .before .before .before .before .before .before .before .before .before .before .before .before .args .number) (c .before .before .before .before .before .before .before .before .before .before .before .before .before .before .before .before .before .before .before .before .before .args .a .now) (c .before .before .before .before .before .before .before .before .before .before .before .before .before .before .before .before .before .before .before .before .before .args .b .now) (c .before .before .before .before .before .before .before .before .before .before .before .before .before .before .before .before .before .before .before .before .before .args .c .now) (c .before .before .before .before .before .before .before .before .before .before .before .before .before .before .before .before .before .before .before .before .before .args .d .now)
-    (c .before .before .before .before .before .before .before .before .before .before .before .before .before .before .before .before .before .before .before .before .before .pre .0 .0) (c .before .before .before .before .before .before .before .before .before .before .before .before .before .before .before .before .before .before .before .before .before .pre .1 .0) (c .before .before .before .before .before .before .before .before .before .before .before .before .before .before .before .before .before .before .before .before .before .pre .1 .1) (c .before .before .before .before .before .before .before .before .before .before .before .before .before .before .before .before .before .before .before .before .before .pre .1 .2) (c .before .before .before .before .before .before .before .before .before .before .before .before .before .before .before .before .before .before .before .before .before .pre .1 .3) (c .before .before .before .before .before .before .before .before .before .before .before .before .before .before .store .ensures) (c .before .before .before .before .before .before .before .before .before .before .store2 .ensures) (c .before .before .before .before .before .before .store3 .ensures) (c .before .before .store4 .ensures)
+    let args = c .before .before .before .before .before .before .before .before .before .before .before .before .before .before .before .before .before .before .before .before .before .args in
+    let store = c .before .before .before .before .before .before .before .before .before .before .before .before .before .before .store in
+    let store2 = c .before .before .before .before .before .before .before .before .before .before .store2 in
+    let store3 = c .before .before .before .before .before .before .store3 in
+    let store4 = c .before .before .store4 in
+    let pre = c .before .before .before .before .before .before .before .before .before .before .before .before .before .before .before .before .before .before .before .before .before .pre in
+    four-more (args .names .now) (store .last .0) (store2 .last .0) (store3 .last .0) (store4 .last .0) (args .number) (args .a .now) (args .b .now) (args .c .now) (args .d .now)
+    (pre .0 .0) (pre .1 .0) (pre .1 .1) (pre .1 .2) (pre .1 .3) (store .ensures) (store2 .ensures) (store3 .ensures) (store4 .ensures)
 
 pub store-four-spec : {M : Type 1} → statement M
 store-four-spec =

@@ -8,7 +8,7 @@ use borrow.Author.Tests.{not-true, not-false}
 use lib.ListN.{length, drop}
 use Rattle.words.specs.Lists.{all}
 use Rattle.reading.specs.Token.{isDigit}
-use Rattle.reader.specs.NumberLaws.{digits-step, digits-stop, digits-end}
+use Rattle.reader.specs.Code.NumberLaws.{digits-step, digits-stop, digits-end}
 use borrow.Author.Needs.{needs}
 
 abbrev Inv-loop : tie.InvT-loop
@@ -33,8 +33,11 @@ is-digit-requires c κs =
 
 returns : tie.Need-returns Inv-loop μ-loop
 returns c =
+    let args = c .before .before .before .before .before .before .args in
+    let loop = c .before .before .before .before .loop in
+    let loop-test = c .before .before .before .loop-test in
     let d = sym (c .before .is-digit .ensures) ∙ not-true _ (c .if1 .taken) in
-    sym (digits-stop (c .before .before .before .before .before .before .args .digits .now) (c .before .before .before .before .loop .i) (c .before .before .before .loop-test .taken) d) ∙ c .before .before .before .before .loop .inv .1
+    sym (digits-stop (args .digits .now) (loop .i) (loop-test .taken) d) ∙ loop .inv .1
 
 add-i : tie.Need-add-i Inv-loop μ-loop
 add-i c =
@@ -46,12 +49,17 @@ loop-less c =
 
 loop-again : tie.Need-loop-again Inv-loop μ-loop
 loop-again c =
+    let args = c .before .before .before .before .before .before .args in
+    let loop = c .before .before .before .before .loop in
+    let loop-test = c .before .before .before .loop-test in
     let d = sym (c .before .is-digit .ensures) ∙ not-false _ (c .if1 .left) in
-    (omega arith, sym (digits-step (c .before .before .before .before .before .before .args .digits .now) (c .before .before .before .before .loop .i) (c .before .before .before .loop-test .taken) d) ∙ c .before .before .before .before .loop .inv .1)
+    (omega arith, sym (digits-step (args .digits .now) (loop .i) (loop-test .taken) d) ∙ loop .inv .1)
 
 returns-2 : tie.Need-returns-2 Inv-loop μ-loop
 returns-2 c =
-    sym (digits-end (c .before .before .before .args .digits .now) (c .before .loop .i) (c .loop-test .left) (c .before .loop .inv .0)) ∙ c .before .loop .inv .1
+    let args = c .before .before .before .args in
+    let loop = c .before .loop in
+    sym (digits-end (args .digits .now) (loop .i) (c .loop-test .left) (loop .inv .0)) ∙ loop .inv .1
 
 pub are-digits-spec : {M : Type 1} → statement M
 are-digits-spec =

@@ -5,7 +5,7 @@ use mathlib.Core.Path.{_≡_, sym, _∙_}
 use mathlib.Core.Bool.{true, false}
 use borrow.Author.Tests.{not-true, not-false}
 use Rattle.words.specs.Lists.{rest}
-use Rattle.reader.specs.NumberLaws.{integer-plain, integer-minus, digits-malformed, digits-value}
+use Rattle.reader.specs.Code.NumberLaws.{integer-plain, integer-minus, digits-malformed, digits-value}
 
 shared-slice-read-if1 : tie.Need-shared-slice-read-if1
 shared-slice-read-if1 c =
@@ -29,11 +29,15 @@ are-digits-requires c κs =
 
 returns : tie.Need-returns
 returns c =
-    digits-malformed (c .before .before .before .before .before .before .args .word .now) (rest 1 (c .before .before .before .before .before .before .args .word .now)) true (integer-minus (c .before .before .before .before .before .before .args .word .now) (c .before .before .before .if1 .taken)) (sym (c .before .are-digits .ensures) ∙ not-true (c .before .are-digits .result) (c .if2 .taken))
+    let args = c .before .before .before .before .before .before .args in
+    let if1 = c .before .before .before .if1 in
+    let are-digits = c .before .are-digits in
+    digits-malformed (args .word .now) (rest 1 (args .word .now)) true (integer-minus (args .word .now) (if1 .taken)) (sym (are-digits .ensures) ∙ not-true (are-digits .result) (c .if2 .taken))
 
 magnitude-requires : tie.Need-magnitude-requires
 magnitude-requires c κs =
-    sym (c .before .are-digits .ensures) ∙ not-false (c .before .are-digits .result) (c .if2 .left)
+    let are-digits = c .before .are-digits in
+    sym (are-digits .ensures) ∙ not-false (are-digits .result) (c .if2 .left)
 
 signed-requires : tie.Need-signed-requires
 signed-requires c κs =
@@ -41,8 +45,12 @@ signed-requires c κs =
 
 returns-2 : tie.Need-returns-2
 returns-2 c =
-    digits-value (c .before .before .before .before .before .before .before .before .args .word .now) (rest 1 (c .before .before .before .before .before .before .before .before .args .word .now)) true (integer-minus (c .before .before .before .before .before .before .before .before .args .word .now) (c .before .before .before .before .before .if1 .taken)) _ _
-    (sym (c .before .before .before .are-digits .ensures) ∙ not-false (c .before .before .before .are-digits .result) (c .before .before .if2 .left)) (c .signed .ensures) (c .before .magnitude .ensures)
+    let args = c .before .before .before .before .before .before .before .before .args in
+    let if1 = c .before .before .before .before .before .if1 in
+    let are-digits = c .before .before .before .are-digits in
+    let if2 = c .before .before .if2 in
+    digits-value (args .word .now) (rest 1 (args .word .now)) true (integer-minus (args .word .now) (if1 .taken)) _ _
+    (sym (are-digits .ensures) ∙ not-false (are-digits .result) (if2 .left)) (c .signed .ensures) (c .before .magnitude .ensures)
 
 are-digits-requires-2 : tie.Need-are-digits-requires-2
 are-digits-requires-2 c κs =
@@ -50,11 +58,15 @@ are-digits-requires-2 c κs =
 
 returns-3 : tie.Need-returns-3
 returns-3 c =
-    digits-malformed (c .before .before .before .before .before .args .word .now) (c .before .before .before .before .before .args .word .now) false (integer-plain (c .before .before .before .before .before .args .word .now) (c .before .before .if1 .left)) (sym (c .before .are-digits2 .ensures) ∙ not-true (c .before .are-digits2 .result) (c .if3 .taken))
+    let args = c .before .before .before .before .before .args in
+    let if1 = c .before .before .if1 in
+    let are-digits2 = c .before .are-digits2 in
+    digits-malformed (args .word .now) (args .word .now) false (integer-plain (args .word .now) (if1 .left)) (sym (are-digits2 .ensures) ∙ not-true (are-digits2 .result) (c .if3 .taken))
 
 magnitude-requires-2 : tie.Need-magnitude-requires-2
 magnitude-requires-2 c κs =
-    sym (c .before .are-digits2 .ensures) ∙ not-false (c .before .are-digits2 .result) (c .if3 .left)
+    let are-digits2 = c .before .are-digits2 in
+    sym (are-digits2 .ensures) ∙ not-false (are-digits2 .result) (c .if3 .left)
 
 signed-requires-2 : tie.Need-signed-requires-2
 signed-requires-2 c κs =
@@ -62,8 +74,12 @@ signed-requires-2 c κs =
 
 returns-4 : tie.Need-returns-4
 returns-4 c =
-    digits-value (c .before .before .before .before .before .before .before .args .word .now) (c .before .before .before .before .before .before .before .args .word .now) false (integer-plain (c .before .before .before .before .before .before .before .args .word .now) (c .before .before .before .before .if1 .left)) _ _
-    (sym (c .before .before .before .are-digits2 .ensures) ∙ not-false (c .before .before .before .are-digits2 .result) (c .before .before .if3 .left)) (c .signed2 .ensures) (c .before .magnitude2 .ensures)
+    let args = c .before .before .before .before .before .before .before .args in
+    let if1 = c .before .before .before .before .if1 in
+    let are-digits2 = c .before .before .before .are-digits2 in
+    let if3 = c .before .before .if3 in
+    digits-value (args .word .now) (args .word .now) false (integer-plain (args .word .now) (if1 .left)) _ _
+    (sym (are-digits2 .ensures) ∙ not-false (are-digits2 .result) (if3 .left)) (c .signed2 .ensures) (c .before .magnitude2 .ensures)
 
 pub integer-of-spec : {M : Type 1} → statement M
 integer-of-spec =

@@ -2,11 +2,12 @@ use borrow.Author.Needs.{needs}
 use Rattle.reader.proofs.number.is_numeral.Statement.{statement}
 use Rattle.reader.proofs.number.is_numeral.Tie as tie
 use mathlib.Core.Path.{_≡_, _∙_}
-use Rattle.reader.specs.NumberLaws.{numeral-none, numeral-plain, numeral-one, numeral-minus}
+use Rattle.reader.specs.Code.NumberLaws.{numeral-none, numeral-plain, numeral-one, numeral-minus}
 
 returns : tie.Need-returns
 returns c =
-    numeral-none (c .before .before .args .word .now) (c .if1 .taken)
+    let args = c .before .before .args in
+    numeral-none (args .word .now) (c .if1 .taken)
 
 shared-slice-read-if2 : tie.Need-shared-slice-read-if2
 shared-slice-read-if2 c =
@@ -22,11 +23,14 @@ is-digit-requires c κs =
 
 returns-2 : tie.Need-returns-2
 returns-2 c =
-    c .is-digit .ensures ∙ numeral-plain (c .before .before .before .before .before .before .args .word .now) (c .before .before .if2 .taken)
+    let args = c .before .before .before .before .before .before .args in
+    let if2 = c .before .before .if2 in
+    c .is-digit .ensures ∙ numeral-plain (args .word .now) (if2 .taken)
 
 returns-3 : tie.Need-returns-3
 returns-3 c =
-    numeral-one (c .before .before .before .before .before .args .word .now) (c .if3 .taken) (c .before .if2 .left)
+    let args = c .before .before .before .before .before .args in
+    numeral-one (args .word .now) (c .if3 .taken) (c .before .if2 .left)
 
 shared-slice-read-is-digit-2 : tie.Need-shared-slice-read-is-digit-2
 shared-slice-read-is-digit-2 c =
@@ -38,7 +42,9 @@ is-digit-requires-2 c κs =
 
 returns-4 : tie.Need-returns-4
 returns-4 c =
-    c .is-digit2 .ensures ∙ numeral-minus (c .before .before .before .before .before .before .before .args .word .now) (c .before .before .before .if2 .left)
+    let args = c .before .before .before .before .before .before .before .args in
+    let if2 = c .before .before .before .if2 in
+    c .is-digit2 .ensures ∙ numeral-minus (args .word .now) (if2 .left)
 
 pub is-numeral-spec : {M : Type 1} → statement M
 is-numeral-spec =

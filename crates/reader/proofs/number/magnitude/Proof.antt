@@ -8,7 +8,7 @@ use lib.ListN.{length, drop, getD}
 use Rattle.words.specs.Lists.{all}
 use Rattle.reading.specs.Token.{isDigit}
 use Rattle.reading.specs.Meaning.{valueFrom}
-use Rattle.reader.specs.NumberLaws.{all-at, digit-range, value-step, value-end, value-least}
+use Rattle.reader.specs.Code.NumberLaws.{all-at, digit-range, value-step, value-end, value-least}
 use borrow.Author.Needs.{needs}
 
 abbrev Inv-loop : tie.InvT-loop
@@ -37,16 +37,30 @@ wide-requires c κs =
 
 sub-value : tie.Need-sub-value Inv-loop μ-loop
 sub-value c =
-    let d = digit-range _ (all-at (c .before .before .before .before .before .args .digits .now) (c .before .before .before .loop .i) (c .before .before .before .before .before .pre) (c .before .before .loop-test .taken)) in omega (arith, d .0, c .wide .ensures)
+    let args = c .before .before .before .before .before .args in
+    let loop = c .before .before .before .loop in
+    let pre = c .before .before .before .before .before .pre in
+    let loop-test = c .before .before .loop-test in
+    let d = digit-range _ (all-at (args .digits .now) (loop .i) (pre) (loop-test .taken)) in omega (arith, d .0, c .wide .ensures)
 
 add-value : tie.Need-add-value Inv-loop μ-loop
 add-value c =
-    let d = digit-range _ (all-at (c .before .before .before .before .before .args .digits .now) (c .before .before .before .loop .i) (c .before .before .before .before .before .pre) (c .before .before .loop-test .taken)) in omega (arith, d .0, d .1, c .wide .ensures)
+    let args = c .before .before .before .before .before .args in
+    let loop = c .before .before .before .loop in
+    let pre = c .before .before .before .before .before .pre in
+    let loop-test = c .before .before .loop-test in
+    let d = digit-range _ (all-at (args .digits .now) (loop .i) (pre) (loop-test .taken)) in omega (arith, d .0, d .1, c .wide .ensures)
 
 returns : tie.Need-returns Inv-loop μ-loop
 returns c =
-    let l = c .before .before .before .before .before .before .args .digits .now in let i = c .before .before .before .before .loop .i in let v = c .before .before .before .before .loop .value in let n = 10 * v + (getD l i 0 - 48) in
-    omega (arith, c .before .wide .ensures, c .before .before .before .before .loop .inv .2, value-step l i (c .before .before .before .loop-test .taken) v, value-least n (drop (i + 1) l))
+    let args = c .before .before .before .before .before .before .args in
+    let loop = c .before .before .before .before .loop in
+    let loop-test = c .before .before .before .loop-test in
+    let l = args .digits .now in
+    let i = loop .i in
+    let v = loop .value in
+    let n = 10 * v + (getD l i 0 - 48) in
+    omega (arith, c .before .wide .ensures, loop .inv .2, value-step l i (loop-test .taken) v, value-least n (drop (i + 1) l))
 
 add-i : tie.Need-add-i Inv-loop μ-loop
 add-i c =
@@ -58,12 +72,19 @@ loop-less c =
 
 loop-again : tie.Need-loop-again Inv-loop μ-loop
 loop-again c =
-    let l = c .before .before .before .before .before .before .args .digits .now in let i = c .before .before .before .before .loop .i in let v = c .before .before .before .before .loop .value in
-    (omega arith, omega arith, rw (c .before .wide .ensures) (sym (value-step l i (c .before .before .before .loop-test .taken) v) ∙ c .before .before .before .before .loop .inv .2))
+    let args = c .before .before .before .before .before .before .args in
+    let loop = c .before .before .before .before .loop in
+    let loop-test = c .before .before .before .loop-test in
+    let l = args .digits .now in
+    let i = loop .i in
+    let v = loop .value in
+    (omega arith, omega arith, rw (c .before .wide .ensures) (sym (value-step l i (loop-test .taken) v) ∙ loop .inv .2))
 
 returns-2 : tie.Need-returns-2 Inv-loop μ-loop
 returns-2 c =
-    omega (arith, c .before .loop .inv .2, value-end (c .before .before .before .args .digits .now) (c .before .loop .i) (c .before .loop .value) (c .loop-test .left) (c .before .loop .inv .0))
+    let loop = c .before .loop in
+    let args = c .before .before .before .args in
+    omega (arith, loop .inv .2, value-end (args .digits .now) (loop .i) (loop .value) (c .loop-test .left) (loop .inv .0))
 
 pub magnitude-spec : {M : Type 1} → statement M
 magnitude-spec =

@@ -4,11 +4,12 @@ use Rattle.reader.proofs.number.signed.Tie as tie
 use native.Mathlib.Omega.{arith}
 use mathlib.Core.Path.{_≡_, refl, sym, ap, _∙_}
 use borrow.Author.Tests.{not-true, not-false}
-use Rattle.reader.specs.NumberLaws.{positive-past, positive-is, negative-past, zero-is, negative-fits, negative-is}
+use Rattle.reader.specs.Code.NumberLaws.{positive-past, positive-is, negative-past, zero-is, negative-fits, negative-is}
 
 returns : tie.Need-returns
 returns c =
-    rw (not-true (c .before .before .args .negative) (c .before .if1 .taken)) (positive-past _ (c .if2 .taken))
+    let args = c .before .before .args in
+    rw (not-true (args .negative) (c .before .if1 .taken)) (positive-past _ (c .if2 .taken))
 
 cast-t5 : tie.Need-cast-t5
 cast-t5 c =
@@ -16,15 +17,19 @@ cast-t5 c =
 
 returns-2 : tie.Need-returns-2
 returns-2 c =
-    rw (not-true (c .before .before .args .negative) (c .before .if1 .taken)) (positive-is _ (c .if2 .left))
+    let args = c .before .before .args in
+    rw (not-true (args .negative) (c .before .if1 .taken)) (positive-is _ (c .if2 .left))
 
 returns-3 : tie.Need-returns-3
 returns-3 c =
-    rw (not-false (c .before .before .args .negative) (c .before .if1 .left)) (negative-past _ (c .if3 .taken))
+    let args = c .before .before .args in
+    rw (not-false (args .negative) (c .before .if1 .left)) (negative-past _ (c .if3 .taken))
 
 returns-4 : tie.Need-returns-4
 returns-4 c =
-    rw (not-false (c .before .before .before .args .negative) (c .before .before .if1 .left)) (zero-is _ (c .if4 .taken))
+    let args = c .before .before .before .args in
+    let if1 = c .before .before .if1 in
+    rw (not-false (args .negative) (if1 .left)) (zero-is _ (c .if4 .taken))
 
 sub-t6 : tie.Need-sub-t6
 sub-t6 c =
@@ -40,7 +45,9 @@ sub-t8 c =
 
 returns-5 : tie.Need-returns-5
 returns-5 c =
-    rw (not-false (c .before .before .before .args .negative) (c .before .before .if1 .left)) (negative-is _ (c .before .if3 .left) (c .if4 .left))
+    let args = c .before .before .before .args in
+    let if1 = c .before .before .if1 in
+    rw (not-false (args .negative) (if1 .left)) (negative-is _ (c .before .if3 .left) (c .if4 .left))
 
 pub signed-spec : {M : Type 1} → statement M
 signed-spec =

@@ -4,55 +4,77 @@ use Rattle.reader.proofs.place.close_list.Tie as tie
 use mathlib.Core.Path.{_≡_, sym, _∙_}
 use native.Mathlib.Omega.{arith}
 use Prim.Native.Nat.{_<_, _+_, _*_}
-use Rattle.reader.specs.StepLaws.{close-refused, close-went}
+use Rattle.reader.specs.Code.StepLaws.{close-refused, close-went}
 
 returns : tie.Need-returns
 returns c =
-    λ r bytes h. close-refused r (c .before .before .args .place) (c .before .before .args .items .now) bytes h _ (c .if1 .taken)
+    λ r bytes h.
+    let args = c .before .before .args in
+    close-refused r (args .place) (args .items .now) bytes h _ (c .if1 .taken)
 
 mul-tail : tie.Need-mul-tail
 mul-tail c =
-    let d : 0 < c .before .before .before .args .place .depth = omega (arith, c .before .if1 .left) in omega (arith, c .before .before .before .pre .pair d, c .before .before .before .pre .even, c .before .before .before .pre .elements, c .before .before .before .pre .room)
+    let args = c .before .before .before .args in
+    let pre = c .before .before .before .pre in
+    let d : 0 < args .place .depth = omega (arith, c .before .if1 .left) in omega (arith, pre .pair d, pre .even, pre .elements, pre .room)
 
 add-tail : tie.Need-add-tail
 add-tail c =
-    let d : 0 < c .before .before .before .args .place .depth = omega (arith, c .before .if1 .left) in omega (arith, c .before .before .before .pre .pair d, c .before .before .before .pre .even, c .before .before .before .pre .elements, c .before .before .before .pre .room)
+    let args = c .before .before .before .args in
+    let pre = c .before .before .before .pre in
+    let d : 0 < args .place .depth = omega (arith, c .before .if1 .left) in omega (arith, pre .pair d, pre .even, pre .elements, pre .room)
 
 mul-around : tie.Need-mul-around
 mul-around c =
-    let d : 0 < c .before .before .before .args .place .depth = omega (arith, c .before .if1 .left) in omega (arith, c .before .before .before .pre .pair d, c .before .before .before .pre .even, c .before .before .before .pre .elements, c .before .before .before .pre .room)
+    let args = c .before .before .before .args in
+    let pre = c .before .before .before .pre in
+    let d : 0 < args .place .depth = omega (arith, c .before .if1 .left) in omega (arith, pre .pair d, pre .even, pre .elements, pre .room)
 
 slice-read-around : tie.Need-slice-read-around
 slice-read-around c =
-    let d : 0 < c .before .before .before .before .args .place .depth = omega (arith, c .before .before .if1 .left) in omega (arith, c .before .before .before .before .pre .pair d, c .before .before .before .before .pre .even, c .before .before .before .before .pre .elements, c .before .before .before .before .pre .room)
+    let args = c .before .before .before .before .args in
+    let if1 = c .before .before .if1 in
+    let pre = c .before .before .before .before .pre in
+    let d : 0 < args .place .depth = omega (arith, if1 .left) in omega (arith, pre .pair d, pre .even, pre .elements, pre .room)
 
 cast-around : tie.Need-cast-around
 cast-around c =
-    omega (arith, c .slice-known .given (3 * c .before .before .before .before .args .place .pair + 2))
+    let args = c .before .before .before .before .args in
+    omega (arith, c .slice-known .given (3 * args .place .pair + 2))
 
 add-items : tie.Need-add-items
 add-items c =
-    omega (arith, c .before .before .before .before .before .pre .even, c .before .before .before .before .before .pre .elements)
+    let pre = c .before .before .before .before .before .pre in
+    omega (arith, pre .even, pre .elements)
 
 cast-items : tie.Need-cast-items
 cast-items c =
-    omega (arith, c .before .before .before .before .before .pre .even, c .before .before .before .before .before .pre .elements)
+    let pre = c .before .before .before .before .before .pre in
+    omega (arith, pre .even, pre .elements)
 
 mul-items : tie.Need-mul-items
 mul-items c =
-    let d : 0 < c .before .before .before .before .before .args .place .depth = omega (arith, c .before .before .before .if1 .left) in omega (arith, c .before .before .before .before .before .pre .pair d, c .before .before .before .before .before .pre .even, c .before .before .before .before .before .pre .elements, c .before .before .before .before .before .pre .room)
+    let args = c .before .before .before .before .before .args in
+    let if1 = c .before .before .before .if1 in
+    let pre = c .before .before .before .before .before .pre in
+    let d : 0 < args .place .depth = omega (arith, if1 .left) in omega (arith, pre .pair d, pre .even, pre .elements, pre .room)
 
 slice-write-items : tie.Need-slice-write-items
 slice-write-items c =
-    let d : 0 < c .before .before .before .before .before .args .place .depth = omega (arith, c .before .before .before .if1 .left) in omega (arith, c .before .before .before .before .before .pre .pair d, c .before .before .before .before .before .pre .even, c .before .before .before .before .before .pre .elements, c .before .before .before .before .before .pre .room)
+    let args = c .before .before .before .before .before .args in
+    let if1 = c .before .before .before .if1 in
+    let pre = c .before .before .before .before .before .pre in
+    let d : 0 < args .place .depth = omega (arith, if1 .left) in omega (arith, pre .pair d, pre .even, pre .elements, pre .room)
 
 add-t6 : tie.Need-add-t6
 add-t6 c =
-    omega (arith, c .before .before .before .before .before .before .pre .even, c .before .before .before .before .before .before .pre .elements)
+    let pre = c .before .before .before .before .before .before .pre in
+    omega (arith, pre .even, pre .elements)
 
 sub-t9 : tie.Need-sub-t9
 sub-t9 c =
-    omega (arith, c .before .before .before .before .before .if1 .left)
+    let if1 = c .before .before .before .before .before .if1 in
+    omega (arith, if1 .left)
 
 same-length : tie.Need-same-length
 same-length c =
@@ -60,7 +82,10 @@ same-length c =
 
 returns-2 : tie.Need-returns-2
 returns-2 c =
-    λ r bytes h. close-went r (c .before .before .before .before .before .before .before .args .place) (c .before .before .before .before .before .before .before .args .items .now) bytes h (c .before .before .before .before .before .if1 .left)
+    λ r bytes h.
+    let args = c .before .before .before .before .before .before .before .args in
+    let if1 = c .before .before .before .before .before .if1 in
+    close-went r (args .place) (args .items .now) bytes h (if1 .left)
 
 pub close-list-spec : {M : Type 1} → statement M
 close-list-spec =

@@ -4,7 +4,7 @@ use Rattle.reader.proofs.place.put_element.Tie as tie
 use mathlib.Core.Path.{_≡_, ap, _∙_}
 use native.Mathlib.Omega.{arith}
 use Prim.Native.Nat.{_+_, _*_}
-use Rattle.reader.specs.Placed.{put3}
+use Rattle.reader.specs.Code.Placed.{put3}
 
 add-put-item : tie.Need-add-put-item
 add-put-item c =
@@ -32,7 +32,9 @@ add-put-item-3 c =
 
 put-item-requires-2 : tie.Need-put-item-requires-2
 put-item-requires-2 c κs =
-    omega (arith, c .before .before .before .before .before .before .pre .0, c .before .before .before .put-item .kept .0)
+    let pre = c .before .before .before .before .before .before .pre in
+    let put-item = c .before .before .before .put-item in
+    omega (arith, pre .0, put-item .kept .0)
 
 same-length : tie.Need-same-length
 same-length c =
@@ -40,7 +42,10 @@ same-length c =
 
 returns : tie.Need-returns
 returns c =
-    c .before .before .put-item2 .ensures ∙ ap (λ t. put3 t (3 * (c .before .before .before .before .before .before .before .before .before .args .item + 1)) (c .before .before .before .before .before .before .before .before .before .args .kind) (c .before .before .before .before .before .before .before .before .before .args .value) 0) (c .before .before .before .before .before .before .put-item .ensures)
+    let put-item2 = c .before .before .put-item2 in
+    let args = c .before .before .before .before .before .before .before .before .before .args in
+    let put-item = c .before .before .before .before .before .before .put-item in
+    put-item2 .ensures ∙ ap (λ t. put3 t (3 * (args .item + 1)) (args .kind) (args .value) 0) (put-item .ensures)
 
 pub put-element-spec : {M : Type 1} → statement M
 put-element-spec =

@@ -5,11 +5,12 @@ use mathlib.Core.Path.{_≡_, refl}
 use Prim.Native.Nat.{_<_}
 use native.Mathlib.Omega.{arith}
 use lib.ListN.{length}
-use Rattle.reader.specs.ToldLaws.{true-taken, false-taken, no-flag, end-flag}
+use Rattle.reader.specs.Code.ToldLaws.{true-taken, false-taken, no-flag, end-flag}
 
 returns : tie.Need-returns
 returns c =
-    end-flag (c .before .args .text .now) (c .before .args .at) (c .if1 .taken)
+    let args = c .before .args in
+    end-flag (args .text .now) (args .at) (c .if1 .taken)
 
 shared-slice-read-if2 : tie.Need-shared-slice-read-if2
 shared-slice-read-if2 c =
@@ -21,7 +22,10 @@ add-t7 c =
 
 returns-2 : tie.Need-returns-2
 returns-2 c =
-    let h : c .before .before .before .args .at < length (c .before .before .before .args .text .now) = omega (arith, c .before .before .before .pre, c .before .before .if1 .left) in (refl, h, true-taken (c .before .before .before .args .text .now) (c .before .before .before .args .at) h (c .if2 .taken))
+    let args = c .before .before .before .args in
+    let pre = c .before .before .before .pre in
+    let if1 = c .before .before .if1 in
+    let h : args .at < length (args .text .now) = omega (arith, pre, if1 .left) in (refl, h, true-taken (args .text .now) (args .at) h (c .if2 .taken))
 
 shared-slice-read-if3 : tie.Need-shared-slice-read-if3
 shared-slice-read-if3 c =
@@ -33,11 +37,18 @@ add-t10 c =
 
 returns-3 : tie.Need-returns-3
 returns-3 c =
-    let h : c .before .before .before .before .before .args .at < length (c .before .before .before .before .before .args .text .now) = omega (arith, c .before .before .before .before .before .pre, c .before .before .before .before .if1 .left) in (refl, h, false-taken (c .before .before .before .before .before .args .text .now) (c .before .before .before .before .before .args .at) h (c .if3 .taken))
+    let args = c .before .before .before .before .before .args in
+    let pre = c .before .before .before .before .before .pre in
+    let if1 = c .before .before .before .before .if1 in
+    let h : args .at < length (args .text .now) = omega (arith, pre, if1 .left) in (refl, h, false-taken (args .text .now) (args .at) h (c .if3 .taken))
 
 returns-4 : tie.Need-returns-4
 returns-4 c =
-    let h : c .before .before .before .before .before .args .at < length (c .before .before .before .before .before .args .text .now) = omega (arith, c .before .before .before .before .before .pre, c .before .before .before .before .if1 .left) in no-flag (c .before .before .before .before .before .args .text .now) (c .before .before .before .before .before .args .at) h (c .before .before .if2 .left) (c .if3 .left)
+    let args = c .before .before .before .before .before .args in
+    let pre = c .before .before .before .before .before .pre in
+    let if1 = c .before .before .before .before .if1 in
+    let if2 = c .before .before .if2 in
+    let h : args .at < length (args .text .now) = omega (arith, pre, if1 .left) in no-flag (args .text .now) (args .at) h (if2 .left) (c .if3 .left)
 
 pub flag-at-spec : {M : Type 1} → statement M
 flag-at-spec =

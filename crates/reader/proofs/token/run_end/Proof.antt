@@ -10,7 +10,7 @@ use lib.ListN.{length}
 use Rattle.words.specs.Lists.{all, part}
 use Rattle.words.specs.ListLaws.{part-none}
 use Rattle.reading.specs.Token.{isRunning}
-use Rattle.reader.specs.ToldLaws.{run-step, run-stops, end-stops}
+use Rattle.reader.specs.Code.ToldLaws.{run-step, run-stops, end-stops}
 use borrow.Author.Needs.{needs}
 
 abbrev Inv-loop : tie.InvT-loop
@@ -24,7 +24,8 @@ abbrev μ-loop : tie.MeasureT-loop
 loop-holds : tie.Need-loop-holds Inv-loop μ-loop
 unfolding all
 loop-holds c =
-    (omega arith, c .before .pre, rw (part-none (c .before .args .from) (c .before .args .text .now)))
+    let args = c .before .args in
+    (omega arith, c .before .pre, rw (part-none (args .from) (args .text .now)))
 
 shared-slice-read-is-running : tie.Need-shared-slice-read-is-running Inv-loop μ-loop
 shared-slice-read-is-running c =
@@ -36,8 +37,12 @@ is-running-requires c κs =
 
 returns : tie.Need-returns Inv-loop μ-loop
 returns c =
-    let r = sym (c .before .is-running .ensures) ∙ not-true (c .before .is-running .result) (c .if1 .taken) in
-    record { low = c .before .before .before .before .loop .inv .0; high = c .before .before .before .before .loop .inv .1; runs = c .before .before .before .before .loop .inv .2; stops = run-stops (c .before .before .before .before .before .before .args .text .now) (c .before .before .before .before .loop .at) (c .before .before .before .loop-test .taken) r }
+    let is-running = c .before .is-running in
+    let loop = c .before .before .before .before .loop in
+    let args = c .before .before .before .before .before .before .args in
+    let loop-test = c .before .before .before .loop-test in
+    let r = sym (is-running .ensures) ∙ not-true (is-running .result) (c .if1 .taken) in
+    record { low = loop .inv .0; high = loop .inv .1; runs = loop .inv .2; stops = run-stops (args .text .now) (loop .at) (loop-test .taken) r }
 
 add-at : tie.Need-add-at Inv-loop μ-loop
 add-at c =
@@ -49,13 +54,19 @@ loop-less c =
 
 loop-again : tie.Need-loop-again Inv-loop μ-loop
 loop-again c =
-    let r = sym (c .before .is-running .ensures) ∙ not-false (c .before .is-running .result) (c .if1 .left) in
-    (omega arith, omega arith, run-step (c .before .before .before .before .before .before .args .text .now) (c .before .before .before .before .loop .at) (c .before .before .before .loop-test .taken) (c .before .before .before .before .before .before .args .from) (c .before .before .before .before .loop .inv .0) (c .before .before .before .before .loop .inv .2) r)
+    let is-running = c .before .is-running in
+    let args = c .before .before .before .before .before .before .args in
+    let loop = c .before .before .before .before .loop in
+    let loop-test = c .before .before .before .loop-test in
+    let r = sym (is-running .ensures) ∙ not-false (is-running .result) (c .if1 .left) in
+    (omega arith, omega arith, run-step (args .text .now) (loop .at) (loop-test .taken) (args .from) (loop .inv .0) (loop .inv .2) r)
 
 returns-2 : tie.Need-returns-2 Inv-loop μ-loop
 returns-2 c =
-    let e : c .before .loop .at ≡ length (c .before .before .before .args .text .now) = omega arith in
-    record { low = c .before .loop .inv .0; high = c .before .loop .inv .1; runs = c .before .loop .inv .2; stops = end-stops (c .before .before .before .args .text .now) (c .before .loop .at) e }
+    let loop = c .before .loop in
+    let args = c .before .before .before .args in
+    let e : loop .at ≡ length (args .text .now) = omega arith in
+    record { low = loop .inv .0; high = loop .inv .1; runs = loop .inv .2; stops = end-stops (args .text .now) (loop .at) e }
 
 pub run-end-spec : {M : Type 1} → statement M
 run-end-spec =

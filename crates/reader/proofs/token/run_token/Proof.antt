@@ -12,9 +12,9 @@ use mir.Val.{ofZ}
 use mir.Facts.{toZ-ofZ}
 use Rattle.datum.specs.Constant.{integer}
 use Rattle.reading.specs.Meaning.{constant}
-use Rattle.reader.specs.Answers.{integerMeaning}
-use Rattle.reading.specs.MeaningLaws.{numeral-means, other-means, name-is, name-malformed}
-use Rattle.reader.specs.ToldLaws.{name-short}
+use Rattle.reader.specs.Code.Answers.{integerMeaning}
+use Rattle.reader.specs.Laws.Meanings.{numeral-means, other-means, name-is, name-malformed}
+use Rattle.reader.specs.Code.ToldLaws.{name-short}
 
 sub-word : tie.Need-sub-word
 sub-word c =
@@ -38,18 +38,25 @@ is-name-requires c κs =
 
 returns : tie.Need-returns
 returns c =
-    let w = part (c .before .before .before .before .before .before .args .from) (c .before .before .before .before .before .before .args .to) (c .before .before .before .before .before .before .args .text .now) in
+    let args = c .before .before .before .before .before .before .args in
+    let is-numeral = c .before .before .before .is-numeral in
+    let if1 = c .before .before .if1 in
+    let w = part (args .from) (args .to) (args .text .now) in
     let n = sym (c .before .is-name .ensures) ∙ c .if2 .taken in
-    (refl, refl, name-short w n, other-means w (sym (c .before .before .before .is-numeral .ensures) ∙ not-true (c .before .before .before .is-numeral .result) (c .before .before .if1 .taken)) ∙ name-is w n)
+    (refl, refl, name-short w n, other-means w (sym (is-numeral .ensures) ∙ not-true (is-numeral .result) (if1 .taken)) ∙ name-is w n)
 
 returns-2 : tie.Need-returns-2
 returns-2 c =
-    let w = part (c .before .before .before .before .before .before .args .from) (c .before .before .before .before .before .before .args .to) (c .before .before .before .before .before .before .args .text .now) in
-    other-means w (sym (c .before .before .before .is-numeral .ensures) ∙ not-true (c .before .before .before .is-numeral .result) (c .before .before .if1 .taken)) ∙ name-malformed w (sym (c .before .is-name .ensures) ∙ c .if2 .left)
+    let args = c .before .before .before .before .before .before .args in
+    let is-numeral = c .before .before .before .is-numeral in
+    let if1 = c .before .before .if1 in
+    let w = part (args .from) (args .to) (args .text .now) in
+    other-means w (sym (is-numeral .ensures) ∙ not-true (is-numeral .result) (if1 .taken)) ∙ name-malformed w (sym (c .before .is-name .ensures) ∙ c .if2 .left)
 
 integer-of-requires : tie.Need-integer-of-requires
 integer-of-requires c κs =
-    omega (arith, length-part (c .before .before .before .before .args .from) (c .before .before .before .before .args .to) (c .before .before .before .before .args .text .now) (omega arith) (omega arith))
+    let args = c .before .before .before .before .args in
+    omega (arith, length-part (args .from) (args .to) (args .text .now) (omega arith) (omega arith))
 
 enum-known-z : tie.Need-enum-known-z
 enum-known-z c =
@@ -65,21 +72,34 @@ enum-told-2 c =
 
 returns-3 : tie.Need-returns-3
 returns-3 c =
-    let w = part (c .before .before .before .before .before .before .before .before .args .from) (c .before .before .before .before .before .before .before .before .args .to) (c .before .before .before .before .before .before .before .before .args .text .now) in (
+    let args = c .before .before .before .before .before .before .before .before .args in
+    let is-numeral = c .before .before .before .before .before .is-numeral in
+    let if1 = c .before .before .before .before .if1 in
+    let integer-of = c .before .before .before .integer-of in
+    let z′ = c .before .z in
+    let w = part (args .from) (args .to) (args .text .now) in (
       refl,
-      numeral-means w (sym (c .before .before .before .before .before .is-numeral .ensures) ∙ not-false (c .before .before .before .before .before .is-numeral .result) (c .before .before .before .before .if1 .left)) ∙ sym (c .before .before .before .integer-of .ensures) ∙ ap integerMeaning (c .before .z .given .1)
-          ∙ ap (λ z. constant (integer (ofZ w32 z))) (sym (toZ-ofZ {w = w32} {z = c .before .z .given .0 .0} (record { sfits = c .known-told .given .0 .1 }))),
+      numeral-means w (sym (is-numeral .ensures) ∙ not-false (is-numeral .result) (if1 .left)) ∙ sym (integer-of .ensures) ∙ ap integerMeaning (z′ .given .1)
+          ∙ ap (λ z. constant (integer (ofZ w32 z))) (sym (toZ-ofZ {w = w32} {z = z′ .given .0 .0} (record { sfits = c .known-told .given .0 .1 }))),
     )
 
 returns-4 : tie.Need-returns-4
 returns-4 c =
-    let w = part (c .before .before .before .before .before .before .before .args .from) (c .before .before .before .before .before .before .before .args .to) (c .before .before .before .before .before .before .before .args .text .now) in
-    numeral-means w (sym (c .before .before .before .before .is-numeral .ensures) ∙ not-false (c .before .before .before .before .is-numeral .result) (c .before .before .before .if1 .left)) ∙ sym (c .before .before .integer-of .ensures) ∙ ap integerMeaning (c .enum-told .given .1)
+    let args = c .before .before .before .before .before .before .before .args in
+    let is-numeral = c .before .before .before .before .is-numeral in
+    let if1 = c .before .before .before .if1 in
+    let integer-of = c .before .before .integer-of in
+    let w = part (args .from) (args .to) (args .text .now) in
+    numeral-means w (sym (is-numeral .ensures) ∙ not-false (is-numeral .result) (if1 .left)) ∙ sym (integer-of .ensures) ∙ ap integerMeaning (c .enum-told .given .1)
 
 returns-5 : tie.Need-returns-5
 returns-5 c =
-    let w = part (c .before .before .before .before .before .before .before .args .from) (c .before .before .before .before .before .before .before .args .to) (c .before .before .before .before .before .before .before .args .text .now) in
-    numeral-means w (sym (c .before .before .before .before .is-numeral .ensures) ∙ not-false (c .before .before .before .before .is-numeral .result) (c .before .before .before .if1 .left)) ∙ sym (c .before .before .integer-of .ensures) ∙ ap integerMeaning (c .enum-told2 .given .1)
+    let args = c .before .before .before .before .before .before .before .args in
+    let is-numeral = c .before .before .before .before .is-numeral in
+    let if1 = c .before .before .before .if1 in
+    let integer-of = c .before .before .integer-of in
+    let w = part (args .from) (args .to) (args .text .now) in
+    numeral-means w (sym (is-numeral .ensures) ∙ not-false (is-numeral .result) (if1 .left)) ∙ sym (integer-of .ensures) ∙ ap integerMeaning (c .enum-told2 .given .1)
 
 pub run-token-spec : {M : Type 1} → statement M
 run-token-spec =

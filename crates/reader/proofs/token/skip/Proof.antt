@@ -6,8 +6,8 @@ use mathlib.Core.Path.{_≡_, refl, sym, _∙_}
 use Prim.Native.Nat.{_≤_, _<_, _-_}
 use borrow.Author.Tests.{not-true, not-false}
 use lib.ListN.{length}
-use Rattle.reader.specs.Told.{meaningsFrom}
-use Rattle.reader.specs.ToldLaws.{separator-step}
+use Rattle.reader.specs.Code.Told.{meaningsFrom}
+use Rattle.reader.specs.Code.ToldLaws.{separator-step}
 use borrow.Author.Needs.{needs}
 
 abbrev Inv-loop : tie.InvT-loop
@@ -32,8 +32,10 @@ is-separating-requires c κs =
 
 returns : tie.Need-returns Inv-loop μ-loop
 returns c =
-    let r = sym (c .before .is-separating .ensures) ∙ not-true (c .before .is-separating .result) (c .if1 .taken) in
-    record { low = c .before .before .before .before .loop .inv .0; high = c .before .before .before .before .loop .inv .1; same = c .before .before .before .before .loop .inv .2; stops = λ h. r }
+    let is-separating = c .before .is-separating in
+    let loop = c .before .before .before .before .loop in
+    let r = sym (is-separating .ensures) ∙ not-true (is-separating .result) (c .if1 .taken) in
+    record { low = loop .inv .0; high = loop .inv .1; same = loop .inv .2; stops = λ h. r }
 
 add-at : tie.Need-add-at Inv-loop μ-loop
 add-at c =
@@ -45,12 +47,17 @@ loop-less c =
 
 loop-again : tie.Need-loop-again Inv-loop μ-loop
 loop-again c =
-    let r = sym (c .before .is-separating .ensures) ∙ not-false (c .before .is-separating .result) (c .if1 .left) in
-    (omega arith, omega arith, c .before .before .before .before .loop .inv .2 ∙ separator-step (c .before .before .before .before .before .before .args .text .now) (c .before .before .before .before .loop .at) (c .before .before .before .loop-test .taken) r)
+    let is-separating = c .before .is-separating in
+    let loop = c .before .before .before .before .loop in
+    let args = c .before .before .before .before .before .before .args in
+    let loop-test = c .before .before .before .loop-test in
+    let r = sym (is-separating .ensures) ∙ not-false (is-separating .result) (c .if1 .left) in
+    (omega arith, omega arith, loop .inv .2 ∙ separator-step (args .text .now) (loop .at) (loop-test .taken) r)
 
 returns-2 : tie.Need-returns-2 Inv-loop μ-loop
 returns-2 c =
-    record { low = c .before .loop .inv .0; high = c .before .loop .inv .1; same = c .before .loop .inv .2; stops = λ h. absurd (omega arith) }
+    let loop = c .before .loop in
+    record { low = loop .inv .0; high = loop .inv .1; same = loop .inv .2; stops = λ h. absurd (omega arith) }
 
 pub skip-spec : {M : Type 1} → statement M
 skip-spec =

@@ -9,7 +9,7 @@ use Rattle.datum.specs.Datum.{Datum, Data, constantD, nameD, listD, noneD, more
 use Rattle.reading.specs.Numbering.{datumWords, dataWords}
 use Rattle.reading.specs.Elements.{Reading, onto}
 use Rattle.reading.specs.Read.{filled}
-use Rattle.reader.specs.Placed.{put3, itemsOf, wordsOf, itemsAround, openPair, wordsAround, nextItem, placed}
+use Rattle.reader.specs.Code.Placed.{put3, itemsOf, wordsOf, itemsAround, openPair, wordsAround, nextItem, placed}
 
 -- ---- three words an item
 

@@ -14,8 +14,8 @@ use Rattle.reader.specs.declared.element.Move.{Move}
 use Rattle.reader.specs.declared.element.Move.the-variants.{On, Done, Refused}
 use Rattle.reading.specs.Elements.{Answer, got, back, then, Reading, onto, takesAll}
 use Rattle.reading.specs.Read.{Recipe, finished, itemWords, nameBytes, filled}
-use Rattle.reader.specs.Told.{meaningsFrom}
-use Rattle.reader.specs.Placed.{Holds}
+use Rattle.reader.specs.Code.Told.{meaningsFrom}
+use Rattle.reader.specs.Code.Placed.{Holds}
 
 -- a step, with the cursor past its token
 abbrev pub movedBy : S.Step → Cursor → Move

@@ -32,9 +32,9 @@ use Rattle.reading.specs.Elements.{
   begin,
   takes,
 }
-use Rattle.reading.specs.ElementLaws.{Within, within-is, begin-is}
+use Rattle.reader.specs.Laws.Elements.{Within, within-is, begin-is}
 use Rattle.reading.specs.Read.{filled}
-use Rattle.reader.specs.Placed.{
+use Rattle.reader.specs.Code.Placed.{
   put3,
   itemsOf,
   wordsOf,
@@ -50,7 +50,7 @@ use Rattle.reader.specs.Placed.{
   IsToken,
   withToken,
 }
-use Rattle.reader.specs.PlacedLaws.{
+use Rattle.reader.specs.Code.PlacedLaws.{
   length-placed,
   onto-items,
   token-placed,

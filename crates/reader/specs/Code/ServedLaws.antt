@@ -35,13 +35,14 @@ use Rattle.reading.specs.Read.{
   itemsAfter,
   namesAfter,
 }
-use Rattle.reader.specs.Stored.{NameTable}
-use Rattle.reader.specs.Told.{meaningsFrom}
-use Rattle.reader.specs.Placed.{Holds, itemsOf, itemsAround, wordsOf, wordsAround, openPair, nextItem, placed}
-use Rattle.reader.specs.PlacedLaws.{filled-same}
-use Rattle.reader.specs.Moved.{outcomeFrom, Onward, Whole, Moved, Advanced}
-use Rattle.reader.specs.GroundLaws.{ground-high}
-use Rattle.reader.specs.Served.{ground, items, names, answerOf, Served, Reached}
+use Rattle.reader.specs.Code.Stored.{NameTable}
+use Rattle.reader.specs.Code.Told.{meaningsFrom}
+use Rattle.reader.specs.Code.Placed.{Holds, itemsOf, itemsAround, wordsOf, wordsAround, openPair, nextItem, placed}
+use Rattle.reader.specs.Code.PlacedLaws.{filled-same}
+use Rattle.reader.specs.Code.Moved.{outcomeFrom, Onward, Whole, Moved, Advanced}
+use Rattle.reader.specs.Laws.Grounds.{ground-high}
+use Rattle.reader.specs.Served.{ground, items, names, answerOf, Served}
+use Rattle.reader.specs.Code.Reached.{Reached}
 
 -- ---- this paper's numbers
 

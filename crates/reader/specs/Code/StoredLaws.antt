@@ -15,7 +15,7 @@ use Rattle.datum.specs.NameTable.{slot, slots, lengthAt, nameAt}
 use Rattle.datum.specs.NameTableLaws.{isShort, length-slots, slots-append, name-at}
 use Rattle.reading.specs.Read.{filled}
 use Rattle.reading.specs.Numbering.{numberOf}
-use Rattle.reader.specs.Stored.{namesIn, stored, NameTable, FourStored}
+use Rattle.reader.specs.Code.Stored.{namesIn, stored, NameTable, FourStored}
 
 -- ---- comparing
 

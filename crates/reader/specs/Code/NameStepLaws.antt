@@ -21,11 +21,11 @@ use Rattle.reading.specs.Numbering.{numberOf, withName, datumWords}
 use Rattle.reading.specs.Elements.{Answer, got, back, Reading, counted, named, begin, takes}
 use Rattle.reading.specs.Read.{filled}
 use Rattle.reading.specs.AcceptedLaws.{number-most}
-use Rattle.reader.specs.Stored.{namesIn, stored}
-use Rattle.reader.specs.StoredLaws.{names-in, length-names-in, short-more, stored-filled, stored-length}
-use Rattle.reader.specs.Placed.{Holds, Stepped, groundAt, IsToken, withToken, TokenPut, NamesSound}
-use Rattle.reader.specs.PlacedLaws.{filled-same}
-use Rattle.reader.specs.StepLaws.{token-refused}
+use Rattle.reader.specs.Code.Stored.{namesIn, stored}
+use Rattle.reader.specs.Code.StoredLaws.{names-in, length-names-in, short-more, stored-filled, stored-length}
+use Rattle.reader.specs.Code.Placed.{Holds, Stepped, groundAt, IsToken, withToken, TokenPut, NamesSound}
+use Rattle.reader.specs.Code.PlacedLaws.{filled-same}
+use Rattle.reader.specs.Code.StepLaws.{token-refused}
 
 -- a name's one item
 name-token : (n : ℕ) → IsToken (nameD n) 3 n

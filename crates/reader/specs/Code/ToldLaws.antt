@@ -38,8 +38,8 @@ use Rattle.reading.specs.Token.{
 }
 use Rattle.reading.specs.Meaning.{Meaning, begins, ends, constant, name, refused, meaningOf, isName, isNumeral, integerOf, nameOf}
 use Rattle.reading.specs.RecipeText.{EndsRun, atEnd, before}
-use Rattle.reading.specs.TokenLaws.{separator-skipped, run-taken}
-use Rattle.reader.specs.Told.{meaningsFrom, Skipped, RunTo, Took, TurnedBack, Told, RunTold, FlagTold}
+use Rattle.reader.specs.Laws.Tokens.{separator-skipped, run-taken}
+use Rattle.reader.specs.Code.Told.{meaningsFrom, Skipped, RunTo, Took, TurnedBack, Told, RunTold, FlagTold}
 use Rattle.reader.specs.declared.token.Token as T
 use Rattle.reader.specs.declared.token.Token.the-variants.{End, Open, Close, Boolean, Integer, Name, Refused}
 

@@ -20,11 +20,11 @@ use Rattle.reading.specs.Meaning.{Meaning, constant, refused}
 use Rattle.reading.specs.Numbering.{datumWords, dataWords}
 use Rattle.reading.specs.Elements.{Answer, got, back, then, Reading, onto, noneOpen, isComplete, counted, put, takes, takesAll}
 use Rattle.reading.specs.Read.{Recipe, finished, itemWords, nameBytes, filled}
-use Rattle.reader.specs.Told.{meaningsFrom, Took, TurnedBack}
-use Rattle.reader.specs.Placed.{Holds, Stepped, IsToken, withToken, TokenPut, itemsOf, wordsOf, itemsAround, wordsAround, nextItem, placed}
-use Rattle.reader.specs.PlacedLaws.{onto-items, onto-words, length-words, zeros, refill}
-use Rattle.reader.specs.StepLaws.{complete-is}
-use Rattle.reader.specs.Moved.{movedBy, finishOf, outcomeFrom, Onward, Whole, Moved}
+use Rattle.reader.specs.Code.Told.{meaningsFrom, Took, TurnedBack}
+use Rattle.reader.specs.Code.Placed.{Holds, Stepped, IsToken, withToken, TokenPut, itemsOf, wordsOf, itemsAround, wordsAround, nextItem, placed}
+use Rattle.reader.specs.Code.PlacedLaws.{onto-items, onto-words, length-words, zeros, refill}
+use Rattle.reader.specs.Code.StepLaws.{complete-is}
+use Rattle.reader.specs.Code.Moved.{movedBy, finishOf, outcomeFrom, Onward, Whole, Moved}
 
 -- ---- a token that is taken
 

@@ -16,7 +16,7 @@ use Rattle.reader.specs.declared.place.Step.the-variants.{Went, Refused}
 use Rattle.reading.specs.Numbering.{datumWords}
 use Rattle.reading.specs.Meaning.{begins, ends, name}
 use Rattle.reading.specs.Elements.{Answer, got, back, Reading, noneOpen, begin, takes}
-use Rattle.reading.specs.ElementLaws.{Within}
+use Rattle.reader.specs.Laws.Elements.{Within}
 use Rattle.reading.specs.Read.{filled}
 
 -- ---- items
