@@ -12,15 +12,18 @@ sub-result c =
 
 cast-result : tie.Need-cast-result
 cast-result c =
-    let h : mag (c .before .args .z) < 2 ^ 31 = c .before .fits .z .sfits in rw (below-is _ (c .before .fits .z) (c .if1 .taken)) (tt, omega arith)
+    let fits = c .before .fits in
+    let h : mag (c .before .args .z) < 2 ^ 31 = fits .z .sfits in rw (below-is _ (fits .z) (c .if1 .taken)) (tt, omega arith)
 
 sub-result-2 : tie.Need-sub-result-2
 sub-result-2 c =
-    let h : mag (c .before .args .z) < 2 ^ 31 = c .before .fits .z .sfits in rw (below-is _ (c .before .fits .z) (c .if1 .taken)) (omega arith)
+    let fits = c .before .fits in
+    let h : mag (c .before .args .z) < 2 ^ 31 = fits .z .sfits in rw (below-is _ (fits .z) (c .if1 .taken)) (omega arith)
 
 cast-result-2 : tie.Need-cast-result-2
 cast-result-2 c =
-    rw (above-is _ (c .before .fits .z) (c .if1 .left)) (tt, fits-ofZ (c .before .fits .z))
+    let fits = c .before .fits in
+    rw (above-is _ (fits .z) (c .if1 .left)) (tt, fits-ofZ (fits .z))
 
 returns : tie.Need-returns
 returns c =
