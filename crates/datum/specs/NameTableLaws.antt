@@ -1,14 +1,14 @@
 -- Laws of the name table: what stands in the slots of names of at most 63 bytes.
-use mathlib.Core.Path.{_≡_, refl, sym, ap, subst, _∙_}
-use mathlib.Core.Bool.{Bool, true, false, _&&_}
-use mathlib.Core.List.{List, [], _∷_, _++_, append-assoc, append-nil}
+use mathlib.Core.Path.{_≡_, refl, sym, ap, _∙_}
+use mathlib.Core.Bool.{Bool, true}
+use mathlib.Core.List.{List, [], _∷_, _++_, append-assoc}
 use Prim.Native.Nat.{ℕ, zero, suc, _+_, _*_, _-_, _≤_, _<_}
 use native.Mathlib.Omega.{arith}
 use lib.Dec.{leb}
-use lib.ListN.{length, getD, take, drop, replicate, length-append, length-replicate}
+use lib.ListN.{length, getD, take, replicate, length-append, length-replicate}
 use lib.Seq.{take-at, drop-append-add, getD-append-add}
 use borrow.Author.Tests.{leb-true}
-use Rattle.words.specs.Limits.{nameLengthMost, slotSize}
+use Rattle.words.specs.Limits.{nameLengthMost}
 use Rattle.words.specs.Lists.{all}
 use Rattle.words.specs.ListLaws.{and-left, and-right}
 use Rattle.datum.specs.NameTable.{slot, slots, lengthAt, nameAt}

@@ -9,7 +9,7 @@ use borrow.Author.Tests.{lt-ltb, le-ltb}
 use Rattle.reading.specs.Read.{read, groundOf, itemCount, nameCount, itemsAfter, namesAfter}
 use Rattle.reader.specs.declared.Reading.{Reading}
 use Rattle.reader.specs.Served as R
-use Rattle.reader.specs.ServedLaws.{ground-is, items-are, names-are}
+use Rattle.reader.specs.Code.ServedLaws.{ground-is, items-are, names-are}
 use Rattle.writer.specs.declared.Writing.{Writing}
 use Rattle.writer.specs.Writing as W
 use Rattle.writer.specs.Written.{Wrote}

@@ -1,5 +1,3 @@
--- Reading: a recipe text's bytes to tokens, tokens to two elements, elements to items and names.
--- Read is its meaning, RecipeText says which texts are accepted, Accepts proves it, Served is the code's promise.
-pub mod Laws
+-- The reading service: Served is its promise, and Code has what its functions promise.
 pub mod Code
 pub mod Served

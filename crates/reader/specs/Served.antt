@@ -1,7 +1,7 @@
 -- The promise of the reading service: its answer and both tables are those of the definition, for every text and every pair of lent tables.
 use mathlib.Core.Path.{_≡_}
-use mathlib.Core.List.{List, []}
-use Prim.Native.Nat.{ℕ, _≤_}
+use mathlib.Core.List.{List}
+use Prim.Native.Nat.{ℕ}
 use lib.ListN.{length}
 use Rattle.datum.specs.Datum.{dataItems}
 use Rattle.reader.specs.declared.Reading.{Reading}

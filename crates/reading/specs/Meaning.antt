@@ -1,7 +1,7 @@
 -- What a token means by itself: a parenthesis, a constant, a name, or ground 3 or 4. The interface is Meaning and meaningOf.
 use mathlib.Core.Bool.{Bool, true, false, not, _&&_, cond}
 use mathlib.Core.List.{List, [], _∷_}
-use Prim.Native.Nat.{ℕ, suc, _+_, _*_, _-_}
+use Prim.Native.Nat.{ℕ, _+_, _*_, _-_}
 use lib.Dec.{eqb, leb}
 use lib.IntN.{pos, negℤ}
 use lib.ListN.{length, getD, drop}

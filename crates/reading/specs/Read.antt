@@ -1,7 +1,7 @@
 -- The meaning of reading: for a text and the lengths of the lent tables the answer, and what both tables hold afterwards.
 -- The interface is recipeOf, read, and the functions of read's answer below it; contracts are equations with these.
-use mathlib.Core.Bool.{Bool, true, false, _||_, cond}
-use mathlib.Core.List.{List, [], _∷_, _++_, map}
+use mathlib.Core.Bool.{_||_, cond}
+use mathlib.Core.List.{List, _++_, map}
 use Prim.Native.Nat.{ℕ, _-_}
 use lib.Dec.{ltb, leb}
 use lib.ListN.{length, replicate}

@@ -1,5 +1,5 @@
 -- Tokens, taken from the text one after another. The interface is Token and tokens; what a token means stands in Meaning.
-use mathlib.Core.Bool.{Bool, true, false, _||_, cond}
+use mathlib.Core.Bool.{Bool, _||_, cond}
 use mathlib.Core.List.{List, [], _∷_, _++_}
 use Prim.Native.Nat.{ℕ}
 use lib.Dec.{eqb}

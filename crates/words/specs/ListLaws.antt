@@ -7,7 +7,7 @@ use Prim.Native.Nat.{ℕ, zero, suc, _+_, _-_, _≤_, _<_}
 use native.Mathlib.Omega.{arith}
 use native.Mathlib.Numerals.{add-one}
 use lib.Dec.{eqb, leb}
-use lib.ListN.{length, getD, take, drop, set, length-drop, take-append-drop}
+use lib.ListN.{length, getD, drop, set, length-drop, take-append-drop}
 use lib.Seq.{length-take-le, take-all, take-suc, getD-drop, drop-drop, paste, paste-suc}
 use borrow.Author.Tests.{eqb-true, eqb-false, eq-eqb, ne-eqb, leb-true}
 use Rattle.words.specs.Lists.{within, all, any, equal, rest, part}

@@ -1,7 +1,6 @@
 use borrow.Author.Needs.{needs}
 use Rattle.reader.proofs.begin.Statement.{statement}
 use Rattle.reader.proofs.begin.Tie as tie
-use mathlib.Core.Path.{_≡_, _∙_}
 use Rattle.reader.specs.Code.ServedLaws.{zeroed, zeroed-names}
 
 zero-words-requires : tie.Need-zero-words-requires

@@ -2,9 +2,8 @@
 use borrow.Author.Needs.{needs}
 use Rattle.reader.proofs.read.Statement.{statement}
 use Rattle.reader.proofs.read.Tie as tie
-use mathlib.Core.Path.{_≡_, ap, subst, _∙_}
-use Prim.Native.Nat.{ℕ}
-use lib.ListN.{length, replicate}
+use mathlib.Core.Path.{ap, subst, _∙_}
+use lib.ListN.{replicate}
 use Rattle.reader.specs.Code.Reached.{Ended}
 use Rattle.reader.specs.Code.ServedLaws.{served-few-items, served-few-names, served-long, served-read, served-refused}
 

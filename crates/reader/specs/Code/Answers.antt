@@ -1,5 +1,4 @@
 -- What the code's enums say in document 01's terms.
-use Prim.Native.Nat.{ℕ}
 use mir.Syntax.{w32}
 use mir.Val.{ofZ}
 use Rattle.datum.specs.Constant.{integer}

@@ -1,18 +1,18 @@
 -- What reading does with the next token: it goes on, is done, or turns the text back, as the definition does.
 use mathlib.Core.Path.{_≡_}
-use mathlib.Core.Bool.{Bool, true, false, _&&_, cond}
-use mathlib.Core.List.{List, [], _∷_}
+use mathlib.Core.Bool.{_&&_, cond}
+use mathlib.Core.List.{List}
 use Prim.Native.Nat.{ℕ, _+_, _≤_, _<_}
 use lib.Dec.{eqb}
 use lib.ListN.{length}
-use Rattle.datum.specs.Datum.{noneD, dataItems}
+use Rattle.datum.specs.Datum.{dataItems}
 use Rattle.reader.specs.declared.token.Cursor.{Cursor}
 use Rattle.reader.specs.declared.place.Place.{Place}
 use Rattle.reader.specs.declared.place.Step as S
 use Rattle.reader.specs.declared.place.Step.the-variants as SV
 use Rattle.reader.specs.declared.element.Move.{Move}
 use Rattle.reader.specs.declared.element.Move.the-variants.{On, Done, Refused}
-use Rattle.reading.specs.Elements.{Answer, got, back, then, Reading, onto, takesAll}
+use Rattle.reading.specs.Elements.{Answer, got, back, then, Reading, takesAll}
 use Rattle.reading.specs.Read.{Recipe, finished, itemWords, nameBytes, filled}
 use Rattle.reader.specs.Code.Told.{meaningsFrom}
 use Rattle.reader.specs.Code.Placed.{Holds}

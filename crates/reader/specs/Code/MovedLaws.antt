@@ -1,30 +1,29 @@
 -- Laws of going on, being done and turning back, one for each kind of token.
 use mathlib.Core.Path.{_≡_, refl, sym, ap, subst, _∙_}
-use mathlib.Core.Bool.{Bool, true, false, _&&_, cond}
+use mathlib.Core.Bool.{true, false}
 use mathlib.Core.List.{List, [], _∷_, _++_}
-use Prim.Native.Nat.{ℕ, suc, _+_, _*_, _-_, _≤_, _<_}
+use Prim.Native.Nat.{ℕ, _+_, _≤_}
 use native.Mathlib.Omega.{arith}
 use lib.Dec.{eqb}
 use lib.ListN.{length, length-append}
 use Rattle.words.specs.ListLaws.{either, never, and-left}
 use Rattle.datum.specs.Constant.{Constant}
 use Rattle.datum.specs.Datum.{Datum, constantD, noneD, dataItems, datumItems}
-use Rattle.datum.specs.NameTable.{slots}
 use Rattle.reader.specs.declared.token.Cursor.{Cursor}
 use Rattle.reader.specs.declared.place.Place.{Place}
 use Rattle.reader.specs.declared.place.Step as S
 use Rattle.reader.specs.declared.place.Step.the-variants as SV
 use Rattle.reader.specs.declared.element.Move.{Move}
-use Rattle.reader.specs.declared.element.Move.the-variants.{On, Done, Refused}
-use Rattle.reading.specs.Meaning.{Meaning, constant, refused}
+use Rattle.reader.specs.declared.element.Move.the-variants.{Refused}
+use Rattle.reading.specs.Meaning.{Meaning, constant}
 use Rattle.reading.specs.Numbering.{datumWords, dataWords}
 use Rattle.reading.specs.Elements.{Answer, got, back, then, Reading, onto, noneOpen, isComplete, counted, put, takes, takesAll}
-use Rattle.reading.specs.Read.{Recipe, finished, itemWords, nameBytes, filled}
+use Rattle.reading.specs.Read.{finished, itemWords, nameBytes, filled}
 use Rattle.reader.specs.Code.Told.{meaningsFrom, Took, TurnedBack}
-use Rattle.reader.specs.Code.Placed.{Holds, Stepped, IsToken, withToken, TokenPut, itemsOf, wordsOf, itemsAround, wordsAround, nextItem, placed}
+use Rattle.reader.specs.Code.Placed.{Holds, Stepped, withToken, TokenPut, itemsOf, wordsOf, itemsAround, wordsAround, nextItem, placed}
 use Rattle.reader.specs.Code.PlacedLaws.{onto-items, onto-words, length-words, zeros, refill}
 use Rattle.reader.specs.Code.StepLaws.{complete-is}
-use Rattle.reader.specs.Code.Moved.{movedBy, finishOf, outcomeFrom, Onward, Whole, Moved}
+use Rattle.reader.specs.Code.Moved.{movedBy, finishOf, outcomeFrom, Whole, Moved}
 
 -- ---- a token that is taken
 

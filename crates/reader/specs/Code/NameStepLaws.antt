@@ -1,24 +1,23 @@
 -- What the code holds after a name: found among the names so far, new, or one too many.
-use mathlib.Core.Path.{_≡_, refl, sym, ap, ap₂, subst, _∙_}
-use mathlib.Core.Bool.{Bool, true, false, _&&_, cond}
+use mathlib.Core.Path.{_≡_, refl, sym, ap, ap₂, _∙_}
+use mathlib.Core.Bool.{_&&_}
 use mathlib.Core.List.{List, [], _∷_, _++_}
 use Prim.Native.Nat.{ℕ, suc, _+_, _*_, _-_, _≤_, _<_}
 use native.Mathlib.Omega.{arith}
-use lib.Dec.{eqb, leb, ltb}
+use lib.Dec.{eqb, leb}
 use lib.ListN.{length, length-append, replicate}
-use borrow.Author.Tests.{lt-ltb, le-ltb, lt-leb, leb-true}
-use Rattle.words.specs.Limits.{nameBytesLeast, elementsMost, namesMost, openListsMost}
-use Rattle.words.specs.Lists.{all}
+use borrow.Author.Tests.{lt-ltb, le-ltb, lt-leb}
+use Rattle.words.specs.Limits.{elementsMost, namesMost}
 use Rattle.words.specs.ListLaws.{either}
-use Rattle.datum.specs.Datum.{Datum, nameD, datumItems}
-use Rattle.datum.specs.NameTable.{slots, lengthAt}
-use Rattle.datum.specs.NameTableLaws.{isShort, length-at}
+use Rattle.datum.specs.Datum.{nameD, datumItems}
+use Rattle.datum.specs.NameTable.{slots}
+use Rattle.datum.specs.NameTableLaws.{length-at}
 use Rattle.reader.specs.declared.place.Place.{Place}
 use Rattle.reader.specs.declared.place.Step.{Step}
-use Rattle.reader.specs.declared.place.Step.the-variants.{Went, Refused}
+use Rattle.reader.specs.declared.place.Step.the-variants.{Refused}
 use Rattle.reading.specs.Meaning.{name}
 use Rattle.reading.specs.Numbering.{numberOf, withName, datumWords}
-use Rattle.reading.specs.Elements.{Answer, got, back, Reading, counted, named, begin, takes}
+use Rattle.reading.specs.Elements.{Reading, counted, named, takes}
 use Rattle.reading.specs.Read.{filled}
 use Rattle.reading.specs.AcceptedLaws.{number-most}
 use Rattle.reader.specs.Code.Stored.{namesIn, stored}

@@ -1,12 +1,12 @@
 -- Laws of reading numbers, in the shape of the code: digits one after another, and a value that stops growing past the range.
-use mathlib.Core.Path.{_≡_, refl, sym, ap, subst, _∙_}
-use mathlib.Core.Bool.{Bool, true, false, _&&_, cond}
+use mathlib.Core.Path.{_≡_, refl, ap, _∙_}
+use mathlib.Core.Bool.{Bool, true, false, cond}
 use mathlib.Core.List.{List, [], _∷_}
 use Prim.Native.Nat.{ℕ, zero, suc, _+_, _*_, _-_, _≤_, _<_, _^_, min}
 use native.Mathlib.Omega.{arith}
 use native.Mathlib.Numerals.{add-one}
 use lib.Dec.{leb}
-use lib.IntN.{ℤ, pos, negsuc, negℤ, _-ℤ_}
+use lib.IntN.{pos, negsuc, negℤ, _-ℤ_}
 use lib.ListN.{length, getD, drop}
 use lib.Seq.{drop-cons, drop-length}
 use mir.Syntax.{w32}
@@ -14,7 +14,7 @@ use mir.Val.{SFits, toZ, ofZ}
 use mir.Facts.{toZ-pos, toZ-ofZ}
 use borrow.Author.Tests.{le-leb, lt-leb, leb-true, leb-false, eq-eqb, ne-eqb}
 use Rattle.words.specs.Lists.{within, all, rest}
-use Rattle.words.specs.ListLaws.{either, never, and-left, and-right, within-low, within-high, rest-is}
+use Rattle.words.specs.ListLaws.{either, and-left, and-right, within-low, within-high, rest-is}
 use Rattle.datum.specs.Constant.{integer}
 use Rattle.reading.specs.Token.{isDigit}
 use Rattle.reading.specs.Meaning.{Meaning, constant, refused, isNegative, unsigned, isNumeral, valueFrom, size, signed, integerOf}

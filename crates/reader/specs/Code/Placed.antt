@@ -1,6 +1,6 @@
 -- What the tables hold while a text is read: the items of the elements so far, a pair with an open tail for each open list.
 use mathlib.Core.Path.{_≡_}
-use mathlib.Core.Bool.{Bool, true, false, _&&_, cond}
+use mathlib.Core.Bool.{true, _&&_, cond}
 use mathlib.Core.List.{List, [], _∷_, _++_}
 use Prim.Native.Nat.{ℕ, suc, _+_, _*_, _-_, _≤_, _<_}
 use lib.Dec.{eqb, leb}
@@ -16,7 +16,7 @@ use Rattle.reader.specs.declared.place.Step.the-variants.{Went, Refused}
 use Rattle.reading.specs.Numbering.{datumWords}
 use Rattle.reading.specs.Meaning.{begins, ends, name}
 use Rattle.reading.specs.Elements.{Answer, got, back, Reading, noneOpen, begin, takes}
-use Rattle.reader.specs.Laws.Elements.{Within}
+use Rattle.reading.specs.Laws.Elements.{Within}
 use Rattle.reading.specs.Read.{filled}
 
 -- ---- items

@@ -1,9 +1,9 @@
 -- Laws of the words that are placed: lengths, an element more, a list opened and a list closed.
-use mathlib.Core.Path.{_≡_, refl, sym, ap, ap₂, subst, _∙_}
+use mathlib.Core.Path.{_≡_, refl, sym, ap, _∙_}
 use mathlib.Core.List.{List, [], _∷_, _++_, append-assoc, append-nil}
-use Prim.Native.Nat.{ℕ, suc, _+_, _*_, _-_, _≤_, _<_}
+use Prim.Native.Nat.{ℕ, suc, _+_, _*_, _-_, _≤_}
 use native.Mathlib.Omega.{arith}
-use lib.ListN.{length, getD, take, drop, set, replicate, length-append, length-replicate, length-set}
+use lib.ListN.{length, getD, set, replicate, length-append, length-set}
 use lib.Seq.{set-at, getD-at}
 use Rattle.datum.specs.Datum.{Datum, Data, constantD, nameD, listD, noneD, moreD, datumItems, dataItems}
 use Rattle.reading.specs.Numbering.{datumWords, dataWords}

@@ -1,10 +1,8 @@
 -- Laws of the service: the loop over the tokens, and each way through the call.
-use mathlib.Core.Path.{_≡_, refl, sym, ap, ap₂, subst, _∙_}
-use mathlib.Core.Bool.{Bool, true, false, _||_, cond}
-use mathlib.Core.List.{List, [], _∷_, _++_}
-use Prim.Native.Nat.{ℕ, suc, _+_, _*_, _-_, _≤_, _<_}
+use mathlib.Core.Path.{_≡_, refl, sym, ap₂, subst, _∙_}
+use mathlib.Core.List.{List, []}
+use Prim.Native.Nat.{ℕ, _-_, _≤_, _<_}
 use native.Mathlib.Omega.{arith}
-use lib.Dec.{ltb, leb}
 use lib.ListN.{length, replicate}
 use borrow.Author.Tests.{lt-ltb, le-ltb, lt-leb}
 use Rattle.words.specs.Limits.{itemWordsLeast, nameBytesLeast, textBytesMost}
@@ -39,8 +37,8 @@ use Rattle.reader.specs.Code.Stored.{NameTable}
 use Rattle.reader.specs.Code.Told.{meaningsFrom}
 use Rattle.reader.specs.Code.Placed.{Holds, itemsOf, itemsAround, wordsOf, wordsAround, openPair, nextItem, placed}
 use Rattle.reader.specs.Code.PlacedLaws.{filled-same}
-use Rattle.reader.specs.Code.Moved.{outcomeFrom, Onward, Whole, Moved, Advanced}
-use Rattle.reader.specs.Laws.Grounds.{ground-high}
+use Rattle.reader.specs.Code.Moved.{outcomeFrom, Whole, Moved, Advanced}
+use Rattle.reading.specs.Laws.Grounds.{ground-high}
 use Rattle.reader.specs.Served.{ground, items, names, answerOf, Served}
 use Rattle.reader.specs.Code.Reached.{Reached}
 

@@ -1,5 +1,5 @@
 -- What the code holds after a token, from what it held before: one law for each kind of token, and the grounds 5 and 6.
-use mathlib.Core.Path.{_≡_, refl, sym, ap, ap₂, subst, _∙_}
+use mathlib.Core.Path.{_≡_, refl, sym, ap, subst, _∙_}
 use mathlib.Core.Bool.{Bool, true, false, _&&_, cond}
 use mathlib.Core.List.{List, [], _∷_, _++_, append-assoc}
 use Prim.Native.Nat.{ℕ, suc, _+_, _*_, _-_, _≤_, _<_}
@@ -7,10 +7,10 @@ use native.Mathlib.Omega.{arith}
 use lib.Dec.{eqb, leb, eqb·suc-zero}
 use lib.ListN.{length, getD, set, length-set, length-append}
 use borrow.Author.Tests.{le-leb, lt-leb, leb-true}
-use Rattle.words.specs.Limits.{itemWordsLeast, nameBytesLeast, elementsMost, namesMost, openListsMost}
+use Rattle.words.specs.Limits.{nameBytesLeast, elementsMost, namesMost, openListsMost}
 use Rattle.words.specs.Lists.{all}
-use Rattle.words.specs.ListLaws.{either, never}
-use Rattle.datum.specs.Datum.{Datum, Data, listD, noneD, datumItems, dataItems}
+use Rattle.words.specs.ListLaws.{either}
+use Rattle.datum.specs.Datum.{Datum, listD, noneD, datumItems, dataItems}
 use Rattle.datum.specs.NameTable.{slots}
 use Rattle.datum.specs.NameTableLaws.{isShort}
 use Rattle.reader.specs.declared.place.Place.{Place}
@@ -32,7 +32,7 @@ use Rattle.reading.specs.Elements.{
   begin,
   takes,
 }
-use Rattle.reader.specs.Laws.Elements.{Within, within-is, begin-is}
+use Rattle.reading.specs.Laws.Elements.{Within, within-is, begin-is}
 use Rattle.reading.specs.Read.{filled}
 use Rattle.reader.specs.Code.Placed.{
   put3,

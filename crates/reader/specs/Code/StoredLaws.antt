@@ -1,16 +1,15 @@
 -- Laws of finding and storing names, in the shape of the code's loops.
 use mathlib.Core.Path.{_≡_, refl, sym, ap, ap₂, subst, _∙_}
-use mathlib.Core.Bool.{Bool, true, false, _&&_, cond}
+use mathlib.Core.Bool.{true, false}
 use mathlib.Core.List.{List, [], _∷_, _++_, append-assoc, append-nil}
 use Prim.Native.Nat.{ℕ, zero, suc, _+_, _*_, _-_, _≤_, _<_}
 use native.Mathlib.Omega.{arith}
 use native.Mathlib.Numerals.{add-one}
-use lib.Dec.{eqb, leb}
-use lib.ListN.{length, getD, take, drop, set, replicate, length-drop, length-set, length-append, length-replicate, replicate-append-replicate}
-use lib.Seq.{drop-cons, drop-length, length-take-le, getD-take, getD-drop, paste, paste-suc, length-paste, append-snoc, getD-append-seam, set-at, take-at, take-length, drop-append-add}
+use lib.ListN.{length, getD, take, drop, set, replicate, length-drop, length-set, length-append, replicate-append-replicate}
+use lib.Seq.{drop-cons, drop-length, length-take-le, getD-take, getD-drop, length-paste, append-snoc, getD-append-seam, set-at, take-at, take-length, drop-append-add}
 use borrow.Author.Tests.{eq-eqb, ne-eqb, le-leb}
 use Rattle.words.specs.Lists.{equal, all}
-use Rattle.words.specs.ListLaws.{either, never, equal-true, all-append}
+use Rattle.words.specs.ListLaws.{either, equal-true, all-append}
 use Rattle.datum.specs.NameTable.{slot, slots, lengthAt, nameAt}
 use Rattle.datum.specs.NameTableLaws.{isShort, length-slots, slots-append, name-at}
 use Rattle.reading.specs.Read.{filled}

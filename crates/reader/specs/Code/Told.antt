@@ -9,7 +9,6 @@ use mir.Val.{ofZ}
 use Rattle.words.specs.Limits.{nameLengthMost}
 use Rattle.words.specs.Lists.{all, part}
 use Rattle.datum.specs.Constant.{integer, boolean}
-use Rattle.reader.specs.declared.token.Cursor.{Cursor}
 use Rattle.reader.specs.declared.token.Token as T
 use Rattle.reader.specs.declared.token.Token.the-variants.{End, Open, Close, Boolean, Integer, Name, Refused}
 use Rattle.reading.specs.Token.{nothing, hash, tokensAfter, isRunning, isSeparating, run}

@@ -1,44 +1,22 @@
 -- Laws of taking a token, one for each way through the code.
 use mathlib.Core.Path.{_≡_, refl, sym, ap, subst, _∙_}
-use mathlib.Core.Bool.{Bool, true, false, not, _&&_, cond, and-true, and-false}
+use mathlib.Core.Bool.{true, false, not, and-true, and-false}
 use mathlib.Core.List.{List, [], _∷_, _++_, map}
-use Prim.Native.Nat.{ℕ, suc, _+_, _-_, _≤_, _<_}
+use Prim.Native.Nat.{ℕ, _+_, _≤_, _<_}
 use native.Mathlib.Omega.{arith}
 use native.Mathlib.Numerals.{add-one}
-use lib.Dec.{eqb, leb}
-use lib.ListN.{length, getD, take, drop, length-drop}
+use lib.Dec.{eqb}
+use lib.ListN.{length, getD, drop}
 use lib.Seq.{drop-cons, drop-length}
 use borrow.Author.Tests.{le-leb, lt-leb, ne-eqb, eqb-true, eqb-false}
 use Rattle.words.specs.Lists.{within, all, any, equal, part}
 use Rattle.words.specs.ListLaws.{either, never, and-left, within-high, all-append, part-more, part-split, length-part}
 use Rattle.words.specs.Text.{bytes}
 use Rattle.datum.specs.Constant.{boolean}
-use Rattle.reading.specs.Token.{
-  Class,
-  foreign,
-  Token,
-  bad,
-  flag,
-  run,
-  Pending,
-  nothing,
-  hash,
-  among,
-  isDigit,
-  isRunning,
-  isSeparating,
-  classOf,
-  flagOf,
-  alone,
-  completed,
-  begun,
-  next,
-  ended,
-  tokensAfter,
-}
-use Rattle.reading.specs.Meaning.{Meaning, begins, ends, constant, name, refused, meaningOf, isName, isNumeral, integerOf, nameOf}
+use Rattle.reading.specs.Token.{foreign, Token, run, nothing, hash, isDigit, isRunning, isSeparating, classOf, flagOf, alone, completed, begun, next, ended, tokensAfter}
+use Rattle.reading.specs.Meaning.{Meaning, begins, ends, constant, refused, meaningOf, isName}
 use Rattle.reading.specs.RecipeText.{EndsRun, atEnd, before}
-use Rattle.reader.specs.Laws.Tokens.{separator-skipped, run-taken}
+use Rattle.reading.specs.Laws.Tokens.{separator-skipped, run-taken}
 use Rattle.reader.specs.Code.Told.{meaningsFrom, Skipped, RunTo, Took, TurnedBack, Told, RunTold, FlagTold}
 use Rattle.reader.specs.declared.token.Token as T
 use Rattle.reader.specs.declared.token.Token.the-variants.{End, Open, Close, Boolean, Integer, Name, Refused}

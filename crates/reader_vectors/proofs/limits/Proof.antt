@@ -1,7 +1,7 @@
 use borrow.Author.Needs.{needs}
 use Rattle.reader_vectors.proofs.limits.Statement.{statement}
 use Rattle.reader_vectors.proofs.limits.Tie as tie
-use mathlib.Core.Path.{_≡_, _∙_}
+use mathlib.Core.Path.{_∙_}
 
 slice-aggregate-show-part : tie.Need-slice-aggregate-show-part
 slice-aggregate-show-part c =

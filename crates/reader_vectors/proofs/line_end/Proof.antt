@@ -1,6 +1,5 @@
 use Rattle.reader_vectors.proofs.line_end.Statement.{statement}
 use Rattle.reader_vectors.proofs.line_end.Tie as tie
-use native.Mathlib.Omega.{arith}
 use Prim.Native.Nat.{_≤_, _-_}
 use lib.ListN.{length}
 use borrow.Author.Needs.{needs}

@@ -1,8 +1,7 @@
 use Rattle.reader_vectors.proofs.lines.Statement.{statement}
 use Rattle.reader_vectors.proofs.lines.Tie as tie
-use native.Mathlib.Omega.{arith}
 use mathlib.Core.Path.{_≡_}
-use Prim.Native.Nat.{_≤_, _-_}
+use Prim.Native.Nat.{_-_}
 use lib.ListN.{length}
 use borrow.Author.Needs.{needs}
 

@@ -2,7 +2,7 @@
 use Rattle.reader.proofs.bytes.is_running.Statement.{statement}
 use Rattle.reader.proofs.bytes.is_running.Tie as tie
 use native.Mathlib.Omega.{arith}
-use mathlib.Core.Path.{_≡_, refl, sym}
+use mathlib.Core.Path.{refl}
 use mathlib.Core.Bool.{true, false}
 use mathlib.Core.List.{[], _∷_}
 use mathlib.Core.Logic.{⊎-elim}

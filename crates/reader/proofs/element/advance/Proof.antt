@@ -1,9 +1,8 @@
 use borrow.Author.Needs.{needs}
 use Rattle.reader.proofs.element.advance.Statement.{statement}
 use Rattle.reader.proofs.element.advance.Tie as tie
-use mathlib.Core.Path.{_≡_, refl, sym, ap, subst, _∙_}
+use mathlib.Core.Path.{refl, sym, ap, subst, _∙_}
 use native.Mathlib.Omega.{arith}
-use lib.ListN.{length}
 use mir.Syntax.{w32}
 use mir.Val.{ofZ}
 use mir.Facts.{toZ-ofZ}

@@ -1,7 +1,7 @@
 use borrow.Author.Needs.{needs}
 use Rattle.reader.proofs.element.finish.Statement.{statement}
 use Rattle.reader.proofs.element.finish.Tie as tie
-use mathlib.Core.Path.{_≡_, sym, _∙_}
+use mathlib.Core.Path.{sym, _∙_}
 use borrow.Author.Tests.{not-true, not-false}
 use Rattle.reader.specs.Code.Moved.{finishOf}
 

@@ -1,7 +1,7 @@
 use borrow.Author.Needs.{needs}
 use Rattle.reader.proofs.element.moved.Statement.{statement}
 use Rattle.reader.proofs.element.moved.Tie as tie
-use mathlib.Core.Path.{_≡_, sym, ap}
+use mathlib.Core.Path.{sym, ap}
 use Rattle.reader.specs.Code.Moved.{movedBy}
 
 enum-known-step : tie.Need-enum-known-step

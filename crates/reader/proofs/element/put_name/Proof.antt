@@ -1,13 +1,9 @@
 use borrow.Author.Needs.{needs}
 use Rattle.reader.proofs.element.put_name.Statement.{statement}
 use Rattle.reader.proofs.element.put_name.Tie as tie
-use mathlib.Core.Path.{_≡_, sym, subst, _∙_}
 use native.Mathlib.Omega.{arith}
 use Prim.Native.Nat.{_≤_, _+_, _*_}
 use lib.ListN.{length}
-use Rattle.reading.specs.Meaning.{name}
-use Rattle.reading.specs.Elements.{takes}
-use Rattle.reader.specs.Code.Placed.{Stepped}
 use Rattle.reader.specs.Code.NameStepLaws.{found-most, name-known, name-full, name-new}
 
 find-requires : tie.Need-find-requires

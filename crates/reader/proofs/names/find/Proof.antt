@@ -2,8 +2,8 @@
 use Rattle.reader.proofs.names.find.Statement.{statement}
 use Rattle.reader.proofs.names.find.Tie as tie
 use native.Mathlib.Omega.{arith}
-use mathlib.Core.Path.{_≡_, refl, sym, _∙_}
-use Prim.Native.Nat.{_≤_, _<_, _-_, _+_}
+use mathlib.Core.Path.{_≡_, sym, _∙_}
+use Prim.Native.Nat.{_≤_, _-_, _+_}
 use Rattle.reading.specs.Numbering.{numberOf}
 use Rattle.reader.specs.Code.Stored.{namesIn}
 use Rattle.reader.specs.Code.StoredLaws.{find-start, find-step, find-here, find-end}

@@ -1,9 +1,8 @@
 use borrow.Author.Needs.{needs}
 use Rattle.reader.proofs.names.store_base.Statement.{statement}
 use Rattle.reader.proofs.names.store_base.Tie as tie
-use mathlib.Core.Path.{_≡_, refl, _∙_}
+use mathlib.Core.Path.{refl, _∙_}
 use mathlib.Core.List.{[]}
-use native.Mathlib.Omega.{arith}
 use Rattle.words.specs.Text.{bytes}
 use Rattle.reading.specs.Numbering.{baseNames}
 

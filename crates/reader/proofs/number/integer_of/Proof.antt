@@ -1,7 +1,7 @@
 use borrow.Author.Needs.{needs}
 use Rattle.reader.proofs.number.integer_of.Statement.{statement}
 use Rattle.reader.proofs.number.integer_of.Tie as tie
-use mathlib.Core.Path.{_≡_, sym, _∙_}
+use mathlib.Core.Path.{sym, _∙_}
 use mathlib.Core.Bool.{true, false}
 use borrow.Author.Tests.{not-true, not-false}
 use Rattle.words.specs.Lists.{rest}

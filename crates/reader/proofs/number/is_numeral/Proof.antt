@@ -1,7 +1,7 @@
 use borrow.Author.Needs.{needs}
 use Rattle.reader.proofs.number.is_numeral.Statement.{statement}
 use Rattle.reader.proofs.number.is_numeral.Tie as tie
-use mathlib.Core.Path.{_≡_, _∙_}
+use mathlib.Core.Path.{_∙_}
 use Rattle.reader.specs.Code.NumberLaws.{numeral-none, numeral-plain, numeral-one, numeral-minus}
 
 returns : tie.Need-returns

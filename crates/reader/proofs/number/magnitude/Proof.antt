@@ -2,11 +2,9 @@
 use Rattle.reader.proofs.number.magnitude.Statement.{statement}
 use Rattle.reader.proofs.number.magnitude.Tie as tie
 use native.Mathlib.Omega.{arith}
-use mathlib.Core.Path.{_≡_, refl, sym, ap, _∙_}
-use Prim.Native.Nat.{_≤_, _-_, _<_, _+_, _*_, min}
+use mathlib.Core.Path.{_≡_, refl, sym, _∙_}
+use Prim.Native.Nat.{_≤_, _-_, _+_, _*_}
 use lib.ListN.{length, drop, getD}
-use Rattle.words.specs.Lists.{all}
-use Rattle.reading.specs.Token.{isDigit}
 use Rattle.reading.specs.Meaning.{valueFrom}
 use Rattle.reader.specs.Code.NumberLaws.{all-at, digit-range, value-step, value-end, value-least}
 use borrow.Author.Needs.{needs}

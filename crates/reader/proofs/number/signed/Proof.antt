@@ -1,8 +1,6 @@
 use borrow.Author.Needs.{needs}
 use Rattle.reader.proofs.number.signed.Statement.{statement}
 use Rattle.reader.proofs.number.signed.Tie as tie
-use native.Mathlib.Omega.{arith}
-use mathlib.Core.Path.{_≡_, refl, sym, ap, _∙_}
 use borrow.Author.Tests.{not-true, not-false}
 use Rattle.reader.specs.Code.NumberLaws.{positive-past, positive-is, negative-past, zero-is, negative-fits, negative-is}
 

@@ -1,7 +1,6 @@
 use borrow.Author.Needs.{needs}
 use Rattle.reader.proofs.place.close_list.Statement.{statement}
 use Rattle.reader.proofs.place.close_list.Tie as tie
-use mathlib.Core.Path.{_≡_, sym, _∙_}
 use native.Mathlib.Omega.{arith}
 use Prim.Native.Nat.{_<_, _+_, _*_}
 use Rattle.reader.specs.Code.StepLaws.{close-refused, close-went}

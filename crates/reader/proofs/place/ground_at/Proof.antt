@@ -2,7 +2,7 @@ use borrow.Author.Needs.{needs}
 use Rattle.reader.proofs.place.ground_at.Statement.{statement}
 use Rattle.reader.proofs.place.ground_at.Tie as tie
 use native.Mathlib.Omega.{arith}
-use mathlib.Core.Path.{_≡_, sym, _∙_}
+use mathlib.Core.Path.{sym, _∙_}
 use Rattle.reader.specs.Code.StepLaws.{ground-complete, ground-elements, ground-names, ground-lists, ground-none}
 
 is-complete-requires : tie.Need-is-complete-requires

@@ -1,6 +1,5 @@
 use Rattle.reader.proofs.place.is_complete.Statement.{statement}
 use Rattle.reader.proofs.place.is_complete.Tie as tie
-use mathlib.Core.Path.{_≡_}
 use borrow.Author.Tests.{ne-eqb, eq-eqb}
 
 returns : tie.Need-returns

@@ -1,8 +1,6 @@
 use borrow.Author.Needs.{needs}
 use Rattle.reader.proofs.place.lacking.Statement.{statement}
 use Rattle.reader.proofs.place.lacking.Tie as tie
-use mathlib.Core.Path.{_≡_}
-use native.Mathlib.Omega.{arith}
 use borrow.Author.Tests.{ne-eqb, eq-eqb}
 
 returns : tie.Need-returns

@@ -1,9 +1,9 @@
 use borrow.Author.Needs.{needs}
 use Rattle.reader.proofs.place.open_list.Statement.{statement}
 use Rattle.reader.proofs.place.open_list.Tie as tie
-use mathlib.Core.Path.{_≡_, sym, _∙_}
+use mathlib.Core.Path.{sym, _∙_}
 use native.Mathlib.Omega.{arith}
-use Prim.Native.Nat.{_<_, _≤_, _+_}
+use Prim.Native.Nat.{_+_}
 use Rattle.reader.specs.Code.StepLaws.{ground-room, open-refused, open-went}
 
 add-ground-at : tie.Need-add-ground-at

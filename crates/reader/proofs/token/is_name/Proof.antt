@@ -1,7 +1,6 @@
 use borrow.Author.Needs.{needs}
 use Rattle.reader.proofs.token.is_name.Statement.{statement}
 use Rattle.reader.proofs.token.is_name.Tie as tie
-use native.Mathlib.Omega.{arith}
 use Rattle.reader.specs.Code.ToldLaws.{name-none, name-long, name-one, name-many}
 
 returns : tie.Need-returns

@@ -1,8 +1,7 @@
 use borrow.Author.Needs.{needs}
 use Rattle.reader.proofs.token.run_token.Statement.{statement}
 use Rattle.reader.proofs.token.run_token.Tie as tie
-use mathlib.Core.Path.{_≡_, refl, sym, ap, _∙_}
-use mathlib.Core.Bool.{true, false}
+use mathlib.Core.Path.{refl, sym, ap, _∙_}
 use native.Mathlib.Omega.{arith}
 use borrow.Author.Tests.{not-true, not-false}
 use Rattle.words.specs.Lists.{part}
@@ -13,7 +12,7 @@ use mir.Facts.{toZ-ofZ}
 use Rattle.datum.specs.Constant.{integer}
 use Rattle.reading.specs.Meaning.{constant}
 use Rattle.reader.specs.Code.Answers.{integerMeaning}
-use Rattle.reader.specs.Laws.Meanings.{numeral-means, other-means, name-is, name-malformed}
+use Rattle.reading.specs.Laws.Meanings.{numeral-means, other-means, name-is, name-malformed}
 use Rattle.reader.specs.Code.ToldLaws.{name-short}
 
 sub-word : tie.Need-sub-word

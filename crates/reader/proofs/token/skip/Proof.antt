@@ -3,7 +3,7 @@ use Rattle.reader.proofs.token.skip.Statement.{statement}
 use Rattle.reader.proofs.token.skip.Tie as tie
 use native.Mathlib.Omega.{arith}
 use mathlib.Core.Path.{_≡_, refl, sym, _∙_}
-use Prim.Native.Nat.{_≤_, _<_, _-_}
+use Prim.Native.Nat.{_≤_, _-_}
 use borrow.Author.Tests.{not-true, not-false}
 use lib.ListN.{length}
 use Rattle.reader.specs.Code.Told.{meaningsFrom}

@@ -2,8 +2,7 @@ use borrow.Author.Needs.{needs}
 use Rattle.reader.proofs.token.token_at.Statement.{statement}
 use Rattle.reader.proofs.token.token_at.Tie as tie
 use native.Mathlib.Omega.{arith}
-use mathlib.Core.Path.{_≡_, refl, sym, ap, _∙_}
-use mathlib.Core.Bool.{true, false}
+use mathlib.Core.Path.{sym, _∙_}
 use Prim.Native.Nat.{_<_, _+_}
 use borrow.Author.Tests.{not-true, not-false}
 use lib.ListN.{length}

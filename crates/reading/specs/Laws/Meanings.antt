@@ -1,6 +1,6 @@
 -- Meanings: a token means what meaningOf gives, where that is no refusal, and nothing else.
-use mathlib.Core.Path.{_≡_, refl, sym, ap, subst, _∙_}
-use mathlib.Core.Bool.{Bool, true, false, not, _&&_, cond}
+use mathlib.Core.Path.{_≡_, refl, sym, subst, _∙_}
+use mathlib.Core.Bool.{Bool, true, false, not}
 use mathlib.Core.List.{List, [], _∷_}
 use Prim.Native.Nat.{ℕ, _≤_}
 use native.Mathlib.Omega.{arith}
@@ -13,9 +13,9 @@ use borrow.Author.Tests.{eqb-true, ne-eqb, leb-true, le-leb, not-true}
 use Rattle.words.specs.Limits.{nameLengthMost}
 use Rattle.words.specs.Lists.{within, all, equal}
 use Rattle.words.specs.ListLaws.{either, never, and-left, and-right, within-low, within-high, equal-true, equal-refl}
-use Rattle.datum.specs.Constant.{integer, boolean}
+use Rattle.datum.specs.Constant.{integer}
 use Rattle.reading.specs.Token.{Token, open′, close′, bad, flag, run, isDigit}
 use Rattle.reading.specs.Meaning.{
   Meaning,
   begins,
   ends,

@@ -1,8 +1,8 @@
 -- Elements: reading what an element is spelled by takes that element, within the limits and not otherwise.
 use mathlib.Core.Path.{_≡_, refl, sym, ap, subst, _∙_}
-use mathlib.Core.Bool.{Bool, true, false, _&&_, cond}
+use mathlib.Core.Bool.{true, false, _&&_, cond}
 use mathlib.Core.List.{List, [], _∷_, _++_, append-assoc}
-use Prim.Native.Nat.{ℕ, suc, _+_, _-_, _≤_, max}
+use Prim.Native.Nat.{ℕ, suc, _+_, _-_, _≤_}
 use native.Mathlib.Omega.{arith}
 use lib.Dec.{eqb, ltb, leb}
 use lib.ListN.{length, length-append}
@@ -11,7 +11,7 @@ use borrow.Author.Tests.{leb-true, le-leb}
 use Rattle.words.specs.Limits.{elementsMost, namesMost, openListsMost}
 use Rattle.words.specs.ListLaws.{either, never, and-left, and-right}
 use Rattle.datum.specs.Constant.{Constant}
-use Rattle.datum.specs.Datum.{Datum, Data, constantD, nameD, listD, noneD, moreD}
+use Rattle.datum.specs.Datum.{Datum, constantD, noneD}
 use Rattle.reading.specs.Meaning.{Meaning, begins, ends, constant, name, refused}
 use Rattle.reading.specs.Numbering.{numberOf, withName}
 use Rattle.reading.specs.Elements.{

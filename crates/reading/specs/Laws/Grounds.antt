@@ -1,6 +1,6 @@
 -- Once a text is being read its ground is one of 3 to 6, so the tables are zeroed.
-use mathlib.Core.Path.{_≡_, refl, sym, subst}
-use mathlib.Core.Bool.{Bool, true, false, cond}
+use mathlib.Core.Path.{_≡_, subst}
+use mathlib.Core.Bool.{Bool, true, false}
 use mathlib.Core.List.{List, [], _∷_, map}
 use Prim.Native.Nat.{ℕ, _≤_}
 use native.Mathlib.Omega.{arith}
@@ -43,7 +43,7 @@ use Rattle.reading.specs.Elements.{
   takes,
   takesAll,
 }
-use Rattle.reading.specs.Read.{Recipe, finished, recipeOver, recipeOf}
+use Rattle.reading.specs.Read.{finished, recipeOver, recipeOf}
 
 -- a ground of a meaning, and of an answer, is at least 3
 abbrev High : Meaning → Type 0

@@ -2,4 +2,5 @@
 pub mod Tokens
 pub mod Meanings
 pub mod Elements
+pub mod Spelling
 pub mod Grounds
