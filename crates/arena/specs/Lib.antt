@@ -12,3 +12,5 @@ pub mod CellLaws
 pub mod Names
 pub mod NameLaws
 pub mod Nodes
+pub mod LayOut
+pub mod Lists

@@ -107,7 +107,7 @@ module _ (ws : List ℕ) (l : 2 ≤ length ws) where
   unfolding codes sound isNode
   application-at e = rw (at-code ws 8 e some-word, word-found applicationN ws l)
 
-  boolean-at : getD ws 0 0 ≡ 3 → nodeAt ws ≡ sound (got (constantN (boolean (getD ws 1 0))) (drop 2 ws))
+  pub boolean-at : getD ws 0 0 ≡ 3 → nodeAt ws ≡ sound (got (constantN (boolean (getD ws 1 0))) (drop 2 ws))
   unfolding codes
   boolean-at e = rw (at-code ws 3 e some-word, word-found (λ w. constantN (boolean w)) ws l)
 
@@ -115,7 +115,7 @@ pub if-at : (ws : List ℕ) → 1 ≤ length ws → getD ws 0 0 ≡ 6 → nodeAt
 unfolding codes sound isNode alone
 if-at ws l e = rw (at-code ws 6 e l)
 
-lambda-at : (ws : List ℕ) → 3 ≤ length ws → getD ws 0 0 ≡ 7 → nodeAt ws ≡ sound (got (lambdaN (getD ws 1 0) (getD ws 2 0)) (drop 3 ws))
+pub lambda-at : (ws : List ℕ) → 3 ≤ length ws → getD ws 0 0 ≡ 7 → nodeAt ws ≡ sound (got (lambdaN (getD ws 1 0) (getD ws 2 0)) (drop 3 ws))
 unfolding codes
 lambda-at ws l e = let h : 1 ≤ length ws = omega arith in rw (at-code ws 7 e h, two-found lambdaN ws l)
 

@@ -21,6 +21,7 @@ pub mod ShapeLaws
 pub mod Walk
 pub mod Windows
 pub mod CheckLaws
+pub mod ForgetLaws
 pub mod Decimal
 pub mod DecimalLaws
 pub mod Text

@@ -10,15 +10,7 @@ use Rattle.core_term.specs.Words.{encode}
 use Rattle.expansion.specs.Rules.{Rule}
 use Rattle.expansion.specs.Computation.{State, Out, done, refused, starved}
 use Rattle.rule_cells.specs.Cells.{rulesAt}
-
--- the numbers that an expansion carries: how far the arena and the core words reach, the two counts, variables and macros so far
-pub record Reached : Type 0 where
-  pub top : ℕ
-  pub at : ℕ
-  pub steps : ℕ
-  pub sum : ℕ
-  pub variables : ℕ
-  pub macros : ℕ
+use Rattle.expander.specs.declared.Reached.{Reached}
 
 -- ---- macros
 

@@ -1,13 +1,13 @@
 -- Laws of ground 7 as a whole, one for each way through `is_layout`.
-use mathlib.Core.Path.{_≡_, refl, sym, ap, _∙_}
-use mathlib.Core.Bool.{Bool, true, false, _&&_, and-false}
+use mathlib.Core.Path.{_≡_}
+use mathlib.Core.Bool.{true, false, _&&_, and-false}
 use mathlib.Core.List.{List}
 use Prim.Native.Nat.{ℕ, _*_, _<_, _≤_}
 use lib.Dec.{eqb}
 use lib.ListN.{length}
 use borrow.Author.Tests.{eq-eqb, ne-eqb}
 use Rattle.words.specs.Limits.{itemsLeast, itemsMost}
-use Rattle.words.specs.Lists.{within, all}
+use Rattle.words.specs.Lists.{all}
 use Rattle.recipe.specs.Tree.{isList, isListOf, element}
 use Rattle.recipe.specs.Table.{items, references, isItem, isReferredOnce, treeOf, itemCount, isLayout}
 use Rattle.layout.specs.ItemTests.{outside-below, outside-above, inside}

@@ -1,10 +1,10 @@
 -- The walk through the list of operations (ground 10): what holds on the way, and one law for each way through `operations`.
-use mathlib.Core.Path.{_≡_, refl, sym, ap, ap₂, subst, _∙_}
+use mathlib.Core.Path.{_≡_, refl, sym, ap, _∙_}
 use mathlib.Core.Bool.{Bool, true, false, _&&_, cond, and-false}
-use mathlib.Core.List.{List, [], _∷_, _++_, map, append-nil, append-assoc}
-use Prim.Native.Nat.{ℕ, zero, suc, _+_, _<_, _≤_}
+use mathlib.Core.List.{List, [], _∷_, _++_, map, append-nil}
+use Prim.Native.Nat.{ℕ, suc, _+_, _<_, _≤_}
 use native.Mathlib.Omega.{arith}
-use lib.Dec.{eqb, ltb, leb}
+use lib.Dec.{ltb, leb}
 use lib.ListN.{length, getD, set, length-append}
 use lib.Seq.{append-snoc}
 use borrow.Author.Tests.{ltb-true, lt-ltb, le-leb, lt-leb}
@@ -13,7 +13,6 @@ use Rattle.words.specs.Lists.{all}
 use Rattle.words.specs.TestLaws.{and-none-right, all-append}
 use Rattle.recipe.specs.Name.{Name, plainName, distinct}
 use Rattle.recipe.specs.Tree.{Tree, empty, constant, name, pair, onName, isName, names, elements, element}
-use Rattle.expansion.specs.Lookup.{placeFrom}
 use Rattle.expansion.specs.Run.{operationNumbers, areOperations}
 use Rattle.layout.specs.Places.{Places, plainNames, numbers, numbers-append, numbers-length, plain-append, plain-length, distinct-more, distinct-twice, unplaced, placed-before, places-more}
 

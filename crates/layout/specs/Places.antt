@@ -1,21 +1,19 @@
 -- The table of operations: the place of each name, and what one operation more does to it and to a list of distinct names.
-use mathlib.Core.Path.{_≡_, refl, sym, ap, ap₂, subst, _∙_}
-use mathlib.Core.Bool.{Bool, true, false, not, _&&_, _||_, cond, and-true, and-false, or-true, or-false, or-assoc}
-use mathlib.Core.List.{List, [], _∷_, _++_, map, append-nil, append-assoc}
-use Prim.Native.Nat.{ℕ, zero, suc, _+_, _<_, _≤_}
+use mathlib.Core.Path.{_≡_, refl, sym, ap, _∙_}
+use mathlib.Core.Bool.{Bool, true, false, not, _||_, cond, and-true, and-false, or-true, or-false, or-assoc}
+use mathlib.Core.List.{List, [], _∷_, _++_, map}
+use Prim.Native.Nat.{ℕ, zero, suc, _+_, _<_}
 use native.Mathlib.Omega.{arith}
 use native.Mathlib.Numerals.{add-one}
-use lib.Dec.{eqb, ltb, leb}
+use lib.Dec.{eqb}
 use lib.ListN.{length, getD, set, replicate, getD-replicate, length-map}
 use lib.Seq.{getD-set-same, getD-set-other}
-use borrow.Author.Tests.{eqb-true, eqb-false, eq-eqb, ne-eqb, ltb-true, lt-ltb, le-leb, lt-leb}
-use Rattle.words.specs.Limits.{namesMost, operationsMost}
-use Rattle.words.specs.Lists.{all, any, equal}
-use Rattle.words.specs.TestLaws.{and-left, and-right, and-none-right, all-append}
+use borrow.Author.Tests.{eqb-true, eqb-false}
+use Rattle.words.specs.Limits.{namesMost}
+use Rattle.words.specs.Lists.{any, equal}
+use Rattle.words.specs.TestLaws.{and-left, and-right}
 use Rattle.recipe.specs.Name.{Name, plainName, bindingKey, same, distinct}
-use Rattle.recipe.specs.Tree.{Tree, empty, constant, name, pair, onName, isName, names, elements, element}
 use Rattle.expansion.specs.Lookup.{Found, bound, form, operation, nothing, placeFrom}
-use Rattle.expansion.specs.Run.{operationNumbers, areOperations}
 
 -- ---- the table of places: 0 where a name is no operation, else its place + 1
 

@@ -1,7 +1,7 @@
 // One item of a table: its three words, and whether they are those of its kind.
 ghost use mathlib.Core.Path.{_≡_};
-ghost use mathlib.Core.Bool.{true, _&&_};
-ghost use Prim.Native.Nat.{_+_, _*_, _≤_, _<_};
+ghost use mathlib.Core.Bool.{true};
+ghost use Prim.Native.Nat.{_+_, _*_, _<_};
 ghost use lib.ListN.{length};
 ghost use Rattle.words.specs.Lists.{all};
 ghost use Rattle.recipe.specs.Table.{items, kindAt, isPairItem, isItem};

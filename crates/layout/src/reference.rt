@@ -5,7 +5,7 @@ use crate::item::tail;
 ghost use mathlib.Core.Path.{_≡_};
 ghost use mathlib.Core.List.{[], _∷_};
 ghost use Prim.Native.Nat.{_+_, _*_, _≤_, _<_};
-ghost use lib.ListN.{length, getD, set};
+ghost use lib.ListN.{length};
 ghost use Rattle.words.specs.Limits.{itemsMost};
 ghost use Rattle.words.specs.Lists.{all};
 ghost use Rattle.recipe.specs.Table.{items, references, isReferredOnce};

@@ -1,5 +1,41 @@
-// Large item tables, numbered as reading does: n elements beside the two of the recipe make 5 + 2 n items.
+// Item tables: small ones as they are spelt, and large ones numbered as reading does, 5 + 2 n items for n elements beside
+// the two of the recipe.
 ghost use Prim.Native.Nat.{_≤_};
+
+// The word that a byte spells: a digit its value, x 1,023, y 1,024.
+fn word(byte: u8) -> u32 {
+    match byte {
+        b'0' => 0,
+        b'1' => 1,
+        b'2' => 2,
+        b'3' => 3,
+        b'4' => 4,
+        b'5' => 5,
+        b'6' => 6,
+        b'7' => 7,
+        b'8' => 8,
+        b'x' => 1023,
+        _ => 1024,
+    }
+}
+
+// The words of a small table, spelt with spaces between items; how many.
+pub fn words(table: &mut [u32], spelt: &[u8]) -> usize {
+    let mut i = 0;
+    let mut n = 0;
+    while i < spelt.len() {
+        let byte = spelt[i];
+        i += 1;
+        if byte != b' ' {
+            if n >= table.len() {
+                return n;
+            }
+            table[n] = word(byte);
+            n += 1;
+        }
+    }
+    n
+}
 
 // An item at place i; past the table nothing is written.
 fn put(table: &mut [u32], i: u32, kind: u32, first: u32, second: u32) {

@@ -39,116 +39,52 @@ fn tell_ground(label: &[u8], g: u32) {
     }
 }
 
-// With no fuel and ample tables.
-fn tell(label: &[u8], table: &[u32]) {
-    tell_ground(label, ground(table, 0, 98304, 8192));
+// The ground of a table's first `end` words.
+fn tell_part(label: &[u8], table: &[u32], end: usize, fuel: u32, work: usize, core: usize) {
+    if end <= table.len() {
+        tell_ground(label, ground(&table[..end], fuel, work, core));
+    }
+}
+
+// A small table, spelt by one byte a word (build::words), with this fuel and these lent tables.
+fn bounded(label: &[u8], spelt: &[u8], fuel: u32, work: usize, core: usize) {
+    let mut table = [0u32; 32];
+    let end = build::words(&mut table, spelt);
+    tell_part(label, &table, end, fuel, work, core);
+}
+
+// The same with no fuel and ample tables.
+fn items(label: &[u8], spelt: &[u8]) {
+    bounded(label, spelt, 0, 98304, 8192);
 }
 
 // The vectors of ground 7.
 fn layouts() {
-    tell(b"X1", &[4, 2, 1, 4, 4, 3, 0, 0, 0, 0, 0, 0, 1, 5, 0]);
-    tell(b"X2", &[4, 1, 2, 0, 0, 0, 4, 3, 4, 1, 5, 0, 0, 0, 0]);
-    tell(
-        b"X3",
-        &[4, 1, 2, 0, 0, 0, 4, 3, 4, 1, 5, 0, 0, 0, 0, 0, 0, 0],
-    );
-    tell(b"X4", &[4, 1, 2, 0, 0, 0, 4, 3, 4, 1, 5, 1, 0, 0, 0]);
-    tell(b"X5", &[4, 1, 2, 0, 0, 0, 4, 3, 4, 2, 2, 0, 0, 0, 0]);
-    tell(b"X6", &[4, 1, 2, 0, 0, 0, 4, 3, 4, 3, 1024, 0, 0, 0, 0]);
-    tell(b"X7", &[4, 1, 2, 0, 0, 0, 4, 4, 4, 1, 5, 0, 0, 0, 0]);
-    tell(b"X8", &[4, 1, 2, 1, 7, 0, 4, 3, 4, 1, 5, 0, 0, 0, 0]);
-    tell(
-        b"X9",
-        &[
-            4,
-            1,
-            2,
-            0,
-            0,
-            0,
-            4,
-            3,
-            4,
-            1,
-            5,
-            0,
-            4,
-            5,
-            6,
-            1,
-            6,
-            0,
-            0,
-            0,
-            0,
-        ],
-    );
-    tell(b"X10", &[4, 1, 2, 0, 0, 0, 4, 3, 3, 0, 0, 0]);
+    items(b"X1", b"421 443 000 000 150");
+    items(b"X2", b"412 000 434 150 000");
+    items(b"X3", b"412 000 434 150 000 000");
+    items(b"X4", b"412 000 434 151 000");
+    items(b"X5", b"412 000 434 220 000");
+    items(b"X6", b"412 000 434 3y0 000");
+    items(b"X7", b"412 000 444 150 000");
+    items(b"X8", b"412 170 434 150 000");
+    items(b"X9", b"412 000 434 150 456 160 000");
+    items(b"X10", b"412 000 433 000");
 }
 
-// More of ground 7: kinds, references, lengths, a tail that is a name, and the largest tables.
+// More of ground 7: kinds, references, lengths, a tail that is a name.
 fn more_layouts() {
-    tell(b"nothing", &[]);
-    tell(b"two items and two words", &[4, 1, 2, 0, 0, 0, 4, 3]);
-    tell(b"boolean 1", &[4, 1, 2, 0, 0, 0, 4, 3, 4, 2, 1, 0, 0, 0, 0]);
-    tell(
-        b"name 1,023",
-        &[4, 1, 2, 0, 0, 0, 4, 3, 4, 3, 1023, 0, 0, 0, 0],
-    );
-    tell(b"kind 5", &[4, 1, 2, 0, 0, 0, 4, 3, 4, 5, 0, 0, 0, 0, 0]);
-    tell(
-        b"empty list with a word",
-        &[4, 1, 2, 0, 1, 0, 4, 3, 4, 1, 5, 0, 0, 0, 0],
-    );
-    tell(
-        b"reference to itself",
-        &[4, 1, 2, 0, 0, 0, 4, 2, 4, 1, 5, 0, 0, 0, 0],
-    );
-    tell(
-        b"reference past the items",
-        &[4, 1, 2, 0, 0, 0, 4, 5, 4, 1, 5, 0, 0, 0, 0],
-    );
-    tell(
-        b"tail a name",
-        &[4, 1, 2, 0, 0, 0, 4, 3, 4, 1, 5, 0, 3, 8, 0],
-    );
-    tell(
-        b"inner tail a name",
-        &[
-            4,
-            1,
-            2,
-            0,
-            0,
-            0,
-            4,
-            3,
-            6,
-            4,
-            4,
-            5,
-            1,
-            5,
-            0,
-            3,
-            8,
-            0,
-            0,
-            0,
-            0,
-        ],
-    );
-    tell(
-        b"one element",
-        &[4, 1, 4, 4, 2, 3, 1, 5, 0, 0, 0, 0, 0, 0, 0],
-    );
-}
-
-// The same of the first `end` words of a table.
-fn tell_part(label: &[u8], table: &[u32], end: usize) {
-    if end <= table.len() {
-        tell(label, &table[..end]);
-    }
+    items(b"nothing", b"");
+    items(b"two items and two words", b"412 000 43");
+    items(b"boolean 1", b"412 000 434 210 000");
+    items(b"name 1,023", b"412 000 434 3x0 000");
+    items(b"kind 5", b"412 000 434 500 000");
+    items(b"empty list with a word", b"412 010 434 150 000");
+    items(b"reference to itself", b"412 000 424 150 000");
+    items(b"reference past the items", b"412 000 454 150 000");
+    items(b"tail a name", b"412 000 434 150 380");
+    items(b"inner tail a name", b"412 000 436 445 150 380 000");
+    items(b"one element", b"414 423 150 000 000");
 }
 
 // The first `end` words of a table with a list of n integers, or of a list in a list, n deep.
@@ -157,7 +93,7 @@ fn flat(label: &[u8], n: u32, end: usize)
 {
     let mut table = [0u32; 12291];
     build::flat(&mut table, n);
-    tell_part(label, &table, end);
+    tell_part(label, &table, end, 0, 98304, 8192);
 }
 
 fn deep(label: &[u8], n: u32, end: usize)
@@ -165,7 +101,7 @@ fn deep(label: &[u8], n: u32, end: usize)
 {
     let mut table = [0u32; 12291];
     build::deep(&mut table, n);
-    tell_part(label, &table, end);
+    tell_part(label, &table, end, 0, 98304, 8192);
 }
 
 // The largest tables.
@@ -177,43 +113,29 @@ fn largest() {
     deep(b"2,046 lists deep", 2046, 12285);
 }
 
-// Grounds 8 and 9 of `() 5`, and both 9 and 10 bad.
+// Grounds 8 and 9 of `() 5`, whose five items are given, and both 9 and 10 bad.
 fn bounds() {
-    let five = [4, 1, 2, 0, 0, 0, 4, 3, 4, 1, 5, 0, 0, 0, 0];
-    tell_ground(b"F4", ground(&five, 0, 120, 10));
-    tell_ground(b"119 work words", ground(&five, 0, 119, 10));
-    tell_ground(b"9 core words", ground(&five, 0, 120, 9));
-    tell_ground(b"fuel 8,192", ground(&five, 8192, 196728, 16394));
-    tell_ground(
+    let five = b"412 000 434 150 000";
+    bounded(b"F4", five, 0, 120, 10);
+    bounded(b"119 work words", five, 0, 119, 10);
+    bounded(b"9 core words", five, 0, 120, 9);
+    bounded(b"fuel 8,192", five, 8192, 196728, 16394);
+    bounded(
         b"fuel 8,192 and a work word less",
-        ground(&five, 8192, 196727, 16394),
+        five,
+        8192,
+        196727,
+        16394,
     );
-    tell_ground(b"fuel 8,193", ground(&five, 8193, 0, 0));
-    let seven = [
-        4,
-        1,
-        4,
-        4,
-        2,
-        3,
-        3,
-        7,
+    bounded(b"fuel 8,193", five, 8193, 0, 0);
+    bounded(
+        b"operation 7, no table",
+        b"414 423 370 000 456 150 000",
         0,
         0,
         0,
-        0,
-        4,
-        5,
-        6,
-        1,
-        5,
-        0,
-        0,
-        0,
-        0,
-    ];
-    tell_ground(b"operation 7, no table", ground(&seven, 0, 0, 0));
-    tell(b"operation 7", &seven);
+    );
+    items(b"operation 7", b"414 423 370 000 456 150 000");
 }
 
 // Ground 10: n operations from 8 on, and one more numbered `last`.
@@ -223,7 +145,7 @@ fn operations(label: &[u8], n: u32, last: u32)
     let mut table = [0u32; 12288];
     build::names(&mut table, n, last);
     let end = 21 + 6 * n as usize;
-    tell_part(label, &table, end);
+    tell_part(label, &table, end, 0, 98304, 8192);
 }
 
 fn all_operations() {
@@ -233,58 +155,8 @@ fn all_operations() {
     operations(b"a form name", 1, 2);
     operations(b"256 operations", 255, 1023);
     operations(b"257 operations", 256, 1023);
-    tell(
-        b"an integer among them",
-        &[
-            4,
-            1,
-            4,
-            4,
-            2,
-            3,
-            1,
-            7,
-            0,
-            0,
-            0,
-            0,
-            4,
-            5,
-            6,
-            1,
-            5,
-            0,
-            0,
-            0,
-            0,
-        ],
-    );
-    tell(
-        b"a list among them",
-        &[
-            4,
-            1,
-            4,
-            4,
-            2,
-            3,
-            0,
-            0,
-            0,
-            0,
-            0,
-            0,
-            4,
-            5,
-            6,
-            1,
-            5,
-            0,
-            0,
-            0,
-            0,
-        ],
-    );
+    items(b"an integer among them", b"414 423 170 000 456 150 000");
+    items(b"a list among them", b"414 423 000 000 456 150 000");
 }
 
 fn main() {

@@ -8,3 +8,9 @@ pub mod StoredLaws
 pub mod Placed
 pub mod PlacedLaws
 pub mod StepLaws
+pub mod NameStepLaws
+pub mod Moved
+pub mod MovedLaws
+pub mod GroundLaws
+pub mod Served
+pub mod ServedLaws

@@ -2,19 +2,20 @@
 use mathlib.Core.Path.{_≡_}
 use mathlib.Core.Bool.{Bool, true, false, _&&_, cond}
 use mathlib.Core.List.{List, [], _∷_, _++_}
-use Prim.Native.Nat.{ℕ, suc, _+_, _*_, _≤_, _<_}
+use Prim.Native.Nat.{ℕ, suc, _+_, _*_, _-_, _≤_, _<_}
 use lib.Dec.{eqb, leb}
 use lib.ListN.{length, set}
-use Rattle.words.specs.Limits.{itemWordsLeast, nameBytesLeast, elementsMost, namesMost, openListsMost}
+use Rattle.words.specs.Limits.{itemWordsLeast, nameBytesLeast, elementsMost, namesMost, openListsMost, nameLengthMost}
 use Rattle.words.specs.Lists.{all}
 use Rattle.datum.specs.Datum.{Datum, datumItems}
-use Rattle.datum.specs.NameTable.{slots}
+use Rattle.datum.specs.NameTable.{slots, lengthAt}
 use Rattle.datum.specs.NameTableLaws.{isShort}
 use Rattle.reader.specs.declared.place.Place.{Place}
 use Rattle.reader.specs.declared.place.Step.{Step}
 use Rattle.reader.specs.declared.place.Step.the-variants.{Went, Refused}
 use Rattle.reading.specs.Numbering.{datumWords}
-use Rattle.reading.specs.Elements.{Answer, got, back, Reading}
+use Rattle.reading.specs.Meaning.{begins, ends, name}
+use Rattle.reading.specs.Elements.{Answer, got, back, Reading, noneOpen, begin, takes}
 use Rattle.reading.specs.ElementLaws.{Within}
 use Rattle.reading.specs.Read.{filled}
 
@@ -88,11 +89,48 @@ pub record Sound (p : Place) (words : ℕ) : Type 0 where
   pub elements : p .count ≤ elementsMost
   pub names : p .known ≤ namesMost
   pub lists : p .depth ≤ openListsMost
+  pub low : p .pair ≤ p .next
   pub pair : 0 < p .depth → p .pair < p .next
   pub room : itemWordsLeast ≤ words
+
+pub record NamesSound (p : Place) (bytes : List ℕ) : Type 0 where
+  pub room : nameBytesLeast ≤ length bytes
+  pub short : (n : ℕ) → n < p .known → lengthAt bytes n ≤ nameLengthMost
 
 -- grounds 5 and 6 at a token that begins an element, with the names and open lists that it makes; 0 where it is taken
 unfoldable pub groundAt : Place → ℕ → ℕ → ℕ
 groundAt p known depth =
     cond (eqb (p .depth) 0 && eqb (p .missing) 0) 5
     (cond (leb (suc (p .count)) elementsMost && (leb known namesMost && leb depth openListsMost)) 0 6)
+
+-- ---- what the code promises of a token, for every reading that it may hold
+
+-- an element that is one item, with its kind and value
+pub record IsToken (d : Datum) (kind value : ℕ) : Type 0 where
+  pub one : datumItems d ≡ 1
+  pub words : (i : ℕ) → datumWords i d ≡ kind ∷ value ∷ 0 ∷ []
+
+-- a reading with such an element more, and the names known then
+unfoldable pub withToken : Reading → Datum → List (List ℕ) → Reading
+withToken r d names = record {
+  here = d ∷ r .here;
+  around = r .around;
+  known = names;
+  count = suc (r .count);
+  missing = cond (noneOpen (r .around)) (r .missing - 1) (r .missing);
+}
+
+abbrev pub TokenPut : Place → ℕ → ℕ → ℕ → List ℕ → List ℕ → Step → Type 0
+TokenPut p kind value known words words′ s =
+    (r : Reading) (d : Datum) (names : List (List ℕ)) (bytes table : List ℕ) → Holds r p words bytes → IsToken d kind value
+    → known ≡ length names → all isShort names ≡ true → table ≡ filled (slots names) table → nameBytesLeast ≤ length table
+    → Stepped (begin r (withToken r d names)) words′ table s
+
+abbrev pub ListOpened : Place → List ℕ → List ℕ → Step → Type 0
+ListOpened p words words′ s = (r : Reading) (bytes : List ℕ) → Holds r p words bytes → Stepped (takes begins r) words′ bytes s
+
+abbrev pub ListClosed : Place → List ℕ → List ℕ → Step → Type 0
+ListClosed p words words′ s = (r : Reading) (bytes : List ℕ) → Holds r p words bytes → Stepped (takes ends r) words′ bytes s
+
+abbrev pub NamePut : Place → List ℕ → List ℕ → List ℕ → List ℕ → List ℕ → Step → Type 0
+NamePut p word words words′ bytes bytes′ s = (r : Reading) → Holds r p words bytes → Stepped (takes (name word) r) words′ bytes′ s

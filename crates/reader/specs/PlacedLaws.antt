@@ -124,11 +124,11 @@ put-length t i a b c =
     length-set (set (set t i a) (i + 1) b) (i + 2) c ∙ length-set (set t i a) (i + 1) b ∙ length-set t i a
 
 -- three zeros of a table that is filled
-zeros : (ws t : List ℕ) → length ws + 3 ≤ length t → filled ws t ≡ ws ++ 0 ∷ 0 ∷ 0 ∷ replicate (length t - (length ws + 3)) 0
+pub zeros : (ws t : List ℕ) → length ws + 3 ≤ length t → filled ws t ≡ ws ++ 0 ∷ 0 ∷ 0 ∷ replicate (length t - (length ws + 3)) 0
 unfolding filled
 zeros ws t h = let e : length t - length ws ≡ suc (suc (suc (length t - (length ws + 3)))) = omega arith in rw e
 
-refill : (ws vs t : List ℕ) (n : ℕ) → n ≡ length (ws ++ vs) → ws ++ (vs ++ replicate (length t - n) 0) ≡ filled (ws ++ vs) t
+pub refill : (ws vs t : List ℕ) (n : ℕ) → n ≡ length (ws ++ vs) → ws ++ (vs ++ replicate (length t - n) 0) ≡ filled (ws ++ vs) t
 unfolding filled
 refill ws vs t n e = rw e (sym (append-assoc ws vs _))
 

@@ -6,14 +6,17 @@ use Prim.Native.Nat.{ℕ, suc, _+_, _*_, _-_, _≤_, _<_}
 use native.Mathlib.Omega.{arith}
 use lib.Dec.{eqb, leb, eqb·suc-zero}
 use lib.ListN.{length, getD, set, length-set, length-append}
+use borrow.Author.Tests.{le-leb, lt-leb, leb-true}
 use Rattle.words.specs.Limits.{itemWordsLeast, nameBytesLeast, elementsMost, namesMost, openListsMost}
 use Rattle.words.specs.Lists.{all}
-use Rattle.words.specs.ListLaws.{never}
+use Rattle.words.specs.ListLaws.{either, never}
 use Rattle.datum.specs.Datum.{Datum, Data, listD, noneD, datumItems, dataItems}
 use Rattle.datum.specs.NameTable.{slots}
 use Rattle.datum.specs.NameTableLaws.{isShort}
 use Rattle.reader.specs.declared.place.Place.{Place}
+use Rattle.reader.specs.declared.place.Step.the-variants.{Went, Refused}
 use Rattle.reading.specs.Numbering.{datumWords}
+use Rattle.reading.specs.Meaning.{begins, ends}
 use Rattle.reading.specs.Elements.{
   Answer,
   got,
@@ -27,8 +30,9 @@ use Rattle.reading.specs.Elements.{
   closed,
   isWithin,
   begin,
+  takes,
 }
-use Rattle.reading.specs.ElementLaws.{Within, within-is}
+use Rattle.reading.specs.ElementLaws.{Within, within-is, begin-is}
 use Rattle.reading.specs.Read.{filled}
 use Rattle.reader.specs.Placed.{
   put3,
@@ -40,7 +44,11 @@ use Rattle.reader.specs.Placed.{
   nextItem,
   placed,
   Holds,
+  Stepped,
+  Sound,
   groundAt,
+  IsToken,
+  withToken,
 }
 use Rattle.reader.specs.PlacedLaws.{
   length-placed,
@@ -56,10 +64,15 @@ use Rattle.reader.specs.PlacedLaws.{
 
 -- ---- grounds 5 and 6
 
-none-open : (ls : List (List Datum)) → noneOpen ls ≡ eqb (length ls) 0
+pub none-open : (ls : List (List Datum)) → noneOpen ls ≡ eqb (length ls) 0
 unfolding noneOpen
 none-open [] = refl
 none-open (l ∷ ls) = sym (eqb·suc-zero (length ls))
+
+pub complete-is : (r : Reading) (p : Place) (words bytes : List ℕ) → Holds r p words bytes
+    → isComplete r ≡ eqb (p .depth) 0 && eqb (p .missing) 0
+unfolding isComplete
+complete-is r p words bytes h = rw (none-open (r .around), h .depth, h .missing)
 
 -- an answer by two tests, and its ground
 abbrev by : Bool → Bool → ℕ
@@ -78,8 +91,7 @@ passed a b false false e f h = absurd (omega (arith, h))
 module _ (r : Reading) (p : Place) (words bytes : List ℕ) (h : Holds r p words bytes) (q : Reading) (known depth : ℕ)
     (k : known ≡ length (q .known)) (d : depth ≡ length (q .around)) (c : q .count ≡ suc (r .count)) where
   same-complete : isComplete r ≡ eqb (p .depth) 0 && eqb (p .missing) 0
-  unfolding isComplete
-  same-complete = rw (none-open (r .around), h .depth, h .missing)
+  same-complete = complete-is r p words bytes h
 
   same-within : isWithin q ≡ leb (suc (p .count)) elementsMost && (leb known namesMost && leb depth openListsMost)
   unfolding isWithin
@@ -96,6 +108,11 @@ module _ (r : Reading) (p : Place) (words bytes : List ℕ) (h : Holds r p words
       (t .0, within-is q (t .1))
 
 -- ---- tokens that are taken
+
+-- the elements that the text lacks after one more
+lacking-is : (r : Reading) (p : Place) (words bytes : List ℕ) → Holds r p words bytes
+    → cond (eqb (p .depth) 0) (p .missing - 1) (p .missing) ≡ cond (noneOpen (r .around)) (r .missing - 1) (r .missing)
+lacking-is r p words bytes h = rw (none-open (r .around), h .depth, h .missing)
 
 -- one that is an element by itself, with the names that are known after it
 module _ (r : Reading) (p : Place) (words bytes : List ℕ) (h : Holds r p words bytes) (d : Datum) (kind v : ℕ)
@@ -252,3 +269,137 @@ module _ (r : Reading) (p : Place) (words bytes : List ℕ) (h : Holds r p words
         enoughItems = omega (arith, s, h .enoughItems);
         enoughNames = h .enoughNames;
       }
+
+-- ---- the code's answers
+
+stepped-back : (a : Answer Reading) (words bytes : List ℕ) (g h : ℕ) → a ≡ back g → h ≡ g → Stepped a words bytes (Refused h)
+stepped-back a words bytes g h e f = subst (λ x. Stepped x words bytes (Refused h)) (sym e) f
+
+stepped-got : (a : Answer Reading) (words bytes : List ℕ) (q : Reading) (p : Place) → a ≡ got q → Holds q p words bytes
+    → Stepped a words bytes (Went p)
+stepped-got a words bytes q p e f = subst (λ x. Stepped x words bytes (Went p)) (sym e) f
+
+-- the tests of grounds 5 and 6, way by way
+module _ (p : Place) (known depth : ℕ) where
+  pub ground-complete : eqb (p .depth) 0 && eqb (p .missing) 0 ≡ true → 5 ≡ groundAt p known depth
+  unfolding groundAt
+  ground-complete e = rw e
+
+  module _ (e : eqb (p .depth) 0 && eqb (p .missing) 0 ≡ false) where
+    pub ground-elements : elementsMost ≤ p .count → 6 ≡ groundAt p known depth
+    unfolding groundAt
+    ground-elements l = let k : elementsMost < suc (p .count) = omega arith in rw (e, lt-leb _ _ k)
+
+    pub ground-names : p .count < elementsMost → namesMost < known → 6 ≡ groundAt p known depth
+    unfolding groundAt
+    ground-names l n = let k : suc (p .count) ≤ elementsMost = omega arith in rw (e, le-leb _ _ k, lt-leb _ _ n)
+
+    pub ground-lists : p .count < elementsMost → known ≤ namesMost → openListsMost < depth → 6 ≡ groundAt p known depth
+    unfolding groundAt
+    ground-lists l n d = let k : suc (p .count) ≤ elementsMost = omega arith in rw (e, le-leb _ _ k, le-leb _ _ n, lt-leb _ _ d)
+
+    pub ground-none : p .count < elementsMost → known ≤ namesMost → depth ≤ openListsMost → 0 ≡ groundAt p known depth
+    unfolding groundAt
+    ground-none l n d = let k : suc (p .count) ≤ elementsMost = omega arith in rw (e, le-leb _ _ k, le-leb _ _ n, le-leb _ _ d)
+
+-- a ground that is none leaves room
+pub ground-room : (p : Place) (known depth : ℕ) → groundAt p known depth ≡ 0 → p .count < elementsMost
+unfolding groundAt
+ground-room p known depth h =
+    either (leb (suc (p .count)) elementsMost) (λ t. omega (arith, leb-true (suc (p .count)) elementsMost t))
+    (λ t. either (eqb (p .depth) 0 && eqb (p .missing) 0) (λ u. absurd (omega (arith, rw u at h))) (λ u. absurd (omega (arith, rw (u, t) at h))))
+
+-- a token that is one element
+module _ (r : Reading) (p : Place) (words bytes : List ℕ) (h : Holds r p words bytes) (d : Datum) (kind value : ℕ) (t : IsToken d kind value)
+    (names : List (List ℕ)) (known : ℕ) (k : known ≡ length names) where
+  pub token-refused : (words′ table : List ℕ) (g : ℕ) → g ≡ groundAt p known (p .depth) → (g ≡ 0 → ⊥)
+      → Stepped (begin r (withToken r d names)) words′ table (Refused g)
+  unfolding withToken
+  token-refused words′ table g e n =
+      stepped-back _ words′ table _ g
+      (ground-back r p words bytes h (withToken r d names) known (p .depth) k (h .depth) refl (λ z. n (e ∙ z))) e
+
+  pub token-went : (words′ table : List ℕ) (missing : ℕ) → groundAt p known (p .depth) ≡ 0 → all isShort names ≡ true
+      → table ≡ filled (slots names) table → nameBytesLeast ≤ length table
+      → words′ ≡ put3 (put3 words (3 * p .next) 4 (p .next + 1) (p .next + 2)) (3 * (p .next + 1)) kind value 0
+      → missing ≡ cond (eqb (p .depth) 0) (p .missing - 1) (p .missing)
+      → Stepped (begin r (withToken r d names)) words′ table
+      (Went (record { next = p .next + 2; pair = p .pair; depth = p .depth; count = p .count + 1; missing = missing; known = known }))
+  unfolding withToken
+  token-went words′ table missing z s f b e g =
+      let w = ground-passed r p words bytes h (withToken r d names) known (p .depth) k (h .depth) refl z in
+      let m : missing ≡ withToken r d names .missing = g ∙ lacking-is r p words bytes h in
+      stepped-got _ words′ table (withToken r d names) _ (begin-is r (withToken r d names) (w .0) (w .1))
+      (rw e (element-holds r p words bytes h d kind value (t .one) (t .words (suc (nextItem r))) names (withToken r d names .missing) (w .1) known missing table k s f b m))
+
+-- a list begins
+module _ (r : Reading) (p : Place) (words bytes : List ℕ) (h : Holds r p words bytes) where
+  depth-more : p .depth + 1 ≡ length (opened (counted r) .around)
+  unfolding opened counted
+  depth-more = omega (arith, h .depth)
+
+  pub open-refused : (words′ : List ℕ) (g : ℕ) → g ≡ groundAt p (p .known) (p .depth + 1) → (g ≡ 0 → ⊥) → Stepped (takes begins r) words′ bytes (Refused g)
+  unfolding takes opened counted
+  open-refused words′ g e n =
+      stepped-back _ words′ bytes _ g
+      (ground-back r p words bytes h (opened (counted r)) (p .known) (p .depth + 1) (h .known) depth-more refl (λ z. n (e ∙ z))) e
+
+  pub open-went : (words′ : List ℕ) (missing : ℕ) → groundAt p (p .known) (p .depth + 1) ≡ 0
+      → words′ ≡ put3 words (3 * p .next) 4 (p .next + 1) (p .pair)
+      → missing ≡ cond (eqb (p .depth) 0) (p .missing - 1) (p .missing)
+      → Stepped (takes begins r) words′ bytes
+      (Went (record { next = p .next + 1; pair = p .next; depth = p .depth + 1; count = p .count + 1; missing = missing; known = p .known }))
+  unfolding takes opened counted
+  open-went words′ missing z e g =
+      let q = opened (counted r) in
+      let w = ground-passed r p words bytes h q (p .known) (p .depth + 1) (h .known) depth-more refl z in
+      stepped-got _ words′ bytes q _ (begin-is r q (w .0) (w .1))
+      (rw e (open-holds r p words bytes h (w .1) missing (g ∙ lacking-is r p words bytes h)))
+
+-- a list ends
+closeStepped : (r : Reading) (p : Place) (words bytes : List ℕ) → Holds r p words bytes → (a : List (List Datum)) → r .around ≡ a → (p .depth ≡ 0 → ⊥)
+    → Stepped (closed a r) (set words (3 * p .pair + 2) (p .next + 1)) bytes
+    (Went (record { next = p .next + 1; pair = getD words (3 * p .pair + 2) 0; depth = p .depth - 1; count = p .count; missing = p .missing; known = p .known }))
+unfolding closed
+closeStepped r p words bytes h [] e n = absurd (n (h .depth ∙ ap length e))
+closeStepped r p words bytes h (l ∷ ls) e n = close-holds r p words bytes h l ls e
+
+closeRefused : (r : Reading) (words bytes : List ℕ) (a : List (List Datum)) → length a ≡ 0 → Stepped (closed a r) words bytes (Refused 5)
+unfolding closed
+closeRefused r words bytes [] e = refl
+closeRefused r words bytes (l ∷ ls) e = absurd (omega arith)
+
+module _ (r : Reading) (p : Place) (words bytes : List ℕ) (h : Holds r p words bytes) where
+  pub close-refused : (words′ : List ℕ) → p .depth ≡ 0 → Stepped (takes ends r) words′ bytes (Refused 5)
+  unfolding takes
+  close-refused words′ e = closeRefused r words′ bytes (r .around) (sym (h .depth) ∙ e)
+
+  pub close-went : (p .depth ≡ 0 → ⊥)
+      → Stepped (takes ends r) (set words (3 * p .pair + 2) (p .next + 1)) bytes
+      (Went (record { next = p .next + 1; pair = getD words (3 * p .pair + 2) 0; depth = p .depth - 1; count = p .count; missing = p .missing; known = p .known }))
+  unfolding takes
+  close-went n = closeStepped r p words bytes h (r .around) refl n
+
+-- ---- the numbers of a place that is held
+
+pair-below : (ls : List (List Datum)) → 0 < length ls → openPair ls < itemsAround ls
+unfolding openPair itemsAround
+pair-below [] h = absurd (omega arith)
+pair-below (l ∷ ls) h = omega arith
+
+pair-low : (ls : List (List Datum)) → openPair ls ≤ itemsAround ls
+unfolding openPair itemsAround
+pair-low [] = omega arith
+pair-low (l ∷ ls) = omega arith
+
+pub holds-sound : (r : Reading) (p : Place) (words bytes : List ℕ) → Holds r p words bytes → Sound p (length words)
+unfolding nextItem
+holds-sound r p words bytes h = record {
+  even = omega (arith, h .next, h .even, h .depth, h .count);
+  elements = omega (arith, h .count, h .within .elements);
+  names = omega (arith, h .known, h .within .names);
+  lists = omega (arith, h .depth, h .within .lists);
+  low = omega (arith, h .pair, h .next, pair-low (r .around));
+  pair = λ d. omega (arith, h .pair, h .next, pair-below (r .around) (omega (arith, h .depth)));
+  room = h .enoughItems;
+}

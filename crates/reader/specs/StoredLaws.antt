@@ -6,15 +6,16 @@ use Prim.Native.Nat.{ℕ, zero, suc, _+_, _*_, _-_, _≤_, _<_}
 use native.Mathlib.Omega.{arith}
 use native.Mathlib.Numerals.{add-one}
 use lib.Dec.{eqb, leb}
-use lib.ListN.{length, getD, take, drop, set, replicate, length-drop, length-set, length-append}
-use lib.Seq.{drop-cons, drop-length, length-take-le, getD-take, getD-drop, paste, paste-suc, append-snoc, getD-append-seam}
-use borrow.Author.Tests.{eq-eqb, ne-eqb}
+use lib.ListN.{length, getD, take, drop, set, replicate, length-drop, length-set, length-append, length-replicate, replicate-append-replicate}
+use lib.Seq.{drop-cons, drop-length, length-take-le, getD-take, getD-drop, paste, paste-suc, length-paste, append-snoc, getD-append-seam, set-at, take-at, take-length, drop-append-add}
+use borrow.Author.Tests.{eq-eqb, ne-eqb, le-leb}
 use Rattle.words.specs.Lists.{equal, all}
-use Rattle.words.specs.ListLaws.{either, never, equal-true}
+use Rattle.words.specs.ListLaws.{either, never, equal-true, all-append}
 use Rattle.datum.specs.NameTable.{slot, slots, lengthAt, nameAt}
-use Rattle.datum.specs.NameTableLaws.{isShort, length-slots, name-at}
+use Rattle.datum.specs.NameTableLaws.{isShort, length-slots, slots-append, name-at}
+use Rattle.reading.specs.Read.{filled}
 use Rattle.reading.specs.Numbering.{numberOf}
-use Rattle.reader.specs.Stored.{namesIn, stored}
+use Rattle.reader.specs.Stored.{namesIn, stored, NameTable, FourStored}
 
 -- ---- comparing
 
@@ -90,3 +91,98 @@ names-in-from (cs ∷ more) names rest h =
 
 pub names-in : (names : List (List ℕ)) (rest : List ℕ) → all isShort names ≡ true → namesIn (slots names ++ rest) 0 (length names) ≡ names
 names-in names rest h = names-in-from names [] rest h
+
+pub length-names-in : (table : List ℕ) (n k : ℕ) → length (namesIn table n k) ≡ k
+unfolding namesIn
+length-names-in table n zero = refl
+length-names-in table n (suc k) = ap suc (length-names-in table (suc n) k)
+
+-- ---- storing
+
+drop-zeros : (k n : ℕ) → drop {A = ℕ} k (replicate n 0) ≡ replicate (n - k) 0
+drop-zeros zero n = let e : n - 0 ≡ n = omega arith in rw e
+drop-zeros (suc k) zero = let e : 0 - suc k ≡ 0 = omega arith in rw e
+drop-zeros (suc k) (suc n) = let e : suc n - suc k ≡ n - k = omega arith in rw e (drop-zeros k n)
+
+-- a name in the slot after those of the names before it
+module _ (names : List (List ℕ)) (word t : List ℕ) (n : ℕ) (at : n ≡ length names) (s : all isShort names ≡ true) (w : length word ≤ 63)
+    (f : t ≡ filled (slots names) t) (room : 64 * n + 64 ≤ length t) where
+  start : length (slots names) ≡ 64 * n
+  start = omega (arith, length-slots names s)
+
+  -- the zeros after the length byte
+  after : ℕ
+  after = length t - (64 * n + 1)
+
+  table : t ≡ slots names ++ 0 ∷ replicate after 0
+  unfolding filled after
+  table = let e : length t - length (slots names) ≡ suc (length t - (64 * n + 1)) = omega (arith, start) in f ∙ rw e
+
+  with-length : set t (64 * n) (length word) ≡ slots names ++ (length word ∷ []) ++ replicate after 0
+  with-length =
+      ap (λ l. set l (64 * n) (length word)) table
+      ∙ set-at (slots names) 0 (replicate after 0) (length word) (64 * n) start
+      ∙ sym (append-snoc (slots names) (length word) (replicate after 0))
+
+  head-length : length (slots names ++ (length word ∷ [])) ≡ 64 * n + 1
+  head-length = omega (arith, start, length-append (slots names) (length word ∷ []))
+
+  -- the whole of it
+  all-of : stored t n word ≡ slots names ++ (length word ∷ []) ++ word ++ replicate (after - length word) 0
+  all-of =
+      let u = set t (64 * n) (length word) in
+      let head = slots names ++ (length word ∷ []) in
+      let a : take (64 * n + 1) u ≡ head = ap (take (64 * n + 1)) with-length ∙ take-at head (replicate after 0) (64 * n + 1) head-length in
+      let i : 64 * n + 1 + length word ≡ length head + length word = omega (arith, head-length) in
+      let b : drop (64 * n + 1 + length word) u ≡ replicate (after - length word) 0 =
+      ap (drop (64 * n + 1 + length word)) with-length ∙ rw i (drop-append-add head (replicate after 0) (length word) ∙ drop-zeros (length word) after) in
+      rw (a, b, take-length word)
+
+  pub short-more : all isShort (names ++ (word ∷ [])) ≡ true
+  unfolding isShort all
+  short-more = all-append isShort names (word ∷ []) s (rw (le-leb _ _ w))
+
+  slots-length : length (slots (names ++ (word ∷ []))) ≡ 64 * n + 64
+  slots-length = omega (arith, length-slots (names ++ (word ∷ [])) short-more, length-append names (word ∷ []))
+
+  pub stored-filled : stored t n word ≡ filled (slots (names ++ (word ∷ []))) t
+  unfolding filled slots slot after
+  stored-filled =
+      let k = length t - (64 * n + 64) in
+      let e : length t - (64 * n + 1) - length word ≡ 63 - length word + k = omega arith in
+      all-of
+      ∙ rw (slots-length, slots-append names (word ∷ []), e, ← replicate-append-replicate {A = ℕ} (63 - length word) k 0)
+      (simp (append-assoc, append-nil))
+
+  pub stored-length : length (stored t n word) ≡ length t
+  stored-length =
+      let u = set t (64 * n) (length word) in
+      let l = length-set t (64 * n) (length word) in
+      let h : 64 * n + 1 + length word ≤ length u = omega (arith, l) in
+      length-paste u (64 * n + 1) word (length word) h (omega arith) ∙ l
+
+-- a table of names with one more
+pub table-more : (names : List (List ℕ)) (word t u : List ℕ) (n : ℕ) → NameTable names t → n ≡ length names → length word ≤ 63 → n < 1024
+    → u ≡ stored t n word → NameTable (names ++ (word ∷ [])) u
+unfolding filled
+table-more names word t u n h e w l s =
+    let room : 64 * n + 64 ≤ length t = omega (arith, h .room) in
+    let same : length u ≡ length t = ap length s ∙ stored-length names word t n e (h .short) w (h .bytes) room in
+    let f = stored-filled names word t n e (h .short) w (h .bytes) room in
+    record {
+      short = short-more names word t n e (h .short) w (h .bytes) room;
+      bytes = s ∙ f ∙ rw same;
+      room = omega (arith, same, h .room);
+    }
+
+-- four of them, one after another
+pub four-more : (t t1 t2 t3 t4 : List ℕ) (n : ℕ) (a b c d : List ℕ) → n < 8 → length a ≤ 63 → length b ≤ 63 → length c ≤ 63 → length d ≤ 63
+    → t1 ≡ stored t n a → t2 ≡ stored t1 (n + 1) b → t3 ≡ stored t2 (n + 2) c → t4 ≡ stored t3 (n + 3) d → FourStored t t4 n a b c d
+four-more t t1 t2 t3 t4 n a b c d h la lb lc ld e1 e2 e3 e4 names w k =
+    let w1 = table-more names a t t1 n w k la (omega arith) e1 in
+    let k1 : n + 1 ≡ length (names ++ (a ∷ [])) = omega (arith, length-append names (a ∷ [])) in
+    let w2 = table-more (names ++ (a ∷ [])) b t1 t2 (n + 1) w1 k1 lb (omega arith) e2 in
+    let k2 : n + 2 ≡ length (names ++ (a ∷ []) ++ (b ∷ [])) = omega (arith, length-append (names ++ (a ∷ [])) (b ∷ []), k1) in
+    let w3 = table-more (names ++ (a ∷ []) ++ (b ∷ [])) c t2 t3 (n + 2) w2 k2 lc (omega arith) e3 in
+    let k3 : n + 3 ≡ length (names ++ (a ∷ []) ++ (b ∷ []) ++ (c ∷ [])) = omega (arith, length-append (names ++ (a ∷ []) ++ (b ∷ [])) (c ∷ []), k2) in
+    table-more (names ++ (a ∷ []) ++ (b ∷ []) ++ (c ∷ [])) d t3 t4 (n + 3) w3 k3 ld (omega arith) e4

@@ -6,6 +6,7 @@ use Prim.Native.Nat.{ℕ, _+_, _≤_, _<_}
 use lib.ListN.{length, getD, drop}
 use mir.Syntax.{w32}
 use mir.Val.{ofZ}
+use Rattle.words.specs.Limits.{nameLengthMost}
 use Rattle.words.specs.Lists.{all, part}
 use Rattle.datum.specs.Constant.{integer, boolean}
 use Rattle.reader.specs.declared.token.Cursor.{Cursor}
@@ -50,13 +51,15 @@ Told text at (Open c) = Took text at begins (c .at)
 Told text at (Close c) = Took text at ends (c .at)
 Told text at (Boolean b c) = Took text at (constant (boolean b)) (c .at)
 Told text at (Integer z c) = Took text at (constant (integer (ofZ w32 z))) (c .at)
-Told text at (Name from c) = (at ≤ from) × (from < c .at) × Took text at (name (part from (c .at) text)) (c .at)
+Told text at (Name from c) =
+    (at ≤ from) × (from < c .at) × (length (part from (c .at) text) ≤ nameLengthMost) × Took text at (name (part from (c .at) text)) (c .at)
 Told text at (Refused g) = TurnedBack text at g
 
 -- the answer for a run
 abbrev pub RunTold : List ℕ → ℕ → ℕ → T.Token → Type 0
 RunTold text from to (Integer z c) = (c .at ≡ to) × (meaningOf (run (part from to text)) ≡ constant (integer (ofZ w32 z)))
-RunTold text from to (Name f c) = (f ≡ from) × (c .at ≡ to) × (meaningOf (run (part from to text)) ≡ name (part from to text))
+RunTold text from to (Name f c) =
+    (f ≡ from) × (c .at ≡ to) × (length (part from to text) ≤ nameLengthMost) × (meaningOf (run (part from to text)) ≡ name (part from to text))
 RunTold text from to (Refused g) = meaningOf (run (part from to text)) ≡ refused g
 RunTold text from to End = ⊥
 RunTold text from to (Open c) = ⊥

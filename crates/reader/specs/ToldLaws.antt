@@ -10,7 +10,7 @@ use lib.ListN.{length, getD, take, drop, length-drop}
 use lib.Seq.{drop-cons, drop-length}
 use borrow.Author.Tests.{le-leb, lt-leb, ne-eqb, eqb-true, eqb-false}
 use Rattle.words.specs.Lists.{within, all, any, equal, part}
-use Rattle.words.specs.ListLaws.{either, never, and-left, all-append, part-more, part-split, length-part}
+use Rattle.words.specs.ListLaws.{either, never, and-left, within-high, all-append, part-more, part-split, length-part}
 use Rattle.words.specs.Text.{bytes}
 use Rattle.datum.specs.Constant.{boolean}
 use Rattle.reading.specs.Token.{
@@ -67,6 +67,10 @@ name-many (c ∷ []) h k l = absurd (k refl)
 name-many (c ∷ d ∷ cs) h k l =
     let m : 1 ≤ length (c ∷ d ∷ cs) = omega arith in
     rw (le-leb _ _ m, le-leb _ _ l, and-false)
+
+pub name-short : (cs : List ℕ) → isName cs ≡ true → length cs ≤ 63
+unfolding isName
+name-short cs h = within-high 1 63 (length cs) (and-left (within 1 63 (length cs)) (not (equal cs (46 ∷ []))) h)
 
 -- ---- bytes
 
@@ -185,7 +189,7 @@ module _ (text : List ℕ) (from at : ℕ) (s : Skipped text from at) where
       rw (w .0) (took-skipped _ to l (r .high) (run-means text at to r l ∙ ap (λ m. m ∷ meaningsFrom text to) (w .1)))
   run-told to r l (Name f c) w =
       rw (w .0, w .1)
-      (s .low, l, took-skipped _ to l (r .high) (run-means text at to r l ∙ ap (λ m. m ∷ meaningsFrom text to) (w .2)))
+      (s .low, l, w .2, took-skipped _ to l (r .high) (run-means text at to r l ∙ ap (λ m. m ∷ meaningsFrom text to) (w .3)))
   run-told to r l (Refused g) w =
       back-skipped g (meaningsFrom text to, run-means text at to r l ∙ ap (λ m. m ∷ meaningsFrom text to) w)
 

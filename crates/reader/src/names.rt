@@ -1,11 +1,12 @@
 // The name table: names found and stored.
 ghost use mathlib.Core.Path.{_≡_};
+ghost use mathlib.Core.List.{[]};
 ghost use Prim.Native.Nat.{ℕ, _+_, _*_, _≤_, _<_};
 ghost use lib.ListN.{length};
 ghost use Rattle.words.specs.Lists.{equal};
 ghost use Rattle.datum.specs.NameTable.{lengthAt, nameAt};
-ghost use Rattle.reading.specs.Numbering.{numberOf};
-ghost use Rattle.reader.specs.Stored.{stored, namesIn};
+ghost use Rattle.reading.specs.Numbering.{numberOf, baseNames};
+ghost use Rattle.reader.specs.Stored.{stored, namesIn, NameTable, FourStored};
 
 fn wide(b: u8) -> usize
     ensures { λ r. ⌜ r ≡ b ⌝ }
@@ -59,4 +60,25 @@ pub fn store(names: &mut [u8], number: usize, word: &[u8])
         names[start + 1 + i] = word[i];
         i += 1;
     }
+}
+
+// Four words in the slots from a number on.
+fn store_four(names: &mut [u8], number: usize, a: &[u8], b: &[u8], c: &[u8], d: &[u8])
+    requires { ⌜ (number < 8) × (65536 ≤ length (now names)) ⌝ }
+    requires { ⌜ (length (now a) ≤ 63) × (length (now b) ≤ 63) × (length (now c) ≤ 63) × (length (now d) ≤ 63) ⌝ }
+    ensures { λ _. ⌜ FourStored (now (names .entry)) (now (names .exit)) number (now (a .entry)) (now (b .entry)) (now (c .entry)) (now (d .entry)) ⌝ }
+{
+    store(names, number, a);
+    store(names, number + 1, b);
+    store(names, number + 2, c);
+    store(names, number + 3, d);
+}
+
+// Names 0 to 7, in a table of zeros.
+pub fn store_base(names: &mut [u8])
+    requires { ⌜ NameTable [] (now names) ⌝ }
+    ensures { λ _. ⌜ NameTable baseNames (now (names .exit)) ⌝ }
+{
+    store_four(names, 0, b"quote", b"if", b"lambda", b"let-syntax");
+    store_four(names, 4, b"letrec-syntax", b"syntax-rules", b"...", b"_");
 }

@@ -6,13 +6,14 @@ use Prim.Native.Nat.{ℕ, suc, _-_, _*_, _<_, _≤_}
 use native.Mathlib.Omega.{arith}
 use lib.Dec.{eqb, ltb}
 use lib.ListN.{length, drop}
-use borrow.Author.Tests.{eqb-true, eqb-false, ltb-true}
+use borrow.Author.Tests.{eqb-true, eqb-false, ne-eqb, ltb-true}
 use Rattle.words.specs.Limits.{namesMost, itemsLeast, itemsMost}
 use Rattle.words.specs.Lists.{within, all}
 use Rattle.words.specs.TestLaws.{and-left, and-right, within-least, within-most, all-head, all-drop}
+use Rattle.datum.specs.Constant.{isConstant}
 use Rattle.recipe.specs.Name.{plainName}
 use Rattle.recipe.specs.Tree.{empty, constant, name, pair, isList, isListOf, elements, element}
-use Rattle.recipe.specs.Table.{items, byKind, constantOf, kindAt, isPairItem, isItem, treeOf, itemCount, isLayout}
+use Rattle.recipe.specs.Table.{items, byKind, constantOf, kindAt, references, isPairItem, isItem, isReferredOnce, treeOf, itemCount, isLayout}
 use Rattle.recipe.specs.ItemLaws.{itemAt, items-drop}
 use Rattle.recipe.specs.TableLaws.{isLayout-parts}
 use Rattle.recipe.specs.TreeFrom.{treeFrom, headAt, tailAt, from-empty, from-name, from-pair, from-constant, from-isList}
@@ -102,6 +103,10 @@ module _ (ws : List ℕ) (l : Layout ws) (i : ℕ) (h : i < itemCount ws) where
 
   pub layoutName : kindAt ws i ≡ 3 → headAt ws i < namesMost
   layoutName k = nameItem ws (itemCount ws) i (l .good i h) h k
+
+  pub layoutConstant : (kindAt ws i ≡ 0 → ⊥) → (kindAt ws i ≡ 3 → ⊥) → (kindAt ws i ≡ 4 → ⊥) → isConstant (constantOf (itemAt ws i)) ≡ true
+  unfolding isItem itemAt byKind kindAt
+  layoutConstant a b c = rw (ne-eqb (kindAt ws i) 0 a, ne-eqb (kindAt ws i) 3 b, ne-eqb (kindAt ws i) 4 c) at (l .good i h)
 
   pub emptyTree : kindAt ws i ≡ 0 → treeFrom ws i ≡ empty
   emptyTree k = from-empty ws (itemCount ws) i (l .long) h k

@@ -3,6 +3,7 @@ pub mod Limits
 pub mod ListLaws
 pub mod Lists
 pub mod Options
+pub mod SignedLaws
 pub mod Text
 pub mod TestLaws
 pub mod Each

@@ -1,4 +1,5 @@
 // The limits of document 01, for code; specs/Limits.antt has the same numbers for definitions.
+pub mod signed;
 pub mod tables;
 
 // Reading: words and bytes to lend, bytes of a text, elements, names, names that are fixed, open lists, bytes of a name and of its slot.

@@ -1,13 +1,9 @@
+-- `is_layout` answers ground 7: one law of `Ground7` for each way.
 use borrow.Author.Needs.{needs}
 use Rattle.layout.proofs.is_layout.Statement.{statement}
 use Rattle.layout.proofs.is_layout.Tie as tie
-use Rattle.layout.proofs.is_layout.Reads as reads
-use Rattle.layout.proofs.is_layout.Lts as lts
-use Rattle.layout.proofs.begins_two.Reads as begins-two-reads
-use Rattle.layout.proofs.item.items_fit.Reads as items-fit-reads
-use Rattle.layout.proofs.reference.referred_once.Reads as referred-once-reads
-use mathlib.Core.Path.{_≡_, ap, sym, _∙_}
-use mathlib.Core.Bool.{true, false}
+use mathlib.Core.Path.{_≡_, sym, _∙_}
+use mathlib.Core.Bool.{true}
 use Prim.Native.Nat.{_*_}
 use native.Mathlib.Omega.{arith}
 use lib.ListN.{length}
@@ -16,55 +12,46 @@ use Rattle.words.specs.Lists.{all}
 use Rattle.recipe.specs.Table.{items, isItem, itemCount}
 use Rattle.layout.specs.Ground7.{uneven, too-few, too-many, unfit, not-once, by-item-0}
 
--- src/lib.rt:40:23
 mul-if1 : tie.Need-mul-if1
 mul-if1 c =
     search needs
 
--- src/lib.rt:41:9
 returns : tie.Need-returns
 unfolding itemCount
 returns c =
     sym (uneven (c .before .before .args .table .now) (c .if1 .taken))
 
--- src/lib.rt:44:9
 returns-2 : tie.Need-returns-2
 unfolding itemCount
 returns-2 c =
-    sym (too-few (c .before .before .before .args .table .now) (c .if2 .taken))
+    sym (too-few (c .before .before .before .args .table .now) (omega arith))
 
--- src/lib.rt:47:9
 returns-3 : tie.Need-returns-3
 unfolding itemCount
 returns-3 c =
-    sym (too-many (c .before .before .before .before .args .table .now) (c .if3 .taken))
+    sym (too-many (c .before .before .before .before .args .table .now) (omega arith))
 
--- src/lib.rt:49:9
 items-fit-requires : tie.Need-items-fit-requires
 items-fit-requires c κs =
     search needs
 
--- src/lib.rt:50:9
 returns-4 : tie.Need-returns-4
 unfolding itemCount
 returns-4 c =
     let ws = c .before .before .before .before .before .before .args .table .now in let e : length ws ≡ 3 * itemCount ws = c .before .before .before .before .if1 .left in
-    sym (unfit ws e (c .before .before .before .if2 .left) (c .before .before .if3 .left) (sym (c .before .items-fit .ensures) ∙ not-true (c .before .items-fit .result) (c .if4 .taken)))
+    sym (unfit ws e (omega arith) (omega arith) (sym (c .before .items-fit .ensures) ∙ not-true (c .before .items-fit .result) (c .if4 .taken)))
 
--- src/lib.rt:52:9
 referred-once-requires : tie.Need-referred-once-requires
 referred-once-requires c κs =
     search needs
 
--- src/lib.rt:53:9
 returns-5 : tie.Need-returns-5
 unfolding itemCount
 returns-5 c =
     let ws = c .before .before .before .before .before .before .before .before .args .table .now in let e : length ws ≡ 3 * itemCount ws = c .before .before .before .before .before .before .if1 .left in
     let f : all (isItem ws (itemCount ws)) (items 0 ws) ≡ true = sym (c .before .before .before .items-fit .ensures) ∙ not-false (c .before .before .before .items-fit .result) (c .before .before .if4 .left) in
-    sym (not-once ws e (c .before .before .before .before .before .if2 .left) (c .before .before .before .before .if3 .left) f (sym (c .before .referred-once .ensures) ∙ not-true (c .before .referred-once .result) (c .if5 .taken)))
+    sym (not-once ws e (omega arith) (omega arith) f (sym (c .before .referred-once .ensures) ∙ not-true (c .before .referred-once .result) (c .if5 .taken)))
 
--- src/lib.rt:55:5
 begins-two-requires : tie.Need-begins-two-requires
 unfolding itemCount
 begins-two-requires c κs =
@@ -72,13 +59,12 @@ begins-two-requires c κs =
     let f : all (isItem ws (itemCount ws)) (items 0 ws) ≡ true = sym (c .before .before .before .items-fit .ensures) ∙ not-false (c .before .before .before .items-fit .result) (c .before .before .if4 .left) in
     (e, omega arith, f)
 
--- src/lib.rt:36:1
 returns-6 : tie.Need-returns-6
 unfolding itemCount
 returns-6 c =
     let ws = c .before .before .before .before .before .before .before .before .before .args .table .now in let e : length ws ≡ 3 * itemCount ws = c .before .before .before .before .before .before .before .if1 .left in
     let f : all (isItem ws (itemCount ws)) (items 0 ws) ≡ true = sym (c .before .before .before .before .items-fit .ensures) ∙ not-false (c .before .before .before .before .items-fit .result) (c .before .before .before .if4 .left) in
-    c .begins-two .ensures ∙ sym (by-item-0 ws e (c .before .before .before .before .before .before .if2 .left) (c .before .before .before .before .before .if3 .left) f (sym (c .before .before .referred-once .ensures) ∙ not-false (c .before .before .referred-once .result) (c .before .if5 .left)))
+    c .begins-two .ensures ∙ sym (by-item-0 ws e (omega arith) (omega arith) f (sym (c .before .before .referred-once .ensures) ∙ not-false (c .before .before .referred-once .result) (c .before .if5 .left)))
 
 pub is-layout-spec : {M : Type 1} → statement M
 is-layout-spec =

@@ -1,70 +1,54 @@
+-- `ground` may call each test: what the tests before it ensure is what it requires.
 use borrow.Author.Needs.{needs}
 use Rattle.layout_vectors.proofs.ground.Statement.{statement}
 use Rattle.layout_vectors.proofs.ground.Tie as tie
-use Rattle.layout_vectors.proofs.ground.Reads as reads
-use Rattle.layout_vectors.proofs.ground.Lts as lts
-use Rattle.layout.proofs.fuel_fits.Reads as fuel-fits-reads
-use Rattle.layout.proofs.is_layout.Reads as is-layout-reads
-use Rattle.layout.proofs.operation.operations.Reads as operations-reads
-use Rattle.layout.proofs.tables_fit.Reads as tables-fit-reads
 use mathlib.Core.Path.{_≡_, refl, sym, _∙_}
 use mathlib.Core.Bool.{true}
-use native.Mathlib.Omega.{arith}
 use borrow.Author.Tests.{not-false, leb-true}
 use Rattle.words.specs.Limits.{fuelMost}
 use Rattle.recipe.specs.Table.{itemCount, isLayout}
 use Rattle.recipe.specs.Layout.{layout}
 use Rattle.layout.specs.Places.{places-none}
 
--- src/main.rt:10:9
 is-layout-requires : tie.Need-is-layout-requires
 is-layout-requires c κs =
     search needs
 
--- src/main.rt:11:9
 returns : tie.Need-returns
 returns c =
     search needs
 
--- src/main.rt:13:9
 fuel-fits-requires : tie.Need-fuel-fits-requires
 fuel-fits-requires c κs =
     search needs
 
--- src/main.rt:14:9
 returns-2 : tie.Need-returns-2
 returns-2 c =
     search needs
 
--- src/main.rt:17:9
 tables-fit-requires : tie.Need-tables-fit-requires
 unfolding itemCount
 tables-fit-requires c κs =
     let ws = c .before .before .before .before .before .args .table .now in let l : isLayout ws ≡ true = sym (c .before .before .before .is-layout .ensures) ∙ not-false (c .before .before .before .is-layout .result) (c .before .before .if1 .left) in
     (layout ws l .most, leb-true (c .before .before .before .before .before .args .fuel) fuelMost (sym (c .before .fuel-fits .ensures) ∙ not-false (c .before .fuel-fits .result) (c .if2 .left)))
 
--- src/main.rt:18:9
 returns-3 : tie.Need-returns-3
 returns-3 c =
     search needs
 
--- src/main.rt:21:46
 slice-aggregate-operations : tie.Need-slice-aggregate-operations
 slice-aggregate-operations c =
     search needs
 
--- src/main.rt:21:9
 operations-requires : tie.Need-operations-requires
 operations-requires c κs =
     let ws = c .before .before .before .before .before .before .before .before .args .table .now in let l : isLayout ws ≡ true = sym (c .before .before .before .before .before .before .is-layout .ensures) ∙ not-false (c .before .before .before .before .before .before .is-layout .result) (c .before .before .before .before .before .if1 .left) in
     (l, refl, places-none)
 
--- src/main.rt:22:9
 returns-4 : tie.Need-returns-4
 returns-4 c =
     search needs
 
--- src/main.rt:9:1
 returns-5 : tie.Need-returns-5
 returns-5 c =
     search needs

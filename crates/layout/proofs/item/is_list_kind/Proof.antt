@@ -1,17 +1,14 @@
+-- `is_list_kind` answers whether a kind is that of a list.
 use Rattle.layout.proofs.item.is_list_kind.Statement.{statement}
 use Rattle.layout.proofs.item.is_list_kind.Tie as tie
-use Rattle.layout.proofs.item.is_list_kind.Reads as reads
-use Rattle.layout.proofs.item.is_list_kind.Lts as lts
 use borrow.Author.Tests.{ne-eqb}
 use Rattle.recipe.specs.Layout.{isListKind}
 
--- src/lib.rt:41:9
 returns : tie.Need-returns
 unfolding isListKind
 returns c =
     rw (c .if1 .taken)
 
--- src/lib.rt:37:1
 returns-2 : tie.Need-returns-2
 unfolding isListKind
 returns-2 c =

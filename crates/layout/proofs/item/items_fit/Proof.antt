@@ -1,11 +1,9 @@
+-- `items_fit` answers the test of all items. Invariant: the answer is that of the items from i on. Measure: the items left.
 use Rattle.layout.proofs.item.items_fit.Statement.{statement}
 use Rattle.layout.proofs.item.items_fit.Tie as tie
-use Rattle.layout.proofs.item.items_fit.Reads as reads
-use Rattle.layout.proofs.item.items_fit.Lts as lts
-use Rattle.layout.proofs.item.is_item.Reads as is-item-reads
 use borrow.Author.Needs.{needs}
 use borrow.Author.Tests.{not-true, not-false}
-use mathlib.Core.Path.{_≡_, refl, ap, sym, _∙_}
+use mathlib.Core.Path.{_≡_, refl, sym, _∙_}
 use Prim.Native.Nat.{_≤_, _-_}
 use native.Mathlib.Omega.{arith}
 use lib.ListN.{drop}
@@ -21,39 +19,32 @@ abbrev μ-loop : tie.MeasureT-loop
 μ-loop table n i₀ i =
     n - i
 
--- src/item.rt:100:5
 loop-holds : tie.Need-loop-holds Inv-loop μ-loop
 loop-holds c =
     (omega arith, refl)
 
--- src/item.rt:101:13
 is-item-requires : tie.Need-is-item-requires Inv-loop μ-loop
 is-item-requires c κs =
     search needs
 
--- src/item.rt:102:13
 returns : tie.Need-returns Inv-loop μ-loop
 returns c =
     let a = c .before .before .before .before .before .args in let F = isItem (a .table .now) (a .n) in
     sym (c .before .before .before .loop .inv .1 ∙ all-misfit F (a .table .now) (a .n) (c .before .before .before .before .before .pre) (c .before .before .before .loop .i) (omega arith) (sym (c .before .is-item .ensures) ∙ not-true (c .before .is-item .result) (c .if1 .taken)))
 
--- src/item.rt:104:9
 add-i : tie.Need-add-i Inv-loop μ-loop
 add-i c =
     search needs
 
--- src/item.rt:100:5
 loop-less : tie.Need-loop-less Inv-loop μ-loop
 loop-less c =
     search needs
 
--- src/item.rt:100:5
 loop-again : tie.Need-loop-again Inv-loop μ-loop
 loop-again c =
     let a = c .before .before .before .before .before .args in let F = isItem (a .table .now) (a .n) in
     (omega arith, c .before .before .before .loop .inv .1 ∙ all-more F (a .table .now) (a .n) (c .before .before .before .before .before .pre) (c .before .before .before .loop .i) (omega arith) (sym (c .before .is-item .ensures) ∙ not-false (c .before .is-item .result) (c .if1 .left)))
 
--- src/item.rt:95:1
 returns-2 : tie.Need-returns-2 Inv-loop μ-loop
 returns-2 c =
     let a = c .before .before .before .args in let F = isItem (a .table .now) (a .n) in let e : c .before .loop .i ≡ a .n = omega arith in

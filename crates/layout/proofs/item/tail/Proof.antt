@@ -1,39 +1,32 @@
+-- `tail` reads the third word of an item.
 use borrow.Author.Needs.{needs}
 use Rattle.layout.proofs.item.tail.Statement.{statement}
 use Rattle.layout.proofs.item.tail.Tie as tie
-use Rattle.layout.proofs.item.tail.Reads as reads
-use Rattle.layout.proofs.item.tail.Lts as lts
 use mathlib.Core.Path.{refl}
 use Prim.Native.Nat.{_+_, _*_}
 use native.Mathlib.Omega.{arith}
 use Rattle.recipe.specs.TreeFrom.{tailAt}
 
--- src/lib.rt:34:11
 mul-result : tie.Need-mul-result
 mul-result c =
     search needs
 
--- src/lib.rt:34:11
 add-result : tie.Need-add-result
 add-result c =
     search needs
 
--- src/lib.rt:34:5
 mul-result-2 : tie.Need-mul-result-2
 mul-result-2 c =
     search needs
 
--- src/lib.rt:34:5
 shared-slice-read-result : tie.Need-shared-slice-read-result
 shared-slice-read-result c =
     search needs
 
--- src/lib.rt:34:5
 cast-result : tie.Need-cast-result
 cast-result c =
     omega (arith, c .shared-slice-known .given (3 * c .before .args .i + 2))
 
--- src/lib.rt:30:1
 returns : tie.Need-returns
 unfolding tailAt
 returns c =

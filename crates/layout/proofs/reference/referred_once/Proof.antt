@@ -1,14 +1,11 @@
+-- `referred_once` answers the test of all counts. Invariant: the answer is that of the items from i on. Measure: the items left.
 use Rattle.layout.proofs.reference.referred_once.Statement.{statement}
 use Rattle.layout.proofs.reference.referred_once.Tie as tie
-use Rattle.layout.proofs.reference.referred_once.Reads as reads
-use Rattle.layout.proofs.reference.referred_once.Lts as lts
-use Rattle.layout.proofs.reference.count_items.Reads as count-items-reads
 use borrow.Author.Needs.{needs}
-use mathlib.Core.Path.{_≡_, refl, sym, subst, _∙_}
-use Prim.Native.Nat.{_≤_, _<_, _-_, _*_}
+use mathlib.Core.Path.{_≡_, refl, sym, _∙_}
+use Prim.Native.Nat.{_≤_, _<_, _-_}
 use native.Mathlib.Omega.{arith}
-use lib.ListN.{length, drop}
-use Rattle.words.specs.Limits.{itemsMost}
+use lib.ListN.{drop}
 use Rattle.words.specs.Lists.{all}
 use Rattle.recipe.specs.Table.{items, references, isReferredOnce}
 use Rattle.layout.specs.ItemTests.{all-misfit, all-more, all-end}
@@ -22,56 +19,46 @@ abbrev μ-loop : tie.MeasureT-loop
 μ-loop table n counts i₀ i =
     n - i
 
--- src/reference.rt:55:27
 slice-aggregate-count-items : tie.Need-slice-aggregate-count-items Inv-loop μ-loop
 slice-aggregate-count-items c =
     search needs
 
--- src/reference.rt:55:5
 count-items-requires : tie.Need-count-items-requires Inv-loop μ-loop
 count-items-requires c κs =
     (c .before .before .pre .0, c .before .before .pre .2, refl, most-zero)
 
--- src/reference.rt:57:5
 loop-holds : tie.Need-loop-holds Inv-loop μ-loop
 loop-holds c =
     (omega arith, omega arith, once-first (c .before .before .before .before .args .table .now) (c .before .before .before .before .args .n) (c .before .before .before .before .pre .0) (c .before .before .before .before .pre .1))
 
--- src/reference.rt:58:12
 mul-if1 : tie.Need-mul-if1 Inv-loop μ-loop
 mul-if1 c =
     search needs
 
--- src/reference.rt:58:12
 array-read-if1 : tie.Need-array-read-if1 Inv-loop μ-loop
 array-read-if1 c =
     search needs
 
--- src/reference.rt:59:13
 returns : tie.Need-returns Inv-loop μ-loop
 returns c =
     let a = c .before .before .before .before .before .before .before .args in let F = isReferredOnce (references (items 0 (a .table .now))) in
     let w = once-not (a .table .now) (a .n) (c .before .before .before .before .before .before .before .pre .0) (c .before .before .before .before .count-items .last .1 .1 .0) (c .before .before .before .before .count-items .ensures) (c .before .before .loop .i) (c .before .before .loop .inv .0) (omega arith) (c .if1 .taken) in
     sym (c .before .before .loop .inv .2 ∙ all-misfit F (a .table .now) (a .n) (c .before .before .before .before .before .before .before .pre .0) (c .before .before .loop .i) (omega arith) w)
 
--- src/reference.rt:61:9
 add-i : tie.Need-add-i Inv-loop μ-loop
 add-i c =
     search needs
 
--- src/reference.rt:57:5
 loop-less : tie.Need-loop-less Inv-loop μ-loop
 loop-less c =
     search needs
 
--- src/reference.rt:57:5
 loop-again : tie.Need-loop-again Inv-loop μ-loop
 loop-again c =
     let a = c .before .before .before .before .before .before .before .args in let F = isReferredOnce (references (items 0 (a .table .now))) in
     let w = once-so (a .table .now) (a .n) (c .before .before .before .before .before .before .before .pre .0) (c .before .before .before .before .count-items .last .1 .1 .0) (c .before .before .before .before .count-items .ensures) (c .before .before .loop .i) (c .before .before .loop .inv .0) (omega arith) (c .if1 .left) in
     (omega arith, omega arith, c .before .before .loop .inv .2 ∙ all-more F (a .table .now) (a .n) (c .before .before .before .before .before .before .before .pre .0) (c .before .before .loop .i) (omega arith) w)
 
--- src/reference.rt:50:1
 returns-2 : tie.Need-returns-2 Inv-loop μ-loop
 returns-2 c =
     let a = c .before .before .before .before .before .before .args in let F = isReferredOnce (references (items 0 (a .table .now))) in let e : c .before .loop .i ≡ a .n = omega arith in

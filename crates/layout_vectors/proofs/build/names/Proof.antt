@@ -1,13 +1,9 @@
+-- `names` writes inside its table. Invariant: the length is kept. Measure: the operations left.
 use Rattle.layout_vectors.proofs.build.names.Statement.{statement}
 use Rattle.layout_vectors.proofs.build.names.Tie as tie
-use Rattle.layout_vectors.proofs.build.names.Reads as reads
-use Rattle.layout_vectors.proofs.build.names.Lts as lts
-use Rattle.layout_vectors.proofs.build.five.Reads as five-reads
-use Rattle.layout_vectors.proofs.build.put.Reads as put-reads
 use borrow.Author.Needs.{needs}
-use mathlib.Core.Path.{_≡_, refl, _∙_}
+use mathlib.Core.Path.{_≡_}
 use Prim.Native.Nat.{_≤_, _-_}
-use native.Mathlib.Omega.{arith}
 use lib.ListN.{length}
 
 abbrev Inv-loop : tie.InvT-loop
@@ -18,137 +14,110 @@ abbrev μ-loop : tie.MeasureT-loop
 μ-loop table₀ n last i₀ table i =
     n - i
 
--- src/build.rt:67:21
 mul-five : tie.Need-mul-five Inv-loop μ-loop
 mul-five c =
     search needs
 
--- src/build.rt:67:17
 add-five : tie.Need-add-five Inv-loop μ-loop
 add-five c =
     search needs
 
--- src/build.rt:67:5
 five-requires : tie.Need-five-requires Inv-loop μ-loop
 five-requires c κs =
     search needs
 
--- src/build.rt:68:20
 mul-put : tie.Need-mul-put Inv-loop μ-loop
 mul-put c =
     search needs
 
--- src/build.rt:68:16
 add-put : tie.Need-add-put Inv-loop μ-loop
 add-put c =
     search needs
 
--- src/build.rt:68:34
 mul-put-2 : tie.Need-mul-put-2 Inv-loop μ-loop
 mul-put-2 c =
     search needs
 
--- src/build.rt:68:30
 add-put-2 : tie.Need-add-put-2 Inv-loop μ-loop
 add-put-2 c =
     search needs
 
--- src/build.rt:68:45
 mul-put-3 : tie.Need-mul-put-3 Inv-loop μ-loop
 mul-put-3 c =
     search needs
 
--- src/build.rt:68:41
 add-put-3 : tie.Need-add-put-3 Inv-loop μ-loop
 add-put-3 c =
     search needs
 
--- src/build.rt:68:5
 put-requires : tie.Need-put-requires Inv-loop μ-loop
 put-requires c κs =
     search needs
 
--- src/build.rt:69:20
 mul-put-4 : tie.Need-mul-put-4 Inv-loop μ-loop
 mul-put-4 c =
     search needs
 
--- src/build.rt:69:16
 add-put-4 : tie.Need-add-put-4 Inv-loop μ-loop
 add-put-4 c =
     search needs
 
--- src/build.rt:69:5
 put-requires-2 : tie.Need-put-requires-2 Inv-loop μ-loop
 put-requires-2 c κs =
     search needs
 
--- src/build.rt:71:5
 loop-holds : tie.Need-loop-holds Inv-loop μ-loop
 loop-holds c =
     search needs
 
--- src/build.rt:72:22
 mul-at : tie.Need-mul-at Inv-loop μ-loop
 mul-at c =
     search needs
 
--- src/build.rt:72:18
 add-at : tie.Need-add-at Inv-loop μ-loop
 add-at c =
     search needs
 
--- src/build.rt:73:27
 add-put-5 : tie.Need-add-put-5 Inv-loop μ-loop
 add-put-5 c =
     search needs
 
--- src/build.rt:73:35
 add-put-6 : tie.Need-add-put-6 Inv-loop μ-loop
 add-put-6 c =
     search needs
 
--- src/build.rt:73:9
 put-requires-3 : tie.Need-put-requires-3 Inv-loop μ-loop
 put-requires-3 c κs =
     search needs
 
--- src/build.rt:74:20
 add-put-7 : tie.Need-add-put-7 Inv-loop μ-loop
 add-put-7 c =
     search needs
 
--- src/build.rt:74:31
 add-put-8 : tie.Need-add-put-8 Inv-loop μ-loop
 add-put-8 c =
     search needs
 
--- src/build.rt:74:9
 put-requires-4 : tie.Need-put-requires-4 Inv-loop μ-loop
 put-requires-4 c κs =
     search needs
 
--- src/build.rt:75:9
 add-i : tie.Need-add-i Inv-loop μ-loop
 add-i c =
     search needs
 
--- src/build.rt:71:5
 loop-less : tie.Need-loop-less Inv-loop μ-loop
 loop-less c =
     search needs
 
--- src/build.rt:71:5
 loop-again : tie.Need-loop-again Inv-loop μ-loop
 loop-again c =
     search needs
 
--- src/build.rt:64:1
 same-length : tie.Need-same-length Inv-loop μ-loop
 same-length c =
     search needs
 
--- src/build.rt:64:1
 returns : tie.Need-returns Inv-loop μ-loop
 returns c =
     search needs

@@ -1,72 +1,58 @@
+-- `put` writes inside its table.
 use borrow.Author.Needs.{needs}
 use Rattle.layout_vectors.proofs.build.put.Statement.{statement}
 use Rattle.layout_vectors.proofs.build.put.Tie as tie
-use Rattle.layout_vectors.proofs.build.put.Reads as reads
-use Rattle.layout_vectors.proofs.build.put.Lts as lts
 use native.Mathlib.Omega.{arith}
 use lib.ListN.{length-set}
 
--- src/build.rt:8:14
 mul-at : tie.Need-mul-at
 mul-at c =
     search needs
 
--- src/build.rt:9:8
 add-if1 : tie.Need-add-if1
 add-if1 c =
     search needs
 
--- src/build.rt:10:9
 mul-table : tie.Need-mul-table
 mul-table c =
     search needs
 
--- src/build.rt:10:9
 slice-write-table : tie.Need-slice-write-table
 slice-write-table c =
     search needs
 
--- src/build.rt:11:15
 add-table : tie.Need-add-table
 add-table c =
     search needs
 
--- src/build.rt:11:9
 mul-table-2 : tie.Need-mul-table-2
 mul-table-2 c =
     search needs
 
--- src/build.rt:11:9
 slice-write-table-2 : tie.Need-slice-write-table-2
 slice-write-table-2 c =
     simp length-set (omega arith)
 
--- src/build.rt:12:15
 add-table-2 : tie.Need-add-table-2
 add-table-2 c =
     search needs
 
--- src/build.rt:12:9
 mul-table-3 : tie.Need-mul-table-3
 mul-table-3 c =
     search needs
 
--- src/build.rt:12:9
 slice-write-table-3 : tie.Need-slice-write-table-3
 slice-write-table-3 c =
     simp length-set (omega arith)
 
--- src/build.rt:5:1
 same-length : tie.Need-same-length
 same-length c =
     search needs
 
--- src/build.rt:5:1
 returns : tie.Need-returns
 returns c =
     search needs
 
--- src/build.rt:5:1
 returns-2 : tie.Need-returns-2
 returns-2 c =
     search needs

@@ -14,6 +14,7 @@ use Rattle.datum.specs.Constant.{integer}
 use Rattle.reading.specs.Meaning.{constant}
 use Rattle.reader.specs.Answers.{integerMeaning}
 use Rattle.reading.specs.MeaningLaws.{numeral-means, other-means, name-is, name-malformed}
+use Rattle.reader.specs.ToldLaws.{name-short}
 
 sub-word : tie.Need-sub-word
 sub-word c =
@@ -38,7 +39,8 @@ is-name-requires c κs =
 returns : tie.Need-returns
 returns c =
     let w = part (c .before .before .before .before .before .before .args .from) (c .before .before .before .before .before .before .args .to) (c .before .before .before .before .before .before .args .text .now) in
-    (refl, refl, other-means w (sym (c .before .before .before .is-numeral .ensures) ∙ not-true (c .before .before .before .is-numeral .result) (c .before .before .if1 .taken)) ∙ name-is w (sym (c .before .is-name .ensures) ∙ c .if2 .taken))
+    let n = sym (c .before .is-name .ensures) ∙ c .if2 .taken in
+    (refl, refl, name-short w n, other-means w (sym (c .before .before .before .is-numeral .ensures) ∙ not-true (c .before .before .before .is-numeral .result) (c .before .before .if1 .taken)) ∙ name-is w n)
 
 returns-2 : tie.Need-returns-2
 returns-2 c =

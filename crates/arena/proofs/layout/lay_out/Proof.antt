@@ -1,0 +1,73 @@
+-- `layout::lay_out`. The last `laid` items have their nodes.
+use Rattle.arena.proofs.layout.lay_out.Statement.{statement}
+use Rattle.arena.proofs.layout.lay_out.Tie as tie
+use Rattle.recipe.specs.Table.{itemCount}
+use Rattle.arena.specs.LayOut.{most, Laid, laid-none, laid-all}
+use borrow.Author.Needs.{needs}
+use native.Mathlib.Omega.{arith}
+use mathlib.Core.Path.{_≡_, refl, subst, _∙_}
+use Prim.Native.Nat.{ℕ, _-_, _/_, _≤_}
+use lib.ListN.{length}
+
+abbrev Inv-loop : tie.InvT-loop
+Inv-loop items work₀ count laid₀ work laid =
+    (laid ≤ count) × (length work ≡ length work₀) × Laid items work laid
+
+abbrev μ-loop : tie.MeasureT-loop
+μ-loop items work₀ count laid₀ work laid =
+    count - laid
+
+cast-count : tie.Need-cast-count Inv-loop μ-loop
+unfolding itemCount
+cast-count c =
+    let a = c .before .before .args in omega (arith, most (a .items .now) (c .before .before .pre .0))
+
+loop-holds : tie.Need-loop-holds Inv-loop μ-loop
+loop-holds c =
+    let a = c .before .before .args in (omega arith, refl, laid-none (a .items .now) (a .work .now))
+
+lay-item-requires : tie.Need-lay-item-requires Inv-loop μ-loop
+unfolding itemCount
+lay-item-requires c κs =
+    let a = c .before .before .before .before .before .args in record { layout = c .before .before .before .before .before .pre .0; count-is = refl; more = c .before .loop-test .taken; fits = omega (arith, c .before .before .before .before .before .pre .1, c .before .before .loop .inv .1); laid = c .before .before .loop .inv .2 }
+
+add-laid : tie.Need-add-laid Inv-loop μ-loop
+unfolding itemCount
+add-laid c =
+    let a = c .before .before .before .before .before .before .before .before .args in omega (arith, most (a .items .now) (c .before .before .before .before .before .before .before .before .pre .0))
+
+loop-less : tie.Need-loop-less Inv-loop μ-loop
+loop-less c = search needs
+
+loop-again : tie.Need-loop-again Inv-loop μ-loop
+loop-again c =
+    (omega arith, c .before .before .lay-item .kept .1 .0 ∙ c .before .before .before .before .before .loop .inv .1, c .before .before .lay-item .ensures)
+
+mul-result : tie.Need-mul-result Inv-loop μ-loop
+unfolding itemCount
+mul-result c =
+    let a = c .before .before .before .before .args in omega (arith, most (a .items .now) (c .before .before .before .before .pre .0))
+
+same-length : tie.Need-same-length Inv-loop μ-loop
+same-length c = search needs
+
+returns : tie.Need-returns Inv-loop μ-loop
+unfolding itemCount
+returns c =
+    let a = c .before .before .before .before .args in let e : c .before .loop .laid ≡ length (a .items .now) / 3 = omega (arith, c .before .loop .inv .0) in laid-all (a .items .now) _ _ (c .before .before .before .before .pre .0) refl (subst (λ (n : ℕ). Laid (a .items .now) (c .before .loop .work) n) e (c .before .loop .inv .2))
+
+pub lay-out-spec : {M : Type 1} → statement M
+lay-out-spec =
+    tie.close
+    (tie.spec
+    Inv-loop
+    μ-loop
+    cast-count
+    loop-holds
+    lay-item-requires
+    add-laid
+    loop-less
+    loop-again
+    mul-result
+    same-length
+    returns)

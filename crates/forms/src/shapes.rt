@@ -1,0 +1,111 @@
+// Shapes of forms (ground 13). `macros` says which kind of form binds: a lambda's list has names, a let-syntax's and a
+// letrec-syntax's has (name rules).
+
+ghost use mathlib.Core.Path.{_≡_};
+ghost use Prim.Native.Nat.{ℕ};
+ghost use Rattle.recipe.specs.Tree.{isOrdinaryName};
+ghost use Rattle.expansion.specs.Forms.{isLambda, isMacro, isMacros};
+ghost use Rattle.forms.specs.Lists.{Means};
+ghost use Rattle.forms.specs.Shapes.{TestsIn, ownName, bindsOne, bindsAll};
+use crate::lists;
+use arena::cells;
+use arena::names;
+
+// The numbers of `...` and `_`.
+pub const ELLIPSIS: u32 = 6;
+
+pub const WILDCARD: u32 = 7;
+
+// The most names of a lambda.
+pub const FORMALS_MOST: u32 = 8;
+
+// Whether a node is a name that may be bound: other than `...` and `_`, which are known by number alone.
+pub fn is_ordinary(items: &[u32], work: &[u32], node: u32) -> bool
+    ensures { λ r. ⌜ TestsIn isOrdinaryName (now (items .entry)) (now (work .entry)) node r ⌝ }
+{
+    if cells::word(work, node, 3) != cells::NAME {
+        return false;
+    }
+    let number = names::number_of(items, work, node);
+    if number == ELLIPSIS {
+        return false;
+    }
+    number != WILDCARD
+}
+
+// The node of the name that an element binds.
+pub fn own_name(work: &[u32], node: u32, macros: bool) -> u32
+    ensures { λ r. ⌜ Means (now (work .entry)) node r (ownName macros) ⌝ }
+{
+    if macros {
+        return lists::element(work, node, 0);
+    }
+    node
+}
+
+// (name rules)
+pub fn is_macro(items: &[u32], work: &[u32], node: u32) -> bool
+    ensures { λ r. ⌜ TestsIn isMacro (now (items .entry)) (now (work .entry)) node r ⌝ }
+{
+    if !lists::is_list_of(work, node, 2) {
+        return false;
+    }
+    let own = lists::element(work, node, 0);
+    is_ordinary(items, work, own)
+}
+
+// Whether an element of the list binds as it should.
+pub fn binds_one(items: &[u32], work: &[u32], node: u32, macros: bool) -> bool
+    ensures { λ r. ⌜ TestsIn (bindsOne macros) (now (items .entry)) (now (work .entry)) node r ⌝ }
+{
+    if macros {
+        return is_macro(items, work, node);
+    }
+    is_ordinary(items, work, node)
+}
+
+// Whether all elements of a list do, and are at most so many.
+pub fn binds_all(items: &[u32], work: &[u32], list: u32, macros: bool, most: u32) -> bool
+    ensures { λ r. ⌜ TestsIn (bindsAll macros most) (now (items .entry)) (now (work .entry)) list r ⌝ }
+{
+    if cells::word(work, list, 3) != cells::PAIR {
+        return true;
+    }
+    if most == 0 {
+        return false;
+    }
+    let first = cells::reference(work, list, 2);
+    if !binds_one(items, work, first, macros) {
+        return false;
+    }
+    let rest = cells::reference(work, list, 1);
+    binds_all(items, work, rest, macros, most - 1)
+}
+
+// (lambda (name ...) body)
+pub fn is_lambda(items: &[u32], work: &[u32], node: u32) -> bool
+    ensures { λ r. ⌜ TestsIn isLambda (now (items .entry)) (now (work .entry)) node r ⌝ }
+{
+    if !lists::is_list_of(work, node, 3) {
+        return false;
+    }
+    let list = lists::element(work, node, 1);
+    if !lists::is_list(work, list) {
+        return false;
+    }
+    binds_all(items, work, list, false, FORMALS_MOST)
+}
+
+// (let-syntax ((name rules) ...) body), at most `limit` macros
+pub fn is_macros(items: &[u32], work: &[u32], node: u32, limit: u32) -> bool
+    ensures { λ r. ⌜ TestsIn (isMacros limit) (now (items .entry)) (now (work .entry)) node r ⌝ }
+{
+    if !lists::is_list_of(work, node, 3) {
+        return false;
+    }
+    let list = lists::element(work, node, 1);
+    if cells::word(work, list, 3) != cells::PAIR {
+        return false;
+    }
+    binds_all(items, work, list, true, limit)
+}

@@ -1,0 +1,212 @@
+use borrow.Author.Needs.{needs}
+use Rattle.reader.proofs.element.advance.Statement.{statement}
+use Rattle.reader.proofs.element.advance.Tie as tie
+use mathlib.Core.Path.{_≡_, refl, sym, ap, subst, _∙_}
+use native.Mathlib.Omega.{arith}
+use lib.ListN.{length}
+use mir.Syntax.{w32}
+use mir.Val.{ofZ}
+use mir.Facts.{toZ-ofZ}
+use Rattle.words.specs.Lists.{part}
+use Rattle.datum.specs.Constant.{integer, boolean}
+use Rattle.reading.specs.Meaning.{begins, ends, constant, name}
+use Rattle.reader.specs.Told.{Told}
+use Rattle.reader.specs.MovedLaws.{stepped-moved, constant-stepped, refused-moved, end-moved}
+
+token-at-requires : tie.Need-token-at-requires
+token-at-requires c κs =
+    search needs
+
+enum-told : tie.Need-enum-told
+enum-told c =
+    search needs
+
+finish-requires : tie.Need-finish-requires
+finish-requires c κs =
+    search needs
+
+enum-known-ground : tie.Need-enum-known-ground
+enum-known-ground c =
+    search needs
+
+enum-known-next : tie.Need-enum-known-next
+enum-known-next c =
+    search needs
+
+open-list-requires : tie.Need-open-list-requires
+open-list-requires c κs =
+    search needs
+
+moved-requires : tie.Need-moved-requires
+moved-requires c κs =
+    search needs
+
+enum-known-next-2 : tie.Need-enum-known-next-2
+enum-known-next-2 c =
+    search needs
+
+close-list-requires : tie.Need-close-list-requires
+close-list-requires c κs =
+    search needs
+
+moved-requires-2 : tie.Need-moved-requires-2
+moved-requires-2 c κs =
+    search needs
+
+enum-known-b : tie.Need-enum-known-b
+enum-known-b c =
+    search needs
+
+put-token-requires : tie.Need-put-token-requires
+put-token-requires c κs =
+    search needs
+
+moved-requires-3 : tie.Need-moved-requires-3
+moved-requires-3 c κs =
+    search needs
+
+enum-known-z : tie.Need-enum-known-z
+enum-known-z c =
+    search needs
+
+to-word-requires : tie.Need-to-word-requires
+to-word-requires c κs =
+    search needs
+
+put-token-requires-2 : tie.Need-put-token-requires-2
+put-token-requires-2 c κs =
+    search needs
+
+moved-requires-4 : tie.Need-moved-requires-4
+moved-requires-4 c κs =
+    search needs
+
+enum-known-from : tie.Need-enum-known-from
+enum-known-from c =
+    search needs
+
+sub-put-name : tie.Need-sub-put-name
+sub-put-name c =
+    let n = subst (Told (c .before .before .before .before .before .before .before .before .before .args .text .now) (c .before .before .before .before .before .before .before .before .before .args .cursor .at)) (c .before .before .before .from .given .1) (c .before .before .before .before .before .token-at .ensures) in omega (arith, n .1)
+
+part-put-name-start : tie.Need-part-put-name-start
+part-put-name-start c =
+    let n = subst (Told (c .before .before .before .before .before .before .before .before .before .args .text .now) (c .before .before .before .before .before .before .before .before .before .args .cursor .at)) (c .before .before .before .from .given .1) (c .before .before .before .before .before .token-at .ensures) in omega (arith, n .1)
+
+part-put-name-end : tie.Need-part-put-name-end
+part-put-name-end c =
+    let n = subst (Told (c .before .before .before .before .before .before .before .before .before .args .text .now) (c .before .before .before .before .before .before .before .before .before .args .cursor .at)) (c .before .before .before .from .given .1) (c .before .before .before .before .before .token-at .ensures) in omega (arith, n .3 .high)
+
+put-name-requires : tie.Need-put-name-requires
+put-name-requires c κs =
+    let n = subst (Told (c .before .before .before .before .before .before .before .before .before .before .args .text .now) (c .before .before .before .before .before .before .before .before .before .before .args .cursor .at)) (c .before .before .before .before .from .given .1) (c .before .before .before .before .before .before .token-at .ensures) in (c .before .before .before .before .before .before .before .before .before .before .pre .1 .0, (c .before .before .before .before .before .before .before .before .before .before .pre .1 .1, n .2))
+
+moved-requires-5 : tie.Need-moved-requires-5
+moved-requires-5 c κs =
+    search needs
+
+returns : tie.Need-returns
+returns c =
+    λ r h. end-moved (c .before .before .before .before .before .before .before .args .text .now) (c .before .before .before .before .before .before .before .args .cursor .at) r (c .before .before .before .before .before .before .before .args .place) (c .before .before .before .before .before .before .before .args .items .now) (c .before .before .before .before .before .before .before .args .names .now) h
+    (subst (Told (c .before .before .before .before .before .before .before .args .text .now) (c .before .before .before .before .before .before .before .args .cursor .at)) (c .before .enum-told .given .1) (c .before .before .before .token-at .ensures)) (c .finish .result) (c .finish .ensures)
+
+returns-2 : tie.Need-returns-2
+returns-2 c =
+    λ r h. refused-moved (c .before .before .before .before .before .before .before .args .text .now) (c .before .before .before .before .before .before .before .args .cursor .at) r (c .before .ground .given .0 .0)
+    (subst (Told (c .before .before .before .before .before .before .before .args .text .now) (c .before .before .before .before .before .before .before .args .cursor .at)) (c .before .ground .given .1) (c .before .before .before .token-at .ensures))
+
+same-length : tie.Need-same-length
+same-length c =
+    search needs
+
+returns-3 : tie.Need-returns-3
+returns-3 c =
+    λ r h. stepped-moved (c .before .before .before .before .before .before .before .before .before .before .before .before .args .text .now) (c .before .before .before .before .before .before .before .before .before .before .before .before .args .cursor .at) r (c .before .before .before .open-list .last .0) (c .before .before .before .before .before .before .before .before .before .before .before .before .args .names .now) begins (c .before .before .before .before .before .before .next .given .0 .0)
+    (subst (Told (c .before .before .before .before .before .before .before .before .before .before .before .before .args .text .now) (c .before .before .before .before .before .before .before .before .before .before .before .before .args .cursor .at)) (c .before .before .before .before .before .before .next .given .1) (c .before .before .before .before .before .before .before .before .token-at .ensures)) (c .before .before .before .open-list .result) (c .moved .result) (c .moved .ensures) (c .before .before .before .open-list .ensures r (c .before .before .before .before .before .before .before .before .before .before .before .before .args .names .now) h)
+
+same-length-2 : tie.Need-same-length-2
+same-length-2 c =
+    search needs
+
+returns-4 : tie.Need-returns-4
+returns-4 c =
+    λ r h. stepped-moved (c .before .before .before .before .before .before .before .before .before .before .before .before .args .text .now) (c .before .before .before .before .before .before .before .before .before .before .before .before .args .cursor .at) r (c .before .before .before .close-list .last .0) (c .before .before .before .before .before .before .before .before .before .before .before .before .args .names .now) ends (c .before .before .before .before .before .before .next2 .given .0 .0)
+    (subst (Told (c .before .before .before .before .before .before .before .before .before .before .before .before .args .text .now) (c .before .before .before .before .before .before .before .before .before .before .before .before .args .cursor .at)) (c .before .before .before .before .before .before .next2 .given .1) (c .before .before .before .before .before .before .before .before .token-at .ensures)) (c .before .before .before .close-list .result) (c .moved2 .result) (c .moved2 .ensures) (c .before .before .before .close-list .ensures r (c .before .before .before .before .before .before .before .before .before .before .before .before .args .names .now) h)
+
+same-length-3 : tie.Need-same-length-3
+same-length-3 c =
+    search needs
+
+returns-5 : tie.Need-returns-5
+unfolding boolean
+returns-5 c =
+    λ r h. stepped-moved (c .before .before .before .before .before .before .before .before .before .before .before .before .args .text .now) (c .before .before .before .before .before .before .before .before .before .before .before .before .args .cursor .at) r (c .before .before .before .put-token .last .0) (c .before .before .before .before .before .before .before .before .before .before .before .before .args .names .now) (constant (boolean (c .before .before .before .before .before .before .b .given .0 .0))) (c .before .before .before .before .before .before .b .given .0 .1 .0)
+    (subst (Told (c .before .before .before .before .before .before .before .before .before .before .before .before .args .text .now) (c .before .before .before .before .before .before .before .before .before .before .before .before .args .cursor .at)) (c .before .before .before .before .before .before .b .given .1) (c .before .before .before .before .before .before .before .before .token-at .ensures)) (c .before .before .before .put-token .result) (c .moved3 .result) (c .moved3 .ensures)
+    (constant-stepped r (c .before .before .before .before .before .before .before .before .before .before .before .before .args .place) (c .before .before .before .before .before .before .before .before .before .before .before .before .args .items .now) (c .before .before .before .put-token .last .0) (c .before .before .before .before .before .before .before .before .before .before .before .before .args .names .now) (boolean (c .before .before .before .before .before .before .b .given .0 .0)) (c .before .before .before .before .before .before .b .given .0 .0) (c .before .before .before .put-token .result) h refl refl (c .before .before .before .put-token .ensures))
+
+same-length-4 : tie.Need-same-length-4
+same-length-4 c =
+    search needs
+
+returns-6 : tie.Need-returns-6
+unfolding integer
+returns-6 c =
+    λ r h. stepped-moved (c .before .before .before .before .before .before .before .before .before .before .before .before .before .args .text .now) (c .before .before .before .before .before .before .before .before .before .before .before .before .before .args .cursor .at) r (c .before .before .before .put-token2 .last .0) (c .before .before .before .before .before .before .before .before .before .before .before .before .before .args .names .now) (constant (integer (ofZ w32 (c .before .before .before .before .before .before .before .z .given .0 .0)))) (c .before .before .before .before .before .before .before .z .given .0 .1 .0)
+    (subst (Told (c .before .before .before .before .before .before .before .before .before .before .before .before .before .args .text .now) (c .before .before .before .before .before .before .before .before .before .before .before .before .before .args .cursor .at)) (c .before .before .before .before .before .before .before .z .given .1) (c .before .before .before .before .before .before .before .before .before .token-at .ensures)) (c .before .before .before .put-token2 .result) (c .moved4 .result) (c .moved4 .ensures)
+    (constant-stepped r (c .before .before .before .before .before .before .before .before .before .before .before .before .before .args .place) (c .before .before .before .before .before .before .before .before .before .before .before .before .before .args .items .now) (c .before .before .before .put-token2 .last .0) (c .before .before .before .before .before .before .before .before .before .before .before .before .before .args .names .now) (integer (ofZ w32 (c .before .before .before .before .before .before .before .z .given .0 .0))) (c .before .before .before .before .to-word .result) (c .before .before .before .put-token2 .result) h refl
+    (sym (c .before .before .before .before .to-word .ensures ∙ ap (ofZ w32) (toZ-ofZ {w = w32} {z = c .before .before .before .before .before .before .before .z .given .0 .0} (record { sfits = c .before .before .before .before .before .before .known-told5 .given .0 .1 })))) (c .before .before .before .put-token2 .ensures))
+
+same-length-5 : tie.Need-same-length-5
+same-length-5 c =
+    search needs
+
+same-length-6 : tie.Need-same-length-6
+same-length-6 c =
+    search needs
+
+returns-7 : tie.Need-returns-7
+returns-7 c =
+    λ r h. let n = subst (Told (c .before .before .before .before .before .before .before .before .before .before .before .before .before .before .before .before .args .text .now) (c .before .before .before .before .before .before .before .before .before .before .before .before .before .before .before .before .args .cursor .at)) (c .before .before .before .before .before .before .before .before .before .before .from .given .1) (c .before .before .before .before .before .before .before .before .before .before .before .before .token-at .ensures) in
+    stepped-moved (c .before .before .before .before .before .before .before .before .before .before .before .before .before .before .before .before .args .text .now) (c .before .before .before .before .before .before .before .before .before .before .before .before .before .before .before .before .args .cursor .at) r (c .before .before .before .before .before .put-name .last .0) (c .before .before .before .before .before .put-name .last .1 .0) (name (part (c .before .before .before .before .before .before .before .before .before .before .from .given .0 .0) (c .before .before .before .before .before .before .before .before .before .before .from .given .0 .1 .0 .at) (c .before .before .before .before .before .before .before .before .before .before .before .before .before .before .before .before .args .text .now))) (c .before .before .before .before .before .before .before .before .before .before .from .given .0 .1 .0)
+    (n .3) (c .before .before .before .before .before .put-name .result) (c .moved5 .result) (c .moved5 .ensures) (c .before .before .before .before .before .put-name .ensures r h)
+
+pub advance-spec : {M : Type 1} → statement M
+advance-spec =
+    tie.close
+    (tie.spec
+    token-at-requires
+    enum-told
+    finish-requires
+    enum-known-ground
+    enum-known-next
+    open-list-requires
+    moved-requires
+    enum-known-next-2
+    close-list-requires
+    moved-requires-2
+    enum-known-b
+    put-token-requires
+    moved-requires-3
+    enum-known-z
+    to-word-requires
+    put-token-requires-2
+    moved-requires-4
+    enum-known-from
+    sub-put-name
+    part-put-name-start
+    part-put-name-end
+    put-name-requires
+    moved-requires-5
+    returns
+    returns-2
+    same-length
+    returns-3
+    same-length-2
+    returns-4
+    same-length-3
+    returns-5
+    same-length-4
+    returns-6
+    same-length-5
+    same-length-6
+    returns-7)
