@@ -6,7 +6,6 @@ pub mod Words
 pub mod Decode
 pub mod Every
 pub mod EveryLaws
-pub mod Forget
 pub mod DecodeRound
 pub mod DecodeRead
 pub mod DecodeLaws

@@ -36,7 +36,7 @@ groundOf unfinished = []
 unfoldable pub wordsOf : Run → List ℕ
 wordsOf r = groundOf (r .outcome) ++ (r .steps ∷ r .sum ∷ r .core)
 
--- what is tried: a recipe's text; the form's item, its macro, the rule and the old name (the new one is 1,000)
+-- what is tried: a recipe's text; the form's item, its macro, the rule, the old name and the new one (1,000 if not told)
 pub record Trial : Type 0 where
   pub text : String
   pub choice : Choice
@@ -48,8 +48,12 @@ pub record Finding : Type 0 where
   pub first : List ℕ
   pub second : List ℕ
 
+unfoldable pub trialTo : (new : ℕ) → String → (form macro rule old : ℕ) → Trial
+trialTo new text form macro rule old = record { text = text; choice = record { form = form; macro = macro; rule = rule; old = old; new = new } }
+
 unfoldable pub trial : String → (form macro rule old : ℕ) → Trial
-trial text form macro rule old = record { text = text; choice = record { form = form; macro = macro; rule = rule; old = old; new = 1000 } }
+unfolding trialTo
+trial text form macro rule old = trialTo 1000 text form macro rule old
 
 unfoldable pub finding : List Bool → ℕ → List ℕ → List ℕ → Finding
 finding hold lookups first second = record { hold = hold; lookups = lookups; first = first; second = second }
@@ -191,6 +195,11 @@ failing =
     (
       trial "() (quote (let-syntax ((m (syntax-rules () ((_) x)))) 1))" 7 0 0 9,
       finding (false ∷ true ∷ true ∷ true ∷ true ∷ []) 0 (0 ∷ 0 ∷ 0 ∷ 5 ∷ 3 ∷ 4 ∷ 3 ∷ 5 ∷ 1 ∷ 5 ∷ 2 ∷ 4 ∷ 8 ∷ 5 ∷ 3 ∷ 4 ∷ 5 ∷ 5 ∷ 0 ∷ 5 ∷ 2 ∷ 5 ∷ 1 ∷ 4 ∷ 7 ∷ 4 ∷ 9 ∷ 2 ∷ 1 ∷ []) (0 ∷ 0 ∷ 0 ∷ 5 ∷ 3 ∷ 4 ∷ 3 ∷ 5 ∷ 1 ∷ 5 ∷ 2 ∷ 4 ∷ 8 ∷ 5 ∷ 3 ∷ 4 ∷ 5 ∷ 5 ∷ 0 ∷ 5 ∷ 2 ∷ 5 ∷ 1 ∷ 4 ∷ 7 ∷ 4 ∷ 1000 ∷ 2 ∷ 1 ∷ []),
+    ) ∷
+    -- the new name is one that the template has: it becomes the lambda's
+    (
+      trialTo 8 "(a) (let-syntax ((m (syntax-rules () ((_) (lambda (t) a))))) (m))" 6 0 0 10,
+      finding (true ∷ true ∷ false ∷ true ∷ true ∷ []) 0 (0 ∷ 1 ∷ 9 ∷ 7 ∷ 0 ∷ 1 ∷ 1 ∷ 0 ∷ []) (0 ∷ 1 ∷ 9 ∷ 7 ∷ 0 ∷ 1 ∷ 0 ∷ 0 ∷ []),
     ) ∷
     -- a variable of the rule
     (

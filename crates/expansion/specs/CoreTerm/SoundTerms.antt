@@ -21,7 +21,7 @@ use Rattle.core_term.specs.Words.{encode}
 use Rattle.core_term.specs.EveryLaws.{every-from}
 use Rattle.core_term.specs.DecodeLaws.{decode-encode}
 use Rattle.expansion.specs.CoreTerm.Worlds.{World, FineTree}
-use Rattle.core_term.specs.Forget.{every-forget}
+use Rattle.core_term.specs.ForgetLaws.{every-forget}
 
 -- ---- what is asked of every node: that it is one, and all of ground 19
 
