@@ -1,7 +1,7 @@
 -- Laws of ground 19: what a term that passes is, and what the checker's walks through the windows say of it.
 use mathlib.Core.Path.{_≡_, refl, sym, ap, subst, _∙_}
 use mathlib.Core.Bool.{Bool, true, false, cond, _&&_, false≢true}
-use mathlib.Core.List.{List, [], _∷_, _++_, append-nil}
+use mathlib.Core.List.{List, [], _++_, append-nil}
 use mathlib.Core.Option.{Option, none, some}
 use Prim.Native.Nat.{ℕ, _+_, _-_, _≤_, _<_}
 use native.Mathlib.Omega.{arith}
@@ -14,7 +14,7 @@ use Rattle.core_term.specs.Words.{encode}
 use Rattle.core_term.specs.Decode.{decode}
 use Rattle.core_term.specs.NodeLaws.{both}
 use Rattle.core_term.specs.DecodeLaws.{forget-plain, decode-encode, encode-decode, encode-unique}
-use Rattle.core_term.specs.Every.{every, proper, wellFormed}
+use Rattle.core_term.specs.Every.{every, wellFormed}
 use Rattle.core_term.specs.Check.{scoped, numbered, allKnown, passes, passing, termOf, isSome, isTerm}
 use Rattle.core_term.specs.Window.{window}
 use Rattle.core_term.specs.WindowLaws.{case, allowed-node}

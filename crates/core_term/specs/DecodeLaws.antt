@@ -6,13 +6,13 @@ use mathlib.Core.Option.{some}
 use Prim.Native.Nat.{ℕ, _+_, _≤_}
 use native.Mathlib.Omega.{arith}
 use lib.ListN.{length, replicate, length-append}
-use Rattle.core_term.specs.Node.{Got, got, missing, nothing}
-use Rattle.core_term.specs.Term.{Term, variableC, operationC, datumC, ifC, lambdaC, applicationC, noneC, moreC, Plain, Plains, count, variables, forget, forgetAll}
+use Rattle.core_term.specs.Node.{Got, got, missing}
+use Rattle.core_term.specs.Term.{Term, variableC, operationC, datumC, ifC, lambdaC, applicationC, noneC, moreC, Plain, Plains, forget, forgetAll}
 use Rattle.core_term.specs.Words.{encode}
 use Rattle.core_term.specs.Decode.{termAt, whole, decode}
 use Rattle.core_term.specs.Every.{every, proper, wellFormed}
 use Rattle.core_term.specs.DecodeRound.{term-round}
-use Rattle.core_term.specs.DecodeRead.{TermRead, term-read}
+use Rattle.core_term.specs.DecodeRead.{term-read}
 
 -- a lambda that says nothing of its variables has only their count
 units : (l : List (Unit {0})) → replicate (length l) tt ≡ l

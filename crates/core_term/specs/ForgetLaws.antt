@@ -1,8 +1,8 @@
 -- What a lambda says of its variables stands in no word and in no test, so a term passes with it as without.
-use mathlib.Core.Path.{_≡_, refl, sym, ap, _∙_}
-use mathlib.Core.Bool.{Bool, true, false, _&&_}
-use mathlib.Core.List.{List, [], _∷_, _++_}
-use mathlib.Core.Option.{Option, some}
+use mathlib.Core.Path.{_≡_, refl, ap, _∙_}
+use mathlib.Core.Bool.{Bool, true, _&&_}
+use mathlib.Core.List.{List}
+use mathlib.Core.Option.{some}
 use Prim.Native.Nat.{ℕ, suc, _+_, _≤_}
 use lib.ListN.{length, replicate, length-replicate}
 use Rattle.core_term.specs.Node.{ifN, lambdaN, applicationN}
@@ -11,7 +11,7 @@ use Rattle.core_term.specs.Term.{Term, variableC, operationC, datumC, if
 use Rattle.core_term.specs.Words.{encode, encodeAll}
 use Rattle.core_term.specs.Every.{Asked, every, everyTerm, proper, wellFormed}
 use Rattle.core_term.specs.Check.{outside, variableInside, firstNumber, known, asked, scoped, numbered, allKnown, passes, termOf}
-use Rattle.core_term.specs.CheckLaws.{Accepted, termOf-is}
+use Rattle.core_term.specs.CheckLaws.{termOf-is}
 
 module _ {F : Type 0} where
   forget-size : (formals : List F) → length (replicate (length formals) (tt {0})) ≡ length formals

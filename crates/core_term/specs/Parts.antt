@@ -1,7 +1,5 @@
 -- A term as its first node and the terms that follow it, which is how code walks through words.
-use mathlib.Core.Bool.{Bool, true, false, _&&_}
-use mathlib.Core.List.{List}
-use Prim.Native.Nat.{ℕ}
+use mathlib.Core.Bool.{Bool, true, _&&_}
 use lib.ListN.{length}
 use Rattle.datum.specs.Datum.{Datum, constantD, nameD, listD, Data, noneD, moreD}
 use Rattle.datum.specs.Datum as D

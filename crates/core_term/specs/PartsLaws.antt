@@ -1,12 +1,12 @@
 -- Laws of a term's node and parts: its words, its variables, and a test of every node, by them.
-use mathlib.Core.Path.{_≡_, refl, sym, ap, subst, _∙_}
-use mathlib.Core.Bool.{Bool, true, false, _&&_, and-true, false≢true}
-use mathlib.Core.List.{List, [], _∷_, _++_, append-assoc, append-nil}
-use Prim.Native.Nat.{ℕ, zero, suc, _+_, _≤_}
+use mathlib.Core.Path.{_≡_, refl, sym, ap, _∙_}
+use mathlib.Core.Bool.{Bool, true, _&&_, and-true, false≢true}
+use mathlib.Core.List.{List, _++_, append-nil}
+use Prim.Native.Nat.{ℕ, suc, _+_}
 use native.Mathlib.Omega.{arith}
-use native.Mathlib.Nat.{add-zero, zero-add}
-use lib.ListN.{length, replicate, length-replicate}
-use Rattle.datum.specs.Datum.{Datum, constantD, nameD, listD, Data, noneD, moreD}
+use native.Mathlib.Nat.{add-zero}
+use lib.ListN.{replicate, length-replicate}
+use Rattle.datum.specs.Datum.{constantD, nameD, listD, Data, noneD, moreD}
 use Rattle.datum.specs.Datum as D
 use Rattle.core_term.specs.Node.{Node, nodeWords, parts, binds, isDatumNode, isListNode, variableN, operationN, constantN, nameN, listN, ifN, lambdaN, applicationN}
 use Rattle.core_term.specs.Term.{variableC, operationC, datumC, ifC, lambdaC, applicationC, noneC, moreC, count, variables, variablesAll, Plain, Plains}

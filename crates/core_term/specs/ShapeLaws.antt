@@ -1,20 +1,19 @@
 -- The checker's walk: a node, then its parts one after another.
 use mathlib.Core.Path.{_≡_, refl, sym, ap, subst, _∙_}
-use mathlib.Core.Bool.{Bool, true, false, cond, not, _&&_, _||_, or-true, or-false}
-use mathlib.Core.List.{List, [], _∷_, _++_, append-assoc}
-use Prim.Native.Nat.{ℕ, zero, suc, _+_, _-_, _≤_, _<_}
+use mathlib.Core.Bool.{Bool, true, false, cond, not, _&&_, _||_}
+use mathlib.Core.List.{List, _++_, append-assoc}
+use Prim.Native.Nat.{ℕ, _+_, _-_, _≤_, _<_}
 use native.Mathlib.Omega.{arith}
 use native.Mathlib.Nat.{add-zero}
 use lib.ListN.{length, drop, take, length-append, length-drop}
 use lib.Seq.{drop-at, drop-drop, take-all, drop-append-seam}
-use Rattle.core_term.specs.declared.head.Head.{Head}
 use Rattle.core_term.specs.declared.head.Head.the-variants as H
 use Rattle.core_term.specs.Node.{Node, Got, got, missing, nodeWords, nodeAt, parts, binds, isNode, isDatumNode, isListNode}
-use Rattle.core_term.specs.NodeLaws.{both, node-round, node-some, NodeRead, node-read}
+use Rattle.core_term.specs.NodeLaws.{both, node-round, node-some, node-read}
 use Rattle.core_term.specs.Term.{noneC, moreC, Plain, Plains, count, variables, variablesAll}
 use Rattle.core_term.specs.Words.{encode, encodeAll}
 use Rattle.core_term.specs.DecodeLaws.{encode-unique}
-use Rattle.core_term.specs.Every.{Asked, every, everyTerm, proper, wellFormed}
+use Rattle.core_term.specs.Every.{Asked, every, everyTerm, proper}
 use Rattle.core_term.specs.EveryLaws.{every-from}
 use Rattle.core_term.specs.Parts.{node, partsOf, isDatum, areData}
 use Rattle.core_term.specs.PartsLaws.{encode-parts, every-parts, variables-parts, count-parts, list-data, Built, built}

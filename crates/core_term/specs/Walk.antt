@@ -1,6 +1,6 @@
 -- The checker's walk in its own terms: flags, a place in the words, the variables bound so far and the parts left.
-use mathlib.Core.Path.{_≡_, refl, sym, ap, subst, _∙_}
-use mathlib.Core.Bool.{Bool, true, false}
+use mathlib.Core.Path.{_≡_, sym, ap, subst, _∙_}
+use mathlib.Core.Bool.{Bool}
 use mathlib.Core.List.{List}
 use Prim.Native.Nat.{ℕ, _+_, _-_, _≤_, _<_}
 use native.Mathlib.Omega.{arith}
@@ -13,7 +13,7 @@ use Rattle.core_term.specs.Every.{Asked}
 use Rattle.core_term.specs.Window.{marked, window, headOf}
 use Rattle.core_term.specs.WindowLaws.{marked-undo, marked-clear, marked-length, allowed-node}
 use Rattle.core_term.specs.Shape.{Whole, None, Shaped, Kept, Clear}
-use Rattle.core_term.specs.ShapeLaws.{rest-is, Found, found, not-found, Going, going-start, going-end, going-none, going-on, next-inside}
+use Rattle.core_term.specs.ShapeLaws.{rest-is, found, not-found, Going, going-start, going-end, going-none, going-on, next-inside}
 
 -- words from a place on, as code hands them down
 abbrev pub rest : ℕ → List ℕ → List ℕ

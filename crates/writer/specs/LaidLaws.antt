@@ -1,12 +1,12 @@
 -- Laws of laying bytes: one text after another is both together.
 use mathlib.Core.Path.{_≡_, refl, sym, ap, subst, _∙_}
-use mathlib.Core.Bool.{Bool, true, false, false≢true}
+use mathlib.Core.Bool.{Bool, true, false}
 use mathlib.Core.List.{List, [], _∷_, _++_, append-assoc, append-nil}
 use Prim.Native.Nat.{ℕ, suc, _+_, _≤_, _<_}
 use native.Mathlib.Omega.{arith}
 use native.Mathlib.Numerals.{add-one}
 use native.Mathlib.Nat.{add-zero}
-use lib.ListN.{length, take, drop, set, getD, length-append, length-set, take-append-drop, length-take, length-drop}
+use lib.ListN.{length, take, drop, set, getD, length-append, take-append-drop, length-drop}
 use lib.Seq.{set-split, append-snoc, paste, paste-suc, take-length, length-take-le, take-at, drop-at, drop-drop}
 use Rattle.writer.specs.declared.bytes.Put.{Put}
 use Rattle.writer.specs.declared.bytes.Put.the-variants.{Done, Full}

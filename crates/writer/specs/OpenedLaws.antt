@@ -1,18 +1,18 @@
 -- A node by its code, with the words that stand with it.
 use mathlib.Core.Path.{_≡_, refl, sym, ap, subst, _∙_}
-use mathlib.Core.Bool.{Bool, true, false, cond, _&&_, false≢true}
+use mathlib.Core.Bool.{Bool, true, false, cond, false≢true}
 use mathlib.Core.List.{List, [], _∷_, _++_}
 use Prim.Native.Nat.{ℕ, zero, suc, _+_, _-_, _*_, _≤_, _<_}
 use native.Mathlib.Omega.{arith}
 use native.Mathlib.Numerals.{add-one}
 use lib.Dec.{leb, ltb}
 use lib.ListN.{length, getD, take, drop}
-use borrow.Author.Tests.{leb-true, ltb-true, lt-ltb, ltb-false, ne-eqb}
+use borrow.Author.Tests.{leb-true, ltb-true, ne-eqb}
 use Rattle.words.specs.Lists.{within}
 use Rattle.datum.specs.NameTable.{lengthAt, nameAt, hasName}
 use Rattle.datum.specs.Constant.{isConstant, constantWords, integer, boolean}
-use Rattle.core_term.specs.Node.{Node, nodeWords, Got, got, missing, nodeAt, sound, isNode, variableN, operationN, constantN, nameN, listN, ifN, lambdaN, applicationN}
-use Rattle.core_term.specs.NodeLaws.{both, NodeRead, node-read}
+use Rattle.core_term.specs.Node.{Node, nodeWords, got, missing, nodeAt, sound, isNode, variableN, operationN, constantN, nameN, listN, ifN, lambdaN, applicationN}
+use Rattle.core_term.specs.NodeLaws.{both, node-read}
 use Rattle.core_term.specs.WindowLaws.{case}
 use Rattle.core_term.specs.HeadLaws.{at-none, at-past, short-missing, lambda-short, variable-at, operation-at, integer-at, boolean-at, name-at, list-at, if-at, lambda-at, application-at}
 use Rattle.words.specs.Text.{bytes}

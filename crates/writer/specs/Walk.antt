@@ -1,8 +1,8 @@
 -- A walk through a term's words that lays its text.
 use mathlib.Core.Path.{_≡_}
-use mathlib.Core.Bool.{Bool, true, false, _&&_}
+use mathlib.Core.Bool.{Bool, true, _&&_}
 use mathlib.Core.List.{List, _++_}
-use Prim.Native.Nat.{ℕ, _+_, _≤_}
+use Prim.Native.Nat.{ℕ}
 use lib.ListN.{length}
 use Rattle.core_term.specs.Node.{Node, nodeWords, parts, isNode, isListNode}
 use Rattle.core_term.specs.Term.{Plain}

@@ -1,20 +1,20 @@
 -- Laws of the walk: a node's shape, then its parts one after another.
 use mathlib.Core.Path.{_≡_, refl, sym, ap, subst, _∙_}
 use mathlib.Core.Bool.{Bool, true, false, _&&_}
-use mathlib.Core.List.{List, [], _∷_, _++_, append-assoc, append-nil}
-use Prim.Native.Nat.{ℕ, zero, suc, _+_, _-_, _≤_, _<_}
+use mathlib.Core.List.{List, [], _++_, append-assoc, append-nil}
+use Prim.Native.Nat.{ℕ, suc, _+_, _-_, _≤_, _<_}
 use native.Mathlib.Omega.{arith}
 use native.Mathlib.Numerals.{add-one}
 use lib.ListN.{length, getD, take, drop, length-append, length-drop}
 use lib.Seq.{drop-append-seam, drop-at, drop-drop}
 use Rattle.datum.specs.Constant.{constantWords}
-use Rattle.core_term.specs.Node.{Node, Got, got, nodeAt, nodeWords, parts, binds, isNode, isListNode, variableN, operationN, constantN, nameN, listN, ifN, lambdaN, applicationN}
+use Rattle.core_term.specs.Node.{Node, got, nodeAt, nodeWords, parts, binds, isNode, isListNode, variableN, operationN, constantN, nameN, listN, ifN, lambdaN, applicationN}
 use Rattle.datum.specs.NameTable.{nameAt}
-use Rattle.core_term.specs.NodeLaws.{both, node-round, node-some, NodeRead, node-read}
+use Rattle.core_term.specs.NodeLaws.{both, node-round, node-some, node-read}
 use Rattle.core_term.specs.Term.{noneC, moreC, Plain, Plains, count, variables}
 use Rattle.core_term.specs.Words.{encode, encodeAll}
 use Rattle.core_term.specs.DecodeLaws.{encode-unique}
-use Rattle.core_term.specs.Every.{Asked, every, everyTerm, proper}
+use Rattle.core_term.specs.Every.{every, everyTerm, proper}
 use Rattle.core_term.specs.EveryLaws.{every-from}
 use Rattle.core_term.specs.Parts.{node, partsOf, isDatum, areData}
 use Rattle.core_term.specs.PartsLaws.{encode-parts, every-parts, count-parts, list-data}
@@ -25,11 +25,11 @@ use Rattle.writer.specs.declared.term.Step.{Step}
 use Rattle.writer.specs.declared.term.Step.the-variants as S
 use Rattle.writer.specs.declared.term.Shape.{Shape}
 use Rattle.writer.specs.Laid.{Left}
-use Rattle.writer.specs.LaidLaws.{left-done, left-length, left-room, left-full, left-then, left-is, left-none}
+use Rattle.writer.specs.LaidLaws.{left-full, left-then, left-is, left-none}
 use Rattle.writer.specs.Pieces.{gapText, gapFirst, opening, closing, textIn, partsText}
 use Rattle.writer.specs.PiecesLaws.{pieces}
 use Rattle.writer.specs.Opened.{named, Opened}
-use Rattle.writer.specs.OpenedLaws.{code-is, code-most, is-list, is-if, is-lambda, is-application}
+use Rattle.writer.specs.OpenedLaws.{code-is, is-list, is-if, is-lambda, is-application}
 use Rattle.writer.specs.Walk.{Shaped, spelling, Fits, Begins, Walked, walked, stopped}
 
 -- ---- shapes

@@ -1,13 +1,12 @@
 -- What a call of writing answers and leaves, as its promise says it, and the laws that show it.
 use mathlib.Core.Path.{_≡_, refl, sym, ap, subst, _∙_}
-use mathlib.Core.Bool.{Bool, true, false, _&&_, true≢false, false≢true}
-use mathlib.Core.List.{List, [], _∷_, _++_, append-nil}
+use mathlib.Core.Bool.{Bool, true, false, true≢false, false≢true}
+use mathlib.Core.List.{List, [], _++_, append-nil}
 use mathlib.Core.Option.{Option, none, some}
 use Prim.Native.Nat.{ℕ, _+_, _≤_, _<_}
 use native.Mathlib.Omega.{arith}
 use native.Mathlib.Nat.{zero-add}
-use lib.Dec.{leb}
-use lib.ListN.{length, take, drop}
+use lib.ListN.{length, drop}
 use borrow.Author.Tests.{le-leb, lt-leb}
 use Rattle.datum.specs.NameTable.{nameAt, hasName}
 use Rattle.core_term.specs.Node.{Node, isNode, variableN, operationN, constantN, nameN, listN, ifN, lambdaN, applicationN}
@@ -15,15 +14,13 @@ use Rattle.core_term.specs.Term.{Plain, variables}
 use Rattle.core_term.specs.Words.{encode}
 use Rattle.core_term.specs.Every.{Asked, every, proper, wellFormed}
 use Rattle.core_term.specs.EveryLaws.{every-from}
-use Rattle.core_term.specs.Check.{Scope, outside, inside, known, asked, allKnown, termOf, isTerm, isSome}
+use Rattle.core_term.specs.Check.{Scope, outside, known, asked, allKnown, termOf, isTerm, isSome}
 use Rattle.core_term.specs.CheckLaws.{Accepted, accepted, isTerm-some}
-use Rattle.core_term.specs.Text.{text}
-use Rattle.writer.specs.declared.bytes.Put.the-variants as P
 use Rattle.writer.specs.declared.term.Step.{Step}
 use Rattle.writer.specs.declared.term.Step.the-variants as S
 use Rattle.writer.specs.declared.Writing.{Writing}
 use Rattle.writer.specs.declared.Writing.the-variants.{Written, NoTerm, NoRoom}
-use Rattle.writer.specs.Laid.{laid, Left}
+use Rattle.writer.specs.Laid.{laid}
 use Rattle.writer.specs.LaidLaws.{done-is, full-is}
 use Rattle.writer.specs.Pieces.{textIn}
 use Rattle.writer.specs.Opened.{named}

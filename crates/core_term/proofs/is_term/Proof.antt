@@ -1,3 +1,4 @@
+-- With a name table.
 use borrow.Author.Needs.{needs}
 use Rattle.core_term.proofs.is_term.Statement.{statement}
 use Rattle.core_term.proofs.is_term.Tie as tie
@@ -6,12 +7,10 @@ use Rattle.core_term.proofs.is_term.Lts as lts
 use Rattle.core_term.proofs.every_window.Reads as every-window-reads
 use Rattle.core_term.specs.Window.{goodName}
 
--- src/lib.rt:47:5
 every-window-requires : tie.Need-every-window-requires
 every-window-requires c κs =
     search needs
 
--- src/lib.rt:44:1
 returns : tie.Need-returns
 unfolding goodName
 returns c =

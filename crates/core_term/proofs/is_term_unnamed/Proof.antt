@@ -1,3 +1,4 @@
+-- Without one.
 use borrow.Author.Needs.{needs}
 use Rattle.core_term.proofs.is_term_unnamed.Statement.{statement}
 use Rattle.core_term.proofs.is_term_unnamed.Tie as tie
@@ -6,17 +7,14 @@ use Rattle.core_term.proofs.is_term_unnamed.Lts as lts
 use Rattle.core_term.proofs.every_window.Reads as every-window-reads
 use Rattle.core_term.specs.Window.{goodName}
 
--- src/lib.rt:55:37
 slice-aggregate-every-window : tie.Need-slice-aggregate-every-window
 slice-aggregate-every-window c =
     search needs
 
--- src/lib.rt:55:5
 every-window-requires : tie.Need-every-window-requires
 every-window-requires c κs =
     search needs
 
--- src/lib.rt:51:1
 returns : tie.Need-returns
 unfolding goodName
 returns c =

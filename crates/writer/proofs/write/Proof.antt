@@ -1,3 +1,4 @@
+-- The first walk measures and leaves the output; the second lays what has been measured.
 use borrow.Author.Needs.{needs}
 use Rattle.writer.proofs.write.Statement.{statement}
 use Rattle.writer.proofs.write.Tie as tie
@@ -6,79 +7,62 @@ use Rattle.writer.proofs.write.Lts as lts
 use Rattle.core_term.proofs.is_term.Reads as is-term-reads
 use Rattle.writer.proofs.term.term.Reads as term-reads
 use native.Mathlib.Omega.{arith}
-use mathlib.Core.Path.{_≡_, refl, sym, ap, subst, _∙_}
-use mathlib.Core.List.{List, [], _∷_, _++_}
-use Prim.Native.Nat.{ℕ, _≤_, _<_, _+_, _-_, _*_, _/_, _%_}
-use Rattle.writer.specs.LaidLaws.{left-length, left-room, left-full, left-then, left-is, left-none}
+use mathlib.Core.Path.{sym, _∙_}
 use borrow.Author.Tests.{not-true, not-false}
-use Rattle.writer.specs.Written.{Wrote, no-term, term-begins, no-room, no-second, wrote-text}
+use Rattle.writer.specs.Written.{no-term, term-begins, no-room, no-second, wrote-text}
 
--- src/lib.rt:25:9
 is-term-requires : tie.Need-is-term-requires
 is-term-requires c κs =
     search needs
 
--- src/lib.rt:26:9
 returns : tie.Need-returns
 returns c =
     no-term (c .before .before .before .before .before .args .words .now) _ _ _ (sym (c .before .is-term .ensures) ∙ not-true (c .before .is-term .result) (c .if1 .taken))
 
--- src/lib.rt:28:36
 term-requires : tie.Need-term-requires
 term-requires c κs =
     (omega arith, term-begins (c .before .before .before .before .before .before .args .words .now) _ _ (sym (c .before .before .is-term .ensures) ∙ not-false (c .before .before .is-term .result) (c .before .if1 .left)))
 
--- src/lib.rt:28:20
 enum-known-used : tie.Need-enum-known-used
 enum-known-used c =
     search needs
 
--- src/lib.rt:29:9
 enum-told : tie.Need-enum-told
 enum-told c =
     search needs
 
--- src/lib.rt:29:9
 same-length : tie.Need-same-length
 same-length c =
     c .before .before .before .before .term .kept .1 .1 .0
 
--- src/lib.rt:29:9
 returns-2 : tie.Need-returns-2
 returns-2 c =
     no-room (c .before .before .before .before .before .before .before .before .before .before .before .args .words .now) _ _ (sym (c .before .before .before .before .before .before .before .is-term .ensures) ∙ not-false (c .before .before .before .before .before .before .before .is-term .result) (c .before .before .before .before .before .before .if1 .left)) _ _ _ (c .before .before .before .before .term .ensures) (c .enum-told .given .1)
 
--- src/lib.rt:31:34
 term-requires-2 : tie.Need-term-requires-2
 term-requires-2 c κs =
     (omega arith, term-begins (c .before .before .before .before .before .before .before .before .before .before .before .before .before .args .words .now) _ _ (sym (c .before .before .before .before .before .before .before .before .before .is-term .ensures) ∙ not-false (c .before .before .before .before .before .before .before .before .before .is-term .result) (c .before .before .before .before .before .before .before .before .if1 .left)))
 
--- src/lib.rt:31:20
 enum-known-again : tie.Need-enum-known-again
 enum-known-again c =
     search needs
 
--- src/lib.rt:32:9
 enum-told-2 : tie.Need-enum-told-2
 enum-told-2 c =
     search needs
 
--- src/lib.rt:32:9
 same-length-2 : tie.Need-same-length-2
 same-length-2 c =
     c .before .before .before .before .term2 .kept .1 .1 .0 ∙ c .before .before .before .before .before .before .before .before .before .before .before .term .kept .1 .1 .0
 
--- src/lib.rt:32:9
 returns-3 : tie.Need-returns-3
 returns-3 c =
     no-second (c .before .before .before .before .before .before .before .before .before .before .before .before .before .before .before .before .before .before .args .words .now) _ _ (sym (c .before .before .before .before .before .before .before .before .before .before .before .before .before .before .is-term .ensures) ∙ not-false (c .before .before .before .before .before .before .before .before .before .before .before .before .before .before .is-term .result) (c .before .before .before .before .before .before .before .before .before .before .before .before .before .if1 .left)) _ _ _ (c .before .before .before .before .before .before .before .before .before .before .before .term .ensures) _ _ (c .before .before .before .before .before .before .before .used .given .1) _ _ (c .before .before .before .before .term2 .ensures) (c .enum-told2 .given .1)
 
--- src/lib.rt:22:1
 same-length-3 : tie.Need-same-length-3
 same-length-3 c =
     c .before .before .before .before .before .term2 .kept .1 .1 .0 ∙ c .before .before .before .before .before .before .before .before .before .before .before .before .term .kept .1 .1 .0
 
--- src/lib.rt:22:1
 returns-4 : tie.Need-returns-4
 returns-4 c =
     wrote-text (c .before .before .before .before .before .before .before .before .before .before .before .before .before .before .before .before .before .before .before .args .words .now) _ _ (sym (c .before .before .before .before .before .before .before .before .before .before .before .before .before .before .before .is-term .ensures) ∙ not-false (c .before .before .before .before .before .before .before .before .before .before .before .before .before .before .before .is-term .result) (c .before .before .before .before .before .before .before .before .before .before .before .before .before .before .if1 .left)) _ _ _ (c .before .before .before .before .before .before .before .before .before .before .before .before .term .ensures) _ _ (c .before .before .before .before .before .before .before .before .used .given .1) _ _ (c .before .before .before .before .before .term2 .ensures) _ _ (c .before .again .given .1)

@@ -1,3 +1,4 @@
+-- The words keep their count.
 use Rattle.writer_vectors.proofs.nest.Statement.{statement}
 use Rattle.writer_vectors.proofs.nest.Tie as tie
 use Rattle.writer_vectors.proofs.nest.Reads as reads
@@ -5,7 +6,7 @@ use Rattle.writer_vectors.proofs.nest.Lts as lts
 use borrow.Author.Needs.{needs}
 use native.Mathlib.Omega.{arith}
 use mathlib.Core.Path.{_≡_, refl, _∙_}
-use Prim.Native.Nat.{_≤_, _-_}
+use Prim.Native.Nat.{_-_}
 use lib.ListN.{length, length-set}
 
 abbrev Inv-loop : tie.InvT-loop
@@ -16,77 +17,62 @@ abbrev μ-loop : tie.MeasureT-loop
 μ-loop words₀ code step last i₀ words i =
     last - i
 
--- src/main.rt:133:9
 returns : tie.Need-returns Inv-loop μ-loop
 returns c =
     search needs
 
--- src/main.rt:135:16
 sub-last : tie.Need-sub-last Inv-loop μ-loop
 sub-last c =
     search needs
 
--- src/main.rt:137:5
 loop-holds : tie.Need-loop-holds Inv-loop μ-loop
 loop-holds c =
     refl
 
--- src/main.rt:138:9
 mul-words : tie.Need-mul-words Inv-loop μ-loop
 mul-words c =
     search needs
 
--- src/main.rt:138:9
 slice-write-words : tie.Need-slice-write-words Inv-loop μ-loop
 slice-write-words c =
     omega (arith, c .before .loop .inv)
 
--- src/main.rt:139:13
 add-i : tie.Need-add-i Inv-loop μ-loop
 add-i c =
     search needs
 
--- src/main.rt:137:5
 loop-less : tie.Need-loop-less Inv-loop μ-loop
 loop-less c =
     search needs
 
--- src/main.rt:137:5
 loop-again : tie.Need-loop-again Inv-loop μ-loop
 loop-again c =
     length-set (c .before .loop .words) _ _ ∙ c .before .loop .inv
 
--- src/main.rt:141:5
 mul-words-2 : tie.Need-mul-words-2 Inv-loop μ-loop
 mul-words-2 c =
     search needs
 
--- src/main.rt:141:5
 slice-write-words-2 : tie.Need-slice-write-words-2 Inv-loop μ-loop
 slice-write-words-2 c =
     omega (arith, c .before .loop .inv)
 
--- src/main.rt:142:11
 add-words : tie.Need-add-words Inv-loop μ-loop
 add-words c =
     search needs
 
--- src/main.rt:142:5
 mul-words-3 : tie.Need-mul-words-3 Inv-loop μ-loop
 mul-words-3 c =
     search needs
 
--- src/main.rt:142:5
 slice-write-words-3 : tie.Need-slice-write-words-3 Inv-loop μ-loop
 slice-write-words-3 c =
     simp length-set (omega (arith, c .before .loop .inv))
 
--- src/main.rt:129:1
 same-length : tie.Need-same-length Inv-loop μ-loop
 same-length c =
     simp length-set (c .before .loop .inv)
 
--- src/main.rt:129:1
 returns-2 : tie.Need-returns-2 Inv-loop μ-loop
 returns-2 c =
     search needs

@@ -1,3 +1,4 @@
+-- The first i bytes of src are laid at `at`.
 use Rattle.writer.proofs.bytes.copy.Statement.{statement}
 use Rattle.writer.proofs.bytes.copy.Tie as tie
 use Rattle.writer.proofs.bytes.copy.Reads as reads
@@ -20,67 +21,54 @@ abbrev μ-loop : tie.MeasureT-loop
 μ-loop src out₀ at ink to i₀ out i =
     length src - i
 
--- src/bytes.rt:32:8
 sub-if1 : tie.Need-sub-if1 Inv-loop μ-loop
 sub-if1 c =
     search needs
 
--- src/bytes.rt:33:9
 returns : tie.Need-returns Inv-loop μ-loop
 returns c =
     full (omega arith) (λ h. refl)
 
--- src/bytes.rt:35:14
 add-to : tie.Need-add-to Inv-loop μ-loop
 add-to c =
     search needs
 
--- src/bytes.rt:37:9
 returns-2 : tie.Need-returns-2 Inv-loop μ-loop
 returns-2 c =
     done refl (omega arith) (sym (laid-dry (c .before .before .args .ink) _ _ _ (not-true (c .before .before .args .ink) (c .if2 .taken))))
 
--- src/bytes.rt:40:5
 loop-holds : tie.Need-loop-holds Inv-loop μ-loop
 loop-holds c =
     (refl, omega arith, paste-zero (c .before .before .args .out .now) (c .before .before .args .at) (c .before .before .args .src .now))
 
--- src/bytes.rt:41:23
 shared-slice-read-out : tie.Need-shared-slice-read-out Inv-loop μ-loop
 shared-slice-read-out c =
     search needs
 
--- src/bytes.rt:41:13
 add-out : tie.Need-add-out Inv-loop μ-loop
 add-out c =
     search needs
 
--- src/bytes.rt:41:9
 slice-write-out : tie.Need-slice-write-out Inv-loop μ-loop
 slice-write-out c =
     omega (arith, c .before .before .loop .inv .0)
 
--- src/bytes.rt:42:13
 add-i : tie.Need-add-i Inv-loop μ-loop
 add-i c =
     search needs
 
--- src/bytes.rt:40:5
 loop-less : tie.Need-loop-less Inv-loop μ-loop
 loop-less c =
     search needs
 
--- src/bytes.rt:40:5
 loop-again : tie.Need-loop-again Inv-loop μ-loop
 loop-again c =
     (length-set (c .before .before .loop .out) _ _ ∙ c .before .before .loop .inv .0, omega arith, copy-more (c .before .before .before .before .before .args .out .now) _ (c .before .before .before .before .before .args .src .now) (c .before .before .loop .out) (c .before .before .loop .i) (omega arith) (omega arith) (c .before .before .loop .inv .2))
 
--- src/bytes.rt:28:1
 same-length : tie.Need-same-length Inv-loop μ-loop
 same-length c =
     c .before .loop .inv .0
 
--- src/bytes.rt:28:1
 returns-3 : tie.Need-returns-3 Inv-loop μ-loop
 returns-3 c =
     done refl (omega arith) (copy-done (c .before .before .before .before .args .out .now) _ (c .before .before .before .before .args .src .now) _ (c .before .loop .i) (c .before .before .before .before .args .ink) (omega arith) (not-false (c .before .before .before .before .args .ink) (c .before .before .if2 .left)) (c .before .loop .inv .2))

@@ -1,4 +1,5 @@
-use Prim.Native.Nat.{ℕ, _<_, _≤_, _+_, _-_, _*_, _/_, _%_}
+-- The digits before the last, then the last. The measure is the number.
+use Prim.Native.Nat.{ℕ, _<_}
 use borrow.Fn.Kinds.{In}
 use borrow.Fn.PlainCycle.{Measures, is, falls, and}
 use Rattle.writer.proofs.numbers.digits.Reads as digits
@@ -9,10 +10,8 @@ use Rattle.writer.proofs.numbers.+digits.{statement}
 use Rattle.writer.proofs.numbers.+digits.Tie.{close}
 use borrow.Author.Needs.{needs}
 use native.Mathlib.Omega.{arith}
-use mathlib.Core.Path.{_≡_, refl, sym, ap, subst, _∙_}
-use mathlib.Core.List.{List, [], _∷_, _++_}
-use Rattle.writer.specs.LaidLaws.{left-length, left-room, left-full, left-then, left-is, left-none}
-use Rattle.core_term.specs.Decimal.{decimal}
+use mathlib.Core.Path.{sym, _∙_}
+use Rattle.writer.specs.LaidLaws.{left-room, left-full, left-then, left-is}
 use Rattle.core_term.specs.DecimalLaws.{decimal-one, decimal-more}
 
 abbrev μ-digits : Measures 1 digits-kinds.ps ℕ
@@ -25,164 +24,72 @@ digits-at t = and 1 digits-kinds.ps (is 1 digits-kinds.ps μ-digits t) digits.Pr
 abbrev digits-below : ℕ → In 1 digits-kinds.ps
 digits-below t = and 1 digits-kinds.ps (falls 1 digits-kinds.ps _<_ μ-digits t) digits.Pre
 
--- src/numbers.rt:18:26
-digits-cast-byte : (t : ℕ) → digits-lts.Need-cast-byte (
-  byte-reads.Asked,
-  byte-reads.Learnt,
-  digits-below t,
-  digits.Post,
-) (digits-at t) digits.Post
+-- what the callees promise
+abbrev E : ℕ → digits-lts.Claims
+E t = (byte-reads.Asked, byte-reads.Learnt, digits-below t, digits.Post)
+
+digits-cast-byte : (t : ℕ) → digits-lts.Need-cast-byte (E t) (digits-at t) digits.Post
 digits-cast-byte t c =
     search needs
 
--- src/numbers.rt:18:21
-digits-add-byte : (t : ℕ) → digits-lts.Need-add-byte (
-  byte-reads.Asked,
-  byte-reads.Learnt,
-  digits-below t,
-  digits.Post,
-) (digits-at t) digits.Post
+digits-add-byte : (t : ℕ) → digits-lts.Need-add-byte (E t) (digits-at t) digits.Post
 digits-add-byte t c =
     search needs
 
--- src/numbers.rt:18:9
-digits-byte-requires : (t : ℕ) → digits-lts.Need-byte-requires (
-  byte-reads.Asked,
-  byte-reads.Learnt,
-  digits-below t,
-  digits.Post,
-) (digits-at t) digits.Post
+digits-byte-requires : (t : ℕ) → digits-lts.Need-byte-requires (E t) (digits-at t) digits.Post
 digits-byte-requires t c κs =
     search needs
 
--- src/numbers.rt:18:9
-digits-same-length : (t : ℕ) → digits-lts.Need-same-length (
-  byte-reads.Asked,
-  byte-reads.Learnt,
-  digits-below t,
-  digits.Post,
-) (digits-at t) digits.Post
+digits-same-length : (t : ℕ) → digits-lts.Need-same-length (E t) (digits-at t) digits.Post
 digits-same-length t c =
     search needs
 
--- src/numbers.rt:18:9
-digits-returns : (t : ℕ) → digits-lts.Need-returns (
-  byte-reads.Asked,
-  byte-reads.Learnt,
-  digits-below t,
-  digits.Post,
-) (digits-at t) digits.Post
+digits-returns : (t : ℕ) → digits-lts.Need-returns (E t) (digits-at t) digits.Post
 digits-returns t c =
     left-is (sym (decimal-one _ (c .before .before .before .before .if1 .taken))) (c .before .before .byte .ensures)
 
--- src/numbers.rt:20:25
-digits-digits-requires : (t : ℕ) → digits-lts.Need-digits-requires (
-  byte-reads.Asked,
-  byte-reads.Learnt,
-  digits-below t,
-  digits.Post,
-) (digits-at t) digits.Post
+digits-digits-requires : (t : ℕ) → digits-lts.Need-digits-requires (E t) (digits-at t) digits.Post
 digits-digits-requires t c κs =
     (omega arith, c .before .before .before .pre .1)
 
--- src/numbers.rt:20:19
-digits-enum-known-to : (t : ℕ) → digits-lts.Need-enum-known-to (
-  byte-reads.Asked,
-  byte-reads.Learnt,
-  digits-below t,
-  digits.Post,
-) (digits-at t) digits.Post
+digits-enum-known-to : (t : ℕ) → digits-lts.Need-enum-known-to (E t) (digits-at t) digits.Post
 digits-enum-known-to t c =
     search needs
 
--- src/numbers.rt:21:9
-digits-enum-told : (t : ℕ) → digits-lts.Need-enum-told (
-  byte-reads.Asked,
-  byte-reads.Learnt,
-  digits-below t,
-  digits.Post,
-) (digits-at t) digits.Post
+digits-enum-told : (t : ℕ) → digits-lts.Need-enum-told (E t) (digits-at t) digits.Post
 digits-enum-told t c =
     search needs
 
--- src/numbers.rt:21:9
-digits-same-length-2 : (t : ℕ) → digits-lts.Need-same-length-2 (
-  byte-reads.Asked,
-  byte-reads.Learnt,
-  digits-below t,
-  digits.Post,
-) (digits-at t) digits.Post
+digits-same-length-2 : (t : ℕ) → digits-lts.Need-same-length-2 (E t) (digits-at t) digits.Post
 digits-same-length-2 t c =
     c .before .before .before .before .digits .kept .1 .0
 
--- src/numbers.rt:21:9
-digits-returns-2 : (t : ℕ) → digits-lts.Need-returns-2 (
-  byte-reads.Asked,
-  byte-reads.Learnt,
-  digits-below t,
-  digits.Post,
-) (digits-at t) digits.Post
+digits-returns-2 : (t : ℕ) → digits-lts.Need-returns-2 (E t) (digits-at t) digits.Post
 digits-returns-2 t c =
     left-is (sym (decimal-more _ (c .before .before .before .before .before .before .if1 .left))) (left-full (c .before .before .before .before .digits .ensures) _ (c .enum-told .given .1))
 
--- src/numbers.rt:23:15
-digits-cast-byte-2 : (t : ℕ) → digits-lts.Need-cast-byte-2 (
-  byte-reads.Asked,
-  byte-reads.Learnt,
-  digits-below t,
-  digits.Post,
-) (digits-at t) digits.Post
+digits-cast-byte-2 : (t : ℕ) → digits-lts.Need-cast-byte-2 (E t) (digits-at t) digits.Post
 digits-cast-byte-2 t c =
     search needs
 
--- src/numbers.rt:23:10
-digits-add-byte-2 : (t : ℕ) → digits-lts.Need-add-byte-2 (
-  byte-reads.Asked,
-  byte-reads.Learnt,
-  digits-below t,
-  digits.Post,
-) (digits-at t) digits.Post
+digits-add-byte-2 : (t : ℕ) → digits-lts.Need-add-byte-2 (E t) (digits-at t) digits.Post
 digits-add-byte-2 t c =
     search needs
 
--- src/numbers.rt:23:5
-digits-byte-requires-2 : (t : ℕ) → digits-lts.Need-byte-requires-2 (
-  byte-reads.Asked,
-  byte-reads.Learnt,
-  digits-below t,
-  digits.Post,
-) (digits-at t) digits.Post
+digits-byte-requires-2 : (t : ℕ) → digits-lts.Need-byte-requires-2 (E t) (digits-at t) digits.Post
 digits-byte-requires-2 t c κs =
     left-room (c .before .before .before .before .before .before .digits .ensures) _ (c .before .before .to .given .1)
 
--- src/numbers.rt:13:1
-digits-same-length-3 : (t : ℕ) → digits-lts.Need-same-length-3 (
-  byte-reads.Asked,
-  byte-reads.Learnt,
-  digits-below t,
-  digits.Post,
-) (digits-at t) digits.Post
+digits-same-length-3 : (t : ℕ) → digits-lts.Need-same-length-3 (E t) (digits-at t) digits.Post
 digits-same-length-3 t c =
     c .before .before .byte2 .kept .1 .0 ∙ c .before .before .before .before .before .before .before .before .before .digits .kept .1 .0
 
--- src/numbers.rt:13:1
-digits-returns-3 : (t : ℕ) → digits-lts.Need-returns-3 (
-  byte-reads.Asked,
-  byte-reads.Learnt,
-  digits-below t,
-  digits.Post,
-) (digits-at t) digits.Post
+digits-returns-3 : (t : ℕ) → digits-lts.Need-returns-3 (E t) (digits-at t) digits.Post
 digits-returns-3 t c =
     left-is (sym (decimal-more _ (c .before .before .before .before .before .before .before .before .before .before .before .if1 .left))) (left-then (c .before .before .before .before .before .before .before .before .before .digits .ensures) _ (c .before .before .before .before .before .to .given .1) (c .before .before .byte2 .ensures))
 
 pub +digits-spec : {M : Type 1} → statement M
-+digits-spec = close μ-digits λ t. digits-lts.spec (
-  byte-reads.Asked,
-  byte-reads.Learnt,
-  digits-below t,
-  digits.Post,
-)
-    (digits-at t)
++digits-spec = close μ-digits λ t. digits-lts.spec (E t) (digits-at t)
     digits.Post
     (digits-cast-byte t)
     (digits-add-byte t)

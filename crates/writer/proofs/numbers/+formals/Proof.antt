@@ -1,4 +1,5 @@
-use Prim.Native.Nat.{ℕ, _<_, _≤_, _+_, _-_, _*_, _/_, _%_}
+-- A variable, then the others. The measure is their count.
+use Prim.Native.Nat.{ℕ, _<_}
 use borrow.Fn.Kinds.{In}
 use borrow.Fn.PlainCycle.{Measures, is, falls, and}
 use Rattle.writer.proofs.numbers.formals.Reads as formals
@@ -10,9 +11,8 @@ use Rattle.writer.proofs.numbers.+formals.{statement}
 use Rattle.writer.proofs.numbers.+formals.Tie.{close}
 use borrow.Author.Needs.{needs}
 use native.Mathlib.Omega.{arith}
-use mathlib.Core.Path.{_≡_, refl, sym, ap, subst, _∙_}
-use mathlib.Core.List.{List, [], _∷_, _++_}
-use Rattle.writer.specs.LaidLaws.{left-length, left-room, left-full, left-then, left-is, left-none}
+use mathlib.Core.Path.{sym, _∙_}
+use Rattle.writer.specs.LaidLaws.{left-room, left-full, left-then, left-is, left-none}
 use Rattle.writer.specs.PiecesLaws.{formals-none, formals-more}
 
 abbrev μ-formals : Measures 1 formals-kinds.ps ℕ
@@ -25,208 +25,76 @@ formals-at t = and 1 formals-kinds.ps (is 1 formals-kinds.ps μ-formals t) forma
 abbrev formals-below : ℕ → In 1 formals-kinds.ps
 formals-below t = and 1 formals-kinds.ps (falls 1 formals-kinds.ps _<_ μ-formals t) formals.Pre
 
--- src/numbers.rt:72:9
-formals-returns : (t : ℕ) → formals-lts.Need-returns (
-  gap-reads.Asked,
-  gap-reads.Learnt,
-  numbered-reads.Asked,
-  numbered-reads.Learnt,
-  formals-below t,
-  formals.Post,
-) (formals-at t) formals.Post
+-- what the callees promise
+abbrev E : ℕ → formals-lts.Claims
+E t = (gap-reads.Asked, gap-reads.Learnt, numbered-reads.Asked, numbered-reads.Learnt, formals-below t, formals.Post)
+
+formals-returns : (t : ℕ) → formals-lts.Need-returns (E t) (formals-at t) formals.Post
 formals-returns t c =
     left-is (sym (formals-none (c .before .before .args .wanted) (c .before .before .args .first) _ (c .if1 .taken))) (left-none (c .before .before .args .ink) _ (c .before .before .args .out .now) (c .before .before .pre .1 .0))
 
--- src/numbers.rt:74:24
-formals-gap-requires : (t : ℕ) → formals-lts.Need-gap-requires (
-  gap-reads.Asked,
-  gap-reads.Learnt,
-  numbered-reads.Asked,
-  numbered-reads.Learnt,
-  formals-below t,
-  formals.Post,
-) (formals-at t) formals.Post
+formals-gap-requires : (t : ℕ) → formals-lts.Need-gap-requires (E t) (formals-at t) formals.Post
 formals-gap-requires t c κs =
     c .before .before .before .pre .1 .0
 
--- src/numbers.rt:74:19
-formals-enum-known-a : (t : ℕ) → formals-lts.Need-enum-known-a (
-  gap-reads.Asked,
-  gap-reads.Learnt,
-  numbered-reads.Asked,
-  numbered-reads.Learnt,
-  formals-below t,
-  formals.Post,
-) (formals-at t) formals.Post
+formals-enum-known-a : (t : ℕ) → formals-lts.Need-enum-known-a (E t) (formals-at t) formals.Post
 formals-enum-known-a t c =
     search needs
 
--- src/numbers.rt:75:9
-formals-enum-told : (t : ℕ) → formals-lts.Need-enum-told (
-  gap-reads.Asked,
-  gap-reads.Learnt,
-  numbered-reads.Asked,
-  numbered-reads.Learnt,
-  formals-below t,
-  formals.Post,
-) (formals-at t) formals.Post
+formals-enum-told : (t : ℕ) → formals-lts.Need-enum-told (E t) (formals-at t) formals.Post
 formals-enum-told t c =
     search needs
 
--- src/numbers.rt:75:9
-formals-same-length : (t : ℕ) → formals-lts.Need-same-length (
-  gap-reads.Asked,
-  gap-reads.Learnt,
-  numbered-reads.Asked,
-  numbered-reads.Learnt,
-  formals-below t,
-  formals.Post,
-) (formals-at t) formals.Post
+formals-same-length : (t : ℕ) → formals-lts.Need-same-length (E t) (formals-at t) formals.Post
 formals-same-length t c =
     c .before .before .before .before .gap .kept .1 .0
 
--- src/numbers.rt:75:9
-formals-returns-2 : (t : ℕ) → formals-lts.Need-returns-2 (
-  gap-reads.Asked,
-  gap-reads.Learnt,
-  numbered-reads.Asked,
-  numbered-reads.Learnt,
-  formals-below t,
-  formals.Post,
-) (formals-at t) formals.Post
+formals-returns-2 : (t : ℕ) → formals-lts.Need-returns-2 (E t) (formals-at t) formals.Post
 formals-returns-2 t c =
     left-is (sym (formals-more _ _ _ (c .before .before .before .before .before .before .if1 .left))) (left-full (c .before .before .before .before .gap .ensures) _ (c .enum-told .given .1))
 
--- src/numbers.rt:77:24
-formals-numbered-requires : (t : ℕ) → formals-lts.Need-numbered-requires (
-  gap-reads.Asked,
-  gap-reads.Learnt,
-  numbered-reads.Asked,
-  numbered-reads.Learnt,
-  formals-below t,
-  formals.Post,
-) (formals-at t) formals.Post
+formals-numbered-requires : (t : ℕ) → formals-lts.Need-numbered-requires (E t) (formals-at t) formals.Post
 formals-numbered-requires t c κs =
     left-room (c .before .before .before .before .before .before .gap .ensures) _ (c .before .before .a .given .1)
 
--- src/numbers.rt:77:19
-formals-enum-known-b : (t : ℕ) → formals-lts.Need-enum-known-b (
-  gap-reads.Asked,
-  gap-reads.Learnt,
-  numbered-reads.Asked,
-  numbered-reads.Learnt,
-  formals-below t,
-  formals.Post,
-) (formals-at t) formals.Post
+formals-enum-known-b : (t : ℕ) → formals-lts.Need-enum-known-b (E t) (formals-at t) formals.Post
 formals-enum-known-b t c =
     search needs
 
--- src/numbers.rt:78:9
-formals-enum-told-2 : (t : ℕ) → formals-lts.Need-enum-told-2 (
-  gap-reads.Asked,
-  gap-reads.Learnt,
-  numbered-reads.Asked,
-  numbered-reads.Learnt,
-  formals-below t,
-  formals.Post,
-) (formals-at t) formals.Post
+formals-enum-told-2 : (t : ℕ) → formals-lts.Need-enum-told-2 (E t) (formals-at t) formals.Post
 formals-enum-told-2 t c =
     search needs
 
--- src/numbers.rt:78:9
-formals-same-length-2 : (t : ℕ) → formals-lts.Need-same-length-2 (
-  gap-reads.Asked,
-  gap-reads.Learnt,
-  numbered-reads.Asked,
-  numbered-reads.Learnt,
-  formals-below t,
-  formals.Post,
-) (formals-at t) formals.Post
+formals-same-length-2 : (t : ℕ) → formals-lts.Need-same-length-2 (E t) (formals-at t) formals.Post
 formals-same-length-2 t c =
     c .before .before .before .before .numbered .kept .1 .1 .0 ∙ c .before .before .before .before .before .before .before .before .before .before .before .gap .kept .1 .0
 
--- src/numbers.rt:78:9
-formals-returns-3 : (t : ℕ) → formals-lts.Need-returns-3 (
-  gap-reads.Asked,
-  gap-reads.Learnt,
-  numbered-reads.Asked,
-  numbered-reads.Learnt,
-  formals-below t,
-  formals.Post,
-) (formals-at t) formals.Post
+formals-returns-3 : (t : ℕ) → formals-lts.Need-returns-3 (E t) (formals-at t) formals.Post
 formals-returns-3 t c =
     left-is (sym (formals-more _ _ _ (c .before .before .before .before .before .before .before .before .before .before .before .before .before .if1 .left))) (left-then (c .before .before .before .before .before .before .before .before .before .before .before .gap .ensures) _ (c .before .before .before .before .before .before .before .a .given .1) (left-full (c .before .before .before .before .numbered .ensures) _ (c .enum-told2 .given .1)))
 
--- src/numbers.rt:80:19
-formals-add-formals : (t : ℕ) → formals-lts.Need-add-formals (
-  gap-reads.Asked,
-  gap-reads.Learnt,
-  numbered-reads.Asked,
-  numbered-reads.Learnt,
-  formals-below t,
-  formals.Post,
-) (formals-at t) formals.Post
+formals-add-formals : (t : ℕ) → formals-lts.Need-add-formals (E t) (formals-at t) formals.Post
 formals-add-formals t c =
     omega (arith, c .before .before .before .before .before .before .before .before .before .before .before .before .before .before .before .before .pre .1 .1, c .before .before .before .before .before .before .before .before .before .before .before .before .before .before .if1 .left)
 
--- src/numbers.rt:80:30
-formals-sub-formals : (t : ℕ) → formals-lts.Need-sub-formals (
-  gap-reads.Asked,
-  gap-reads.Learnt,
-  numbered-reads.Asked,
-  numbered-reads.Learnt,
-  formals-below t,
-  formals.Post,
-) (formals-at t) formals.Post
+formals-sub-formals : (t : ℕ) → formals-lts.Need-sub-formals (E t) (formals-at t) formals.Post
 formals-sub-formals t c =
     search needs
 
--- src/numbers.rt:80:5
-formals-formals-requires : (t : ℕ) → formals-lts.Need-formals-requires (
-  gap-reads.Asked,
-  gap-reads.Learnt,
-  numbered-reads.Asked,
-  numbered-reads.Learnt,
-  formals-below t,
-  formals.Post,
-) (formals-at t) formals.Post
+formals-formals-requires : (t : ℕ) → formals-lts.Need-formals-requires (E t) (formals-at t) formals.Post
 formals-formals-requires t c κs =
     (omega (arith, c .before .before .before .before .before .before .before .before .before .before .before .before .before .before .before .if1 .left), (left-room (c .before .before .before .before .before .before .numbered .ensures) _ (c .before .before .b .given .1), omega (arith, c .before .before .before .before .before .before .before .before .before .before .before .before .before .before .before .before .before .pre .1 .1, c .before .before .before .before .before .before .before .before .before .before .before .before .before .before .before .if1 .left)))
 
--- src/numbers.rt:67:1
-formals-same-length-3 : (t : ℕ) → formals-lts.Need-same-length-3 (
-  gap-reads.Asked,
-  gap-reads.Learnt,
-  numbered-reads.Asked,
-  numbered-reads.Learnt,
-  formals-below t,
-  formals.Post,
-) (formals-at t) formals.Post
+formals-same-length-3 : (t : ℕ) → formals-lts.Need-same-length-3 (E t) (formals-at t) formals.Post
 formals-same-length-3 t c =
     search needs
 
--- src/numbers.rt:67:1
-formals-returns-4 : (t : ℕ) → formals-lts.Need-returns-4 (
-  gap-reads.Asked,
-  gap-reads.Learnt,
-  numbered-reads.Asked,
-  numbered-reads.Learnt,
-  formals-below t,
-  formals.Post,
-) (formals-at t) formals.Post
+formals-returns-4 : (t : ℕ) → formals-lts.Need-returns-4 (E t) (formals-at t) formals.Post
 formals-returns-4 t c =
     left-is (sym (formals-more _ _ _ (c .before .before .before .before .before .before .before .before .before .before .before .before .before .before .before .before .before .before .if1 .left))) (left-then (c .before .before .before .before .before .before .before .before .before .before .before .before .before .before .before .before .gap .ensures) _ (c .before .before .before .before .before .before .before .before .before .before .before .before .a .given .1) (left-then (c .before .before .before .before .before .before .before .before .before .numbered .ensures) _ (c .before .before .before .before .before .b .given .1) (c .before .before .formals .ensures)))
 
 pub +formals-spec : {M : Type 1} → statement M
-+formals-spec = close μ-formals λ t. formals-lts.spec (
-  gap-reads.Asked,
-  gap-reads.Learnt,
-  numbered-reads.Asked,
-  numbered-reads.Learnt,
-  formals-below t,
-  formals.Post,
-)
-    (formals-at t)
++formals-spec = close μ-formals λ t. formals-lts.spec (E t) (formals-at t)
     formals.Post
     (formals-returns t)
     (formals-gap-requires t)

@@ -1,33 +1,27 @@
+-- One space or none.
 use borrow.Author.Needs.{needs}
 use Rattle.writer.proofs.numbers.gap.Statement.{statement}
 use Rattle.writer.proofs.numbers.gap.Tie as tie
 use Rattle.writer.proofs.numbers.gap.Reads as reads
 use Rattle.writer.proofs.numbers.gap.Lts as lts
 use Rattle.writer.proofs.bytes.byte.Reads as byte-reads
-use native.Mathlib.Omega.{arith}
-use mathlib.Core.Path.{_≡_, refl, sym, ap, subst, _∙_}
-use mathlib.Core.List.{List, [], _∷_, _++_}
-use Prim.Native.Nat.{ℕ, _≤_, _<_, _+_, _-_, _*_, _/_, _%_}
-use Rattle.writer.specs.LaidLaws.{left-length, left-room, left-full, left-then, left-is, left-none}
+use mathlib.Core.Path.{sym}
+use Rattle.writer.specs.LaidLaws.{left-is, left-none}
 use borrow.Author.Tests.{not-true, not-false}
 use Rattle.writer.specs.PiecesLaws.{gap-yes, gap-no}
 
--- src/numbers.rt:61:9
 returns : tie.Need-returns
 returns c =
     left-is (sym (gap-no (c .before .before .args .wanted) (not-true (c .before .before .args .wanted) (c .if1 .taken)))) (left-none (c .before .before .args .ink) _ (c .before .before .args .out .now) (c .before .before .pre))
 
--- src/numbers.rt:63:5
 byte-requires : tie.Need-byte-requires
 byte-requires c κs =
     search needs
 
--- src/numbers.rt:56:1
 same-length : tie.Need-same-length
 same-length c =
     c .before .before .byte .kept .1 .0
 
--- src/numbers.rt:56:1
 returns-2 : tie.Need-returns-2
 returns-2 c =
     left-is (sym (gap-yes (c .before .before .before .before .before .before .args .wanted) (not-false (c .before .before .before .before .before .before .args .wanted) (c .before .before .before .before .if1 .left)))) (c .before .before .byte .ensures)

@@ -1,3 +1,4 @@
+-- A letter, then digits.
 use borrow.Author.Needs.{needs}
 use Rattle.writer.proofs.numbers.numbered.Statement.{statement}
 use Rattle.writer.proofs.numbers.numbered.Tie as tie
@@ -5,48 +6,37 @@ use Rattle.writer.proofs.numbers.numbered.Reads as reads
 use Rattle.writer.proofs.numbers.numbered.Lts as lts
 use Rattle.writer.proofs.bytes.byte.Reads as byte-reads
 use Rattle.writer.proofs.numbers.digits.Reads as digits-reads
-use native.Mathlib.Omega.{arith}
-use mathlib.Core.Path.{_≡_, refl, sym, ap, subst, _∙_}
-use mathlib.Core.List.{List, [], _∷_, _++_}
-use Prim.Native.Nat.{ℕ, _≤_, _<_, _+_, _-_, _*_, _/_, _%_}
-use Rattle.writer.specs.LaidLaws.{left-length, left-room, left-full, left-then, left-is, left-none}
+use mathlib.Core.Path.{_∙_}
+use Rattle.writer.specs.LaidLaws.{left-room, left-full, left-then}
 
--- src/numbers.rt:31:25
 byte-requires : tie.Need-byte-requires
 byte-requires c κs =
     search needs
 
--- src/numbers.rt:31:19
 enum-known-to : tie.Need-enum-known-to
 enum-known-to c =
     search needs
 
--- src/numbers.rt:32:9
 enum-told : tie.Need-enum-told
 enum-told c =
     search needs
 
--- src/numbers.rt:32:9
 same-length : tie.Need-same-length
 same-length c =
     c .before .before .before .before .byte .kept .1 .0
 
--- src/numbers.rt:32:9
 returns : tie.Need-returns
 returns c =
     left-full (c .before .before .before .before .byte .ensures) _ (c .enum-told .given .1)
 
--- src/numbers.rt:34:5
 digits-requires : tie.Need-digits-requires
 digits-requires c κs =
     left-room (c .before .before .before .before .before .before .byte .ensures) _ (c .before .before .to .given .1)
 
--- src/numbers.rt:27:1
 same-length-2 : tie.Need-same-length-2
 same-length-2 c =
     c .before .before .digits .kept .1 .0 ∙ c .before .before .before .before .before .before .before .before .before .byte .kept .1 .0
 
--- src/numbers.rt:27:1
 returns-2 : tie.Need-returns-2
 returns-2 c =
     left-then (c .before .before .before .before .before .before .before .before .before .byte .ensures) _ (c .before .before .before .before .before .to .given .1) (c .before .before .digits .ensures)

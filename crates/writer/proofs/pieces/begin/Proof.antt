@@ -1,3 +1,4 @@
+-- What opens a node, by its code.
 use borrow.Author.Needs.{needs}
 use Rattle.writer.proofs.pieces.begin.Statement.{statement}
 use Rattle.writer.proofs.pieces.begin.Tie as tie
@@ -10,134 +11,106 @@ use Rattle.writer.proofs.numbers.wide.Reads as wide-reads
 use Rattle.writer.proofs.pieces.datum_opening.Reads as datum-opening-reads
 use Rattle.writer.proofs.pieces.lambda_opening.Reads as lambda-opening-reads
 use native.Mathlib.Omega.{arith}
-use mathlib.Core.Path.{_≡_, refl, sym, ap, subst, _∙_}
-use mathlib.Core.List.{List, [], _∷_, _++_}
-use Prim.Native.Nat.{ℕ, _≤_, _<_, _+_, _-_, _*_, _/_, _%_}
-use Rattle.writer.specs.LaidLaws.{left-length, left-room, left-full, left-then, left-is, left-none}
-use lib.ListN.{length, getD}
-use Rattle.words.specs.Text.{bytes}
+use mathlib.Core.Path.{_≡_, ap, _∙_}
+use mathlib.Core.List.{_∷_}
+use Prim.Native.Nat.{ℕ}
+use Rattle.writer.specs.LaidLaws.{left-is}
+use lib.ListN.{getD}
 use Rattle.core_term.specs.Decimal.{decimal}
-use Rattle.writer.specs.Opened.{Opened}
-use Rattle.writer.specs.Pieces.{formalsText}
-use mathlib.Core.Bool.{false}
 use Rattle.writer.specs.OpenedLaws.{some-words, two-words, three-words, code-most, opens-if, opens-variable, opens-operation, opens-lambda, lambda-same, opens-application}
 
--- src/pieces.rt:107:16
 shared-slice-read-code : tie.Need-shared-slice-read-code
 shared-slice-read-code c =
     let o = c .before .before .before .before .pre .1 in omega (arith, some-words (c .before .before .before .before .args .words .now) (o .it) (o .left) (o .is))
 
--- src/pieces.rt:109:21
 slice-aggregate-copy : tie.Need-slice-aggregate-copy
 slice-aggregate-copy c =
     search needs
 
--- src/pieces.rt:109:9
 copy-requires : tie.Need-copy-requires
 copy-requires c κs =
     c .before .before .before .before .before .before .before .pre .0
 
--- src/pieces.rt:109:9
 same-length : tie.Need-same-length
 same-length c =
     c .before .before .copy .kept .1 .0
 
--- src/pieces.rt:109:9
 returns : tie.Need-returns
 returns c =
     λ x l h. left-is (opens-if (c .before .before .before .before .before .before .before .before .before .before .args .words .now) x l h _ _ (c .before .before .before .before .before .if1 .taken)) (c .before .before .copy .ensures)
 
--- src/pieces.rt:111:18
 shared-slice-read-wide : tie.Need-shared-slice-read-wide
 shared-slice-read-wide c =
     let o = c .before .before .before .before .before .before .pre .1 in omega (arith, two-words (c .before .before .before .before .before .before .args .words .now) (o .it) (o .left) (o .is) (c .before .if1 .left))
 
--- src/pieces.rt:111:9
 wide-requires : tie.Need-wide-requires
 wide-requires c κs =
     search needs
 
--- src/pieces.rt:113:9
 numbered-requires : tie.Need-numbered-requires
 numbered-requires c κs =
     c .before .before .before .before .before .before .before .before .before .pre .0
 
--- src/pieces.rt:113:9
 same-length-2 : tie.Need-same-length-2
 same-length-2 c =
     c .before .before .numbered .kept .1 .1 .0
 
--- src/pieces.rt:113:9
 returns-2 : tie.Need-returns-2
 returns-2 c =
     λ x l h. left-is (ap (λ (n : ℕ). 118 ∷ decimal n) (c .before .before .before .before .before .wide .ensures) ∙ opens-variable (c .before .before .before .before .before .before .before .before .before .before .before .before .args .words .now) x l h _ _ (c .before .before .before .before .if2 .taken)) (c .before .before .numbered .ensures)
 
--- src/pieces.rt:116:9
 numbered-requires-2 : tie.Need-numbered-requires-2
 numbered-requires-2 c κs =
     c .before .before .before .before .before .before .before .before .before .before .pre .0
 
--- src/pieces.rt:116:9
 same-length-3 : tie.Need-same-length-3
 same-length-3 c =
     c .before .before .numbered2 .kept .1 .1 .0
 
--- src/pieces.rt:116:9
 returns-3 : tie.Need-returns-3
 returns-3 c =
     λ x l h. left-is (ap (λ (n : ℕ). 111 ∷ decimal n) (c .before .before .before .before .before .before .wide .ensures) ∙ opens-operation (c .before .before .before .before .before .before .before .before .before .before .before .before .before .args .words .now) x l h _ _ (c .before .before .before .before .if3 .taken)) (c .before .before .numbered2 .ensures)
 
--- src/pieces.rt:119:9
 datum-opening-requires : tie.Need-datum-opening-requires
 datum-opening-requires c κs =
     (c .before .before .before .before .before .before .before .before .before .before .before .pre .0, c .before .before .before .before .before .before .before .before .before .before .before .pre .1, omega (arith, c .before .before .before .if2 .left, c .before .before .if3 .left), c .before .if4 .taken)
 
--- src/pieces.rt:119:9
 same-length-4 : tie.Need-same-length-4
 same-length-4 c =
     c .before .before .datum-opening .kept .1 .1 .0
 
--- src/pieces.rt:119:9
 returns-4 : tie.Need-returns-4
 returns-4 c =
     λ x l h. c .before .before .datum-opening .ensures x l h
 
--- src/pieces.rt:122:39
 shared-slice-read-wide-2 : tie.Need-shared-slice-read-wide-2
 shared-slice-read-wide-2 c =
     let o = c .before .before .before .before .before .before .before .before .before .before .before .before .pre .1 in omega (arith, three-words (c .before .before .before .before .before .before .before .before .before .before .before .before .args .words .now) (o .it) (o .left) (o .is) (c .before .if5 .taken))
 
--- src/pieces.rt:122:34
 wide-requires-2 : tie.Need-wide-requires-2
 wide-requires-2 c κs =
     search needs
 
--- src/pieces.rt:122:9
 lambda-opening-requires : tie.Need-lambda-opening-requires
 lambda-opening-requires c κs =
     (c .before .before .before .before .before .before .before .before .before .before .before .before .before .before .pre .0, omega (arith, c .before .before .before .before .before .before .before .wide .ensures, c .before .wide2 .ensures, c .before .before .shared-slice-known5 .given 1, c .before .before .shared-slice-known5 .given 2))
 
--- src/pieces.rt:122:9
 same-length-5 : tie.Need-same-length-5
 same-length-5 c =
     c .before .before .lambda-opening .kept .1 .1 .0
 
--- src/pieces.rt:122:9
 returns-5 : tie.Need-returns-5
 returns-5 c =
     λ x l h. left-is (lambda-same _ _ _ _ (c .before .before .before .before .before .before .before .before .before .before .wide .ensures) (c .before .before .before .before .wide2 .ensures) ∙ opens-lambda (c .before .before .before .before .before .before .before .before .before .before .before .before .before .before .before .before .before .args .words .now) x l h _ _ (c .before .before .before .before .before .before .if5 .taken)) (c .before .before .lambda-opening .ensures)
 
--- src/pieces.rt:124:5
 byte-requires : tie.Need-byte-requires
 byte-requires c κs =
     c .before .before .before .before .before .before .before .before .before .before .before .before .pre .0
 
--- src/pieces.rt:103:1
 same-length-6 : tie.Need-same-length-6
 same-length-6 c =
     c .before .before .byte .kept .1 .0
 
--- src/pieces.rt:103:1
 returns-6 : tie.Need-returns-6
 returns-6 c =
     λ x l h. let o = c .before .before .before .before .before .before .before .before .before .before .before .before .before .before .before .pre .1 in let e : getD (c .before .before .before .before .before .before .before .before .before .before .before .before .before .before .before .args .words .now) 0 0 ≡ 8 = omega (arith, code-most (c .before .before .before .before .before .before .before .before .before .before .before .before .before .before .before .args .words .now) x l h, c .before .before .before .before .before .before .before .before .before .before .if1 .left, c .before .before .before .before .before .if4 .left, c .before .before .before .before .if5 .left) in left-is (opens-application (c .before .before .before .before .before .before .before .before .before .before .before .before .before .before .before .args .words .now) x l h _ _ e) (c .before .before .byte .ensures)

@@ -1,3 +1,4 @@
+-- What closes it.
 use borrow.Author.Needs.{needs}
 use Rattle.writer.proofs.pieces.finish.Statement.{statement}
 use Rattle.writer.proofs.pieces.finish.Tie as tie
@@ -6,69 +7,55 @@ use Rattle.writer.proofs.pieces.finish.Lts as lts
 use Rattle.writer.proofs.bytes.byte.Reads as byte-reads
 use Rattle.writer.proofs.bytes.copy.Reads as copy-reads
 use native.Mathlib.Omega.{arith}
-use mathlib.Core.Path.{_≡_, refl, sym, ap, subst, _∙_}
-use mathlib.Core.List.{List, [], _∷_, _++_}
-use Prim.Native.Nat.{ℕ, _≤_, _<_, _+_, _-_, _*_, _/_, _%_}
-use Rattle.writer.specs.LaidLaws.{left-length, left-room, left-full, left-then, left-is, left-none}
-use lib.ListN.{length, getD}
+use mathlib.Core.Path.{_≡_}
+use Rattle.writer.specs.LaidLaws.{left-is, left-none}
+use lib.ListN.{getD}
 use Rattle.writer.specs.OpenedLaws.{closes-leaf, closes-one, closes-list}
 
--- src/pieces.rt:132:16
 shared-slice-read-code : tie.Need-shared-slice-read-code
 shared-slice-read-code c =
     search needs
 
--- src/pieces.rt:134:9
 returns : tie.Need-returns
 returns c =
     λ x l h. left-is (closes-leaf (c .before .before .before .before .args .words .now) x l h _ (c .if1 .taken)) (left-none (c .before .before .before .before .args .ink) _ (c .before .before .before .before .args .out .now) (c .before .before .before .before .pre .0))
 
--- src/pieces.rt:137:9
 byte-requires : tie.Need-byte-requires
 byte-requires c κs =
     c .before .before .before .before .before .before .pre .0
 
--- src/pieces.rt:137:9
 same-length : tie.Need-same-length
 same-length c =
     c .before .before .byte .kept .1 .0
 
--- src/pieces.rt:137:9
 returns-2 : tie.Need-returns-2
 returns-2 c =
     λ x l h. left-is (closes-one (c .before .before .before .before .before .before .before .before .before .args .words .now) x l h (c .before .before .before .before .before .before .before .before .before .args .inner) (omega arith) (λ e. absurd (omega arith))) (c .before .before .byte .ensures)
 
--- src/pieces.rt:140:9
 byte-requires-2 : tie.Need-byte-requires-2
 byte-requires-2 c κs =
     c .before .before .before .before .before .before .before .pre .0
 
--- src/pieces.rt:140:9
 same-length-2 : tie.Need-same-length-2
 same-length-2 c =
     c .before .before .byte2 .kept .1 .0
 
--- src/pieces.rt:140:9
 returns-3 : tie.Need-returns-3
 returns-3 c =
     λ x l h. left-is (closes-one (c .before .before .before .before .before .before .before .before .before .before .args .words .now) x l h (c .before .before .before .before .before .before .before .before .before .before .args .inner) (omega arith) (λ e. c .before .before .before .before .if3 .taken)) (c .before .before .byte2 .ensures)
 
--- src/pieces.rt:142:10
 slice-aggregate-copy : tie.Need-slice-aggregate-copy
 slice-aggregate-copy c =
     search needs
 
--- src/pieces.rt:142:5
 copy-requires : tie.Need-copy-requires
 copy-requires c κs =
     c .before .before .before .before .before .before .before .before .pre .0
 
--- src/pieces.rt:128:1
 same-length-3 : tie.Need-same-length-3
 same-length-3 c =
     c .before .before .copy .kept .1 .0
 
--- src/pieces.rt:128:1
 returns-4 : tie.Need-returns-4
 returns-4 c =
     λ x l h. let e : getD (c .before .before .before .before .before .before .before .before .before .before .before .args .words .now) 0 0 ≡ 5 = omega arith in left-is (closes-list (c .before .before .before .before .before .before .before .before .before .before .before .args .words .now) x l h (c .before .before .before .before .before .before .before .before .before .before .before .args .inner) e (c .before .before .before .before .before .if3 .left)) (c .before .before .copy .ensures)

@@ -1,3 +1,4 @@
+-- A name alone, or three pieces one after another.
 use borrow.Author.Needs.{needs}
 use Rattle.writer.proofs.pieces.name_opening.Statement.{statement}
 use Rattle.writer.proofs.pieces.name_opening.Tie as tie
@@ -6,94 +7,74 @@ use Rattle.writer.proofs.pieces.name_opening.Lts as lts
 use Rattle.writer.proofs.bytes.byte.Reads as byte-reads
 use Rattle.writer.proofs.bytes.copy.Reads as copy-reads
 use Rattle.writer.proofs.pieces.name.Reads as name-reads
-use native.Mathlib.Omega.{arith}
-use mathlib.Core.Path.{_≡_, refl, sym, ap, subst, _∙_}
-use mathlib.Core.List.{List, [], _∷_, _++_}
-use Prim.Native.Nat.{ℕ, _≤_, _<_, _+_, _-_, _*_, _/_, _%_}
-use Rattle.writer.specs.LaidLaws.{left-length, left-room, left-full, left-then, left-is, left-none}
+use mathlib.Core.Path.{sym, _∙_}
+use Rattle.writer.specs.LaidLaws.{left-room, left-full, left-then, left-is}
 use Rattle.writer.specs.PiecesLaws.{name-inner, name-quoted}
 
--- src/pieces.rt:46:9
 name-requires : tie.Need-name-requires
 name-requires c κs =
     (c .before .before .before .before .pre .0, c .before .before .before .before .pre .1)
 
--- src/pieces.rt:46:9
 same-length : tie.Need-same-length
 same-length c =
     c .before .before .name .kept .1 .1 .0
 
--- src/pieces.rt:46:9
 returns : tie.Need-returns
 returns c =
     left-is (sym (name-inner _ _ _ (c .before .before .before .before .if1 .taken))) (c .before .before .name .ensures)
 
--- src/pieces.rt:48:29
 slice-aggregate-copy : tie.Need-slice-aggregate-copy
 slice-aggregate-copy c =
     search needs
 
--- src/pieces.rt:48:24
 copy-requires : tie.Need-copy-requires
 copy-requires c κs =
     c .before .before .before .before .before .pre .0
 
--- src/pieces.rt:48:19
 enum-known-a : tie.Need-enum-known-a
 enum-known-a c =
     search needs
 
--- src/pieces.rt:49:9
 enum-told : tie.Need-enum-told
 enum-told c =
     search needs
 
--- src/pieces.rt:49:9
 same-length-2 : tie.Need-same-length-2
 same-length-2 c =
     c .before .before .before .before .copy .kept .1 .0
 
--- src/pieces.rt:49:9
 returns-2 : tie.Need-returns-2
 returns-2 c =
     left-is (sym (name-quoted _ _ _ (c .before .before .before .before .before .before .before .if1 .left))) (left-full (c .before .before .before .before .copy .ensures) _ (c .enum-told .given .1))
 
--- src/pieces.rt:51:24
 name-requires-2 : tie.Need-name-requires-2
 name-requires-2 c κs =
     (left-room (c .before .before .before .before .before .before .copy .ensures) _ (c .before .before .a .given .1), c .before .before .before .before .before .before .before .before .before .before .before .before .pre .1)
 
--- src/pieces.rt:51:19
 enum-known-b : tie.Need-enum-known-b
 enum-known-b c =
     search needs
 
--- src/pieces.rt:52:9
 enum-told-2 : tie.Need-enum-told-2
 enum-told-2 c =
     search needs
 
--- src/pieces.rt:52:9
 same-length-3 : tie.Need-same-length-3
 same-length-3 c =
     c .before .before .before .before .name2 .kept .1 .1 .0 ∙ c .before .before .before .before .before .before .before .before .before .before .before .copy .kept .1 .0
 
--- src/pieces.rt:52:9
 returns-3 : tie.Need-returns-3
 returns-3 c =
     left-is (sym (name-quoted _ _ _ (c .before .before .before .before .before .before .before .before .before .before .before .before .before .before .if1 .left))) (left-then (c .before .before .before .before .before .before .before .before .before .before .before .copy .ensures) _ (c .before .before .before .before .before .before .before .a .given .1) (left-full (c .before .before .before .before .name2 .ensures) _ (c .enum-told2 .given .1)))
 
--- src/pieces.rt:54:5
 byte-requires : tie.Need-byte-requires
 byte-requires c κs =
     left-room (c .before .before .before .before .before .before .name2 .ensures) _ (c .before .before .b .given .1)
 
--- src/pieces.rt:41:1
 same-length-4 : tie.Need-same-length-4
 same-length-4 c =
     c .before .before .byte .kept .1 .0 ∙ c .before .before .before .before .before .before .before .before .before .name2 .kept .1 .1 .0 ∙ c .before .before .before .before .before .before .before .before .before .before .before .before .before .before .before .before .copy .kept .1 .0
 
--- src/pieces.rt:41:1
 returns-4 : tie.Need-returns-4
 returns-4 c =
     left-is (sym (name-quoted _ _ _ (c .before .before .before .before .before .before .before .before .before .before .before .before .before .before .before .before .before .before .before .if1 .left))) (left-then (c .before .before .before .before .before .before .before .before .before .before .before .before .before .before .before .before .copy .ensures) _ (c .before .before .before .before .before .before .before .before .before .before .before .before .a .given .1) (left-then (c .before .before .before .before .before .before .before .before .before .name2 .ensures) _ (c .before .before .before .before .before .b .given .1) (c .before .before .byte .ensures)))

@@ -1,3 +1,4 @@
+-- A node and its parts, by its code.
 use borrow.Author.Needs.{needs}
 use Rattle.writer.proofs.term.parts_of.Statement.{statement}
 use Rattle.writer.proofs.term.parts_of.Tie as tie
@@ -5,60 +6,47 @@ use Rattle.writer.proofs.term.parts_of.Reads as reads
 use Rattle.writer.proofs.term.parts_of.Lts as lts
 use Rattle.writer.proofs.numbers.wide.Reads as wide-reads
 use native.Mathlib.Omega.{arith}
-use mathlib.Core.Path.{_≡_, refl, sym, ap, subst, _∙_}
-use mathlib.Core.List.{List, [], _∷_, _++_}
-use Prim.Native.Nat.{ℕ, _≤_, _<_, _+_, _-_, _*_, _/_, _%_}
-use Rattle.writer.specs.LaidLaws.{left-length, left-room, left-full, left-then, left-is, left-none}
-use lib.ListN.{length, getD}
-use Rattle.writer.specs.Opened.{Opened}
+use mathlib.Core.Path.{_≡_}
+use lib.ListN.{getD}
 use Rattle.writer.specs.OpenedLaws.{some-words, two-words, code-most}
 use Rattle.writer.specs.WalkLaws.{shape, shaped-if, shaped-lambda, shaped-leaf, shaped-list, shaped-application}
 
--- src/term.rt:38:16
 shared-slice-read-code : tie.Need-shared-slice-read-code
 shared-slice-read-code c =
     let o = c .before .before .before .pre in omega (arith, some-words (c .before .before .before .args .words .now) (o .it) (o .left) (o .is))
 
--- src/term.rt:40:9
 returns : tie.Need-returns
 unfolding shape
 returns c =
     λ x l h. shaped-if (c .before .before .before .before .args .words .now) x l h (c .if1 .taken)
 
--- src/term.rt:43:9
 returns-2 : tie.Need-returns-2
 unfolding shape
 returns-2 c =
     λ x l h. shaped-lambda (c .before .before .before .before .before .args .words .now) x l h (c .if2 .taken)
 
--- src/term.rt:46:9
 returns-3 : tie.Need-returns-3
 unfolding shape
 returns-3 c =
     λ x l h. shaped-leaf (c .before .before .before .before .before .before .args .words .now) x l h (c .if3 .taken)
 
--- src/term.rt:48:22
 shared-slice-read-wide : tie.Need-shared-slice-read-wide
 shared-slice-read-wide c =
     let o = c .before .before .before .before .before .before .before .pre in omega (arith, two-words (c .before .before .before .before .before .before .before .args .words .now) (o .it) (o .left) (o .is) (c .before .before .before .if1 .left))
 
--- src/term.rt:48:9
 wide-requires : tie.Need-wide-requires
 wide-requires c κs =
     search needs
 
--- src/term.rt:50:9
 returns-4 : tie.Need-returns-4
 unfolding shape
 returns-4 c =
     λ x l h. shaped-list (c .before .before .before .before .before .before .before .before .before .args .words .now) x l h _ (c .before .wide .ensures) (c .if4 .taken)
 
--- src/term.rt:52:28
 add-t9 : tie.Need-add-t9
 add-t9 c =
     omega (arith, c .before .wide .ensures, c .before .before .shared-slice-known4 .given 1)
 
--- src/term.rt:34:1
 returns-5 : tie.Need-returns-5
 unfolding shape
 returns-5 c =
