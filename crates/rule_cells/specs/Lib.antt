@@ -13,3 +13,5 @@ pub mod ParseLaws
 pub mod PatternLaws
 pub mod Drive
 pub mod TemplateLaws
+pub mod RuleParse
+pub mod RuleLaws

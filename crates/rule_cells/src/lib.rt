@@ -2,6 +2,7 @@
 
 pub mod cells;
 pub mod patterns;
+pub mod rules;
 pub mod templates;
 pub mod trees;
 pub mod variables;
