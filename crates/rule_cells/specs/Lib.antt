@@ -1,2 +1,3 @@
--- Rules as cells of the arena: what the cells of patterns, templates and rules mean.
+-- Rules as cells of the arena: what the cells of patterns, templates and rules mean, and its laws.
 pub mod Cells
+pub mod CellLaws

@@ -1,0 +1,232 @@
+-- Laws of rule cells: what a pattern, a template or a list of rules means depends on the words below its reference alone, and
+-- what each tag means.
+use mathlib.Core.Path.{_≡_, refl, sym, ap, ap₂, _∙_}
+use mathlib.Core.Bool.{Bool, true, false, cond}
+use mathlib.Core.List.{List, [], _∷_}
+use Prim.Native.Nat.{ℕ, zero, suc, _+_, _≤_, _<_}
+use native.Mathlib.Omega.{arith}
+use lib.Dec.{eqb}
+use lib.ListN.{take}
+use borrow.Author.Tests.{ne-eqb}
+use Rattle.datum.specs.Constant.{Constant}
+use Rattle.recipe.specs.Name.{Name}
+use Rattle.expansion.specs.Rules.{Pattern, variableP, literalP, wildcardP, constantP, emptyP, pairP, ellipsisP, Template, variableT, insertT, constantT, emptyT, pairT, ellipsisT, Rule}
+use Rattle.arena.specs.Arena.{wordAt, falling, referenceAt, bindingOf, wrapAt, wrapFrom, nodeName, nameAt}
+use Rattle.arena.specs.ArenaLaws.{cases, wordAt-below, referenceAt-below, referenceAt-falls, take-less, wrapAt-below}
+use Rattle.arena.specs.NodeLaws.{nameAt-agree}
+use Rattle.rule_cells.specs.Cells.{constantBefore, literalAt, patternStep, patternFrom, patternAt, templateStep, templateFrom, templateAt, ruleAt, rulesFrom, rulesAt}
+
+-- ---- names and constants
+
+pub nameAt-below : (items a b : List ℕ) (node w : ℕ) → take node a ≡ take node b → take w a ≡ take w b → nameAt items a node w ≡ nameAt items b node w
+unfolding nameAt nodeName referenceAt wordAt falling wrapFrom wrapAt
+nameAt-below items a b zero w e d = wrapAt-below a b w d _
+nameAt-below items a b (suc node) w e d = nameAt-agree items a b (suc node) w (omega arith) e d
+
+-- two references of one cell
+module _ (items a b : List ℕ) (at : ℕ) (some-word : 0 < at) (e : take at a ≡ take at b) where
+  kept-under : (k : ℕ) → take (referenceAt a at k) a ≡ take (referenceAt a at k) b
+  kept-under k = take-less a b (referenceAt a at k) at (omega (arith, referenceAt-falls a at k some-word)) e
+
+  child-name : (j k : ℕ) → 0 < j → 0 < k → nameAt items a (referenceAt a at j) (referenceAt a at k) ≡ nameAt items b (referenceAt b at j) (referenceAt b at k)
+  child-name j k p q =
+      nameAt-below items a b (referenceAt a at j) (referenceAt a at k) (kept-under j) (kept-under k)
+      ∙ ap₂ (nameAt items b) (referenceAt-below a b at j p e) (referenceAt-below a b at k q e)
+
+  constantBefore-agree : constantBefore a at ≡ constantBefore b at
+  unfolding constantBefore
+  constantBefore-agree = rw (wordAt-below a b at 4 (omega arith) e, wordAt-below a b at 3 (omega arith) e, wordAt-below a b at 2 (omega arith) e)
+
+  literalAt-agree : literalAt items a at ≡ literalAt items b at
+  unfolding literalAt
+  literalAt-agree = rw (child-name 5 4 (omega arith) (omega arith), wordAt-below a b at 3 (omega arith) e, wordAt-below a b at 2 (omega arith) e)
+
+  -- what the cells that it refers to mean
+  module _ {A : Type 0} (f g : ℕ → A) (agree : (r : ℕ) → r < at → f r ≡ g r) where
+    child : (k : ℕ) → 0 < k → f (referenceAt a at k) ≡ g (referenceAt b at k)
+    child k p = agree _ (referenceAt-falls a at k some-word) ∙ ap g (referenceAt-below a b at k p e)
+
+-- ---- what a reference means depends on the words below it alone
+
+module _ (items a b : List ℕ) (at : ℕ) (some-word : 0 < at) (e : take at a ≡ take at b) where
+  patternStep-agree : (f g : ℕ → Pattern) → ((r : ℕ) → r < at → f r ≡ g r) → patternStep items a f at ≡ patternStep items b g at
+  unfolding patternStep
+  patternStep-agree f g agree =
+      rw (wordAt-below a b at 1 (omega arith) e, wordAt-below a b at 2 (omega arith) e, literalAt-agree items a b at some-word e, constantBefore-agree items a b at some-word e, child items a b at some-word e f g agree 3 (omega arith), child items a b at some-word e f g agree 2 (omega arith))
+
+  templateStep-agree : (f g : ℕ → Template) → ((r : ℕ) → r < at → f r ≡ g r) → templateStep items a f at ≡ templateStep items b g at
+  unfolding templateStep
+  templateStep-agree f g agree =
+      rw (wordAt-below a b at 1 (omega arith) e, wordAt-below a b at 3 (omega arith) e, wordAt-below a b at 2 (omega arith) e, child-name items a b at some-word e 3 2 (omega arith) (omega arith), constantBefore-agree items a b at some-word e, child items a b at some-word e f g agree 3 (omega arith), child items a b at some-word e f g agree 2 (omega arith))
+
+  ruleAt-agree : ((r : ℕ) → r < at → patternAt items a r ≡ patternAt items b r) → ((r : ℕ) → r < at → templateAt items a r ≡ templateAt items b r) → ruleAt items a at ≡ ruleAt items b at
+  unfolding ruleAt
+  ruleAt-agree p t = rw (child items a b at some-word e (patternAt items a) (patternAt items b) p 3 (omega arith), child items a b at some-word e (templateAt items a) (templateAt items b) t 2 (omega arith))
+
+-- any reading of cells in steps, given enough gas: `from` is what gas and a reference mean, `step` one step of it
+module _ {A : Type 0} (from : List ℕ → ℕ → ℕ → A) (step : List ℕ → (ℕ → A) → ℕ → A) (nothing : A) (from-step : (w : List ℕ) (g at : ℕ) → from w (suc g) at ≡ step w (from w g) at) (from-none : (w : List ℕ) (g : ℕ) → from w g 0 ≡ nothing) (step-agree : (a b : List ℕ) (at : ℕ) → 0 < at → take at a ≡ take at b → (f g : ℕ → A) → ((r : ℕ) → r < at → f r ≡ g r) → step a f at ≡ step b g at) where
+  from-empty : (a b : List ℕ) (g h at : ℕ) → at ≡ 0 → from a g at ≡ from b h at
+  from-empty a b g h at e = rw e (from-none a g ∙ sym (from-none b h))
+
+  from-more : (a b : List ℕ) (g h : ℕ) → ((at : ℕ) → at ≤ g → at ≤ h → take at a ≡ take at b → from a g at ≡ from b h at) → (at : ℕ) → at ≤ suc g → at ≤ suc h → take at a ≡ take at b → from a (suc g) at ≡ from b (suc h) at
+  from-more a b g h ih zero p q e = from-empty a b (suc g) (suc h) zero refl
+  from-more a b g h ih (suc at) p q e =
+      from-step a g (suc at)
+      ∙ step-agree a b (suc at) (omega arith) e (from a g) (from b h) (λ r l. ih r (omega arith) (omega arith) (take-less a b r (suc at) (omega arith) e))
+      ∙ sym (from-step b h (suc at))
+
+  from-agree : (a b : List ℕ) (g h at : ℕ) → at ≤ g → at ≤ h → take at a ≡ take at b → from a g at ≡ from b h at
+  from-agree a b zero h at p q e = from-empty a b zero h at (omega arith)
+  from-agree a b (suc g) zero at p q e = from-empty a b (suc g) zero at (omega arith)
+  from-agree a b (suc g) (suc h) at p q e = from-more a b g h (from-agree a b g h) at p q e
+
+  -- the reference itself is gas enough
+  from-below : (a b : List ℕ) (at : ℕ) → take at a ≡ take at b → from a at at ≡ from b at at
+  from-below a b at e = from-agree a b at at at (omega arith) (omega arith) e
+
+  from-whole : (w : List ℕ) (at : ℕ) → 0 < at → from w at at ≡ step w (λ r. from w r r) at
+  from-whole w zero h = absurd (omega arith)
+  from-whole w (suc at) h =
+      from-step w at (suc at)
+      ∙ step-agree w w (suc at) h refl (from w at) (λ r. from w r r) (λ r l. from-agree w w at r r (omega arith) (omega arith) refl)
+
+module _ (items : List ℕ) where
+  patternFrom-step : (w : List ℕ) (g at : ℕ) → patternFrom items w (suc g) at ≡ patternStep items w (patternFrom items w g) at
+  unfolding patternFrom
+  patternFrom-step w g at = refl
+
+  patternFrom-none : (w : List ℕ) (g : ℕ) → patternFrom items w g 0 ≡ emptyP
+  unfolding patternFrom patternStep wordAt
+  patternFrom-none w zero = refl
+  patternFrom-none w (suc g) = refl
+
+  pub patternAt-below : (a b : List ℕ) (at : ℕ) → take at a ≡ take at b → patternAt items a at ≡ patternAt items b at
+  unfolding patternAt
+  patternAt-below = from-below (patternFrom items) (patternStep items) emptyP patternFrom-step patternFrom-none (patternStep-agree items)
+
+  patternAt-whole : (w : List ℕ) (at : ℕ) → 0 < at → patternAt items w at ≡ patternStep items w (patternAt items w) at
+  unfolding patternAt
+  patternAt-whole = from-whole (patternFrom items) (patternStep items) emptyP patternFrom-step patternFrom-none (patternStep-agree items)
+
+  patternAt-step : (w : List ℕ) (at : ℕ) → patternAt items w at ≡ patternStep items w (patternAt items w) at
+  unfolding patternAt patternFrom patternStep wordAt
+  patternAt-step w zero = refl
+  patternAt-step w (suc at) = patternAt-whole w (suc at) (omega arith)
+
+  templateFrom-step : (w : List ℕ) (g at : ℕ) → templateFrom items w (suc g) at ≡ templateStep items w (templateFrom items w g) at
+  unfolding templateFrom
+  templateFrom-step w g at = refl
+
+  templateFrom-none : (w : List ℕ) (g : ℕ) → templateFrom items w g 0 ≡ emptyT
+  unfolding templateFrom templateStep wordAt
+  templateFrom-none w zero = refl
+  templateFrom-none w (suc g) = refl
+
+  pub templateAt-below : (a b : List ℕ) (at : ℕ) → take at a ≡ take at b → templateAt items a at ≡ templateAt items b at
+  unfolding templateAt
+  templateAt-below = from-below (templateFrom items) (templateStep items) emptyT templateFrom-step templateFrom-none (templateStep-agree items)
+
+  templateAt-whole : (w : List ℕ) (at : ℕ) → 0 < at → templateAt items w at ≡ templateStep items w (templateAt items w) at
+  unfolding templateAt
+  templateAt-whole = from-whole (templateFrom items) (templateStep items) emptyT templateFrom-step templateFrom-none (templateStep-agree items)
+
+  templateAt-step : (w : List ℕ) (at : ℕ) → templateAt items w at ≡ templateStep items w (templateAt items w) at
+  unfolding templateAt templateFrom templateStep wordAt
+  templateAt-step w zero = refl
+  templateAt-step w (suc at) = templateAt-whole w (suc at) (omega arith)
+
+  -- one rule, then those after it
+  rulesStep : List ℕ → (ℕ → List Rule) → ℕ → List Rule
+  rulesStep w later at = cond (eqb at 0) [] (ruleAt items w at ∷ later (referenceAt w at 1))
+
+  rulesStep-agree : (a b : List ℕ) (at : ℕ) → 0 < at → take at a ≡ take at b → (f g : ℕ → List Rule) → ((r : ℕ) → r < at → f r ≡ g r) → rulesStep a f at ≡ rulesStep b g at
+  unfolding rulesStep
+  rulesStep-agree a b at some-word e f g agree =
+      let under : (r : ℕ) → r < at → take r a ≡ take r b = λ r l. take-less a b r at (omega arith) e in
+      rw (ruleAt-agree items a b at some-word e (λ r l. patternAt-below a b r (under r l)) (λ r l. templateAt-below a b r (under r l)), child items a b at some-word e f g agree 1 (omega arith))
+
+  rulesFrom-step : (w : List ℕ) (g at : ℕ) → rulesFrom items w (suc g) at ≡ rulesStep w (rulesFrom items w g) at
+  unfolding rulesFrom rulesStep
+  rulesFrom-step w g at = refl
+
+  rulesFrom-none : (w : List ℕ) (g : ℕ) → rulesFrom items w g 0 ≡ []
+  unfolding rulesFrom
+  rulesFrom-none w zero = refl
+  rulesFrom-none w (suc g) = refl
+
+  pub rulesAt-below : (a b : List ℕ) (at : ℕ) → take at a ≡ take at b → rulesAt items a at ≡ rulesAt items b at
+  unfolding rulesAt
+  rulesAt-below = from-below (rulesFrom items) rulesStep [] rulesFrom-step rulesFrom-none rulesStep-agree
+
+  rulesAt-whole : (w : List ℕ) (at : ℕ) → 0 < at → rulesAt items w at ≡ rulesStep w (rulesAt items w) at
+  unfolding rulesAt
+  rulesAt-whole = from-whole (rulesFrom items) rulesStep [] rulesFrom-step rulesFrom-none rulesStep-agree
+
+-- ---- what each cell of a pattern means
+
+module _ (items work : List ℕ) (at : ℕ) where
+  pub patternAt-variable : wordAt work at 1 ≡ 1 → patternAt items work at ≡ variableP (wordAt work at 2)
+  unfolding patternStep
+  patternAt-variable e = patternAt-step items work at ∙ rw e refl
+
+  pub patternAt-literal : wordAt work at 1 ≡ 2 → patternAt items work at ≡ literalP (literalAt items work at)
+  unfolding patternStep
+  patternAt-literal e = patternAt-step items work at ∙ rw e refl
+
+  pub patternAt-wildcard : wordAt work at 1 ≡ 3 → patternAt items work at ≡ wildcardP
+  unfolding patternStep
+  patternAt-wildcard e = patternAt-step items work at ∙ rw e refl
+
+  pub patternAt-constant : wordAt work at 1 ≡ 4 → patternAt items work at ≡ constantP (constantBefore work at)
+  unfolding patternStep
+  patternAt-constant e = patternAt-step items work at ∙ rw e refl
+
+  pub patternAt-pair : wordAt work at 1 ≡ 6 → patternAt items work at ≡ pairP (patternAt items work (referenceAt work at 3)) (patternAt items work (referenceAt work at 2))
+  unfolding patternStep
+  patternAt-pair e = patternAt-step items work at ∙ rw e refl
+
+  pub patternAt-ellipsis : wordAt work at 1 ≡ 7 → patternAt items work at ≡ ellipsisP (patternAt items work (referenceAt work at 2))
+  unfolding patternStep
+  patternAt-ellipsis e = patternAt-step items work at ∙ rw e refl
+
+  -- any other tag
+  pub patternAt-empty : (wordAt work at 1 ≡ 1 → ⊥) → (wordAt work at 1 ≡ 2 → ⊥) → (wordAt work at 1 ≡ 3 → ⊥) → (wordAt work at 1 ≡ 4 → ⊥) → (wordAt work at 1 ≡ 6 → ⊥) → (wordAt work at 1 ≡ 7 → ⊥) → patternAt items work at ≡ emptyP
+  unfolding patternStep
+  patternAt-empty n1 n2 n3 n4 n6 n7 = patternAt-step items work at ∙ rw (ne-eqb _ _ n1, ne-eqb _ _ n2, ne-eqb _ _ n3, ne-eqb _ _ n4, ne-eqb _ _ n6, ne-eqb _ _ n7)
+
+  -- ---- what each cell of a template means
+
+  pub templateAt-variable : wordAt work at 1 ≡ 1 → templateAt items work at ≡ variableT (wordAt work at 3) (wordAt work at 2)
+  unfolding templateStep
+  templateAt-variable e = templateAt-step items work at ∙ rw e refl
+
+  pub templateAt-insert : wordAt work at 1 ≡ 2 → templateAt items work at ≡ insertT (nameAt items work (referenceAt work at 3) (referenceAt work at 2))
+  unfolding templateStep
+  templateAt-insert e = templateAt-step items work at ∙ rw e refl
+
+  pub templateAt-constant : wordAt work at 1 ≡ 4 → templateAt items work at ≡ constantT (constantBefore work at)
+  unfolding templateStep
+  templateAt-constant e = templateAt-step items work at ∙ rw e refl
+
+  pub templateAt-pair : wordAt work at 1 ≡ 6 → templateAt items work at ≡ pairT (templateAt items work (referenceAt work at 3)) (templateAt items work (referenceAt work at 2))
+  unfolding templateStep
+  templateAt-pair e = templateAt-step items work at ∙ rw e refl
+
+  pub templateAt-ellipsis : wordAt work at 1 ≡ 7 → templateAt items work at ≡ ellipsisT (templateAt items work (referenceAt work at 3)) (templateAt items work (referenceAt work at 2))
+  unfolding templateStep
+  templateAt-ellipsis e = templateAt-step items work at ∙ rw e refl
+
+  -- any other tag
+  pub templateAt-empty : (wordAt work at 1 ≡ 1 → ⊥) → (wordAt work at 1 ≡ 2 → ⊥) → (wordAt work at 1 ≡ 4 → ⊥) → (wordAt work at 1 ≡ 6 → ⊥) → (wordAt work at 1 ≡ 7 → ⊥) → templateAt items work at ≡ emptyT
+  unfolding templateStep
+  templateAt-empty n1 n2 n4 n6 n7 = templateAt-step items work at ∙ rw (ne-eqb _ _ n1, ne-eqb _ _ n2, ne-eqb _ _ n4, ne-eqb _ _ n6, ne-eqb _ _ n7)
+
+  -- ---- lists of rules
+
+  pub rulesAt-none : at ≡ 0 → rulesAt items work at ≡ []
+  unfolding rulesAt
+  rulesAt-none e = rw e (rulesFrom-none items work 0)
+
+  pub rulesAt-more : 0 < at → rulesAt items work at ≡ ruleAt items work at ∷ rulesAt items work (referenceAt work at 1)
+  unfolding rulesStep
+  rulesAt-more h = rulesAt-whole items work at h ∙ rw (ne-eqb at 0 (λ z. omega arith))

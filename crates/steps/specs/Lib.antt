@@ -1,0 +1,16 @@
+-- A macro step on cells: what its functions mean, and laws.
+pub mod Lists
+pub mod ListLaws
+pub mod Parts
+pub mod PartLaws
+pub mod Fits
+pub mod FitLaws
+pub mod Lengths
+pub mod LengthLaws
+pub mod Plain
+pub mod AgreeLaws
+pub mod Cost
+pub mod CostLaws
+pub mod Build
+pub mod BuildLaws
+pub mod ResultLaws
