@@ -16,7 +16,7 @@ use Rattle.expansion.specs.Forms.{isMacro}
 use Rattle.arena.specs.Arena.{wordAt, referenceAt, nameAt, treeAt}
 use Rattle.arena.specs.ArenaLaws.{cases, wordAt-some, referenceAt-falls}
 use Rattle.arena.specs.NodeLaws.{treeAt-name}
-use Rattle.forms.specs.Lists.{Means}
+use Rattle.steps.specs.Lists.{Means}
 use Rattle.forms.specs.ListLaws.{no-pair, a-pair}
 use Rattle.forms.specs.Shapes.{ownName, bindsOne}
 use Rattle.forms.specs.ShapeLaws.{ordinary-other}

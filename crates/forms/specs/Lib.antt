@@ -1,7 +1,6 @@
 -- Forms on cells: what its functions answer, and laws.
-pub mod Lists
-pub mod ListLaws
 pub mod Shapes
+pub mod ListLaws
 pub mod Binders
 pub mod BinderLaws
 pub mod ScopeLaws

@@ -21,7 +21,7 @@ use Rattle.arena.specs.ArenaLaws.{wrapAt-number, wordAt-some, referenceAt-falls
 use Rattle.arena.specs.NodeLaws.{treeAt-wrap, treeAt-empty, treeAt-name, treeAt-constant}
 use Rattle.arena.specs.Names.{numberOf}
 use Rattle.arena.specs.NameLaws.{nameAt-number}
-use Rattle.forms.specs.Lists.{Counts}
+use Rattle.steps.specs.Lists.{Counts}
 use Rattle.forms.specs.ListLaws.{no-pair, a-pair}
 use Rattle.forms.specs.Quotes.{quotedAt, elementsAt, Quotable, Written, Walked}
 

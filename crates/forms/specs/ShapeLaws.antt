@@ -16,9 +16,9 @@ use Rattle.arena.specs.ArenaLaws.{cases}
 use Rattle.arena.specs.NodeLaws.{treeAt-empty, treeAt-name, treeAt-pair, treeAt-constant}
 use Rattle.arena.specs.Names.{numberOf}
 use Rattle.arena.specs.NameLaws.{nameAt-number}
-use Rattle.forms.specs.Lists.{Means, Tests}
+use Rattle.steps.specs.Lists.{Means}
 use Rattle.forms.specs.ListLaws.{no-pair, a-pair}
-use Rattle.forms.specs.Shapes.{TestsIn, ownName, bindsOne, bindsAll}
+use Rattle.forms.specs.Shapes.{Tests, TestsIn, ownName, bindsOne, bindsAll}
 
 -- ---- names
 

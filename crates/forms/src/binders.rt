@@ -12,10 +12,10 @@ ghost use Rattle.recipe.specs.Tree.{element};
 ghost use Rattle.expansion.specs.Forms.{isLambda, formals, keywords};
 ghost use Rattle.arena.specs.Arena.{markLimit, nameAt, treeAt};
 ghost use Rattle.forms.specs.Binders.{AllNames, namesIn, Proper, bindsTo, Space, Scoped};
-use crate::lists;
 use crate::shapes;
 use arena::cells;
 use arena::names;
+use steps::lists;
 
 // Whether a name is the same as one that the list binds.
 pub fn is_among(

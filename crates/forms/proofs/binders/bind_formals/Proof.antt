@@ -5,7 +5,7 @@ use Rattle.forms.proofs.binders.bind_formals.Tie as tie
 use Rattle.forms.proofs.binders.bind_formals.Reads as reads
 use Rattle.forms.proofs.binders.bind_formals.Lts as lts
 use Rattle.forms.proofs.binders.bind_names.Reads as bind-names-reads
-use Rattle.forms.proofs.lists.element.Reads as element-reads
+use Rattle.steps.proofs.lists.element.Reads as element-reads
 use mathlib.Core.Path.{_≡_, sym, ap, subst, _∙_}
 use mathlib.Core.Bool.{false}
 use mathlib.Core.List.{List}

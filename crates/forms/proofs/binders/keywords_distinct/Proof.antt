@@ -5,7 +5,7 @@ use Rattle.forms.proofs.binders.keywords_distinct.Tie as tie
 use Rattle.forms.proofs.binders.keywords_distinct.Reads as reads
 use Rattle.forms.proofs.binders.keywords_distinct.Lts as lts
 use Rattle.forms.proofs.binders.are_distinct.Reads as are-distinct-reads
-use Rattle.forms.proofs.lists.element.Reads as element-reads
+use Rattle.steps.proofs.lists.element.Reads as element-reads
 use mathlib.Core.Path.{_≡_, sym, ap, subst, _∙_}
 use mathlib.Core.Bool.{true}
 use Rattle.recipe.specs.Name.{distinct}

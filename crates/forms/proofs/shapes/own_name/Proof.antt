@@ -4,7 +4,7 @@ use Rattle.forms.proofs.shapes.own_name.Statement.{statement}
 use Rattle.forms.proofs.shapes.own_name.Tie as tie
 use Rattle.forms.proofs.shapes.own_name.Reads as reads
 use Rattle.forms.proofs.shapes.own_name.Lts as lts
-use Rattle.forms.proofs.lists.element.Reads as element-reads
+use Rattle.steps.proofs.lists.element.Reads as element-reads
 use Rattle.forms.specs.ShapeLaws.{own-macro, own-formal}
 
 element-requires : tie.Need-element-requires
