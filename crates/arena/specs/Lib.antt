@@ -15,3 +15,4 @@ pub mod Nodes
 pub mod LayOut
 pub mod Lists
 pub mod Copy
+pub mod Rows

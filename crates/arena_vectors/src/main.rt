@@ -1,5 +1,5 @@
-// Names with hand-made wraps, looked up: what the steps of three recipes leave waiting on a name. Each line is a recipe and
-// what its names find. Every cell is tested for room, so that no function asks anything of its caller.
+// Names with hand-made wraps, looked up: what the steps of three recipes leave waiting on a name, and names with two marks.
+// Each line is a recipe and what its names find. Every cell is tested for room, so that no function asks anything of its caller.
 
 use arena::cells;
 use arena::names;
@@ -93,11 +93,33 @@ fn bind(
     names::bind(&items, work, table, top, node, w, key, parent)
 }
 
-// What x at `node` under wrap w finds; x is operation 0 where it has no binding.
+// What x at `node` under wrap w finds, where there is a node; x is operation 0 where it has no binding.
 fn look(work: &[u32; 512], table: &mut [u32; 16400], node: u32, w: u32) {
+    if node == 0 {
+        return;
+    }
     let items = [3, 8, 0];
     let operations = [0, 0, 0, 0, 0, 0, 0, 0, 1];
     show(names::lookup(&items, work, &operations, table, node, w));
+}
+
+// A line: up to four nodes under one wrap.
+fn line(
+    label: &[u8],
+    work: &[u32; 512],
+    table: &mut [u32; 16400],
+    w: u32,
+    a: u32,
+    b: u32,
+    c: u32,
+    d: u32,
+) {
+    io::write_all(1, label);
+    look(work, table, a, w);
+    look(work, table, b, w);
+    look(work, table, c, w);
+    look(work, table, d, w);
+    io::write_all(1, b"\n");
 }
 
 // E25: x is bound, then marked: the binder is judged with the marks of its time.
@@ -106,10 +128,7 @@ fn e25(work: &mut [u32; 512], table: &mut [u32; 16400]) {
     let bound = bind(work, table, formal, formal, 0, 0, 0);
     let inserted = name(work, bound, bound);
     let result = mark(work, inserted, 1, 0);
-    io::write_all(1, b"E25");
-    look(work, table, inserted, result);
-    look(work, table, formal, 0);
-    io::write_all(1, b"\n");
+    line(b"E25", work, table, result, inserted, formal, 0, 0);
 }
 
 // E26: mark, bind, mark on one name.
@@ -122,10 +141,7 @@ fn e26(work: &mut [u32; 512], table: &mut [u32; 16400]) {
     let inner = name(work, second, used);
     let inserted = name(work, inner, v0);
     let v1 = bind(work, table, inserted, inner, second, 1, second);
-    io::write_all(1, b"E26");
-    look(work, table, inserted, v1);
-    look(work, table, inner, v1);
-    io::write_all(1, b"\n");
+    line(b"E26", work, table, v1, inserted, inner, 0, 0);
 }
 
 // E27: x with marks {}, {1}, {2}, each bound; steps 2 and 3 join the wraps of what they copy.
@@ -146,12 +162,23 @@ fn e27(work: &mut [u32; 512], table: &mut [u32; 16400]) {
     let a = name(work, again, thrice);
     let b = name(work, a, again);
     let c = name(work, b, use3);
-    io::write_all(1, b"E27");
-    look(work, table, a, result3);
-    look(work, table, b, result3);
-    look(work, table, c, result3);
-    look(work, table, x, result3);
-    io::write_all(1, b"\n");
+    line(b"E27", work, table, result3, a, b, c, x);
+}
+
+// A binder of x with marks {1, 3}, met by x with {1, 3}, with {2, 3}, and with {1, 3} after a mark that came and went.
+fn two_marks(work: &mut [u32; 512], table: &mut [u32; 16400]) {
+    let x = name(work, 0, 0);
+    let one = mark(work, x, 1, 0);
+    let same = mark(work, one, 3, one);
+    let two = mark(work, same, 2, 0);
+    let other = mark(work, two, 3, two);
+    let came = mark(work, other, 2, same);
+    let went = mark(work, came, 2, came);
+    let bound = bind(work, table, went, x, same, 0, 0);
+    let a = name(work, bound, same);
+    let b = name(work, a, other);
+    let c = name(work, b, went);
+    line(b"two marks", work, table, bound, a, b, c, 0);
 }
 
 fn main() {
@@ -160,4 +187,5 @@ fn main() {
     e25(&mut work, &mut table);
     e26(&mut work, &mut table);
     e27(&mut work, &mut table);
+    two_marks(&mut work, &mut table);
 }
