@@ -60,7 +60,8 @@ returns-4 c =
     let read-text = c .before .before .before .before .before .before .before .read-text in
     let i = c .before .i in
     let begin = c .before .before .before .before .before .before .before .before .before .before .before .before .before .before .begin in
-    served-read (args .text .now) (args .items .now) (args .names .now) (if1 .left) (if2 .left) (if3 .left) (read-text .last .1 .0) (read-text .last .1 .1 .0) (i .given .0 .0) (i .given .0 .1 .0)
+    served-read (args .text .now) (args .items .now) (args .names .now) (if1 .left) (if2 .left) (if3 .left)
+    (read-text .last .1 .0) (read-text .last .1 .1 .0) (i .given .0 .0) (i .given .0 .1 .0)
     (subst (Ended (args .text .now) (read-text .last .1 .0) (read-text .last .1 .1 .0)) (i .given .1) (read-text .ensures))
     (read-text .kept .1 .0 ∙ begin .kept .0) (read-text .kept .1 .1 .0 ∙ begin .kept .1 .0)
 
@@ -82,7 +83,8 @@ returns-5 c =
     let ground = c .before .before .before .before .before .before .before .before .ground in
     let read-text = c .before .before .before .before .before .before .before .before .before .before .before .before .before .before .read-text in
     let begin = c .before .before .before .before .before .before .before .before .before .before .before .before .before .before .before .before .before .before .before .before .before .begin in
-    served-refused (args .text .now) (args .items .now) (args .names .now) (if1 .left) (if2 .left) (if3 .left) (clear .last .0) (clear .last .1 .0) (ground .given .0 .0)
+    served-refused (args .text .now) (args .items .now) (args .names .now) (if1 .left) (if2 .left) (if3 .left) (clear .last .0)
+    (clear .last .1 .0) (ground .given .0 .0)
     (subst (Ended (args .text .now) (read-text .last .1 .0) (read-text .last .1 .1 .0)) (ground .given .1) (read-text .ensures))
     (clear .ensures .0 ∙ ap (λ n. replicate n 0) (read-text .kept .1 .0 ∙ begin .kept .0))
     (clear .ensures .1 ∙ ap (λ n. replicate n 0) (read-text .kept .1 .1 .0 ∙ begin .kept .1 .0))

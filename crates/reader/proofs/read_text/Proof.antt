@@ -28,8 +28,14 @@ loop-holds c =
 advance-requires : tie.Need-advance-requires Inv-loop μ-loop
 advance-requires c κs =
     let loop = c .before .before .loop in
-    let r = loop .inv .2 in
-    (r .high, (holds-sound (r .reading) (loop .place) (loop .items) (loop .names) (r .holds), holds-names (r .reading) (loop .place) (loop .items) (loop .names) (r .holds)))
+    let r = loop .inv .2 in (
+      r .high,
+      (
+        holds-sound (r .reading) (loop .place) (loop .items) (loop .names) (r .holds),
+        holds-names (r .reading)
+            (loop .place) (loop .items) (loop .names) (r .holds),
+      ),
+    )
 
 enum-known-p : tie.Need-enum-known-p Inv-loop μ-loop
 enum-known-p c =
@@ -41,15 +47,22 @@ loop-less c =
     let loop = c .before .before .before .before .before .before .before .before .before .before .loop in
     let advance = c .before .before .before .before .before .before .before .advance in
     let p = c .before .p in
-    let l = reached-later (args .text .now) (loop .items) (loop .names) (loop .place) (loop .cursor) (loop .inv .2) (advance .last .1 .1 .1 .0) (advance .last .1 .1 .1 .1 .0) (advance .result) (advance .ensures) (p .given .0 .0) (p .given .0 .1 .0) (p .given .1) in omega (arith, l .0, l .1)
+    let l = reached-later (args .text .now) (loop .items) (loop .names) (loop .place) (loop .cursor) (loop .inv .2)
+    (advance .last .1 .1 .1 .0) (advance .last .1 .1 .1 .1 .0) (advance .result) (advance .ensures) (p .given .0 .0)
+    (p .given .0 .1 .0) (p .given .1) in omega (arith, l .0, l .1)
 
 loop-again : tie.Need-loop-again Inv-loop μ-loop
 loop-again c =
     let advance = c .before .before .before .before .before .before .before .advance in
     let loop = c .before .before .before .before .before .before .before .before .before .before .loop in
     let args = c .before .before .before .before .before .before .before .before .before .before .before .before .before .before .args in
-    let p = c .before .p in
-    (advance .kept .1 .1 .1 .0 ∙ loop .inv .0, advance .kept .1 .1 .1 .1 .0 ∙ loop .inv .1, reached-on (args .text .now) (loop .items) (loop .names) (loop .place) (loop .cursor) (loop .inv .2) (advance .last .1 .1 .1 .0) (advance .last .1 .1 .1 .1 .0) (advance .result) (advance .ensures) (p .given .0 .0) (p .given .0 .1 .0) (p .given .1))
+    let p = c .before .p in (
+      advance .kept .1 .1 .1 .0 ∙ loop .inv .0,
+      advance .kept .1 .1 .1 .1 .0 ∙ loop .inv .1,
+      reached-on (args .text .now)
+          (loop .items) (loop .names) (loop .place) (loop .cursor) (loop .inv .2) (advance .last .1 .1 .1 .0)
+          (advance .last .1 .1 .1 .1 .0) (advance .result) (advance .ensures) (p .given .0 .0) (p .given .0 .1 .0) (p .given .1),
+    )
 
 enum-known-i : tie.Need-enum-known-i Inv-loop μ-loop
 enum-known-i c =
@@ -73,7 +86,9 @@ returns c =
     let loop = c .before .before .before .before .before .before .before .before .before .before .loop in
     let advance = c .before .before .before .before .before .before .before .advance in
     let i = c .before .i in
-    reached-done (args .text .now) (loop .items) (loop .names) (loop .place) (loop .cursor) (loop .inv .2) (advance .last .1 .1 .1 .0) (advance .last .1 .1 .1 .1 .0) (advance .result) (advance .ensures) (i .given .0 .0) (i .given .0 .1 .0) (i .given .1)
+    reached-done (args .text .now) (loop .items) (loop .names) (loop .place) (loop .cursor) (loop .inv .2)
+    (advance .last .1 .1 .1 .0) (advance .last .1 .1 .1 .1 .0) (advance .result) (advance .ensures) (i .given .0 .0)
+    (i .given .0 .1 .0) (i .given .1)
 
 enum-known-ground : tie.Need-enum-known-ground Inv-loop μ-loop
 enum-known-ground c =
@@ -97,7 +112,9 @@ returns-2 c =
     let loop = c .before .before .before .before .before .before .before .before .before .before .loop in
     let advance = c .before .before .before .before .before .before .before .advance in
     let ground = c .before .ground in
-    reached-refused (args .text .now) (loop .items) (loop .names) (loop .place) (loop .cursor) (loop .inv .2) (advance .last .1 .1 .1 .0) (advance .last .1 .1 .1 .1 .0) (advance .result) (advance .ensures) (ground .given .0 .0) (ground .given .1)
+    reached-refused (args .text .now) (loop .items) (loop .names) (loop .place) (loop .cursor) (loop .inv .2)
+    (advance .last .1 .1 .1 .0) (advance .last .1 .1 .1 .1 .0) (advance .result) (advance .ensures) (ground .given .0 .0)
+    (ground .given .1)
 
 pub read-text-spec : {M : Type 1} → statement M
 read-text-spec =

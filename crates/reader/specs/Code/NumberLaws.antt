@@ -13,7 +13,8 @@ use mir.Syntax.{w32}
 use mir.Val.{SFits, toZ, ofZ}
 use mir.Facts.{toZ-pos, toZ-ofZ}
 use borrow.Author.Tests.{le-leb, lt-leb, leb-true, leb-false, eq-eqb, ne-eqb}
-use Rattle.words.specs.Lists.{within, all, rest}
+use Rattle.words.specs.Lists.{within, all}
+use Rattle.words.specs.Parts.{rest}
 use Rattle.words.specs.ListLaws.{either, and-left, and-right, within-low, within-high, rest-is}
 use Rattle.datum.specs.Constant.{integer}
 use Rattle.reading.specs.Token.{isDigit}

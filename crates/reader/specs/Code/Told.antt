@@ -7,7 +7,8 @@ use lib.ListN.{length, getD, drop}
 use mir.Syntax.{w32}
 use mir.Val.{ofZ}
 use Rattle.words.specs.Limits.{nameLengthMost}
-use Rattle.words.specs.Lists.{all, part}
+use Rattle.words.specs.Lists.{all}
+use Rattle.words.specs.Parts.{part}
 use Rattle.datum.specs.Constant.{integer, boolean}
 use Rattle.reader.specs.declared.token.Token as T
 use Rattle.reader.specs.declared.token.Token.the-variants.{End, Open, Close, Boolean, Integer, Name, Refused}

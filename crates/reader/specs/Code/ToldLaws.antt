@@ -9,7 +9,8 @@ use lib.Dec.{eqb}
 use lib.ListN.{length, getD, drop}
 use lib.Seq.{drop-cons, drop-length}
 use borrow.Author.Tests.{le-leb, lt-leb, ne-eqb, eqb-true, eqb-false}
-use Rattle.words.specs.Lists.{within, all, any, equal, part}
+use Rattle.words.specs.Lists.{within, all, any, equal}
+use Rattle.words.specs.Parts.{part}
 use Rattle.words.specs.ListLaws.{either, never, and-left, within-high, all-append, part-more, part-split, length-part}
 use Rattle.words.specs.Text.{bytes}
 use Rattle.datum.specs.Constant.{boolean}

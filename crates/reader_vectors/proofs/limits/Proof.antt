@@ -42,7 +42,8 @@ same-length c =
     let show-part3 = c .before .before .before .before .before .before .before .before .before .before .before .before .before .before .before .before .before .before .show-part3 in
     let show-part2 = c .before .before .before .before .before .before .before .before .before .before .before .before .before .before .before .before .before .before .before .before .before .before .before .before .before .before .show-part2 in
     let show-part = c .before .before .before .before .before .before .before .before .before .before .before .before .before .before .before .before .before .before .before .before .before .before .before .before .before .before .before .before .before .before .before .before .before .before .show-part in
-    show-part5 .kept .1 .1 .0 ∙ show-part4 .kept .1 .1 .0 ∙ show-part3 .kept .1 .1 .0 ∙ show-part2 .kept .1 .1 .0 ∙ show-part .kept .1 .1 .0
+    show-part5 .kept .1 .1 .0 ∙ show-part4 .kept .1 .1 .0 ∙ show-part3 .kept .1 .1 .0 ∙ show-part2 .kept .1 .1 .0 ∙
+    show-part .kept .1 .1 .0
 
 same-length-2 : tie.Need-same-length-2
 same-length-2 c =
@@ -51,7 +52,8 @@ same-length-2 c =
     let show-part3 = c .before .before .before .before .before .before .before .before .before .before .before .before .before .before .before .before .before .before .show-part3 in
     let show-part2 = c .before .before .before .before .before .before .before .before .before .before .before .before .before .before .before .before .before .before .before .before .before .before .before .before .before .before .show-part2 in
     let show-part = c .before .before .before .before .before .before .before .before .before .before .before .before .before .before .before .before .before .before .before .before .before .before .before .before .before .before .before .before .before .before .before .before .before .before .show-part in
-    show-part5 .kept .1 .1 .1 .1 .0 ∙ show-part4 .kept .1 .1 .1 .1 .0 ∙ show-part3 .kept .1 .1 .1 .1 .0 ∙ show-part2 .kept .1 .1 .1 .1 .0 ∙ show-part .kept .1 .1 .1 .1 .0
+    show-part5 .kept .1 .1 .1 .1 .0 ∙ show-part4 .kept .1 .1 .1 .1 .0 ∙ show-part3 .kept .1 .1 .1 .1 .0 ∙
+    show-part2 .kept .1 .1 .1 .1 .0 ∙ show-part .kept .1 .1 .1 .1 .0
 
 returns : tie.Need-returns
 returns c =

@@ -28,35 +28,40 @@ unfolding isRunning isDigit within any bytes valued
 returns-3 c =
     let args = c .before .before .before .args in
     let match = c .before .before .match in
-    valued-at isRunning false (33 ∷ 95 ∷ []) 0 42 refl (args .b) (omega arith) (omega arith) (any-neither _ 33 95 (match .rest .1))
+    valued-at isRunning false (33 ∷ 95 ∷ []) 0 42 refl (args .b) (omega arith) (omega arith)
+    (any-neither _ 33 95 (match .rest .1))
 
 returns-4 : tie.Need-returns-4
 unfolding isRunning isDigit within any bytes valued
 returns-4 c =
     let args = c .before .before .before .before .before .args in
     let match = c .before .before .before .before .match in
-    valued-at isRunning false (33 ∷ 95 ∷ []) 44 1 refl (args .b) (omega arith) (omega arith) (any-neither _ 33 95 (match .rest .1))
+    valued-at isRunning false (33 ∷ 95 ∷ []) 44 1 refl (args .b) (omega arith) (omega arith)
+    (any-neither _ 33 95 (match .rest .1))
 
 returns-5 : tie.Need-returns-5
 unfolding isRunning isDigit within any bytes valued
 returns-5 c =
     let args = c .before .before .before .args in
     let match = c .before .before .match in
-    valued-at isRunning false (33 ∷ 95 ∷ []) 58 2 refl (args .b) (omega arith) (omega arith) (any-neither _ 33 95 (match .rest .1))
+    valued-at isRunning false (33 ∷ 95 ∷ []) 58 2 refl (args .b) (omega arith) (omega arith)
+    (any-neither _ 33 95 (match .rest .1))
 
 returns-6 : tie.Need-returns-6
 unfolding isRunning isDigit within any bytes valued
 returns-6 c =
     let args = c .before .before .before .before .before .args in
     let match = c .before .before .before .before .match in
-    valued-at isRunning false (33 ∷ 95 ∷ []) 64 33 refl (args .b) (omega arith) (omega arith) (any-neither _ 33 95 (match .rest .1))
+    valued-at isRunning false (33 ∷ 95 ∷ []) 64 33 refl (args .b) (omega arith) (omega arith)
+    (any-neither _ 33 95 (match .rest .1))
 
 returns-7 : tie.Need-returns-7
 unfolding isRunning isDigit within any bytes valued
 returns-7 c =
     let args = c .before .before .before .before .before .before .args in
     let match = c .before .before .before .before .before .match in
-    valued-at isRunning false (33 ∷ 95 ∷ []) 123 133 refl (args .b) (omega arith) (omega arith) (any-neither _ 33 95 (match .rest .1))
+    valued-at isRunning false (33 ∷ 95 ∷ []) 123 133 refl (args .b) (omega arith) (omega arith)
+    (any-neither _ 33 95 (match .rest .1))
 
 returns-8 : tie.Need-returns-8
 unfolding isRunning isDigit within any bytes

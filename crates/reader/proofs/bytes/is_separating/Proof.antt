@@ -15,14 +15,16 @@ returns : tie.Need-returns
 unfolding isSeparating any bytes valued
 returns c =
     let args = c .before .before .args in
-    valued-at isSeparating false (13 ∷ 32 ∷ []) 0 9 refl (args .b) (omega arith) (omega arith) (any-neither _ 13 32 (c .before .match .rest .1))
+    valued-at isSeparating false (13 ∷ 32 ∷ []) 0 9 refl (args .b) (omega arith) (omega arith)
+    (any-neither _ 13 32 (c .before .match .rest .1))
 
 returns-2 : tie.Need-returns-2
 unfolding isSeparating any bytes valued
 returns-2 c =
     let args = c .before .before .before .args in
     let match = c .before .before .match in
-    valued-at isSeparating false (13 ∷ 32 ∷ []) 11 245 refl (args .b) (omega arith) (omega arith) (any-neither _ 13 32 (match .rest .1))
+    valued-at isSeparating false (13 ∷ 32 ∷ []) 11 245 refl (args .b) (omega arith) (omega arith)
+    (any-neither _ 13 32 (match .rest .1))
 
 returns-3 : tie.Need-returns-3
 unfolding isSeparating any bytes

@@ -6,7 +6,7 @@ use native.Mathlib.Omega.{arith}
 use mir.Syntax.{w32}
 use mir.Val.{ofZ}
 use mir.Facts.{toZ-ofZ}
-use Rattle.words.specs.Lists.{part}
+use Rattle.words.specs.Parts.{part}
 use Rattle.datum.specs.Constant.{integer, boolean}
 use Rattle.reading.specs.Meaning.{begins, ends, constant, name}
 use Rattle.reader.specs.Code.Told.{Told}
@@ -111,7 +111,8 @@ put-name-requires c κs =
     let from = c .before .before .before .before .from in
     let token-at = c .before .before .before .before .before .before .token-at in
     let pre = c .before .before .before .before .before .before .before .before .before .before .pre in
-    let n = subst (Told (args .text .now) (args .cursor .at)) (from .given .1) (token-at .ensures) in (pre .1 .0, (pre .1 .1, n .2))
+    let n = subst (Told (args .text .now) (args .cursor .at)) (from .given .1) (token-at .ensures) in
+    (pre .1 .0, (pre .1 .1, n .2))
 
 moved-requires-5 : tie.Need-moved-requires-5
 moved-requires-5 c κs =
@@ -123,7 +124,8 @@ returns c =
     let args = c .before .before .before .before .before .before .before .args in
     let token-at = c .before .before .before .token-at in
     end-moved (args .text .now) (args .cursor .at) r (args .place) (args .items .now) (args .names .now) h
-    (subst (Told (args .text .now) (args .cursor .at)) (c .before .enum-told .given .1) (token-at .ensures)) (c .finish .result) (c .finish .ensures)
+    (subst (Told (args .text .now) (args .cursor .at)) (c .before .enum-told .given .1) (token-at .ensures)) (c .finish .result)
+    (c .finish .ensures)
 
 returns-2 : tie.Need-returns-2
 returns-2 c =
@@ -146,7 +148,8 @@ returns-3 c =
     let next = c .before .before .before .before .before .before .next in
     let token-at = c .before .before .before .before .before .before .before .before .token-at in
     stepped-moved (args .text .now) (args .cursor .at) r (open-list .last .0) (args .names .now) begins (next .given .0 .0)
-    (subst (Told (args .text .now) (args .cursor .at)) (next .given .1) (token-at .ensures)) (open-list .result) (c .moved .result) (c .moved .ensures) (open-list .ensures r (args .names .now) h)
+    (subst (Told (args .text .now) (args .cursor .at)) (next .given .1) (token-at .ensures)) (open-list .result)
+    (c .moved .result) (c .moved .ensures) (open-list .ensures r (args .names .now) h)
 
 same-length-2 : tie.Need-same-length-2
 same-length-2 c =
@@ -160,7 +163,8 @@ returns-4 c =
     let next2 = c .before .before .before .before .before .before .next2 in
     let token-at = c .before .before .before .before .before .before .before .before .token-at in
     stepped-moved (args .text .now) (args .cursor .at) r (close-list .last .0) (args .names .now) ends (next2 .given .0 .0)
-    (subst (Told (args .text .now) (args .cursor .at)) (next2 .given .1) (token-at .ensures)) (close-list .result) (c .moved2 .result) (c .moved2 .ensures) (close-list .ensures r (args .names .now) h)
+    (subst (Told (args .text .now) (args .cursor .at)) (next2 .given .1) (token-at .ensures)) (close-list .result)
+    (c .moved2 .result) (c .moved2 .ensures) (close-list .ensures r (args .names .now) h)
 
 same-length-3 : tie.Need-same-length-3
 same-length-3 c =
@@ -174,9 +178,12 @@ returns-5 c =
     let put-token = c .before .before .before .put-token in
     let b = c .before .before .before .before .before .before .b in
     let token-at = c .before .before .before .before .before .before .before .before .token-at in
-    stepped-moved (args .text .now) (args .cursor .at) r (put-token .last .0) (args .names .now) (constant (boolean (b .given .0 .0))) (b .given .0 .1 .0)
-    (subst (Told (args .text .now) (args .cursor .at)) (b .given .1) (token-at .ensures)) (put-token .result) (c .moved3 .result) (c .moved3 .ensures)
-    (constant-stepped r (args .place) (args .items .now) (put-token .last .0) (args .names .now) (boolean (b .given .0 .0)) (b .given .0 .0) (put-token .result) h refl refl (put-token .ensures))
+    stepped-moved (args .text .now) (args .cursor .at) r (put-token .last .0) (args .names .now)
+    (constant (boolean (b .given .0 .0))) (b .given .0 .1 .0)
+    (subst (Told (args .text .now) (args .cursor .at)) (b .given .1) (token-at .ensures)) (put-token .result) (c .moved3 .result)
+    (c .moved3 .ensures)
+    (constant-stepped r (args .place) (args .items .now) (put-token .last .0) (args .names .now) (boolean (b .given .0 .0))
+    (b .given .0 .0) (put-token .result) h refl refl (put-token .ensures))
 
 same-length-4 : tie.Need-same-length-4
 same-length-4 c =
@@ -192,10 +199,14 @@ returns-6 c =
     let token-at = c .before .before .before .before .before .before .before .before .before .token-at in
     let to-word = c .before .before .before .before .to-word in
     let known-told5 = c .before .before .before .before .before .before .known-told5 in
-    stepped-moved (args .text .now) (args .cursor .at) r (put-token2 .last .0) (args .names .now) (constant (integer (ofZ w32 (z′ .given .0 .0)))) (z′ .given .0 .1 .0)
-    (subst (Told (args .text .now) (args .cursor .at)) (z′ .given .1) (token-at .ensures)) (put-token2 .result) (c .moved4 .result) (c .moved4 .ensures)
-    (constant-stepped r (args .place) (args .items .now) (put-token2 .last .0) (args .names .now) (integer (ofZ w32 (z′ .given .0 .0))) (to-word .result) (put-token2 .result) h refl
-    (sym (to-word .ensures ∙ ap (ofZ w32) (toZ-ofZ {w = w32} {z = z′ .given .0 .0} (record { sfits = known-told5 .given .0 .1 })))) (put-token2 .ensures))
+    stepped-moved (args .text .now) (args .cursor .at) r (put-token2 .last .0) (args .names .now)
+    (constant (integer (ofZ w32 (z′ .given .0 .0)))) (z′ .given .0 .1 .0)
+    (subst (Told (args .text .now) (args .cursor .at)) (z′ .given .1) (token-at .ensures)) (put-token2 .result)
+    (c .moved4 .result) (c .moved4 .ensures)
+    (constant-stepped r (args .place) (args .items .now) (put-token2 .last .0) (args .names .now)
+    (integer (ofZ w32 (z′ .given .0 .0))) (to-word .result) (put-token2 .result) h refl
+    (sym (to-word .ensures ∙ ap (ofZ w32)
+    (toZ-ofZ {w = w32} {z = z′ .given .0 .0} (record { sfits = known-told5 .given .0 .1 })))) (put-token2 .ensures))
 
 same-length-5 : tie.Need-same-length-5
 same-length-5 c =
@@ -213,7 +224,8 @@ returns-7 c =
     let token-at = c .before .before .before .before .before .before .before .before .before .before .before .before .token-at in
     let put-name = c .before .before .before .before .before .put-name in
     let n = subst (Told (args .text .now) (args .cursor .at)) (from .given .1) (token-at .ensures) in
-    stepped-moved (args .text .now) (args .cursor .at) r (put-name .last .0) (put-name .last .1 .0) (name (part (from .given .0 .0) (from .given .0 .1 .0 .at) (args .text .now))) (from .given .0 .1 .0)
+    stepped-moved (args .text .now) (args .cursor .at) r (put-name .last .0) (put-name .last .1 .0)
+    (name (part (from .given .0 .0) (from .given .0 .1 .0 .at) (args .text .now))) (from .given .0 .1 .0)
     (n .3) (put-name .result) (c .moved5 .result) (c .moved5 .ensures) (put-name .ensures r h)
 
 pub advance-spec : {M : Type 1} → statement M

@@ -33,7 +33,8 @@ returns c =
     let find = c .before .before .before .before .before .before .find in
     let put-token = c .before .before .put-token in
     let if1 = c .before .before .before .before .if1 in
-    name-known r (args .place) (args .items .now) (args .names .now) h (args .word .now) (find .result) (find .ensures) _ (put-token .result) (if1 .taken) (put-token .ensures)
+    name-known r (args .place) (args .items .now) (args .names .now) h (args .word .now) (find .result) (find .ensures) _
+    (put-token .result) (if1 .taken) (put-token .ensures)
 
 add-ground-at : tie.Need-add-ground-at
 add-ground-at c =
@@ -54,7 +55,8 @@ returns-2 c =
     let find = c .before .before .before .before .find in
     let if1 = c .before .before .if1 in
     let pre = c .before .before .before .before .before .before .before .before .before .pre in
-    name-full r (args .place) (args .items .now) (args .names .now) h (args .word .now) (find .result) (find .ensures) (if1 .left) (pre .1 .1) _ _ (c .ground-at .result) (c .before .if2 .taken) (c .ground-at .ensures)
+    name-full r (args .place) (args .items .now) (args .names .now) h (args .word .now) (find .result) (find .ensures) (if1 .left)
+    (pre .1 .1) _ _ (c .ground-at .result) (c .before .if2 .taken) (c .ground-at .ensures)
 
 store-requires : tie.Need-store-requires
 store-requires c κs =
@@ -69,14 +71,16 @@ cast-put-token-2 c =
     let args = c .before .before .before .before .before .before .before .before .before .before .before .before .before .args in
     let find = c .before .before .before .before .before .before .before .before .find in
     let pre = c .before .before .before .before .before .before .before .before .before .before .before .before .before .pre in
-    let l = found-most (args .word .now) (args .names .now) (args .place .known) (find .result) (find .ensures) in omega (arith, l, pre .0 .names)
+    let l = found-most (args .word .now) (args .names .now) (args .place .known) (find .result) (find .ensures) in omega
+    (arith, l, pre .0 .names)
 
 add-put-token : tie.Need-add-put-token
 add-put-token c =
     let args = c .before .before .before .before .before .before .before .before .before .before .before .before .before .args in
     let find = c .before .before .before .before .before .before .before .before .find in
     let pre = c .before .before .before .before .before .before .before .before .before .before .before .before .before .pre in
-    let l = found-most (args .word .now) (args .names .now) (args .place .known) (find .result) (find .ensures) in omega (arith, l, pre .0 .names)
+    let l = found-most (args .word .now) (args .names .now) (args .place .known) (find .result) (find .ensures) in omega
+    (arith, l, pre .0 .names)
 
 put-token-requires-2 : tie.Need-put-token-requires-2
 put-token-requires-2 c κs =
@@ -102,7 +106,8 @@ returns-3 c =
     let put-token2 = c .before .before .put-token2 in
     let l = found-most (args .word .now) (args .names .now) (args .place .known) (find .result) (find .ensures) in
     let room : 64 * find .result + 64 ≤ length (args .names .now) = omega (arith, l, if2 .left, pre .0 .names, pre .1 .0 .room) in
-    rw (store .ensures) (name-new r (args .place) (args .items .now) (args .names .now) h (args .word .now) (find .result) (find .ensures) (if1 .left) (pre .1 .1) _ (put-token2 .result) room (put-token2 .ensures))
+    rw (store .ensures) (name-new r (args .place) (args .items .now) (args .names .now) h (args .word .now) (find .result)
+    (find .ensures) (if1 .left) (pre .1 .1) _ (put-token2 .result) room (put-token2 .ensures))
 
 pub put-name-spec : {M : Type 1} → statement M
 put-name-spec =

@@ -32,7 +32,8 @@ returns c =
     let loop = c .before .before .before .loop in
     let args = c .before .before .before .before .before .before .args in
     let loop-test = c .before .before .loop-test in
-    sym (loop .inv .1 ∙ find-here (args .word .now) (args .names .now) (loop .n) (args .known) (loop-test .taken) (sym (c .before .spells .ensures) ∙ c .if1 .taken))
+    sym (loop .inv .1 ∙ find-here (args .word .now) (args .names .now) (loop .n) (args .known) (loop-test .taken)
+    (sym (c .before .spells .ensures) ∙ c .if1 .taken))
 
 add-n : tie.Need-add-n Inv-loop μ-loop
 add-n c =
@@ -46,8 +47,11 @@ loop-again : tie.Need-loop-again Inv-loop μ-loop
 loop-again c =
     let loop = c .before .before .before .loop in
     let args = c .before .before .before .before .before .before .args in
-    let loop-test = c .before .before .loop-test in
-    (omega arith, loop .inv .1 ∙ find-step (args .word .now) (args .names .now) (loop .n) (args .known) (loop-test .taken) (sym (c .before .spells .ensures) ∙ c .if1 .left))
+    let loop-test = c .before .before .loop-test in (
+      omega arith,
+      loop .inv .1 ∙ find-step (args .word .now) (args .names .now) (loop .n) (args .known) (loop-test .taken)
+          (sym (c .before .spells .ensures) ∙ c .if1 .left),
+    )
 
 returns-2 : tie.Need-returns-2 Inv-loop μ-loop
 returns-2 c =

@@ -37,7 +37,8 @@ returns c =
     let pre = c .before .before .before .before .before .pre in
     let table = args .names .now in
     let n = args .number in
-    unequal-lengths (args .word .now) (nameAt table n) (λ e. c .if1 .taken (c .before .wide .ensures ∙ sym (name-length table n (pre .0) (pre .1)) ∙ e))
+    unequal-lengths (args .word .now) (nameAt table n)
+    (λ e. c .if1 .taken (c .before .wide .ensures ∙ sym (name-length table n (pre .0) (pre .1)) ∙ e))
 
 loop-holds : tie.Need-loop-holds Inv-loop μ-loop
 loop-holds c =
@@ -78,7 +79,8 @@ returns-2 c =
     let i = loop .i in
     let s : length (nameAt table n) ≡ length word = name-length table n (pre .0) (pre .1) ∙ sym (wide .ensures) ∙ if1 .left in
     let h : i < lengthAt table n = omega (arith, wide .ensures, if1 .left, loop-test .taken) in
-    sym (equal-stop word (nameAt table n) s i (loop-test .taken) (λ e. c .if2 .taken (sym (name-byte table n (pre .0) (pre .1) i h) ∙ e))) ∙ loop .inv .1
+    sym (equal-stop word (nameAt table n) s i (loop-test .taken)
+    (λ e. c .if2 .taken (sym (name-byte table n (pre .0) (pre .1) i h) ∙ e))) ∙ loop .inv .1
 
 add-i : tie.Need-add-i Inv-loop μ-loop
 add-i c =
@@ -102,8 +104,11 @@ loop-again c =
     let word = args .word .now in
     let i = loop .i in
     let s : length (nameAt table n) ≡ length word = name-length table n (pre .0) (pre .1) ∙ sym (wide .ensures) ∙ if1 .left in
-    let h : i < lengthAt table n = omega (arith, wide .ensures, if1 .left, loop-test .taken) in
-    (omega arith, sym (equal-step word (nameAt table n) s i (loop-test .taken) (name-byte table n (pre .0) (pre .1) i h ∙ c .if2 .left)) ∙ loop .inv .1)
+    let h : i < lengthAt table n = omega (arith, wide .ensures, if1 .left, loop-test .taken) in (
+      omega arith,
+      sym (equal-step word (nameAt table n) s i (loop-test .taken)
+          (name-byte table n (pre .0) (pre .1) i h ∙ c .if2 .left)) ∙ loop .inv .1,
+    )
 
 returns-3 : tie.Need-returns-3 Inv-loop μ-loop
 unfolding lengthAt

@@ -30,8 +30,12 @@ slice-write-names c =
     search needs
 
 loop-holds : tie.Need-loop-holds Inv-loop μ-loop
-loop-holds c =
-    (refl, omega arith, paste-zero (set (c .args .names .now) (64 * c .args .number) (length (c .args .word .now))) (64 * c .args .number + 1) (c .args .word .now))
+loop-holds c = (
+  refl,
+  omega arith,
+  paste-zero (set (c .args .names .now) (64 * c .args .number) (length (c .args .word .now)))
+      (64 * c .args .number + 1) (c .args .word .now),
+)
 
 shared-slice-read-names : tie.Need-shared-slice-read-names Inv-loop μ-loop
 shared-slice-read-names c =
@@ -69,8 +73,12 @@ loop-again c =
     let at = 64 * args .number + 1 in
     let i = loop .i in
     let d = set (args .names .now) (64 * args .number) (length word) in
-    let h : at + i < length d = omega (arith, pre .0, pre .1, length-set (args .names .now) (64 * args .number) (length word)) in
-    (length-set (loop .names) (at + i) (getD word i 0) ∙ loop .inv .0, omega arith, ap (λ l. set l (at + i) (getD word i 0)) (loop .inv .2) ∙ paste-more d at word i h (c .before .loop-test .taken))
+    let h : at + i < length d = omega (arith, pre .0, pre .1, length-set (args .names .now) (64 * args .number) (length word)) in (
+      length-set (loop .names) (at + i) (getD word i 0) ∙ loop .inv .0,
+      omega arith,
+      ap (λ l. set l (at + i) (getD word i 0))
+          (loop .inv .2) ∙ paste-more d at word i h (c .before .loop-test .taken),
+    )
 
 same-length : tie.Need-same-length Inv-loop μ-loop
 same-length c =

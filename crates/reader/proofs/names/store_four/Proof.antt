@@ -59,8 +59,10 @@ returns c =
     let store3 = c .before .before .before .before .before .before .store3 in
     let store4 = c .before .before .store4 in
     let pre = c .before .before .before .before .before .before .before .before .before .before .before .before .before .before .before .before .before .before .before .before .before .pre in
-    four-more (args .names .now) (store .last .0) (store2 .last .0) (store3 .last .0) (store4 .last .0) (args .number) (args .a .now) (args .b .now) (args .c .now) (args .d .now)
-    (pre .0 .0) (pre .1 .0) (pre .1 .1) (pre .1 .2) (pre .1 .3) (store .ensures) (store2 .ensures) (store3 .ensures) (store4 .ensures)
+    four-more (args .names .now) (store .last .0) (store2 .last .0) (store3 .last .0) (store4 .last .0) (args .number)
+    (args .a .now) (args .b .now) (args .c .now) (args .d .now)
+    (pre .0 .0) (pre .1 .0) (pre .1 .1) (pre .1 .2) (pre .1 .3) (store .ensures) (store2 .ensures) (store3 .ensures)
+    (store4 .ensures)
 
 pub store-four-spec : {M : Type 1} → statement M
 store-four-spec =

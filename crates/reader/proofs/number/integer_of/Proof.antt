@@ -4,7 +4,7 @@ use Rattle.reader.proofs.number.integer_of.Tie as tie
 use mathlib.Core.Path.{sym, _∙_}
 use mathlib.Core.Bool.{true, false}
 use borrow.Author.Tests.{not-true, not-false}
-use Rattle.words.specs.Lists.{rest}
+use Rattle.words.specs.Parts.{rest}
 use Rattle.reader.specs.Code.NumberLaws.{integer-plain, integer-minus, digits-malformed, digits-value}
 
 shared-slice-read-if1 : tie.Need-shared-slice-read-if1
@@ -32,7 +32,8 @@ returns c =
     let args = c .before .before .before .before .before .before .args in
     let if1 = c .before .before .before .if1 in
     let are-digits = c .before .are-digits in
-    digits-malformed (args .word .now) (rest 1 (args .word .now)) true (integer-minus (args .word .now) (if1 .taken)) (sym (are-digits .ensures) ∙ not-true (are-digits .result) (c .if2 .taken))
+    digits-malformed (args .word .now) (rest 1 (args .word .now)) true (integer-minus (args .word .now) (if1 .taken))
+    (sym (are-digits .ensures) ∙ not-true (are-digits .result) (c .if2 .taken))
 
 magnitude-requires : tie.Need-magnitude-requires
 magnitude-requires c κs =
@@ -61,7 +62,8 @@ returns-3 c =
     let args = c .before .before .before .before .before .args in
     let if1 = c .before .before .if1 in
     let are-digits2 = c .before .are-digits2 in
-    digits-malformed (args .word .now) (args .word .now) false (integer-plain (args .word .now) (if1 .left)) (sym (are-digits2 .ensures) ∙ not-true (are-digits2 .result) (c .if3 .taken))
+    digits-malformed (args .word .now) (args .word .now) false (integer-plain (args .word .now) (if1 .left))
+    (sym (are-digits2 .ensures) ∙ not-true (are-digits2 .result) (c .if3 .taken))
 
 magnitude-requires-2 : tie.Need-magnitude-requires-2
 magnitude-requires-2 c κs =
@@ -79,7 +81,8 @@ returns-4 c =
     let are-digits2 = c .before .before .before .are-digits2 in
     let if3 = c .before .before .if3 in
     digits-value (args .word .now) (args .word .now) false (integer-plain (args .word .now) (if1 .left)) _ _
-    (sym (are-digits2 .ensures) ∙ not-false (are-digits2 .result) (if3 .left)) (c .signed2 .ensures) (c .before .magnitude2 .ensures)
+    (sym (are-digits2 .ensures) ∙ not-false (are-digits2 .result) (if3 .left)) (c .signed2 .ensures)
+    (c .before .magnitude2 .ensures)
 
 pub integer-of-spec : {M : Type 1} → statement M
 integer-of-spec =

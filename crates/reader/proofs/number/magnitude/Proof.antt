@@ -47,7 +47,8 @@ add-value c =
     let loop = c .before .before .before .loop in
     let pre = c .before .before .before .before .before .pre in
     let loop-test = c .before .before .loop-test in
-    let d = digit-range _ (all-at (args .digits .now) (loop .i) (pre) (loop-test .taken)) in omega (arith, d .0, d .1, c .wide .ensures)
+    let d = digit-range _ (all-at (args .digits .now) (loop .i) (pre) (loop-test .taken)) in omega
+    (arith, d .0, d .1, c .wide .ensures)
 
 returns : tie.Need-returns Inv-loop μ-loop
 returns c =

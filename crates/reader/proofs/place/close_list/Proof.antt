@@ -15,19 +15,22 @@ mul-tail : tie.Need-mul-tail
 mul-tail c =
     let args = c .before .before .before .args in
     let pre = c .before .before .before .pre in
-    let d : 0 < args .place .depth = omega (arith, c .before .if1 .left) in omega (arith, pre .pair d, pre .even, pre .elements, pre .room)
+    let d : 0 < args .place .depth = omega (arith, c .before .if1 .left) in omega
+    (arith, pre .pair d, pre .even, pre .elements, pre .room)
 
 add-tail : tie.Need-add-tail
 add-tail c =
     let args = c .before .before .before .args in
     let pre = c .before .before .before .pre in
-    let d : 0 < args .place .depth = omega (arith, c .before .if1 .left) in omega (arith, pre .pair d, pre .even, pre .elements, pre .room)
+    let d : 0 < args .place .depth = omega (arith, c .before .if1 .left) in omega
+    (arith, pre .pair d, pre .even, pre .elements, pre .room)
 
 mul-around : tie.Need-mul-around
 mul-around c =
     let args = c .before .before .before .args in
     let pre = c .before .before .before .pre in
-    let d : 0 < args .place .depth = omega (arith, c .before .if1 .left) in omega (arith, pre .pair d, pre .even, pre .elements, pre .room)
+    let d : 0 < args .place .depth = omega (arith, c .before .if1 .left) in omega
+    (arith, pre .pair d, pre .even, pre .elements, pre .room)
 
 slice-read-around : tie.Need-slice-read-around
 slice-read-around c =

@@ -19,14 +19,16 @@ returns-2 c =
     let args = c .before .before .before .before .args in
     let is-complete = c .before .before .before .is-complete in
     let if1 = c .before .before .if1 in
-    ground-elements (args .place) (args .known) (args .depth) (sym (is-complete .ensures) ∙ if1 .left) (omega (arith, c .if2 .taken))
+    ground-elements (args .place) (args .known) (args .depth) (sym (is-complete .ensures) ∙ if1 .left)
+    (omega (arith, c .if2 .taken))
 
 returns-3 : tie.Need-returns-3
 returns-3 c =
     let args = c .before .before .before .before .before .args in
     let is-complete = c .before .before .before .before .is-complete in
     let if1 = c .before .before .before .if1 in
-    ground-names (args .place) (args .known) (args .depth) (sym (is-complete .ensures) ∙ if1 .left) (omega (arith, c .before .if2 .left)) (c .if3 .taken)
+    ground-names (args .place) (args .known) (args .depth) (sym (is-complete .ensures) ∙ if1 .left)
+    (omega (arith, c .before .if2 .left)) (c .if3 .taken)
 
 returns-4 : tie.Need-returns-4
 returns-4 c =
@@ -34,7 +36,8 @@ returns-4 c =
     let is-complete = c .before .before .before .before .before .is-complete in
     let if1 = c .before .before .before .before .if1 in
     let if2 = c .before .before .if2 in
-    ground-lists (args .place) (args .known) (args .depth) (sym (is-complete .ensures) ∙ if1 .left) (omega (arith, if2 .left)) (c .before .if3 .left) (c .if4 .taken)
+    ground-lists (args .place) (args .known) (args .depth) (sym (is-complete .ensures) ∙ if1 .left) (omega (arith, if2 .left))
+    (c .before .if3 .left) (c .if4 .taken)
 
 returns-5 : tie.Need-returns-5
 returns-5 c =
@@ -42,7 +45,8 @@ returns-5 c =
     let is-complete = c .before .before .before .before .before .is-complete in
     let if1 = c .before .before .before .before .if1 in
     let if2 = c .before .before .if2 in
-    ground-none (args .place) (args .known) (args .depth) (sym (is-complete .ensures) ∙ if1 .left) (omega (arith, if2 .left)) (c .before .if3 .left) (c .if4 .left)
+    ground-none (args .place) (args .known) (args .depth) (sym (is-complete .ensures) ∙ if1 .left) (omega (arith, if2 .left))
+    (c .before .if3 .left) (c .if4 .left)
 
 pub ground-at-spec : {M : Type 1} → statement M
 ground-at-spec =

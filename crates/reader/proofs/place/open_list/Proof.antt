@@ -43,7 +43,8 @@ put-item-requires c κs =
     let ground-at = c .before .before .before .ground-at in
     let if1 = c .before .before .if1 in
     let pre = c .before .before .before .before .before .before .pre in
-    let l = ground-room (args .place) (args .place .known) (args .place .depth + 1) (sym (ground-at .ensures) ∙ if1 .left) in omega (arith, pre .even, pre .room, l)
+    let l = ground-room (args .place) (args .place .known) (args .place .depth + 1) (sym (ground-at .ensures) ∙ if1 .left) in
+    omega (arith, pre .even, pre .room, l)
 
 add-t5 : tie.Need-add-t5
 add-t5 c =
@@ -75,7 +76,8 @@ returns-2 c =
     let ground-at = c .before .before .before .before .before .before .before .before .before .ground-at in
     let if1 = c .before .before .before .before .before .before .before .before .if1 in
     let put-item = c .before .before .before .before .before .put-item in
-    open-went r (args .place) (args .items .now) bytes h _ (c .lacking .result) (sym (ground-at .ensures) ∙ if1 .left) (put-item .ensures) (c .lacking .ensures)
+    open-went r (args .place) (args .items .now) bytes h _ (c .lacking .result) (sym (ground-at .ensures) ∙ if1 .left)
+    (put-item .ensures) (c .lacking .ensures)
 
 pub open-list-spec : {M : Type 1} → statement M
 open-list-spec =

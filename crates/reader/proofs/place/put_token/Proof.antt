@@ -14,7 +14,8 @@ returns c =
     λ r d names bytes table h t k s f b.
     let args = c .before .before .before .args in
     let ground-at = c .before .ground-at in
-    token-refused r (args .place) (args .items .now) bytes h d (args .kind) (args .value) t names (args .known) k _ table (ground-at .result) (ground-at .ensures) (c .if1 .taken)
+    token-refused r (args .place) (args .items .now) bytes h d (args .kind) (args .value) t names (args .known) k _ table
+    (ground-at .result) (ground-at .ensures) (c .if1 .taken)
 
 put-element-requires : tie.Need-put-element-requires
 put-element-requires c κs =
@@ -49,7 +50,8 @@ returns-2 c =
     let ground-at = c .before .before .before .before .before .before .before .before .ground-at in
     let if1 = c .before .before .before .before .before .before .before .if1 in
     let put-element = c .before .before .before .before .before .put-element in
-    token-went r (args .place) (args .items .now) bytes h d (args .kind) (args .value) t names (args .known) k _ table (c .lacking .result)
+    token-went r (args .place) (args .items .now) bytes h d (args .kind) (args .value) t names (args .known) k _ table
+    (c .lacking .result)
     (sym (ground-at .ensures) ∙ if1 .left) s f b (put-element .ensures) (c .lacking .ensures)
 
 pub put-token-spec : {M : Type 1} → statement M

@@ -25,7 +25,8 @@ returns-2 c =
     let args = c .before .before .before .args in
     let pre = c .before .before .before .pre in
     let if1 = c .before .before .if1 in
-    let h : args .at < length (args .text .now) = omega (arith, pre, if1 .left) in (refl, h, true-taken (args .text .now) (args .at) h (c .if2 .taken))
+    let h : args .at < length (args .text .now) = omega (arith, pre, if1 .left) in
+    (refl, h, true-taken (args .text .now) (args .at) h (c .if2 .taken))
 
 shared-slice-read-if3 : tie.Need-shared-slice-read-if3
 shared-slice-read-if3 c =
@@ -40,7 +41,8 @@ returns-3 c =
     let args = c .before .before .before .before .before .args in
     let pre = c .before .before .before .before .before .pre in
     let if1 = c .before .before .before .before .if1 in
-    let h : args .at < length (args .text .now) = omega (arith, pre, if1 .left) in (refl, h, false-taken (args .text .now) (args .at) h (c .if3 .taken))
+    let h : args .at < length (args .text .now) = omega (arith, pre, if1 .left) in
+    (refl, h, false-taken (args .text .now) (args .at) h (c .if3 .taken))
 
 returns-4 : tie.Need-returns-4
 returns-4 c =
@@ -48,7 +50,8 @@ returns-4 c =
     let pre = c .before .before .before .before .before .pre in
     let if1 = c .before .before .before .before .if1 in
     let if2 = c .before .before .if2 in
-    let h : args .at < length (args .text .now) = omega (arith, pre, if1 .left) in no-flag (args .text .now) (args .at) h (if2 .left) (c .if3 .left)
+    let h : args .at < length (args .text .now) = omega (arith, pre, if1 .left) in no-flag (args .text .now) (args .at) h
+    (if2 .left) (c .if3 .left)
 
 pub flag-at-spec : {M : Type 1} → statement M
 flag-at-spec =

@@ -7,7 +7,8 @@ use mathlib.Core.Bool.{true}
 use Prim.Native.Nat.{_≤_, _-_}
 use borrow.Author.Tests.{not-true, not-false}
 use lib.ListN.{length}
-use Rattle.words.specs.Lists.{all, part}
+use Rattle.words.specs.Lists.{all}
+use Rattle.words.specs.Parts.{part}
 use Rattle.words.specs.ListLaws.{part-none}
 use Rattle.reading.specs.Token.{isRunning}
 use Rattle.reader.specs.Code.ToldLaws.{run-step, run-stops, end-stops}
@@ -42,7 +43,13 @@ returns c =
     let args = c .before .before .before .before .before .before .args in
     let loop-test = c .before .before .before .loop-test in
     let r = sym (is-running .ensures) ∙ not-true (is-running .result) (c .if1 .taken) in
-    record { low = loop .inv .0; high = loop .inv .1; runs = loop .inv .2; stops = run-stops (args .text .now) (loop .at) (loop-test .taken) r }
+    record {
+      low = loop .inv .0;
+      high = loop .inv .1;
+      runs = loop .inv .2;
+      stops = run-stops (args .text .now) (loop .at)
+          (loop-test .taken) r;
+    }
 
 add-at : tie.Need-add-at Inv-loop μ-loop
 add-at c =
@@ -58,8 +65,12 @@ loop-again c =
     let args = c .before .before .before .before .before .before .args in
     let loop = c .before .before .before .before .loop in
     let loop-test = c .before .before .before .loop-test in
-    let r = sym (is-running .ensures) ∙ not-false (is-running .result) (c .if1 .left) in
-    (omega arith, omega arith, run-step (args .text .now) (loop .at) (loop-test .taken) (args .from) (loop .inv .0) (loop .inv .2) r)
+    let r = sym (is-running .ensures) ∙ not-false (is-running .result) (c .if1 .left) in (
+      omega arith,
+      omega arith,
+      run-step (args .text .now) (loop .at) (loop-test .taken) (args .from) (loop .inv .0) (loop .inv .2)
+          r,
+    )
 
 returns-2 : tie.Need-returns-2 Inv-loop μ-loop
 returns-2 c =

@@ -4,7 +4,7 @@ use Rattle.reader.proofs.token.run_token.Tie as tie
 use mathlib.Core.Path.{refl, sym, ap, _∙_}
 use native.Mathlib.Omega.{arith}
 use borrow.Author.Tests.{not-true, not-false}
-use Rattle.words.specs.Lists.{part}
+use Rattle.words.specs.Parts.{part}
 use Rattle.words.specs.ListLaws.{length-part}
 use mir.Syntax.{w32}
 use mir.Val.{ofZ}
@@ -41,8 +41,13 @@ returns c =
     let is-numeral = c .before .before .before .is-numeral in
     let if1 = c .before .before .if1 in
     let w = part (args .from) (args .to) (args .text .now) in
-    let n = sym (c .before .is-name .ensures) ∙ c .if2 .taken in
-    (refl, refl, name-short w n, other-means w (sym (is-numeral .ensures) ∙ not-true (is-numeral .result) (if1 .taken)) ∙ name-is w n)
+    let n = sym (c .before .is-name .ensures) ∙ c .if2 .taken in (
+      refl,
+      refl,
+      name-short w n,
+      other-means w (sym (is-numeral .ensures) ∙ not-true (is-numeral .result) (if1 .taken)) ∙ name-is
+          w n,
+    )
 
 returns-2 : tie.Need-returns-2
 returns-2 c =
@@ -50,7 +55,8 @@ returns-2 c =
     let is-numeral = c .before .before .before .is-numeral in
     let if1 = c .before .before .if1 in
     let w = part (args .from) (args .to) (args .text .now) in
-    other-means w (sym (is-numeral .ensures) ∙ not-true (is-numeral .result) (if1 .taken)) ∙ name-malformed w (sym (c .before .is-name .ensures) ∙ c .if2 .left)
+    other-means w (sym (is-numeral .ensures) ∙ not-true (is-numeral .result) (if1 .taken)) ∙ name-malformed w
+    (sym (c .before .is-name .ensures) ∙ c .if2 .left)
 
 integer-of-requires : tie.Need-integer-of-requires
 integer-of-requires c κs =
@@ -78,8 +84,10 @@ returns-3 c =
     let z′ = c .before .z in
     let w = part (args .from) (args .to) (args .text .now) in (
       refl,
-      numeral-means w (sym (is-numeral .ensures) ∙ not-false (is-numeral .result) (if1 .left)) ∙ sym (integer-of .ensures) ∙ ap integerMeaning (z′ .given .1)
-          ∙ ap (λ z. constant (integer (ofZ w32 z))) (sym (toZ-ofZ {w = w32} {z = z′ .given .0 .0} (record { sfits = c .known-told .given .0 .1 }))),
+      numeral-means w (sym (is-numeral .ensures) ∙ not-false (is-numeral .result) (if1 .left)) ∙ sym (integer-of .ensures) ∙ ap
+          integerMeaning (z′ .given .1)
+          ∙ ap (λ z. constant (integer (ofZ w32 z)))
+          (sym (toZ-ofZ {w = w32} {z = z′ .given .0 .0} (record { sfits = c .known-told .given .0 .1 }))),
     )
 
 returns-4 : tie.Need-returns-4
@@ -89,7 +97,8 @@ returns-4 c =
     let if1 = c .before .before .before .if1 in
     let integer-of = c .before .before .integer-of in
     let w = part (args .from) (args .to) (args .text .now) in
-    numeral-means w (sym (is-numeral .ensures) ∙ not-false (is-numeral .result) (if1 .left)) ∙ sym (integer-of .ensures) ∙ ap integerMeaning (c .enum-told .given .1)
+    numeral-means w (sym (is-numeral .ensures) ∙ not-false (is-numeral .result) (if1 .left)) ∙ sym (integer-of .ensures) ∙ ap
+    integerMeaning (c .enum-told .given .1)
 
 returns-5 : tie.Need-returns-5
 returns-5 c =
@@ -98,7 +107,8 @@ returns-5 c =
     let if1 = c .before .before .before .if1 in
     let integer-of = c .before .before .integer-of in
     let w = part (args .from) (args .to) (args .text .now) in
-    numeral-means w (sym (is-numeral .ensures) ∙ not-false (is-numeral .result) (if1 .left)) ∙ sym (integer-of .ensures) ∙ ap integerMeaning (c .enum-told2 .given .1)
+    numeral-means w (sym (is-numeral .ensures) ∙ not-false (is-numeral .result) (if1 .left)) ∙ sym (integer-of .ensures) ∙ ap
+    integerMeaning (c .enum-told2 .given .1)
 
 pub run-token-spec : {M : Type 1} → statement M
 run-token-spec =

@@ -36,7 +36,8 @@ returns-2 c =
     let text = args .text .now in
     let at = skip .result in
     let h : at < length text = omega (arith, skip .ensures .high, if1 .left) in
-    took-skipped text (args .cursor .at) at (skip .ensures) begins (at + 1) (omega arith) (omega arith) (opening-taken text at h (c .if2 .taken))
+    took-skipped text (args .cursor .at) at (skip .ensures) begins (at + 1) (omega arith) (omega arith)
+    (opening-taken text at h (c .if2 .taken))
 
 add-t11 : tie.Need-add-t11
 add-t11 c =
@@ -50,7 +51,8 @@ returns-3 c =
     let text = args .text .now in
     let at = skip .result in
     let h : at < length text = omega (arith, skip .ensures .high, if1 .left) in
-    took-skipped text (args .cursor .at) at (skip .ensures) ends (at + 1) (omega arith) (omega arith) (closing-taken text at h (c .if3 .taken))
+    took-skipped text (args .cursor .at) at (skip .ensures) ends (at + 1) (omega arith) (omega arith)
+    (closing-taken text at h (c .if3 .taken))
 
 add-flag-at : tie.Need-add-flag-at
 add-flag-at c =
@@ -89,7 +91,8 @@ returns-5 c =
     let at = skip .result in
     let h : at < length text = omega (arith, skip .ensures .high, if1 .left) in
     let r = sym (is-running .ensures) ∙ not-true (is-running .result) (c .if5 .taken) in
-    back-skipped text (args .cursor .at) at (skip .ensures) 3 (foreign-taken text at h r (skip .ensures .stops h) (if2 .left) (if3 .left) (if4 .left))
+    back-skipped text (args .cursor .at) at (skip .ensures) 3
+    (foreign-taken text at h r (skip .ensures .stops h) (if2 .left) (if3 .left) (if4 .left))
 
 run-end-requires : tie.Need-run-end-requires
 run-end-requires c κs =
@@ -120,7 +123,8 @@ returns-6 c =
     let at = skip .result in
     let h : at < length text = omega (arith, skip .ensures .high, if1 .left) in
     let r = sym (is-running .ensures) ∙ not-false (is-running .result) (if5 .left) in
-    run-told text (args .cursor .at) at (skip .ensures) (run-end .result) (run-end .ensures) (run-longer text at (run-end .result) (run-end .ensures) h r) (c .run-token .result) (c .run-token .ensures)
+    run-told text (args .cursor .at) at (skip .ensures) (run-end .result) (run-end .ensures)
+    (run-longer text at (run-end .result) (run-end .ensures) h r) (c .run-token .result) (c .run-token .ensures)
 
 pub token-at-spec : {M : Type 1} → statement M
 token-at-spec =
