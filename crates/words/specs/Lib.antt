@@ -2,6 +2,7 @@
 pub mod Limits
 pub mod ListLaws
 pub mod Lists
+pub mod Parts
 pub mod Options
 pub mod SignedLaws
 pub mod Text

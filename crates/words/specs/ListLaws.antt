@@ -10,7 +10,8 @@ use lib.Dec.{eqb, leb}
 use lib.ListN.{length, getD, drop, set, length-drop, take-append-drop}
 use lib.Seq.{length-take-le, take-all, take-suc, getD-drop, drop-drop, paste, paste-suc}
 use borrow.Author.Tests.{eqb-true, eqb-false, eq-eqb, ne-eqb, leb-true}
-use Rattle.words.specs.Lists.{within, all, any, equal, rest, part}
+use Rattle.words.specs.Lists.{within, all, any, equal}
+use Rattle.words.specs.Parts.{rest, part}
 
 -- ---- tests
 

@@ -1,9 +1,8 @@
 -- Tests of numbers and lists.
 use mathlib.Core.Bool.{Bool, true, false, _&&_, _||_}
 use mathlib.Core.List.{List, [], _∷_}
-use Prim.Native.Nat.{ℕ, _-_}
+use Prim.Native.Nat.{ℕ}
 use lib.Dec.{eqb, leb}
-use lib.ListN.{length, take, drop}
 
 -- n is from a to b
 unfoldable pub within : ℕ → ℕ → ℕ → Bool
@@ -24,12 +23,3 @@ equal [] [] = true
 equal [] (y ∷ ys) = false
 equal (x ∷ xs) [] = false
 equal (x ∷ xs) (y ∷ ys) = eqb x y && equal xs ys
-
--- ---- what the code's &s[from..] and &s[from..to] are
-
-module _ {A : Type 0} where
-  abbrev pub rest : ℕ → List A → List A
-  rest from s = take (length s - from) (drop from s)
-
-  abbrev pub part : ℕ → ℕ → List A → List A
-  part from to s = take (to - from) (drop from s)

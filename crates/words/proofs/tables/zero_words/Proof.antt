@@ -42,8 +42,12 @@ loop-again : tie.Need-loop-again Inv-loop μ-loop
 loop-again c =
     let loop = c .before .loop in
     let args = c .before .before .args in
-    let h : loop .i < length (args .words .now) = omega arith in
-    (simp length-set (omega arith), omega arith, ap (λ l. set l (loop .i) 0) (loop .inv .2) ∙ fill-more (loop .i) 0 (args .words .now) h)
+    let h : loop .i < length (args .words .now) = omega arith in (
+      simp length-set (omega arith),
+      omega arith,
+      ap (λ l. set l (loop .i) 0) (loop .inv .2) ∙ fill-more (loop .i) 0
+          (args .words .now) h,
+    )
 
 same-length : tie.Need-same-length Inv-loop μ-loop
 same-length c =
