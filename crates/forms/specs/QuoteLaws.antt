@@ -250,3 +250,6 @@ mutual
   elements-size (constant a) = omega arith
   elements-size (name x) = omega arith
   elements-size (pair h t) = simp length-append (omega (arith, quoted-size h, elements-size t))
+
+pub quoted-most : (items work : List ℕ) (node w : ℕ) → length (quotedAt items work node) ≤ 2 * size (treeAt items work node w)
+quoted-most items work node w = rw (sym (quoted-any items work node w)) (quoted-size (treeAt items work node w))
