@@ -1,8 +1,6 @@
 // Shapes of forms (ground 13). `macros` says which kind of form binds: a lambda's list has names, a let-syntax's and a
 // letrec-syntax's has (name rules).
 
-ghost use mathlib.Core.Path.{_≡_};
-ghost use Prim.Native.Nat.{ℕ};
 ghost use Rattle.recipe.specs.Tree.{isOrdinaryName, isList, isListOf};
 ghost use Rattle.expansion.specs.Forms.{isLambda, isMacro, isMacros};
 ghost use Rattle.steps.specs.Lists.{Means};

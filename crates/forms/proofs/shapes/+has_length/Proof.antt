@@ -9,7 +9,6 @@ use Rattle.arena.proofs.cells.reference.Reads as reference-reads
 use Rattle.arena.proofs.cells.word.Reads as word-reads
 use Rattle.forms.proofs.shapes.+has_length.{statement}
 use Rattle.forms.proofs.shapes.+has_length.Tie.{close}
-use native.Mathlib.Omega.{arith}
 use Rattle.forms.specs.ListLaws.{count-none, count-over, count-later}
 use borrow.Author.Needs.{needs}
 
