@@ -15,3 +15,4 @@ pub mod Drive
 pub mod TemplateLaws
 pub mod RuleParse
 pub mod RuleLaws
+pub mod RuleListLaws

@@ -1,19 +1,23 @@
 -- What parsing rules asks and leaves.
 use mathlib.Core.Path.{_≡_}
-use mathlib.Core.Bool.{Bool, false}
+use mathlib.Core.Bool.{Bool, false, not, _&&_}
 use mathlib.Core.List.{List, _∷_}
 use mathlib.Core.Option.{Option, none, some}
 use Prim.Native.Nat.{ℕ, _+_, _*_, _≤_}
 use lib.ListN.{take}
 use Rattle.words.specs.Options.{guard, mapBoth}
 use Rattle.recipe.specs.Name.{Name, isEllipsis}
-use Rattle.recipe.specs.Tree.{Tree, size}
+use Rattle.recipe.specs.Tree.{Tree, size, onName, isListOf, element}
 use Rattle.expansion.specs.Rules.{Pattern, Template, Rule, areVariables, variables, patternOf, templateOf}
 use Rattle.arena.specs.Arena.{treeAt}
 use Rattle.arena.specs.Cells.{Room}
 use Rattle.rule_cells.specs.Cells.{rulesAt}
 use Rattle.rule_cells.specs.declared.templates.Built.{Built}
 use Rattle.rule_cells.specs.declared.templates.Built.the-variants.{Good, Bad}
+
+-- (pattern template); a pattern's first place is a name other than `...`
+unfoldable pub ruleShape : Tree → Bool
+ruleShape t = isListOf 2 t && onName (λ x. not (isEllipsis x)) false (element 0 (element 0 t))
 
 -- a rule from the rest of its pattern and its template
 unfoldable pub partsOf : List Name → Tree → Tree → Option Rule
