@@ -14,3 +14,4 @@ pub mod CostLaws
 pub mod Build
 pub mod BuildLaws
 pub mod ResultLaws
+pub mod PlainRules
