@@ -15,3 +15,5 @@ pub mod Build
 pub mod BuildLaws
 pub mod ResultLaws
 pub mod PlainRules
+pub mod Apply
+pub mod ApplyLaws
