@@ -33,6 +33,7 @@ unfoldable pub answerOf : Answer Recipe → Reading
 answerOf (got r) = Read (dataItems (r .elements)) (length (r .names))
 answerOf (back g) = Refused g
 
+-- what a call on a text and two lent tables answers and leaves
 pub record Served (text words words′ bytes bytes′ : List ℕ) (r : Reading) : Type 0 where
   pub answer : r ≡ answerOf (read text (length words) (length bytes))
   pub items : words′ ≡ itemsAfter (read text (length words) (length bytes)) words

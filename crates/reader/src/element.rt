@@ -2,6 +2,7 @@
 ghost use mathlib.Core.Path.{_≡_};
 ghost use Prim.Native.Nat.{_≤_};
 ghost use lib.ListN.{length};
+ghost use Rattle.words.specs.Limits.{itemsMost, nameLengthMost};
 ghost use Rattle.reader.specs.Code.Placed.{Sound, NamesSound, NamePut};
 ghost use Rattle.reader.specs.Code.Moved.{movedBy, finishOf, Advanced};
 use crate::names::find;
@@ -29,7 +30,7 @@ pub enum Move {
 pub fn put_name(items: &mut [u32], names: &mut [u8], place: Place, word: &[u8]) -> Step
     requires { ⌜ Sound place (length (now items)) ⌝ }
     requires { ⌜ NamesSound place (now names) ⌝ }
-    requires { ⌜ length (now word) ≤ 63 ⌝ }
+    requires { ⌜ length (now word) ≤ nameLengthMost ⌝ }
     ensures { λ s. ⌜ NamePut place (now (word .entry)) (now (items .entry)) (now (items .exit)) (now (names .entry)) (now (names .exit)) s ⌝ }
 {
     let number = find(names, place.known, word);
@@ -55,7 +56,7 @@ fn moved(step: Step, next: Cursor) -> Move
 
 // The end of the text: ground 5 where a list is open or an element missing.
 fn finish(place: Place) -> Move
-    requires { ⌜ place .next ≤ 4096 ⌝ }
+    requires { ⌜ place .next ≤ itemsMost ⌝ }
     ensures { λ r. ⌜ r ≡ finishOf place ⌝ }
 {
     if !is_complete(place) {

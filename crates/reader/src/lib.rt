@@ -2,6 +2,7 @@
 ghost use mathlib.Core.Path.{_≡_};
 ghost use Prim.Native.Nat.{_≤_};
 ghost use lib.ListN.{length, replicate};
+ghost use Rattle.words.specs.Limits.{itemWordsLeast, nameBytesLeast};
 ghost use Rattle.reading.specs.Numbering.{baseNames};
 ghost use Rattle.reader.specs.Code.Stored.{NameTable};
 ghost use Rattle.reader.specs.Code.Reached.{Ended};
@@ -29,7 +30,7 @@ pub enum Reading {
 
 // All tokens, into items that are zero and names that are the eight.
 fn read_text(text: &[u8], items: &mut [u32], names: &mut [u8]) -> Reading
-    requires { ⌜ (12288 ≤ length (now items)) × (now items ≡ replicate (length (now items)) 0) ⌝ }
+    requires { ⌜ (itemWordsLeast ≤ length (now items)) × (now items ≡ replicate (length (now items)) 0) ⌝ }
     requires { ⌜ NameTable baseNames (now names) ⌝ }
     ensures { λ r. ⌜ Ended (now (text .entry)) (now (items .exit)) (now (names .exit)) r ⌝ }
 {
@@ -60,7 +61,7 @@ fn read_text(text: &[u8], items: &mut [u32], names: &mut [u8]) -> Reading
 
 // Both tables before the first token: zeros, and names 0 to 7.
 fn begin(items: &mut [u32], names: &mut [u8])
-    requires { ⌜ 65536 ≤ length (now names) ⌝ }
+    requires { ⌜ nameBytesLeast ≤ length (now names) ⌝ }
     ensures { λ _. ⌜ (now (items .exit) ≡ replicate (length (now (items .exit))) 0) × NameTable baseNames (now (names .exit)) ⌝ }
 {
     zero_words(items);

@@ -3,6 +3,7 @@ ghost use mathlib.Core.Path.{_≡_};
 ghost use mathlib.Core.List.{[]};
 ghost use Prim.Native.Nat.{ℕ, _+_, _*_, _≤_, _<_};
 ghost use lib.ListN.{length};
+ghost use Rattle.words.specs.Limits.{nameBytesLeast, nameLengthMost, slotSize, baseNameCount};
 ghost use Rattle.words.specs.Lists.{equal};
 ghost use Rattle.datum.specs.NameTable.{lengthAt, nameAt};
 ghost use Rattle.reading.specs.Numbering.{numberOf, baseNames};
@@ -16,7 +17,7 @@ fn wide(b: u8) -> usize
 
 // A slot spells the word: its length first, then its bytes from the left.
 pub fn spells(names: &[u8], number: usize, word: &[u8]) -> bool
-    requires { ⌜ (64 * number + 64 ≤ length (now names)) × (lengthAt (now names) number ≤ 63) ⌝ }
+    requires { ⌜ (slotSize * number + slotSize ≤ length (now names)) × (lengthAt (now names) number ≤ nameLengthMost) ⌝ }
     ensures { λ r. ⌜ r ≡ equal (now (word .entry)) (nameAt (now (names .entry)) number) ⌝ }
 {
     let start = words::SLOT * number;
@@ -35,7 +36,7 @@ pub fn spells(names: &[u8], number: usize, word: &[u8]) -> bool
 
 // The number of the word among the first names, or the next number.
 pub fn find(names: &[u8], known: usize, word: &[u8]) -> usize
-    requires { ⌜ (64 * known ≤ length (now names)) × ((n : ℕ) → n < known → lengthAt (now names) n ≤ 63) ⌝ }
+    requires { ⌜ (slotSize * known ≤ length (now names)) × ((n : ℕ) → n < known → lengthAt (now names) n ≤ nameLengthMost) ⌝ }
     ensures { λ r. ⌜ r ≡ numberOf (now (word .entry)) (namesIn (now (names .entry)) 0 known) ⌝ }
 {
     let mut n = 0;
@@ -50,7 +51,7 @@ pub fn find(names: &[u8], known: usize, word: &[u8]) -> usize
 
 // The word in a slot, over zeros.
 pub fn store(names: &mut [u8], number: usize, word: &[u8])
-    requires { ⌜ (64 * number + 64 ≤ length (now names)) × (length (now word) ≤ 63) ⌝ }
+    requires { ⌜ (slotSize * number + slotSize ≤ length (now names)) × (length (now word) ≤ nameLengthMost) ⌝ }
     ensures { λ _. ⌜ now (names .exit) ≡ stored (now (names .entry)) number (now (word .entry)) ⌝ }
 {
     let start = words::SLOT * number;
@@ -64,8 +65,8 @@ pub fn store(names: &mut [u8], number: usize, word: &[u8])
 
 // Four words in the slots from a number on.
 fn store_four(names: &mut [u8], number: usize, a: &[u8], b: &[u8], c: &[u8], d: &[u8])
-    requires { ⌜ (number < 8) × (65536 ≤ length (now names)) ⌝ }
-    requires { ⌜ (length (now a) ≤ 63) × (length (now b) ≤ 63) × (length (now c) ≤ 63) × (length (now d) ≤ 63) ⌝ }
+    requires { ⌜ (number < baseNameCount) × (nameBytesLeast ≤ length (now names)) ⌝ }
+    requires { ⌜ (length (now a) ≤ nameLengthMost) × (length (now b) ≤ nameLengthMost) × (length (now c) ≤ nameLengthMost) × (length (now d) ≤ nameLengthMost) ⌝ }
     ensures { λ _. ⌜ FourStored (now (names .entry)) (now (names .exit)) number (now (a .entry)) (now (b .entry)) (now (c .entry)) (now (d .entry)) ⌝ }
 {
     store(names, number, a);

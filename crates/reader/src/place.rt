@@ -4,6 +4,7 @@ ghost use mathlib.Core.Bool.{_&&_, cond};
 ghost use Prim.Native.Nat.{_+_, _*_, _-_, _≤_};
 ghost use lib.Dec.{eqb};
 ghost use lib.ListN.{length};
+ghost use Rattle.words.specs.Limits.{itemsMost};
 ghost use Rattle.reader.specs.Code.Placed.{put3, Sound, groundAt, TokenPut, ListOpened, ListClosed};
 
 // Words of an item.
@@ -37,7 +38,7 @@ fn put_item(items: &mut [u32], item: usize, kind: u32, first: u32, second: u32)
 
 // A pair, and its head, which is one item.
 fn put_element(items: &mut [u32], item: usize, kind: u32, value: u32)
-    requires { ⌜ (3 * item + 6 ≤ length (now items)) × (item ≤ 4096) ⌝ }
+    requires { ⌜ (3 * item + 6 ≤ length (now items)) × (item ≤ itemsMost) ⌝ }
     ensures { λ _. ⌜ now (items .exit) ≡ put3 (put3 (now (items .entry)) (3 * item) 4 (item + 1) (item + 2)) (3 * (item + 1)) kind value 0 ⌝ }
 {
     put_item(items, item, 4, (item + 1) as u32, (item + 2) as u32);

@@ -12,6 +12,7 @@ use Rattle.words.specs.Lists.{within, all, equal}
 use Rattle.datum.specs.Constant.{Constant, integer, boolean}
 use Rattle.reading.specs.Token.{Token, open′, close′, bad, flag, run, isDigit}
 
+-- a list begins or ends, a constant, a name, or the ground on which the token is turned back
 pub data Meaning : Type 0 where
   begins ends : Meaning
   constant : Constant → Meaning
@@ -20,7 +21,7 @@ pub data Meaning : Type 0 where
 
 -- ---- integers
 
--- a run that starts with a minus
+-- a run that starts with a minus, which is 45
 unfoldable pub isNegative : List ℕ → Bool
 isNegative cs = eqb (getD cs 0 0) 45
 
@@ -52,15 +53,17 @@ integerOf cs = cond (all isDigit (unsigned cs)) (signed (isNegative cs) (size cs
 
 -- ---- names
 
--- 1 to 63 bytes, and not a single dot
+-- 1 to 63 bytes, and not a single dot, which is 46
 unfoldable pub isName : List ℕ → Bool
 isName cs = within 1 nameLengthMost (length cs) && not (equal cs (46 ∷ []))
 
+-- other runs are names, or ground 3
 unfoldable pub nameOf : List ℕ → Meaning
 nameOf cs = cond (isName cs) (name cs) (refused 3)
 
 -- ---- tokens
 
+-- each token by itself
 unfoldable pub meaningOf : Token → Meaning
 unfolding isNegative unsigned isNumeral valueFrom size signed integerOf isName nameOf isDigit within all equal integer boolean
 meaningOf open′ = begins

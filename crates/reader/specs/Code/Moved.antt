@@ -47,10 +47,12 @@ pub record Whole (outcome : Answer Recipe) (i n : ℕ) (words bytes : List ℕ) 
   pub items : words ≡ filled (itemWords recipe) words
   pub names : bytes ≡ filled (nameBytes recipe) bytes
 
+-- what a move says of a reading r at a place in the text
 abbrev pub Moved : List ℕ → ℕ → Reading → List ℕ → List ℕ → Move → Type 0
 Moved text at r words bytes (On p c) = Onward text at r p c words bytes
 Moved text at r words bytes (Done i n) = Whole (outcomeFrom text at r) i n words bytes
 Moved text at r words bytes (Refused g) = outcomeFrom text at r ≡ back g
 
+-- what one call promises, for every reading that the code may hold
 abbrev pub Advanced : List ℕ → ℕ → Place → List ℕ → List ℕ → List ℕ → List ℕ → Move → Type 0
 Advanced text at p words words′ bytes bytes′ m = (r : Reading) → Holds r p words bytes → Moved text at r words′ bytes′ m

@@ -47,10 +47,11 @@ unfoldable pub wordsAround : List (List Datum) → List ℕ
 wordsAround [] = []
 wordsAround (l ∷ ls) = wordsAround ls ++ wordsOf (itemsAround ls) l ++ (4 ∷ suc (itemsAround ls + itemsOf l) ∷ openPair ls ∷ [])
 
--- the next item, and the words below it
+-- the next item
 unfoldable pub nextItem : Reading → ℕ
 nextItem r = itemsAround (r .around) + itemsOf (r .here)
 
+-- the words below the next item
 unfoldable pub placed : Reading → List ℕ
 placed r = wordsAround (r .around) ++ wordsOf (itemsAround (r .around)) (r .here)
 
@@ -60,6 +61,7 @@ put3 t i a b c = set (set (set t i a) (i + 1) b) (i + 2) c
 
 -- ---- what the code holds of a reading
 
+-- the code's place and tables are those of a reading
 pub record Holds (r : Reading) (p : Place) (words bytes : List ℕ) : Type 0 where
   pub next : p .next ≡ nextItem r
   pub pair : p .pair ≡ openPair (r .around)
@@ -84,6 +86,7 @@ Stepped (back g) items names (Refused h) = h ≡ g
 
 -- ---- numbers of a place, for safety
 
+-- the numbers of a place that index the items
 pub record Sound (p : Place) (words : ℕ) : Type 0 where
   pub even : p .next + p .depth ≡ 2 * p .count
   pub elements : p .count ≤ elementsMost
@@ -93,6 +96,7 @@ pub record Sound (p : Place) (words : ℕ) : Type 0 where
   pub pair : 0 < p .depth → p .pair < p .next
   pub room : itemWordsLeast ≤ words
 
+-- and the name table
 pub record NamesSound (p : Place) (bytes : List ℕ) : Type 0 where
   pub room : nameBytesLeast ≤ length bytes
   pub short : (n : ℕ) → n < p .known → lengthAt bytes n ≤ nameLengthMost
@@ -120,17 +124,21 @@ withToken r d names = record {
   missing = cond (noneOpen (r .around)) (r .missing - 1) (r .missing);
 }
 
+-- a token that is an element, whatever reading, element and names it is for
 abbrev pub TokenPut : Place → ℕ → ℕ → ℕ → List ℕ → List ℕ → Step → Type 0
 TokenPut p kind value known words words′ s =
     (r : Reading) (d : Datum) (names : List (List ℕ)) (bytes table : List ℕ) → Holds r p words bytes → IsToken d kind value
     → known ≡ length names → all isShort names ≡ true → table ≡ filled (slots names) table → nameBytesLeast ≤ length table
     → Stepped (begin r (withToken r d names)) words′ table s
 
+-- a list begins
 abbrev pub ListOpened : Place → List ℕ → List ℕ → Step → Type 0
 ListOpened p words words′ s = (r : Reading) (bytes : List ℕ) → Holds r p words bytes → Stepped (takes begins r) words′ bytes s
 
+-- a list ends
 abbrev pub ListClosed : Place → List ℕ → List ℕ → Step → Type 0
 ListClosed p words words′ s = (r : Reading) (bytes : List ℕ) → Holds r p words bytes → Stepped (takes ends r) words′ bytes s
 
+-- a name is taken
 abbrev pub NamePut : Place → List ℕ → List ℕ → List ℕ → List ℕ → List ℕ → Step → Type 0
 NamePut p word words words′ bytes bytes′ s = (r : Reading) → Holds r p words bytes → Stepped (takes (name word) r) words′ bytes′ s

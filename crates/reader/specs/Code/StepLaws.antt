@@ -127,6 +127,7 @@ module _ (r : Reading) (p : Place) (words bytes : List ℕ) (h : Holds r p words
       put-length t (3 * (p .next + 1)) kind v 0 ∙ put-length words (3 * p .next) 4 (p .next + 1) (p .next + 2)
 
   module _ (known : List (List ℕ)) (m : ℕ) where
+    -- the reading with that element
     abbrev pub elementRead : Reading
     elementRead = record { here = d ∷ r .here; around = r .around; known = known; count = suc (r .count); missing = m }
 
@@ -216,6 +217,7 @@ module _ (r : Reading) (p : Place) (words bytes : List ℕ) (h : Holds r p words
 -- a list closed
 module _ (r : Reading) (p : Place) (words bytes : List ℕ) (h : Holds r p words bytes) (l : List Datum) (ls : List (List Datum))
     (e : r .around ≡ l ∷ ls) where
+  -- the reading with the list as an element of the list around it
   abbrev pub closeRead : Reading
   closeRead = record {
     here = listD (onto (r .here) noneD) ∷ l;
