@@ -16,3 +16,4 @@ pub mod TemplateLaws
 pub mod RuleParse
 pub mod RuleLaws
 pub mod RuleListLaws
+pub mod Forms

@@ -13,7 +13,7 @@ use Rattle.words.specs.TestLaws.{and-left, and-right}
 use Rattle.recipe.specs.Name.{Name, isEllipsis}
 use Rattle.recipe.specs.Tree.{Tree, empty, constant, name, pair, size, names, onEmpty, onName, onPair, isList, isListOf, elements, element, tail}
 use Rattle.recipe.specs.TreeLaws.{size-positive}
-use Rattle.expansion.specs.Rules.{Rule, ruleOf}
+use Rattle.expansion.specs.Rules.{Rule, ruleOf, isRulesForm, rulesOf}
 use Rattle.arena.specs.Arena.{wordAt, referenceAt, nameAt, treeAt}
 use Rattle.arena.specs.ArenaLaws.{cases, take-less}
 use Rattle.arena.specs.NodeLaws.{treeAt-name}
@@ -230,3 +230,45 @@ module _ (items old : List ℕ) (literals node w top : ℕ) (asks : Asks items o
           }
       left-both new Bad m =
           (answer-is ∙ ap₂ (mapBoth _∷_) (sym one-is ∙ m .0) (made .means), take-less new mid top upper (made .up) (m .1) ∙ made .kept)
+
+-- ---- the rules of a form
+
+rules-none : (t : Tree) → false ≡ isRulesForm t → rulesOf t ≡ none
+unfolding rulesOf guard
+rules-none t e = rw (← e) refl
+
+rules-are : (t : Tree) → true ≡ isRulesForm t → traverse (ruleOf isEllipsis (names (element 1 t))) (elements (tail (tail t))) ≡ rulesOf t
+unfolding rulesOf guard
+rules-are t e = rw (← e) refl
+
+rules-as : (o o′ : Option (List Rule)) (s s′ : ℕ) (items old new : List ℕ) (top : ℕ) (r : Built) → o ≡ o′ → s ≤ s′ → RulesLeft o s items old new top r → RulesLeft o′ s′ items old new top r
+rules-as o o′ s s′ items old new top (Good at upper) e l m = record { means = sym e ∙ m .means; at-most = m .at-most; up = m .up; words = omega (arith, m .words); kept = m .kept }
+rules-as o o′ s s′ items old new top Bad e l m = (sym e ∙ m .0, m .1)
+
+module _ (items old : List ℕ) (node w top : ℕ) (asks : Asks items old node w top) where
+  pub left-no-form : false ≡ isRulesForm (treeAt items old node w) → RulesLeft (rulesOf (treeAt items old node w)) (size (treeAt items old node w)) items old old top Bad
+  left-no-form e = (rules-none (treeAt items old node w) e, refl)
+
+  module _ (after literals list : ℕ) (a : Part tail old node after) (b : Part (element 0) old after literals) (c : Part tail old after list) where
+    literals-are : treeAt items old literals w ≡ element 1 (treeAt items old node w)
+    literals-are = b .means items w ∙ ap (element 0) (a .means items w) ∙ element-one (treeAt items old node w)
+
+    list-is : treeAt items old list w ≡ tail (tail (treeAt items old node w))
+    list-is = c .means items w ∙ ap tail (a .means items w)
+
+    smaller : size (treeAt items old list w) ≤ size (treeAt items old node w)
+    smaller = rw list-is (omega (arith, tail-size (treeAt items old node w), tail-size (tail (treeAt items old node w))))
+
+    pub asks-list : Asks items old list w top
+    asks-list =
+        record {
+          node-below = omega (arith, a .below, c .below, asks .node-below);
+          wrap-below = asks .wrap-below;
+          room = record { fits = omega (arith, asks .room .fits, smaller); small = omega (arith, asks .room .small, smaller) };
+        }
+
+    pub literals-under : literals ≤ top
+    literals-under = omega (arith, a .below, b .below, asks .node-below)
+
+    pub left-form : (new : List ℕ) (r : Built) → true ≡ isRulesForm (treeAt items old node w) → RulesLeft (traverse (ruleOf isEllipsis (names (treeAt items old literals w))) (elements (treeAt items old list w))) (size (treeAt items old list w)) items old new top r → RulesLeft (rulesOf (treeAt items old node w)) (size (treeAt items old node w)) items old new top r
+    left-form new r e m = rules-as _ _ _ _ items old new top r (rw (literals-are, list-is) (rules-are (treeAt items old node w) e)) smaller m

@@ -6,12 +6,13 @@ ghost use lib.ListN.{length};
 ghost use Rattle.recipe.specs.Tree.{names, size, elements};
 ghost use Rattle.words.specs.Options.{traverse};
 ghost use Rattle.recipe.specs.Name.{isEllipsis};
-ghost use Rattle.expansion.specs.Rules.{ruleOf};
+ghost use Rattle.expansion.specs.Rules.{ruleOf, rulesOf};
 ghost use Rattle.arena.specs.Arena.{markLimit, treeAt};
 ghost use Rattle.rule_cells.specs.Trees.{TellsOf};
 ghost use Rattle.rule_cells.specs.Parse.{Asks};
 ghost use Rattle.rule_cells.specs.RuleParse.{ruleShape, partsOf, PartsAsk, RuleLeft, RulesLeft};
 use crate::cells;
+use crate::forms;
 use crate::patterns;
 use crate::patterns::Parsed;
 use crate::templates;
@@ -116,4 +117,25 @@ pub fn rule_list(
         return Built::Bad;
     };
     rule(items, work, table, literals, head, w, next, t)
+}
+
+// The rules of a form.
+pub fn rules(
+    items: &[u32],
+    work: &mut [u32],
+    table: &mut [u32],
+    node: u32,
+    w: u32,
+    top: u32,
+) -> Built
+    requires { ⌜ (3 * markLimit < length (now table)) × (Asks (now items) (now work) node w top) ⌝ }
+    ensures { λ r. ⌜ RulesLeft (rulesOf (treeAt (now (items .entry)) (now (work .entry)) node w)) (size (treeAt (now (items .entry)) (now (work .entry)) node w)) (now (items .entry)) (now (work .entry)) (now (work .exit)) top r ⌝ }
+{
+    if forms::is_rules_form(items, work, table, node, w) {
+        let after = trees::tail(work, node);
+        let literals = trees::head(work, after);
+        let list = trees::tail(work, after);
+        return rule_list(items, work, table, literals, list, w, top);
+    }
+    Built::Bad
 }
