@@ -1,20 +1,19 @@
 -- Laws of one macro step, one for each way through the code.
-use mathlib.Core.Path.{_≡_, refl, sym, ap, ap₂, subst, _∙_}
+use mathlib.Core.Path.{_≡_, refl, sym, ap, subst, _∙_}
 use mathlib.Core.Bool.{Bool, true, false, cond}
-use mathlib.Core.List.{List, [], _∷_}
-use mathlib.Core.Option.{Option, none, some}
-use Prim.Native.Nat.{ℕ, zero, suc, _+_, _*_, _≤_, _<_}
+use mathlib.Core.List.{List}
+use mathlib.Core.Option.{Option, some}
+use Prim.Native.Nat.{ℕ, zero, suc, _+_, _≤_, _<_}
 use native.Mathlib.Omega.{arith}
 use lib.Dec.{eqb, leb, ltb}
-use lib.ListN.{length, take}
-use borrow.Author.Tests.{ne-eqb, le-leb, lt-leb, ltb-true, ltb-false}
+use borrow.Author.Tests.{ne-eqb, le-leb, lt-leb, ltb-true}
 use Rattle.words.specs.Each.{Each, noneOf, also, Given, missing, given, given-at}
 use Rattle.recipe.specs.Name.{Name, markName, produceName}
-use Rattle.recipe.specs.Tree.{Tree, size, onNames, mark, produce}
+use Rattle.recipe.specs.Tree.{Tree, size, mark, produce}
 use Rattle.recipe.specs.TreeLaws.{onNames-∘}
 use Rattle.expansion.specs.Rules.{Template, Rule, pairT, ellipsisT}
-use Rattle.expansion.specs.Match.{fit, orNext, firstFit}
-use Rattle.expansion.specs.Transcribe.{equalLengths, transcribe}
+use Rattle.expansion.specs.Match.{orNext, firstFit}
+use Rattle.expansion.specs.Transcribe.{equalLengths}
 use Rattle.arena.specs.Arena.{wordAt, referenceAt, treeAt}
 use Rattle.arena.specs.ArenaLaws.{cases, referenceAt-most}
 use Rattle.rule_cells.specs.Cells.{patternAt, templateStep, templateFrom, templateAt, ruleAt, rulesAt}
@@ -22,11 +21,10 @@ use Rattle.steps.specs.Parts.{indices}
 use Rattle.steps.specs.Plain.{Plain, pairs, ellipsis}
 use Rattle.steps.specs.Fits.{ruleOr, FirstFit}
 use Rattle.steps.specs.Lengths.{LengthsAgree}
-use Rattle.steps.specs.Cost.{capped, Below, copyOf, Costs}
-use Rattle.steps.specs.Build.{nodeWords, Built, Buildable}
+use Rattle.steps.specs.Cost.{capped, copyOf, Costs}
+use Rattle.steps.specs.Build.{Buildable}
 use Rattle.steps.specs.ResultLaws.{Made}
 use Rattle.steps.specs.Apply.{refused, result, applied, stepOf, Answers, Stepping, Stepped}
-use Rattle.steps.specs.declared.apply.Applied.{Applied}
 use Rattle.steps.specs.declared.apply.Applied.the-variants.{NoRule, Differ, Costly, Done}
 
 -- ---- whether a template is plain does not depend on the items

@@ -1,7 +1,7 @@
 -- A step's result in the arena: fresh nodes above the old top, the root last, with every name produced.
 use mathlib.Core.Path.{_≡_}
 use mathlib.Core.List.{List, _∷_}
-use Prim.Native.Nat.{ℕ, zero, suc, _+_, _*_, _^_, _≤_, _<_}
+use Prim.Native.Nat.{ℕ, _+_, _*_, _^_, _≤_, _<_}
 use lib.ListN.{length, take}
 use Rattle.recipe.specs.Tree.{Tree, size, produce}
 use Rattle.expansion.specs.Transcribe.{copies}

@@ -1,9 +1,8 @@
 -- Laws of building, one for each way through the code.
-use mathlib.Core.Path.{_≡_, refl, sym, ap, ap₂, subst, _∙_}
-use mathlib.Core.Bool.{Bool, true, false, cond}
-use mathlib.Core.List.{List, [], _∷_}
-use mathlib.Core.Option.{none}
-use Prim.Native.Nat.{ℕ, zero, suc, _+_, _-_, _*_, _≤_, _<_}
+use mathlib.Core.Path.{_≡_, refl, sym, ap, ap₂, _∙_}
+use mathlib.Core.Bool.{Bool, true}
+use mathlib.Core.List.{List, []}
+use Prim.Native.Nat.{ℕ, suc, _+_, _≤_}
 use native.Mathlib.Omega.{arith}
 use lib.Dec.{ltb}
 use lib.ListN.{length, take}
@@ -11,12 +10,12 @@ use borrow.Author.Tests.{lt-ltb}
 use Rattle.recipe.specs.Name.{Name, markName, produceName}
 use Rattle.recipe.specs.Tree.{Tree, empty, constant, name, pair, size, onNames, produce}
 use Rattle.recipe.specs.TreeLaws.{size-positive}
-use Rattle.arena.specs.Arena.{wordAt, referenceAt, markLimit, marked, giveKey, isOwn, rebound, wrapAt, numberAt, nodeName, nameAt, constantAt, treeAt}
+use Rattle.arena.specs.Arena.{wordAt, referenceAt, markLimit, marked, giveKey, isOwn, rebound, wrapAt, nodeName, nameAt, constantAt, treeAt}
 use Rattle.arena.specs.ArenaLaws.{cases, take-less, referenceAt-most, wrapAt-none, wrapAt-keeps}
 use Rattle.arena.specs.NodeLaws.{treeAt-empty, treeAt-name, treeAt-pair, treeAt-constant}
 use Rattle.arena.specs.Cells.{Room, Wrapped, itemName, Grown}
 use Rattle.arena.specs.CellLaws.{tree-kept}
-use Rattle.steps.specs.Build.{nodeWords, RoomFor, Built, Waiting}
+use Rattle.steps.specs.Build.{RoomFor, Built, Waiting}
 
 -- ---- names are produced before or after what waits on them
 

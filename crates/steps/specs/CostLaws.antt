@@ -1,21 +1,20 @@
 -- Laws of the cost of a step on cells, one for each way through the code.
 use mathlib.Core.Path.{_≡_, refl, sym, ap, ap₂, subst, _∙_}
-use mathlib.Core.Bool.{Bool, true, false, cond}
-use mathlib.Core.List.{List, [], _∷_}
+use mathlib.Core.List.{List, _∷_}
 use Prim.Native.Nat.{ℕ, zero, suc, _+_, _-_, _≤_, _<_}
 use native.Mathlib.Omega.{arith}
-use lib.Dec.{eqb, ltb}
-use borrow.Author.Tests.{lt-ltb, le-ltb, ltb-true, ltb-false}
-use Rattle.recipe.specs.Tree.{Tree, empty, constant, name, pair, size}
-use Rattle.expansion.specs.Transcribe.{copies, taken, copyCount, transcribe}
+use lib.Dec.{ltb}
+use borrow.Author.Tests.{lt-ltb, ltb-true, ltb-false}
+use Rattle.recipe.specs.Tree.{Tree, pair, size}
+use Rattle.expansion.specs.Transcribe.{copies, transcribe}
 use Rattle.arena.specs.Arena.{wordAt, referenceAt, treeAt}
 use Rattle.arena.specs.ArenaLaws.{cases}
 use Rattle.arena.specs.NodeLaws.{treeAt-pair}
-use Rattle.rule_cells.specs.Cells.{patternAt, templateAt}
-use Rattle.rule_cells.specs.CellLaws.{templateAt-variable, templateAt-insert, templateAt-constant, templateAt-empty}
+use Rattle.rule_cells.specs.Cells.{patternAt}
+use Rattle.rule_cells.specs.CellLaws.{templateAt-variable}
 use Rattle.steps.specs.ListLaws.{by-kind}
 use Rattle.steps.specs.Parts.{indices, Taken}
-use Rattle.steps.specs.Plain.{Plain, deepen, indices-more, transcribe-two}
+use Rattle.steps.specs.Plain.{deepen, indices-more, transcribe-two}
 use Rattle.steps.specs.Lengths.{Copies}
 use Rattle.steps.specs.AgreeLaws.{leaf-other, pair-is, ellipsis-is, pair-plain, ellipsis-plain}
 use Rattle.steps.specs.Cost.{capped, Below, copyOf, added, Sized, Costs, CopiesCost}

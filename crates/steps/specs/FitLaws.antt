@@ -1,20 +1,19 @@
 -- Laws of matching on cells, one for each way through the code.
-use mathlib.Core.Path.{_≡_, refl, sym, ap, ap₂, subst, _∙_}
-use mathlib.Core.Bool.{Bool, true, false, _&&_, cond}
-use mathlib.Core.List.{List, [], _∷_, _++_}
+use mathlib.Core.Path.{_≡_, refl, sym, ap, _∙_}
+use mathlib.Core.Bool.{Bool, true, false, _&&_}
+use mathlib.Core.List.{List}
 use mathlib.Core.Logic.{_⊎_, inl, inr}
-use mathlib.Core.Option.{Option, none, some}
-use Prim.Native.Nat.{ℕ, zero, suc, _+_, _≤_, _<_}
+use mathlib.Core.Option.{Option, some}
+use Prim.Native.Nat.{ℕ, _≤_}
 use native.Mathlib.Omega.{arith}
 use lib.Dec.{eqb}
 use borrow.Author.Tests.{eq-eqb, ne-eqb, eqb-true, eqb-false}
-use Rattle.datum.specs.Constant.{Constant, matches}
-use Rattle.recipe.specs.Name.{Name, bindingKey}
-use Rattle.recipe.specs.Tree.{Tree, empty, constant, name, pair, onEmpty, onConstant, onName, onPair}
-use Rattle.expansion.specs.Lookup.{agree}
-use Rattle.expansion.specs.Rules.{Pattern, Rule, literalP, constantP, emptyP, pairP, ellipsisP}
+use Rattle.datum.specs.Constant.{matches}
+use Rattle.recipe.specs.Name.{Name}
+use Rattle.recipe.specs.Tree.{Tree, onEmpty, onConstant, onName, onPair}
+use Rattle.expansion.specs.Rules.{Pattern, Rule, constantP, emptyP, pairP}
 use Rattle.expansion.specs.Match.{Fit, fitting, misfit, andThen, bothFit, eachFits, fit, orNext, firstFit}
-use Rattle.arena.specs.Arena.{wordAt, referenceAt, bindingOf, nameAt, constantAt, treeAt}
+use Rattle.arena.specs.Arena.{wordAt, referenceAt, nameAt, constantAt, treeAt}
 use Rattle.arena.specs.ArenaLaws.{cases, bindingKey-of, referenceAt-most}
 use Rattle.arena.specs.NodeLaws.{treeAt-empty, treeAt-name, treeAt-pair, treeAt-constant}
 use Rattle.arena.specs.Names.{Agrees}

@@ -2,12 +2,12 @@
 use mathlib.Core.Path.{_≡_}
 use mathlib.Core.Bool.{Bool, cond}
 use mathlib.Core.List.{List, [], _∷_, map}
-use Prim.Native.Nat.{ℕ, suc, _≤_}
+use Prim.Native.Nat.{ℕ, suc}
 use lib.Dec.{eqb}
 use lib.ListN.{length}
 use Rattle.words.specs.Lists.{all}
 use Rattle.recipe.specs.Tree.{elements}
-use Rattle.expansion.specs.Rules.{Template, variableT, insertT, constantT, emptyT, pairT, ellipsisT, drivers}
+use Rattle.expansion.specs.Rules.{drivers}
 use Rattle.expansion.specs.Transcribe.{allBelow, taken, copyCount, equalLengths}
 use Rattle.arena.specs.Arena.{treeAt}
 use Rattle.rule_cells.specs.Cells.{patternAt, templateAt}

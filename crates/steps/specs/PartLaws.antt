@@ -1,18 +1,18 @@
 -- Laws of parts on cells, one for each way through the code.
-use mathlib.Core.Path.{_≡_, refl, sym, ap, ap₂, _∙_}
-use mathlib.Core.Bool.{Bool, true, false, _||_, cond}
+use mathlib.Core.Path.{_≡_, refl, sym, ap, _∙_}
+use mathlib.Core.Bool.{Bool, true, false}
 use mathlib.Core.List.{List, [], _∷_, reverse}
-use Prim.Native.Nat.{ℕ, zero, suc, _+_, _-_, _≤_, _<_}
+use Prim.Native.Nat.{ℕ, zero, suc, _≤_, _<_}
 use native.Mathlib.Omega.{arith}
 use lib.Dec.{eqb}
 use lib.ListN.{take}
 use borrow.Author.Tests.{eqb-true, eqb-false}
 use Rattle.recipe.specs.Tree.{Tree, empty, element, tail}
-use Rattle.expansion.specs.Rules.{Pattern, variableP, literalP, wildcardP, constantP, emptyP, pairP, ellipsisP}
+use Rattle.expansion.specs.Rules.{Pattern}
 use Rattle.expansion.specs.Match.{holds, part}
 use Rattle.expansion.specs.Transcribe.{taken}
-use Rattle.arena.specs.Arena.{wordAt, referenceAt, treeAt}
-use Rattle.arena.specs.ArenaLaws.{cases, wordAt-some, wordAt-out, referenceAt-most, referenceAt-falls}
+use Rattle.arena.specs.Arena.{wordAt, referenceAt}
+use Rattle.arena.specs.ArenaLaws.{cases, wordAt-some, referenceAt-falls}
 use Rattle.rule_cells.specs.Cells.{patternAt}
 use Rattle.rule_cells.specs.CellLaws.{patternAt-variable, patternAt-literal, patternAt-wildcard, patternAt-constant, patternAt-pair, patternAt-ellipsis, patternAt-empty}
 use Rattle.steps.specs.Lists.{Means}

@@ -1,10 +1,8 @@
 -- What a variable takes, on cells: under every wrap, since every part of a use waits under the use's own.
 use mathlib.Core.Path.{_≡_}
-use mathlib.Core.Bool.{Bool, cond}
+use mathlib.Core.Bool.{Bool}
 use mathlib.Core.List.{List, [], _∷_}
 use Prim.Native.Nat.{ℕ, zero, suc, _≤_}
-use lib.Dec.{ltb}
-use Rattle.recipe.specs.Tree.{Tree}
 use Rattle.expansion.specs.Match.{holds, part}
 use Rattle.expansion.specs.Transcribe.{taken}
 use Rattle.arena.specs.Arena.{treeAt}

@@ -1,14 +1,13 @@
 -- Plain templates: what parsing makes of rules. A variable lies under at most two ellipses, and a constant's kind is a constant's.
 -- So what a template gives depends on the innermost two of the indices alone.
 use mathlib.Core.Path.{_≡_, refl, sym, ap, ap₂, _∙_}
-use mathlib.Core.Bool.{Bool, true, false, _&&_, cond}
+use mathlib.Core.Bool.{Bool, _&&_}
 use mathlib.Core.List.{List, [], _∷_, _++_, map, map-append, reverse}
-use Prim.Native.Nat.{ℕ, zero, suc, _+_, _-_, _≤_, _<_}
+use Prim.Native.Nat.{ℕ, zero, suc, _-_, _≤_}
 use native.Mathlib.Omega.{arith}
 use lib.Dec.{eqb, ltb}
 use lib.ListN.{length, getD, take}
 use lib.Seq.{take-take}
-use borrow.Author.Tests.{ltb-true}
 use Rattle.words.specs.Lists.{all}
 use Rattle.datum.specs.Constant.{Constant}
 use Rattle.recipe.specs.Name.{Name}

@@ -1,24 +1,23 @@
 -- Parsed rules are plain: templates that parsing makes of trees in the arena.
-use mathlib.Core.Path.{_≡_, refl, sym, ap, subst, _∙_}
-use mathlib.Core.Bool.{Bool, true, false, not, _&&_, cond}
+use mathlib.Core.Path.{_≡_, refl}
+use mathlib.Core.Bool.{Bool, true, false, not, _&&_}
 use mathlib.Core.List.{List, [], _∷_, map}
-use mathlib.Core.Option.{Option, none, some}
-use Prim.Native.Nat.{ℕ, zero, suc, _+_, _≤_}
-use native.Mathlib.Omega.{arith}
+use mathlib.Core.Option.{Option}
+use Prim.Native.Nat.{ℕ, zero, suc, _≤_}
 use lib.Dec.{eqb, leb}
 use lib.ListN.{length}
 use borrow.Author.Tests.{eqb-false, leb-true}
 use Rattle.words.specs.Limits.{depthMost, patternVariablesMost}
 use Rattle.words.specs.Lists.{all}
 use Rattle.words.specs.ListLaws.{and-left, and-right}
-use Rattle.words.specs.Options.{guard, mapSome, mapBoth, traverse}
+use Rattle.words.specs.Options.{guard}
 use Rattle.words.specs.Each.{Each, noneOf, also, each-getD, Given, missing, given, given-any, given-traverse, given-cond, given-guard, given-mapBoth}
 use Rattle.datum.specs.Constant.{Constant}
 use Rattle.recipe.specs.Name.{Name, same, distinct, isEllipsis}
 use Rattle.recipe.specs.Tree.{Tree, empty, constant, name, pair, onPair, onName, names, isListOf, elements, element, tail}
 use Rattle.recipe.specs.Table.{byKind}
-use Rattle.expansion.specs.Rules.{Template, Rule, variableT, insertT, constantT, emptyT, pairT, ellipsisT, dotsNext, depthBefore, depthFits, isDriven, variableFrom, nameTemplate, areVariables, variables, patternOf, templateOf, ruleOf, isRulesForm, rulesOf}
-use Rattle.arena.specs.Arena.{wordAt, referenceAt, nameAt, constantAt, treeStep, treeFrom, treeAt}
+use Rattle.expansion.specs.Rules.{pairT, ellipsisT, dotsNext, depthBefore, variableFrom, nameTemplate, areVariables, variables, patternOf, templateOf, ruleOf, isRulesForm, rulesOf}
+use Rattle.arena.specs.Arena.{wordAt, constantAt, treeStep, treeFrom, treeAt}
 use Rattle.arena.specs.ArenaLaws.{cases}
 use Rattle.steps.specs.Plain.{Plain}
 

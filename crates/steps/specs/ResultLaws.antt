@@ -1,14 +1,12 @@
 -- Laws of building what a template gives, one for each way through the code.
 use mathlib.Core.Path.{_≡_, refl, sym, ap, ap₂, subst, _∙_}
-use mathlib.Core.Bool.{Bool, true, false}
-use mathlib.Core.List.{List, [], _∷_}
-use Prim.Native.Nat.{ℕ, zero, suc, _+_, _-_, _*_, _≤_, _<_}
+use mathlib.Core.List.{List, []}
+use Prim.Native.Nat.{ℕ, zero, suc, _+_, _-_, _≤_}
 use native.Mathlib.Omega.{arith}
 use lib.ListN.{length, take}
 use Rattle.datum.specs.Constant.{Constant}
-use Rattle.recipe.specs.Name.{Name}
 use Rattle.recipe.specs.Tree.{Tree, empty, constant, name, pair, size, onNames, produce}
-use Rattle.expansion.specs.Rules.{Template, constantT}
+use Rattle.expansion.specs.Rules.{constantT}
 use Rattle.expansion.specs.Transcribe.{copies, transcribe}
 use Rattle.arena.specs.Arena.{wordAt, referenceAt, nameAt, treeAt}
 use Rattle.arena.specs.ArenaLaws.{take-less, referenceAt-most}
@@ -22,7 +20,7 @@ use Rattle.steps.specs.Lengths.{Copies}
 use Rattle.steps.specs.AgreeLaws.{pair-plain, ellipsis-plain}
 use Rattle.steps.specs.Cost.{copyOf, added}
 use Rattle.steps.specs.CostLaws.{copyOf-pair, copyOf-ellipsis, size-all-copies, added-cong}
-use Rattle.steps.specs.Build.{nodeWords, RoomFor, Built, Waiting, Ready, Buildable, copyAt, CopiesBuildable, Behind}
+use Rattle.steps.specs.Build.{Built, Waiting, Ready, Buildable, copyAt, CopiesBuildable, Behind}
 use Rattle.steps.specs.BuildLaws.{Whole, built-is, built-empty, built-constant, built-pair, room-is, room-tail, room-head, room-pair}
 
 -- ---- what stands below the top
