@@ -59,22 +59,21 @@ fn read_text(text: &[u8], items: &mut [u32], names: &mut [u8]) -> Reading
     }
 }
 
-// Both tables before the first token: zeros, and names 0 to 7.
-fn begin(items: &mut [u32], names: &mut [u8])
-    requires { ⌜ nameBytesLeast ≤ length (now names) ⌝ }
-    ensures { λ _. ⌜ (now (items .exit) ≡ replicate (length (now (items .exit))) 0) × NameTable baseNames (now (names .exit)) ⌝ }
-{
-    zero_words(items);
-    zero_bytes(names);
-    store_base(names);
-}
-
-// Both tables of a text that is turned back: zeros.
+// Both tables wholly zero.
 fn clear(items: &mut [u32], names: &mut [u8])
     ensures { λ _. ⌜ (now (items .exit) ≡ replicate (length (now (items .entry))) 0) × (now (names .exit) ≡ replicate (length (now (names .entry))) 0) ⌝ }
 {
     zero_words(items);
     zero_bytes(names);
+}
+
+// Both tables before the first token: zeros, and names 0 to 7.
+fn begin(items: &mut [u32], names: &mut [u8])
+    requires { ⌜ nameBytesLeast ≤ length (now names) ⌝ }
+    ensures { λ _. ⌜ (now (items .exit) ≡ replicate (length (now (items .exit))) 0) × NameTable baseNames (now (names .exit)) ⌝ }
+{
+    clear(items, names);
+    store_base(names);
 }
 
 // Reads a text into an item table and a name table.
