@@ -3,3 +3,9 @@ pub mod Lists
 pub mod ListLaws
 pub mod Parts
 pub mod PartLaws
+pub mod Fits
+pub mod FitLaws
+pub mod Lengths
+pub mod LengthLaws
+pub mod Plain
+pub mod AgreeLaws

@@ -1,17 +1,29 @@
 -- Laws of lists in the arena, one for each way through the code.
-use mathlib.Core.Path.{_≡_, refl, sym, ap, _∙_}
-use mathlib.Core.Bool.{Bool, true, false}
+use mathlib.Core.Path.{_≡_, refl, sym, ap, subst, _∙_}
+use mathlib.Core.Bool.{Bool, true, false, not}
 use mathlib.Core.List.{List, [], _∷_}
 use Prim.Native.Nat.{ℕ, zero, suc, _+_, _-_, _≤_, _<_}
 use native.Mathlib.Omega.{arith}
 use lib.Dec.{eqb}
 use lib.ListN.{length, getD}
 use borrow.Author.Tests.{eqb-true, eqb-false}
+use Rattle.datum.specs.Constant.{Constant}
+use Rattle.recipe.specs.Name.{Name}
 use Rattle.recipe.specs.Tree.{Tree, empty, constant, name, pair, onPair, elements, element, tail}
 use Rattle.arena.specs.Arena.{wordAt, referenceAt, treeAt}
 use Rattle.arena.specs.ArenaLaws.{cases, wordAt-some, wordAt-out, referenceAt-most, referenceAt-falls}
 use Rattle.arena.specs.NodeLaws.{treeAt-empty, treeAt-name, treeAt-pair, treeAt-constant}
 use Rattle.steps.specs.Lists.{Means, Counts, Counted, Walked}
+
+-- ---- tests
+
+pub not-true : (b : Bool) → not b ≡ true → b ≡ false
+not-true true e = let z : _≡_ {A = ℕ} 0 1 = cc in absurd (omega arith)
+not-true false e = refl
+
+pub not-false : (b : Bool) → not b ≡ false → b ≡ true
+not-false true e = refl
+not-false false e = let z : _≡_ {A = ℕ} 0 1 = cc in absurd (omega arith)
 
 -- ---- trees
 
@@ -24,18 +36,25 @@ element-tail i (pair h t) = refl
 
 -- ---- nodes
 
+-- a node that is no pair
+pub by-kind : (items work : List ℕ) (node w kind : ℕ) → kind ≡ wordAt work node 3 → (P : Tree → Type 0)
+    → (kind ≡ 0 → P empty) → ((kind ≡ 0 → ⊥) → (x : Name) → P (name x)) → ((kind ≡ 0 → ⊥) → (a : Constant) → P (constant a))
+    → (kind ≡ 4 → ⊥) → P (treeAt items work node w)
+by-kind items work node w kind e P forEmpty forName forConstant other =
+    cases (eqb kind 0)
+    (λ t. let z : kind ≡ 0 = eqb-true kind 0 t in subst P (sym (treeAt-empty items work node w (sym e ∙ z))) (forEmpty z))
+    (λ t.
+    let z : kind ≡ 0 → ⊥ = eqb-false kind 0 t in
+    cases (eqb kind 3)
+    (λ u. subst P (sym (treeAt-name items work node w (sym e ∙ eqb-true kind 3 u))) (forName z _))
+    (λ u. subst P (sym (treeAt-constant items work node w (λ i. z (e ∙ i)) (λ i. eqb-false kind 3 u (e ∙ i)) (λ i. other (e ∙ i)))) (forConstant z _)))
+
 abbrev Childless : Tree → Type 0
 Childless t = (elements t ≡ []) × (tail t ≡ empty)
 
 childless : (items work : List ℕ) (node w kind : ℕ) → kind ≡ wordAt work node 3 → (kind ≡ 4 → ⊥) → Childless (treeAt items work node w)
 unfolding elements tail onPair
-childless items work node w kind e other =
-    cases (eqb kind 0)
-    (λ t. rw (treeAt-empty items work node w (sym e ∙ eqb-true kind 0 t)) (refl, refl))
-    (λ t.
-    cases (eqb kind 3)
-    (λ u. rw (treeAt-name items work node w (sym e ∙ eqb-true kind 3 u)) (refl, refl))
-    (λ u. rw (treeAt-constant items work node w (λ z. eqb-false kind 0 t (e ∙ z)) (λ z. eqb-false kind 3 u (e ∙ z)) (λ z. other (e ∙ z))) (refl, refl)))
+childless items work node w kind e other = by-kind items work node w kind e Childless (λ z. (refl, refl)) (λ z x. (refl, refl)) (λ z a. (refl, refl)) other
 
 -- node 0 is the empty list
 pub treeAt-none : (items work : List ℕ) (w : ℕ) → treeAt items work 0 w ≡ empty

@@ -1,4 +1,7 @@
 // A macro step on cells: lists and parts of a use, matching, lengths and cost, and the result's nodes.
 
+pub mod agree;
+pub mod fits;
+pub mod lengths;
 pub mod lists;
 pub mod parts;

@@ -1,0 +1,220 @@
+-- The proof of the cycle {copies_agree, lengths_agree}. The measure is twice the template's reference, one more for its copies.
+use Prim.Native.Nat.{ℕ, _<_, _+_, _*_, _-_, _≤_}
+use borrow.Fn.Kinds.{In}
+use borrow.Fn.PlainCycle.{Measures, is, falls, and}
+use Rattle.steps.proofs.agree.copies_agree.Reads as copies-agree
+use Rattle.steps.proofs.agree.copies_agree.Kinds as copies-agree-kinds
+use Rattle.steps.proofs.agree.+copies_agree+lengths_agree.Lts-copies_agree as copies-agree-lts
+use Rattle.steps.proofs.agree.lengths_agree.Reads as lengths-agree
+use Rattle.steps.proofs.agree.lengths_agree.Kinds as lengths-agree-kinds
+use Rattle.steps.proofs.agree.+copies_agree+lengths_agree.Lts-lengths_agree as lengths-agree-lts
+use Rattle.arena.proofs.cells.reference.Reads as reference-reads
+use Rattle.arena.proofs.cells.word.Reads as word-reads
+use Rattle.steps.proofs.agree.deepen.Reads as deepen-reads
+use Rattle.steps.proofs.lengths.all_of.Reads as all-of-reads
+use Rattle.steps.proofs.lengths.copies.Reads as copies-reads
+use Rattle.steps.proofs.agree.+copies_agree+lengths_agree.{statement}
+use Rattle.steps.proofs.agree.+copies_agree+lengths_agree.Tie.{close}
+use Rattle.steps.specs.ListLaws.{not-true, not-false}
+use Rattle.steps.specs.PartLaws.{tag-falls}
+use Rattle.steps.specs.Lengths.{CopiesAgree}
+use Rattle.steps.specs.AgreeLaws.{agree-leaf, agree-head-no, agree-tail, agree-differ, agree-copies-no, agree-rest, begun-copies, copies-no, copies-more}
+use native.Mathlib.Omega.{arith}
+use borrow.Author.Needs.{needs}
+use mathlib.Core.Path.{_≡_, subst}
+use mathlib.Core.Bool.{true}
+
+abbrev μ-copies-agree : Measures 1 copies-agree-kinds.ps ℕ
+μ-copies-agree κs a =
+    2 * a .1 .1 .1 .1 .1 .1 .0 + 1
+
+abbrev μ-lengths-agree : Measures 1 lengths-agree-kinds.ps ℕ
+μ-lengths-agree κs a =
+    2 * a .1 .1 .1 .1 .1 .1 .0
+
+abbrev copies-agree-at : ℕ → In 1 copies-agree-kinds.ps
+copies-agree-at t =
+    and 1 copies-agree-kinds.ps (is 1 copies-agree-kinds.ps μ-copies-agree t) copies-agree.Pre
+
+abbrev copies-agree-below : ℕ → In 1 copies-agree-kinds.ps
+copies-agree-below t =
+    and
+    1
+    copies-agree-kinds.ps
+    (falls 1 copies-agree-kinds.ps _<_ μ-copies-agree t)
+    copies-agree.Pre
+
+abbrev lengths-agree-at : ℕ → In 1 lengths-agree-kinds.ps
+lengths-agree-at t =
+    and 1 lengths-agree-kinds.ps (is 1 lengths-agree-kinds.ps μ-lengths-agree t) lengths-agree.Pre
+
+abbrev lengths-agree-below : ℕ → In 1 lengths-agree-kinds.ps
+lengths-agree-below t =
+    and
+    1
+    lengths-agree-kinds.ps
+    (falls 1 lengths-agree-kinds.ps _<_ μ-lengths-agree t)
+    lengths-agree.Pre
+
+abbrev copies-agree-Inv-loop : copies-agree-lts.InvT-loop
+copies-agree-Inv-loop work p u n outer inner e c m k₀ k =
+    (k ≤ c) × CopiesAgree work p u n outer inner e k true
+
+abbrev copies-agree-μ-loop : copies-agree-lts.MeasureT-loop
+copies-agree-μ-loop work p u n outer inner e c m k₀ k =
+    c - k
+
+abbrev copies-agree-claims : ℕ → copies-agree-lts.Claims
+copies-agree-claims t = (deepen-reads.Asked, deepen-reads.Learnt, lengths-agree-below t, lengths-agree.Post)
+
+copies-agree-deepen-requires : (t : ℕ) → copies-agree-lts.Need-deepen-requires (copies-agree-claims t) (copies-agree-at t) copies-agree.Post copies-agree-Inv-loop copies-agree-μ-loop
+copies-agree-deepen-requires t c κs =
+    search needs
+
+copies-agree-loop-holds : (t : ℕ) → copies-agree-lts.Need-loop-holds (copies-agree-claims t) (copies-agree-at t) copies-agree.Post copies-agree-Inv-loop copies-agree-μ-loop
+copies-agree-loop-holds t c =
+    let a = c .before .before .args in (omega arith, begun-copies (a .work .now) (a .p) (a .u) (a .n) (a .outer) (a .inner) (a .e))
+
+copies-agree-lengths-agree-requires : (t : ℕ) → copies-agree-lts.Need-lengths-agree-requires (copies-agree-claims t) (copies-agree-at t) copies-agree.Post copies-agree-Inv-loop copies-agree-μ-loop
+copies-agree-lengths-agree-requires t c κs =
+    omega (arith, c .before .before .before .before .pre .0)
+
+copies-agree-returns : (t : ℕ) → copies-agree-lts.Need-returns (copies-agree-claims t) (copies-agree-at t) copies-agree.Post copies-agree-Inv-loop copies-agree-μ-loop
+copies-agree-returns t c =
+    let a = c .before .before .before .before .before .before .args in copies-no (a .work .now) (a .p) (a .u) (a .n) (a .outer) (a .inner) (a .e) _ (c .before .before .before .loop .k) _ (c .before .before .before .before .deepen .ensures) (c .before .lengths-agree .ensures) (a .c) (omega arith) (not-true _ (c .if1 .taken))
+
+copies-agree-add-k : (t : ℕ) → copies-agree-lts.Need-add-k (copies-agree-claims t) (copies-agree-at t) copies-agree.Post copies-agree-Inv-loop copies-agree-μ-loop
+copies-agree-add-k t c =
+    search needs
+
+copies-agree-loop-less : (t : ℕ) → copies-agree-lts.Need-loop-less (copies-agree-claims t) (copies-agree-at t) copies-agree.Post copies-agree-Inv-loop copies-agree-μ-loop
+copies-agree-loop-less t c =
+    search needs
+
+copies-agree-loop-again : (t : ℕ) → copies-agree-lts.Need-loop-again (copies-agree-claims t) (copies-agree-at t) copies-agree.Post copies-agree-Inv-loop copies-agree-μ-loop
+copies-agree-loop-again t c =
+    let a = c .before .before .before .before .before .before .args in (omega arith, copies-more (a .work .now) (a .p) (a .u) (a .n) (a .outer) (a .inner) (a .e) _ (c .before .before .before .loop .k) _ (c .before .before .before .before .deepen .ensures) (c .before .lengths-agree .ensures) (not-false _ (c .if1 .left)) (c .before .before .before .loop .inv .1))
+
+copies-agree-returns-2 : (t : ℕ) → copies-agree-lts.Need-returns-2 (copies-agree-claims t) (copies-agree-at t) copies-agree.Post copies-agree-Inv-loop copies-agree-μ-loop
+copies-agree-returns-2 t c =
+    let a = c .before .before .before .before .args in let e : c .before .loop .k ≡ a .c = omega arith in subst (λ (k : ℕ). CopiesAgree (a .work .now) (a .p) (a .u) (a .n) (a .outer) (a .inner) (a .e) k true) e (c .before .loop .inv .1)
+
+abbrev lengths-agree-claims : ℕ → lengths-agree-lts.Claims
+lengths-agree-claims t = (word-reads.Asked, word-reads.Learnt, reference-reads.Asked, reference-reads.Learnt, lengths-agree-below t, lengths-agree.Post, copies-reads.Asked, copies-reads.Learnt, all-of-reads.Asked, all-of-reads.Learnt, copies-agree-below t, copies-agree.Post)
+
+lengths-agree-word-requires : (t : ℕ) → lengths-agree-lts.Need-word-requires (lengths-agree-claims t) (lengths-agree-at t) lengths-agree.Post
+lengths-agree-word-requires t c κs =
+    search needs
+
+lengths-agree-returns : (t : ℕ) → lengths-agree-lts.Need-returns (lengths-agree-claims t) (lengths-agree-at t) lengths-agree.Post
+lengths-agree-returns t c =
+    let a = c .before .before .before .args in agree-leaf (a .work .now) (a .p) (a .u) (a .n) (a .outer) (a .inner) (a .t) _ (c .before .word .ensures) (λ z. omega arith) (λ z. omega arith)
+
+lengths-agree-returns-2 : (t : ℕ) → lengths-agree-lts.Need-returns-2 (lengths-agree-claims t) (lengths-agree-at t) lengths-agree.Post
+lengths-agree-returns-2 t c =
+    let a = c .before .before .before .before .args in agree-leaf (a .work .now) (a .p) (a .u) (a .n) (a .outer) (a .inner) (a .t) _ (c .before .before .word .ensures) (λ z. omega arith) (λ z. omega arith)
+
+lengths-agree-reference-requires : (t : ℕ) → lengths-agree-lts.Need-reference-requires (lengths-agree-claims t) (lengths-agree-at t) lengths-agree.Post
+lengths-agree-reference-requires t c κs =
+    search needs
+
+lengths-agree-reference-requires-2 : (t : ℕ) → lengths-agree-lts.Need-reference-requires-2 (lengths-agree-claims t) (lengths-agree-at t) lengths-agree.Post
+lengths-agree-reference-requires-2 t c κs =
+    search needs
+
+lengths-agree-lengths-agree-requires : (t : ℕ) → lengths-agree-lts.Need-lengths-agree-requires (lengths-agree-claims t) (lengths-agree-at t) lengths-agree.Post
+lengths-agree-lengths-agree-requires t c κs =
+    let a = c .before .before .before .before .before .before .before .args in let l = tag-falls (a .work .now) (a .t) _ (c .before .before .before .before .before .word .ensures) 3 _ (λ z. omega arith) (c .before .before .reference .ensures) in omega (arith, l, c .before .before .before .before .before .before .before .pre .0)
+
+lengths-agree-returns-3 : (t : ℕ) → lengths-agree-lts.Need-returns-3 (lengths-agree-claims t) (lengths-agree-at t) lengths-agree.Post
+lengths-agree-returns-3 t c =
+    let a = c .before .before .before .before .before .before .before .before .before .args in agree-head-no (a .work .now) (a .p) (a .u) (a .n) (a .outer) (a .inner) (a .t) _ (c .before .before .before .before .before .before .before .word .ensures) _ _ (c .before .before .before .before .reference .ensures) (c .before .before .before .reference2 .ensures) _ (c .before .before .if3 .taken) (c .before .lengths-agree .ensures) (not-true _ (c .if4 .taken))
+
+lengths-agree-lengths-agree-requires-2 : (t : ℕ) → lengths-agree-lts.Need-lengths-agree-requires-2 (lengths-agree-claims t) (lengths-agree-at t) lengths-agree.Post
+lengths-agree-lengths-agree-requires-2 t c κs =
+    let a = c .before .before .before .before .before .before .before .before .before .args in let l = tag-falls (a .work .now) (a .t) _ (c .before .before .before .before .before .before .before .word .ensures) 2 _ (λ z. omega arith) (c .before .before .before .reference2 .ensures) in omega (arith, l, c .before .before .before .before .before .before .before .before .before .pre .0)
+
+lengths-agree-returns-4 : (t : ℕ) → lengths-agree-lts.Need-returns-4 (lengths-agree-claims t) (lengths-agree-at t) lengths-agree.Post
+lengths-agree-returns-4 t c =
+    let a = c .before .before .before .before .before .before .before .before .before .before .args in agree-tail (a .work .now) (a .p) (a .u) (a .n) (a .outer) (a .inner) (a .t) _ (c .before .before .before .before .before .before .before .before .word .ensures) _ _ (c .before .before .before .before .before .reference .ensures) (c .before .before .before .before .reference2 .ensures) _ _ (c .before .before .before .if3 .taken) (c .before .before .lengths-agree .ensures) (not-false _ (c .before .if4 .left)) (c .lengths-agree2 .ensures)
+
+lengths-agree-copies-requires : (t : ℕ) → lengths-agree-lts.Need-copies-requires (lengths-agree-claims t) (lengths-agree-at t) lengths-agree.Post
+lengths-agree-copies-requires t c κs =
+    search needs
+
+lengths-agree-all-of-requires : (t : ℕ) → lengths-agree-lts.Need-all-of-requires (lengths-agree-claims t) (lengths-agree-at t) lengths-agree.Post
+lengths-agree-all-of-requires t c κs =
+    search needs
+
+lengths-agree-returns-5 : (t : ℕ) → lengths-agree-lts.Need-returns-5 (lengths-agree-claims t) (lengths-agree-at t) lengths-agree.Post
+lengths-agree-returns-5 t c =
+    let a = c .before .before .before .before .before .before .before .before .before .before .args in agree-differ (a .work .now) (a .p) (a .u) (a .n) (a .outer) (a .inner) (a .t) _ (c .before .before .before .before .before .before .before .before .word .ensures) _ _ (c .before .before .before .before .before .reference .ensures) (c .before .before .before .before .reference2 .ensures) (omega arith) _ (c .before .before .copies .ensures) _ (c .before .all-of .ensures) (not-true _ (c .if5 .taken))
+
+lengths-agree-copies-agree-requires : (t : ℕ) → lengths-agree-lts.Need-copies-agree-requires (lengths-agree-claims t) (lengths-agree-at t) lengths-agree.Post
+lengths-agree-copies-agree-requires t c κs =
+    let a = c .before .before .before .before .before .before .before .before .before .before .args in let l = tag-falls (a .work .now) (a .t) _ (c .before .before .before .before .before .before .before .before .word .ensures) 3 _ (λ z. omega arith) (c .before .before .before .before .before .reference .ensures) in omega (arith, l, c .before .before .before .before .before .before .before .before .before .before .pre .0)
+
+lengths-agree-returns-6 : (t : ℕ) → lengths-agree-lts.Need-returns-6 (lengths-agree-claims t) (lengths-agree-at t) lengths-agree.Post
+lengths-agree-returns-6 t c =
+    let a = c .before .before .before .before .before .before .before .before .before .before .before .before .args in agree-copies-no (a .work .now) (a .p) (a .u) (a .n) (a .outer) (a .inner) (a .t) _ (c .before .before .before .before .before .before .before .before .before .before .word .ensures) _ _ (c .before .before .before .before .before .before .before .reference .ensures) (c .before .before .before .before .before .before .reference2 .ensures) (omega arith) _ (c .before .before .before .before .copies .ensures) _ (c .before .before .before .all-of .ensures) (not-false _ (c .before .before .if5 .left)) _ (c .before .copies-agree .ensures) (not-true _ (c .if6 .taken))
+
+lengths-agree-lengths-agree-requires-3 : (t : ℕ) → lengths-agree-lts.Need-lengths-agree-requires-3 (lengths-agree-claims t) (lengths-agree-at t) lengths-agree.Post
+lengths-agree-lengths-agree-requires-3 t c κs =
+    let a = c .before .before .before .before .before .before .before .before .before .before .before .before .args in let l = tag-falls (a .work .now) (a .t) _ (c .before .before .before .before .before .before .before .before .before .before .word .ensures) 2 _ (λ z. omega arith) (c .before .before .before .before .before .before .reference2 .ensures) in omega (arith, l, c .before .before .before .before .before .before .before .before .before .before .before .before .pre .0)
+
+lengths-agree-returns-7 : (t : ℕ) → lengths-agree-lts.Need-returns-7 (lengths-agree-claims t) (lengths-agree-at t) lengths-agree.Post
+lengths-agree-returns-7 t c =
+    let a = c .before .before .before .before .before .before .before .before .before .before .before .before .before .args in agree-rest (a .work .now) (a .p) (a .u) (a .n) (a .outer) (a .inner) (a .t) _ (c .before .before .before .before .before .before .before .before .before .before .before .word .ensures) _ _ (c .before .before .before .before .before .before .before .before .reference .ensures) (c .before .before .before .before .before .before .before .reference2 .ensures) (omega arith) _ (c .before .before .before .before .before .copies .ensures) _ (c .before .before .before .before .all-of .ensures) (not-false _ (c .before .before .before .if5 .left)) _ (c .before .before .copies-agree .ensures) _ (not-false _ (c .before .if6 .left)) (c .lengths-agree3 .ensures)
+
+pub +copies-agree+lengths-agree-spec : {M : Type 1} → statement M
++copies-agree+lengths-agree-spec =
+    close μ-copies-agree μ-lengths-agree (λ t. copies-agree-lts.spec (
+      deepen-reads.Asked,
+      deepen-reads.Learnt,
+      lengths-agree-below t,
+      lengths-agree.Post,
+    )
+    (copies-agree-at t)
+    copies-agree.Post
+    copies-agree-Inv-loop
+    copies-agree-μ-loop
+    (copies-agree-deepen-requires t)
+    (copies-agree-loop-holds t)
+    (copies-agree-lengths-agree-requires t)
+    (copies-agree-returns t)
+    (copies-agree-add-k t)
+    (copies-agree-loop-less t)
+    (copies-agree-loop-again t)
+    (copies-agree-returns-2 t))
+    λ t. lengths-agree-lts.spec (
+      word-reads.Asked,
+      word-reads.Learnt,
+      reference-reads.Asked,
+      reference-reads.Learnt,
+      lengths-agree-below t,
+      lengths-agree.Post,
+      copies-reads.Asked,
+      copies-reads.Learnt,
+      all-of-reads.Asked,
+      all-of-reads.Learnt,
+      copies-agree-below t,
+      copies-agree.Post,
+    )
+    (lengths-agree-at t)
+    lengths-agree.Post
+    (lengths-agree-word-requires t)
+    (lengths-agree-returns t)
+    (lengths-agree-returns-2 t)
+    (lengths-agree-reference-requires t)
+    (lengths-agree-reference-requires-2 t)
+    (lengths-agree-lengths-agree-requires t)
+    (lengths-agree-returns-3 t)
+    (lengths-agree-lengths-agree-requires-2 t)
+    (lengths-agree-returns-4 t)
+    (lengths-agree-copies-requires t)
+    (lengths-agree-all-of-requires t)
+    (lengths-agree-returns-5 t)
+    (lengths-agree-copies-agree-requires t)
+    (lengths-agree-returns-6 t)
+    (lengths-agree-lengths-agree-requires-3 t)
+    (lengths-agree-returns-7 t)

@@ -1,0 +1,213 @@
+-- Laws of matching on cells, one for each way through the code.
+use mathlib.Core.Path.{_≡_, refl, sym, ap, ap₂, subst, _∙_}
+use mathlib.Core.Bool.{Bool, true, false, _&&_, cond}
+use mathlib.Core.List.{List, [], _∷_, _++_}
+use mathlib.Core.Logic.{_⊎_, inl, inr}
+use mathlib.Core.Option.{Option, none, some}
+use Prim.Native.Nat.{ℕ, zero, suc, _+_, _≤_, _<_}
+use native.Mathlib.Omega.{arith}
+use lib.Dec.{eqb}
+use borrow.Author.Tests.{eq-eqb, ne-eqb, eqb-true, eqb-false}
+use Rattle.datum.specs.Constant.{Constant, matches}
+use Rattle.recipe.specs.Name.{Name, bindingKey}
+use Rattle.recipe.specs.Tree.{Tree, empty, constant, name, pair, onEmpty, onConstant, onName, onPair}
+use Rattle.expansion.specs.Lookup.{agree}
+use Rattle.expansion.specs.Rules.{Pattern, Rule, literalP, constantP, emptyP, pairP, ellipsisP}
+use Rattle.expansion.specs.Match.{Fit, fitting, misfit, andThen, bothFit, eachFits, fit, orNext, firstFit}
+use Rattle.arena.specs.Arena.{wordAt, referenceAt, bindingOf, nameAt, constantAt, treeAt}
+use Rattle.arena.specs.ArenaLaws.{cases, bindingKey-of, referenceAt-most}
+use Rattle.arena.specs.NodeLaws.{treeAt-empty, treeAt-name, treeAt-pair, treeAt-constant}
+use Rattle.arena.specs.Names.{Agrees}
+use Rattle.rule_cells.specs.Cells.{constantBefore, literalAt, patternAt, ruleAt, rulesAt}
+use Rattle.rule_cells.specs.CellLaws.{patternAt-variable, patternAt-literal, patternAt-wildcard, patternAt-constant, patternAt-pair, patternAt-ellipsis, patternAt-empty, rulesAt-none, rulesAt-more}
+use Rattle.steps.specs.ListLaws.{by-kind}
+use Rattle.steps.specs.Fits.{Fits, EachFits, LiteralFits, ConstantFits, ruleOr, FirstFit}
+
+-- ---- both fit
+
+andThen-fits : (l : List Name) (b : Bool) (g : Fit) → andThen l b g .1 ≡ (b && g .1)
+unfolding andThen
+andThen-fits l true g = refl
+andThen-fits l false g = refl
+
+bothFit-fits : (f g : Fit) → bothFit f g .1 ≡ (f .1 && g .1)
+unfolding bothFit
+bothFit-fits f g = andThen-fits (f .0) (f .1) g
+
+-- ---- what a node is matched with
+
+module _ (items work : List ℕ) (u w kind : ℕ) (kind-is : kind ≡ wordAt work u 3) where
+  pub literal-no-name : (p : ℕ) → (kind ≡ 3 → ⊥) → LiteralFits items work p u w false
+  unfolding fit onName misfit
+  literal-no-name p other =
+      cases (eqb kind 4)
+      (λ t. rw (treeAt-pair items work u w (sym kind-is ∙ eqb-true kind 4 t)) refl)
+      (λ t. cases (eqb kind 0)
+      (λ z. rw (treeAt-empty items work u w (sym kind-is ∙ eqb-true kind 0 z)) refl)
+      (λ z. rw (treeAt-constant items work u w (λ i. eqb-false kind 0 z (kind-is ∙ i)) (λ i. other (kind-is ∙ i)) (λ i. eqb-false kind 4 t (kind-is ∙ i))) refl))
+
+  pub literal-name : (p number binding : ℕ) (r : Bool) → kind ≡ 3 → number ≡ wordAt work p 3 → binding ≡ wordAt work p 2 → Agrees number binding (nameAt items work u w) r → LiteralFits items work p u w r
+  unfolding fit onName literalAt
+  literal-name p number binding r e h l a = rw (treeAt-name items work u w (sym kind-is ∙ e)) (a (literalAt items work p) (sym h) (bindingKey-of _ ∙ sym l))
+
+  pub pair-no-pair : (p : ℕ) (q s : Pattern) → (kind ≡ 4 → ⊥) → false ≡ fit (pairP q s) (treeAt items work u w) .1
+  unfolding fit onPair misfit
+  pair-no-pair p q s other = by-kind items work u w kind kind-is (λ t. false ≡ fit (pairP q s) t .1) (λ z. refl) (λ z x. refl) (λ z a. refl) other
+
+  pub pair-pair : (q s : Pattern) → kind ≡ 4 → fit (pairP q s) (treeAt items work u w) .1 ≡ (fit q (treeAt items work (referenceAt work u 2) w) .1 && fit s (treeAt items work (referenceAt work u 1) w) .1)
+  unfolding fit onPair
+  pair-pair q s e = rw (treeAt-pair items work u w (sym kind-is ∙ e)) (bothFit-fits _ _)
+
+  pub each-pair : (q : Pattern) → kind ≡ 4 → eachFits (fit q) (treeAt items work u w) .1 ≡ (fit q (treeAt items work (referenceAt work u 2) w) .1 && eachFits (fit q) (treeAt items work (referenceAt work u 1) w) .1)
+  unfolding eachFits
+  each-pair q e = rw (treeAt-pair items work u w (sym kind-is ∙ e)) (bothFit-fits _ _)
+
+  pub each-end : (p : ℕ) → (kind ≡ 4 → ⊥) → EachFits items work p u w (eqb kind 0)
+  unfolding eachFits fitting misfit
+  each-end p other = by-kind items work u w kind kind-is (λ t. eqb kind 0 ≡ eachFits (fit (patternAt items work p)) t .1) (λ z. eq-eqb kind 0 z) (λ z x. ne-eqb kind 0 z) (λ z a. ne-eqb kind 0 z) other
+
+  pub empty-fits : eqb kind 0 ≡ fit emptyP (treeAt items work u w) .1
+  unfolding fit onEmpty fitting misfit
+  empty-fits =
+      cases (eqb kind 4)
+      (λ t. let e : kind ≡ 4 = eqb-true kind 4 t in rw (treeAt-pair items work u w (sym kind-is ∙ e)) (ne-eqb kind 0 (λ z. omega arith)))
+      (λ t. by-kind items work u w kind kind-is (λ t. eqb kind 0 ≡ fit emptyP t .1) (λ z. eq-eqb kind 0 z) (λ z x. ne-eqb kind 0 z) (λ z a. ne-eqb kind 0 z) (eqb-false kind 4 t))
+
+  -- ---- constants
+
+  module _ (p : ℕ) where
+    abbrev Against : Tree → Type 0
+    Against t = false ≡ fit (constantP (constantBefore work p)) t .1
+
+    pub constant-empty : kind ≡ 0 → Against (treeAt items work u w)
+    unfolding fit onConstant misfit
+    constant-empty e = rw (treeAt-empty items work u w (sym kind-is ∙ e)) refl
+
+    pub constant-name : kind ≡ 3 → Against (treeAt items work u w)
+    unfolding fit onConstant misfit
+    constant-name e = rw (treeAt-name items work u w (sym kind-is ∙ e)) refl
+
+    pub constant-pair : kind ≡ 4 → Against (treeAt items work u w)
+    unfolding fit onConstant misfit
+    constant-pair e = rw (treeAt-pair items work u w (sym kind-is ∙ e)) refl
+
+    pub constant-constant : (kind ≡ 0 → ⊥) → (kind ≡ 3 → ⊥) → (kind ≡ 4 → ⊥) → fit (constantP (constantBefore work p)) (treeAt items work u w) .1 ≡ (eqb (wordAt work p 4) kind && (eqb (wordAt work p 3) (wordAt work u 2) && eqb (wordAt work p 2) (wordAt work u 1)))
+    unfolding fit onConstant matches constantBefore constantAt
+    constant-constant a b c = rw (treeAt-constant items work u w (λ z. a (kind-is ∙ z)) (λ z. b (kind-is ∙ z)) (λ z. c (kind-is ∙ z)), kind-is) refl
+
+-- one of the three words differs, or none before the last
+module _ (work : List ℕ) (p u kind : ℕ) (kind-is : kind ≡ wordAt work u 3) where
+  pub constant-no : (kind ≡ 0) ⊎ ((kind ≡ 3) ⊎ (kind ≡ 4)) → ConstantFits work p u false
+  constant-no (inl e) items w = constant-empty items work u w kind kind-is p e
+  constant-no (inr (inl e)) items w = constant-name items work u w kind kind-is p e
+  constant-no (inr (inr e)) items w = constant-pair items work u w kind kind-is p e
+
+  module _ (a : kind ≡ 0 → ⊥) (b : kind ≡ 3 → ⊥) (c : kind ≡ 4 → ⊥) (k : ℕ) (k-is : k ≡ wordAt work p 4) where
+    pub constant-kinds : (k ≡ kind → ⊥) → ConstantFits work p u false
+    constant-kinds n items w = sym (constant-constant items work u w kind kind-is p a b c ∙ rw (← k-is, ne-eqb k kind n))
+
+    module _ (same : k ≡ kind) (x y : ℕ) (x-is : x ≡ wordAt work p 3) (y-is : y ≡ wordAt work u 2) where
+      pub constant-firsts : (x ≡ y → ⊥) → ConstantFits work p u false
+      constant-firsts n items w = sym (constant-constant items work u w kind kind-is p a b c ∙ rw (← k-is, eq-eqb k kind same, ← x-is, ← y-is, ne-eqb x y n))
+
+      pub constant-seconds : x ≡ y → (v z : ℕ) → v ≡ wordAt work p 2 → z ≡ wordAt work u 1 → ConstantFits work p u (eqb v z)
+      constant-seconds e v z v-is z-is items w = sym (constant-constant items work u w kind kind-is p a b c ∙ rw (← k-is, eq-eqb k kind same, ← x-is, ← y-is, eq-eqb x y e, ← v-is, ← z-is) refl)
+
+-- ---- patterns
+
+module _ (items work : List ℕ) (p tag : ℕ) (tag-is : tag ≡ wordAt work p 1) (u w : ℕ) where
+  pub fits-variable : tag ≡ 1 → Fits items work p u w true
+  unfolding fit fitting
+  fits-variable e = rw (patternAt-variable items work p (sym tag-is ∙ e)) refl
+
+  pub fits-wildcard : tag ≡ 3 → Fits items work p u w true
+  unfolding fit fitting
+  fits-wildcard e = rw (patternAt-wildcard items work p (sym tag-is ∙ e)) refl
+
+  pub fits-literal : (r : Bool) → tag ≡ 2 → LiteralFits items work p u w r → Fits items work p u w r
+  fits-literal r e c = rw (patternAt-literal items work p (sym tag-is ∙ e)) c
+
+  pub fits-constant : (r : Bool) → tag ≡ 4 → ConstantFits work p u r → Fits items work p u w r
+  fits-constant r e c = rw (patternAt-constant items work p (sym tag-is ∙ e)) (c items w)
+
+  pub fits-ellipsis : (e : ℕ) (r : Bool) → tag ≡ 7 → e ≡ referenceAt work p 2 → EachFits items work e u w r → Fits items work p u w r
+  unfolding fit
+  fits-ellipsis e r t h c = rw (patternAt-ellipsis items work p (sym tag-is ∙ t), ← h) c
+
+  module _ (kind : ℕ) (kind-is : kind ≡ wordAt work u 3) where
+    pub fits-no-pair : tag ≡ 6 → (kind ≡ 4 → ⊥) → Fits items work p u w false
+    fits-no-pair t other = rw (patternAt-pair items work p (sym tag-is ∙ t)) (pair-no-pair items work u w kind kind-is p _ _ other)
+
+    module _ (q h : ℕ) (b : Bool) (t : tag ≡ 6) (k : kind ≡ 4) (q-is : q ≡ referenceAt work p 3) (h-is : h ≡ referenceAt work u 2) (head : Fits items work q h w b) where
+      pub fits-head-no : b ≡ false → Fits items work p u w false
+      fits-head-no e =
+          sym (ap (λ (x : Pattern). fit x (treeAt items work u w) .1) (patternAt-pair items work p (sym tag-is ∙ t)) ∙ pair-pair items work u w kind kind-is _ _ k ∙ rw (← q-is, ← h-is, ← head, e))
+
+      pub fits-tail : (s v : ℕ) (r : Bool) → b ≡ true → s ≡ referenceAt work p 2 → v ≡ referenceAt work u 1 → Fits items work s v w r → Fits items work p u w r
+      fits-tail s v r e s-is v-is c =
+          c ∙ sym (ap (λ (x : Pattern). fit x (treeAt items work u w) .1) (patternAt-pair items work p (sym tag-is ∙ t)) ∙ pair-pair items work u w kind kind-is _ _ k ∙ rw (← q-is, ← h-is, ← head, e, ← s-is, ← v-is) refl)
+
+    pub fits-empty : (tag ≡ 1 → ⊥) → (tag ≡ 2 → ⊥) → (tag ≡ 3 → ⊥) → (tag ≡ 4 → ⊥) → (tag ≡ 6 → ⊥) → (tag ≡ 7 → ⊥) → Fits items work p u w (eqb kind 0)
+    fits-empty n1 n2 n3 n4 n6 n7 =
+        rw (patternAt-empty items work p (λ z. n1 (tag-is ∙ z)) (λ z. n2 (tag-is ∙ z)) (λ z. n3 (tag-is ∙ z)) (λ z. n4 (tag-is ∙ z)) (λ z. n6 (tag-is ∙ z)) (λ z. n7 (tag-is ∙ z)))
+        (empty-fits items work u w kind kind-is)
+
+-- ---- zero or more elements
+
+-- the list fits where the elements of the node do
+abbrev pub Matched : (items work : List ℕ) (e list w node : ℕ) → Type 0
+Matched items work e list w node = eachFits (fit (patternAt items work e)) (treeAt items work list w) .1 ≡ eachFits (fit (patternAt items work e)) (treeAt items work node w) .1
+
+module _ (items work : List ℕ) (e list w node kind : ℕ) (kind-is : kind ≡ wordAt work node 3) (inv : Matched items work e list w node) where
+  pub each-ends : (kind ≡ 4 → ⊥) → EachFits items work e list w (eqb kind 0)
+  each-ends other = sym (inv ∙ sym (each-end items work node w kind kind-is e other))
+
+  module _ (h : ℕ) (b : Bool) (k : kind ≡ 4) (h-is : h ≡ referenceAt work node 2) (head : Fits items work e h w b) where
+    pub each-no : b ≡ false → EachFits items work e list w false
+    each-no f = sym (inv ∙ each-pair items work node w kind kind-is (patternAt items work e) k ∙ rw (← h-is, ← head, f))
+
+    pub each-more : (t : ℕ) → b ≡ true → t ≡ referenceAt work node 1 → Matched items work e list w t
+    each-more t f t-is = inv ∙ each-pair items work node w kind kind-is (patternAt items work e) k ∙ rw (← h-is, ← head, f, ← t-is) refl
+
+-- ---- rules
+
+-- the first of the rules that fits is the first from this rule on
+pub record Tried (items work : List ℕ) (rules u w rule : ℕ) : Type 0 where
+  pub is : firstFit (rulesAt items work rules) (treeAt items work u w) .1 ≡ firstFit (rulesAt items work rule) (treeAt items work u w) .1
+  pub low : rule ≤ rules
+
+orNext-yes : (r : Rule) (l : List Name) (b : Bool) (later : List Name × Option Rule) → b ≡ true → orNext r l b later .1 ≡ some r
+unfolding orNext
+orNext-yes r l true later e = refl
+orNext-yes r l false later e = let z : _≡_ {A = ℕ} 0 1 = cc in absurd (omega arith)
+
+orNext-no : (r : Rule) (l : List Name) (b : Bool) (later : List Name × Option Rule) → b ≡ false → orNext r l b later .1 ≡ later .1
+unfolding orNext
+orNext-no r l false later e = refl
+orNext-no r l true later e = let z : _≡_ {A = ℕ} 0 1 = cc in absurd (omega arith)
+
+module _ (items work : List ℕ) (rules u w : ℕ) where
+  pub tried-begins : Tried items work rules u w rules
+  tried-begins = record { is = refl; low = omega arith }
+
+  module _ (rule : ℕ) (inv : Tried items work rules u w rule) where
+    pub tried-ends : rule ≡ 0 → FirstFit items work rules u w 0
+    unfolding ruleOr firstFit
+    tried-ends e = record { is = sym (inv .is ∙ rw (rulesAt-none items work rule e) refl); low = omega arith }
+
+    module _ (p : ℕ) (b : Bool) (more : rule ≡ 0 → ⊥) (p-is : p ≡ referenceAt work rule 3) (fitted : Fits items work p u w b) where
+      pub tried-fits : b ≡ true → FirstFit items work rules u w rule
+      unfolding ruleOr firstFit ruleAt
+      tried-fits e =
+          record {
+            is = rw (ne-eqb rule 0 more) (sym (inv .is ∙ rw (rulesAt-more items work rule (omega arith)) (orNext-yes _ _ _ _ (ap (λ (q : ℕ). fit (patternAt items work q) (treeAt items work u w) .1) (sym p-is) ∙ sym fitted ∙ e))));
+            low = inv .low;
+          }
+
+      pub tried-more : (next : ℕ) → b ≡ false → next ≡ referenceAt work rule 1 → Tried items work rules u w next
+      unfolding firstFit ruleAt
+      tried-more next e n =
+          record {
+            is = inv .is ∙ rw (rulesAt-more items work rule (omega arith), n) (orNext-no _ _ _ _ (ap (λ (q : ℕ). fit (patternAt items work q) (treeAt items work u w) .1) (sym p-is) ∙ sym fitted ∙ e));
+            low = omega (arith, inv .low, referenceAt-most work rule 1);
+          }

@@ -1,0 +1,33 @@
+-- Matching on cells: whether a pattern's cell fits a use, and the first rule that does.
+use mathlib.Core.Path.{_≡_}
+use mathlib.Core.Bool.{Bool, cond}
+use mathlib.Core.List.{List}
+use mathlib.Core.Option.{Option, none, some}
+use Prim.Native.Nat.{ℕ, _≤_}
+use lib.Dec.{eqb}
+use Rattle.expansion.specs.Rules.{Rule, literalP, constantP}
+use Rattle.expansion.specs.Match.{fit, eachFits, firstFit}
+use Rattle.arena.specs.Arena.{treeAt}
+use Rattle.rule_cells.specs.Cells.{constantBefore, literalAt, patternAt, ruleAt, rulesAt}
+
+abbrev pub Fits : (items work : List ℕ) (p u w : ℕ) → Bool → Type 0
+Fits items work p u w r = r ≡ fit (patternAt items work p) (treeAt items work u w) .1
+
+-- zero or more elements
+abbrev pub EachFits : (items work : List ℕ) (p u w : ℕ) → Bool → Type 0
+EachFits items work p u w r = r ≡ eachFits (fit (patternAt items work p)) (treeAt items work u w) .1
+
+abbrev pub LiteralFits : (items work : List ℕ) (p u w : ℕ) → Bool → Type 0
+LiteralFits items work p u w r = r ≡ fit (literalP (literalAt items work p)) (treeAt items work u w) .1
+
+abbrev pub ConstantFits : (work : List ℕ) (p u : ℕ) → Bool → Type 0
+ConstantFits work p u r = (items : List ℕ) (w : ℕ) → r ≡ fit (constantP (constantBefore work p)) (treeAt items work u w) .1
+
+-- the rule that a reference stands for, none where it is 0
+unfoldable pub ruleOr : (items work : List ℕ) → ℕ → Option Rule
+ruleOr items work r = cond (eqb r 0) none (some (ruleAt items work r))
+
+-- r is the first of the rules that fits
+pub record FirstFit (items work : List ℕ) (rules u w r : ℕ) : Type 0 where
+  pub is : ruleOr items work r ≡ firstFit (rulesAt items work rules) (treeAt items work u w) .1
+  pub low : r ≤ rules

@@ -1,0 +1,71 @@
+// Ground 17: driving lists are of one length, anywhere in a template. An element that gets no copies is not looked into.
+
+ghost use mathlib.Core.Path.{_≡_};
+ghost use Rattle.steps.specs.Plain.{deepen};
+ghost use Rattle.steps.specs.Lengths.{LengthsAgree, CopiesAgree};
+use crate::lengths;
+use crate::parts;
+use arena::cells;
+
+// How many indices are kept, with one more.
+pub fn deepen(n: u32) -> u32
+    ensures { λ r. ⌜ r ≡ deepen n ⌝ }
+{
+    if n == 0 {
+        return 1;
+    }
+    2
+}
+
+// Whether driving lists are of one length in all of a template.
+pub fn lengths_agree(work: &[u32], p: u32, u: u32, n: u32, outer: u32, inner: u32, t: u32) -> bool
+    ensures { λ r. ⌜ LengthsAgree (now (work .entry)) p u n outer inner t r ⌝ }
+{
+    let tag = cells::word(work, t, 1);
+    if tag < parts::PAIR {
+        return true;
+    }
+    if parts::ELLIPSIS < tag {
+        return true;
+    }
+    let head = cells::reference(work, t, 3);
+    let rest = cells::reference(work, t, 2);
+    if tag == parts::PAIR {
+        if !lengths_agree(work, p, u, n, outer, inner, head) {
+            return false;
+        }
+        return lengths_agree(work, p, u, n, outer, inner, rest);
+    }
+    let c = lengths::copies(work, p, u, n, outer, inner, head);
+    if !lengths::all_of(work, p, u, n, outer, inner, 0, head, c) {
+        return false;
+    }
+    if !copies_agree(work, p, u, n, outer, inner, head, c) {
+        return false;
+    }
+    lengths_agree(work, p, u, n, outer, inner, rest)
+}
+
+// Whether they are in each of c copies of an element.
+pub fn copies_agree(
+    work: &[u32],
+    p: u32,
+    u: u32,
+    n: u32,
+    outer: u32,
+    inner: u32,
+    e: u32,
+    c: u32,
+) -> bool
+    ensures { λ r. ⌜ CopiesAgree (now (work .entry)) p u n outer inner e c r ⌝ }
+{
+    let m = deepen(n);
+    let mut k = 0;
+    while k < c {
+        if !lengths_agree(work, p, u, m, inner, k, e) {
+            return false;
+        }
+        k += 1;
+    }
+    true
+}

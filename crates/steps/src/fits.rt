@@ -1,0 +1,132 @@
+// Matching: whether a pattern fits a use, and the first rule that does (ground 16 where none does).
+// `marks` is lent for the marks of names that are looked up; nothing is promised of what is left in it.
+
+ghost use Prim.Native.Nat.{_*_, _<_};
+ghost use lib.ListN.{length};
+ghost use Rattle.arena.specs.Arena.{markLimit};
+ghost use Rattle.steps.specs.Fits.{Fits, EachFits, LiteralFits, ConstantFits, FirstFit};
+use crate::parts;
+use arena::cells;
+use arena::names;
+
+// Tags of a pattern's cells, beside those with parts.
+pub const LITERAL: u32 = 2;
+
+pub const WILDCARD: u32 = 3;
+
+pub const CONSTANT: u32 = 4;
+
+// A literal fits a name whose lookup finds what its own has found.
+pub fn literal_fits(items: &[u32], work: &[u32], marks: &mut [u32], p: u32, u: u32, w: u32) -> bool
+    requires { ⌜ 2 * markLimit < length (now marks) ⌝ }
+    ensures { λ r. ⌜ LiteralFits (now (items .entry)) (now (work .entry)) p u w r ⌝ }
+{
+    if cells::word(work, u, 3) != cells::NAME {
+        return false;
+    }
+    let number = cells::word(work, p, 3);
+    let binding = cells::word(work, p, 2);
+    names::agrees(items, work, marks, number, binding, u, w)
+}
+
+// A constant is matched by value.
+pub fn constant_fits(work: &[u32], p: u32, u: u32) -> bool
+    ensures { λ r. ⌜ ConstantFits (now (work .entry)) p u r ⌝ }
+{
+    let kind = cells::word(work, u, 3);
+    if kind == cells::EMPTY {
+        return false;
+    }
+    if kind == cells::NAME {
+        return false;
+    }
+    if kind == cells::PAIR {
+        return false;
+    }
+    if cells::word(work, p, 4) != kind {
+        return false;
+    }
+    if cells::word(work, p, 3) != cells::word(work, u, 2) {
+        return false;
+    }
+    cells::word(work, p, 2) == cells::word(work, u, 1)
+}
+
+// Whether a pattern fits a use, from the left, up to the first misfit.
+pub fn fits(items: &[u32], work: &[u32], marks: &mut [u32], p: u32, u: u32, w: u32) -> bool
+    requires { ⌜ 2 * markLimit < length (now marks) ⌝ }
+    ensures { λ r. ⌜ Fits (now (items .entry)) (now (work .entry)) p u w r ⌝ }
+{
+    let tag = cells::word(work, p, 1);
+    if tag == parts::VARIABLE {
+        return true;
+    }
+    if tag == LITERAL {
+        return literal_fits(items, work, marks, p, u, w);
+    }
+    if tag == WILDCARD {
+        return true;
+    }
+    if tag == CONSTANT {
+        return constant_fits(work, p, u);
+    }
+    if tag == parts::ELLIPSIS {
+        let element = cells::reference(work, p, 2);
+        return each_fits(items, work, marks, element, u, w);
+    }
+    let kind = cells::word(work, u, 3);
+    if tag != parts::PAIR {
+        return kind == cells::EMPTY;
+    }
+    if kind != cells::PAIR {
+        return false;
+    }
+    if !fits(
+        items,
+        work,
+        marks,
+        cells::reference(work, p, 3),
+        cells::reference(work, u, 2),
+        w,
+    ) {
+        return false;
+    }
+    fits(
+        items,
+        work,
+        marks,
+        cells::reference(work, p, 2),
+        cells::reference(work, u, 1),
+        w,
+    )
+}
+
+// Whether every element of a list fits.
+pub fn each_fits(items: &[u32], work: &[u32], marks: &mut [u32], e: u32, list: u32, w: u32) -> bool
+    requires { ⌜ 2 * markLimit < length (now marks) ⌝ }
+    ensures { λ r. ⌜ EachFits (now (items .entry)) (now (work .entry)) e list w r ⌝ }
+{
+    let mut node = list;
+    while cells::word(work, node, 3) == cells::PAIR {
+        if !fits(items, work, marks, e, cells::reference(work, node, 2), w) {
+            return false;
+        }
+        node = cells::reference(work, node, 1);
+    }
+    cells::word(work, node, 3) == cells::EMPTY
+}
+
+// The first of the rules that fits the use, 0 where none does.
+pub fn first_fit(items: &[u32], work: &[u32], marks: &mut [u32], rules: u32, u: u32, w: u32) -> u32
+    requires { ⌜ 2 * markLimit < length (now marks) ⌝ }
+    ensures { λ r. ⌜ FirstFit (now (items .entry)) (now (work .entry)) rules u w r ⌝ }
+{
+    let mut rule = rules;
+    while rule != 0 {
+        if fits(items, work, marks, cells::reference(work, rule, 3), u, w) {
+            return rule;
+        }
+        rule = cells::reference(work, rule, 1);
+    }
+    0
+}

@@ -1,0 +1,117 @@
+// Driving lists: how many copies an element gets, and whether the lists that drive it are of one length (ground 17).
+
+ghost use mathlib.Core.Path.{_≡_};
+ghost use Prim.Native.Nat.{_+_, _^_, _<_};
+ghost use Rattle.steps.specs.Lengths.{deeper, Drives, AllOf, Copies};
+use crate::lists;
+use crate::parts;
+use arena::cells;
+
+// The length of the first driving list, where there is one.
+pub enum Driving {
+    None,
+    Length(u32),
+}
+
+// The ellipses round the first part of a template's cell: one more for an element.
+pub fn deeper(tag: u32, j: u32) -> u32
+    requires { ⌜ j + 1 < 2 ^ 32 ⌝ }
+    ensures { λ r. ⌜ r ≡ deeper tag j ⌝ }
+{
+    if tag == parts::ELLIPSIS {
+        return j + 1;
+    }
+    j
+}
+
+// The first list that drives the copies of an element; t is the part of it under j ellipses.
+pub fn driver(
+    work: &[u32],
+    p: u32,
+    u: u32,
+    n: u32,
+    outer: u32,
+    inner: u32,
+    j: u32,
+    t: u32,
+) -> Driving
+    requires { ⌜ j + t < 2 ^ 32 ⌝ }
+    ensures { λ r. ⌜ Drives (now (work .entry)) p u n outer inner j t r ⌝ }
+{
+    let tag = cells::word(work, t, 1);
+    if tag == parts::VARIABLE {
+        let d = cells::word(work, t, 2);
+        if d <= j {
+            return Driving::None;
+        }
+        let k = cells::word(work, t, 3);
+        let list = parts::taken(work, p, u, n, outer, inner, k, d - j - 1);
+        return Driving::Length(lists::count(work, list));
+    }
+    if tag < parts::PAIR {
+        return Driving::None;
+    }
+    if parts::ELLIPSIS < tag {
+        return Driving::None;
+    }
+    let head = cells::reference(work, t, 3);
+    let i = deeper(tag, j);
+    match driver(work, p, u, n, outer, inner, i, head) {
+        Driving::Length(c) => {
+            return Driving::Length(c);
+        }
+        Driving::None => {}
+    }
+    let rest = cells::reference(work, t, 2);
+    driver(work, p, u, n, outer, inner, j, rest)
+}
+
+// How many copies an element gets: as many as its first driving list has elements.
+pub fn copies(work: &[u32], p: u32, u: u32, n: u32, outer: u32, inner: u32, e: u32) -> u32
+    ensures { λ r. ⌜ Copies (now (work .entry)) p u n outer inner e r ⌝ }
+{
+    match driver(work, p, u, n, outer, inner, 0, e) {
+        Driving::Length(c) => c,
+        Driving::None => 0,
+    }
+}
+
+// Whether all the lists that drive an element have c elements; t is the part of it under j ellipses.
+pub fn all_of(
+    work: &[u32],
+    p: u32,
+    u: u32,
+    n: u32,
+    outer: u32,
+    inner: u32,
+    j: u32,
+    t: u32,
+    c: u32,
+) -> bool
+    requires { ⌜ j + t < 2 ^ 32 ⌝ }
+    ensures { λ r. ⌜ AllOf (now (work .entry)) p u n outer inner j t c r ⌝ }
+{
+    let tag = cells::word(work, t, 1);
+    if tag == parts::VARIABLE {
+        let d = cells::word(work, t, 2);
+        if d <= j {
+            return true;
+        }
+        let k = cells::word(work, t, 3);
+        let list = parts::taken(work, p, u, n, outer, inner, k, d - j - 1);
+        return c == lists::count(work, list);
+    }
+    if tag < parts::PAIR {
+        return true;
+    }
+    if parts::ELLIPSIS < tag {
+        return true;
+    }
+    let head = cells::reference(work, t, 3);
+    let i = deeper(tag, j);
+    if !all_of(work, p, u, n, outer, inner, i, head, c) {
+        return false;
+    }
+    let rest = cells::reference(work, t, 2);
+    all_of(work, p, u, n, outer, inner, j, rest, c)
+}
