@@ -7,3 +7,7 @@ pub mod Trees
 pub mod TreeLaws
 pub mod Variables
 pub mod VariableLaws
+pub mod GatherLaws
+pub mod Parse
+pub mod ParseLaws
+pub mod PatternLaws

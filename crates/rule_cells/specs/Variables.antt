@@ -1,17 +1,22 @@
 -- The variables of a pattern in a small table: two words each, the node of its name and its depth; all lie under one wrap.
 use mathlib.Core.Path.{_≡_}
-use mathlib.Core.Bool.{true, false}
+use mathlib.Core.Bool.{true, false, cond}
 use mathlib.Core.List.{List, [], _∷_, _++_}
 use mathlib.Core.Option.{Option, none, some}
 use Prim.Native.Nat.{ℕ, zero, suc, _+_, _*_, _≤_, _<_}
 use lib.ListN.{getD}
 use Rattle.recipe.specs.Name.{Name, isEllipsis}
-use Rattle.expansion.specs.Rules.{areVariables, depthBefore}
+use Rattle.recipe.specs.Tree.{Tree, onName}
+use Rattle.expansion.specs.Rules.{areVariables, depthBefore, isVariable}
 use Rattle.arena.specs.Arena.{nameAt, treeAt}
 use Rattle.rule_cells.specs.declared.variables.Known.{Known}
 use Rattle.rule_cells.specs.declared.variables.Known.the-variants.{At, Not}
 use Rattle.rule_cells.specs.declared.variables.Kept.{Kept}
 use Rattle.rule_cells.specs.declared.variables.Kept.the-variants.{Count, Bad}
+
+-- a leaf is a variable or none
+unfoldable pub leafCount : List Name → Tree → ℕ
+leafCount literals = onName (λ x. cond (isVariable isEllipsis literals x) 1 0) 0
 
 -- variable i of the table, with the number of ellipses it lies under
 unfoldable pub variableAt : (items work : List ℕ) (w : ℕ) (vars : List ℕ) → ℕ → Name × ℕ

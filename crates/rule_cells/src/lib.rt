@@ -1,5 +1,6 @@
 // Rules as cells of the arena: read once, when their form is reached. What the cells mean stands in specs/.
 
 pub mod cells;
+pub mod patterns;
 pub mod trees;
 pub mod variables;

@@ -8,8 +8,10 @@ ghost use Rattle.rule_cells.specs.Trees.{Part, Counted, Tells, TellsOf, 
 use arena::cells;
 use arena::names;
 
-// The number of `...`.
+// The numbers of `...` and `_`.
 pub const DOTS: u32 = 6;
+
+pub const WILDCARD: u32 = 7;
 
 // A list's first element.
 pub fn head(work: &[u32], node: u32) -> u32

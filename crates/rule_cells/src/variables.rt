@@ -6,11 +6,11 @@ ghost use mathlib.Core.List.{[], _∷_};
 ghost use Prim.Native.Nat.{_+_, _*_, _^_, _≤_, _<_};
 ghost use lib.ListN.{length};
 ghost use Rattle.words.specs.Lists.{any};
-ghost use Rattle.recipe.specs.Name.{same};
-ghost use Rattle.recipe.specs.Tree.{names};
-ghost use Rattle.expansion.specs.Rules.{variableFrom};
+ghost use Rattle.recipe.specs.Name.{same, isEllipsis};
+ghost use Rattle.recipe.specs.Tree.{name, names};
+ghost use Rattle.expansion.specs.Rules.{variableFrom, variables};
 ghost use Rattle.arena.specs.Arena.{markLimit, nameAt, treeAt};
-ghost use Rattle.rule_cells.specs.Variables.{variablesFrom, knownOf, Deeper, Held, Gathered};
+ghost use Rattle.rule_cells.specs.Variables.{leafCount, variablesFrom, knownOf, Deeper, Held, Gathered};
 use crate::trees;
 use arena::cells;
 use arena::names;
@@ -54,6 +54,34 @@ pub fn is_literal(
     }
     let rest = cells::reference(work, list, 1);
     is_literal(items, work, table, rest, node, w)
+}
+
+// How many variables a leaf of a pattern is, none or one.
+pub fn leaf_count(
+    items: &[u32],
+    work: &[u32],
+    table: &mut [u32],
+    literals: u32,
+    node: u32,
+    w: u32,
+) -> u32
+    requires { ⌜ 3 * markLimit < length (now table) ⌝ }
+    ensures { λ r. ⌜ r ≡ leafCount (names (treeAt (now (items .entry)) (now (work .entry)) literals w)) (treeAt (now (items .entry)) (now (work .entry)) node w) ⌝ }
+{
+    if cells::word(work, node, 3) != cells::NAME {
+        return 0;
+    }
+    let number = names::number_of(items, work, node);
+    if number == trees::DOTS {
+        return 0;
+    }
+    if number == trees::WILDCARD {
+        return 0;
+    }
+    if is_literal(items, work, table, literals, node, w) {
+        return 0;
+    }
+    1
 }
 
 // Which of `left` variables from number i on a name is the same as.
@@ -128,4 +156,63 @@ pub fn add(
     vars[at] = node;
     vars[at + 1] = d;
     Kept::Count(n + 1)
+}
+
+// The variable of a pattern's name, where it is one.
+pub fn gather_name(
+    items: &[u32],
+    work: &[u32],
+    table: &mut [u32],
+    vars: &mut [u32],
+    literals: u32,
+    node: u32,
+    w: u32,
+    d: u32,
+    n: u32,
+) -> Kept
+    requires { ⌜ (3 * markLimit < length (now table)) × (32 ≤ length (now vars)) × (Held (now items) (now work) w (now vars) n) ⌝ }
+    ensures { λ r. ⌜ Gathered (variables isEllipsis (names (treeAt (now (items .entry)) (now (work .entry)) literals w)) d (name (nameAt (now (items .entry)) (now (work .entry)) node w))) (now (items .entry)) (now (work .entry)) w node n (now (vars .entry)) (now (vars .exit)) r ⌝ }
+{
+    let number = names::number_of(items, work, node);
+    if number == trees::DOTS {
+        return Kept::Count(n);
+    }
+    if number == trees::WILDCARD {
+        return Kept::Count(n);
+    }
+    if is_literal(items, work, table, literals, node, w) {
+        return Kept::Count(n);
+    }
+    add(items, work, table, vars, node, w, d, n)
+}
+
+// The variables of a pattern from the left, each with the number of ellipses it lies under, behind the n of the table.
+pub fn gather(
+    items: &[u32],
+    work: &[u32],
+    table: &mut [u32],
+    vars: &mut [u32],
+    literals: u32,
+    node: u32,
+    w: u32,
+    d: u32,
+    n: u32,
+) -> Kept
+    requires { ⌜ (3 * markLimit < length (now table)) × (32 ≤ length (now vars)) × (Held (now items) (now work) w (now vars) n) × (d + node < 2 ^ 32) ⌝ }
+    ensures { λ r. ⌜ Gathered (variables isEllipsis (names (treeAt (now (items .entry)) (now (work .entry)) literals w)) d (treeAt (now (items .entry)) (now (work .entry)) node w)) (now (items .entry)) (now (work .entry)) w node n (now (vars .entry)) (now (vars .exit)) r ⌝ }
+{
+    let kind = cells::word(work, node, 3);
+    if kind == cells::NAME {
+        return gather_name(items, work, table, vars, literals, node, w, d, n);
+    }
+    if kind != cells::PAIR {
+        return Kept::Count(n);
+    }
+    let head = cells::reference(work, node, 2);
+    let rest = cells::reference(work, node, 1);
+    let inner = depth_before(items, work, rest, d);
+    let Kept::Count(m) = gather(items, work, table, vars, literals, head, w, inner, n) else {
+        return Kept::Bad;
+    };
+    gather(items, work, table, vars, literals, rest, w, d, m)
 }
