@@ -4,4 +4,7 @@ pub mod EndLaws
 pub mod Memory
 pub mod MemoryLaws
 pub mod Turns
+pub mod Leaves
+pub mod LeafLaws
+pub mod SpreadLaws
 pub mod Service
