@@ -16,11 +16,11 @@ use Rattle.expansion.specs.Forms.{isMacro}
 use Rattle.arena.specs.Arena.{wordAt, referenceAt, nameAt, treeAt}
 use Rattle.arena.specs.ArenaLaws.{cases, wordAt-some, referenceAt-falls}
 use Rattle.arena.specs.NodeLaws.{treeAt-name}
-use Rattle.forms.specs.Lists.{Part}
+use Rattle.forms.specs.Lists.{Means}
 use Rattle.forms.specs.ListLaws.{no-pair, a-pair}
 use Rattle.forms.specs.Shapes.{ownName, bindsOne}
 use Rattle.forms.specs.ShapeLaws.{ordinary-other}
-use Rattle.forms.specs.Binders.{AllNames, ownNames, namesIn}
+use Rattle.forms.specs.Binders.{AllNames, ownNames, namesIn, Opened}
 
 -- ---- names
 
@@ -31,7 +31,7 @@ ordinary-name items work node w h =
     (λ t. never h (sym (ordinary-other items work node (wordAt work node 3) refl (eqb-false (wordAt work node 3) 3 t) w)))
 
 -- an element that binds as it should has an ordinary name
-binds-ordinary : (macros : Bool) (c : Tree) → bindsOne macros c ≡ true → isOrdinaryName (ownName macros c) ≡ true
+pub binds-ordinary : (macros : Bool) (c : Tree) → bindsOne macros c ≡ true → isOrdinaryName (ownName macros c) ≡ true
 unfolding bindsOne ownName isMacro
 binds-ordinary false c h = h
 binds-ordinary true c h = and-right (isListOf 2 c) (isOrdinaryName (element 0 c)) h
@@ -46,28 +46,37 @@ module _ (items work : List ℕ) (list kind : ℕ) (kind-is : kind ≡ wordAt wo
   names-none other = no-pair work list kind kind-is (λ t. namesIn macros t ≡ []) refl (λ x. refl) (λ a. refl) other items w
 
   module _ (a-list : kind ≡ 4) where
-    pub part-falls : (k rest : ℕ) → rest ≡ referenceAt work list k → rest < list
+    part-falls : (k rest : ℕ) → rest ≡ referenceAt work list k → rest < list
     part-falls k rest e =
         let some : 0 < list = wordAt-some work list 3 (omega arith) (λ z. omega (arith, kind-is ∙ z)) in
         rw e (referenceAt-falls work list k some)
 
-    pub rest-names : AllNames macros (at list) → (rest : ℕ) → rest ≡ referenceAt work list 1 → AllNames macros (at rest)
+    rest-names : AllNames macros (at list) → (rest : ℕ) → rest ≡ referenceAt work list 1 → AllNames macros (at rest)
     unfolding elements
     rest-names h rest e =
         let g : AllNames macros (pair (at (referenceAt work list 2)) (at (referenceAt work list 1))) = rw (a-pair work list kind kind-is a-list items w) at h in
         rw e (all-parts (bindsOne macros) (at (referenceAt work list 2)) (elements (at (referenceAt work list 1))) g .1)
 
-    first-name : AllNames macros (at list) → (first own : ℕ) → first ≡ referenceAt work list 2 → Part (ownName macros) work first own → ownName macros (at first) ≡ name (nameAt items work own w)
+    first-name : AllNames macros (at list) → (first own : ℕ) → first ≡ referenceAt work list 2 → Means work first own (ownName macros) → ownName macros (at first) ≡ name (nameAt items work own w)
     unfolding elements
     first-name h first own e p =
         let g : AllNames macros (pair (at (referenceAt work list 2)) (at (referenceAt work list 1))) = rw (a-pair work list kind kind-is a-list items w) at h in
         let b : bindsOne macros (at first) ≡ true = rw e (all-parts (bindsOne macros) (at (referenceAt work list 2)) (elements (at (referenceAt work list 1))) g .0) in
-        sym (p .means items w) ∙ ordinary-name items work own w (rw (p .means items w) (binds-ordinary macros (at first) b))
+        sym (p .is items w) ∙ ordinary-name items work own w (rw (p .is items w) (binds-ordinary macros (at first) b))
 
-    pub names-more : AllNames macros (at list) → (first own rest : ℕ) → first ≡ referenceAt work list 2 → Part (ownName macros) work first own → rest ≡ referenceAt work list 1 → namesIn macros (at list) ≡ nameAt items work own w ∷ namesIn macros (at rest)
+    names-more : AllNames macros (at list) → (first own rest : ℕ) → first ≡ referenceAt work list 2 → Means work first own (ownName macros) → rest ≡ referenceAt work list 1 → namesIn macros (at list) ≡ nameAt items work own w ∷ namesIn macros (at rest)
     unfolding namesIn elements ownNames names
     names-more h first own rest e p q =
         rw (a-pair work list kind kind-is a-list items w, sym e, sym q, first-name h first own e p)
+
+    pub opened : AllNames macros (at list) → (first own rest : ℕ) → first ≡ referenceAt work list 2 → Means work first own (ownName macros) → rest ≡ referenceAt work list 1 → Opened items work list w macros own rest
+    opened h first own rest e p q =
+        record {
+          own-low = omega (arith, p .low, part-falls 2 first e);
+          rest-low = part-falls 1 rest q;
+          names-are = names-more h first own rest e p q;
+          ordinary = rest-names h rest q;
+        }
 
 -- ---- sameness
 

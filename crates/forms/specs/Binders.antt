@@ -8,7 +8,7 @@ use Rattle.words.specs.Lists.{all}
 use Rattle.recipe.specs.Name.{Binding, variable, macro, Name, bindName}
 use Rattle.recipe.specs.Tree.{Tree, names, elements}
 use Rattle.recipe.specs.Tidy.{Tidy}
-use Rattle.arena.specs.Arena.{markLimit, wrapAt}
+use Rattle.arena.specs.Arena.{markLimit, wrapAt, nameAt, treeAt}
 use Rattle.forms.specs.Shapes.{ownName, bindsOne}
 
 -- every element binds as it should; shapes tells before
@@ -37,13 +37,19 @@ unfoldable pub bindNames : (ℕ → Binding) → ℕ → List Name → Name → 
 bindNames f k [] x = x
 bindNames f k (y ∷ ys) x = bindNames f (suc k) ys (bindName y (f k) x)
 
--- room for binders: nine words a name, and numbers that fit a word
-pub record Space (macros : Bool) (t : Tree) (work table : List ℕ) (list w number parent top : ℕ) : Type 0 where
-  pub ordinary : AllNames macros t
-  pub fits : top + 9 * length (namesIn macros t) ≤ length work
-  pub small : top + 9 * length (namesIn macros t) < 2 ^ 32
-  pub numbers : number + length (namesIn macros t) ≤ 2 ^ 30
-  pub list-below : list ≤ top
+-- what opening a list that binds tells: the name of its first element, and the rest
+pub record Opened (items work : List ℕ) (list w : ℕ) (macros : Bool) (own rest : ℕ) : Type 0 where
+  pub own-low : own < list
+  pub rest-low : rest < list
+  pub names-are : namesIn macros (treeAt items work list w) ≡ nameAt items work own w ∷ namesIn macros (treeAt items work rest w)
+  pub ordinary : AllNames macros (treeAt items work rest w)
+
+-- room for binders of names xs: nine words a name, and numbers that fit a word; node, wraps and marks in hand as they should be
+pub record Space (xs : List Name) (work table : List ℕ) (node w number parent top : ℕ) : Type 0 where
+  pub fits : top + 9 * length xs ≤ length work
+  pub small : top + 9 * length xs < 2 ^ 32
+  pub numbers : number + length xs ≤ 2 ^ 30
+  pub node-below : node ≤ top
   pub w-below : w ≤ top
   pub parent-below : parent ≤ top
   pub marks : 2 * markLimit < length table

@@ -5,4 +5,6 @@ pub mod Shapes
 pub mod Binders
 pub mod BinderLaws
 pub mod ScopeLaws
+pub mod Quotes
+pub mod QuoteLaws
 pub mod ShapeLaws

@@ -11,9 +11,9 @@ use Rattle.datum.specs.Constant.{Constant}
 use Rattle.recipe.specs.Name.{Name}
 use Rattle.recipe.specs.Tree.{Tree, empty, constant, name, pair, onEmpty, onPair, isList, isListOf, elements, element}
 use Rattle.arena.specs.Arena.{wordAt, referenceAt, treeAt}
-use Rattle.arena.specs.ArenaLaws.{cases, wordAt-out, referenceAt-most}
+use Rattle.arena.specs.ArenaLaws.{cases, wordAt-out, wordAt-some, referenceAt-most, referenceAt-falls}
 use Rattle.arena.specs.NodeLaws.{treeAt-empty, treeAt-name, treeAt-pair, treeAt-constant}
-use Rattle.forms.specs.Lists.{Part, Tests, elementAt, countIs}
+use Rattle.forms.specs.Lists.{Means, Tests, countIs, Counts, Counting}
 
 -- ---- kinds of nodes
 
@@ -44,30 +44,30 @@ eqb-swap a b =
 module _ (work : List ℕ) (node kind : ℕ) (kind-is : kind ≡ wordAt work node 3) where
   -- ---- elements
 
-  pub element-none : (k : ℕ) → (kind ≡ 4 → ⊥) → Part (elementAt k) work node 0
+  pub element-none : (k : ℕ) → (kind ≡ 4 → ⊥) → Means work node 0 (element k)
   unfolding element elements
   element-none k other =
       record {
-        below = omega arith;
-        means = λ items w. treeAt-nothing items work w ∙ no-pair work node kind kind-is (λ t. empty ≡ element k t) refl (λ x. refl) (λ a. refl) other items w;
+        low = omega arith;
+        is = λ items w. treeAt-nothing items work w ∙ no-pair work node kind kind-is (λ t. empty ≡ element k t) refl (λ x. refl) (λ a. refl) other items w;
       }
 
-  pub element-first : (k r : ℕ) → kind ≡ 4 → k ≡ 0 → r ≡ referenceAt work node 2 → Part (elementAt k) work node r
+  pub element-first : (k r : ℕ) → kind ≡ 4 → k ≡ 0 → r ≡ referenceAt work node 2 → Means work node r (element k)
   unfolding element elements
   element-first k r p z q =
       record {
-        below = omega (arith, referenceAt-most work node 2);
-        means = λ items w. rw (q, z, a-pair work node kind kind-is p items w);
+        low = omega (arith, referenceAt-most work node 2);
+        is = λ items w. rw (q, z, a-pair work node kind kind-is p items w);
       }
 
-  pub element-later : (k rest r : ℕ) → kind ≡ 4 → (k ≡ 0 → ⊥) → rest ≡ referenceAt work node 1 → Part (elementAt (k - 1)) work rest r → Part (elementAt k) work node r
+  pub element-later : (k rest r : ℕ) → kind ≡ 4 → (k ≡ 0 → ⊥) → rest ≡ referenceAt work node 1 → Means work rest r (element (k - 1)) → Means work node r (element k)
   unfolding element elements
   element-later zero rest r p z q part = absurd (z refl)
   element-later (suc k) rest r p z q part =
       let e : suc k - 1 ≡ k = omega arith in
       record {
-        below = omega (arith, part .below, referenceAt-most work node 1);
-        means = λ items w. part .means items w ∙ rw (e, a-pair work node kind kind-is p items w, q);
+        low = omega (arith, part .low, referenceAt-most work node 1);
+        is = λ items w. part .is items w ∙ rw (e, a-pair work node kind kind-is p items w, q);
       }
 
   -- ---- counts
@@ -114,3 +114,35 @@ list-of work node n r s h e g items w = g items w ∙ rw (sym (h items w) ∙ e)
 pub list-not : (work : List ℕ) (node n : ℕ) (r : Bool) → Tests isList work node r → r ≡ false → Tests (isListOf n) work node false
 unfolding isListOf
 list-not work node n r h e items w = rw (sym (h items w) ∙ e)
+
+-- ---- counting
+
+pub counting-none : (work : List ℕ) (list : ℕ) → Counting work list list 0
+counting-none work list = record { low = omega arith; is = λ items w. omega arith }
+
+module _ (work : List ℕ) (list rest n kind : ℕ) (counted : Counting work list rest n) (kind-is : kind ≡ wordAt work rest 3) where
+  pub counting-end : (kind ≡ 4 → ⊥) → Counts work list n
+  unfolding elements
+  counting-end other =
+      record {
+        low = omega (arith, counted .low);
+        is = λ items w.
+            let z : length (elements (treeAt items work rest w)) ≡ 0 = no-pair work rest kind kind-is (λ t. length (elements t) ≡ 0) refl (λ x. refl) (λ a. refl) other items w in
+            omega (arith, counted .is items w);
+      }
+
+  module _ (a-list : kind ≡ 4) (next : ℕ) (next-is : next ≡ referenceAt work rest 1) where
+    pub next-falls : next < rest
+    next-falls =
+        let some : 0 < rest = wordAt-some work rest 3 (omega arith) (λ z. omega (arith, kind-is ∙ z)) in
+        rw next-is (referenceAt-falls work rest 1 some)
+
+    pub counting-more : Counting work list next (n + 1)
+    unfolding elements
+    counting-more =
+        record {
+          low = omega (arith, counted .low, next-falls);
+          is = λ items w.
+              let e : length (elements (treeAt items work rest w)) ≡ suc (length (elements (treeAt items work next w))) = rw (a-pair work rest kind kind-is a-list items w, next-is) in
+              omega (arith, counted .is items w);
+        }

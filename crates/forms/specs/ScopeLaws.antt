@@ -8,25 +8,25 @@ use Prim.Native.Nat.{ℕ, zero, suc, _+_, _*_, _-_, _^_, _≤_, _<_}
 use native.Mathlib.Omega.{arith}
 use native.Mathlib.Numerals.{add-one}
 use lib.Dec.{leb}
-use lib.ListN.{length, take}
+use lib.ListN.{length, take, length-append}
+use borrow.Author.Tests.{leb-true}
 use Rattle.words.specs.Limits.{formalsMost}
 use Rattle.words.specs.Lists.{within, all}
 use Rattle.words.specs.ListLaws.{never}
-use Rattle.words.specs.TestLaws.{and-left, and-right}
+use Rattle.words.specs.TestLaws.{and-left, and-right, all-parts, within-most}
 use Rattle.datum.specs.Constant.{Constant}
 use Rattle.recipe.specs.Name.{Binding, variable, macro, Name, bindingKey, bindName}
 use Rattle.recipe.specs.Tree.{Tree, empty, constant, name, pair, names, isOrdinaryName, isList, isListOf, onEmpty, onPair, elements, element, onNames, bind, bindAll}
 use Rattle.recipe.specs.TreeLaws.{onNames-∘}
-use Rattle.recipe.specs.Tidy.{Tidy, tidyEmpty, tidyConstant, tidyName, tidyPair, tidy-element}
+use Rattle.recipe.specs.Tidy.{Tidy, tidyEmpty, tidyConstant, tidyName, tidyPair, tidy-element, ordinary-names}
 use Rattle.expansion.specs.Forms.{isLambda, formals, isMacro, isMacros, firstNames, keywords}
 use Rattle.arena.specs.Arena.{wordAt, referenceAt, wrapAt, nameAt, treeAt}
 use Rattle.arena.specs.ArenaLaws.{take-less}
 use Rattle.arena.specs.Cells.{Room, Binds}
 use Rattle.arena.specs.CellLaws.{tree-kept, tree-after}
-use Rattle.forms.specs.Lists.{Part}
 use Rattle.forms.specs.Shapes.{ownName, bindsOne}
-use Rattle.forms.specs.Binders.{AllNames, ownNames, namesIn, Proper, bindsTo, bindNames, Space, Scoped}
-use Rattle.forms.specs.BinderLaws.{part-falls, rest-names, names-more}
+use Rattle.forms.specs.Binders.{AllNames, ownNames, namesIn, Proper, bindsTo, bindNames, Opened, Space, Scoped}
+use Rattle.forms.specs.BinderLaws.{binds-ordinary}
 
 -- ---- keys
 
@@ -46,20 +46,13 @@ scoped-none f k xs parent old top e h = record { end-is = rw e (omega arith); wr
 
 -- ---- one name more
 
-module _ (items old : List ℕ) (list kind : ℕ) (kind-is : kind ≡ wordAt old list 3) (w : ℕ) (macros : Bool) (a-list : kind ≡ 4)
-    (table : List ℕ) (number parent top : ℕ) (space : Space macros (treeAt items old list w) old table list w number parent top)
-    (first own rest : ℕ) (first-is : first ≡ referenceAt old list 2) (own-is : Part (ownName macros) old first own) (rest-is : rest ≡ referenceAt old list 1) where
-  xs-is : namesIn macros (treeAt items old list w) ≡ nameAt items old own w ∷ namesIn macros (treeAt items old rest w)
-  xs-is = names-more items old list kind kind-is w macros a-list (space .ordinary) first own rest first-is own-is rest-is
-
+module _ (items old : List ℕ) (list w : ℕ) (macros : Bool) (table : List ℕ) (number parent top own rest : ℕ)
+    (space : Space (namesIn macros (treeAt items old list w)) old table list w number parent top) (open′ : Opened items old list w macros own rest) where
   count-is : length (namesIn macros (treeAt items old list w)) ≡ suc (length (namesIn macros (treeAt items old rest w)))
-  count-is = ap length xs-is
-
-  pub rest-falls : rest < list
-  rest-falls = part-falls items old list kind kind-is w macros a-list 1 rest rest-is
+  count-is = ap length (open′ .names-are)
 
   pub own-below : own ≤ top
-  own-below = omega (arith, own-is .below, space .list-below, part-falls items old list kind kind-is w macros a-list 2 first first-is)
+  own-below = omega (arith, space .node-below, open′ .own-low)
 
   pub room-one : Room old top 9
   room-one = record { fits = omega (arith, space .fits, count-is); small = omega (arith, space .small, count-is) }
@@ -69,22 +62,24 @@ module _ (items old : List ℕ) (list kind : ℕ) (kind-is : kind ≡ wordAt old
 
   module _ (key next : ℕ) (mid : List ℕ) (key-is : key ≡ bindingKey (some (bindsTo macros number))) (bound : Binds items own w key parent old mid top next) where
     rest-kept : treeAt items mid rest w ≡ treeAt items old rest w
-    rest-kept = tree-kept items old mid top rest w (omega (arith, space .list-below, rest-falls)) (space .w-below) (bound .kept)
+    rest-kept = tree-kept items old mid top rest w (omega (arith, space .node-below, open′ .rest-low)) (space .w-below) (bound .kept)
 
     more-is : namesIn macros (treeAt items old list w) ≡ nameAt items old own w ∷ namesIn macros (treeAt items mid rest w)
-    more-is = rw rest-kept xs-is
+    more-is = rw rest-kept (open′ .names-are)
 
     more-count : length (namesIn macros (treeAt items old list w)) ≡ suc (length (namesIn macros (treeAt items mid rest w)))
     more-count = ap length more-is
 
-    pub space-next : (table′ : List ℕ) → length mid ≡ length old → length table′ ≡ length table → Space macros (treeAt items mid rest w) mid table′ rest w (number + 1) next next
+    pub ordinary-next : AllNames macros (treeAt items mid rest w)
+    ordinary-next = rw rest-kept (open′ .ordinary)
+
+    pub space-next : (table′ : List ℕ) → length mid ≡ length old → length table′ ≡ length table → Space (namesIn macros (treeAt items mid rest w)) mid table′ rest w (number + 1) next next
     space-next table′ l m =
         record {
-          ordinary = rw rest-kept (rest-names items old list kind kind-is w macros a-list (space .ordinary) rest rest-is);
           fits = omega (arith, space .fits, more-count, bound .end);
           small = omega (arith, space .small, more-count, bound .end);
           numbers = omega (arith, space .numbers, more-count);
-          list-below = omega (arith, space .list-below, rest-falls, bound .end);
+          node-below = omega (arith, space .node-below, open′ .rest-low, bound .end);
           w-below = omega (arith, space .w-below, bound .end);
           parent-below = omega arith;
           marks = omega (arith, space .marks);
@@ -170,3 +165,58 @@ first-names (c ∷ cs) = ap (λ (xs : List Name). names (element 0 c) ++ xs) (fi
 pub keywords-are : (t : Tree) → namesIn true (element 1 t) ≡ keywords t
 unfolding namesIn keywords
 keywords-are t = first-names (elements (element 1 t))
+
+-- ---- how many they are
+
+own-count : (macros : Bool) (cs : List Tree) → all (bindsOne macros) cs ≡ true → length (ownNames macros cs) ≡ length cs
+unfolding ownNames
+own-count macros [] h = refl
+own-count macros (c ∷ cs) h =
+    let g = all-parts (bindsOne macros) c cs h in
+    length-append (names (ownName macros c)) (ownNames macros cs) ∙ omega (arith, ordinary-names (ownName macros c) (binds-ordinary macros c (g .0)), own-count macros cs (g .1))
+
+pub names-count : (macros : Bool) (t : Tree) → AllNames macros t → length (namesIn macros t) ≡ length (elements t)
+unfolding namesIn
+names-count macros t h = own-count macros (elements t) h
+
+module _ (t : Tree) where
+  pub formals-count : isLambda t ≡ true → Proper t → length (formals t) ≡ length (elements (element 1 t))
+  formals-count shape p = sym (ap length (formals-are t shape p)) ∙ names-count false (element 1 t) (lambda-names t shape)
+
+  pub formals-most : isLambda t ≡ true → Proper t → length (formals t) ≤ 8
+  formals-most shape p =
+      omega (arith, formals-count shape p, leb-true (length (elements (element 1 t))) 8 (and-right (all isOrdinaryName (elements (element 1 t))) _ (and-right (isList (element 1 t)) _ (within-shape t shape))))
+
+  pub keywords-count : AllNames true (element 1 t) → length (keywords t) ≡ length (elements (element 1 t))
+  keywords-count h = sym (ap length (keywords-are t)) ∙ names-count true (element 1 t) h
+
+  pub keywords-most : (limit : ℕ) → isMacros limit t ≡ true → length (keywords t) ≤ limit
+  unfolding isMacros
+  keywords-most limit shape =
+      omega (arith, keywords-count (macros-names t limit shape), within-most 1 limit (length (elements (element 1 t))) (and-right (all isMacro (elements (element 1 t))) _ (and-right (isList (element 1 t)) _ (and-right (isListOf 3 t) _ shape))))
+
+-- ---- a form's binders
+
+-- room for a form's names is room for those of its list
+pub space-list : (xs ys : List Name) (work table : List ℕ) (node w number parent top list : ℕ) → xs ≡ ys → list ≤ node → Space ys work table node w number parent top → Space xs work table list w number parent top
+space-list xs ys work table node w number parent top list e l s =
+    record {
+      fits = rw e (s .fits);
+      small = rw e (s .small);
+      numbers = rw e (s .numbers);
+      node-below = omega (arith, s .node-below);
+      w-below = s .w-below;
+      parent-below = s .parent-below;
+      marks = s .marks;
+    }
+
+pub scoped-names : (f g : ℕ → Binding) (k : ℕ) (xs ys : List Name) (parent : ℕ) (old new : List ℕ) (top wrap end : ℕ) → f ≡ g → xs ≡ ys → Scoped f k xs parent old new top wrap end → Scoped g k ys parent old new top wrap end
+scoped-names f g k xs ys parent old new top wrap end d e s = subst (λ (h : ℕ → Binding). Scoped h k ys parent old new top wrap end) d (subst (λ (zs : List Name). Scoped f k zs parent old new top wrap end) e s)
+
+pub to-variables : bindsTo false ≡ variable
+unfolding bindsTo
+to-variables = refl
+
+pub to-macros : bindsTo true ≡ macro
+unfolding bindsTo
+to-macros = refl

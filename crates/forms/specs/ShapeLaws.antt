@@ -16,7 +16,7 @@ use Rattle.arena.specs.ArenaLaws.{cases}
 use Rattle.arena.specs.NodeLaws.{treeAt-empty, treeAt-name, treeAt-pair, treeAt-constant}
 use Rattle.arena.specs.Names.{numberOf}
 use Rattle.arena.specs.NameLaws.{nameAt-number}
-use Rattle.forms.specs.Lists.{Part, Tests, elementAt}
+use Rattle.forms.specs.Lists.{Means, Tests}
 use Rattle.forms.specs.ListLaws.{no-pair, a-pair}
 use Rattle.forms.specs.Shapes.{TestsIn, ownName, bindsOne, bindsAll}
 
@@ -47,22 +47,22 @@ module _ (items work : List ℕ) (node kind : ℕ) (kind-is : kind ≡ wordAt wo
 
 -- ---- what an element binds
 
-pub own-macro : (work : List ℕ) (node r : ℕ) (macros : Bool) → macros ≡ true → Part (elementAt 0) work node r → Part (ownName macros) work node r
+pub own-macro : (work : List ℕ) (node r : ℕ) (macros : Bool) → macros ≡ true → Means work node r (element 0) → Means work node r (ownName macros)
 unfolding ownName
-own-macro work node r macros e p = rw e (record { below = p .below; means = p .means })
+own-macro work node r macros e p = rw e (record { low = p .low; is = p .is })
 
-pub own-formal : (work : List ℕ) (node : ℕ) (macros : Bool) → macros ≡ false → Part (ownName macros) work node node
+pub own-formal : (work : List ℕ) (node : ℕ) (macros : Bool) → macros ≡ false → Means work node node (ownName macros)
 unfolding ownName
-own-formal work node macros e = rw e (record { below = omega arith; means = λ items w. refl })
+own-formal work node macros e = rw e (record { low = omega arith; is = λ items w. refl })
 
 module _ (items work : List ℕ) (node : ℕ) (listed : Bool) (list-of : Tests (isListOf 2) work node listed) where
   pub macro-shape : listed ≡ false → TestsIn isMacro items work node false
   unfolding isMacro
   macro-shape e w = rw (sym (list-of items w) ∙ e)
 
-  pub macro-name : listed ≡ true → (own : ℕ) (r : Bool) → Part (elementAt 0) work node own → TestsIn isOrdinaryName items work own r → TestsIn isMacro items work node r
+  pub macro-name : listed ≡ true → (own : ℕ) (r : Bool) → Means work node own (element 0) → TestsIn isOrdinaryName items work own r → TestsIn isMacro items work node r
   unfolding isMacro
-  macro-name e own r p h w = h w ∙ rw (sym (list-of items w) ∙ e, p .means items w)
+  macro-name e own r p h w = h w ∙ rw (sym (list-of items w) ∙ e, p .is items w)
 
 pub one-macro : (items work : List ℕ) (node : ℕ) (macros r : Bool) → macros ≡ true → TestsIn isMacro items work node r → TestsIn (bindsOne macros) items work node r
 unfolding bindsOne
@@ -109,20 +109,20 @@ module _ (items work : List ℕ) (node : ℕ) (listed : Bool) (list-of : Tests (
   unfolding isMacros
   macros-shape limit e w = rw (sym (list-of items w) ∙ e)
 
-  module _ (list : ℕ) (part : Part (elementAt 1) work node list) where
+  module _ (list : ℕ) (part : Means work node list (element 1)) where
     pub lambda-list : (r : Bool) → Tests isList work list r → r ≡ false → TestsIn isLambda items work node false
     unfolding isLambda
-    lambda-list r h e w = rw (sym (part .means items w), sym (h items w) ∙ e) (sym (and-false (isListOf 3 (treeAt items work node w))))
+    lambda-list r h e w = rw (sym (part .is items w), sym (h items w) ∙ e) (sym (and-false (isListOf 3 (treeAt items work node w))))
 
     pub lambda-all : listed ≡ true → (r s : Bool) → Tests isList work list r → r ≡ true → TestsIn (bindsAll false 8) items work list s → TestsIn isLambda items work node s
     unfolding isLambda bindsAll bindsOne
-    lambda-all e r s h d g w = g w ∙ rw (sym (list-of items w) ∙ e, sym (part .means items w), sym (h items w) ∙ d)
+    lambda-all e r s h d g w = g w ∙ rw (sym (list-of items w) ∙ e, sym (part .is items w), sym (h items w) ∙ d)
 
     module _ (kind : ℕ) (kind-is : kind ≡ wordAt work list 3) (limit : ℕ) where
       pub macros-none : (kind ≡ 4 → ⊥) → TestsIn (isMacros limit) items work node false
       unfolding isMacros isList onEmpty onPair elements all within
       macros-none other w =
-          rw (sym (part .means items w))
+          rw (sym (part .is items w))
           (no-pair work list kind kind-is (λ t. false ≡ (isListOf 3 (treeAt items work node w) && (isList t && (all isMacro (elements t) && within 1 limit (length (elements t))))))
           none (λ x. none) (λ a. none) other items w)
         where
@@ -133,4 +133,4 @@ module _ (items work : List ℕ) (node : ℕ) (listed : Bool) (list-of : Tests (
       unfolding isMacros isList onEmpty onPair elements bindsAll bindsOne within
       macros-all e s p g w =
           let n : ℕ = length (elements (treeAt items work (referenceAt work list 1) w)) in
-          g w ∙ rw (sym (list-of items w) ∙ e, sym (part .means items w), a-pair work list kind kind-is p items w, le-leb 1 (suc n) (omega arith))
+          g w ∙ rw (sym (list-of items w) ∙ e, sym (part .is items w), a-pair work list kind kind-is p items w, le-leb 1 (suc n) (omega arith))

@@ -114,7 +114,7 @@ pub fn bind_names(
     parent: u32,
     top: u32,
 ) -> Scope
-    requires { ⌜ Space macros (treeAt (now items) (now work) list w) (now work) (now table) list w number parent top ⌝ }
+    requires { ⌜ (AllNames macros (treeAt (now items) (now work) list w)) × (Space (namesIn macros (treeAt (now items) (now work) list w)) (now work) (now table) list w number parent top) ⌝ }
     ensures { λ r. ⌜ Scoped (bindsTo macros) number (namesIn macros (treeAt (now (items .entry)) (now (work .entry)) list w)) parent (now (work .entry)) (now (work .exit)) top (r .wrap) (r .top) ⌝ }
 {
     if cells::word(work, list, 3) != cells::PAIR {
@@ -129,4 +129,38 @@ pub fn bind_names(
     let key = key_of(macros, number);
     let next = names::bind(items, work, table, top, own, w, key, parent);
     bind_names(items, work, table, rest, w, macros, number + 1, next, next)
+}
+
+// Binders for a lambda's names, variables from `first`.
+pub fn bind_formals(
+    items: &[u32],
+    work: &mut [u32],
+    table: &mut [u32],
+    node: u32,
+    w: u32,
+    first: u32,
+    top: u32,
+) -> Scope
+    requires { ⌜ (isLambda (treeAt (now items) (now work) node w) ≡ true) × (Proper (treeAt (now items) (now work) node w)) × (Space (formals (treeAt (now items) (now work) node w)) (now work) (now table) node w first w top) ⌝ }
+    ensures { λ r. ⌜ Scoped variable first (formals (treeAt (now (items .entry)) (now (work .entry)) node w)) w (now (work .entry)) (now (work .exit)) top (r .wrap) (r .top) ⌝ }
+{
+    let list = lists::element(work, node, 1);
+    bind_names(items, work, table, list, w, false, first, w, top)
+}
+
+// Binders for the names of macros, numbered from `first`.
+pub fn bind_macros(
+    items: &[u32],
+    work: &mut [u32],
+    table: &mut [u32],
+    node: u32,
+    w: u32,
+    first: u32,
+    top: u32,
+) -> Scope
+    requires { ⌜ (AllNames true (element 1 (treeAt (now items) (now work) node w))) × (Space (keywords (treeAt (now items) (now work) node w)) (now work) (now table) node w first w top) ⌝ }
+    ensures { λ r. ⌜ Scoped macro first (keywords (treeAt (now (items .entry)) (now (work .entry)) node w)) w (now (work .entry)) (now (work .exit)) top (r .wrap) (r .top) ⌝ }
+{
+    let list = lists::element(work, node, 1);
+    bind_names(items, work, table, list, w, true, first, w, top)
 }

@@ -2,4 +2,5 @@
 
 pub mod binders;
 pub mod lists;
+pub mod quotes;
 pub mod shapes;

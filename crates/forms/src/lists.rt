@@ -1,13 +1,13 @@
 // Lists in the arena. Node 0 is the empty list. What a list is does not depend on the wrap that waits on it.
 
 ghost use mathlib.Core.Path.{_≡_};
-ghost use Rattle.recipe.specs.Tree.{isList, isListOf};
-ghost use Rattle.forms.specs.Lists.{Part, Tests, elementAt, countIs};
+ghost use Rattle.recipe.specs.Tree.{isList, isListOf, element};
+ghost use Rattle.forms.specs.Lists.{Means, Tests, countIs, Counts};
 use arena::cells;
 
 // Element k, from 0; the empty list where there is none.
 pub fn element(work: &[u32], node: u32, k: u32) -> u32
-    ensures { λ r. ⌜ Part (elementAt k) (now (work .entry)) node r ⌝ }
+    ensures { λ r. ⌜ Means (now (work .entry)) node r (element k) ⌝ }
 {
     if cells::word(work, node, 3) != cells::PAIR {
         return 0;
@@ -52,4 +52,17 @@ pub fn is_list_of(work: &[u32], node: u32, n: u32) -> bool
         return has_length(work, node, n);
     }
     false
+}
+
+// How many elements a list has.
+pub fn count(work: &[u32], list: u32) -> u32
+    ensures { λ r. ⌜ Counts (now (work .entry)) list r ⌝ }
+{
+    let mut rest = list;
+    let mut n: u32 = 0;
+    while cells::word(work, rest, 3) == cells::PAIR {
+        rest = cells::reference(work, rest, 1);
+        n += 1;
+    }
+    n
 }

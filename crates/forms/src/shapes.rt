@@ -5,7 +5,7 @@ ghost use mathlib.Core.Path.{_≡_};
 ghost use Prim.Native.Nat.{ℕ};
 ghost use Rattle.recipe.specs.Tree.{isOrdinaryName};
 ghost use Rattle.expansion.specs.Forms.{isLambda, isMacro, isMacros};
-ghost use Rattle.forms.specs.Lists.{Part};
+ghost use Rattle.forms.specs.Lists.{Means};
 ghost use Rattle.forms.specs.Shapes.{TestsIn, ownName, bindsOne, bindsAll};
 use crate::lists;
 use arena::cells;
@@ -35,7 +35,7 @@ pub fn is_ordinary(items: &[u32], work: &[u32], node: u32) -> bool
 
 // The node of the name that an element binds.
 pub fn own_name(work: &[u32], node: u32, macros: bool) -> u32
-    ensures { λ r. ⌜ Part (ownName macros) (now (work .entry)) node r ⌝ }
+    ensures { λ r. ⌜ Means (now (work .entry)) node r (ownName macros) ⌝ }
 {
     if macros {
         return lists::element(work, node, 0);

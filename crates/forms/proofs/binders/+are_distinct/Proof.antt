@@ -13,8 +13,8 @@ use Rattle.forms.proofs.binders.+are_distinct.{statement}
 use Rattle.forms.proofs.binders.+are_distinct.Tie.{close}
 use native.Mathlib.Omega.{arith}
 use borrow.Author.Needs.{needs}
-use mathlib.Core.Path.{refl, _∙_}
-use Rattle.forms.specs.BinderLaws.{part-falls, rest-names, names-none, names-more, distinct-none, distinct-not, distinct-later}
+use mathlib.Core.Path.{_∙_}
+use Rattle.forms.specs.BinderLaws.{opened, names-none, distinct-none, distinct-not, distinct-later}
 
 abbrev μ-are-distinct : Measures 3 are-distinct-kinds.ps ℕ
 μ-are-distinct κs a =
@@ -60,7 +60,8 @@ are-distinct-reference-requires-2 t c κs =
 are-distinct-is-among-requires : (t : ℕ) → are-distinct-lts.Need-is-among-requires (are-distinct-claims t) (are-distinct-at t) are-distinct.Post
 are-distinct-is-among-requires t c κs =
     let a = c .before .before .before .before .before .before .before .before .before .args in
-    (c .before .before .before .before .before .before .before .before .before .pre .1 .0, rest-names (a .items .now) (a .work .now) (a .list) _ (c .before .before .before .before .before .word .ensures) (a .w) (a .macros) (c .before .before .before .before .if1 .left) (c .before .before .before .before .before .before .before .before .before .pre .1 .1) _ (c .before .reference2 .ensures))
+    let o = opened (a .items .now) (a .work .now) (a .list) _ (c .before .before .before .before .before .word .ensures) (a .w) (a .macros) (c .before .before .before .before .if1 .left) (c .before .before .before .before .before .before .before .before .before .pre .1 .1) _ _ _ (c .before .before .before .reference .ensures) (c .before .before .own-name .ensures) (c .before .reference2 .ensures) in
+    (c .before .before .before .before .before .before .before .before .before .pre .1 .0, o .ordinary)
 
 are-distinct-same-length : (t : ℕ) → are-distinct-lts.Need-same-length (are-distinct-claims t) (are-distinct-at t) are-distinct.Post
 are-distinct-same-length t c =
@@ -69,14 +70,14 @@ are-distinct-same-length t c =
 are-distinct-returns-2 : (t : ℕ) → are-distinct-lts.Need-returns-2 (are-distinct-claims t) (are-distinct-at t) are-distinct.Post
 are-distinct-returns-2 t c =
     let a = c .before .before .before .before .before .before .before .before .before .before .before .before .before .args in
-    distinct-not _ _ _ _ (names-more (a .items .now) (a .work .now) (a .list) _ (c .before .before .before .before .before .before .before .before .before .word .ensures) (a .w) (a .macros) (c .before .before .before .before .before .before .before .before .if1 .left) (c .before .before .before .before .before .before .before .before .before .before .before .before .before .pre .1 .1) _ _ _ (c .before .before .before .before .before .before .before .reference .ensures) (c .before .before .before .before .before .before .own-name .ensures) (c .before .before .before .before .before .reference2 .ensures)) (c .before .before .before .is-among .ensures) (c .if2 .taken)
+    let o = opened (a .items .now) (a .work .now) (a .list) _ (c .before .before .before .before .before .before .before .before .before .word .ensures) (a .w) (a .macros) (c .before .before .before .before .before .before .before .before .if1 .left) (c .before .before .before .before .before .before .before .before .before .before .before .before .before .pre .1 .1) _ _ _ (c .before .before .before .before .before .before .before .reference .ensures) (c .before .before .before .before .before .before .own-name .ensures) (c .before .before .before .before .before .reference2 .ensures) in
+    distinct-not _ _ _ _ (o .names-are) (c .before .before .before .is-among .ensures) (c .if2 .taken)
 
 are-distinct-are-distinct-requires : (t : ℕ) → are-distinct-lts.Need-are-distinct-requires (are-distinct-claims t) (are-distinct-at t) are-distinct.Post
 are-distinct-are-distinct-requires t c κs =
-    let a = c .before .before .before .before .before .before .before .before .before .before .before .before .before .before .args in (
-      omega (arith, c .before .before .before .before .before .before .before .before .before .before .before .before .before .before .pre .0, part-falls (a .items .now) (a .work .now) (a .list) _ (c .before .before .before .before .before .before .before .before .before .before .word .ensures) (a .w) (a .macros) (c .before .before .before .before .before .before .before .before .before .if1 .left) 1 _ (c .before .before .before .before .before .before .reference2 .ensures)),
-      (omega (arith, c .before .before .before .before .before .before .before .before .before .before .before .before .before .before .pre .1 .0, c .before .before .before .before .is-among .kept .1 .1 .0), rest-names (a .items .now) (a .work .now) (a .list) _ (c .before .before .before .before .before .before .before .before .before .before .word .ensures) (a .w) (a .macros) (c .before .before .before .before .before .before .before .before .before .if1 .left) (c .before .before .before .before .before .before .before .before .before .before .before .before .before .before .pre .1 .1) _ (c .before .before .before .before .before .before .reference2 .ensures)),
-    )
+    let a = c .before .before .before .before .before .before .before .before .before .before .before .before .before .before .args in
+    let o = opened (a .items .now) (a .work .now) (a .list) _ (c .before .before .before .before .before .before .before .before .before .before .word .ensures) (a .w) (a .macros) (c .before .before .before .before .before .before .before .before .before .if1 .left) (c .before .before .before .before .before .before .before .before .before .before .before .before .before .before .pre .1 .1) _ _ _ (c .before .before .before .before .before .before .before .before .reference .ensures) (c .before .before .before .before .before .before .before .own-name .ensures) (c .before .before .before .before .before .before .reference2 .ensures) in
+    (omega (arith, c .before .before .before .before .before .before .before .before .before .before .before .before .before .before .pre .0, o .rest-low), (omega (arith, c .before .before .before .before .before .before .before .before .before .before .before .before .before .before .pre .1 .0, c .before .before .before .before .is-among .kept .1 .1 .0), o .ordinary))
 
 are-distinct-same-length-2 : (t : ℕ) → are-distinct-lts.Need-same-length-2 (are-distinct-claims t) (are-distinct-at t) are-distinct.Post
 are-distinct-same-length-2 t c =
@@ -85,7 +86,8 @@ are-distinct-same-length-2 t c =
 are-distinct-returns-3 : (t : ℕ) → are-distinct-lts.Need-returns-3 (are-distinct-claims t) (are-distinct-at t) are-distinct.Post
 are-distinct-returns-3 t c =
     let a = c .before .before .before .before .before .before .before .before .before .before .before .before .before .before .before .before .before .args in
-    distinct-later _ _ _ _ _ (names-more (a .items .now) (a .work .now) (a .list) _ (c .before .before .before .before .before .before .before .before .before .before .before .before .before .word .ensures) (a .w) (a .macros) (c .before .before .before .before .before .before .before .before .before .before .before .before .if1 .left) (c .before .before .before .before .before .before .before .before .before .before .before .before .before .before .before .before .before .pre .1 .1) _ _ _ (c .before .before .before .before .before .before .before .before .before .before .before .reference .ensures) (c .before .before .before .before .before .before .before .before .before .before .own-name .ensures) (c .before .before .before .before .before .before .before .before .before .reference2 .ensures)) (c .before .before .before .before .before .before .before .is-among .ensures) (c .before .before .before .before .if2 .left) (c .before .before .are-distinct .ensures)
+    let o = opened (a .items .now) (a .work .now) (a .list) _ (c .before .before .before .before .before .before .before .before .before .before .before .before .before .word .ensures) (a .w) (a .macros) (c .before .before .before .before .before .before .before .before .before .before .before .before .if1 .left) (c .before .before .before .before .before .before .before .before .before .before .before .before .before .before .before .before .before .pre .1 .1) _ _ _ (c .before .before .before .before .before .before .before .before .before .before .before .reference .ensures) (c .before .before .before .before .before .before .before .before .before .before .own-name .ensures) (c .before .before .before .before .before .before .before .before .before .reference2 .ensures) in
+    distinct-later _ _ _ _ _ (o .names-are) (c .before .before .before .before .before .before .before .is-among .ensures) (c .before .before .before .before .if2 .left) (c .before .before .are-distinct .ensures)
 
 pub +are-distinct-spec : {M : Type 1} → statement M
 +are-distinct-spec = close μ-are-distinct λ t. are-distinct-lts.spec (are-distinct-claims t) (are-distinct-at t)

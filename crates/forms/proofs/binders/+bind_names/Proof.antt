@@ -15,8 +15,8 @@ use Rattle.forms.proofs.binders.+bind_names.Tie.{close}
 use native.Mathlib.Omega.{arith}
 use borrow.Author.Needs.{needs}
 use mathlib.Core.Path.{refl, _∙_}
-use Rattle.forms.specs.BinderLaws.{names-none}
-use Rattle.forms.specs.ScopeLaws.{scoped-none, rest-falls, own-below, room-one, number-small, space-next, scoped-more}
+use Rattle.forms.specs.BinderLaws.{opened, names-none}
+use Rattle.forms.specs.ScopeLaws.{scoped-none, own-below, room-one, number-small, ordinary-next, space-next, scoped-more}
 
 abbrev μ-bind-names : Measures 3 bind-names-kinds.ps ℕ
 μ-bind-names κs a =
@@ -45,7 +45,7 @@ bind-names-same-length t c =
 bind-names-returns : (t : ℕ) → bind-names-lts.Need-returns (bind-names-claims t) (bind-names-at t) bind-names.Post
 bind-names-returns t c =
     let a = c .before .before .before .before .before .before .args in
-    scoped-none _ (a .number) _ (a .parent) (a .work .now) (a .top) (names-none (a .items .now) (a .work .now) (a .list) _ (c .before .word .ensures) (a .w) (a .macros) (c .if1 .taken)) (c .before .before .before .before .before .before .pre .1 .parent-below)
+    scoped-none _ (a .number) _ (a .parent) (a .work .now) (a .top) (names-none (a .items .now) (a .work .now) (a .list) _ (c .before .word .ensures) (a .w) (a .macros) (c .if1 .taken)) (c .before .before .before .before .before .before .pre .1 .1 .parent-below)
 
 bind-names-reference-requires : (t : ℕ) → bind-names-lts.Need-reference-requires (bind-names-claims t) (bind-names-at t) bind-names.Post
 bind-names-reference-requires t c κs =
@@ -62,29 +62,26 @@ bind-names-reference-requires-2 t c κs =
 bind-names-key-of-requires : (t : ℕ) → bind-names-lts.Need-key-of-requires (bind-names-claims t) (bind-names-at t) bind-names.Post
 bind-names-key-of-requires t c κs =
     let a = c .before .before .before .before .before .before .before .before .before .before .before .before .args in
-    number-small (a .items .now) (a .work .now) (a .list) _ (c .before .before .before .before .before .before .before .word .ensures) (a .w) (a .macros) (c .before .before .before .before .before .before .if1 .left) _ (a .number) (a .parent) (a .top) (c .before .before .before .before .before .before .before .before .before .before .before .before .pre .1) _ _ _ (c .before .before .before .before .reference .ensures) (c .before .before .own-name .ensures) (c .reference2 .ensures)
+    let o = opened (a .items .now) (a .work .now) (a .list) _ (c .before .before .before .before .before .before .before .word .ensures) (a .w) (a .macros) (c .before .before .before .before .before .before .if1 .left) (c .before .before .before .before .before .before .before .before .before .before .before .before .pre .1 .0) _ _ _ (c .before .before .before .before .reference .ensures) (c .before .before .own-name .ensures) (c .reference2 .ensures) in
+    number-small (a .items .now) (a .work .now) (a .list) (a .w) (a .macros) _ (a .number) (a .parent) (a .top) _ _ (c .before .before .before .before .before .before .before .before .before .before .before .before .pre .1 .1) o
 
 bind-names-bind-requires : (t : ℕ) → bind-names-lts.Need-bind-requires (bind-names-claims t) (bind-names-at t) bind-names.Post
 bind-names-bind-requires t c κs =
-    let a = c .before .before .before .before .before .before .before .before .before .before .before .before .before .before .before .args in (
-      room-one (a .items .now) (a .work .now) (a .list) _ (c .before .before .before .before .before .before .before .before .before .before .word .ensures) (a .w) (a .macros) (c .before .before .before .before .before .before .before .before .before .if1 .left) _ (a .number) (a .parent) (a .top) (c .before .before .before .before .before .before .before .before .before .before .before .before .before .before .before .pre .1) _ _ _ (c .before .before .before .before .before .before .before .reference .ensures) (c .before .before .before .before .before .own-name .ensures) (c .before .before .before .reference2 .ensures),
-      own-below (a .items .now) (a .work .now) (a .list) _ (c .before .before .before .before .before .before .before .before .before .before .word .ensures) (a .w) (a .macros) (c .before .before .before .before .before .before .before .before .before .if1 .left) _ (a .number) (a .parent) (a .top) (c .before .before .before .before .before .before .before .before .before .before .before .before .before .before .before .pre .1) _ _ _ (c .before .before .before .before .before .before .before .reference .ensures) (c .before .before .before .before .before .own-name .ensures) (c .before .before .before .reference2 .ensures),
-      c .before .before .before .before .before .before .before .before .before .before .before .before .before .before .before .pre .1 .w-below,
-      c .before .before .before .before .before .before .before .before .before .before .before .before .before .before .before .pre .1 .parent-below,
-      c .before .before .before .before .before .before .before .before .before .before .before .before .before .before .before .pre .1 .marks,
-    )
+    let a = c .before .before .before .before .before .before .before .before .before .before .before .before .before .before .before .args in
+    let o = opened (a .items .now) (a .work .now) (a .list) _ (c .before .before .before .before .before .before .before .before .before .before .word .ensures) (a .w) (a .macros) (c .before .before .before .before .before .before .before .before .before .if1 .left) (c .before .before .before .before .before .before .before .before .before .before .before .before .before .before .before .pre .1 .0) _ _ _ (c .before .before .before .before .before .before .before .reference .ensures) (c .before .before .before .before .before .own-name .ensures) (c .before .before .before .reference2 .ensures) in
+    (room-one (a .items .now) (a .work .now) (a .list) (a .w) (a .macros) _ (a .number) (a .parent) (a .top) _ _ (c .before .before .before .before .before .before .before .before .before .before .before .before .before .before .before .pre .1 .1) o, own-below (a .items .now) (a .work .now) (a .list) (a .w) (a .macros) _ (a .number) (a .parent) (a .top) _ _ (c .before .before .before .before .before .before .before .before .before .before .before .before .before .before .before .pre .1 .1) o, c .before .before .before .before .before .before .before .before .before .before .before .before .before .before .before .pre .1 .1 .w-below, c .before .before .before .before .before .before .before .before .before .before .before .before .before .before .before .pre .1 .1 .parent-below, c .before .before .before .before .before .before .before .before .before .before .before .before .before .before .before .pre .1 .1 .marks)
 
 bind-names-add-bind-names : (t : ℕ) → bind-names-lts.Need-add-bind-names (bind-names-claims t) (bind-names-at t) bind-names.Post
 bind-names-add-bind-names t c =
     let a = c .before .before .before .before .before .before .before .before .before .before .before .before .before .before .before .before .before .before .before .before .before .before .args in
-    omega (arith, number-small (a .items .now) (a .work .now) (a .list) _ (c .before .before .before .before .before .before .before .before .before .before .before .before .before .before .before .before .before .word .ensures) (a .w) (a .macros) (c .before .before .before .before .before .before .before .before .before .before .before .before .before .before .before .before .if1 .left) _ (a .number) (a .parent) (a .top) (c .before .before .before .before .before .before .before .before .before .before .before .before .before .before .before .before .before .before .before .before .before .before .pre .1) _ _ _ (c .before .before .before .before .before .before .before .before .before .before .before .before .before .before .reference .ensures) (c .before .before .before .before .before .before .before .before .before .before .before .before .own-name .ensures) (c .before .before .before .before .before .before .before .before .before .before .reference2 .ensures))
+    let o = opened (a .items .now) (a .work .now) (a .list) _ (c .before .before .before .before .before .before .before .before .before .before .before .before .before .before .before .before .before .word .ensures) (a .w) (a .macros) (c .before .before .before .before .before .before .before .before .before .before .before .before .before .before .before .before .if1 .left) (c .before .before .before .before .before .before .before .before .before .before .before .before .before .before .before .before .before .before .before .before .before .before .pre .1 .0) _ _ _ (c .before .before .before .before .before .before .before .before .before .before .before .before .before .before .reference .ensures) (c .before .before .before .before .before .before .before .before .before .before .before .before .own-name .ensures) (c .before .before .before .before .before .before .before .before .before .before .reference2 .ensures) in
+    omega (arith, number-small (a .items .now) (a .work .now) (a .list) (a .w) (a .macros) _ (a .number) (a .parent) (a .top) _ _ (c .before .before .before .before .before .before .before .before .before .before .before .before .before .before .before .before .before .before .before .before .before .before .pre .1 .1) o)
 
 bind-names-bind-names-requires : (t : ℕ) → bind-names-lts.Need-bind-names-requires (bind-names-claims t) (bind-names-at t) bind-names.Post
 bind-names-bind-names-requires t c κs =
-    let a = c .before .before .before .before .before .before .before .before .before .before .before .before .before .before .before .before .before .before .before .before .before .before .args in (
-      omega (arith, c .before .before .before .before .before .before .before .before .before .before .before .before .before .before .before .before .before .before .before .before .before .before .pre .0, rest-falls (a .items .now) (a .work .now) (a .list) _ (c .before .before .before .before .before .before .before .before .before .before .before .before .before .before .before .before .before .word .ensures) (a .w) (a .macros) (c .before .before .before .before .before .before .before .before .before .before .before .before .before .before .before .before .if1 .left) _ (a .number) (a .parent) (a .top) (c .before .before .before .before .before .before .before .before .before .before .before .before .before .before .before .before .before .before .before .before .before .before .pre .1) _ _ _ (c .before .before .before .before .before .before .before .before .before .before .before .before .before .before .reference .ensures) (c .before .before .before .before .before .before .before .before .before .before .before .before .own-name .ensures) (c .before .before .before .before .before .before .before .before .before .before .reference2 .ensures)),
-      space-next (a .items .now) (a .work .now) (a .list) _ (c .before .before .before .before .before .before .before .before .before .before .before .before .before .before .before .before .before .word .ensures) (a .w) (a .macros) (c .before .before .before .before .before .before .before .before .before .before .before .before .before .before .before .before .if1 .left) _ (a .number) (a .parent) (a .top) (c .before .before .before .before .before .before .before .before .before .before .before .before .before .before .before .before .before .before .before .before .before .before .pre .1) _ _ _ (c .before .before .before .before .before .before .before .before .before .before .before .before .before .before .reference .ensures) (c .before .before .before .before .before .before .before .before .before .before .before .before .own-name .ensures) (c .before .before .before .before .before .before .before .before .before .before .reference2 .ensures) _ _ _ (c .before .before .before .before .before .before .before .before .before .key-of .ensures) (c .before .before .before .before .before .before .bind .ensures) _ (c .before .before .before .before .before .before .bind .kept .1 .0) (c .before .before .before .before .before .before .bind .kept .1 .1 .0),
-    )
+    let a = c .before .before .before .before .before .before .before .before .before .before .before .before .before .before .before .before .before .before .before .before .before .before .args in
+    let o = opened (a .items .now) (a .work .now) (a .list) _ (c .before .before .before .before .before .before .before .before .before .before .before .before .before .before .before .before .before .word .ensures) (a .w) (a .macros) (c .before .before .before .before .before .before .before .before .before .before .before .before .before .before .before .before .if1 .left) (c .before .before .before .before .before .before .before .before .before .before .before .before .before .before .before .before .before .before .before .before .before .before .pre .1 .0) _ _ _ (c .before .before .before .before .before .before .before .before .before .before .before .before .before .before .reference .ensures) (c .before .before .before .before .before .before .before .before .before .before .before .before .own-name .ensures) (c .before .before .before .before .before .before .before .before .before .before .reference2 .ensures) in
+    (omega (arith, c .before .before .before .before .before .before .before .before .before .before .before .before .before .before .before .before .before .before .before .before .before .before .pre .0, o .rest-low), (ordinary-next (a .items .now) (a .work .now) (a .list) (a .w) (a .macros) _ (a .number) (a .parent) (a .top) _ _ (c .before .before .before .before .before .before .before .before .before .before .before .before .before .before .before .before .before .before .before .before .before .before .pre .1 .1) o _ _ _ (c .before .before .before .before .before .before .before .before .before .key-of .ensures) (c .before .before .before .before .before .before .bind .ensures), space-next (a .items .now) (a .work .now) (a .list) (a .w) (a .macros) _ (a .number) (a .parent) (a .top) _ _ (c .before .before .before .before .before .before .before .before .before .before .before .before .before .before .before .before .before .before .before .before .before .before .pre .1 .1) o _ _ _ (c .before .before .before .before .before .before .before .before .before .key-of .ensures) (c .before .before .before .before .before .before .bind .ensures) _ (c .before .before .before .before .before .before .bind .kept .1 .0) (c .before .before .before .before .before .before .bind .kept .1 .1 .0)))
 
 bind-names-same-length-2 : (t : ℕ) → bind-names-lts.Need-same-length-2 (bind-names-claims t) (bind-names-at t) bind-names.Post
 bind-names-same-length-2 t c =
@@ -97,7 +94,8 @@ bind-names-same-length-3 t c =
 bind-names-returns-2 : (t : ℕ) → bind-names-lts.Need-returns-2 (bind-names-claims t) (bind-names-at t) bind-names.Post
 bind-names-returns-2 t c =
     let a = c .before .before .before .before .before .before .before .before .before .before .before .before .before .before .before .before .before .before .before .before .before .before .before .before .before .before .before .args in
-    scoped-more (a .items .now) (a .work .now) (a .list) _ (c .before .before .before .before .before .before .before .before .before .before .before .before .before .before .before .before .before .before .before .before .before .before .word .ensures) (a .w) (a .macros) (c .before .before .before .before .before .before .before .before .before .before .before .before .before .before .before .before .before .before .before .before .before .if1 .left) _ (a .number) (a .parent) (a .top) (c .before .before .before .before .before .before .before .before .before .before .before .before .before .before .before .before .before .before .before .before .before .before .before .before .before .before .before .pre .1) _ _ _ (c .before .before .before .before .before .before .before .before .before .before .before .before .before .before .before .before .before .before .before .reference .ensures) (c .before .before .before .before .before .before .before .before .before .before .before .before .before .before .before .before .before .own-name .ensures) (c .before .before .before .before .before .before .before .before .before .before .before .before .before .before .before .reference2 .ensures) _ _ _ (c .before .before .before .before .before .before .before .before .before .before .before .before .before .before .key-of .ensures) (c .before .before .before .before .before .before .before .before .before .before .before .bind .ensures) _ _ _ (c .before .before .before .before .bind-names .ensures)
+    let o = opened (a .items .now) (a .work .now) (a .list) _ (c .before .before .before .before .before .before .before .before .before .before .before .before .before .before .before .before .before .before .before .before .before .before .word .ensures) (a .w) (a .macros) (c .before .before .before .before .before .before .before .before .before .before .before .before .before .before .before .before .before .before .before .before .before .if1 .left) (c .before .before .before .before .before .before .before .before .before .before .before .before .before .before .before .before .before .before .before .before .before .before .before .before .before .before .before .pre .1 .0) _ _ _ (c .before .before .before .before .before .before .before .before .before .before .before .before .before .before .before .before .before .before .before .reference .ensures) (c .before .before .before .before .before .before .before .before .before .before .before .before .before .before .before .before .before .own-name .ensures) (c .before .before .before .before .before .before .before .before .before .before .before .before .before .before .before .reference2 .ensures) in
+    scoped-more (a .items .now) (a .work .now) (a .list) (a .w) (a .macros) _ (a .number) (a .parent) (a .top) _ _ (c .before .before .before .before .before .before .before .before .before .before .before .before .before .before .before .before .before .before .before .before .before .before .before .before .before .before .before .pre .1 .1) o _ _ _ (c .before .before .before .before .before .before .before .before .before .before .before .before .before .before .key-of .ensures) (c .before .before .before .before .before .before .before .before .before .before .before .bind .ensures) _ _ _ (c .before .before .before .before .bind-names .ensures)
 
 pub +bind-names-spec : {M : Type 1} → statement M
 +bind-names-spec = close μ-bind-names λ t. bind-names-lts.spec (bind-names-claims t) (bind-names-at t)

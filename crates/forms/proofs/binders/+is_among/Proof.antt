@@ -14,7 +14,7 @@ use Rattle.forms.proofs.binders.+is_among.Tie.{close}
 use native.Mathlib.Omega.{arith}
 use borrow.Author.Needs.{needs}
 use mathlib.Core.Path.{refl, _∙_}
-use Rattle.forms.specs.BinderLaws.{part-falls, rest-names, names-none, names-more, among-none, among-first, among-later}
+use Rattle.forms.specs.BinderLaws.{opened, names-none, among-none, among-first, among-later}
 
 abbrev μ-is-among : Measures 3 is-among-kinds.ps ℕ
 μ-is-among κs a =
@@ -59,7 +59,8 @@ is-among-same-length t c =
 is-among-returns-2 : (t : ℕ) → is-among-lts.Need-returns-2 (is-among-claims t) (is-among-at t) is-among.Post
 is-among-returns-2 t c =
     let a = c .before .before .before .before .before .before .before .before .before .before .before .before .args in
-    among-first _ _ _ _ _ (names-more (a .items .now) (a .work .now) (a .list) _ (c .before .before .before .before .before .before .before .before .word .ensures) (a .w) (a .macros) (c .before .before .before .before .before .before .before .if1 .left) (c .before .before .before .before .before .before .before .before .before .before .before .before .pre .1 .1) _ _ _ (c .before .before .before .before .before .before .reference .ensures) (c .before .before .before .before .before .own-name .ensures) refl) (c .before .before .before .same-names .ensures) (c .if2 .taken)
+    let o = opened (a .items .now) (a .work .now) (a .list) _ (c .before .before .before .before .before .before .before .before .word .ensures) (a .w) (a .macros) (c .before .before .before .before .before .before .before .if1 .left) (c .before .before .before .before .before .before .before .before .before .before .before .before .pre .1 .1) _ _ _ (c .before .before .before .before .before .before .reference .ensures) (c .before .before .before .before .before .own-name .ensures) refl in
+    among-first _ _ _ _ _ (o .names-are) (c .before .before .before .same-names .ensures) (c .if2 .taken)
 
 is-among-reference-requires-2 : (t : ℕ) → is-among-lts.Need-reference-requires-2 (is-among-claims t) (is-among-at t) is-among.Post
 is-among-reference-requires-2 t c κs =
@@ -67,10 +68,9 @@ is-among-reference-requires-2 t c κs =
 
 is-among-is-among-requires : (t : ℕ) → is-among-lts.Need-is-among-requires (is-among-claims t) (is-among-at t) is-among.Post
 is-among-is-among-requires t c κs =
-    let a = c .before .before .before .before .before .before .before .before .before .before .before .before .before .before .args in (
-      omega (arith, c .before .before .before .before .before .before .before .before .before .before .before .before .before .before .pre .0, part-falls (a .items .now) (a .work .now) (a .list) _ (c .before .before .before .before .before .before .before .before .before .before .word .ensures) (a .w) (a .macros) (c .before .before .before .before .before .before .before .before .before .if1 .left) 1 _ (c .before .reference2 .ensures)),
-      (omega (arith, c .before .before .before .before .before .before .before .before .before .before .before .before .before .before .pre .1 .0, c .before .before .before .before .before .same-names .kept .1 .1 .0), rest-names (a .items .now) (a .work .now) (a .list) _ (c .before .before .before .before .before .before .before .before .before .before .word .ensures) (a .w) (a .macros) (c .before .before .before .before .before .before .before .before .before .if1 .left) (c .before .before .before .before .before .before .before .before .before .before .before .before .before .before .pre .1 .1) _ (c .before .reference2 .ensures)),
-    )
+    let a = c .before .before .before .before .before .before .before .before .before .before .before .before .before .before .args in
+    let o = opened (a .items .now) (a .work .now) (a .list) _ (c .before .before .before .before .before .before .before .before .before .before .word .ensures) (a .w) (a .macros) (c .before .before .before .before .before .before .before .before .before .if1 .left) (c .before .before .before .before .before .before .before .before .before .before .before .before .before .before .pre .1 .1) _ _ _ (c .before .before .before .before .before .before .before .before .reference .ensures) (c .before .before .before .before .before .before .before .own-name .ensures) (c .before .reference2 .ensures) in
+    (omega (arith, c .before .before .before .before .before .before .before .before .before .before .before .before .before .before .pre .0, o .rest-low), (omega (arith, c .before .before .before .before .before .before .before .before .before .before .before .before .before .before .pre .1 .0, c .before .before .before .before .before .same-names .kept .1 .1 .0), o .ordinary))
 
 is-among-same-length-2 : (t : ℕ) → is-among-lts.Need-same-length-2 (is-among-claims t) (is-among-at t) is-among.Post
 is-among-same-length-2 t c =
@@ -79,7 +79,8 @@ is-among-same-length-2 t c =
 is-among-returns-3 : (t : ℕ) → is-among-lts.Need-returns-3 (is-among-claims t) (is-among-at t) is-among.Post
 is-among-returns-3 t c =
     let a = c .before .before .before .before .before .before .before .before .before .before .before .before .before .before .before .before .before .args in
-    among-later _ _ _ _ _ _ (names-more (a .items .now) (a .work .now) (a .list) _ (c .before .before .before .before .before .before .before .before .before .before .before .before .before .word .ensures) (a .w) (a .macros) (c .before .before .before .before .before .before .before .before .before .before .before .before .if1 .left) (c .before .before .before .before .before .before .before .before .before .before .before .before .before .before .before .before .before .pre .1 .1) _ _ _ (c .before .before .before .before .before .before .before .before .before .before .before .reference .ensures) (c .before .before .before .before .before .before .before .before .before .before .own-name .ensures) (c .before .before .before .before .reference2 .ensures)) (c .before .before .before .before .before .before .before .before .same-names .ensures) (c .before .before .before .before .before .if2 .left) (c .before .before .is-among .ensures)
+    let o = opened (a .items .now) (a .work .now) (a .list) _ (c .before .before .before .before .before .before .before .before .before .before .before .before .before .word .ensures) (a .w) (a .macros) (c .before .before .before .before .before .before .before .before .before .before .before .before .if1 .left) (c .before .before .before .before .before .before .before .before .before .before .before .before .before .before .before .before .before .pre .1 .1) _ _ _ (c .before .before .before .before .before .before .before .before .before .before .before .reference .ensures) (c .before .before .before .before .before .before .before .before .before .before .own-name .ensures) (c .before .before .before .before .reference2 .ensures) in
+    among-later _ _ _ _ _ _ (o .names-are) (c .before .before .before .before .before .before .before .before .same-names .ensures) (c .before .before .before .before .before .if2 .left) (c .before .before .is-among .ensures)
 
 pub +is-among-spec : {M : Type 1} → statement M
 +is-among-spec = close μ-is-among λ t. is-among-lts.spec (is-among-claims t) (is-among-at t)

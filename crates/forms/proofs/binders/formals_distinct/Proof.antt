@@ -22,7 +22,7 @@ are-distinct-requires : tie.Need-are-distinct-requires
 are-distinct-requires c κs =
     let a = c .before .before .before .before .before .args in
     let t : Tree = treeAt (a .items .now) (a .work .now) (a .node) (a .w) in
-    (c .before .before .before .before .before .pre .0, subst (AllNames false) (sym (c .before .element .ensures .means (a .items .now) (a .w))) (lambda-names t (c .before .before .before .before .before .pre .1)))
+    (c .before .before .before .before .before .pre .0, subst (AllNames false) (sym (c .before .element .ensures .is (a .items .now) (a .w))) (lambda-names t (c .before .before .before .before .before .pre .1)))
 
 same-length : tie.Need-same-length
 same-length c =
@@ -32,7 +32,7 @@ returns : tie.Need-returns
 returns c =
     let a = c .before .before .before .before .before .before .before .before .args in
     let t : Tree = treeAt (a .items .now) (a .work .now) (a .node) (a .w) in
-    c .before .before .are-distinct .ensures ∙ ap (λ (u : Tree). distinct (namesIn false u)) (c .before .before .before .before .element .ensures .means (a .items .now) (a .w)) ∙ ap distinct (formals-are t (c .before .before .before .before .before .before .before .before .pre .1) (c .before .before .before .before .before .before .before .before .pre .2))
+    c .before .before .are-distinct .ensures ∙ ap (λ (u : Tree). distinct (namesIn false u)) (c .before .before .before .before .element .ensures .is (a .items .now) (a .w)) ∙ ap distinct (formals-are t (c .before .before .before .before .before .before .before .before .pre .1) (c .before .before .before .before .before .before .before .before .pre .2))
 
 pub formals-distinct-spec : {M : Type 1} → statement M
 formals-distinct-spec =

@@ -21,7 +21,7 @@ element-requires c κs =
 are-distinct-requires : tie.Need-are-distinct-requires
 are-distinct-requires c κs =
     let a = c .before .before .before .before .before .args in
-    (c .before .before .before .before .before .pre .0, subst (AllNames true) (sym (c .before .element .ensures .means (a .items .now) (a .w))) (c .before .before .before .before .before .pre .1))
+    (c .before .before .before .before .before .pre .0, subst (AllNames true) (sym (c .before .element .ensures .is (a .items .now) (a .w))) (c .before .before .before .before .before .pre .1))
 
 same-length : tie.Need-same-length
 same-length c =
@@ -31,7 +31,7 @@ returns : tie.Need-returns
 returns c =
     let a = c .before .before .before .before .before .before .before .before .args in
     let t : Tree = treeAt (a .items .now) (a .work .now) (a .node) (a .w) in
-    c .before .before .are-distinct .ensures ∙ ap (λ (u : Tree). distinct (namesIn true u)) (c .before .before .before .before .element .ensures .means (a .items .now) (a .w)) ∙ ap distinct (keywords-are t)
+    c .before .before .are-distinct .ensures ∙ ap (λ (u : Tree). distinct (namesIn true u)) (c .before .before .before .before .element .ensures .is (a .items .now) (a .w)) ∙ ap distinct (keywords-are t)
 
 pub keywords-distinct-spec : {M : Type 1} → statement M
 keywords-distinct-spec =
