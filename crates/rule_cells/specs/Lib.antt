@@ -11,3 +11,5 @@ pub mod GatherLaws
 pub mod Parse
 pub mod ParseLaws
 pub mod PatternLaws
+pub mod Drive
+pub mod TemplateLaws

@@ -7,12 +7,14 @@ use Prim.Native.Nat.{ℕ, _+_, _*_, _^_, _≤_, _<_}
 use lib.ListN.{length, take}
 use Rattle.recipe.specs.Name.{Name, isEllipsis}
 use Rattle.recipe.specs.Tree.{Tree, size}
-use Rattle.expansion.specs.Rules.{variables, patternOf}
+use Rattle.expansion.specs.Rules.{variables, patternOf, templateOf}
 use Rattle.arena.specs.Arena.{treeAt}
 use Rattle.arena.specs.Cells.{Room}
-use Rattle.rule_cells.specs.Cells.{patternAt}
+use Rattle.rule_cells.specs.Cells.{patternAt, templateAt}
 use Rattle.rule_cells.specs.declared.patterns.Parsed.{Parsed}
 use Rattle.rule_cells.specs.declared.patterns.Parsed.the-variants.{Good, Bad}
+use Rattle.rule_cells.specs.declared.templates.Built.{Built}
+use Rattle.rule_cells.specs.declared.templates.Built.the-variants as built
 
 -- a tree below the top, with room for its cells
 pub record Asks (items work : List ℕ) (node w top : ℕ) : Type 0 where
@@ -39,3 +41,14 @@ pub record PatternMade (literals : List Name) (k : ℕ) (t : Tree) (items old ne
 abbrev pub PatternLeft : (literals : List Name) (k : ℕ) (t : Tree) (items old new : List ℕ) (top : ℕ) → Parsed → Type 0
 PatternLeft literals k t items old new top (Good at upper next) = PatternMade literals k t items old new top at upper next
 PatternLeft literals k t items old new top Bad = (patternOf isEllipsis literals k t ≡ none) × (take top new ≡ take top old)
+
+-- ---- templates
+
+pub record TemplateMade (vs : List (Name × ℕ)) (d : ℕ) (taken : Bool) (t : Tree) (items old new : List ℕ) (top at upper : ℕ) : Type 0 where
+  pub means : templateOf isEllipsis vs d taken t ≡ some (templateAt items new at)
+  pub grows : Grows t old new top at upper
+
+-- bad exactly where the definition has no template
+abbrev pub TemplateLeft : (vs : List (Name × ℕ)) (d : ℕ) (taken : Bool) (t : Tree) (items old new : List ℕ) (top : ℕ) → Built → Type 0
+TemplateLeft vs d taken t items old new top (built.Good at upper) = TemplateMade vs d taken t items old new top at upper
+TemplateLeft vs d taken t items old new top built.Bad = (templateOf isEllipsis vs d taken t ≡ none) × (take top new ≡ take top old)

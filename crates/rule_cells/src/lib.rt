@@ -2,5 +2,6 @@
 
 pub mod cells;
 pub mod patterns;
+pub mod templates;
 pub mod trees;
 pub mod variables;

@@ -75,3 +75,45 @@ pub fn pattern_leaf(
     let r = cells::put_constant(work, top, kind, first, second);
     Parsed::Good(r, r, k)
 }
+
+// A part of a pattern, with k variables to its left. `...` may only stand last in its list, after an element.
+pub fn pattern(
+    items: &[u32],
+    work: &mut [u32],
+    table: &mut [u32],
+    literals: u32,
+    node: u32,
+    w: u32,
+    k: u32,
+    top: u32,
+) -> Parsed
+    requires { ⌜ (3 * markLimit < length (now table)) × (Asks (now items) (now work) node w top) × (literals ≤ top) × (k + size (treeAt (now items) (now work) node w) < 2 ^ 32) ⌝ }
+    ensures { λ r. ⌜ PatternLeft (names (treeAt (now (items .entry)) (now (work .entry)) literals w)) k (treeAt (now (items .entry)) (now (work .entry)) node w) (now (items .entry)) (now (work .entry)) (now (work .exit)) top r ⌝ }
+{
+    if arena::cells::word(work, node, 3) != arena::cells::PAIR {
+        return pattern_leaf(items, work, table, literals, node, w, k, top);
+    }
+    let head = arena::cells::reference(work, node, 2);
+    let rest = arena::cells::reference(work, node, 1);
+    if trees::dots_next(items, work, rest) {
+        if trees::is_list_of(work, rest, 1) {
+            let last = trees::tail(work, rest);
+            let more = variables::leaf_count(items, work, table, literals, last, w);
+            let Parsed::Good(a, t, n) = pattern(items, work, table, literals, head, w, k, top)
+            else {
+                return Parsed::Bad;
+            };
+            let r = cells::put_ellipsis(work, t, a);
+            return Parsed::Good(r, r, n + more);
+        }
+        return Parsed::Bad;
+    }
+    let Parsed::Good(a, t, n) = pattern(items, work, table, literals, head, w, k, top) else {
+        return Parsed::Bad;
+    };
+    let Parsed::Good(b, u, m) = pattern(items, work, table, literals, rest, w, n, t) else {
+        return Parsed::Bad;
+    };
+    let r = cells::put_pair(work, u, a, b);
+    Parsed::Good(r, r, m)
+}
