@@ -19,12 +19,9 @@ use Rattle.steps.specs.Lengths.{AllOf, Copies, LengthsAgree, CopiesAgree
 use Rattle.steps.specs.LengthLaws.{copies-all}
 
 -- a template's cell without parts
-pub leaf-cell : (P : Template → Type 0) → ((k d : ℕ) → P (variableT k d)) → ((x : _) → P (insertT x)) → ((a : _) → P (constantT a)) → P emptyT
-    → (items work : List ℕ) (t tag : ℕ) → tag ≡ wordAt work t 1 → (tag ≡ 6 → ⊥) → (tag ≡ 7 → ⊥) → P (templateAt items work t)
-leaf-cell P forVariable forInsert forConstant forEmpty items work t tag tag-is n6 n7 =
-    cases (eqb tag 1)
-    (λ a. subst P (sym (templateAt-variable items work t (sym tag-is ∙ eqb-true tag 1 a))) (forVariable _ _))
-    (λ a.
+pub leaf-other : (P : Template → Type 0) → ((x : _) → P (insertT x)) → ((a : _) → P (constantT a)) → P emptyT
+    → (items work : List ℕ) (t tag : ℕ) → tag ≡ wordAt work t 1 → (tag ≡ 1 → ⊥) → (tag ≡ 6 → ⊥) → (tag ≡ 7 → ⊥) → P (templateAt items work t)
+leaf-other P forInsert forConstant forEmpty items work t tag tag-is n1 n6 n7 =
     cases (eqb tag 2)
     (λ b. subst P (sym (templateAt-insert items work t (sym tag-is ∙ eqb-true tag 2 b))) (forInsert _))
     (λ b.
@@ -32,8 +29,15 @@ leaf-cell P forVariable forInsert forConstant forEmpty items work t tag tag-is n
     (λ c. subst P (sym (templateAt-constant items work t (sym tag-is ∙ eqb-true tag 4 c))) (forConstant _))
     (λ c.
     subst P
-    (sym (templateAt-empty items work t (λ z. eqb-false tag 1 a (tag-is ∙ z)) (λ z. eqb-false tag 2 b (tag-is ∙ z)) (λ z. eqb-false tag 4 c (tag-is ∙ z)) (λ z. n6 (tag-is ∙ z)) (λ z. n7 (tag-is ∙ z))))
-    forEmpty)))
+    (sym (templateAt-empty items work t (λ z. n1 (tag-is ∙ z)) (λ z. eqb-false tag 2 b (tag-is ∙ z)) (λ z. eqb-false tag 4 c (tag-is ∙ z)) (λ z. n6 (tag-is ∙ z)) (λ z. n7 (tag-is ∙ z))))
+    forEmpty))
+
+pub leaf-cell : (P : Template → Type 0) → ((k d : ℕ) → P (variableT k d)) → ((x : _) → P (insertT x)) → ((a : _) → P (constantT a)) → P emptyT
+    → (items work : List ℕ) (t tag : ℕ) → tag ≡ wordAt work t 1 → (tag ≡ 6 → ⊥) → (tag ≡ 7 → ⊥) → P (templateAt items work t)
+leaf-cell P forVariable forInsert forConstant forEmpty items work t tag tag-is n6 n7 =
+    cases (eqb tag 1)
+    (λ a. subst P (sym (templateAt-variable items work t (sym tag-is ∙ eqb-true tag 1 a))) (forVariable _ _))
+    (λ a. leaf-other P forInsert forConstant forEmpty items work t tag tag-is (eqb-false tag 1 a) n6 n7)
 
 -- ---- the parts of a plain template
 

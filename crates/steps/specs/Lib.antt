@@ -9,3 +9,8 @@ pub mod Lengths
 pub mod LengthLaws
 pub mod Plain
 pub mod AgreeLaws
+pub mod Cost
+pub mod CostLaws
+pub mod Build
+pub mod BuildLaws
+pub mod ResultLaws

@@ -1,0 +1,224 @@
+-- The proof of the cycle {copies_cost, cost}. The measure is twice the template's reference, one more for its copies.
+use Prim.Native.Nat.{ℕ, _<_, _+_, _*_, _-_, _≤_}
+use borrow.Fn.Kinds.{In}
+use borrow.Fn.PlainCycle.{Measures, is, falls, and}
+use Rattle.steps.proofs.cost.copies_cost.Reads as copies-cost
+use Rattle.steps.proofs.cost.copies_cost.Kinds as copies-cost-kinds
+use Rattle.steps.proofs.cost.+copies_cost+cost.Lts-copies_cost as copies-cost-lts
+use Rattle.steps.proofs.cost.cost.Reads as cost
+use Rattle.steps.proofs.cost.cost.Kinds as cost-kinds
+use Rattle.steps.proofs.cost.+copies_cost+cost.Lts-cost as cost-lts
+use Rattle.arena.proofs.cells.reference.Reads as reference-reads
+use Rattle.arena.proofs.cells.word.Reads as word-reads
+use Rattle.steps.proofs.agree.deepen.Reads as deepen-reads
+use Rattle.steps.proofs.cost.size.Reads as size-reads
+use Rattle.steps.proofs.lengths.copies.Reads as copies-reads
+use Rattle.steps.proofs.parts.taken.Reads as taken-reads
+use Rattle.steps.proofs.cost.+copies_cost+cost.{statement}
+use Rattle.steps.proofs.cost.+copies_cost+cost.Tie.{close}
+use Rattle.steps.specs.PartLaws.{tag-falls}
+use Rattle.steps.specs.Cost.{CopiesCost}
+use Rattle.steps.specs.CostLaws.{copies-begin, copies-past, copies-next, cost-past, cost-variable, cost-leaf, cost-pair, cost-ellipsis}
+use native.Mathlib.Omega.{arith}
+use borrow.Author.Needs.{needs}
+use mathlib.Core.Path.{_≡_, subst}
+
+abbrev μ-copies-cost : Measures 1 copies-cost-kinds.ps ℕ
+μ-copies-cost κs a =
+    2 * a .1 .1 .1 .1 .1 .1 .0 + 1
+
+abbrev μ-cost : Measures 1 cost-kinds.ps ℕ
+μ-cost κs a =
+    2 * a .1 .1 .1 .1 .1 .1 .0
+
+abbrev copies-cost-at : ℕ → In 1 copies-cost-kinds.ps
+copies-cost-at t =
+    and 1 copies-cost-kinds.ps (is 1 copies-cost-kinds.ps μ-copies-cost t) copies-cost.Pre
+
+abbrev copies-cost-below : ℕ → In 1 copies-cost-kinds.ps
+copies-cost-below t =
+    and 1 copies-cost-kinds.ps (falls 1 copies-cost-kinds.ps _<_ μ-copies-cost t) copies-cost.Pre
+
+abbrev cost-at : ℕ → In 1 cost-kinds.ps
+cost-at t = and 1 cost-kinds.ps (is 1 cost-kinds.ps μ-cost t) cost.Pre
+
+abbrev cost-below : ℕ → In 1 cost-kinds.ps
+cost-below t = and 1 cost-kinds.ps (falls 1 cost-kinds.ps _<_ μ-cost t) cost.Pre
+
+abbrev copies-cost-Inv-loop : copies-cost-lts.InvT-loop
+copies-cost-Inv-loop work p u n outer inner e c acc limit m sum₀ k₀ sum k =
+    (k ≤ c) × CopiesCost work p u n outer inner e k acc limit sum
+
+abbrev copies-cost-μ-loop : copies-cost-lts.MeasureT-loop
+copies-cost-μ-loop work p u n outer inner e c acc limit m sum₀ k₀ sum k =
+    c - k
+
+abbrev copies-cost-claims : ℕ → copies-cost-lts.Claims
+copies-cost-claims t = (deepen-reads.Asked, deepen-reads.Learnt, cost-below t, cost.Post)
+
+copies-cost-deepen-requires : (t : ℕ) → copies-cost-lts.Need-deepen-requires (copies-cost-claims t) (copies-cost-at t) copies-cost.Post copies-cost-Inv-loop copies-cost-μ-loop
+copies-cost-deepen-requires t c κs =
+    search needs
+
+copies-cost-loop-holds : (t : ℕ) → copies-cost-lts.Need-loop-holds (copies-cost-claims t) (copies-cost-at t) copies-cost.Post copies-cost-Inv-loop copies-cost-μ-loop
+copies-cost-loop-holds t c =
+    let a = c .before .before .args in (omega arith, copies-begin (a .work .now) (a .p) (a .u) (a .n) (a .outer) (a .inner) (a .e) (a .acc) (a .limit) (c .before .before .pre .1))
+
+copies-cost-returns : (t : ℕ) → copies-cost-lts.Need-returns (copies-cost-claims t) (copies-cost-at t) copies-cost.Post copies-cost-Inv-loop copies-cost-μ-loop
+copies-cost-returns t c =
+    let a = c .before .before .before .before .before .args in copies-past (a .work .now) (a .p) (a .u) (a .n) (a .outer) (a .inner) (a .e) (a .acc) (a .limit) (c .before .before .loop .k) (c .before .before .loop .sum) (c .before .before .loop .inv .1) (a .c) (c .before .before .loop .inv .0) (c .if1 .taken)
+
+copies-cost-add-cost : (t : ℕ) → copies-cost-lts.Need-add-cost (copies-cost-claims t) (copies-cost-at t) copies-cost.Post copies-cost-Inv-loop copies-cost-μ-loop
+copies-cost-add-cost t c =
+    omega (arith, c .before .before .before .before .before .pre .1)
+
+copies-cost-cost-requires : (t : ℕ) → copies-cost-lts.Need-cost-requires (copies-cost-claims t) (copies-cost-at t) copies-cost.Post copies-cost-Inv-loop copies-cost-μ-loop
+copies-cost-cost-requires t c κs =
+    (omega (arith, c .before .before .before .before .before .pre .0), record { most = omega arith; small = c .before .before .before .before .before .pre .1 .small })
+
+copies-cost-add-k : (t : ℕ) → copies-cost-lts.Need-add-k (copies-cost-claims t) (copies-cost-at t) copies-cost.Post copies-cost-Inv-loop copies-cost-μ-loop
+copies-cost-add-k t c =
+    search needs
+
+copies-cost-loop-less : (t : ℕ) → copies-cost-lts.Need-loop-less (copies-cost-claims t) (copies-cost-at t) copies-cost.Post copies-cost-Inv-loop copies-cost-μ-loop
+copies-cost-loop-less t c =
+    search needs
+
+copies-cost-loop-again : (t : ℕ) → copies-cost-lts.Need-loop-again (copies-cost-claims t) (copies-cost-at t) copies-cost.Post copies-cost-Inv-loop copies-cost-μ-loop
+copies-cost-loop-again t c =
+    let a = c .before .before .before .before .before .before .args in (omega arith, copies-next (a .work .now) (a .p) (a .u) (a .n) (a .outer) (a .inner) (a .e) (a .acc) (a .limit) (c .before .before .before .loop .k) (c .before .before .before .loop .sum) (c .before .before .before .loop .inv .1) _ _ (c .before .before .before .before .deepen .ensures) (c .cost .ensures))
+
+copies-cost-returns-2 : (t : ℕ) → copies-cost-lts.Need-returns-2 (copies-cost-claims t) (copies-cost-at t) copies-cost.Post copies-cost-Inv-loop copies-cost-μ-loop
+copies-cost-returns-2 t c =
+    let a = c .before .before .before .before .args in let e : c .before .loop .k ≡ a .c = omega arith in subst (λ (k : ℕ). CopiesCost (a .work .now) (a .p) (a .u) (a .n) (a .outer) (a .inner) (a .e) k (a .acc) (a .limit) (c .before .loop .sum)) e (c .before .loop .inv .1)
+
+abbrev cost-claims : ℕ → cost-lts.Claims
+cost-claims t = (word-reads.Asked, word-reads.Learnt, reference-reads.Asked, reference-reads.Learnt, taken-reads.Asked, taken-reads.Learnt, size-reads.Asked, size-reads.Learnt, cost-below t, cost.Post, copies-reads.Asked, copies-reads.Learnt, copies-cost-below t, copies-cost.Post)
+
+cost-returns : (t : ℕ) → cost-lts.Need-returns (cost-claims t) (cost-at t) cost.Post
+cost-returns t c =
+    let a = c .before .before .args in cost-past (a .work .now) (a .p) (a .u) (a .n) (a .outer) (a .inner) (a .t) (a .acc) (a .limit) (c .if1 .taken) (c .before .before .pre .1)
+
+cost-word-requires : (t : ℕ) → cost-lts.Need-word-requires (cost-claims t) (cost-at t) cost.Post
+cost-word-requires t c κs =
+    search needs
+
+cost-reference-requires : (t : ℕ) → cost-lts.Need-reference-requires (cost-claims t) (cost-at t) cost.Post
+cost-reference-requires t c κs =
+    search needs
+
+cost-reference-requires-2 : (t : ℕ) → cost-lts.Need-reference-requires-2 (cost-claims t) (cost-at t) cost.Post
+cost-reference-requires-2 t c κs =
+    search needs
+
+cost-word-requires-2 : (t : ℕ) → cost-lts.Need-word-requires-2 (cost-claims t) (cost-at t) cost.Post
+cost-word-requires-2 t c κs =
+    search needs
+
+cost-word-requires-3 : (t : ℕ) → cost-lts.Need-word-requires-3 (cost-claims t) (cost-at t) cost.Post
+cost-word-requires-3 t c κs =
+    search needs
+
+cost-taken-requires : (t : ℕ) → cost-lts.Need-taken-requires (cost-claims t) (cost-at t) cost.Post
+cost-taken-requires t c κs =
+    search needs
+
+cost-size-requires : (t : ℕ) → cost-lts.Need-size-requires (cost-claims t) (cost-at t) cost.Post
+cost-size-requires t c κs =
+    c .before .before .before .before .before .before .before .before .before .pre .1
+
+cost-returns-2 : (t : ℕ) → cost-lts.Need-returns-2 (cost-claims t) (cost-at t) cost.Post
+cost-returns-2 t c =
+    let a = c .before .before .before .before .before .before .before .before .before .before .args in cost-variable (a .work .now) (a .p) (a .u) (a .n) (a .outer) (a .inner) (a .t) (a .acc) (a .limit) _ (c .before .before .before .before .before .before .before .word .ensures) _ _ _ _ (c .before .before .before .before .if2 .taken) (c .before .before .before .word2 .ensures) (c .before .before .word3 .ensures) (c .before .taken .ensures) (c .size .ensures)
+
+cost-add-cost : (t : ℕ) → cost-lts.Need-add-cost (cost-claims t) (cost-at t) cost.Post
+cost-add-cost t c =
+    omega (arith, c .before .before .before .before .before .before .before .pre .1)
+
+cost-cost-requires : (t : ℕ) → cost-lts.Need-cost-requires (cost-claims t) (cost-at t) cost.Post
+cost-cost-requires t c κs =
+    let a = c .before .before .before .before .before .before .before .args in let l = tag-falls (a .work .now) (a .t) _ (c .before .before .before .before .word .ensures) 3 _ (λ z. omega arith) (c .before .before .reference2 .ensures) in (omega (arith, l, c .before .before .before .before .before .before .before .pre .0), record { most = omega arith; small = c .before .before .before .before .before .before .before .pre .1 .small })
+
+cost-cost-requires-2 : (t : ℕ) → cost-lts.Need-cost-requires-2 (cost-claims t) (cost-at t) cost.Post
+cost-cost-requires-2 t c κs =
+    let a = c .before .before .before .before .before .before .before .before .args in let l = tag-falls (a .work .now) (a .t) _ (c .before .before .before .before .before .word .ensures) 2 _ (λ z. omega arith) (c .before .before .before .before .reference .ensures) in (omega (arith, l, c .before .before .before .before .before .before .before .before .pre .0), record { most = c .cost .ensures .most; small = c .before .before .before .before .before .before .before .before .pre .1 .small })
+
+cost-returns-3 : (t : ℕ) → cost-lts.Need-returns-3 (cost-claims t) (cost-at t) cost.Post
+cost-returns-3 t c =
+    let a = c .before .before .before .before .before .before .before .before .before .args in cost-pair (a .work .now) (a .p) (a .u) (a .n) (a .outer) (a .inner) (a .t) (a .acc) (a .limit) _ (c .before .before .before .before .before .before .word .ensures) _ _ (c .before .before .before .before .reference2 .ensures) (c .before .before .before .before .before .reference .ensures) _ _ (c .before .before .if3 .taken) (c .before .cost .ensures) (c .cost2 .ensures)
+
+cost-add-result : (t : ℕ) → cost-lts.Need-add-result (cost-claims t) (cost-at t) cost.Post
+cost-add-result t c =
+    omega (arith, c .before .before .before .before .before .before .before .before .pre .1)
+
+cost-returns-4 : (t : ℕ) → cost-lts.Need-returns-4 (cost-claims t) (cost-at t) cost.Post
+cost-returns-4 t c =
+    let a = c .before .before .before .before .before .before .before .before .args in cost-leaf (a .work .now) (a .p) (a .u) (a .n) (a .outer) (a .inner) (a .t) (a .acc) (a .limit) _ (c .before .before .before .before .before .word .ensures) (c .before .before .if2 .left) (c .before .if3 .left) (c .if4 .taken) (c .before .before .before .before .before .before .if1 .left)
+
+cost-copies-requires : (t : ℕ) → cost-lts.Need-copies-requires (cost-claims t) (cost-at t) cost.Post
+cost-copies-requires t c κs =
+    search needs
+
+cost-copies-cost-requires : (t : ℕ) → cost-lts.Need-copies-cost-requires (cost-claims t) (cost-at t) cost.Post
+cost-copies-cost-requires t c κs =
+    let a = c .before .before .before .before .before .before .before .before .before .args in let l = tag-falls (a .work .now) (a .t) _ (c .before .before .before .before .before .before .word .ensures) 3 _ (λ z. omega arith) (c .before .before .before .before .reference2 .ensures) in (omega (arith, l, c .before .before .before .before .before .before .before .before .before .pre .0), c .before .before .before .before .before .before .before .before .before .pre .1)
+
+cost-cost-requires-3 : (t : ℕ) → cost-lts.Need-cost-requires-3 (cost-claims t) (cost-at t) cost.Post
+cost-cost-requires-3 t c κs =
+    let a = c .before .before .before .before .before .before .before .before .before .before .args in let l = tag-falls (a .work .now) (a .t) _ (c .before .before .before .before .before .before .before .word .ensures) 2 _ (λ z. omega arith) (c .before .before .before .before .before .before .reference .ensures) in (omega (arith, l, c .before .before .before .before .before .before .before .before .before .before .pre .0), record { most = c .copies-cost .ensures .most; small = c .before .before .before .before .before .before .before .before .before .before .pre .1 .small })
+
+cost-returns-5 : (t : ℕ) → cost-lts.Need-returns-5 (cost-claims t) (cost-at t) cost.Post
+cost-returns-5 t c =
+    let a = c .before .before .before .before .before .before .before .before .before .before .before .args in cost-ellipsis (a .work .now) (a .p) (a .u) (a .n) (a .outer) (a .inner) (a .t) (a .acc) (a .limit) _ (c .before .before .before .before .before .before .before .before .word .ensures) _ _ (c .before .before .before .before .before .before .reference2 .ensures) (c .before .before .before .before .before .before .before .reference .ensures) _ _ _ (c .before .before .before .if4 .left) (c .before .before .copies .ensures) (c .before .copies-cost .ensures) (c .cost3 .ensures)
+
+pub +copies-cost+cost-spec : {M : Type 1} → statement M
++copies-cost+cost-spec = close μ-copies-cost μ-cost (λ t. copies-cost-lts.spec (copies-cost-claims t) (copies-cost-at t)
+    copies-cost.Post
+    copies-cost-Inv-loop
+    copies-cost-μ-loop
+    (copies-cost-deepen-requires t)
+    (copies-cost-loop-holds t)
+    (copies-cost-returns t)
+    (copies-cost-add-cost t)
+    (copies-cost-cost-requires t)
+    (copies-cost-add-k t)
+    (copies-cost-loop-less t)
+    (copies-cost-loop-again t)
+    (copies-cost-returns-2 t))
+    λ t. cost-lts.spec (
+      word-reads.Asked,
+      word-reads.Learnt,
+      reference-reads.Asked,
+      reference-reads.Learnt,
+      taken-reads.Asked,
+      taken-reads.Learnt,
+      size-reads.Asked,
+      size-reads.Learnt,
+      cost-below t,
+      cost.Post,
+      copies-reads.Asked,
+      copies-reads.Learnt,
+      copies-cost-below t,
+      copies-cost.Post,
+    )
+    (cost-at t)
+    cost.Post
+    (cost-returns t)
+    (cost-word-requires t)
+    (cost-reference-requires t)
+    (cost-reference-requires-2 t)
+    (cost-word-requires-2 t)
+    (cost-word-requires-3 t)
+    (cost-taken-requires t)
+    (cost-size-requires t)
+    (cost-returns-2 t)
+    (cost-add-cost t)
+    (cost-cost-requires t)
+    (cost-cost-requires-2 t)
+    (cost-returns-3 t)
+    (cost-add-result t)
+    (cost-returns-4 t)
+    (cost-copies-requires t)
+    (cost-copies-cost-requires t)
+    (cost-cost-requires-3 t)
+    (cost-returns-5 t)

@@ -1,0 +1,93 @@
+// The cost of a step: the items of its whole result, counted before anything is built, and no further than one past a limit.
+// `acc` is what has been counted before.
+
+ghost use Rattle.steps.specs.Cost.{Below, Sized, Costs, CopiesCost};
+use crate::agree;
+use crate::lengths;
+use crate::parts;
+use arena::cells;
+
+// The items of a tree.
+pub fn size(work: &[u32], node: u32, acc: u32, limit: u32) -> u32
+    requires { ⌜ Below acc limit ⌝ }
+    ensures { λ r. ⌜ Sized (now (work .entry)) node acc limit r ⌝ }
+{
+    if limit < acc {
+        return acc;
+    }
+    if cells::word(work, node, 3) != cells::PAIR {
+        return acc + 1;
+    }
+    let head = cells::reference(work, node, 2);
+    let tail = cells::reference(work, node, 1);
+    let sum = size(work, head, acc + 1, limit);
+    size(work, tail, sum, limit)
+}
+
+// The items of what a template gives.
+pub fn cost(
+    work: &[u32],
+    p: u32,
+    u: u32,
+    n: u32,
+    outer: u32,
+    inner: u32,
+    t: u32,
+    acc: u32,
+    limit: u32,
+) -> u32
+    requires { ⌜ Below acc limit ⌝ }
+    ensures { λ r. ⌜ Costs (now (work .entry)) p u n outer inner t acc limit r ⌝ }
+{
+    if limit < acc {
+        return acc;
+    }
+    let tag = cells::word(work, t, 1);
+    let rest = cells::reference(work, t, 2);
+    let head = cells::reference(work, t, 3);
+    if tag == parts::VARIABLE {
+        let k = cells::word(work, t, 3);
+        let d = cells::word(work, t, 2);
+        let node = parts::taken(work, p, u, n, outer, inner, k, d);
+        return size(work, node, acc, limit);
+    }
+    if tag == parts::PAIR {
+        let sum = cost(work, p, u, n, outer, inner, head, acc + 1, limit);
+        return cost(work, p, u, n, outer, inner, rest, sum, limit);
+    }
+    if tag != parts::ELLIPSIS {
+        return acc + 1;
+    }
+    let c = lengths::copies(work, p, u, n, outer, inner, head);
+    let sum = copies_cost(work, p, u, n, outer, inner, head, c, acc, limit);
+    cost(work, p, u, n, outer, inner, rest, sum, limit)
+}
+
+// The items of c copies of an element, each with its pair.
+pub fn copies_cost(
+    work: &[u32],
+    p: u32,
+    u: u32,
+    n: u32,
+    outer: u32,
+    inner: u32,
+    e: u32,
+    c: u32,
+    acc: u32,
+    limit: u32,
+) -> u32
+    requires { ⌜ Below acc limit ⌝ }
+    ensures { λ r. ⌜ CopiesCost (now (work .entry)) p u n outer inner e c acc limit r ⌝ }
+{
+    let m = agree::deepen(n);
+    let mut sum = acc;
+    let mut k = 0;
+    while k < c {
+        if limit < sum {
+            return sum;
+        }
+        sum = cost(work, p, u, m, inner, k, e, sum + 1, limit);
+        k += 1;
+    }
+    sum
+}
