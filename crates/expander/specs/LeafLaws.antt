@@ -4,14 +4,15 @@ use mathlib.Core.List.{List, [], _∷_}
 use Prim.Native.Nat.{ℕ, _+_, _*_, _-_, _≤_, _<_}
 use native.Mathlib.Omega.{arith}
 use lib.ListN.{length}
+use Rattle.words.specs.Limits.{macrosMost}
 use Rattle.recipe.specs.Name.{variable, macro, Name}
-use Rattle.recipe.specs.Tree.{Tree, size}
+use Rattle.recipe.specs.Tree.{Tree, name, pair, size}
 use Rattle.core_term.specs.Term.{Term, variableC, operationC}
 use Rattle.core_term.specs.Node.{nodeWords}
 use Rattle.core_term.specs.Words.{encode}
 use Rattle.expansion.specs.Lookup.{Found, bound, form, operation, nothing, lookup, orUnbound}
 use Rattle.expansion.specs.Computation.{State, M, give, refuse}
-use Rattle.expansion.specs.Forms.{expandName}
+use Rattle.expansion.specs.Forms.{expandName, expandList}
 use Rattle.arena.specs.Names.{meansOf, lookupIn}
 use Rattle.arena.specs.declared.names.Meaning.{Meaning}
 use Rattle.arena.specs.declared.names.Meaning.the-variants as M
@@ -23,6 +24,7 @@ use Rattle.expander.specs.declared.answers.Reached.{Reached}
 use Rattle.expander.specs.declared.answers.Ended.{Ended}
 use Rattle.expander.specs.declared.answers.Ended.the-variants.{Done, Refused}
 use Rattle.expander.specs.Ends.{End, finished, stopped, endOf}
+use Rattle.expander.specs.EndLaws.{list-end}
 use Rattle.expander.specs.Memory.{Tables, tables, stateAt, Moved, Ready, Kept}
 use Rattle.expander.specs.MemoryLaws.{kept-moved, state-moved}
 use Rattle.expander.specs.Turns.{Lent, operationsOf, Left, KeptBy, turnOf, Ends}
@@ -128,3 +130,23 @@ module _ (items : List ℕ) (fuel : ℕ) (tree : Tree) (r : Reached) (work core 
   pub leaf-ends : (a : Ended) → Leaf E (2 * size tree) r core core′ a → Ends items fuel tree r (tables work core macros) (tables work core′ macros) a
   leaf-ends (Done q) m = made-ends q m
   leaf-ends (Refused g n k) m = stopped-ends g n k m
+
+-- ---- a list whose head is a name, by what the name finds
+
+pub headed : (items : List ℕ) (fuel : ℕ) (x : Name) (t : Tree) (found : Found) → lookup (operationsOf items) x ≡ found → (expand : Tree → M (Term Name)) (s : State)
+    → turnOf items fuel expand (pair (name x) t) s ≡ endOf (expandList macrosMost (operationsOf items) fuel expand found x (pair (name x) t) s)
+headed items fuel x t found e expand s =
+    list-end macrosMost (operationsOf items) fuel expand x t s
+    ∙ ap (λ (f : Found). endOf (expandList macrosMost (operationsOf items) fuel expand f x (pair (name x) t) s)) e
+
+-- ---- a refusal ends the expression
+
+module _ (items : List ℕ) (fuel : ℕ) (tree : Tree) (r : Reached) (before after : Tables) (g : ℕ) (is : (expand : Tree → M (Term Name)) (s : State) → turnOf items fuel expand tree s ≡ stopped g s) where
+  pub refused-ends : (a : Ended) → Refuses g r a → Ends items fuel tree r before after a
+  unfolding stateAt
+  refused-ends a e =
+      subst (λ (b : Ended). Ends items fuel tree r before after b) (sym e)
+      (record {
+        kept = tt;
+        means = λ expand. subst (λ (z : End (Term Name)). Left items encode r (before .core) after z (Refused g (r .steps) (r .sum))) (sym (is expand (stateAt items before r))) (refl, refl, refl);
+      })

@@ -7,4 +7,9 @@ pub mod Turns
 pub mod Leaves
 pub mod LeafLaws
 pub mod SpreadLaws
+pub mod Scopes
+pub mod QuotedLaws
+pub mod LambdaLaws
+pub mod Cycle
+pub mod CycleLaws
 pub mod Service

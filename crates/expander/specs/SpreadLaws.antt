@@ -27,6 +27,7 @@ use Rattle.expander.specs.EndLaws.{expandAll-pair, if-end, operands-end,
 use Rattle.expander.specs.Memory.{Tables, tables, stateAt, Put, moved, Moved, coreNeed, Ready, Placed, Kept}
 use Rattle.expander.specs.MemoryLaws.{put-after, kept-moved, state-moved}
 use Rattle.expander.specs.Turns.{operationsOf, Left, turnOf, operandsOf, Spreads}
+use Rattle.expander.specs.LeafLaws.{headed}
 
 -- ---- words that follow others
 
@@ -218,3 +219,81 @@ unfolding then
 if-first f g (finished a u) = if-second a f (g u)
 if-first f g (stopped k s) = refl
 if-first f g halted = refl
+
+-- a list that has a first element
+pub record Cons (t : Tree) (n : ℕ) : Type 0 where
+  pub first : Tree
+  pub rest : Tree
+  pub is : t ≡ pair first rest
+  pub more : length (elements rest) ≡ n
+
+pub cons : (t : Tree) (n : ℕ) → length (elements t) ≡ suc n → Cons t n
+unfolding elements
+cons empty n h = absurd (omega arith)
+cons (constant a) n h = absurd (omega arith)
+cons (name x) n h = absurd (omega arith)
+cons (pair f r) n h = record { first = f; rest = r; is = refl; more = omega arith }
+
+module _ (items : List ℕ) (fuel : ℕ) (expand : Tree → M (Term Name)) where
+  -- the end of an operand, and what stands before the later ones
+  abbrev on : Tree → State → End (Term Name)
+  on t s = endOf (expand t s)
+
+  abbrev before : Term Name → End (Terms Name) → End (Terms Name)
+  before a e = then (λ b v. finished (moreC a b) v) e
+
+  pub no-operands : (t : Tree) → length (elements t) ≡ 0 → (s : State) → operandsOf items fuel expand t s ≡ finished noneC s
+  unfolding expandAll elements give endOf
+  no-operands empty h s = refl
+  no-operands (constant a) h s = refl
+  no-operands (name x) h s = refl
+  no-operands (pair f r) h s = absurd (omega arith)
+
+  more-operands : (a t : Tree) (f : State → End (Terms Name)) → ((s : State) → operandsOf items fuel expand t s ≡ f s) → (s : State) → operandsOf items fuel expand (pair a t) s ≡ then (λ x u. before x (f u)) (on a s)
+  more-operands a t f e s =
+      expandAll-pair macrosMost (operationsOf items) fuel expand a t s
+      ∙ ap (λ (g : State → End (Terms Name)). then (λ x u. before x (g u)) (on a s)) (λ i. λ u. e u i)
+
+  three-operands : (a b c d : Tree) → length (elements d) ≡ 0 → (s : State)
+      → then (λ x u. then (λ y v. then (λ z w. finished (ifC x y z) w) (on c v)) (on b u)) (on a s) ≡ then (λ v u. finished (ifOf v) u) (operandsOf items fuel expand (pair a (pair b (pair c d))) s)
+  three-operands a b c d h s =
+      if-first (on c) (on b) (on a s)
+      ∙ ap (then (λ v u. finished (ifOf v) u)) (sym (more-operands a (pair b (pair c d)) _ (more-operands b (pair c d) _ (more-operands c d _ (no-operands d h))) s))
+
+  pub if-operands : (x : Name) (t : Tree) → length (elements t) ≡ 3 → (s : State)
+      → then (λ a u. then (λ b v. then (λ c w. finished (ifC a b c) w) (on (element 3 (pair (name x) t)) v)) (on (element 2 (pair (name x) t)) u)) (on (element 1 (pair (name x) t)) s)
+      ≡ then (λ v u. finished (ifOf v) u) (operandsOf items fuel expand t s)
+  unfolding element elements
+  if-operands x t h s =
+      let c1 = cons t 2 h in
+      let c2 = cons (c1 .rest) 1 (c1 .more) in
+      let c3 = cons (c2 .rest) 0 (c2 .more) in
+      let e : t ≡ pair (c1 .first) (pair (c2 .first) (pair (c3 .first) (c3 .rest))) = c1 .is ∙ ap (pair (c1 .first)) (c2 .is ∙ ap (pair (c2 .first)) (c3 .is)) in
+      rw e (three-operands (c1 .first) (c2 .first) (c3 .first) (c3 .rest) (c3 .more) s)
+
+pub listed : (n : ℕ) (t : Tree) → isListOf n t ≡ true → length (elements t) ≡ n
+unfolding isListOf
+listed n t e = eqb-true (length (elements t)) n (and-parts (isList t) (eqb (length (elements t)) n) e .1)
+
+module _ (items : List ℕ) (fuel : ℕ) (x : Name) (t : Tree) (r q : Reached) (work core core′ macros : List ℕ) (list w : ℕ)
+    (ready : Ready items fuel (size (pair (name x) t)) r (tables work core macros)) (placed : Placed items work (r .top) list w) (list-is : treeAt items work list w ≡ t)
+    (m : Moved (6 ∷ []) r core core′ q) (shape : isListOf 4 (pair (name x) t) ≡ true) (found : lookup (operationsOf items) x ≡ form if) where
+  three : length (elements t) ≡ 3
+  unfolding elements
+  three = let e : suc (length (elements t)) ≡ 4 = listed 4 (pair (name x) t) shape in omega arith
+
+  if-turn : (expand : Tree → M (Term Name)) (s : State) → turnOf items fuel expand (pair (name x) t) s ≡ then (λ v u. finished (ifOf v) u) (operandsOf items fuel expand t s)
+  unfolding expandList needs
+  if-turn expand s =
+      headed items fuel x t (form if) found expand s
+      ∙ if-end macrosMost (operationsOf items) fuel expand (pair (name x) t) s
+      ∙ rw shape (if-operands items fuel expand x t three s)
+
+  pub spread-if : Spreads items fuel (pair (name x) t) r (tables work core macros) (tables work core′ macros) list w q
+  unfolding size
+  spread-if =
+      spread-by items fuel (pair (name x) t) r q work core core′ macros (6 ∷ []) list w ready m placed ifOf
+      (rw list-is (omega arith))
+      (rw list-is (omega (arith, size-positive t)))
+      (λ expand s. rw list-is (if-turn expand s))
+      (λ expand s. rw list-is (if-prefixed (operandsOf items fuel expand t s) (subst (λ (n : ℕ). Counts n (operandsOf items fuel expand t s)) three (operands-count items fuel expand t s))))
