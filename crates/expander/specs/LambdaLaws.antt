@@ -179,7 +179,7 @@ module _ (items : List ℕ) (fuel : ℕ) (t : Tree) (r : Reached) (work work′ 
               (sym (lambda-turn expand s refl))
               (left-after encode encode (lambdaC (r .variables) (formals t)) (7 ∷ r .variables ∷ length (formals t) ∷ []) items r q core core′ last
               (endOf (expand (bindAll variable (r .variables) (formals t) (element 2 t)) (withVariables (length (formals t)) s))) a
-              (lambda-prefixed (r .variables) (formals t) _) (b .put) (omega (arith, ready .core-room, sizes))
+              (lambda-prefixed (r .variables) (formals t) (endOf (expand (bindAll variable (r .variables) (formals t) (element 2 t)) (withVariables (length (formals t)) s)))) (b .put) (omega (arith, ready .core-room, sizes))
               (subst (λ (z : State). Left items encode q core′ last (endOf (expand (bindAll variable (r .variables) (formals t) (element 2 t)) z)) a) lambda-state
               (subst (λ (z : Tree). Left items encode q core′ last (endOf (expand z (stateAt items (tables work′ core′ macros) q))) a) (b .body-is) l)));
         }
