@@ -13,3 +13,7 @@ pub mod ParseLaws
 pub mod PatternLaws
 pub mod Drive
 pub mod TemplateLaws
+pub mod RuleParse
+pub mod RuleLaws
+pub mod RuleListLaws
+pub mod Forms
