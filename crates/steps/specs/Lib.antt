@@ -14,3 +14,6 @@ pub mod CostLaws
 pub mod Build
 pub mod BuildLaws
 pub mod ResultLaws
+pub mod PlainRules
+pub mod Apply
+pub mod ApplyLaws

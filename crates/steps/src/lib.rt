@@ -1,6 +1,7 @@
 // A macro step on cells: lists and parts of a use, matching, lengths and cost, and the result's nodes.
 
 pub mod agree;
+pub mod apply;
 pub mod build;
 pub mod cost;
 pub mod fits;

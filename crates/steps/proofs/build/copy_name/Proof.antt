@@ -17,7 +17,7 @@ reference-requires c κs =
 
 put-name-requires : tie.Need-put-name-requires
 put-name-requires c κs =
-    (room-less _ _ (c .before .before .before .before .before .before .before .pre .0), c .before .before .before .before .before .before .before .pre .2)
+    (room-less _ _ (c .before .before .before .before .before .before .before .pre .0), omega (arith, c .before .before .before .before .before .before .before .pre .2))
 
 same-length : tie.Need-same-length
 same-length c =

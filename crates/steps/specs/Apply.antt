@@ -1,0 +1,61 @@
+-- One macro step on cells: the first rule that fits, then grounds 16 to 18 or the result (document 01, 'Forms').
+use mathlib.Core.Path.{_≡_}
+use mathlib.Core.Bool.{cond}
+use mathlib.Core.List.{List, []}
+use mathlib.Core.Option.{Option, none, some}
+use Prim.Native.Nat.{ℕ, _+_, _*_, _≤_, _<_}
+use lib.Dec.{leb}
+use lib.ListN.{length, take}
+use Rattle.words.specs.Each.{Each}
+use Rattle.recipe.specs.Tree.{Tree, size, produce}
+use Rattle.expansion.specs.Rules.{Rule}
+use Rattle.expansion.specs.Match.{firstFit}
+use Rattle.expansion.specs.Transcribe.{equalLengths, transcribe}
+use Rattle.arena.specs.Arena.{markLimit, treeAt}
+use Rattle.arena.specs.Cells.{Room}
+use Rattle.rule_cells.specs.Cells.{rulesAt}
+use Rattle.steps.specs.Plain.{Plain}
+use Rattle.steps.specs.Build.{nodeWords}
+use Rattle.steps.specs.declared.apply.Applied.{Applied}
+use Rattle.steps.specs.declared.apply.Applied.the-variants.{NoRule, Differ, Costly, Done}
+
+-- refused on a ground, or the transcribed tree
+pub data Outcome : Type 0 where
+  refused : ℕ → Outcome
+  result : Tree → Outcome
+
+-- a rule and the use that it matches, with so much fuel left
+unfoldable pub applied : ℕ → Tree → Rule → Outcome
+applied limit used r =
+    let t = transcribe (r .pattern) used [] (r .template) in
+    cond (equalLengths (r .pattern) used [] (r .template)) (cond (leb (size t) limit) (result t) (refused 18)) (refused 17)
+
+unfoldable pub stepOf : ℕ → Tree → Option Rule → Outcome
+stepOf limit used none = refused 16
+stepOf limit used (some r) = applied limit used r
+
+-- what the code's answer stands for: the ground, or the cost and the root of the result
+unfoldable pub Answers : (items new : List ℕ) → ℕ → Outcome → Applied → Type 0
+Answers items new top (refused g) NoRule = g ≡ 16
+Answers items new top (refused g) Differ = g ≡ 17
+Answers items new top (refused g) Costly = g ≡ 18
+Answers items new top (refused g) (Done root cost) = ⊥
+Answers items new top (result t) NoRule = ⊥
+Answers items new top (result t) Differ = ⊥
+Answers items new top (result t) Costly = ⊥
+Answers items new top (result t) (Done root cost) =
+    (cost ≡ size t) × (treeAt items new root 0 ≡ produce t) × (top ≤ root) × (root ≤ top + nodeWords * cost)
+
+pub record Stepped (items old new : List ℕ) (top rules u w limit : ℕ) (r : Applied) : Type 0 where
+  pub is : Answers items new top (stepOf limit (treeAt items old u w) (firstFit (rulesAt items old rules) (treeAt items old u w) .1)) r
+  pub kept : take top new ≡ take top old
+
+-- plain rules and a use below the top, with room for as many items as there is fuel
+pub record Stepping (items work marks : List ℕ) (top rules u w limit : ℕ) : Type 0 where
+  pub plain : Each (λ x. Plain (x .template)) (rulesAt items work rules)
+  pub rules-below : rules ≤ top
+  pub use-below : u ≤ top
+  pub wrap-below : w ≤ top
+  pub items-below : length items ≤ top
+  pub room : Room work top (nodeWords * limit)
+  pub marks-room : 2 * markLimit < length marks
