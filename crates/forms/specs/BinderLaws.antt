@@ -1,22 +1,21 @@
 -- Laws of the names that a list binds, one for each way through the code.
-use mathlib.Core.Path.{_≡_, refl, sym, ap, ap₂, subst, _∙_}
-use mathlib.Core.Bool.{Bool, true, false, not, _&&_, _||_}
-use mathlib.Core.List.{List, [], _∷_, _++_}
-use Prim.Native.Nat.{ℕ, zero, suc, _+_, _*_, _-_, _≤_, _<_}
+use mathlib.Core.Path.{_≡_, refl, sym, _∙_}
+use mathlib.Core.Bool.{Bool, true, false}
+use mathlib.Core.List.{List, [], _∷_}
+use Prim.Native.Nat.{ℕ, _<_}
 use native.Mathlib.Omega.{arith}
 use lib.Dec.{eqb}
-use lib.ListN.{length, take}
 use borrow.Author.Tests.{eqb-true, eqb-false}
-use Rattle.words.specs.Lists.{all, any}
+use Rattle.words.specs.Lists.{any}
 use Rattle.words.specs.ListLaws.{never}
 use Rattle.words.specs.TestLaws.{and-right, all-parts}
-use Rattle.recipe.specs.Name.{Binding, variable, macro, Name, same, distinct, bindName}
-use Rattle.recipe.specs.Tree.{Tree, empty, constant, name, pair, names, isOrdinaryName, isListOf, elements, element}
+use Rattle.recipe.specs.Name.{Name, same, distinct}
+use Rattle.recipe.specs.Tree.{Tree, name, pair, names, isOrdinaryName, isListOf, elements, element}
 use Rattle.expansion.specs.Forms.{isMacro}
 use Rattle.arena.specs.Arena.{wordAt, referenceAt, nameAt, treeAt}
 use Rattle.arena.specs.ArenaLaws.{cases, wordAt-some, referenceAt-falls}
 use Rattle.arena.specs.NodeLaws.{treeAt-name}
-use Rattle.forms.specs.Lists.{Means}
+use Rattle.steps.specs.Lists.{Means}
 use Rattle.forms.specs.ListLaws.{no-pair, a-pair}
 use Rattle.forms.specs.Shapes.{ownName, bindsOne}
 use Rattle.forms.specs.ShapeLaws.{ordinary-other}

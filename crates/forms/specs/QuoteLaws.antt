@@ -2,26 +2,26 @@
 use mathlib.Core.Path.{_≡_, refl, sym, ap, ap₂, subst, _∙_}
 use mathlib.Core.Bool.{Bool, true, false, _&&_}
 use mathlib.Core.List.{List, [], _∷_, _++_, append-assoc, append-nil}
-use Prim.Native.Nat.{ℕ, zero, suc, _+_, _*_, _-_, _^_, _≤_, _<_}
+use Prim.Native.Nat.{ℕ, zero, suc, _+_, _*_, _≤_, _<_}
 use native.Mathlib.Omega.{arith}
 use native.Mathlib.Numerals.{add-one}
 use lib.Dec.{eqb, ltb}
-use lib.ListN.{length, getD, take, drop, set, length-append, length-set, take-append-drop}
+use lib.ListN.{length, getD, take, drop, set, length-append, take-append-drop}
 use lib.Seq.{take-at, drop-at, drop-drop, length-take-le, sets-eq}
 use Rattle.words.specs.ListLaws.{never}
 use Rattle.datum.specs.Constant.{Constant, isConstant, constantWords}
 use Rattle.datum.specs.Datum as D
 use Rattle.recipe.specs.Name.{Name}
 use Rattle.recipe.specs.Tree.{Tree, empty, constant, name, pair, size, isList, elements, strip, stripTail, onNames}
-use Rattle.recipe.specs.Tidy.{Tidy, tidyEmpty, tidyConstant, tidyName, tidyPair, tidy-weaken, onNames-isList}
+use Rattle.recipe.specs.Tidy.{Tidy, tidyConstant, tidyName, tidyPair, tidy-weaken, onNames-isList}
 use Rattle.core_term.specs.Node.{nodeWords}
 use Rattle.core_term.specs.Words.{datumWords, dataWords}
-use Rattle.arena.specs.Arena.{wordAt, referenceAt, wrapAt, nameAt, constantAt, treeAt}
+use Rattle.arena.specs.Arena.{wordAt, referenceAt, wrapAt, constantAt, treeAt}
 use Rattle.arena.specs.ArenaLaws.{wrapAt-number, wordAt-some, referenceAt-falls}
 use Rattle.arena.specs.NodeLaws.{treeAt-wrap, treeAt-empty, treeAt-name, treeAt-constant}
 use Rattle.arena.specs.Names.{numberOf}
 use Rattle.arena.specs.NameLaws.{nameAt-number}
-use Rattle.forms.specs.Lists.{Counts}
+use Rattle.steps.specs.Lists.{Counts}
 use Rattle.forms.specs.ListLaws.{no-pair, a-pair}
 use Rattle.forms.specs.Quotes.{quotedAt, elementsAt, Quotable, Written, Walked}
 
@@ -250,3 +250,6 @@ mutual
   elements-size (constant a) = omega arith
   elements-size (name x) = omega arith
   elements-size (pair h t) = simp length-append (omega (arith, quoted-size h, elements-size t))
+
+pub quoted-most : (items work : List ℕ) (node w : ℕ) → length (quotedAt items work node) ≤ 2 * size (treeAt items work node w)
+quoted-most items work node w = rw (sym (quoted-any items work node w)) (quoted-size (treeAt items work node w))

@@ -4,11 +4,11 @@ use mathlib.Core.Path.{_≡_, refl, sym, ap, ap₂, subst, _∙_}
 use mathlib.Core.Bool.{Bool, true, false, _&&_}
 use mathlib.Core.List.{List, [], _∷_, _++_}
 use mathlib.Core.Option.{some}
-use Prim.Native.Nat.{ℕ, zero, suc, _+_, _*_, _-_, _^_, _≤_, _<_}
+use Prim.Native.Nat.{ℕ, suc, _+_, _*_, _^_, _≤_, _<_}
 use native.Mathlib.Omega.{arith}
 use native.Mathlib.Numerals.{add-one}
 use lib.Dec.{leb}
-use lib.ListN.{length, take, length-append}
+use lib.ListN.{length, length-append}
 use borrow.Author.Tests.{leb-true}
 use Rattle.words.specs.Limits.{formalsMost}
 use Rattle.words.specs.Lists.{within, all}
@@ -20,7 +20,7 @@ use Rattle.recipe.specs.Tree.{Tree, empty, constant, name, pair, names, isOrdin
 use Rattle.recipe.specs.TreeLaws.{onNames-∘}
 use Rattle.recipe.specs.Tidy.{Tidy, tidyEmpty, tidyConstant, tidyName, tidyPair, tidy-element, ordinary-names}
 use Rattle.expansion.specs.Forms.{isLambda, formals, isMacro, isMacros, firstNames, keywords}
-use Rattle.arena.specs.Arena.{wordAt, referenceAt, wrapAt, nameAt, treeAt}
+use Rattle.arena.specs.Arena.{wrapAt, nameAt, treeAt}
 use Rattle.arena.specs.ArenaLaws.{take-less}
 use Rattle.arena.specs.Cells.{Room, Binds}
 use Rattle.arena.specs.CellLaws.{tree-kept, tree-after}

@@ -1,24 +1,24 @@
 -- Laws of shapes, one for each way through the code.
-use mathlib.Core.Path.{_≡_, refl, sym, ap, ap₂, _∙_}
+use mathlib.Core.Path.{_≡_, refl, sym, ap, _∙_}
 use mathlib.Core.Bool.{Bool, true, false, not, _&&_, and-false}
-use mathlib.Core.List.{List, [], _∷_}
-use Prim.Native.Nat.{ℕ, zero, suc, _+_, _-_, _≤_, _<_}
+use mathlib.Core.List.{List}
+use Prim.Native.Nat.{ℕ, zero, suc, _-_}
 use native.Mathlib.Omega.{arith}
-use lib.Dec.{eqb, leb, leb·zero, leb·suc-zero, leb·suc-suc}
+use lib.Dec.{eqb, leb·zero, leb·suc-zero, leb·suc-suc}
 use lib.ListN.{length}
 use borrow.Author.Tests.{eqb-true, eqb-false, ne-eqb, le-leb}
 use Rattle.words.specs.Lists.{within, all}
-use Rattle.recipe.specs.Name.{Name, isOrdinary, isEllipsis, isWildcard}
-use Rattle.recipe.specs.Tree.{Tree, empty, constant, name, pair, onName, isOrdinaryName, isList, isListOf, onEmpty, onPair, elements, element}
+use Rattle.recipe.specs.Name.{isOrdinary, isEllipsis, isWildcard}
+use Rattle.recipe.specs.Tree.{pair, onName, isOrdinaryName, isList, isListOf, onEmpty, onPair, elements, element}
 use Rattle.expansion.specs.Forms.{isLambda, isMacro, isMacros}
 use Rattle.arena.specs.Arena.{wordAt, referenceAt, nameAt, treeAt}
 use Rattle.arena.specs.ArenaLaws.{cases}
 use Rattle.arena.specs.NodeLaws.{treeAt-empty, treeAt-name, treeAt-pair, treeAt-constant}
 use Rattle.arena.specs.Names.{numberOf}
 use Rattle.arena.specs.NameLaws.{nameAt-number}
-use Rattle.forms.specs.Lists.{Means, Tests}
+use Rattle.steps.specs.Lists.{Means}
 use Rattle.forms.specs.ListLaws.{no-pair, a-pair}
-use Rattle.forms.specs.Shapes.{TestsIn, ownName, bindsOne, bindsAll}
+use Rattle.forms.specs.Shapes.{Tests, TestsIn, ownName, bindsOne, bindsAll}
 
 -- ---- names
 

@@ -3,7 +3,7 @@
 
 ghost use mathlib.Core.Path.{_≡_};
 ghost use mathlib.Core.Bool.{true, false};
-ghost use Prim.Native.Nat.{ℕ, _+_, _*_, _^_, _<_};
+ghost use Prim.Native.Nat.{_+_, _*_, _^_, _<_};
 ghost use lib.ListN.{length};
 ghost use Rattle.words.specs.Lists.{any};
 ghost use mathlib.Core.Option.{some};
@@ -12,10 +12,10 @@ ghost use Rattle.recipe.specs.Tree.{element};
 ghost use Rattle.expansion.specs.Forms.{isLambda, formals, keywords};
 ghost use Rattle.arena.specs.Arena.{markLimit, nameAt, treeAt};
 ghost use Rattle.forms.specs.Binders.{AllNames, namesIn, Proper, bindsTo, Space, Scoped};
-use crate::lists;
 use crate::shapes;
 use arena::cells;
 use arena::names;
+use steps::lists;
 
 // Whether a name is the same as one that the list binds.
 pub fn is_among(

@@ -14,7 +14,7 @@ use Rattle.forms.proofs.binders.+bind_names.{statement}
 use Rattle.forms.proofs.binders.+bind_names.Tie.{close}
 use native.Mathlib.Omega.{arith}
 use borrow.Author.Needs.{needs}
-use mathlib.Core.Path.{refl, _∙_}
+use mathlib.Core.Path.{_∙_}
 use Rattle.forms.specs.BinderLaws.{opened, names-none}
 use Rattle.forms.specs.ScopeLaws.{scoped-none, own-below, room-one, number-small, ordinary-next, space-next, scoped-more}
 

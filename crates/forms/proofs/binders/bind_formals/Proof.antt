@@ -2,14 +2,8 @@
 use borrow.Author.Needs.{needs}
 use Rattle.forms.proofs.binders.bind_formals.Statement.{statement}
 use Rattle.forms.proofs.binders.bind_formals.Tie as tie
-use Rattle.forms.proofs.binders.bind_formals.Reads as reads
-use Rattle.forms.proofs.binders.bind_formals.Lts as lts
-use Rattle.forms.proofs.binders.bind_names.Reads as bind-names-reads
-use Rattle.forms.proofs.lists.element.Reads as element-reads
-use mathlib.Core.Path.{_≡_, sym, ap, subst, _∙_}
+use mathlib.Core.Path.{sym, ap, subst, _∙_}
 use mathlib.Core.Bool.{false}
-use mathlib.Core.List.{List}
-use Rattle.recipe.specs.Name.{Name}
 use Rattle.recipe.specs.Tree.{Tree}
 use Rattle.expansion.specs.Forms.{formals}
 use Rattle.arena.specs.Arena.{treeAt}

@@ -2,8 +2,6 @@
 use borrow.Author.Needs.{needs}
 use Rattle.forms.proofs.binders.key_of.Statement.{statement}
 use Rattle.forms.proofs.binders.key_of.Tie as tie
-use Rattle.forms.proofs.binders.key_of.Reads as reads
-use Rattle.forms.proofs.binders.key_of.Lts as lts
 use Rattle.forms.specs.ScopeLaws.{key-macro, key-variable}
 
 mul-result : tie.Need-mul-result

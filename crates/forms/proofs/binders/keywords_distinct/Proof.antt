@@ -2,11 +2,7 @@
 use borrow.Author.Needs.{needs}
 use Rattle.forms.proofs.binders.keywords_distinct.Statement.{statement}
 use Rattle.forms.proofs.binders.keywords_distinct.Tie as tie
-use Rattle.forms.proofs.binders.keywords_distinct.Reads as reads
-use Rattle.forms.proofs.binders.keywords_distinct.Lts as lts
-use Rattle.forms.proofs.binders.are_distinct.Reads as are-distinct-reads
-use Rattle.forms.proofs.lists.element.Reads as element-reads
-use mathlib.Core.Path.{_≡_, sym, ap, subst, _∙_}
+use mathlib.Core.Path.{sym, ap, subst, _∙_}
 use mathlib.Core.Bool.{true}
 use Rattle.recipe.specs.Name.{distinct}
 use Rattle.recipe.specs.Tree.{Tree}

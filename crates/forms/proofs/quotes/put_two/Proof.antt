@@ -2,8 +2,6 @@
 use borrow.Author.Needs.{needs}
 use Rattle.forms.proofs.quotes.put_two.Statement.{statement}
 use Rattle.forms.proofs.quotes.put_two.Tie as tie
-use Rattle.forms.proofs.quotes.put_two.Reads as reads
-use Rattle.forms.proofs.quotes.put_two.Lts as lts
 use native.Mathlib.Omega.{arith}
 use lib.ListN.{length-set}
 use Rattle.forms.specs.QuoteLaws.{written-two}

@@ -10,7 +10,6 @@ use Rattle.arena.proofs.cells.word.Reads as word-reads
 use Rattle.forms.proofs.shapes.binds_one.Reads as binds-one-reads
 use Rattle.forms.proofs.shapes.+binds_all.{statement}
 use Rattle.forms.proofs.shapes.+binds_all.Tie.{close}
-use native.Mathlib.Omega.{arith}
 use borrow.Author.Needs.{needs}
 use borrow.Author.Tests.{not-true, not-false}
 use Rattle.forms.specs.ShapeLaws.{all-none, all-over, all-first, all-later}

@@ -2,10 +2,6 @@
 use borrow.Author.Needs.{needs}
 use Rattle.forms.proofs.shapes.binds_one.Statement.{statement}
 use Rattle.forms.proofs.shapes.binds_one.Tie as tie
-use Rattle.forms.proofs.shapes.binds_one.Reads as reads
-use Rattle.forms.proofs.shapes.binds_one.Lts as lts
-use Rattle.forms.proofs.shapes.is_macro.Reads as is-macro-reads
-use Rattle.forms.proofs.shapes.is_ordinary.Reads as is-ordinary-reads
 use Rattle.forms.specs.ShapeLaws.{one-macro, one-formal}
 
 is-macro-requires : tie.Need-is-macro-requires

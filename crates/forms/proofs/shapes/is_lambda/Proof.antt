@@ -2,12 +2,6 @@
 use borrow.Author.Needs.{needs}
 use Rattle.forms.proofs.shapes.is_lambda.Statement.{statement}
 use Rattle.forms.proofs.shapes.is_lambda.Tie as tie
-use Rattle.forms.proofs.shapes.is_lambda.Reads as reads
-use Rattle.forms.proofs.shapes.is_lambda.Lts as lts
-use Rattle.forms.proofs.lists.element.Reads as element-reads
-use Rattle.forms.proofs.lists.is_list.Reads as is-list-reads
-use Rattle.forms.proofs.lists.is_list_of.Reads as is-list-of-reads
-use Rattle.forms.proofs.shapes.binds_all.Reads as binds-all-reads
 use borrow.Author.Tests.{not-true, not-false}
 use Rattle.forms.specs.ShapeLaws.{lambda-shape, lambda-list, lambda-all}
 

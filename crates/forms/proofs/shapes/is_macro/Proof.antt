@@ -2,11 +2,6 @@
 use borrow.Author.Needs.{needs}
 use Rattle.forms.proofs.shapes.is_macro.Statement.{statement}
 use Rattle.forms.proofs.shapes.is_macro.Tie as tie
-use Rattle.forms.proofs.shapes.is_macro.Reads as reads
-use Rattle.forms.proofs.shapes.is_macro.Lts as lts
-use Rattle.forms.proofs.lists.element.Reads as element-reads
-use Rattle.forms.proofs.lists.is_list_of.Reads as is-list-of-reads
-use Rattle.forms.proofs.shapes.is_ordinary.Reads as is-ordinary-reads
 use borrow.Author.Tests.{not-true, not-false}
 use Rattle.forms.specs.ShapeLaws.{macro-shape, macro-name}
 

@@ -2,12 +2,6 @@
 use borrow.Author.Needs.{needs}
 use Rattle.forms.proofs.shapes.is_macros.Statement.{statement}
 use Rattle.forms.proofs.shapes.is_macros.Tie as tie
-use Rattle.forms.proofs.shapes.is_macros.Reads as reads
-use Rattle.forms.proofs.shapes.is_macros.Lts as lts
-use Rattle.arena.proofs.cells.word.Reads as word-reads
-use Rattle.forms.proofs.lists.element.Reads as element-reads
-use Rattle.forms.proofs.lists.is_list_of.Reads as is-list-of-reads
-use Rattle.forms.proofs.shapes.binds_all.Reads as binds-all-reads
 use borrow.Author.Tests.{not-true, not-false}
 use Rattle.forms.specs.ShapeLaws.{macros-shape, macros-none, macros-all}
 

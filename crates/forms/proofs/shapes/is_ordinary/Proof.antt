@@ -2,10 +2,6 @@
 use borrow.Author.Needs.{needs}
 use Rattle.forms.proofs.shapes.is_ordinary.Statement.{statement}
 use Rattle.forms.proofs.shapes.is_ordinary.Tie as tie
-use Rattle.forms.proofs.shapes.is_ordinary.Reads as reads
-use Rattle.forms.proofs.shapes.is_ordinary.Lts as lts
-use Rattle.arena.proofs.cells.word.Reads as word-reads
-use Rattle.arena.proofs.names.number_of.Reads as number-of-reads
 use Rattle.forms.specs.ShapeLaws.{ordinary-other, ordinary-ellipsis, ordinary-last}
 
 word-requires : tie.Need-word-requires

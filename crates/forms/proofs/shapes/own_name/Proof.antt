@@ -2,9 +2,6 @@
 use borrow.Author.Needs.{needs}
 use Rattle.forms.proofs.shapes.own_name.Statement.{statement}
 use Rattle.forms.proofs.shapes.own_name.Tie as tie
-use Rattle.forms.proofs.shapes.own_name.Reads as reads
-use Rattle.forms.proofs.shapes.own_name.Lts as lts
-use Rattle.forms.proofs.lists.element.Reads as element-reads
 use Rattle.forms.specs.ShapeLaws.{own-macro, own-formal}
 
 element-requires : tie.Need-element-requires

@@ -1,11 +1,7 @@
--- `lists::is_list_of`: a list, and its count.
+-- `shapes::is_list_of`: a list, and its count.
 use borrow.Author.Needs.{needs}
-use Rattle.forms.proofs.lists.is_list_of.Statement.{statement}
-use Rattle.forms.proofs.lists.is_list_of.Tie as tie
-use Rattle.forms.proofs.lists.is_list_of.Reads as reads
-use Rattle.forms.proofs.lists.is_list_of.Lts as lts
-use Rattle.forms.proofs.lists.has_length.Reads as has-length-reads
-use Rattle.forms.proofs.lists.is_list.Reads as is-list-reads
+use Rattle.forms.proofs.shapes.is_list_of.Statement.{statement}
+use Rattle.forms.proofs.shapes.is_list_of.Tie as tie
 use Rattle.forms.specs.ListLaws.{list-of, list-not}
 
 is-list-requires : tie.Need-is-list-requires

@@ -1,10 +1,7 @@
--- `lists::is_list`, by the node's kind.
+-- `shapes::is_list`, by the node's kind.
 use borrow.Author.Needs.{needs}
-use Rattle.forms.proofs.lists.is_list.Statement.{statement}
-use Rattle.forms.proofs.lists.is_list.Tie as tie
-use Rattle.forms.proofs.lists.is_list.Reads as reads
-use Rattle.forms.proofs.lists.is_list.Lts as lts
-use Rattle.arena.proofs.cells.word.Reads as word-reads
+use Rattle.forms.proofs.shapes.is_list.Statement.{statement}
+use Rattle.forms.proofs.shapes.is_list.Tie as tie
 use Rattle.forms.specs.ListLaws.{list-empty, list-pair}
 
 word-requires : tie.Need-word-requires

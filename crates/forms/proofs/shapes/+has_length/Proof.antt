@@ -1,15 +1,14 @@
--- `lists::has_length`, one element after another.
+-- `shapes::has_length`, one element after another.
 use Prim.Native.Nat.{ℕ, _<_}
 use borrow.Fn.Kinds.{In}
 use borrow.Fn.PlainCycle.{Measures, is, falls, and}
-use Rattle.forms.proofs.lists.has_length.Reads as has-length
-use Rattle.forms.proofs.lists.has_length.Kinds as has-length-kinds
-use Rattle.forms.proofs.lists.+has_length.Lts-has_length as has-length-lts
+use Rattle.forms.proofs.shapes.has_length.Reads as has-length
+use Rattle.forms.proofs.shapes.has_length.Kinds as has-length-kinds
+use Rattle.forms.proofs.shapes.+has_length.Lts-has_length as has-length-lts
 use Rattle.arena.proofs.cells.reference.Reads as reference-reads
 use Rattle.arena.proofs.cells.word.Reads as word-reads
-use Rattle.forms.proofs.lists.+has_length.{statement}
-use Rattle.forms.proofs.lists.+has_length.Tie.{close}
-use native.Mathlib.Omega.{arith}
+use Rattle.forms.proofs.shapes.+has_length.{statement}
+use Rattle.forms.proofs.shapes.+has_length.Tie.{close}
 use Rattle.forms.specs.ListLaws.{count-none, count-over, count-later}
 use borrow.Author.Needs.{needs}
 
