@@ -3,56 +3,98 @@ use mathlib.Core.Path.{_≡_}
 use mathlib.Core.List.{List}
 use Prim.Native.Nat.{ℕ, _+_, _*_, _-_, _≤_, _<_}
 use lib.ListN.{length}
-use Rattle.expansion.specs.Computation.{State}
-use Rattle.expander.specs.declared.Reached.{Reached}
-use Rattle.expander.specs.declared.Ended.{Ended}
-use Rattle.expander.specs.declared.Ended.the-variants.{Done, Refused}
-use Rattle.expander.specs.Ends.{End, finished, stopped, halted}
-use Rattle.expander.specs.Memory.{macroAt, stateAt, itemRate, fuelRate, workNeed, coreNeed, Settled, Written}
+use Rattle.words.specs.Limits.{macrosMost}
+use Rattle.recipe.specs.Name.{Name}
+use Rattle.recipe.specs.Tree.{Tree, size}
+use Rattle.recipe.specs.Table.{treeOf}
+use Rattle.core_term.specs.Term.{Term, Terms}
+use Rattle.core_term.specs.Words.{encode, encodeAll}
+use Rattle.expansion.specs.Lookup.{unboundMeaning}
+use Rattle.expansion.specs.Computation.{State, M}
+use Rattle.expansion.specs.Forms.{expandTree, expandAll, expand}
+use Rattle.expansion.specs.Run.{operationNumbers}
+use Rattle.arena.specs.Arena.{treeAt, markLimit}
+use Rattle.arena.specs.Names.{unboundIn}
+use Rattle.expander.specs.declared.answers.Reached.{Reached}
+use Rattle.expander.specs.declared.answers.Ended.{Ended}
+use Rattle.expander.specs.declared.answers.Ended.the-variants.{Done, Refused}
+use Rattle.expander.specs.declared.answers.Turn.{Turn}
+use Rattle.expander.specs.declared.answers.Turn.the-variants.{Again, Operands, Over}
+use Rattle.expander.specs.Ends.{End, finished, stopped, halted, endOf}
+use Rattle.expander.specs.Memory.{Tables, stateAt, Ready, Placed, Kept, Written}
+
+-- the operations of a table's recipe, by number
+unfoldable pub operationsOf : List ℕ → List ℕ
+operationsOf items = operationNumbers (treeOf items)
+
+-- what is lent besides: the places of the operations, and a table for marks in hand
+pub record Lent (items operations marks : List ℕ) : Type 0 where
+  pub places : (n : ℕ) → unboundIn operations n ≡ unboundMeaning (operationsOf items) n
+  pub hands : 3 * markLimit < length marks
 
 -- ---- an end and the answer
 
 -- from r and a core table; the words are those of what is made
-module _ (items : List ℕ) {A : Type 0} (wordsOf : A → List ℕ) (r : Reached) (core work′ core′ : List ℕ) where
+module _ (items : List ℕ) {A : Type 0} (wordsOf : A → List ℕ) (r : Reached) (core : List ℕ) (after : Tables) where
   abbrev pub Left : End A → Ended → Type 0
-  Left (finished a s) (Done q) = (s ≡ stateAt items work′ q) × Written r q (wordsOf a) core core′
+  Left (finished a s) (Done q) = (s ≡ stateAt items after q) × Written r q (wordsOf a) core (after .core)
   Left (finished a s) (Refused h n m) = ⊥
   Left (stopped g s) (Done q) = ⊥
   Left (stopped g s) (Refused h n m) = (g ≡ h) × (s .steps ≡ n) × (s .sum ≡ m)
   Left halted a = ⊥
 
--- ---- what a call needs, and what it keeps
+-- where the call is done, nothing of the n items is left
+abbrev pub KeptBy : (items : List ℕ) (fuel n : ℕ) (r : Reached) (before after : Tables) → Ended → Type 0
+KeptBy items fuel n r before after (Done q) = Kept items fuel n 0 r q before after
+KeptBy items fuel n r before after (Refused g s m) = Unit {0}
 
--- the most that an expansion's numbers reach: 24 words for each item and unit of fuel
-abbrev pub numberMost : ℕ
-numberMost = 400000
+-- ---- one turn, whatever expands the expressions in it
 
--- to expand a tree of n items from r
-pub record Ready (fuel n : ℕ) (r : Reached) (work core : List ℕ) : Type 0 where
-  pub fuelled : fuel ≤ 8192
-  pub spent : r .sum ≤ fuel
-  pub stepped : r .steps ≤ r .sum
-  pub room : workNeed fuel n r ≤ length work
-  pub core-room : coreNeed fuel n r ≤ length core
-  pub small : workNeed fuel n r ≤ numberMost
-  pub core-small : coreNeed fuel n r ≤ numberMost
-  pub few : r .variables + n + (fuel - r .sum) ≤ numberMost
-  pub macros-below : (k : ℕ) → k < r .macros → macroAt work k ≤ r .top
+module _ (items : List ℕ) (fuel : ℕ) where
+  -- the end of an expression, and of operands
+  abbrev pub turnOf : (Tree → M (Term Name)) → Tree → State → End (Term Name)
+  turnOf expand t s = endOf (expandTree macrosMost (operationsOf items) fuel expand t s)
 
--- from r to q with a tree of n items, in the difference form: siblings need nothing
-pub record Kept (fuel n : ℕ) (r q : Reached) (work work′ : List ℕ) : Type 0 where
-  pub settled : Settled r work work′
-  pub top-grows : r .top ≤ q .top
-  pub macros-grow : r .macros ≤ q .macros
-  pub sum-grows : r .sum ≤ q .sum
-  pub spent : q .sum ≤ fuel
-  pub stepped : q .steps ≤ q .sum
-  pub work-spent : q .top + q .macros + fuelRate * (fuel - q .sum) ≤ r .top + r .macros + itemRate * n + fuelRate * (fuel - r .sum)
-  pub core-spent : q .at + 2 * (fuel - q .sum) ≤ r .at + 2 * n + 2 * (fuel - r .sum)
-  pub variables-spent : q .variables + (fuel - q .sum) ≤ r .variables + n + (fuel - r .sum)
-  pub macros-below : (k : ℕ) → k < q .macros → macroAt work′ k ≤ q .top
+  abbrev pub operandsOf : (Tree → M (Term Name)) → Tree → State → End (Terms Name)
+  operandsOf expand t s = endOf (expandAll macrosMost (operationsOf items) fuel expand t s)
 
--- where the call is done
-abbrev pub KeptBy : (fuel n : ℕ) (r : Reached) (work work′ : List ℕ) → Ended → Type 0
-KeptBy fuel n r work work′ (Done q) = Kept fuel n r q work work′
-KeptBy fuel n r work work′ (Refused g s m) = Unit {0}
+  module _ (tree : Tree) (r : Reached) (before after : Tables) where
+    -- the whole expression is expanded
+    pub record Ends (a : Ended) : Type 0 where
+      pub kept : KeptBy items fuel (size tree) r before after a
+      pub means : (expand : Tree → M (Term Name)) → Left items encode r (before .core) after (turnOf expand tree (stateAt items before r)) a
+
+    -- another expression stands for it
+    pub record Follows (node w : ℕ) (q : Reached) : Type 0 where
+      pub kept : Kept items fuel (size tree) (size (treeAt items (after .work) node w)) r q before after
+      pub placed : Placed items (after .work) (q .top) node w
+      pub falls : size (treeAt items (after .work) node w) + r .sum < size tree + q .sum
+      pub means : (expand : Tree → M (Term Name)) (a : Ended) (last : Tables)
+          → Left items encode q (after .core) last (endOf (expand (treeAt items (after .work) node w) (stateAt items after q))) a
+          → Left items encode r (before .core) last (turnOf expand tree (stateAt items before r)) a
+
+    -- operands are left of it; the end of their list costs nothing
+    pub record Spreads (list w : ℕ) (q : Reached) : Type 0 where
+      pub kept : Kept items fuel (size tree) (size (treeAt items (after .work) list w) - 1) r q before after
+      pub placed : Placed items (after .work) (q .top) list w
+      pub falls : size (treeAt items (after .work) list w) + r .sum ≤ size tree + q .sum
+      pub means : (expand : Tree → M (Term Name)) (a : Ended) (last : Tables)
+          → Left items encodeAll q (after .core) last (operandsOf expand (treeAt items (after .work) list w) (stateAt items after q)) a
+          → Left items encode r (before .core) last (turnOf expand tree (stateAt items before r)) a
+
+    abbrev pub Turned : Turn → Type 0
+    Turned (Again node w q) = Follows node w q
+    Turned (Operands list w q) = Spreads list w q
+    Turned (Over a) = Ends a
+
+-- ---- whole expressions and operands: enough gas is as much as there are items and fuel
+
+module _ (items : List ℕ) (fuel : ℕ) (tree : Tree) (r : Reached) (before after : Tables) where
+  pub record Expands (a : Ended) : Type 0 where
+    pub kept : KeptBy items fuel (size tree) r before after a
+    pub means : (gas : ℕ) → size tree + fuel ≤ gas + r .sum → Left items encode r (before .core) after (endOf (expand macrosMost (operationsOf items) fuel gas tree (stateAt items before r))) a
+
+  pub record ExpandsAll (a : Ended) : Type 0 where
+    pub kept : KeptBy items fuel (size tree - 1) r before after a
+    pub means : (gas : ℕ) → size tree - 1 + fuel ≤ gas + r .sum
+        → Left items encodeAll r (before .core) after (endOf (expandAll macrosMost (operationsOf items) fuel (expand macrosMost (operationsOf items) fuel gas) tree (stateAt items before r))) a

@@ -1,0 +1,28 @@
+-- `output::put_if`.
+use borrow.Author.Needs.{needs}
+use Rattle.expander.proofs.output.put_if.Statement.{statement}
+use Rattle.expander.proofs.output.put_if.Tie as tie
+use Rattle.expander.proofs.output.put_if.Reads as reads
+use Rattle.expander.proofs.output.put_if.Lts as lts
+use Rattle.expander.proofs.output.put_word.Reads as put-word-reads
+use mathlib.Core.Path.{refl}
+use Rattle.expander.specs.Memory.{moved}
+
+-- src/output.rt:86:9
+put-word-requires : tie.Need-put-word-requires
+put-word-requires c κs =
+    search needs
+
+-- src/output.rt:82:1
+same-length : tie.Need-same-length
+same-length c =
+    search needs
+
+-- src/output.rt:82:1
+returns : tie.Need-returns
+unfolding moved
+returns c =
+    record { is = refl; put = c .before .before .put-word .ensures }
+
+pub put-if-spec : {M : Type 1} → statement M
+put-if-spec = tie.close (tie.spec put-word-requires same-length returns)

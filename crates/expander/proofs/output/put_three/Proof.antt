@@ -1,0 +1,33 @@
+-- `output::put_three`: one part after the other.
+use borrow.Author.Needs.{needs}
+use Rattle.expander.proofs.output.put_three.Statement.{statement}
+use Rattle.expander.proofs.output.put_three.Tie as tie
+use Rattle.expander.proofs.output.put_three.Reads as reads
+use Rattle.expander.proofs.output.put_three.Lts as lts
+use Rattle.expander.proofs.output.put_two.Reads as put-two-reads
+use Rattle.expander.proofs.output.put_word.Reads as put-word-reads
+use native.Mathlib.Omega.{arith}
+use Rattle.expander.specs.MemoryLaws.{put-after}
+
+-- src/output.rt:26:9
+put-word-requires : tie.Need-put-word-requires
+put-word-requires c κs =
+    search needs
+
+-- src/output.rt:27:5
+put-two-requires : tie.Need-put-two-requires
+put-two-requires c κs =
+    search needs
+
+-- src/output.rt:22:1
+same-length : tie.Need-same-length
+same-length c =
+    search needs
+
+-- src/output.rt:22:1
+returns : tie.Need-returns
+returns c =
+    put-after (c .before .before .before .before .before .before .put-word .ensures) (c .before .before .put-two .ensures) (omega (arith, c .before .before .before .before .before .before .before .before .before .pre .fits, c .before .before .before .before .before .before .put-word .ensures .until))
+
+pub put-three-spec : {M : Type 1} → statement M
+put-three-spec = tie.close (tie.spec put-word-requires put-two-requires same-length returns)

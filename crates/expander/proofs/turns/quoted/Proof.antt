@@ -1,0 +1,74 @@
+-- `turns::quoted`: its shape, then the datum's words.
+use borrow.Author.Needs.{needs}
+use Rattle.expander.proofs.turns.quoted.Statement.{statement}
+use Rattle.expander.proofs.turns.quoted.Tie as tie
+use Rattle.expander.proofs.turns.quoted.Reads as reads
+use Rattle.expander.proofs.turns.quoted.Lts as lts
+use Rattle.expander.proofs.leaf.refuse.Reads as refuse-reads
+use Rattle.forms.proofs.quotes.quote.Reads as quote-reads
+use Rattle.rule_cells.proofs.trees.is_list_of.Reads as is-list-of-reads
+use Rattle.steps.proofs.lists.element.Reads as element-reads
+use mathlib.Core.Path.{sym, _∙_}
+use borrow.Author.Tests.{not-true, not-false}
+use Rattle.expander.specs.Memory.{moved}
+use Rattle.expander.specs.QuotedLaws.{quote-refused, quote-room, quote-small, quote-made}
+
+-- src/turns.rt:25:9
+is-list-of-requires : tie.Need-is-list-of-requires
+is-list-of-requires c κs =
+    search needs
+
+-- src/turns.rt:26:9
+refuse-requires : tie.Need-refuse-requires
+refuse-requires c κs =
+    search needs
+
+-- src/turns.rt:26:9
+returns : tie.Need-returns
+returns c =
+    let a = c .before .before .before .before .before .before .args in quote-refused (a .items .now) (a .work .now) (a .core .now) (a .node) (a .reached) _ (λ w. sym (c .before .before .is-list-of .ensures (a .items .now) w) ∙ not-true _ (c .before .if1 .taken)) (c .refuse .ensures)
+
+-- src/turns.rt:28:9
+element-requires : tie.Need-element-requires
+element-requires c κs =
+    search needs
+
+-- src/turns.rt:29:54
+cast-quote : tie.Need-cast-quote
+cast-quote c =
+    search needs
+
+-- src/turns.rt:29:9
+quote-requires : tie.Need-quote-requires
+quote-requires c κs =
+    let a = c .before .before .before .before .before .before .before .before .args in quote-room (a .items .now) (a .work .now) (a .core .now) (a .node) (a .reached) _ (c .before .before .element .ensures) (c .before .before .before .before .before .before .before .before .pre)
+
+-- src/turns.rt:32:13
+cast-t13 : tie.Need-cast-t13
+cast-t13 c =
+    let a = c .before .before .before .before .before .before .before .before .before .before .before .args in record { fits = quote-small (a .items .now) (a .work .now) (a .core .now) (a .node) (a .reached) _ (c .before .before .before .before .before .element .ensures) (c .before .before .before .before .before .before .before .before .before .before .before .pre) _ (c .before .before .quote .ensures .end) }
+
+-- src/turns.rt:21:1
+same-length : tie.Need-same-length
+same-length c =
+    search needs
+
+-- src/turns.rt:21:1
+returns-2 : tie.Need-returns-2
+unfolding moved
+returns-2 c =
+    let a = c .before .before .before .before .before .before .before .before .before .before .before .args in quote-made (a .items .now) (a .work .now) (a .core .now) (a .node) (a .reached) _ (c .before .before .before .before .before .element .ensures) _ _ (λ w. sym (c .before .before .before .before .before .before .before .is-list-of .ensures (a .items .now) w) ∙ not-false _ (c .before .before .before .before .before .before .if1 .left)) (c .before .before .quote .ensures)
+
+pub quoted-spec : {M : Type 1} → statement M
+quoted-spec =
+    tie.close
+    (tie.spec
+    is-list-of-requires
+    refuse-requires
+    returns
+    element-requires
+    cast-quote
+    quote-requires
+    cast-t13
+    same-length
+    returns-2)

@@ -1,0 +1,45 @@
+-- The loops of the cycle: what holds of an expression while turns stand for one another, and of operands while they are walked.
+use mathlib.Core.Path.{_≡_}
+use mathlib.Core.List.{List}
+use Prim.Native.Nat.{ℕ, _+_, _-_, _≤_}
+use Rattle.words.specs.Limits.{macrosMost}
+use Rattle.recipe.specs.Name.{Name}
+use Rattle.recipe.specs.Tree.{Tree, size}
+use Rattle.core_term.specs.Term.{Term, Terms}
+use Rattle.core_term.specs.Words.{encode, encodeAll}
+use Rattle.expansion.specs.Forms.{expand, expandAll}
+use Rattle.arena.specs.Arena.{treeAt}
+use Rattle.expander.specs.declared.answers.Reached.{Reached}
+use Rattle.expander.specs.declared.answers.Ended.{Ended}
+use Rattle.expander.specs.Ends.{End, endOf}
+use Rattle.expander.specs.Memory.{Tables, stateAt, Placed, Kept}
+use Rattle.expander.specs.Turns.{operationsOf, Left}
+
+module _ (items : List ℕ) (fuel : ℕ) where
+  -- the definition's ends with so much gas
+  abbrev pub expandBy : ℕ → Tree → Tables → Reached → End (Term Name)
+  expandBy gas t a r = endOf (expand macrosMost (operationsOf items) fuel gas t (stateAt items a r))
+
+  abbrev pub expandAllBy : ℕ → Tree → Tables → Reached → End (Terms Name)
+  expandAllBy gas t a r = endOf (expandAll macrosMost (operationsOf items) fuel (expand macrosMost (operationsOf items) fuel gas) t (stateAt items a r))
+
+  -- an answer and the last tables are right for an expression, and for operands, whatever gas is enough
+  abbrev pub Right : Tree → Reached → Tables → Tables → Ended → Type 0
+  Right t r a last e = (gas : ℕ) → size t + fuel ≤ gas + r .sum → Left items encode r (a .core) last (expandBy gas t a r) e
+
+  abbrev pub RightAll : Tree → Reached → Tables → Tables → Ended → Type 0
+  RightAll t r a last e = (gas : ℕ) → size t - 1 + fuel ≤ gas + r .sum → Left items encodeAll r (a .core) last (expandAllBy gas t a r) e
+
+  -- the expression at hand stands for the first
+  pub record Going (tree : Tree) (r₀ : Reached) (before : Tables) (node w : ℕ) (r : Reached) (a : Tables) : Type 0 where
+    pub kept : Kept items fuel (size tree) (size (treeAt items (a .work) node w)) r₀ r before a
+    pub placed : Placed items (a .work) (r .top) node w
+    pub falls : size (treeAt items (a .work) node w) + r₀ .sum ≤ size tree + r .sum
+    pub means : (e : Ended) (last : Tables) → Right (treeAt items (a .work) node w) r a last e → Right tree r₀ before last e
+
+  -- the operands left stand for all
+  pub record Walking (tree : Tree) (r₀ : Reached) (before : Tables) (list w : ℕ) (r : Reached) (a : Tables) : Type 0 where
+    pub kept : Kept items fuel (size tree - 1) (size (treeAt items (a .work) list w) - 1) r₀ r before a
+    pub placed : Placed items (a .work) (r .top) list w
+    pub falls : size (treeAt items (a .work) list w) + r₀ .sum ≤ size tree + r .sum
+    pub means : (e : Ended) (last : Tables) → RightAll (treeAt items (a .work) list w) r a last e → RightAll tree r₀ before last e
