@@ -19,7 +19,7 @@ use Rattle.arena.specs.NodeLaws.{treeAt-empty, treeAt-name, treeAt-pair}
 use Rattle.arena.specs.Names.{numberOf}
 use Rattle.arena.specs.NameLaws.{nameAt-number}
 use Rattle.rule_cells.specs.Trees.{Part, Counted, Tells, TellsOf}
-use Rattle.rule_cells.specs.TreeLaws.{tree-cases, no-name, no-elements}
+use Rattle.rule_cells.specs.TreeLaws.{element-one, tree-cases, no-name, no-elements}
 
 -- every element of a list is a name other than `...` and `_`
 unfoldable pub ordinaryAll : Tree → Bool
@@ -119,13 +119,6 @@ module _ (items work : List ℕ) (node w : ℕ) where
     head-yes k d b = rw b (sym (head-is ∙ rw d (and-true (eqb (bindingKey (nameAt items work node w .binding)) 0))))
 
 -- ---- the form
-
-element-one : (t : Tree) → element 0 (tail t) ≡ element 1 t
-unfolding element elements tail onPair
-element-one empty = refl
-element-one (constant a) = refl
-element-one (name x) = refl
-element-one (pair h t) = refl
 
 and-regroup : (b c d e : Bool) → (b && (c && (d && e))) ≡ ((b && (c && d)) && e)
 and-regroup false c d e = refl

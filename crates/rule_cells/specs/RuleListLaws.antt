@@ -23,7 +23,7 @@ use Rattle.arena.specs.CellLaws.{tree-kept}
 use Rattle.rule_cells.specs.Cells.{rulesAt}
 use Rattle.rule_cells.specs.CellLaws.{rulesAt-none}
 use Rattle.rule_cells.specs.Trees.{Part}
-use Rattle.rule_cells.specs.TreeLaws.{no-name, no-elements}
+use Rattle.rule_cells.specs.TreeLaws.{element-one, no-name, no-elements}
 use Rattle.rule_cells.specs.Parse.{Asks}
 use Rattle.rule_cells.specs.ParseLaws.{tree-is, size-is, head-below, rest-below}
 use Rattle.rule_cells.specs.RuleParse.{ruleShape, partsOf, PartsAsk, RuleMade, RuleLeft, RulesMade, RulesLeft}
@@ -95,13 +95,6 @@ shape-size t e =
     let first = onName (λ x. not (isEllipsis x)) false (element 0 (element 0 t)) in
     let l : (isList t && eqb (length (elements t)) 2) ≡ true = and-left (isListOf 2 t) first (sym e) in
     list-size t (eqb-true (length (elements t)) 2 (and-right (isList t) (eqb (length (elements t)) 2) l))
-
-element-one : (t : Tree) → element 0 (tail t) ≡ element 1 t
-unfolding element elements tail onPair
-element-one empty = refl
-element-one (constant a) = refl
-element-one (name x) = refl
-element-one (pair h t) = refl
 
 rule-as : (o o′ : Option Rule) (s s′ : ℕ) (items old new : List ℕ) (next top : ℕ) (r : Built) → o ≡ o′ → s ≤ s′ → RuleLeft o s items old new next top r → RuleLeft o′ s′ items old new next top r
 rule-as o o′ s s′ items old new next top (Good at upper) e l m =

@@ -17,6 +17,14 @@ use Rattle.arena.specs.Names.{numberOf}
 use Rattle.arena.specs.NameLaws.{nameAt-number}
 use Rattle.rule_cells.specs.Trees.{Part, Counted, isDots}
 
+-- the second element is the first of the rest
+pub element-one : (t : Tree) → element 0 (tail t) ≡ element 1 t
+unfolding element elements tail onPair
+element-one empty = refl
+element-one (constant a) = refl
+element-one (name x) = refl
+element-one (pair h t) = refl
+
 -- ---- node 0 is the empty list
 
 pub treeAt-none : (items work : List ℕ) (w : ℕ) → treeAt items work 0 w ≡ empty

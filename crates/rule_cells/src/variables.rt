@@ -15,9 +15,6 @@ use crate::trees;
 use arena::cells;
 use arena::names;
 
-// Room for the variables of a rule, two words each.
-pub const TABLE: usize = 32;
-
 // The most variables of a pattern, and the most ellipses over one.
 pub const MOST: u32 = 16;
 

@@ -8,7 +8,7 @@ use lib.ListN.{length-set}
 
 returns : tie.Need-returns
 returns c =
-    let a = c .before .before .before .before .before .args in add-deep (a .items .now) (a .work .now) (a .w) (a .vars .now) (a .n) (a .node) (a .d) (c .if1 .taken)
+    let a = c .before .before .before .before .before .args in add-deep (a .items .now) (a .work .now) (a .w) (a .vars .now) (a .n) (a .node) (a .d) (omega (arith, c .if1 .taken))
 
 returns-2 : tie.Need-returns-2
 returns-2 c =
