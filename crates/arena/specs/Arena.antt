@@ -2,7 +2,7 @@
 -- its END, the top that its writing left. So a cell's words, and all that it refers to, stand below the reference: what it
 -- means depends on those words alone. 0 refers to nothing. Every function here is total: a word that is not there is 0, and
 -- a reference that does not fall is none.
-use mathlib.Core.Bool.{Bool, _&&_, cond}
+use mathlib.Core.Bool.{Bool, _&&_, _||_, cond}
 use mathlib.Core.List.{List, [], _∷_}
 use mathlib.Core.Option.{Option, none, some}
 use mathlib.Core.Bool.{false}
@@ -69,11 +69,15 @@ module _ (work : List ℕ) (inner : ℕ → Name → Name) where
   unfoldable pub ownMarks : ℕ → List ℕ
   ownMarks w = inner (referenceAt work w 8) (inner (referenceAt work w 9) (plainName 0 0)) .marks
 
+  -- the marks are compared where there are more than the newest to compare
+  unfoldable pub sameMarks : ℕ → List ℕ → Bool
+  sameMarks w ms = ltb (length ms) 2 || equal (ownMarks w) ms
+
   -- x is the same as the binder's own name; count and newest mark tell most others apart
   unfoldable pub isOwn : ℕ → Name → Bool
   isOwn w x =
       eqb (wordAt work w 5) (x .number) && (eqb (wordAt work w 4) (bindingKey (x .binding)) && (eqb (wordAt work w 6) (length (x .marks))
-      && (eqb (wordAt work w 7) (newest (x .marks)) && equal (ownMarks w) (x .marks))))
+      && (eqb (wordAt work w 7) (newest (x .marks)) && sameMarks w (x .marks))))
 
   unfoldable pub rebound : ℕ → Name → Name
   rebound w x = cond (isOwn w x) (giveKey (wordAt work w 3) x) x

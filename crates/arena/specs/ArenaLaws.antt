@@ -1,7 +1,7 @@
 -- Laws of the arena: what a cell means depends on the words below its reference alone; what each kind of wrap and node means;
 -- and that waiting on a tree is carrying through it.
 use mathlib.Core.Path.{_≡_, refl, sym, ap, ap₂, subst, _∙_}
-use mathlib.Core.Bool.{Bool, true, false, _&&_, cond}
+use mathlib.Core.Bool.{Bool, true, false, _&&_, _||_, cond}
 use mathlib.Core.List.{List, [], _∷_}
 use mathlib.Core.Option.{Option, none, some}
 use Prim.Native.Nat.{ℕ, zero, suc, _+_, _*_, _-_, _/_, _%_, _≤_, _<_}
@@ -15,7 +15,7 @@ use Rattle.recipe.specs.Name.{Binding, variable, macro, Name, plainName, bindin
 use Rattle.recipe.specs.Tree.{Tree, empty, constant, name, pair, onNames, mark, bind}
 use Rattle.recipe.specs.Table.{byKind}
 use Rattle.recipe.specs.TreeLaws.{onNames-∘, onNames-cong}
-use Rattle.arena.specs.Arena.{wordAt, falling, referenceAt, bindingOf, giveKey, markLimit, marked, newest, byTag, markOn, joinOn, ownMarks, isOwn, rebound, binderOn, wrapStep, wrapFrom, wrapAt, numberAt, nodeName, nameAt, constantAt, treeStep, treeFrom, treeAt}
+use Rattle.arena.specs.Arena.{wordAt, falling, referenceAt, bindingOf, giveKey, markLimit, marked, newest, byTag, markOn, joinOn, ownMarks, sameMarks, isOwn, rebound, binderOn, wrapStep, wrapFrom, wrapAt, numberAt, nodeName, nameAt, constantAt, treeStep, treeFrom, treeAt}
 
 -- ---- tests
 
@@ -98,7 +98,7 @@ module _ (a b : List ℕ) (f g : ℕ → Name → Name) (w : ℕ) (some-word : 0
   ownMarks-agree = ap (λ (x : Name). x .marks) (two-agree 8 9 (omega arith) (omega arith) (plainName 0 0))
 
   rebound-agree : (x : Name) → rebound a f w x ≡ rebound b g w x
-  unfolding rebound isOwn
+  unfolding rebound isOwn sameMarks
   rebound-agree x =
       rw (wordAt-below a b w 3 (omega arith) e, wordAt-below a b w 4 (omega arith) e, wordAt-below a b w 5 (omega arith) e, wordAt-below a b w 6 (omega arith) e, wordAt-below a b w 7 (omega arith) e, ownMarks-agree)
 
@@ -264,14 +264,29 @@ equal-true (x ∷ xs) (y ∷ ys) e =
     (λ t. ap₂ _∷_ (eqb-true x y t) (equal-true xs ys (rw t at e)))
     (λ t. let d : false ≡ true = rw t at e in let z : _≡_ {A = ℕ} 0 1 = cc in absurd (omega arith))
 
-same-shape : (n k l t e : Bool) → (e ≡ true → l ≡ true) → (e ≡ true → t ≡ true) → (n && (k && (l && (t && e)))) ≡ (n && (e && k))
-same-shape false k l t e p q = refl
-same-shape true false l t true p q = refl
-same-shape true false l t false p q = refl
-same-shape true true l t true p q = rw (p refl, q refl)
-same-shape true true false t false p q = refl
-same-shape true true true false false p q = refl
-same-shape true true true true false p q = refl
+pub or-true : (a : Bool) → (a || true) ≡ true
+or-true true = refl
+or-true false = refl
+
+-- at most one mark is the newest
+few-equal : (a b : List ℕ) → ltb (length b) 2 ≡ true → eqb (length a) (length b) ≡ true → eqb (newest a) (newest b) ≡ true → equal a b ≡ true
+unfolding newest equal
+few-equal [] [] f l n = refl
+few-equal [] (y ∷ ys) f l n = absurd (omega (arith, eqb-true 0 (suc (length ys)) l))
+few-equal (x ∷ xs) [] f l n = absurd (omega (arith, eqb-true (suc (length xs)) 0 l))
+few-equal (x ∷ []) (y ∷ []) f l n = rw n
+few-equal (x ∷ []) (y ∷ v ∷ ys) f l n = absurd (omega (arith, ltb-true (suc (suc (length ys))) 2 f))
+few-equal (x ∷ u ∷ xs) (y ∷ ys) f l n = absurd (omega (arith, ltb-true (suc (length ys)) 2 f, eqb-true (suc (suc (length xs))) (suc (length ys)) l))
+
+same-shape : (n k l t f e : Bool) → (e ≡ true → l ≡ true) → (e ≡ true → t ≡ true) → (f ≡ true → l ≡ true → t ≡ true → e ≡ true) → (n && (k && (l && (t && (f || e))))) ≡ (n && (e && k))
+same-shape false k l t f e p q r = refl
+same-shape true false l t f true p q r = refl
+same-shape true false l t f false p q r = refl
+same-shape true true l t f true p q r = rw (p refl, q refl) (or-true f)
+same-shape true true false t f false p q r = refl
+same-shape true true true false f false p q r = refl
+same-shape true true true true false false p q r = refl
+same-shape true true true true true false p q r = sym (r refl refl refl)
 
 -- a binder's cell says this of its own name
 pub record Own (work : List ℕ) (w : ℕ) (i : Name) : Type 0 where
@@ -282,12 +297,13 @@ pub record Own (work : List ℕ) (w : ℕ) (i : Name) : Type 0 where
   pub marks-are : ownMarks work (wrapAt work) w ≡ i .marks
 
 isOwn-same : (work : List ℕ) (w : ℕ) (i x : Name) → Own work w i → isOwn work (wrapAt work) w x ≡ same i x
-unfolding isOwn same
+unfolding isOwn sameMarks same
 isOwn-same work w i x o =
     rw (o .number-is, o .binding-is, o .count-is, o .newest-is, o .marks-are)
-    (same-shape (eqb (i .number) (x .number)) (eqb (bindingKey (i .binding)) (bindingKey (x .binding))) (eqb (length (i .marks)) (length (x .marks))) (eqb (newest (i .marks)) (newest (x .marks))) (equal (i .marks) (x .marks))
+    (same-shape (eqb (i .number) (x .number)) (eqb (bindingKey (i .binding)) (bindingKey (x .binding))) (eqb (length (i .marks)) (length (x .marks))) (eqb (newest (i .marks)) (newest (x .marks))) (ltb (length (x .marks)) 2) (equal (i .marks) (x .marks))
     (λ t. eq-eqb _ _ (ap length (equal-true (i .marks) (x .marks) t)))
-    (λ t. eq-eqb _ _ (ap newest (equal-true (i .marks) (x .marks) t))))
+    (λ t. eq-eqb _ _ (ap newest (equal-true (i .marks) (x .marks) t)))
+    (few-equal (i .marks) (x .marks)))
 
 pub rebound-is : (work : List ℕ) (w : ℕ) (i : Name) (b : Binding) (x : Name) → Own work w i → wordAt work w 3 ≡ bindingKey (some b) → rebound work (wrapAt work) w x ≡ bindName i b x
 unfolding rebound bindName giveKey giveBinding

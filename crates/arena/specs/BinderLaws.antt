@@ -6,11 +6,11 @@ use Prim.Native.Nat.{ℕ, zero, suc, _+_, _-_, _≤_, _<_}
 use native.Mathlib.Omega.{arith}
 use lib.Dec.{eqb, ltb}
 use lib.ListN.{length, getD, take}
-use borrow.Author.Tests.{eq-eqb, ne-eqb}
+use borrow.Author.Tests.{eq-eqb, ne-eqb, lt-ltb, le-ltb}
 use Rattle.words.specs.Lists.{equal}
 use Rattle.recipe.specs.Name.{Name, bindingKey, plainName}
-use Rattle.arena.specs.Arena.{wordAt, referenceAt, markLimit, newest, giveKey, bindingOf, ownMarks, isOwn, rebound, wrapAt}
-use Rattle.arena.specs.ArenaLaws.{cases, take-less, bindingKey-of, equal-true}
+use Rattle.arena.specs.Arena.{wordAt, referenceAt, markLimit, newest, giveKey, bindingOf, ownMarks, sameMarks, isOwn, rebound, wrapAt}
+use Rattle.arena.specs.ArenaLaws.{cases, take-less, bindingKey-of, equal-true, or-true}
 use Rattle.arena.specs.Marks.{marksIn, Descends, none, Hand, MarksAfter, Holds, NameHand, NameAfter, OwnMarks}
 use Rattle.arena.specs.MarkLaws.{marksIn-length, marksIn-below}
 use Rattle.arena.specs.HandLaws.{count-most}
@@ -75,7 +75,7 @@ module _ (work : List ℕ) (w : ℕ) (x : Name) where
   newest-test = eqb (wordAt work w 7) (newest (x .marks))
 
   abbrev marks-test : Bool
-  marks-test = equal (ownMarks work (wrapAt work) w) (x .marks)
+  marks-test = sameMarks work (wrapAt work) w (x .marks)
 
   own-number : (wordAt work w 5 ≡ x .number → ⊥) → Not-own
   unfolding isOwn
@@ -93,11 +93,20 @@ module _ (work : List ℕ) (w : ℕ) (x : Name) where
   unfolding isOwn
   own-newest h = fourth-fails newest-test marks-test number-test binding-test count-test (ne-eqb _ _ h)
 
-  own-marks : equal (ownMarks work (wrapAt work) w) (x .marks) ≡ false → Not-own
-  unfolding isOwn
-  own-marks h = fifth-fails marks-test number-test binding-test count-test newest-test h
+  own-marks : 2 ≤ length (x .marks) → equal (ownMarks work (wrapAt work) w) (x .marks) ≡ false → Not-own
+  unfolding isOwn sameMarks
+  own-marks l h = fifth-fails marks-test number-test binding-test count-test newest-test (rw (le-ltb (length (x .marks)) 2 l, h))
 
-  own-all : wordAt work w 5 ≡ x .number → wordAt work w 4 ≡ bindingKey (x .binding) → wordAt work w 6 ≡ length (x .marks) → wordAt work w 7 ≡ newest (x .marks) → equal (ownMarks work (wrapAt work) w) (x .marks) ≡ true → isOwn work (wrapAt work) w x ≡ true
+  -- at most one mark is the newest
+  few-same : length (x .marks) < 2 → sameMarks work (wrapAt work) w (x .marks) ≡ true
+  unfolding sameMarks
+  few-same h = rw (lt-ltb (length (x .marks)) 2 h)
+
+  equal-same : equal (ownMarks work (wrapAt work) w) (x .marks) ≡ true → sameMarks work (wrapAt work) w (x .marks) ≡ true
+  unfolding sameMarks
+  equal-same h = rw h (or-true (ltb (length (x .marks)) 2))
+
+  own-all : wordAt work w 5 ≡ x .number → wordAt work w 4 ≡ bindingKey (x .binding) → wordAt work w 6 ≡ length (x .marks) → wordAt work w 7 ≡ newest (x .marks) → sameMarks work (wrapAt work) w (x .marks) ≡ true → isOwn work (wrapAt work) w x ≡ true
   unfolding isOwn
   own-all a b c d e = rw (eq-eqb _ _ a, eq-eqb _ _ b, eq-eqb _ _ c, eq-eqb _ _ d, e)
 
@@ -132,32 +141,43 @@ module _ (work : List ℕ) (w : ℕ) (old new : List ℕ) (s number n binding : 
   pub left-newest : (v u : ℕ) → v ≡ wordAt work w 7 → u ≡ newest (marksIn old s n) → (v ≡ u → ⊥) → Left binding
   left-newest v u e d h = left-alone (λ x o. own-newest work w x (λ z. h (e ∙ z ∙ ap newest (o .marks-are) ∙ sym d)))
 
-  module _ (r : ℕ) (own : OwnMarks work w old new (s + n) r) where
-    pub left-length : (r ≡ n → ⊥) → Left binding
-    left-length h =
-        left-alone (λ x o. own-marks work w x
-        (rw (own .marks-are, o .marks-are)
-        (equal-lengths _ _ (λ z. h (sym (marksIn-length new (s + n) r) ∙ z ∙ marksIn-length old s n)))))
+  count-is : (x : Name) → Holds x old s n number binding → length (x .marks) ≡ n
+  count-is x o = ap length (o .marks-are) ∙ marksIn-length old s n
 
-    equal-is : (x : Name) → Holds x old s n number binding → r ≡ n → equal (ownMarks work (wrapAt work) w) (x .marks) ≡ equal (marksIn new (s + n) n) (marksIn new s n)
-    equal-is x o e = rw (own .marks-are, o .marks-are, marks-same, e)
+  equal-is : (r : ℕ) → OwnMarks work w old new (s + n) r → (x : Name) → Holds x old s n number binding → r ≡ n → equal (ownMarks work (wrapAt work) w) (x .marks) ≡ equal (marksIn new (s + n) n) (marksIn new s n)
+  equal-is r own x o e = rw (own .marks-are, o .marks-are, marks-same, e)
 
-    pub left-differ : r ≡ n → false ≡ equal (marksIn new (s + n) n) (marksIn new s n) → Left binding
-    left-differ e h = left-alone (λ x o. own-marks work w x (equal-is x o e ∙ sym h))
-
-    -- x is the same: it gets the new binding
-    pub left-bound : (a b c d u v : ℕ) → a ≡ wordAt work w 5 → a ≡ number → b ≡ wordAt work w 4 → b ≡ binding → c ≡ wordAt work w 6 → c ≡ n → d ≡ wordAt work w 7 → u ≡ newest (marksIn old s n) → d ≡ u → r ≡ n → true ≡ equal (marksIn new (s + n) n) (marksIn new s n) → v ≡ wordAt work w 3 → Left v
+  -- x is the same: it gets the new binding
+  module _ (a b c d u v : ℕ) (ea : a ≡ wordAt work w 5) (fa : a ≡ number) (eb : b ≡ wordAt work w 4) (fb : b ≡ binding) (ec : c ≡ wordAt work w 6) (fc : c ≡ n) (ed : d ≡ wordAt work w 7) (eu : u ≡ newest (marksIn old s n)) (fd : d ≡ u) (ev : v ≡ wordAt work w 3) where
+    left-given : ((x : Name) → Holds x old s n number binding → sameMarks work (wrapAt work) w (x .marks) ≡ true) → Left v
     unfolding rebound giveKey
-    left-bound a b c d u v ea fa eb fb ec fc ed eu fd e h ev =
+    left-given h =
         record {
           holds = λ x o.
               rw (own-all work w x
               (sym ea ∙ fa ∙ sym (o .number-is))
               (sym eb ∙ fb ∙ sym (o .binding-is))
-              (sym ec ∙ fc ∙ sym (ap length (o .marks-are) ∙ marksIn-length old s n))
+              (sym ec ∙ fc ∙ sym (count-is x o))
               (sym ed ∙ fd ∙ eu ∙ sym (ap newest (o .marks-are)))
-              (equal-is x o e ∙ sym h))
+              (h x o))
               (record { number-is = o .number-is; marks-are = o .marks-are ∙ sym marks-same; binding-is = bindingKey-of (wordAt work w 3) ∙ sym ev });
           descends = rw marks-same (hand .descends);
           kept = take-less new old s (s + n) (omega arith) same;
         }
+
+    pub left-few : n < 2 → Left v
+    left-few h = left-given (λ x o. few-same work w x (omega (arith, count-is x o)))
+
+    pub left-bound : (r : ℕ) → OwnMarks work w old new (s + n) r → r ≡ n → true ≡ equal (marksIn new (s + n) n) (marksIn new s n) → Left v
+    left-bound r own e h = left-given (λ x o. equal-same work w x (equal-is r own x o e ∙ sym h))
+
+  -- more than one mark, and they differ
+  module _ (r : ℕ) (own : OwnMarks work w old new (s + n) r) (many : 2 ≤ n) where
+    pub left-length : (r ≡ n → ⊥) → Left binding
+    left-length h =
+        left-alone (λ x o. own-marks work w x (omega (arith, count-is x o))
+        (rw (own .marks-are, o .marks-are)
+        (equal-lengths _ _ (λ z. h (sym (marksIn-length new (s + n) r) ∙ z ∙ marksIn-length old s n)))))
+
+    pub left-differ : r ≡ n → false ≡ equal (marksIn new (s + n) n) (marksIn new s n) → Left binding
+    left-differ e h = left-alone (λ x o. own-marks work w x (omega (arith, count-is x o)) (equal-is r own x o e ∙ sym h))

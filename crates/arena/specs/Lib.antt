@@ -11,3 +11,8 @@ pub mod Cells
 pub mod CellLaws
 pub mod Names
 pub mod NameLaws
+pub mod Nodes
+pub mod LayOut
+pub mod Lists
+pub mod Copy
+pub mod Rows

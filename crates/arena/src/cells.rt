@@ -17,12 +17,52 @@ pub const NAME: u32 = 3;
 
 pub const PAIR: u32 = 4;
 
-// The last word of a wrap's cell.
+// Tags of wraps.
 pub const MARK: u32 = 1;
 
 pub const JOIN: u32 = 2;
 
 pub const BINDER: u32 = 3;
+
+// Where the words of a node stand, counted back from its end: its kind; a name's item and own wrap; a pair's head and tail;
+// a constant's two words.
+pub const KIND: u32 = 3;
+
+pub const ITEM: u32 = 2;
+
+pub const OWN: u32 = 1;
+
+pub const HEAD: u32 = 2;
+
+pub const TAIL: u32 = 1;
+
+pub const FIRST: u32 = 2;
+
+pub const SECOND: u32 = 1;
+
+// Where the words of a wrap stand: its tag, the wrap inside it; a mark's step; a join's outer wrap.
+pub const TAG: u32 = 1;
+
+pub const INNER: u32 = 2;
+
+pub const STEP: u32 = 3;
+
+pub const OUTER: u32 = 3;
+
+// A binder's: the key of the new binding, then what is known of its own name.
+pub const KEY: u32 = 3;
+
+pub const BOUND_KEY: u32 = 4;
+
+pub const BOUND_NUMBER: u32 = 5;
+
+pub const BOUND_COUNT: u32 = 6;
+
+pub const BOUND_NEWEST: u32 = 7;
+
+pub const BOUND_PENDING: u32 = 8;
+
+pub const BOUND_OWN: u32 = 9;
 
 // Word k of the cell that ends at `at`, counted back from its end.
 pub fn word(work: &[u32], at: u32, k: u32) -> u32

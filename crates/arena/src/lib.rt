@@ -1,6 +1,9 @@
 // The expansion service, from below: the arena in the lent work table, and names with what waits on them.
 
 pub mod cells;
+pub mod copy;
+pub mod layout;
 pub mod marks;
 pub mod names;
+pub mod nodes;
 pub mod wraps;

@@ -4,7 +4,8 @@
 ghost use mathlib.Core.Path.{_≡_};
 ghost use Prim.Native.Nat.{_+_, _*_, _≤_, _<_};
 ghost use lib.ListN.{length};
-ghost use Rattle.recipe.specs.Name.{same, bindingKey};
+ghost use mathlib.Core.Option.{some};
+ghost use Rattle.recipe.specs.Name.{variable, macro, same, bindingKey};
 ghost use Rattle.arena.specs.Arena.{wordAt, markLimit, nameAt};
 ghost use Rattle.arena.specs.Cells.{Room, Binds};
 ghost use Rattle.arena.specs.Names.{numberOf, Resolved, meansOf, lookupIn, unboundIn, Agrees};
@@ -22,11 +23,27 @@ pub enum Meaning {
     Nothing,
 }
 
+// The key of a variable's binding; variables are fewer than items and fuel together.
+pub fn variable_key(n: u32) -> u32
+    requires { ⌜ n < 2147483647 ⌝ }
+    ensures { λ r. ⌜ r ≡ bindingKey (some (variable n)) ⌝ }
+{
+    1 + 2 * n
+}
+
+// The key of a macro's binding.
+pub fn macro_key(n: u32) -> u32
+    requires { ⌜ n < 2147483647 ⌝ }
+    ensures { λ r. ⌜ r ≡ bindingKey (some (macro n)) ⌝ }
+{
+    2 + 2 * n
+}
+
 // The number of a name node, read from the item that it stems from.
 pub fn number_of(items: &[u32], work: &[u32], node: u32) -> u32
     ensures { λ r. ⌜ r ≡ numberOf (now (items .entry)) (now (work .entry)) node ⌝ }
 {
-    let at = 3 * (cells::word(work, node, 2) as usize) + 1;
+    let at = 3 * (cells::word(work, node, cells::ITEM) as usize) + 1;
     if at < items.len() {
         return items[at];
     }
@@ -46,7 +63,7 @@ pub fn resolve(
     ensures { λ r. ⌜ Resolved (now (items .entry)) (now (work .entry)) node w (now (table .entry)) (now (table .exit)) start (r .count) (r .binding) ⌝ }
 {
     let number = number_of(items, work, node);
-    let own = cells::reference(work, node, 1);
+    let own = cells::reference(work, node, cells::OWN);
     let s = wraps::walk(work, table, start, 0, number, 0, own);
     let n = s.count;
     let b = s.binding;
@@ -108,7 +125,7 @@ pub fn bind(
     let x = resolve(items, work, table, 0, node, w);
     let count = x.count;
     let newest = marks::newest_of(table, 0, count);
-    let own = cells::reference(work, node, 1);
+    let own = cells::reference(work, node, cells::OWN);
     cells::put_binder(
         work,
         top,

@@ -13,21 +13,21 @@ pub fn marks_after(work: &[u32], table: &mut [u32], start: usize, count: usize, 
     requires { ⌜ Hand (now table) start count ⌝ }
     ensures { λ r. ⌜ MarksAfter (wrapAt (now (work .entry)) w) (now (table .entry)) (now (table .exit)) start count r ⌝ }
 {
-    let tag = cells::word(work, w, 1);
+    let tag = cells::word(work, w, cells::TAG);
     if tag == 0 {
         return count;
     }
     if cells::BINDER < tag {
         return count;
     }
-    let inner = cells::reference(work, w, 2);
+    let inner = cells::reference(work, w, cells::INNER);
     let n = marks_after(work, table, start, count, inner);
     if tag == cells::MARK {
-        let m = cells::word(work, w, 3);
+        let m = cells::word(work, w, cells::STEP);
         return marks::mark(table, start, n, m);
     }
     if tag == cells::JOIN {
-        let outer = cells::reference(work, w, 3);
+        let outer = cells::reference(work, w, cells::OUTER);
         return marks_after(work, table, start, n, outer);
     }
     n
@@ -38,14 +38,15 @@ pub fn own_marks(work: &[u32], table: &mut [u32], start: usize, w: u32) -> usize
     requires { ⌜ start + markLimit < length (now table) ⌝ }
     ensures { λ r. ⌜ OwnMarks (now (work .entry)) w (now (table .entry)) (now (table .exit)) start r ⌝ }
 {
-    let own = cells::reference(work, w, 9);
+    let own = cells::reference(work, w, cells::BOUND_OWN);
     let n = marks_after(work, table, start, 0, own);
-    let pending = cells::reference(work, w, 8);
+    let pending = cells::reference(work, w, cells::BOUND_PENDING);
     marks_after(work, table, start, n, pending)
 }
 
 // The binding of the name in hand after binder w: the new one where it is the same as the binder's own name, judged with
-// the marks of its time. Number, binding, count and newest mark tell most names apart before any wrap is walked.
+// the marks of its time. Number, binding, count and newest mark tell most names apart, and settle it where there is at most
+// one mark; else the wraps of the binder's own name are walked.
 pub fn rebind(
     work: &[u32],
     table: &mut [u32],
@@ -58,17 +59,20 @@ pub fn rebind(
     requires { ⌜ NameHand (now table) start count ⌝ }
     ensures { λ r. ⌜ NameAfter (rebound (now (work .entry)) (wrapAt (now (work .entry))) w) (now (table .entry)) (now (table .exit)) start number count binding count r ⌝ }
 {
-    if cells::word(work, w, 5) != number {
+    if cells::word(work, w, cells::BOUND_NUMBER) != number {
         return binding;
     }
-    if cells::word(work, w, 4) != binding {
+    if cells::word(work, w, cells::BOUND_KEY) != binding {
         return binding;
     }
-    if cells::word(work, w, 6) as usize != count {
+    if cells::word(work, w, cells::BOUND_COUNT) as usize != count {
         return binding;
     }
-    if cells::word(work, w, 7) != marks::newest_of(table, start, count) {
+    if cells::word(work, w, cells::BOUND_NEWEST) != marks::newest_of(table, start, count) {
         return binding;
+    }
+    if count < 2 {
+        return cells::word(work, w, cells::KEY);
     }
     let behind = start + count;
     let own = own_marks(work, table, behind, w);
@@ -76,7 +80,7 @@ pub fn rebind(
         return binding;
     }
     if marks::equal_marks(table, behind, start, count) {
-        return cells::word(work, w, 3);
+        return cells::word(work, w, cells::KEY);
     }
     binding
 }
@@ -101,7 +105,7 @@ pub fn walk(
     requires { ⌜ NameHand (now table) start count ⌝ }
     ensures { λ r. ⌜ NameAfter (wrapAt (now (work .entry)) w) (now (table .entry)) (now (table .exit)) start number count binding (r .count) (r .binding) ⌝ }
 {
-    let tag = cells::word(work, w, 1);
+    let tag = cells::word(work, w, cells::TAG);
     if tag == 0 {
         return InHand {
             count: count,
@@ -114,12 +118,12 @@ pub fn walk(
             binding: binding,
         };
     }
-    let inner = cells::reference(work, w, 2);
+    let inner = cells::reference(work, w, cells::INNER);
     let s = walk(work, table, start, count, number, binding, inner);
     let n = s.count;
     let b = s.binding;
     if tag == cells::MARK {
-        let m = cells::word(work, w, 3);
+        let m = cells::word(work, w, cells::STEP);
         let k = marks::mark(table, start, n, m);
         return InHand {
             count: k,
@@ -127,7 +131,7 @@ pub fn walk(
         };
     }
     if tag == cells::JOIN {
-        let outer = cells::reference(work, w, 3);
+        let outer = cells::reference(work, w, cells::OUTER);
         return walk(work, table, start, n, number, b, outer);
     }
     let c = rebind(work, table, start, n, number, b, w);

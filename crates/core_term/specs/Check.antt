@@ -93,7 +93,14 @@ unfoldable pub passing : ℕ → (ℕ → Bool) → Option Plain → Option Plai
 passing operations nameGood none = none
 passing operations nameGood (some t) = cond (leb operations operationsMost && passes operations nameGood t) (some t) none
 
+unfoldable pub isSome : Option Plain → Bool
+isSome none = false
+isSome (some t) = true
+
 -- the term, or none where it is ground 19
 unfoldable pub termOf : ℕ → (ℕ → Bool) → List ℕ → Option Plain
 unfolding everyDatum every D.count count variables outside inside variableInside firstNumber known asked scoped numbered allKnown passes passing decode
 termOf operations nameGood ws = passing operations nameGood (decode ws)
+
+unfoldable pub isTerm : ℕ → (ℕ → Bool) → List ℕ → Bool
+isTerm operations nameGood ws = isSome (termOf operations nameGood ws)

@@ -6,13 +6,13 @@ use mathlib.Core.Option.{some}
 use Prim.Native.Nat.{ℕ, _+_, _≤_}
 use native.Mathlib.Omega.{arith}
 use lib.ListN.{length, replicate, length-append}
-use Rattle.core_term.specs.Node.{Got, got, missing, nothing}
-use Rattle.core_term.specs.Term.{Term, variableC, operationC, datumC, ifC, lambdaC, applicationC, noneC, moreC, Plain, Plains, count, variables, forget, forgetAll}
+use Rattle.core_term.specs.Node.{Got, got, missing}
+use Rattle.core_term.specs.Term.{Term, variableC, operationC, datumC, ifC, lambdaC, applicationC, noneC, moreC, Plain, Plains, forget, forgetAll}
 use Rattle.core_term.specs.Words.{encode}
 use Rattle.core_term.specs.Decode.{termAt, whole, decode}
-use Rattle.core_term.specs.Every.{wellFormed}
+use Rattle.core_term.specs.Every.{every, proper, wellFormed}
 use Rattle.core_term.specs.DecodeRound.{term-round}
-use Rattle.core_term.specs.DecodeRead.{TermRead, term-read}
+use Rattle.core_term.specs.DecodeRead.{term-read}
 
 -- a lambda that says nothing of its variables has only their count
 units : (l : List (Unit {0})) → replicate (length l) tt ≡ l
@@ -58,13 +58,12 @@ encode-decode ws t h = go (termAt (length ws) ws) refl h
 -- ---- the words of two terms
 
 -- no term's words begin another's
-pub encode-unique : (t u : Plain) (r s : List ℕ) → wellFormed t ≡ true → wellFormed u ≡ true → encode t ++ r ≡ encode u ++ s → (t ≡ u) × (r ≡ s)
-unfolding wellFormed
-encode-unique t u r s p q e =
+pub encode-unique : (t u : Plain) (r s : List ℕ) (b c : ℕ) → every proper tt b t ≡ true → every proper tt c u ≡ true → encode t ++ r ≡ encode u ++ s → (t ≡ u) × (r ≡ s)
+encode-unique t u r s b c p q e =
     let n = length (encode t) + length (encode u) in
-    let a : termAt n (encode t ++ r) ≡ got t r = rw (forget-plain t) at (term-round t n 0 r p (omega arith)) in
-    let b : termAt n (encode u ++ s) ≡ got u s = rw (forget-plain u) at (term-round u n 0 s q (omega arith)) in
-    let c : got t r ≡ got u s = sym a ∙ ap (termAt n) e ∙ b in
+    let x : termAt n (encode t ++ r) ≡ got t r = rw (forget-plain t) at (term-round t n b r p (omega arith)) in
+    let y : termAt n (encode u ++ s) ≡ got u s = rw (forget-plain u) at (term-round u n c s q (omega arith)) in
+    let z : got t r ≡ got u s = sym x ∙ ap (termAt n) e ∙ y in
     (cc, cc)
 
 -- ---- gas

@@ -1,7 +1,6 @@
 -- A test of every node of a term. The test is told how many variables are bound before the node, in the words' order,
 -- and an environment: what `enter` makes of it at each node around, from the outside in.
-use mathlib.Core.Bool.{Bool, true, false, _&&_}
-use mathlib.Core.List.{List}
+use mathlib.Core.Bool.{Bool, true, _&&_}
 use Prim.Native.Nat.{ℕ, _+_}
 use lib.ListN.{length}
 use Rattle.datum.specs.Datum.{Datum, constantD, nameD, listD, Data, noneD, moreD}

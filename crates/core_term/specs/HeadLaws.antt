@@ -1,11 +1,20 @@
 -- What the checker finds at the beginning of words, by their code.
-use mathlib.Core.Path.{_≡_, refl, sym, ap, _∙_}
-use mathlib.Core.Bool.{Bool, true, false, cond}
-use mathlib.Core.List.{List, [], _∷_}
+use mathlib.Core.Path.{_≡_, refl, ap}
+use mathlib.Core.Bool.{Bool, true, false, _&&_, and-false, false≢true}
+use mathlib.Core.List.{List, [], _∷_, _++_}
 use Prim.Native.Nat.{ℕ, zero, suc, _+_, _≤_, _<_}
 use native.Mathlib.Omega.{arith}
+use native.Mathlib.Numerals.{add-one}
+use native.Mathlib.Nat.{add-zero}
+use lib.Dec.{eqb, ltb}
 use lib.ListN.{length, getD, drop}
-use Rattle.core_term.specs.Node.{Node, Got, got, missing, nothing, withWord, withTwo, alone, codes, ofCode, sound, nodeAt, variableN, operationN, constantN, nameN, listN, ifN, lambdaN, applicationN}
+use borrow.Author.Tests.{lt-ltb, le-ltb, le-leb, lt-leb, eq-eqb, ne-eqb}
+use Rattle.datum.specs.Constant.{isConstant, constantWords, integer, boolean}
+use Rattle.core_term.specs.Node.{Node, isNode, isDatumNode, isListNode, nodeWords, parts, binds, Got, got, missing, nothing, withWord, withTwo, alone, codes, ofCode, sound, nodeAt, variableN, operationN, constantN, nameN, listN, ifN, lambdaN, applicationN}
+use Rattle.core_term.specs.NodeLaws.{NodeRead, node-read}
+use Rattle.core_term.specs.declared.head.Head.{Head}
+use Rattle.core_term.specs.declared.head.Head.the-variants as H
+use Rattle.core_term.specs.Window.{noted, allowed, window, headOf}
 
 module _ (ws : List ℕ) (k : ℕ) (e : getD ws 0 0 ≡ k) where
   -- of a code and whatever follows
@@ -67,3 +76,188 @@ two-missing f [] h = refl
 two-missing f (w ∷ []) h = refl
 two-missing f (w ∷ a ∷ []) h = refl
 two-missing f (w ∷ a ∷ b ∷ ws) h = absurd (omega arith)
+
+-- ---- nodes by their code
+
+module _ (ws : List ℕ) (l : 2 ≤ length ws) where
+  some-word : 1 ≤ length ws
+  some-word = omega arith
+
+  pub variable-at : getD ws 0 0 ≡ 0 → nodeAt ws ≡ got (variableN (getD ws 1 0)) (drop 2 ws)
+  unfolding codes sound isNode
+  variable-at e = rw (at-code ws 0 e some-word, word-found variableN ws l)
+
+  pub operation-at : getD ws 0 0 ≡ 1 → nodeAt ws ≡ got (operationN (getD ws 1 0)) (drop 2 ws)
+  unfolding codes sound isNode
+  operation-at e = rw (at-code ws 1 e some-word, word-found operationN ws l)
+
+  pub integer-at : getD ws 0 0 ≡ 2 → nodeAt ws ≡ got (constantN (integer (getD ws 1 0))) (drop 2 ws)
+  unfolding codes sound isNode isConstant integer
+  integer-at e = rw (at-code ws 2 e some-word, word-found (λ w. constantN (integer w)) ws l)
+
+  pub name-at : getD ws 0 0 ≡ 4 → nodeAt ws ≡ got (nameN (getD ws 1 0)) (drop 2 ws)
+  unfolding codes sound isNode
+  name-at e = rw (at-code ws 4 e some-word, word-found nameN ws l)
+
+  pub list-at : getD ws 0 0 ≡ 5 → nodeAt ws ≡ got (listN (getD ws 1 0)) (drop 2 ws)
+  unfolding codes sound isNode
+  list-at e = rw (at-code ws 5 e some-word, word-found listN ws l)
+
+  pub application-at : getD ws 0 0 ≡ 8 → nodeAt ws ≡ got (applicationN (getD ws 1 0)) (drop 2 ws)
+  unfolding codes sound isNode
+  application-at e = rw (at-code ws 8 e some-word, word-found applicationN ws l)
+
+  pub boolean-at : getD ws 0 0 ≡ 3 → nodeAt ws ≡ sound (got (constantN (boolean (getD ws 1 0))) (drop 2 ws))
+  unfolding codes
+  boolean-at e = rw (at-code ws 3 e some-word, word-found (λ w. constantN (boolean w)) ws l)
+
+pub if-at : (ws : List ℕ) → 1 ≤ length ws → getD ws 0 0 ≡ 6 → nodeAt ws ≡ got ifN (drop 1 ws)
+unfolding codes sound isNode alone
+if-at ws l e = rw (at-code ws 6 e l)
+
+pub lambda-at : (ws : List ℕ) → 3 ≤ length ws → getD ws 0 0 ≡ 7 → nodeAt ws ≡ sound (got (lambdaN (getD ws 1 0) (getD ws 2 0)) (drop 3 ws))
+unfolding codes
+lambda-at ws l e = let h : 1 ≤ length ws = omega arith in rw (at-code ws 7 e h, two-found lambdaN ws l)
+
+-- ---- what the checker finds
+
+module _ (operations base : ℕ) (nameGood : ℕ → Bool) (flags : List ℕ) (b : ℕ) (q : Bool) (ws : List ℕ) where
+  abbrev pub Answer : Head
+  Answer = headOf (window operations nameGood base) q flags b (nodeAt ws)
+
+  pub head-missing : nodeAt ws ≡ missing → H.No ≡ Answer
+  unfolding headOf
+  head-missing e = rw e
+
+  module _ (l : 2 ≤ length ws) where
+    pub integer-found : getD ws 0 0 ≡ 2 → H.Node 2 0 b false ≡ Answer
+    unfolding headOf window allowed nodeWords parts binds isDatumNode isListNode isConstant constantWords integer
+    integer-found e = rw (integer-at ws l e, add-zero)
+
+    pub boolean-found : getD ws 0 0 ≡ 3 → getD ws 1 0 ≤ 1 → H.Node 2 0 b false ≡ Answer
+    unfolding headOf window allowed nodeWords parts binds isDatumNode isListNode isConstant constantWords boolean sound isNode
+    boolean-found e h = let k : getD ws 1 0 < 2 = omega arith in rw (boolean-at ws l e, lt-ltb _ _ k, lt-ltb _ _ k, add-zero)
+
+    pub boolean-bad : getD ws 0 0 ≡ 3 → 1 < getD ws 1 0 → H.No ≡ Answer
+    unfolding headOf isConstant boolean sound isNode
+    boolean-bad e h = let k : 2 ≤ getD ws 1 0 = omega arith in rw (boolean-at ws l e, le-ltb _ _ k)
+
+    pub name-found : getD ws 0 0 ≡ 4 → nameGood (getD ws 1 0) ≡ true → H.Node 2 0 b false ≡ Answer
+    unfolding headOf window allowed nodeWords parts binds isDatumNode isListNode
+    name-found e h = rw (name-at ws l e, h, add-zero)
+
+    pub name-bad : getD ws 0 0 ≡ 4 → nameGood (getD ws 1 0) ≡ false → H.No ≡ Answer
+    unfolding headOf window allowed isDatumNode
+    name-bad e h = rw (name-at ws l e, h)
+
+    pub list-found : getD ws 0 0 ≡ 5 → H.Node 2 (getD ws 1 0) b true ≡ Answer
+    unfolding headOf window allowed nodeWords parts binds isDatumNode isListNode
+    list-found e = rw (list-at ws l e, add-zero)
+
+  module _ (l : 2 ≤ length ws) (free : q ≡ false) where
+    pub variable-found : getD ws 0 0 ≡ 0 → (ltb (getD ws 1 0) b && noted base flags (getD ws 1 0)) ≡ true → H.Node 2 0 b false ≡ Answer
+    unfolding headOf window allowed nodeWords parts binds isDatumNode isListNode
+    variable-found e h = rw (variable-at ws l e, free, h, add-zero)
+
+    pub variable-bad : getD ws 0 0 ≡ 0 → (ltb (getD ws 1 0) b && noted base flags (getD ws 1 0)) ≡ false → H.No ≡ Answer
+    unfolding headOf window allowed isDatumNode
+    variable-bad e h = rw (variable-at ws l e, free, h)
+
+    pub operation-found : getD ws 0 0 ≡ 1 → getD ws 1 0 < operations → H.Node 2 0 b false ≡ Answer
+    unfolding headOf window allowed nodeWords parts binds isDatumNode isListNode
+    operation-found e h = rw (operation-at ws l e, free, lt-ltb _ _ h, add-zero)
+
+    pub operation-bad : getD ws 0 0 ≡ 1 → operations ≤ getD ws 1 0 → H.No ≡ Answer
+    unfolding headOf window allowed isDatumNode
+    operation-bad e h = rw (operation-at ws l e, free, le-ltb _ _ h)
+
+    pub application-found : getD ws 0 0 ≡ 8 → H.Node 2 (getD ws 1 0 + 1) b false ≡ Answer
+    unfolding headOf window allowed nodeWords parts binds isDatumNode isListNode
+    application-found e = rw (application-at ws l e, free, add-zero, add-one)
+
+  pub if-found : 1 ≤ length ws → q ≡ false → getD ws 0 0 ≡ 6 → H.Node 1 3 b false ≡ Answer
+  unfolding headOf window allowed nodeWords parts binds isDatumNode isListNode
+  if-found l free e = rw (if-at ws l e, free, add-zero)
+
+  module _ (l : 3 ≤ length ws) (free : q ≡ false) (e : getD ws 0 0 ≡ 7) where
+    pub lambda-found : getD ws 2 0 ≤ 8 → getD ws 1 0 ≡ b → H.Node 3 1 (getD ws 1 0 + getD ws 2 0) false ≡ Answer
+    unfolding headOf window allowed nodeWords parts binds isDatumNode isListNode sound isNode
+    lambda-found h k = rw (lambda-at ws l e, le-leb _ _ h, free, eq-eqb _ _ k, le-leb _ _ h, k)
+
+    pub lambda-many : 8 < getD ws 2 0 → H.No ≡ Answer
+    unfolding headOf sound isNode
+    lambda-many h = rw (lambda-at ws l e, lt-leb _ _ h)
+
+    pub lambda-other : getD ws 2 0 ≤ 8 → (getD ws 1 0 ≡ b → ⊥) → H.No ≡ Answer
+    unfolding headOf window allowed isDatumNode sound isNode
+    lambda-other h k = rw (lambda-at ws l e, le-leb _ _ h, free, ne-eqb _ _ k, and-false)
+
+-- ---- too few words
+
+-- only an if has no more than its code
+pub short-missing : (ws : List ℕ) → (getD ws 0 0 ≡ 6 → ⊥) → length ws < 2 → nodeAt ws ≡ missing
+unfolding nodeAt ofCode codes sound withWord withTwo nothing
+short-missing [] k l = refl
+short-missing (w ∷ []) k l = go w k
+  where
+    go : (w : ℕ) → (w ≡ 6 → ⊥) → nodeAt (w ∷ []) ≡ missing
+    go zero k = refl
+    go (suc zero) k = refl
+    go (suc (suc zero)) k = refl
+    go (suc (suc (suc zero))) k = refl
+    go (suc (suc (suc (suc zero)))) k = refl
+    go (suc (suc (suc (suc (suc zero))))) k = refl
+    go (suc (suc (suc (suc (suc (suc zero)))))) k = absurd (k refl)
+    go (suc (suc (suc (suc (suc (suc (suc zero))))))) k = refl
+    go (suc (suc (suc (suc (suc (suc (suc (suc zero)))))))) k = refl
+    go (suc (suc (suc (suc (suc (suc (suc (suc (suc w))))))))) k = refl
+short-missing (w ∷ a ∷ ws) k l = absurd (omega arith)
+
+-- code 7
+pub lambda-short : (ws : List ℕ) → getD ws 0 0 ≡ 7 → length ws < 3 → nodeAt ws ≡ missing
+unfolding codes sound
+lambda-short ws e l = go (length ws) refl
+  where
+    go : (n : ℕ) → length ws ≡ n → nodeAt ws ≡ missing
+    go zero h = at-none ws h
+    go (suc n) h = let k : 1 ≤ length ws = omega arith in rw (at-code ws 7 e k, two-missing lambdaN ws l)
+
+-- ---- no datum
+
+-- the code of a node that begins a datum
+datum-code : (x : Node) (r : List ℕ) → isNode x ≡ true → isDatumNode x ≡ true → (2 ≤ getD (nodeWords x ++ r) 0 0) × (getD (nodeWords x ++ r) 0 0 ≤ 5)
+unfolding isNode isDatumNode nodeWords constantWords isConstant
+datum-code (variableN n) r p h = absurd (false≢true h)
+datum-code (operationN n) r p h = absurd (false≢true h)
+datum-code (constantN a) r p h = go (a .kind) p
+  where
+    go : (k : ℕ) → getD (false ∷ eqb (a .second) 0 ∷ (ltb (a .first) 2 && eqb (a .second) 0) ∷ []) k false ≡ true → (2 ≤ suc k) × (suc k ≤ 5)
+    go zero q = absurd (false≢true q)
+    go (suc zero) q = omega arith
+    go (suc (suc zero)) q = omega arith
+    go (suc (suc (suc k))) q = absurd (false≢true q)
+datum-code (nameN n) r p h = omega arith
+datum-code (listN n) r p h = omega arith
+datum-code ifN r p h = absurd (false≢true h)
+datum-code (lambdaN first n) r p h = absurd (false≢true h)
+datum-code (applicationN n) r p h = absurd (false≢true h)
+
+-- a datum is wanted, and the code is none of 2 to 5
+module _ (operations base : ℕ) (nameGood : ℕ → Bool) (flags : List ℕ) (b : ℕ) (q : Bool) (ws : List ℕ) (wanted : q ≡ true) where
+  no-datum : (g : Got Node) → ((x : Node) (r : List ℕ) → g ≡ got x r → isDatumNode x ≡ true → ⊥) → H.No ≡ headOf (window operations nameGood base) q flags b g
+  unfolding headOf
+  no-datum missing h = refl
+  no-datum (got x r) h = go (isDatumNode x) refl
+    where
+      go : (d : Bool) → isDatumNode x ≡ d → H.No ≡ headOf (window operations nameGood base) q flags b (got x r)
+      go true e = absurd (h x r refl e)
+      go false e = rw (wanted, e)
+
+  pub quoted-none : (2 ≤ getD ws 0 0 → getD ws 0 0 ≤ 5 → ⊥) → H.No ≡ Answer operations base nameGood flags b q ws
+  quoted-none h = no-datum (nodeAt ws) (λ x r e d. other x r (node-read ws x r e) d)
+    where
+      other : (x : Node) (r : List ℕ) → NodeRead ws x r → isDatumNode x ≡ true → ⊥
+      other x r k d =
+          let c = datum-code x r (k .proper) d in
+          let e : getD ws 0 0 ≡ getD (nodeWords x ++ r) 0 0 = ap (λ (l : List ℕ). getD l 0 0) (k .words) in
+          h (omega arith) (omega arith)

@@ -1,14 +1,14 @@
 -- Laws of nodes: nodeAt reads what nodeWords gives, and nothing else.
-use mathlib.Core.Path.{_≡_, refl, sym, ap, _∙_}
+use mathlib.Core.Path.{_≡_, refl, sym}
 use mathlib.Core.Bool.{Bool, true, false, cond, _&&_, false≢true}
 use mathlib.Core.List.{List, [], _∷_, _++_}
-use Prim.Native.Nat.{ℕ, zero, suc, _+_, _≤_}
+use Prim.Native.Nat.{ℕ, zero, suc, _≤_}
 use native.Mathlib.Omega.{arith}
-use lib.Dec.{eqb, leb, ltb}
-use lib.ListN.{length, getD}
+use lib.Dec.{eqb, ltb}
+use lib.ListN.{length}
 use borrow.Author.Tests.{eqb-true}
 use Rattle.datum.specs.Constant.{Constant, isConstant, constantWords, integer, boolean}
-use Rattle.core_term.specs.Node.{Node, Got, got, missing, nodeWords, isNode, nodeAt, nothing, withWord, withTwo, alone, codes, ofCode, sound, variableN, operationN, constantN, nameN, listN, ifN, lambdaN, applicationN}
+use Rattle.core_term.specs.Node.{Node, got, missing, nodeWords, isNode, nodeAt, nothing, withWord, withTwo, alone, codes, ofCode, sound, variableN, operationN, constantN, nameN, listN, ifN, lambdaN, applicationN}
 
 -- ---- nodeWords, then nodeAt
 

@@ -1,5 +1,5 @@
 -- Core terms. F is what a lambda says of each variable it binds: a run keeps the name there, words say nothing.
-use mathlib.Core.List.{List, [], _∷_}
+use mathlib.Core.List.{List}
 use Prim.Native.Nat.{ℕ, suc, _+_}
 use lib.ListN.{length, replicate}
 use Rattle.datum.specs.Datum.{Datum}

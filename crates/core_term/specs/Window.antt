@@ -1,7 +1,7 @@
 -- The checker's way with scope: the variables of a window, from base on, have a flag each, set inside their lambda.
 -- What it asks of a node is ground 19's, with the flags for the scope.
 use mathlib.Core.Bool.{Bool, true, false, cond, not, _&&_, _||_}
-use mathlib.Core.List.{List, [], _∷_}
+use mathlib.Core.List.{List}
 use Prim.Native.Nat.{ℕ, zero, suc, _+_, _-_}
 use lib.Dec.{eqb, ltb, leb}
 use lib.ListN.{length, getD, set}

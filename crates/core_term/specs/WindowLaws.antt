@@ -1,5 +1,5 @@
 -- Laws of the window's flags.
-use mathlib.Core.Path.{_≡_, refl, sym, ap, subst, _∙_}
+use mathlib.Core.Path.{_≡_, refl, sym, ap, _∙_}
 use mathlib.Core.Bool.{Bool, true, false, cond, _&&_}
 use mathlib.Core.List.{List, [], _∷_}
 use Prim.Native.Nat.{ℕ, zero, suc, _+_, _-_, _*_, _≤_, _<_}
@@ -10,8 +10,11 @@ use lib.Seq.{set-out, getD-set-same, getD-set-other, ext-getD}
 use borrow.Author.Tests.{lt-ltb, le-ltb, ltb-true, ltb-false, le-leb, lt-leb}
 use Rattle.words.specs.Lists.{within}
 use Rattle.datum.specs.NameTable.{lengthAt, hasName}
+use Rattle.core_term.specs.Node.{Node, isNode, variableN, operationN, constantN, nameN, listN, ifN, lambdaN, applicationN}
+use Rattle.core_term.specs.NodeLaws.{both}
 use Rattle.core_term.specs.Check.{small}
-use Rattle.core_term.specs.Window.{put, marked, noted, goodName}
+use Rattle.core_term.specs.Shape.{Clear}
+use Rattle.core_term.specs.Window.{put, marked, noted, goodName, allowed, window}
 
 -- ---- put
 
@@ -48,6 +51,64 @@ pub marked-length : (base k n v : ℕ) (fl : List ℕ) → length (marked base k
 unfolding marked
 marked-length base k zero v fl = refl
 marked-length base k (suc n) v fl = put-length base (k + n) v (marked base k n v fl) ∙ marked-length base k n v fl
+
+-- ---- a flag by its variable
+
+pub case : {X : Type 0} (a b : ℕ) → (a < b → X) → (b ≤ a → X) → X
+case {X} a b x y = go (ltb a b) refl
+  where
+    go : (c : Bool) → ltb a b ≡ c → X
+    go true e = x (ltb-true a b e)
+    go false e = y (ltb-false a b e)
+
+module _ (base j v d : ℕ) (h : base ≤ j) where
+  put-other : (m : ℕ) (fl : List ℕ) → (j ≡ m → ⊥) → getD (put base m v fl) (j - base) d ≡ getD fl (j - base) d
+  put-other m fl k =
+      case m base
+      (λ l. rw (put-below base m v fl l))
+      (λ l. rw (put-in base m v fl l) (getD-set-other fl (m - base) (j - base) v d (λ e. k (omega arith))))
+
+  put-same : (fl : List ℕ) → j - base < length fl → getD (put base j v fl) (j - base) d ≡ v
+  put-same fl l = rw (put-in base j v fl h) (getD-set-same fl (j - base) v d l)
+
+  pub marked-out : (k n : ℕ) (fl : List ℕ) → (k ≤ j → j < k + n → ⊥) → getD (marked base k n v fl) (j - base) d ≡ getD fl (j - base) d
+  unfolding marked
+  marked-out k zero fl o = refl
+  marked-out k (suc n) fl o =
+      put-other (k + n) (marked base k n v fl) (λ e. o (omega arith) (omega arith)) ∙ marked-out k n fl (λ a b. o a (omega arith))
+
+  pub marked-in : (k n : ℕ) (fl : List ℕ) → k ≤ j → j < k + n → j - base < length fl → getD (marked base k n v fl) (j - base) d ≡ v
+  unfolding marked
+  marked-in k zero fl a b l = absurd (omega arith)
+  marked-in k (suc n) fl a b l =
+      case j (k + n)
+      (λ z. put-other (k + n) (marked base k n v fl) (λ e. omega arith) ∙ marked-in k n fl a z l)
+      (λ z. let e : k + n ≡ j = omega arith in rw e (put-same (marked base k n v fl) (omega (arith, marked-length base k n v fl))))
+
+-- setting and clearing the flags of variables not yet bound changes nothing
+pub marked-undo : (base k n : ℕ) (fl : List ℕ) → Clear base k fl → marked base k n 0 (marked base k n 1 fl) ≡ fl
+marked-undo base k n fl h =
+    ext-getD 0 (marked base k n 0 (marked base k n 1 fl)) fl size at
+  where
+    size : length (marked base k n 0 (marked base k n 1 fl)) ≡ length fl
+    size = marked-length base k n 0 (marked base k n 1 fl) ∙ marked-length base k n 1 fl
+
+    by : (j i : ℕ) → j - base ≡ i → base ≤ j → i < length fl → getD (marked base k n 0 (marked base k n 1 fl)) i 0 ≡ getD fl i 0
+    by j i e b l =
+        let x = marked base k n 1 fl in
+        rw (sym e)
+        (case j k
+        (λ z. marked-out base j 0 0 b k n x (λ p r. omega arith) ∙ marked-out base j 1 0 b k n fl (λ p r. omega arith))
+        (λ z. case j (k + n)
+        (λ y. marked-in base j 0 0 b k n x z y (omega (arith, marked-length base k n 1 fl)) ∙ sym (h j z b))
+        (λ y. marked-out base j 0 0 b k n x (λ p r. omega arith) ∙ marked-out base j 1 0 b k n fl (λ p r. omega arith))))
+
+    at : (i : ℕ) → i < length (marked base k n 0 (marked base k n 1 fl)) → getD (marked base k n 0 (marked base k n 1 fl)) i 0 ≡ getD fl i 0
+    at i l = by (base + i) i (omega arith) (omega arith) (omega (arith, size))
+
+-- and leaves those after them clear
+pub marked-clear : (base k n : ℕ) (fl : List ℕ) → Clear base k fl → Clear base (k + n) (marked base k n 1 fl)
+marked-clear base k n fl h j l b = marked-out base j 1 0 b k n fl (λ p r. omega arith) ∙ h j (omega arith) b
 
 -- ---- noted
 
@@ -102,3 +163,17 @@ module _ (tabled : Bool) (table : List ℕ) (n : ℕ) where
 
     pub good-empty : l < 1 → goodName tabled table n ≡ leb 1 l
     good-empty k = good-length h e room ∙ rw (sym is, lt-leb 1 l k)
+
+-- ---- nodes
+
+-- what is allowed is a node
+pub allowed-node : (operations : ℕ) (nameGood : ℕ → Bool) (base : ℕ) (e : List ℕ) (b : ℕ) (x : Node) → window operations nameGood base .test e b x ≡ true → isNode x ≡ true
+unfolding window allowed isNode
+allowed-node operations nameGood base e b (variableN n) h = refl
+allowed-node operations nameGood base e b (operationN n) h = refl
+allowed-node operations nameGood base e b (constantN a) h = h
+allowed-node operations nameGood base e b (nameN n) h = refl
+allowed-node operations nameGood base e b (listN n) h = refl
+allowed-node operations nameGood base e b ifN h = refl
+allowed-node operations nameGood base e b (lambdaN first n) h = both (leb n 8) (eqb first b) h .0
+allowed-node operations nameGood base e b (applicationN n) h = refl

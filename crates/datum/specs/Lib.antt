@@ -2,3 +2,4 @@
 pub mod Constant
 pub mod Datum
 pub mod NameTable
+pub mod NameTableLaws

@@ -1,8 +1,8 @@
 -- The name table: name n has 64 bytes from 64 × n, a length byte, its bytes, zeros.
-use mathlib.Core.Bool.{Bool, true, false, _&&_}
+use mathlib.Core.Bool.{Bool, _&&_}
 use mathlib.Core.List.{List, [], _∷_, _++_}
-use Prim.Native.Nat.{ℕ, suc, _+_, _*_, _-_}
-use lib.Dec.{eqb, ltb, leb}
+use Prim.Native.Nat.{ℕ, suc, _*_, _-_}
+use lib.Dec.{ltb, leb}
 use lib.ListN.{length, getD, take, drop, replicate}
 use Rattle.words.specs.Limits.{namesMost, nameLengthMost, slotSize}
 use Rattle.words.specs.Lists.{within}

@@ -1,8 +1,8 @@
 -- Laws of forms: reading rules changes no state and gives rules for each form; every macro of a form has one name.
 use mathlib.Core.Path.{_≡_, refl, ap, sym, _∙_}
 use mathlib.Core.Bool.{true}
-use mathlib.Core.List.{List, [], _∷_}
-use Prim.Native.Nat.{ℕ, suc}
+use mathlib.Core.List.{List, [], _∷_, _++_, map}
+use Prim.Native.Nat.{ℕ, suc, _+_}
 use native.Mathlib.Omega.{arith}
 use lib.ListN.{length, length-append, length-map}
 use Rattle.words.specs.Lists.{all}
@@ -36,15 +36,30 @@ pub record RulesRead (P : List Rule → Type 0) (rs : List Tree) (s : State) (ru
   pub each : Each P rules
   pub shown : Each Unbinding l
 
+-- the counts of a state to which rules for so many forms are added
+pub record RulesAdded (n : ℕ) (s : State) (rules : List (List Rule)) (t : State) : Type 0 where
+  pub steps : t .steps ≡ s .steps
+  pub sum : t .sum ≡ s .sum
+  pub variables : t .variables ≡ s .variables
+  pub macros : length (t .macros ++ rules) ≡ length (s .macros) + n
+
+pub rules-added : {P : List Rule → Type 0} {s : State} {rules : List (List Rule)} {t : State} {l : Events} (f : Tree → Tree) (rs : List Tree) → RulesRead P (map f rs) s rules t l → RulesAdded (length rs) s rules t
+rules-added {rules = rules} {t = t} f rs read = record {
+  steps = ap (λ (z : State). z .steps) (read .unchanged);
+  sum = ap (λ (z : State). z .sum) (read .unchanged);
+  variables = ap (λ (z : State). z .variables) (read .unchanged);
+  macros = length-append (t .macros) rules ∙ omega (arith, ap (λ (z : State). length (z .macros)) (read .unchanged), read .count, length-map rs f);
+}
+
 pub readRules-holds : {S : Type 0} {R : ℕ → State → Events → Type 0} (P : List Rule → Type 0) {rs : List Tree} → Each (λ r. Given P (rulesOf r)) rs
-    → (s : State) → ((g : ℕ) (l : Events) → Each Unbinding l → R g s l) → Holds S R (RulesRead P rs s) (readRules rs s)
+    → (s : State) → ((l : Events) → Each Unbinding l → R 15 s l) → Holds S R (RulesRead P rs s) (readRules rs s)
 unfolding readRules
 readRules-holds P noneOf s r = give-holds [] s (record { unchanged = refl; count = refl; each = noneOf; shown = noneOf })
 readRules-holds P (also {x} g gs) s r =
     let h = head-looks (element 0 x) in
     show-holds _ _ s
-    (orRefuse-holds _ _ _ s (r _ _ (each-append h noneOf)) λ a e.
-    then-holds _ _ _ s (readRules-holds P gs s (λ g l k. r g _ (each-append h k))) λ b t l q.
+    (orRefuse-holds _ _ _ s (r _ (each-append h noneOf)) λ a e.
+    then-holds _ _ _ s (readRules-holds P gs s (λ l k. r _ (each-append h k))) λ b t l q.
     give-holds _ t (record { unchanged = q .unchanged; count = ap suc (q .count); each = also (given-at g e) (q .each); shown = each-append h (each-append (q .shown) noneOf) }))
 
 pub firstNames-length : (cs : List Tree) → all isMacro cs ≡ true → length (firstNames cs) ≡ length cs

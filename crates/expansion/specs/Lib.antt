@@ -1,5 +1,6 @@
 -- The definition of expansion: what marks and substitutions carried through the whole tree immediately give.
--- Read in this order: what a name means; rules, matching and transcribing; forms; the run; and from Computed on, known runs.
+-- Read in this order: what a name means; rules, matching and transcribing; forms; the run. From Computed on, known runs.
+-- Then laws: of outcomes, rules, forms and runs; bounds, the core term, and the ways that computations keep to.
 pub mod Lookup
 pub mod Rules
 pub mod Match
@@ -15,16 +16,9 @@ pub mod RowsShapes
 pub mod RowsTables
 pub mod RowsEvents
 pub mod Outcomes
-pub mod FormLaws
-pub mod Budget
-pub mod RunLaws
-pub mod Gas
-pub mod Bounds
 pub mod TidyRules
-pub mod World
-pub mod WorldState
-pub mod Sound
-pub mod EveryLaws
+pub mod FormLaws
+pub mod RunLaws
+pub mod Bounds
 pub mod CoreTerm
-pub mod Bindings
-pub mod OwnNames
+pub mod Ways

@@ -1,18 +1,33 @@
 -- What holds of a run holds where it is turned back before it begins and of the end of its expansion.
-use mathlib.Core.Path.{_≡_, refl}
-use mathlib.Core.Bool.{Bool, true, false}
+use mathlib.Core.Path.{_≡_, refl, _∙_}
+use mathlib.Core.Bool.{Bool, true, false, false≢true}
 use mathlib.Core.List.{List, []}
 use Prim.Native.Nat.{ℕ, _+_, _*_, _≤_}
+use native.Mathlib.Omega.{arith}
 use lib.Dec.{leb}
-use borrow.Author.Tests.{leb-true}
+use borrow.Author.Tests.{leb-true, le-leb}
 use Rattle.words.specs.Limits.{fuelMost, workRate, coreRate}
-use Rattle.words.specs.TestLaws.{and-parts}
+use Rattle.words.specs.Lists.{any}
+use Rattle.words.specs.TestLaws.{and-parts, and-both}
 use Rattle.recipe.specs.Name.{Name}
 use Rattle.recipe.specs.Table.{itemCount, isLayout, treeOf}
 use Rattle.core_term.specs.Term.{Term}
-use Rattle.expansion.specs.Computation.{State, Events, Out, done, refused, starved}
-use Rattle.expansion.specs.Run.{turnedBack, Run, ended, require, areOperations, expandRecipe, run}
+use Rattle.expansion.specs.Computation.{State, Event, Events, Out, done, refused, starved}
+use Rattle.expansion.specs.Run.{accepted, turnedBack, unfinished, Run, ended, require, areOperations, expandRecipe, run}
 use Rattle.expansion.specs.Outcomes.{Holds, isDone, isRefused, isStarved}
+
+-- ---- outcomes are told apart
+
+pub accepted≢turnedBack : (g : ℕ) → accepted ≡ turnedBack g → ⊥
+accepted≢turnedBack g e = let z : _≡_ {A = ℕ} 0 1 = cc in omega arith
+
+pub accepted≢unfinished : accepted ≡ unfinished → ⊥
+accepted≢unfinished e = let z : _≡_ {A = ℕ} 0 1 = cc in omega arith
+
+pub turnedBack≢unfinished : (g : ℕ) → turnedBack g ≡ unfinished → ⊥
+turnedBack≢unfinished g e = let z : _≡_ {A = ℕ} 0 1 = cc in omega arith
+
+-- ---- claims about runs
 
 -- turned back on ground g before it begins
 unfoldable pub unbegun : (ground : ℕ) → Run
@@ -32,14 +47,14 @@ module _ (P : Run → Type 0) where
   require-holds g true r p k = k refl
   require-holds g false r p k = p
 
-  begun-holds : (items : List ℕ) (fuel work core : ℕ) → ((g : ℕ) → P (unbegun g)) → (Begun items fuel work core → P (ended (expandRecipe fuel (treeOf items)))) → P (run items fuel work core)
+  begun-holds : (items : List ℕ) (fuel work core : ℕ) → ((g : ℕ) → (7 ≤ g) × (g ≤ 10) → P (unbegun g)) → (Begun items fuel work core → P (ended (expandRecipe fuel (treeOf items)))) → P (run items fuel work core)
   unfolding run
   begun-holds items fuel work core p k =
       let need = itemCount items + fuel in
-      require-holds 7 _ _ (p 7) λ a.
-      require-holds 8 _ _ (p 8) λ b.
-      require-holds 9 _ _ (p 9) λ c.
-      require-holds 10 _ _ (p 10) λ d.
+      require-holds 7 _ _ (p 7 (omega arith)) λ a.
+      require-holds 8 _ _ (p 8 (omega arith)) λ b.
+      require-holds 9 _ _ (p 9 (omega arith)) λ c.
+      require-holds 10 _ _ (p 10 (omega arith)) λ d.
       let rooms = and-parts (leb (workRate * need) work) (leb (coreRate * need) core) c in
       k (record { layout = a; fuelled = leb-true _ _ b; work-room = leb-true _ _ (rooms .0); core-room = leb-true _ _ (rooms .1); operations = d })
 
@@ -51,9 +66,31 @@ module _ (P : Run → Type 0) where
     ended-holds (starved l) (isStarved e) x y z = z l e
 
     pub run-holds : (items : List ℕ) (fuel work core : ℕ) → (Begun items fuel work core → Holds S R Q (expandRecipe fuel (treeOf items)))
-        → ((g : ℕ) → P (unbegun g))
+        → ((g : ℕ) → (7 ≤ g) × (g ≤ 10) → P (unbegun g))
         → (Begun items fuel work core → (t : Term Name) (s : State) (l : Events) → Q t s l → P (ended (done t s l)))
         → (Begun items fuel work core → (g : ℕ) (s : State) (l : Events) → R g s l → P (ended (refused g s l)))
         → (Begun items fuel work core → (l : Events) → S → P (ended (starved l)))
         → P (run items fuel work core)
     run-holds items fuel work core h p x y z = begun-holds items fuel work core p λ b. ended-holds (expandRecipe fuel (treeOf items)) (h b) (x b) (y b) (z b)
+
+-- ---- runs that begin
+
+require-passes : (g : ℕ) (b : Bool) (r : Run) → b ≡ true → require g b r ≡ r
+unfolding require
+require-passes g true r e = refl
+require-passes g false r e = absurd (false≢true e)
+
+module _ (items : List ℕ) (fuel work core : ℕ) where
+  -- past those tests a run is its expansion's
+  pub begun-run : Begun items fuel work core → run items fuel work core ≡ ended (expandRecipe fuel (treeOf items))
+  unfolding run
+  begun-run b =
+      require-passes 7 _ _ (b .layout)
+      ∙ require-passes 8 _ _ (le-leb _ _ (b .fuelled))
+      ∙ require-passes 9 _ _ (and-both _ _ (le-leb _ _ (b .work-room)) (le-leb _ _ (b .core-room)))
+      ∙ require-passes 10 _ _ (b .operations)
+
+  -- a run that shows an event has passed them
+  pub shows-begun : (f : Event → Bool) → any f (run items fuel work core .events) ≡ true → Begun items fuel work core
+  unfolding any unbegun
+  shows-begun f = begun-holds (λ r. any f (r .events) ≡ true → Begun items fuel work core) items fuel work core (λ g _ e. absurd (false≢true e)) (λ b e. b)

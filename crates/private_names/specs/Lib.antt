@@ -1,29 +1,4 @@
--- Private names (demand 3): no run shows them. Statement says it, and Witnesses computes it on recipes.
--- Two runs whose trees differ in a template's private name go side by side, from the form on. Read in this order: relations and what they
--- keep; names; what may be shown; steps and states; outcomes; forms.
--- Before the form: Reach, what a run reaches outside results; Origins, each binding is made once; Tables, the tree of a table and of a
--- renumbered one.
+-- Private names (demand 3): no run shows them. Statement says it, and Witnesses computes it on recipes, for and against each hypothesis.
+-- The proof has a crate of its own, private_names_proof, so that an edit of the statement is refused by a witness.
 pub mod Statement
 pub mod Witnesses
-pub mod Relations
-pub mod Shapes
-pub mod RulesKept
-pub mod MatchKept
-pub mod Sameness
-pub mod Shown
-pub mod Names
-pub mod Lookups
-pub mod Steps
-pub mod Terms
-pub mod States
-pub mod Outcomes
-pub mod FormsKept
-pub mod Agree
-pub mod Reach
-pub mod Origins
-pub mod Tables
-pub mod Holes
-pub mod Scopes
-pub mod Places
-pub mod ChosenRule
-pub mod Form

@@ -113,23 +113,31 @@ unfoldable pub isOwnedByCopy : (C : ℕ → Bool) → Events → Option Binding 
 isOwnedByCopy C shown none = false
 isOwnedByCopy C shown (some b) = any (bindsCopy C b) shown
 
--- no copy is quoted; a lookup of a copy (of all four kinds) finds a binding whose own name is such a copy
-unfoldable pub isHidden : (C : ℕ → Bool) → Events → Event → Bool
-isHidden C shown (looked x) = not (isCopy C x) || isOwnedByCopy C shown (x .binding)
-isHidden C shown (quoted x) = not (isCopy C x)
-isHidden C shown (reached x) = true
-isHidden C shown (binds b x) = true
+-- no copy of the old name is quoted
+unfoldable pub quotesNoCopy : (C : ℕ → Bool) → Event → Bool
+quotesNoCopy C (looked x) = true
+quotesNoCopy C (quoted x) = not (isCopy C x)
+quotesNoCopy C (reached x) = true
+quotesNoCopy C (binds b x) = true
+
+-- each lookup of a copy, of all four kinds, finds a binding whose own name is such a copy
+unfoldable pub findsOwn : (C : ℕ → Bool) → Events → Event → Bool
+findsOwn C shown (looked x) = not (isCopy C x) || isOwnedByCopy C shown (x .binding)
+findsOwn C shown (quoted x) = true
+findsOwn C shown (reached x) = true
+findsOwn C shown (binds b x) = true
 
 -- ---- the claim
 
--- the hypotheses on a recipe and what its run shows, one by one: the form is reached other than through a macro's result; the old
--- name is private; the new name is new; copies stay hidden
+-- the hypotheses on a recipe and what its first run shows, one by one: the form is reached other than through a macro's result; the
+-- old name is private; the new name is new; no copy is quoted; each lookup of a copy finds a binding whose own name is such a copy
 unfoldable pub hypotheses : List ℕ → Choice → Events → List Bool
 hypotheses ws c shown =
     any (isReachedAt (c .form)) shown
     ∷ isPrivate (treeOf ws) c
     ∷ isNew ws (c .new)
-    ∷ all (isHidden (isOldItem (treeOf ws) c) shown) shown
+    ∷ all (quotesNoCopy (isOldItem (treeOf ws) c)) shown
+    ∷ all (findsOwn (isOldItem (treeOf ws) c) shown) shown
     ∷ []
 
 -- outcome, the two counts, and the core term word for word
@@ -143,7 +151,7 @@ unfoldable pub answerOf : Run → Answer
 answerOf r = record { outcome = r .outcome; steps = r .steps; sum = r .sum; core = r .core }
 
 -- demand 3: whatever the recipe, fuel and lengths of lent tables
-pub PrivateNames : Type 0
+unfoldable pub PrivateNames : Type 0
 PrivateNames =
     (ws : List ℕ) (fuel work core : ℕ) (c : Choice)
     → all (λ h. h) (hypotheses ws c (run ws fuel work core .events)) ≡ true

@@ -9,10 +9,10 @@ use Rattle.words.specs.Text.{bytes}
 use Rattle.recipe.specs.Table.{treeOf}
 use Rattle.reading.specs.Elements.{got, back}
 use Rattle.reading.specs.Read.{recipeOf, itemWords}
-use Rattle.expansion.specs.Computation.{Event, looked, quoted, reached, binds, Events}
-use Rattle.expansion.specs.Run.{Outcome, accepted, turnedBack, unfinished, Run, run}
+use Rattle.expansion.specs.Computation.{looked, quoted, reached, binds, Events}
+use Rattle.expansion.specs.Run.{Outcome, accepted, turnedBack, unfinished, Run}
 use Rattle.expansion.specs.Computed.{computed}
-use Rattle.private_names.specs.Statement.{Choice, isOldItem, isCopy, renamed, hypotheses, parts, firstWith, hasHead, formAt, rulesAt, ruleAt, templateAt, isVariableAt, isPrivate, isNew, renumber, isReachedAt, bindsCopy, isOwnedByCopy, isHidden}
+use Rattle.private_names.specs.Statement.{Choice, isOldItem, isCopy, renamed, hypotheses, parts, firstWith, hasHead, formAt, rulesAt, ruleAt, templateAt, isVariableAt, isPrivate, isNew, renumber, isReachedAt, bindsCopy, isOwnedByCopy, quotesNoCopy, findsOwn}
 
 -- the items of a recipe's text
 unfoldable pub itemsOf : String → List ℕ
@@ -36,7 +36,7 @@ groundOf unfinished = []
 unfoldable pub wordsOf : Run → List ℕ
 wordsOf r = groundOf (r .outcome) ++ (r .steps ∷ r .sum ∷ r .core)
 
--- what is tried: a recipe's text; the form's item, its macro, the rule and the old name (the new one is 1,000)
+-- what is tried: a recipe's text; the form's item, its macro, the rule, the old name and the new one (1,000 if not told)
 pub record Trial : Type 0 where
   pub text : String
   pub choice : Choice
@@ -48,15 +48,19 @@ pub record Finding : Type 0 where
   pub first : List ℕ
   pub second : List ℕ
 
+unfoldable pub trialTo : (new : ℕ) → String → (form macro rule old : ℕ) → Trial
+trialTo new text form macro rule old = record { text = text; choice = record { form = form; macro = macro; rule = rule; old = old; new = new } }
+
 unfoldable pub trial : String → (form macro rule old : ℕ) → Trial
-trial text form macro rule old = record { text = text; choice = record { form = form; macro = macro; rule = rule; old = old; new = 1000 } }
+unfolding trialTo
+trial text form macro rule old = trialTo 1000 text form macro rule old
 
 unfoldable pub finding : List Bool → ℕ → List ℕ → List ℕ → Finding
 finding hold lookups first second = record { hold = hold; lookups = lookups; first = first; second = second }
 
 -- all hypotheses hold, and the two runs are equal
 unfoldable pub equal : ℕ → List ℕ → Finding
-equal lookups words = finding (true ∷ true ∷ true ∷ true ∷ []) lookups words words
+equal lookups words = finding (true ∷ true ∷ true ∷ true ∷ true ∷ []) lookups words words
 
 -- the second run, beside the first
 unfoldable pub compared : List ℕ → Choice → Run → Finding
@@ -68,7 +72,7 @@ compared ws c r =
 unfoldable pub found : Trial → Finding
 unfolding
     finding itemsOf compared wordsOf groundOf copyLookups computed hypotheses parts firstWith hasHead formAt rulesAt ruleAt templateAt isVariableAt
-    isOldItem isPrivate isNew renumber renamed isReachedAt isCopy bindsCopy isOwnedByCopy isHidden
+    isOldItem isPrivate isNew renumber renamed isReachedAt isCopy bindsCopy isOwnedByCopy quotesNoCopy findsOwn
 found t = let ws = itemsOf (t .text) in compared ws (t .choice) (computed ws 512 16368 2046)
 
 -- ---- the hypotheses hold
@@ -150,52 +154,57 @@ failing =
     -- E25: a lookup of a copy finds a binding whose own name is none
     (
       trial "() (lambda (x) (let-syntax ((m (syntax-rules () ((_) x)))) (m)))" 11 0 0 8,
-      finding (true ∷ true ∷ true ∷ false ∷ []) 1 (0 ∷ 1 ∷ 1 ∷ 7 ∷ 0 ∷ 1 ∷ 0 ∷ 0 ∷ []) (11 ∷ 1 ∷ 1 ∷ []),
+      finding (true ∷ true ∷ true ∷ true ∷ false ∷ []) 1 (0 ∷ 1 ∷ 1 ∷ 7 ∷ 0 ∷ 1 ∷ 0 ∷ 0 ∷ []) (11 ∷ 1 ∷ 1 ∷ []),
     ) ∷
     -- E24: a lookup of a copy finds the macro itself
     (
       trial "() (letrec-syntax ((or (syntax-rules () ((_) #f) ((_ e) e) ((_ a b ...) ((lambda (t) (if t t (or b ...))) a))))) (lambda (t u) (or t u #f)))" 4 0 2 8,
-      finding (true ∷ true ∷ true ∷ false ∷ []) 2 (0 ∷ 3 ∷ 53 ∷ 7 ∷ 0 ∷ 2 ∷ 8 ∷ 1 ∷ 7 ∷ 2 ∷ 1 ∷ 6 ∷ 0 ∷ 2 ∷ 0 ∷ 2 ∷ 8 ∷ 1 ∷ 7 ∷ 3 ∷ 1 ∷ 6 ∷ 0 ∷ 3 ∷ 0 ∷ 3 ∷ 3 ∷ 0 ∷ 0 ∷ 1 ∷ 0 ∷ 0 ∷ []) (11 ∷ 1 ∷ 27 ∷ []),
+      finding (true ∷ true ∷ true ∷ true ∷ false ∷ []) 2 (0 ∷ 3 ∷ 53 ∷ 7 ∷ 0 ∷ 2 ∷ 8 ∷ 1 ∷ 7 ∷ 2 ∷ 1 ∷ 6 ∷ 0 ∷ 2 ∷ 0 ∷ 2 ∷ 8 ∷ 1 ∷ 7 ∷ 3 ∷ 1 ∷ 6 ∷ 0 ∷ 3 ∷ 0 ∷ 3 ∷ 3 ∷ 0 ∷ 0 ∷ 1 ∷ 0 ∷ 0 ∷ []) (11 ∷ 1 ∷ 27 ∷ []),
     ) ∷
     -- E22: a lookup of a copy finds a form
     (
       trial "(t) (let-syntax ((or2 (syntax-rules () ((_ a b) ((lambda (t) (if t t b)) a))))) ((lambda (if) (or2 if t)) #f))" 6 0 0 1,
-      finding (true ∷ true ∷ true ∷ false ∷ []) 1 (0 ∷ 1 ∷ 21 ∷ 8 ∷ 1 ∷ 7 ∷ 0 ∷ 1 ∷ 8 ∷ 1 ∷ 7 ∷ 1 ∷ 1 ∷ 6 ∷ 0 ∷ 1 ∷ 0 ∷ 1 ∷ 1 ∷ 0 ∷ 0 ∷ 0 ∷ 3 ∷ 0 ∷ []) (11 ∷ 1 ∷ 21 ∷ []),
+      finding (true ∷ true ∷ true ∷ true ∷ false ∷ []) 1 (0 ∷ 1 ∷ 21 ∷ 8 ∷ 1 ∷ 7 ∷ 0 ∷ 1 ∷ 8 ∷ 1 ∷ 7 ∷ 1 ∷ 1 ∷ 6 ∷ 0 ∷ 1 ∷ 0 ∷ 1 ∷ 1 ∷ 0 ∷ 0 ∷ 0 ∷ 3 ∷ 0 ∷ []) (11 ∷ 1 ∷ 21 ∷ []),
     ) ∷
     -- E14: the head of a rules form
     (
       trial "() (let-syntax ((m (syntax-rules () ((_ a) (let-syntax ((n (syntax-rules () ((_ b) b)))) (n a)))))) (m 7))" 4 0 0 5,
-      finding (true ∷ true ∷ true ∷ false ∷ []) 1 (0 ∷ 2 ∷ 32 ∷ 2 ∷ 7 ∷ []) (15 ∷ 1 ∷ 31 ∷ []),
+      finding (true ∷ true ∷ true ∷ true ∷ false ∷ []) 1 (0 ∷ 2 ∷ 32 ∷ 2 ∷ 7 ∷ []) (15 ∷ 1 ∷ 31 ∷ []),
     ) ∷
     -- E07: a copy compared with a literal finds nothing
     (
       trial "() (let-syntax ((c (syntax-rules (else) ((_ else) 1) ((_ x) 2)))) (let-syntax ((w (syntax-rules () ((_) (c else))))) (w)))" 41 0 0 9,
-      finding (true ∷ true ∷ true ∷ false ∷ []) 1 (0 ∷ 2 ∷ 6 ∷ 2 ∷ 1 ∷ []) (0 ∷ 2 ∷ 6 ∷ 2 ∷ 2 ∷ []),
+      finding (true ∷ true ∷ true ∷ true ∷ false ∷ []) 1 (0 ∷ 2 ∷ 6 ∷ 2 ∷ 1 ∷ []) (0 ∷ 2 ∷ 6 ∷ 2 ∷ 2 ∷ []),
     ) ∷
     -- a copy is quoted
     (
       trial "() (let-syntax ((m (syntax-rules () ((_) (quote x))))) (m))" 4 0 0 9,
-      finding (true ∷ true ∷ true ∷ false ∷ []) 0 (0 ∷ 1 ∷ 5 ∷ 4 ∷ 9 ∷ []) (0 ∷ 1 ∷ 5 ∷ 4 ∷ 1000 ∷ []),
+      finding (true ∷ true ∷ true ∷ false ∷ true ∷ []) 0 (0 ∷ 1 ∷ 5 ∷ 4 ∷ 9 ∷ []) (0 ∷ 1 ∷ 5 ∷ 4 ∷ 1000 ∷ []),
     ) ∷
     -- a copy is quoted by a later step
     (
       trial "() (let-syntax ((q (syntax-rules () ((_ x) (quote x))))) (let-syntax ((m (syntax-rules () ((_) (lambda (t) (q t)))))) (m)))" 33 0 0 11,
-      finding (true ∷ true ∷ true ∷ false ∷ []) 0 (0 ∷ 2 ∷ 18 ∷ 7 ∷ 0 ∷ 1 ∷ 4 ∷ 11 ∷ []) (0 ∷ 2 ∷ 18 ∷ 7 ∷ 0 ∷ 1 ∷ 4 ∷ 1000 ∷ []),
+      finding (true ∷ true ∷ true ∷ false ∷ true ∷ []) 0 (0 ∷ 2 ∷ 18 ∷ 7 ∷ 0 ∷ 1 ∷ 4 ∷ 11 ∷ []) (0 ∷ 2 ∷ 18 ∷ 7 ∷ 0 ∷ 1 ∷ 4 ∷ 1000 ∷ []),
     ) ∷
     -- the form is reached through a macro's result alone, where its template's name is the outer rule's variable
     (
       trial "() (let-syntax ((m (syntax-rules () ((_ x) (let-syntax ((n (syntax-rules () ((_) x)))) (n)))))) (m 5))" 23 0 0 9,
-      finding (false ∷ true ∷ true ∷ true ∷ []) 0 (0 ∷ 2 ∷ 28 ∷ 2 ∷ 5 ∷ []) (11 ∷ 2 ∷ 28 ∷ []),
+      finding (false ∷ true ∷ true ∷ true ∷ true ∷ []) 0 (0 ∷ 2 ∷ 28 ∷ 2 ∷ 5 ∷ []) (11 ∷ 2 ∷ 28 ∷ []),
     ) ∷
     -- the form is quoted, and never reached
     (
       trial "() (quote (let-syntax ((m (syntax-rules () ((_) x)))) 1))" 7 0 0 9,
-      finding (false ∷ true ∷ true ∷ true ∷ []) 0 (0 ∷ 0 ∷ 0 ∷ 5 ∷ 3 ∷ 4 ∷ 3 ∷ 5 ∷ 1 ∷ 5 ∷ 2 ∷ 4 ∷ 8 ∷ 5 ∷ 3 ∷ 4 ∷ 5 ∷ 5 ∷ 0 ∷ 5 ∷ 2 ∷ 5 ∷ 1 ∷ 4 ∷ 7 ∷ 4 ∷ 9 ∷ 2 ∷ 1 ∷ []) (0 ∷ 0 ∷ 0 ∷ 5 ∷ 3 ∷ 4 ∷ 3 ∷ 5 ∷ 1 ∷ 5 ∷ 2 ∷ 4 ∷ 8 ∷ 5 ∷ 3 ∷ 4 ∷ 5 ∷ 5 ∷ 0 ∷ 5 ∷ 2 ∷ 5 ∷ 1 ∷ 4 ∷ 7 ∷ 4 ∷ 1000 ∷ 2 ∷ 1 ∷ []),
+      finding (false ∷ true ∷ true ∷ true ∷ true ∷ []) 0 (0 ∷ 0 ∷ 0 ∷ 5 ∷ 3 ∷ 4 ∷ 3 ∷ 5 ∷ 1 ∷ 5 ∷ 2 ∷ 4 ∷ 8 ∷ 5 ∷ 3 ∷ 4 ∷ 5 ∷ 5 ∷ 0 ∷ 5 ∷ 2 ∷ 5 ∷ 1 ∷ 4 ∷ 7 ∷ 4 ∷ 9 ∷ 2 ∷ 1 ∷ []) (0 ∷ 0 ∷ 0 ∷ 5 ∷ 3 ∷ 4 ∷ 3 ∷ 5 ∷ 1 ∷ 5 ∷ 2 ∷ 4 ∷ 8 ∷ 5 ∷ 3 ∷ 4 ∷ 5 ∷ 5 ∷ 0 ∷ 5 ∷ 2 ∷ 5 ∷ 1 ∷ 4 ∷ 7 ∷ 4 ∷ 1000 ∷ 2 ∷ 1 ∷ []),
+    ) ∷
+    -- the new name is one that the template has: it becomes the lambda's
+    (
+      trialTo 8 "(a) (let-syntax ((m (syntax-rules () ((_) (lambda (t) a))))) (m))" 6 0 0 10,
+      finding (true ∷ true ∷ false ∷ true ∷ true ∷ []) 0 (0 ∷ 1 ∷ 9 ∷ 7 ∷ 0 ∷ 1 ∷ 1 ∷ 0 ∷ []) (0 ∷ 1 ∷ 9 ∷ 7 ∷ 0 ∷ 1 ∷ 0 ∷ 0 ∷ []),
     ) ∷
     -- a variable of the rule
     (
       trial "() (let-syntax ((m (syntax-rules () ((_ a) a)))) (m 7))" 4 0 0 9,
-      finding (true ∷ false ∷ true ∷ true ∷ []) 0 (0 ∷ 1 ∷ 1 ∷ 2 ∷ 7 ∷ []) (11 ∷ 1 ∷ 1 ∷ []),
+      finding (true ∷ false ∷ true ∷ true ∷ true ∷ []) 0 (0 ∷ 1 ∷ 1 ∷ 2 ∷ 7 ∷ []) (11 ∷ 1 ∷ 1 ∷ []),
     ) ∷
     []
 

@@ -1,1 +1,1 @@
-// Private names of templates do not show: demand 3 about the definition of expansion, in specs/.
+// Private names of templates do not show: demand 3 about the definition of expansion, stated and witnessed in specs/.

@@ -1,1 +1,3 @@
--- Reading: a recipe text's bytes to tokens, tokens to two elements, elements to items and names.
+-- The reading service: Served is its promise, and Code has what its functions promise.
+pub mod Code
+pub mod Served

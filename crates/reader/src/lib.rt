@@ -1,2 +1,101 @@
-// The reading service. Its meaning stands in specs/Read.antt.
+// The reading service. Its meaning stands in specs/Read.antt, its promise in specs/Served.antt.
+ghost use mathlib.Core.Path.{_≡_};
+ghost use Prim.Native.Nat.{_≤_};
+ghost use lib.ListN.{length, replicate};
+ghost use Rattle.words.specs.Limits.{itemWordsLeast, nameBytesLeast};
+ghost use Rattle.reading.specs.Numbering.{baseNames};
+ghost use Rattle.reader.specs.Code.Stored.{NameTable};
+ghost use Rattle.reader.specs.Code.Reached.{Ended};
+ghost use Rattle.reader.specs.Served.{Served};
+use crate::element::Move;
+use crate::element::advance;
+use crate::names::store_base;
+use crate::place::Place;
+use crate::token::Cursor;
+use words::tables::zero_bytes;
+use words::tables::zero_words;
+
 pub mod bytes;
+pub mod element;
+pub mod names;
+pub mod number;
+pub mod place;
+pub mod token;
+
+// The answer: item and name counts, or the ground.
+pub enum Reading {
+    Read { items: usize, names: usize },
+    Refused(u32),
+}
+
+// All tokens, into items that are zero and names that are the eight.
+fn read_text(text: &[u8], items: &mut [u32], names: &mut [u8]) -> Reading
+    requires { ⌜ (itemWordsLeast ≤ length (now items)) × (now items ≡ replicate (length (now items)) 0) ⌝ }
+    requires { ⌜ NameTable baseNames (now names) ⌝ }
+    ensures { λ r. ⌜ Ended (now (text .entry)) (now (items .exit)) (now (names .exit)) r ⌝ }
+{
+    let mut cursor = Cursor { at: 0 };
+    let mut place = Place {
+        next: 0,
+        pair: 0,
+        depth: 0,
+        count: 0,
+        missing: 2,
+        known: 8,
+    };
+    loop {
+        match advance(text, cursor, place, items, names) {
+            Move::On(p, c) => {
+                place = p;
+                cursor = c;
+            }
+            Move::Done(i, n) => {
+                return Reading::Read { items: i, names: n };
+            }
+            Move::Refused(ground) => {
+                return Reading::Refused(ground);
+            }
+        }
+    }
+}
+
+// Both tables before the first token: zeros, and names 0 to 7.
+fn begin(items: &mut [u32], names: &mut [u8])
+    requires { ⌜ nameBytesLeast ≤ length (now names) ⌝ }
+    ensures { λ _. ⌜ (now (items .exit) ≡ replicate (length (now (items .exit))) 0) × NameTable baseNames (now (names .exit)) ⌝ }
+{
+    zero_words(items);
+    zero_bytes(names);
+    store_base(names);
+}
+
+// Both tables of a text that is turned back: zeros.
+fn clear(items: &mut [u32], names: &mut [u8])
+    ensures { λ _. ⌜ (now (items .exit) ≡ replicate (length (now (items .entry))) 0) × (now (names .exit) ≡ replicate (length (now (names .entry))) 0) ⌝ }
+{
+    zero_words(items);
+    zero_bytes(names);
+}
+
+// Reads a text into an item table and a name table.
+pub fn read(text: &[u8], items: &mut [u32], names: &mut [u8]) -> Reading
+    ensures { λ r. ⌜ Served (now (text .entry)) (now (items .entry)) (now (items .exit)) (now (names .entry)) (now (names .exit)) r ⌝ }
+{
+    if items.len() < words::ITEM_WORDS {
+        return Reading::Refused(1);
+    }
+    if names.len() < words::NAME_BYTES {
+        return Reading::Refused(1);
+    }
+    if words::TEXT_BYTES < text.len() {
+        return Reading::Refused(2);
+    }
+    begin(items, names);
+    match read_text(text, items, names) {
+        Reading::Read { items: i, names: n } => Reading::Read { items: i, names: n },
+        Reading::Refused(ground) => {
+            clear(items, names);
+            Reading::Refused(ground)
+        }
+    }
+}

@@ -1,6 +1,5 @@
 -- What callers may rely on of an accepted text: N = 1 + 2 × e, at most 4,095 items, at most 1,024 names, and each name's number is its own.
-use mathlib.Core.Path.{_≡_, refl, sym, ap, subst, _∙_}
-use mathlib.Core.Bool.{Bool, true, false, cond}
+use mathlib.Core.Path.{_≡_, refl, sym, ap, _∙_}
 use mathlib.Core.List.{List, [], _∷_, _++_}
 use Prim.Native.Nat.{ℕ, zero, suc, _+_, _*_, _≤_, _<_}
 use native.Mathlib.Omega.{arith}
@@ -143,3 +142,8 @@ module _ (text : List ℕ) (items names : ℕ) (r : Recipe) (h : read text items
   pub names-own : Own (r .names)
   unfolding recipe
   names-own = rw (accepted .same) (own-after-all (both (accepted .first) (accepted .second)) baseNames own-base)
+
+  -- no two names are equal
+  pub names-distinct : (i j : ℕ) → i < length (r .names) → j < length (r .names) → getD (r .names) i [] ≡ getD (r .names) j [] → i ≡ j
+  unfolding Own
+  names-distinct i j hi hj e = sym (names-own i hi) ∙ ap (λ cs. numberOf cs (r .names)) e ∙ names-own j hj

@@ -1,11 +1,11 @@
 -- Reading accepts exactly the recipe texts, and gives their two elements' numbering.
--- The interface is accepts and accepted-only; N and the names of an accepted text stand in Accepted.
+-- The interface is accepts, accepted-only and elements-once; N and the names of an accepted text stand in AcceptedLaws.
 use mathlib.Core.Path.{_≡_, refl, sym, ap, ap₂, subst, _∙_}
-use mathlib.Core.Bool.{Bool, true, false, _||_, cond}
-use mathlib.Core.List.{List, [], _∷_, _++_, map, append-nil}
-use Prim.Native.Nat.{ℕ, _+_, _≤_, max}
+use mathlib.Core.Bool.{true, false}
+use mathlib.Core.List.{List, [], _∷_, _++_, map}
+use Prim.Native.Nat.{ℕ, _≤_}
 use native.Mathlib.Omega.{arith}
-use lib.Dec.{ltb, eqb}
+use lib.Dec.{ltb}
 use lib.ListN.{length}
 use borrow.Author.Tests.{le-ltb, ltb-false}
 use Rattle.words.specs.Limits.{itemWordsLeast, nameBytesLeast, textBytesMost, elementsMost, namesMost, openListsMost}
@@ -13,31 +13,14 @@ use Rattle.words.specs.ListLaws.{either, never}
 use Rattle.reading.specs.Token.{Token, tokens}
 use Rattle.reading.specs.Meaning.{Meaning, begins, ends, constant, name, refused, meaningOf}
 use Rattle.reading.specs.Numbering.{baseNames}
-use Rattle.reading.specs.Elements.{Answer, got, back, then, Reading, start, onto, noneOpen, isComplete, takes, takesAll}
+use Rattle.reading.specs.Elements.{got, then, Reading, start, onto, noneOpen, isComplete, takes, takesAll}
 use Rattle.reading.specs.Read.{Recipe, finished, recipeOver, recipeOf, read}
 use Rattle.reading.specs.RecipeText as R
-use Rattle.reading.specs.RecipeText.{
-  Mean,
-  Element,
-  Elements,
-  noneE,
-  moreE,
-  spelled,
-  spelledAll,
-  size,
-  sizeAll,
-  depth,
-  depthAll,
-  namesOf,
-  namesOfAll,
-  numberedAll,
-  both,
-  RecipeText,
-  recipe,
-}
-use Rattle.reading.specs.TokenLaws.{tokens-are, tokens-had}
-use Rattle.reading.specs.MeaningLaws.{means-is, isRefused, is-meant}
-use Rattle.reading.specs.ElementLaws.{got-only, never-got, then-got, Fits, after, element-taken, element-fits, names-grow, Rest, last, rest}
+use Rattle.reading.specs.RecipeText.{Mean, Element, Elements, noneE, moreE, spelled, spelledAll, sizeAll, depthAll, namesOf, namesOfAll, numberedAll, both, RecipeText, recipe}
+use Rattle.reading.specs.Laws.Tokens.{tokens-are, tokens-had}
+use Rattle.reading.specs.Laws.Spelling.{element-once}
+use Rattle.reading.specs.Laws.Meanings.{means-is, isRefused, is-meant}
+use Rattle.reading.specs.Laws.Elements.{got-only, never-got, then-got, Fits, after, element-taken, element-fits, names-grow, Rest, last, rest}
 
 -- ---- meanings of all tokens
 
@@ -204,3 +187,13 @@ accepted-only text items names r h =
       isRecipe = t .2;
       same = got-only (sym k ∙ recipe-accepted text (t .0) (t .1) (t .2));
     }
+
+-- ---- a recipe text has one pair of elements
+
+pub elements-once : (text : List ℕ) (x y v w : Element) → RecipeText text x y → RecipeText text v w → (x ≡ v) × (y ≡ w)
+unfolding spelledAll both
+elements-once text x y v w s t =
+    let e : spelledAll (both x y) ≡ spelledAll (both v w) =
+    sym (mean-is (s .allowed)) ∙ ap (map meaningOf) (sym (tokens-are (s .hasTokens)) ∙ tokens-are (t .hasTokens)) ∙ mean-is (t .allowed) in
+    let f = element-once x v (spelled y ++ []) (spelled w ++ []) e in
+    (f .0, element-once y w [] [] (f .1) .0)

@@ -14,6 +14,7 @@ pub data Answer (A : Type 0) : Type 0 where
   got : A → Answer A
   back : (ground : ℕ) → Answer A
 
+-- on with an answer, or back with its ground
 unfoldable pub then : {A B : Type 0} → Answer A → (A → Answer B) → Answer B
 then (got a) f = f a
 then (back g) f = back g
@@ -91,6 +92,7 @@ isWithin r = leb (r .count) elementsMost && (leb (length (r .known)) namesMost &
 unfoldable pub begin : Reading → Reading → Answer Reading
 begin r q = cond (isComplete r) (back 5) (cond (isWithin q) (got q) (back 6))
 
+-- what one token makes of a reading: its own ground, then 5, then 6
 unfoldable pub takes : Meaning → Reading → Answer Reading
 takes begins r = begin r (opened (counted r))
 takes ends r = closed (r .around) r
@@ -98,6 +100,7 @@ takes (constant a) r = begin r (put (constantD a) (counted r))
 takes (name cs) r = begin r (named cs (counted r))
 takes (refused g) r = back g
 
+-- one token after another, up to the first that is turned back
 unfoldable pub takesAll : List Meaning → Reading → Answer Reading
 unfolding then start onto noneOpen isComplete counted put named opened closed isWithin begin takes numberOf withName
 takesAll [] r = got r

@@ -1,13 +1,12 @@
--- Reading defined: a recipe text's bytes to tokens, tokens to two elements, elements to items and names; and which texts are accepted.
+-- Reading defined: a recipe text's bytes to tokens, tokens to two elements, elements to items and names.
+-- Read is its meaning, RecipeText says which texts are accepted, and Accepts proves it.
 pub mod Token
 pub mod Meaning
 pub mod Numbering
 pub mod Elements
 pub mod Read
+pub mod Rows
 pub mod RecipeText
-pub mod TokenLaws
-pub mod MeaningLaws
-pub mod ElementLaws
+pub mod Laws
 pub mod Accepts
 pub mod AcceptedLaws
-pub mod Rows

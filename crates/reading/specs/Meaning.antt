@@ -1,9 +1,9 @@
 -- What a token means by itself: a parenthesis, a constant, a name, or ground 3 or 4. The interface is Meaning and meaningOf.
 use mathlib.Core.Bool.{Bool, true, false, not, _&&_, cond}
 use mathlib.Core.List.{List, [], _∷_}
-use Prim.Native.Nat.{ℕ, suc, _+_, _*_, _-_}
+use Prim.Native.Nat.{ℕ, _+_, _*_, _-_}
 use lib.Dec.{eqb, leb}
-use lib.IntN.{ℤ, pos, negℤ}
+use lib.IntN.{pos, negℤ}
 use lib.ListN.{length, getD, drop}
 use mir.Syntax.{w32}
 use mir.Val.{ofZ}
@@ -12,6 +12,7 @@ use Rattle.words.specs.Lists.{within, all, equal}
 use Rattle.datum.specs.Constant.{Constant, integer, boolean}
 use Rattle.reading.specs.Token.{Token, open′, close′, bad, flag, run, isDigit}
 
+-- a list begins or ends, a constant, a name, or the ground on which the token is turned back
 pub data Meaning : Type 0 where
   begins ends : Meaning
   constant : Constant → Meaning
@@ -20,7 +21,7 @@ pub data Meaning : Type 0 where
 
 -- ---- integers
 
--- a run that starts with a minus
+-- a run that starts with a minus, which is 45
 unfoldable pub isNegative : List ℕ → Bool
 isNegative cs = eqb (getD cs 0 0) 45
 
@@ -41,28 +42,30 @@ valueFrom n (c ∷ cs) = valueFrom (10 * n + (c - 48)) cs
 unfoldable pub size : List ℕ → ℕ
 size cs = valueFrom 0 (unsigned cs)
 
--- from -2147483648 to 2147483647
-unfoldable pub inRange : List ℕ → Bool
-inRange cs = leb (size cs) (cond (isNegative cs) 2147483648 2147483647)
+-- from -2147483648 to 2147483647, as a two's complement word
+unfoldable pub signed : Bool → ℕ → Meaning
+signed true n = cond (leb n 2147483648) (constant (integer (ofZ w32 (negℤ (pos n))))) (refused 4)
+signed false n = cond (leb n 2147483647) (constant (integer (ofZ w32 (pos n)))) (refused 4)
 
-unfoldable pub value : List ℕ → ℤ
-value cs = cond (isNegative cs) (negℤ (pos (size cs))) (pos (size cs))
-
--- an optional minus and digits, within the range; its word is two's complement
+-- an optional minus and digits, within the range
 unfoldable pub integerOf : List ℕ → Meaning
-integerOf cs =
-    cond (all isDigit (unsigned cs)) (cond (inRange cs) (constant (integer (ofZ w32 (value cs)))) (refused 4)) (refused 3)
+integerOf cs = cond (all isDigit (unsigned cs)) (signed (isNegative cs) (size cs)) (refused 3)
 
 -- ---- names
 
--- 1 to 63 bytes, and not a single dot
+-- 1 to 63 bytes, and not a single dot, which is 46
+unfoldable pub isName : List ℕ → Bool
+isName cs = within 1 nameLengthMost (length cs) && not (equal cs (46 ∷ []))
+
+-- other runs are names, or ground 3
 unfoldable pub nameOf : List ℕ → Meaning
-nameOf cs = cond (within 1 nameLengthMost (length cs) && not (equal cs (46 ∷ []))) (name cs) (refused 3)
+nameOf cs = cond (isName cs) (name cs) (refused 3)
 
 -- ---- tokens
 
+-- each token by itself
 unfoldable pub meaningOf : Token → Meaning
-unfolding isNegative unsigned isNumeral valueFrom size inRange value integerOf nameOf isDigit within all equal integer boolean
+unfolding isNegative unsigned isNumeral valueFrom size signed integerOf isName nameOf isDigit within all equal integer boolean
 meaningOf open′ = begins
 meaningOf close′ = ends
 meaningOf bad = refused 3

@@ -1,13 +1,12 @@
 -- Numbers of names and of items. Names get the next number at first appearance; a pair is numbered, then its head, then its tail.
-use mathlib.Core.Bool.{Bool, true, false, cond}
+use mathlib.Core.Bool.{cond}
 use mathlib.Core.List.{List, [], _∷_, _++_, map}
 use Prim.Native.Nat.{ℕ, suc, _+_}
 use lib.Dec.{ltb}
 use lib.ListN.{length}
 use Rattle.words.specs.Lists.{equal}
 use Rattle.words.specs.Text.{bytes}
-use Rattle.datum.specs.Constant.{Constant}
-use Rattle.datum.specs.Datum.{Datum, Data, constantD, nameD, listD, noneD, moreD, datumItems, dataItems}
+use Rattle.datum.specs.Datum.{Datum, Data, constantD, nameD, listD, noneD, moreD, datumItems}
 
 -- ---- names
 

@@ -1,7 +1,7 @@
 -- The meaning of reading: for a text and the lengths of the lent tables the answer, and what both tables hold afterwards.
 -- The interface is recipeOf, read, and the functions of read's answer below it; contracts are equations with these.
-use mathlib.Core.Bool.{Bool, true, false, _||_, cond}
-use mathlib.Core.List.{List, [], _∷_, _++_, map}
+use mathlib.Core.Bool.{_||_, cond}
+use mathlib.Core.List.{List, _++_, map}
 use Prim.Native.Nat.{ℕ, _-_}
 use lib.Dec.{ltb, leb}
 use lib.ListN.{length, replicate}
@@ -27,6 +27,7 @@ unfoldable pub recipeOver : List (List ℕ) → List ℕ → Answer Recipe
 unfolding finished tokens meaningOf then start takesAll
 recipeOver names text = then (takesAll (map meaningOf (tokens text)) (start names 2)) finished
 
+-- over names 0 to 7
 unfoldable pub recipeOf : List ℕ → Answer Recipe
 unfolding recipeOver baseNames
 recipeOf text = recipeOver baseNames text
@@ -52,17 +53,19 @@ unfolding dataItems
 itemCount (got r) = dataItems (r .elements)
 itemCount (back g) = 0
 
+-- names, 0 to 7 among them
 unfoldable pub nameCount : Answer Recipe → ℕ
 nameCount (got r) = length (r .names)
 nameCount (back g) = 0
 
 -- ---- the tables
 
--- the item table's words, and the name table's bytes
+-- the item table's words
 unfoldable pub itemWords : Recipe → List ℕ
 unfolding dataWords datumItems dataItems
 itemWords r = dataWords 0 (r .elements)
 
+-- the name table's bytes
 unfoldable pub nameBytes : Recipe → List ℕ
 unfolding slots
 nameBytes r = slots (r .names)
@@ -75,12 +78,13 @@ filled ws table = ws ++ replicate (length table - length ws) 0
 unfoldable pub cleared : ℕ → List ℕ → List ℕ
 cleared g table = cond (leb g 2) table (replicate (length table) 0)
 
--- the lent tables after the call, from what they held before
+-- the lent item table after the call, from what it held before
 unfoldable pub itemsAfter : Answer Recipe → List ℕ → List ℕ
 unfolding filled cleared itemWords
 itemsAfter (got r) table = filled (itemWords r) table
 itemsAfter (back g) table = cleared g table
 
+-- the lent name table after the call, from what it held before
 unfoldable pub namesAfter : Answer Recipe → List ℕ → List ℕ
 unfolding filled cleared nameBytes
 namesAfter (got r) table = filled (nameBytes r) table

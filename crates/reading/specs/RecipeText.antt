@@ -1,7 +1,7 @@
 -- Which texts are recipe texts, said without the reader: a text has tokens, tokens have meanings, two elements are spelled by them.
 -- That reading accepts exactly these texts stands in Accepts.
 use mathlib.Core.Path.{_≡_}
-use mathlib.Core.Bool.{Bool, true, false}
+use mathlib.Core.Bool.{true, false}
 use mathlib.Core.List.{List, [], _∷_, _++_}
 use Prim.Native.Nat.{ℕ, suc, _+_, _≤_, max}
 use lib.IntN.{pos, negℤ}

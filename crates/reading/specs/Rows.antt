@@ -2,7 +2,6 @@
 use mathlib.Core.Path.{_≡_, refl}
 use mathlib.Core.List.{List, [], _∷_, _++_, map}
 use Prim.Native.Nat.{ℕ, zero, suc}
-use Prim.Native.String.{String}
 use lib.ListN.{drop, replicate}
 use Rattle.words.specs.Text.{bytes}
 use Rattle.datum.specs.NameTable.{slot}

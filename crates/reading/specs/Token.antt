@@ -1,5 +1,5 @@
 -- Tokens, taken from the text one after another. The interface is Token and tokens; what a token means stands in Meaning.
-use mathlib.Core.Bool.{Bool, true, false, _||_, cond}
+use mathlib.Core.Bool.{Bool, _||_, cond}
 use mathlib.Core.List.{List, [], _∷_, _++_}
 use Prim.Native.Nat.{ℕ}
 use lib.Dec.{eqb}
@@ -8,9 +8,11 @@ use Rattle.words.specs.Text.{bytes}
 
 -- ---- bytes
 
+-- a separator, ( or ) or #, a byte of a run, or none of these
 pub data Class : Type 0 where
   separating opening closing sharp running foreign : Class
 
+-- digits
 unfoldable pub isDigit : ℕ → Bool
 isDigit b = within 48 57 b
 
@@ -22,6 +24,7 @@ isRunning b = within 97 122 b || (isDigit b || any (eqb b) (bytes "!?*<=>/+-._")
 unfoldable pub isSeparating : ℕ → Bool
 isSeparating b = any (eqb b) (bytes " \t\n\r")
 
+-- a byte's class; 40 is (, 41 is ), 35 is #
 unfoldable pub classOf : ℕ → Class
 classOf b =
     cond (isRunning b) running
@@ -43,7 +46,7 @@ pub data Pending : Type 0 where
   nothing hash : Pending
   among : List ℕ → Pending
 
--- #t and #f
+-- #t and #f; 116 is t, 102 is f
 unfoldable pub flagOf : ℕ → Token
 flagOf b = cond (eqb b 116) (flag 1) (cond (eqb b 102) (flag 0) bad)
 
@@ -80,6 +83,7 @@ begun cs b sharp = hash
 begun cs b running = among (cs ++ (b ∷ []))
 begun cs b foreign = nothing
 
+-- what is pending once byte b is taken
 unfoldable pub next : Pending → ℕ → Pending
 next nothing b = begun [] b (classOf b)
 next hash b = nothing
@@ -96,6 +100,7 @@ unfoldable pub tokensAfter : Pending → List ℕ → List Token
 tokensAfter p [] = ended p
 tokensAfter p (b ∷ bs) = completed p b ++ tokensAfter (next p b) bs
 
+-- the tokens of a text, from the left
 unfoldable pub tokens : List ℕ → List Token
 unfolding isDigit isRunning isSeparating classOf flagOf alone afterRun completed begun next ended tokensAfter within any bytes
 tokens text = tokensAfter nothing text

@@ -17,6 +17,7 @@ use Rattle.recipe.specs.Tree.{Tree, empty, constant, name, pair, onEmpty
 use Rattle.recipe.specs.Tidy.{Tidy, tidyEmpty, tidyConstant, tidyName, tidyPair}
 use Rattle.recipe.specs.Table.{Item, items, byKind, constantOf, kindAt, isPairItem, isItem, trees, treeOf, itemCount, isLayout}
 use Rattle.recipe.specs.TableLaws.{isLayout-parts, isPairItem-parts}
+use Rattle.recipe.specs.Layout.{isListKind}
 
 -- a name as a name item holds it
 pub record PlainName (x : Name) : Type 0 where
@@ -27,9 +28,6 @@ abbrev pub IsConstant : Constant → Type 0
 IsConstant a = isConstant a ≡ true
 
 -- ---- lists by their kinds
-
-isListKind : ℕ → Bool
-isListKind k = eqb k 0 || eqb k 4
 
 byKind-isList : (k : ℕ) (n h t c : Tree) → isListKind k ≡ true → isList (byKind k empty n (pair h t) c) ≡ true
 unfolding isListKind byKind isList onEmpty onPair

@@ -3,9 +3,9 @@ use mathlib.Core.Path.{_≡_, refl, ap, ap₂, _∙_}
 use mathlib.Core.List.{List, [], _∷_, map}
 use Prim.Native.Nat.{ℕ, zero, suc, _+_, _≤_}
 use native.Mathlib.Omega.{arith}
-use lib.ListN.{length}
+use lib.ListN.{length, length-append}
 use Rattle.recipe.specs.Name.{Binding, Name, markName, produceName, bindName}
-use Rattle.recipe.specs.Tree.{Tree, empty, constant, name, pair, size, elements, element, onNames, mark, produce, bind, bindAll}
+use Rattle.recipe.specs.Tree.{Tree, empty, constant, name, pair, size, names, onPair, elements, element, tail, onNames, mark, produce, bind, bindAll}
 
 -- ---- sizes
 
@@ -24,10 +24,12 @@ element-size n (name x) = omega arith
 element-size zero (pair h t) = omega arith
 element-size (suc n) (pair h t) = omega (arith, element-size n t)
 
--- an element after the first is smaller than its list by two items
-pub later-element-size : (n : ℕ) (h t : Tree) → size (element (suc n) (pair h t)) + 2 ≤ size (pair h t)
-unfolding size element elements
-later-element-size n h t = omega (arith, element-size n t, size-positive h)
+pub names-size : (t : Tree) → length (names t) ≤ size t
+unfolding size names
+names-size empty = omega arith
+names-size (constant a) = omega arith
+names-size (name x) = omega arith
+names-size (pair h t) = simp length-append (omega (arith, names-size h, names-size t))
 
 -- the items of these trees together
 unfoldable pub totalSize : List Tree → ℕ
@@ -71,6 +73,23 @@ onNames-elements f empty = refl
 onNames-elements f (constant a) = refl
 onNames-elements f (name x) = refl
 onNames-elements f (pair h t) = ap (λ ts. onNames f h ∷ ts) (onNames-elements f t)
+
+pub onNames-element : (f : Name → Name) (k : ℕ) (t : Tree) → element k (onNames f t) ≡ onNames f (element k t)
+unfolding element elements onNames
+onNames-element f k empty = refl
+onNames-element f k (constant a) = refl
+onNames-element f k (name x) = refl
+onNames-element f zero (pair h t) = refl
+onNames-element f (suc k) (pair h t) = onNames-element f k t
+
+-- ---- elements of a tail
+
+pub element-tail : (k : ℕ) (t : Tree) → element k (tail t) ≡ element (suc k) t
+unfolding element elements tail onPair
+element-tail k empty = refl
+element-tail k (constant a) = refl
+element-tail k (name x) = refl
+element-tail k (pair h t) = refl
 
 -- ---- marks and bindings keep the size
 

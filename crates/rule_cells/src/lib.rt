@@ -1,1 +1,8 @@
-// Rules as cells of the arena: their meaning stands in specs/.
+// Rules as cells of the arena: read once, when their form is reached. What the cells mean stands in specs/.
+
+pub mod cells;
+pub mod patterns;
+pub mod rules;
+pub mod templates;
+pub mod trees;
+pub mod variables;

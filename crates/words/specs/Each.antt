@@ -1,10 +1,12 @@
 -- What holds of each element of a list, and of an answer where there is one: two claims that follow definitions step by step.
-use mathlib.Core.Path.{_≡_, subst}
-use mathlib.Core.Bool.{Bool, true, false, cond}
+use mathlib.Core.Path.{_≡_, refl, ap₂, subst}
+use mathlib.Core.Bool.{Bool, true, false, _&&_, cond}
 use mathlib.Core.List.{List, [], _∷_, _++_, map}
 use mathlib.Core.Option.{Option, none, some}
 use Prim.Native.Nat.{ℕ, zero, suc}
 use lib.ListN.{getD}
+use Rattle.words.specs.Lists.{all}
+use Rattle.words.specs.TestLaws.{all-parts}
 use Rattle.words.specs.Options.{guard, mapSome, mapBoth, traverse}
 
 -- ---- lists
@@ -27,6 +29,14 @@ module _ {A : Type 0} {P : A → Type 0} where
   each-append noneOf qs = qs
   each-append (also p ps) qs = also p (each-append ps qs)
 
+  pub each-left : (xs ys : List A) → Each P (xs ++ ys) → Each P xs
+  each-left [] ys ps = noneOf
+  each-left (x ∷ xs) ys (also p ps) = also p (each-left xs ys ps)
+
+  pub each-right : (xs ys : List A) → Each P (xs ++ ys) → Each P ys
+  each-right [] ys ps = ps
+  each-right (x ∷ xs) ys (also p ps) = each-right xs ys ps
+
   pub each-getD : {xs : List A} (n : ℕ) (d : A) → Each P xs → P d → P (getD xs n d)
   each-getD n d noneOf q = q
   each-getD zero d (also p ps) q = p
@@ -39,6 +49,17 @@ each-map f g (also p ps) = also (g _ p) (each-map f g ps)
 pub each-mapped : {A B : Type 0} {Q : B → Type 0} (f : A → B) → ((x : A) → Q (f x)) → (xs : List A) → Each Q (map f xs)
 each-mapped f q [] = noneOf
 each-mapped f q (x ∷ xs) = also (q x) (each-mapped f q xs)
+
+-- a test passes all where it passes each
+module _ {A : Type 0} (f : A → Bool) where
+  pub each-true : (xs : List A) → all f xs ≡ true → Each (λ x. f x ≡ true) xs
+  each-true [] e = noneOf
+  each-true (x ∷ xs) e = let p = all-parts f x xs e in also (p .0) (each-true xs (p .1))
+
+  pub true-each : {xs : List A} → Each (λ x. f x ≡ true) xs → all f xs ≡ true
+  unfolding all
+  true-each noneOf = refl
+  true-each (also p ps) = ap₂ _&&_ p (true-each ps)
 
 -- ---- answers
 

@@ -2,7 +2,9 @@
 pub mod Limits
 pub mod ListLaws
 pub mod Lists
+pub mod Parts
 pub mod Options
+pub mod SignedLaws
 pub mod Text
 pub mod TestLaws
 pub mod Each

@@ -3,12 +3,15 @@ use mathlib.Core.Path.{_≡_, refl, sym, ap, subst, _∙_}
 use mathlib.Core.Bool.{Bool, true, false, _&&_, _||_, Bool·beq}
 use mathlib.Core.List.{List, [], _∷_, _++_}
 use mathlib.Core.Logic.{_⊎_, inl, inr}
-use Prim.Native.Nat.{ℕ, zero, suc, _+_, _≤_, _<_}
+use Prim.Native.Nat.{ℕ, zero, suc, _+_, _-_, _≤_, _<_}
 use native.Mathlib.Omega.{arith}
+use native.Mathlib.Numerals.{add-one}
 use lib.Dec.{eqb, leb}
-use lib.ListN.{length}
+use lib.ListN.{length, getD, drop, set, length-drop, take-append-drop}
+use lib.Seq.{length-take-le, take-all, take-suc, getD-drop, drop-drop, paste, paste-suc}
 use borrow.Author.Tests.{eqb-true, eqb-false, eq-eqb, ne-eqb, leb-true}
 use Rattle.words.specs.Lists.{within, all, any, equal}
+use Rattle.words.specs.Parts.{rest, part}
 
 -- ---- tests
 
@@ -109,3 +112,36 @@ equal-true (x ∷ a) (y ∷ b) h =
     let p : x ≡ y = eqb-true x y (and-left (eqb x y) (equal a b) h) in
     let q : a ≡ b = equal-true a b (and-right (eqb x y) (equal a b) h) in
     cc
+
+-- ---- parts
+
+pub rest-is : {A : Type 0} (a : ℕ) (s : List A) → rest a s ≡ drop a s
+rest-is a s = let h : length (drop a s) ≤ length s - a = omega (arith, length-drop a s) in take-all (length s - a) (drop a s) h
+
+-- a part that goes on for one element
+pub part-more : (from to : ℕ) (s : List ℕ) → from ≤ to → to < length s → part from (to + 1) s ≡ part from to s ++ (getD s to 0 ∷ [])
+part-more from to s l h =
+    let e : to + 1 - from ≡ suc (to - from) = omega arith in
+    let k : to - from < length (drop from s) = omega (arith, length-drop from s) in
+    let g : from + (to - from) ≡ to = omega arith in
+    rw e (take-suc (drop from s) (to - from) 0 k ∙ ap (λ x. part from to s ++ (x ∷ [])) (getD-drop from s (to - from) 0 ∙ ap (λ n. getD s n 0) g))
+
+-- a part and what follows it
+pub part-split : (from to : ℕ) (s : List ℕ) → from ≤ to → drop from s ≡ part from to s ++ drop to s
+part-split from to s l =
+    let g : from + (to - from) ≡ to = omega arith in
+    sym (take-append-drop (to - from) (drop from s)) ∙ ap (λ x. part from to s ++ x) (drop-drop (to - from) from s ∙ ap (λ n. drop n s) g)
+
+pub length-part : (from to : ℕ) (s : List ℕ) → from ≤ to → to ≤ length s → length (part from to s) ≡ to - from
+length-part from to s l h =
+    let k : to - from ≤ length (drop from s) = omega (arith, length-drop from s) in
+    length-take-le (to - from) (drop from s) k
+
+pub part-none : (from : ℕ) (s : List ℕ) → part from from s ≡ []
+part-none from s = let e : from - from ≡ 0 = omega arith in rw e
+
+-- ---- a copy's turn, at the code's j + 1
+
+pub paste-more : (d : List ℕ) (at : ℕ) (s : List ℕ) (j : ℕ) → at + j < length d → j < length s
+    → set (paste d at s j) (at + j) (getD s j 0) ≡ paste d at s (j + 1)
+paste-more d at s j hd hs = rw add-one (paste-suc d at s j 0 hd hs)

@@ -1,20 +1,39 @@
 -- Laws of tests: what a passed test tells of its parts, and of each element of a list.
-use mathlib.Core.Path.{_≡_, refl}
-use mathlib.Core.Bool.{Bool, true, false, _&&_, _||_}
+use mathlib.Core.Path.{_≡_, refl, ap, sym, _∙_}
+use mathlib.Core.Bool.{Bool, true, false, _&&_, _||_, and-assoc, false≢true}
 use mathlib.Core.Logic.{_⊎_, inl, inr}
-use mathlib.Core.List.{List, _∷_}
-use Prim.Native.Nat.{ℕ, _≤_}
+use mathlib.Core.List.{List, [], _∷_, _++_}
+use Prim.Native.Nat.{ℕ, zero, suc, _≤_}
 use lib.Dec.{leb}
+use lib.ListN.{drop}
 use borrow.Author.Tests.{leb-true}
-use Rattle.words.specs.Lists.{within, all}
+use Rattle.words.specs.Lists.{within, all, any}
+
+-- ---- conjunctions
+
+pub and-left : (a b : Bool) → (a && b) ≡ true → a ≡ true
+and-left true b e = refl
+and-left false b e = e
+
+pub and-right : (a b : Bool) → (a && b) ≡ true → b ≡ true
+and-right true b e = e
+and-right false true e = refl
+and-right false false e = e
 
 pub and-parts : (a b : Bool) → (a && b) ≡ true → (a ≡ true) × (b ≡ true)
-and-parts true b e = (refl, e)
-and-parts false b e = (e, cc)
+and-parts a b e = (and-left a b e, and-right a b e)
 
 pub and-both : (a b : Bool) → a ≡ true → b ≡ true → (a && b) ≡ true
-and-both true b p q = q
-and-both false b p q = p
+and-both a b p q = rw (p, q)
+
+pub and-none-left : (a b : Bool) → a ≡ false → (a && b) ≡ false
+and-none-left a b p = rw p
+
+pub and-none-right : (a b : Bool) → b ≡ false → (a && b) ≡ false
+and-none-right true b p = p
+and-none-right false b p = refl
+
+-- ---- disjunctions
 
 pub or-left : (a b : Bool) → a ≡ true → (a || b) ≡ true
 or-left true b e = refl
@@ -28,12 +47,60 @@ pub or-cases : (a b : Bool) → (a || b) ≡ true → (a ≡ true) ⊎ (b ≡ tr
 or-cases true b e = inl refl
 or-cases false b e = inr e
 
+pub or-none : (a b : Bool) → a ≡ false → b ≡ false → (a || b) ≡ false
+or-none a b p q = rw (p, q)
+
+-- ---- tests that imply each other are equal
+
+pub iff-eq : (a b : Bool) → (a ≡ true → b ≡ true) → (b ≡ true → a ≡ true) → a ≡ b
+iff-eq true true f g = refl
+iff-eq true false f g = absurd (false≢true (f refl))
+iff-eq false true f g = absurd (false≢true (g refl))
+iff-eq false false f g = refl
+
+-- ---- within
+
 pub within-parts : (a b n : ℕ) → within a b n ≡ true → (a ≤ n) × (n ≤ b)
 unfolding within
 within-parts a b n e =
     let p = and-parts (leb a n) (leb n b) e in
     (leb-true a n (p .0), leb-true n b (p .1))
 
-pub all-parts : {A : Type 0} (f : A → Bool) (x : A) (xs : List A) → all f (x ∷ xs) ≡ true → (f x ≡ true) × (all f xs ≡ true)
-unfolding all
-all-parts f x xs e = and-parts (f x) (all f xs) e
+pub within-least : (a b n : ℕ) → within a b n ≡ true → a ≤ n
+within-least a b n e = within-parts a b n e .0
+
+pub within-most : (a b n : ℕ) → within a b n ≡ true → n ≤ b
+within-most a b n e = within-parts a b n e .1
+
+-- ---- all
+
+module _ {A : Type 0} (f : A → Bool) where
+  pub all-parts : (x : A) (xs : List A) → all f (x ∷ xs) ≡ true → (f x ≡ true) × (all f xs ≡ true)
+  unfolding all
+  all-parts x xs e = and-parts (f x) (all f xs) e
+
+  pub all-head : (x : A) (xs : List A) → all f (x ∷ xs) ≡ true → f x ≡ true
+  all-head x xs e = all-parts x xs e .0
+
+  pub all-drop : (i : ℕ) (xs : List A) → all f xs ≡ true → all f (drop i xs) ≡ true
+  unfolding all
+  all-drop zero xs e = e
+  all-drop (suc i) [] e = e
+  all-drop (suc i) (x ∷ xs) e = all-drop i xs (all-parts x xs e .1)
+
+  pub all-append : (xs ys : List A) → all f (xs ++ ys) ≡ (all f xs && all f ys)
+  unfolding all
+  all-append [] ys = refl
+  all-append (x ∷ xs) ys = ap (λ (b : Bool). f x && b) (all-append xs ys) ∙ sym (and-assoc (f x) (all f xs) (all f ys))
+
+-- ---- any
+
+module _ {A : Type 0} (f : A → Bool) where
+  pub any-append : (xs ys : List A) → any f (xs ++ ys) ≡ (any f xs || any f ys)
+  unfolding any
+  any-append [] ys = refl
+  any-append (x ∷ xs) ys = go (f x) (any-append xs ys)
+    where
+      go : (b : Bool) → any f (xs ++ ys) ≡ (any f xs || any f ys) → (b || any f (xs ++ ys)) ≡ ((b || any f xs) || any f ys)
+      go true e = refl
+      go false e = e

@@ -1,7 +1,8 @@
 // The limits of document 01, for code; specs/Limits.antt has the same numbers for definitions.
+pub mod signed;
 pub mod tables;
 
-// Reading: words and bytes to lend, bytes of a text, elements, names, open lists, bytes of a name and of its slot.
+// Reading: words and bytes to lend, bytes of a text, elements, names, names that are fixed, open lists, bytes of a name and of its slot.
 pub const ITEM_WORDS: usize = 12288;
 
 pub const NAME_BYTES: usize = 65536;
@@ -11,6 +12,8 @@ pub const TEXT_BYTES: usize = 65535;
 pub const ELEMENTS: usize = 2047;
 
 pub const NAMES: usize = 1024;
+
+pub const BASE_NAMES: usize = 8;
 
 pub const OPEN_LISTS: usize = 64;
 

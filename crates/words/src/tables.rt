@@ -2,22 +2,24 @@
 ghost use mathlib.Core.Path.{_≡_};
 ghost use lib.ListN.{length, replicate};
 
-pub fn zero_words(table: &mut [u32])
-    ensures { λ _. ⌜ now (table .exit) ≡ replicate (length (now (table .entry))) 0 ⌝ }
+pub fn zero_words(words: &mut [u32])
+    ensures { λ _. ⌜ now (words .exit) ≡ replicate (length (now (words .entry))) 0 ⌝ }
 {
+    let end = words.len();
     let mut i = 0;
-    while i < table.len() {
-        table[i] = 0;
+    while i < end {
+        words[i] = 0;
         i += 1;
     }
 }
 
-pub fn zero_bytes(table: &mut [u8])
-    ensures { λ _. ⌜ now (table .exit) ≡ replicate (length (now (table .entry))) 0 ⌝ }
+pub fn zero_bytes(bytes: &mut [u8])
+    ensures { λ _. ⌜ now (bytes .exit) ≡ replicate (length (now (bytes .entry))) 0 ⌝ }
 {
+    let end = bytes.len();
     let mut i = 0;
-    while i < table.len() {
-        table[i] = 0;
+    while i < end {
+        bytes[i] = 0;
         i += 1;
     }
 }

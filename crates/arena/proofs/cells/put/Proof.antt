@@ -41,7 +41,8 @@ same-length c =
 
 returns : tie.Need-returns
 returns c =
-    let a = c .args in cell-stored (a .work .now) (a .top) (a .a) (a .b) (a .c) (c .pre .fits)
+    let a = c .args in
+    cell-stored (a .work .now) (a .top) (a .a) (a .b) (a .c) (c .pre .fits)
 
 pub put-spec : {M : Type 1} → statement M
 put-spec =

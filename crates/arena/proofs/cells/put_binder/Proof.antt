@@ -11,21 +11,34 @@ put-requires c κs = search needs
 
 put-requires-2 : tie.Need-put-requires-2
 put-requires-2 c κs =
-    record { fits = omega (arith, c .before .before .before .before .before .before .pre .0 .fits, c .before .before .before .put .ensures .end, c .before .before .before .put .kept .0); small = omega (arith, c .before .before .before .before .before .before .pre .0 .small, c .before .before .before .put .ensures .end) }
+    let pre = c .before .before .before .before .before .before .pre in
+    let put = c .before .before .before .put in
+    record { fits = omega (arith, pre .0 .fits, put .ensures .end, put .kept .0); small = omega (arith, pre .0 .small, put .ensures .end) }
 
 put-requires-3 : tie.Need-put-requires-3
 put-requires-3 c κs =
-    record { fits = omega (arith, c .before .before .before .before .before .before .before .before .before .before .pre .0 .fits, c .before .before .before .before .before .before .before .put .ensures .end, c .before .before .before .put2 .ensures .end, c .before .before .before .before .before .before .before .put .kept .0, c .before .before .before .put2 .kept .0); small = omega (arith, c .before .before .before .before .before .before .before .before .before .before .pre .0 .small, c .before .before .before .before .before .before .before .put .ensures .end, c .before .before .before .put2 .ensures .end) }
+    let pre = c .before .before .before .before .before .before .before .before .before .before .pre in
+    let put = c .before .before .before .before .before .before .before .put in
+    let put2 = c .before .before .before .put2 in
+    record { fits = omega (arith, pre .0 .fits, put .ensures .end, put2 .ensures .end, put .kept .0, put2 .kept .0); small = omega (arith, pre .0 .small, put .ensures .end, put2 .ensures .end) }
 
 same-length : tie.Need-same-length
 same-length c =
-    c .before .before .put3 .kept .0 ∙ c .before .before .before .before .before .before .put2 .kept .0 ∙ c .before .before .before .before .before .before .before .before .before .before .put .kept .0
+    let put3 = c .before .before .put3 in
+    let put2 = c .before .before .before .before .before .before .put2 in
+    let put = c .before .before .before .before .before .before .before .before .before .before .put in
+    put3 .kept .0 ∙ put2 .kept .0 ∙ put .kept .0
 
 returns : tie.Need-returns
 returns c =
-    let a = c .before .before .before .before .before .before .before .before .before .before .before .before .before .args in
+    let entry = c .before .before .before .before .before .before .before .before .before .before .before .before .before in
+    let a = entry .args in
+    let pre = entry .pre in
+    let put = c .before .before .before .before .before .before .before .before .before .before .put in
+    let put2 = c .before .before .before .before .before .before .put2 in
+    let put3 = c .before .before .put3 in
     bound-cells (a .number) (a .binding) (a .count) (a .newest) (a .own) (a .pending) (a .key) (a .parent) (a .work .now) _ _ _ (a .top) _ _ _
-    (c .before .before .before .before .before .before .before .before .before .before .before .before .before .pre .1) (c .before .before .before .before .before .before .before .before .before .before .before .before .before .pre .2) (c .before .before .before .before .before .before .before .before .before .before .before .before .before .pre .3) (c .before .before .before .before .before .before .before .before .before .before .put .ensures) (c .before .before .before .before .before .before .put2 .ensures) (c .before .before .put3 .ensures)
+    (pre .1) (pre .2) (pre .3) (put .ensures) (put2 .ensures) (put3 .ensures)
 
 pub put-binder-spec : {M : Type 1} → statement M
 put-binder-spec =

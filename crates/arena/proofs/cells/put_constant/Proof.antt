@@ -12,7 +12,11 @@ same-length c = search needs
 
 returns : tie.Need-returns
 returns c =
-    let a = c .before .before .before .before .before .args in grown-constant (a .work .now) _ (a .top) _ (a .kind) (a .first) (a .second) (c .before .before .before .before .before .pre .1) (c .before .before .before .before .before .pre .2) (c .before .before .before .before .before .pre .3) (c .before .before .put .ensures)
+    let entry = c .before .before .before .before .before in
+    let a = entry .args in
+    let pre = entry .pre in
+    let put = c .before .before .put in
+    grown-constant (a .work .now) _ (a .top) _ (a .kind) (a .first) (a .second) (pre .1) (pre .2) (pre .3) (put .ensures)
 
 pub put-constant-spec : {M : Type 1} → statement M
 put-constant-spec = tie.close (tie.spec put-requires same-length returns)

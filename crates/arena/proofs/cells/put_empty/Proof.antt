@@ -12,7 +12,9 @@ same-length c = search needs
 
 returns : tie.Need-returns
 returns c =
-    let a = c .before .before .before .before .before .args in grown-empty (a .work .now) _ (a .top) _ 0 0 (c .before .before .put .ensures)
+    let a = c .before .before .before .before .before .args in
+    let put = c .before .before .put in
+    grown-empty (a .work .now) _ (a .top) _ 0 0 (put .ensures)
 
 pub put-empty-spec : {M : Type 1} → statement M
 put-empty-spec = tie.close (tie.spec put-requires same-length returns)

@@ -13,12 +13,15 @@ word-requires c κs = search needs
 returns : tie.Need-returns
 unfolding referenceAt falling
 returns c =
-    rw (← c .before .word .ensures, lt-ltb _ _ (c .if1 .taken))
+    let word = c .before .word in
+    rw (← word .ensures, lt-ltb _ _ (c .if1 .taken))
 
 returns-2 : tie.Need-returns-2
 unfolding referenceAt falling
 returns-2 c =
-    let h : c .before .before .before .args .at ≤ c .before .word .result = omega arith in rw (← c .before .word .ensures, le-ltb _ _ h)
+    let args = c .before .before .before .args in
+    let word = c .before .word in
+    let h : args .at ≤ word .result = omega arith in rw (← word .ensures, le-ltb _ _ h)
 
 pub reference-spec : {M : Type 1} → statement M
 reference-spec = tie.close (tie.spec word-requires returns returns-2)

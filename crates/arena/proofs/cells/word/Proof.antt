@@ -10,7 +10,8 @@ use Rattle.arena.specs.ArenaLaws.{wordAt-in, wordAt-out}
 
 returns : tie.Need-returns
 returns c =
-    sym (wordAt-out (c .before .args .work .now) (c .before .args .at) (c .before .args .k) (c .if1 .taken))
+    let args = c .before .args in
+    sym (wordAt-out (args .work .now) (args .at) (args .k) (c .if1 .taken))
 
 cast-i : tie.Need-cast-i
 cast-i c = search needs
@@ -23,13 +24,15 @@ shared-slice-read-result c = search needs
 
 returns-2 : tie.Need-returns-2
 returns-2 c =
-    let h : c .before .before .before .args .k ≤ c .before .before .before .args .at = omega arith in sym (wordAt-in (c .before .before .before .args .work .now) (c .before .before .before .args .at) (c .before .before .before .args .k) h)
+    let args = c .before .before .before .args in
+    let h : args .k ≤ args .at = omega arith in sym (wordAt-in (args .work .now) (args .at) (args .k) h)
 
 returns-3 : tie.Need-returns-3
 returns-3 c =
-    let h : c .before .before .args .k ≤ c .before .before .args .at = omega arith in
-    let l : length (c .before .before .args .work .now) ≤ c .before .before .args .at - c .before .before .args .k = omega arith in
-    sym (wordAt-in (c .before .before .args .work .now) (c .before .before .args .at) (c .before .before .args .k) h ∙ List·getD-eq-default (c .before .before .args .work .now) 0 l)
+    let args = c .before .before .args in
+    let h : args .k ≤ args .at = omega arith in
+    let l : length (args .work .now) ≤ args .at - args .k = omega arith in
+    sym (wordAt-in (args .work .now) (args .at) (args .k) h ∙ List·getD-eq-default (args .work .now) 0 l)
 
 pub word-spec : {M : Type 1} → statement M
 word-spec =

@@ -36,7 +36,9 @@ toggle-same-length t c = search needs
 
 toggle-returns : (t : ℕ) → toggle-lts.Need-returns (toggle-claims t) (toggle-at t) toggle.Post
 toggle-returns t c =
-    let a = c .before .before .args in toggled-none (a .marks .now) (a .start) (a .count) (a .m) (c .before .before .pre .1) (c .if1 .taken)
+    let a = c .before .before .args in
+    let pre = c .before .before .pre in
+    toggled-none (a .marks .now) (a .start) (a .count) (a .m) (pre .1) (c .if1 .taken)
 
 toggle-sub-last : (t : ℕ) → toggle-lts.Need-sub-last (toggle-claims t) (toggle-at t) toggle.Post
 toggle-sub-last t c = search needs
@@ -52,7 +54,11 @@ toggle-slice-read-x t c = search needs
 
 toggle-returns-2 : (t : ℕ) → toggle-lts.Need-returns-2 (toggle-claims t) (toggle-at t) toggle.Post
 toggle-returns-2 t c =
-    let a = c .before .before .before .before .args in toggled-cancel (a .marks .now) (a .start) (a .count) (a .m) (c .before .before .before .before .pre .1) (c .before .before .if1 .left) (c .if2 .taken)
+    let entry = c .before .before .before .before in
+    let a = entry .args in
+    let pre = entry .pre in
+    let if1 = c .before .before .if1 in
+    toggled-cancel (a .marks .now) (a .start) (a .count) (a .m) (pre .1) (if1 .left) (c .if2 .taken)
 
 toggle-add-marks : (t : ℕ) → toggle-lts.Need-add-marks (toggle-claims t) (toggle-at t) toggle.Post
 toggle-add-marks t c = search needs
@@ -71,7 +77,12 @@ toggle-same-length-2 t c = search needs
 
 toggle-returns-3 : (t : ℕ) → toggle-lts.Need-returns-3 (toggle-claims t) (toggle-at t) toggle.Post
 toggle-returns-3 t c =
-    let a = c .before .before .before .before .before .args in toggled-front (a .marks .now) (a .start) (a .count) (a .m) (c .before .before .before .before .before .pre .1) (c .before .before .before .if1 .left) (c .before .if2 .left) (c .if3 .taken)
+    let entry = c .before .before .before .before .before in
+    let a = entry .args in
+    let pre = entry .pre in
+    let if1 = c .before .before .before .if1 in
+    let if2 = c .before .if2 in
+    toggled-front (a .marks .now) (a .start) (a .count) (a .m) (pre .1) (if1 .left) (if2 .left) (c .if3 .taken)
 
 toggle-toggle-requires : (t : ℕ) → toggle-lts.Need-toggle-requires (toggle-claims t) (toggle-at t) toggle.Post
 toggle-toggle-requires t c κs = search needs
@@ -84,7 +95,8 @@ toggle-mul-marks-3 t c = search needs
 
 toggle-slice-write-marks-3 : (t : ℕ) → toggle-lts.Need-slice-write-marks-3 (toggle-claims t) (toggle-at t) toggle.Post
 toggle-slice-write-marks-3 t c =
-    omega (arith, c .before .before .toggle .ensures .room, c .before .before .toggle .kept .0)
+    let toggle = c .before .before .toggle in
+    omega (arith, toggle .ensures .room, toggle .kept .0)
 
 toggle-add-result-2 : (t : ℕ) → toggle-lts.Need-add-result-2 (toggle-claims t) (toggle-at t) toggle.Post
 toggle-add-result-2 t c = search needs
@@ -94,7 +106,13 @@ toggle-same-length-3 t c = search needs
 
 toggle-returns-4 : (t : ℕ) → toggle-lts.Need-returns-4 (toggle-claims t) (toggle-at t) toggle.Post
 toggle-returns-4 t c =
-    let a = c .before .before .before .before .before .before .before .before .before .args in let l : a .m ≤ getD (a .marks .now) (a .start + (a .count - 1)) 0 = omega arith in toggled-later (a .marks .now) (a .start) (a .count) (a .m) (c .before .before .before .before .before .before .before .before .before .pre .1) (c .before .before .before .before .before .before .before .if1 .left) (c .before .before .before .before .before .if2 .left) l (c .before .before .toggle .last .0) (c .before .before .toggle .result) (c .before .before .toggle .kept .0) (c .before .before .toggle .ensures)
+    let entry = c .before .before .before .before .before .before .before .before .before in
+    let a = entry .args in
+    let pre = entry .pre in
+    let if1 = c .before .before .before .before .before .before .before .if1 in
+    let if2 = c .before .before .before .before .before .if2 in
+    let toggle = c .before .before .toggle in
+    let l : a .m ≤ getD (a .marks .now) (a .start + (a .count - 1)) 0 = omega arith in toggled-later (a .marks .now) (a .start) (a .count) (a .m) (pre .1) (if1 .left) (if2 .left) l (toggle .last .0) (toggle .result) (toggle .kept .0) (toggle .ensures)
 
 pub +toggle-spec : {M : Type 1} → statement M
 +toggle-spec =

@@ -44,18 +44,24 @@ shared-slice-read-if1-2 c = search needs
 
 returns : tie.Need-returns Inv-loop μ-loop
 returns c =
-    let a = c .before .before .before .before .before .args in sym (c .before .before .before .before .loop .inv .1 ∙ equal-differ (a .marks .now) (a .a) (a .b) (c .before .before .before .before .loop .n) (λ z. omega arith) (c .if1 .taken))
+    let a = c .before .before .before .before .before .args in
+    let loop = c .before .before .before .before .loop in
+    sym (loop .inv .1 ∙ equal-differ (a .marks .now) (a .a) (a .b) (loop .n) (λ z. omega arith) (c .if1 .taken))
 
 loop-less : tie.Need-loop-less Inv-loop μ-loop
 loop-less c = search needs
 
 loop-again : tie.Need-loop-again Inv-loop μ-loop
 loop-again c =
-    let a = c .before .before .before .before .before .args in (omega arith, c .before .before .before .before .loop .inv .1 ∙ equal-next (a .marks .now) (a .a) (a .b) (c .before .before .before .before .loop .n) (λ z. omega arith) (c .if1 .left))
+    let a = c .before .before .before .before .before .args in
+    let loop = c .before .before .before .before .loop in
+    (omega arith, loop .inv .1 ∙ equal-next (a .marks .now) (a .a) (a .b) (loop .n) (λ z. omega arith) (c .if1 .left))
 
 returns-2 : tie.Need-returns-2 Inv-loop μ-loop
 returns-2 c =
-    let a = c .before .before .args in sym (c .before .loop .inv .1 ∙ equal-none (a .marks .now) (a .a) (a .b) (c .before .loop .n) (omega arith))
+    let a = c .before .before .args in
+    let loop = c .before .loop in
+    sym (loop .inv .1 ∙ equal-none (a .marks .now) (a .a) (a .b) (loop .n) (omega arith))
 
 pub equal-marks-spec : {M : Type 1} → statement M
 equal-marks-spec =

@@ -8,19 +8,29 @@ use Prim.Native.Nat.{_<_}
 
 returns : tie.Need-returns
 returns c =
-    let a = c .before .before .args in after-unmarked (a .marks .now) (a .start) (a .count) (a .m) (c .before .before .pre) (c .if1 .taken)
+    let a = c .before .before .args in
+    let pre = c .before .before .pre in
+    after-unmarked (a .marks .now) (a .start) (a .count) (a .m) pre (c .if1 .taken)
 
 toggle-requires : tie.Need-toggle-requires
 toggle-requires c κs =
-    let a = c .before .before .before .args in hand-room (a .marks .now) (a .start) (a .count) (c .before .before .before .pre)
+    let entry = c .before .before .before in
+    let a = entry .args in
+    let pre = entry .pre in
+    hand-room (a .marks .now) (a .start) (a .count) (pre)
 
 same-length : tie.Need-same-length
 same-length c =
-    c .before .before .toggle .kept .0
+    let toggle = c .before .before .toggle in
+    toggle .kept .0
 
 returns-2 : tie.Need-returns-2
 returns-2 c =
-    let a = c .before .before .before .before .before .before .args in let l : a .m < markLimit = omega arith in after-marked (a .marks .now) (a .start) (a .count) (a .m) (c .before .before .before .before .before .before .pre) l _ _ (c .before .before .toggle .ensures)
+    let entry = c .before .before .before .before .before .before in
+    let a = entry .args in
+    let pre = entry .pre in
+    let toggle = c .before .before .toggle in
+    let l : a .m < markLimit = omega arith in after-marked (a .marks .now) (a .start) (a .count) (a .m) pre l _ _ (toggle .ensures)
 
 pub mark-spec : {M : Type 1} → statement M
 mark-spec = tie.close (tie.spec returns toggle-requires same-length returns-2)

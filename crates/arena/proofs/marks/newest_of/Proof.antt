@@ -23,7 +23,9 @@ shared-slice-read-result c = search needs
 
 returns-2 : tie.Need-returns-2
 returns-2 c =
-    sym (newest-in (c .before .before .args .marks .now) (c .before .before .args .start) (c .before .before .args .count) (c .before .if1 .left))
+    let args = c .before .before .args in
+    let if1 = c .before .if1 in
+    sym (newest-in (args .marks .now) (args .start) (args .count) (if1 .left))
 
 pub newest-of-spec : {M : Type 1} → statement M
 newest-of-spec =

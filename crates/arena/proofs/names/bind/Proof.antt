@@ -15,33 +15,47 @@ resolve-requires c κs = search needs
 
 newest-of-requires : tie.Need-newest-of-requires
 newest-of-requires c κs =
-    omega (arith, c .before .before .before .before .before .before .before .before .before .before .before .pre .4, c .before .before .before .resolve .kept .1 .1 .0, count-most _ 0 _ (c .before .before .before .resolve .ensures .descends))
+    let pre = c .before .before .before .before .before .before .before .before .before .before .before .pre in
+    let resolve = c .before .before .before .resolve in
+    omega (arith, pre .4, resolve .kept .1 .1 .0, count-most _ 0 _ (resolve .ensures .descends))
 
 reference-requires : tie.Need-reference-requires
 reference-requires c κs = search needs
 
 cast-put-binder : tie.Need-cast-put-binder
 cast-put-binder c =
-    omega (arith, count-most _ 0 _ (c .before .before .before .before .before .before .before .resolve .ensures .descends))
+    let resolve = c .before .before .before .before .before .before .before .resolve in
+    omega (arith, count-most _ 0 _ (resolve .ensures .descends))
 
 put-binder-requires : tie.Need-put-binder-requires
 put-binder-requires c κs =
-    let a = c .before .before .before .before .before .before .before .before .before .before .before .before .before .before .before .args in (c .before .before .before .before .before .before .before .before .before .before .before .before .before .before .before .pre .0, omega (arith, c .before .before .before .before .before .before .before .before .before .before .before .before .before .before .before .pre .1, c .before .reference .ensures, referenceAt-most (a .work .now) (a .node) 1), c .before .before .before .before .before .before .before .before .before .before .before .before .before .before .before .pre .2, c .before .before .before .before .before .before .before .before .before .before .before .before .before .before .before .pre .3)
+    let entry = c .before .before .before .before .before .before .before .before .before .before .before .before .before .before .before in
+    let a = entry .args in
+    let pre = entry .pre in
+    let reference = c .before .reference in
+    (pre .0, omega (arith, pre .1, reference .ensures, referenceAt-most (a .work .now) (a .node) 1), pre .2, pre .3)
 
 same-length : tie.Need-same-length
 same-length c =
-    c .before .before .put-binder .kept .0
+    let put-binder = c .before .before .put-binder in
+    put-binder .kept .0
 
 same-length-2 : tie.Need-same-length-2
 same-length-2 c =
-    c .before .before .before .before .before .before .before .before .before .before .resolve .kept .1 .1 .0
+    let resolve = c .before .before .before .before .before .before .before .before .before .before .resolve in
+    resolve .kept .1 .1 .0
 
 returns : tie.Need-returns
 returns c =
     let a = c .before .before .before .before .before .before .before .before .before .before .before .before .before .before .before .before .before .before .args in
+    let reference = c .before .before .before .before .reference in
+    let number-of = c .before .before .before .before .before .before .before .before .before .before .before .before .before .number-of in
+    let resolve = c .before .before .before .before .before .before .before .before .before .before .resolve in
+    let newest-of = c .before .before .before .before .before .before .newest-of in
+    let put-binder = c .before .before .put-binder in
     binds-name (a .items .now) (a .node) (a .w) (a .key) (a .parent) _ _ _ _ _ (a .work .now) _ (a .top) _
-    (described (a .items .now) (a .work .now) (a .node) (a .w) _ _ (c .before .before .before .before .reference .ensures) (c .before .before .before .before .before .before .before .before .before .before .before .before .before .number-of .ensures) _ _ _ _ _ (c .before .before .before .before .before .before .before .before .before .before .resolve .ensures) (c .before .before .before .before .before .before .newest-of .ensures))
-    (c .before .before .put-binder .ensures)
+    (described (a .items .now) (a .work .now) (a .node) (a .w) _ _ (reference .ensures) (number-of .ensures) _ _ _ _ _ (resolve .ensures) (newest-of .ensures))
+    (put-binder .ensures)
 
 pub bind-spec : {M : Type 1} → statement M
 bind-spec =

@@ -17,32 +17,44 @@ unbound-requires c κs = search needs
 
 same-length : tie.Need-same-length
 same-length c =
-    c .before .before .before .before .before .binding-of .kept .1 .1 .0
+    let binding-of = c .before .before .before .before .before .binding-of in
+    binding-of .kept .1 .1 .0
 
 returns : tie.Need-returns
 returns c =
     let a = c .before .before .before .before .before .before .before .before .before .before .before .args in
+    let binding-of = c .before .before .before .before .before .binding-of in
+    let if1 = c .before .before .if1 in
+    let number-of = c .before .number-of in
     let x = nameAt (a .items .now) (a .work .now) (a .node) (a .w) in
-    lookup-none (a .operations .now) x _ (c .before .before .before .before .before .binding-of .ensures) (c .before .before .if1 .taken) _ (c .before .number-of .ensures ∙ sym (nameAt-number (a .items .now) (a .work .now) (a .node) (a .w))) _ (c .unbound .ensures)
+    lookup-none (a .operations .now) x _ (binding-of .ensures) (if1 .taken) _ (number-of .ensures ∙ sym (nameAt-number (a .items .now) (a .work .now) (a .node) (a .w))) _ (c .unbound .ensures)
 
 same-length-2 : tie.Need-same-length-2
 same-length-2 c =
-    c .before .before .before .before .binding-of .kept .1 .1 .0
+    let binding-of = c .before .before .before .before .binding-of in
+    binding-of .kept .1 .1 .0
 
 returns-2 : tie.Need-returns-2
 returns-2 c =
-    let a = c .before .before .before .before .before .before .before .before .before .before .args in lookup-variable (a .operations .now) (nameAt (a .items .now) (a .work .now) (a .node) (a .w)) _ (c .before .before .before .before .binding-of .ensures) (c .before .if1 .left) (c .if2 .taken)
+    let a = c .before .before .before .before .before .before .before .before .before .before .args in
+    let binding-of = c .before .before .before .before .binding-of in
+    let if1 = c .before .if1 in
+    lookup-variable (a .operations .now) (nameAt (a .items .now) (a .work .now) (a .node) (a .w)) _ (binding-of .ensures) (if1 .left) (c .if2 .taken)
 
 sub-t14 : tie.Need-sub-t14
 sub-t14 c = search needs
 
 same-length-3 : tie.Need-same-length-3
 same-length-3 c =
-    c .before .before .before .before .binding-of .kept .1 .1 .0
+    let binding-of = c .before .before .before .before .binding-of in
+    binding-of .kept .1 .1 .0
 
 returns-3 : tie.Need-returns-3
 returns-3 c =
-    let a = c .before .before .before .before .before .before .before .before .before .before .args in lookup-macro (a .operations .now) (nameAt (a .items .now) (a .work .now) (a .node) (a .w)) _ (c .before .before .before .before .binding-of .ensures) (c .before .if1 .left) (c .if2 .left)
+    let a = c .before .before .before .before .before .before .before .before .before .before .args in
+    let binding-of = c .before .before .before .before .binding-of in
+    let if1 = c .before .if1 in
+    lookup-macro (a .operations .now) (nameAt (a .items .now) (a .work .now) (a .node) (a .w)) _ (binding-of .ensures) (if1 .left) (c .if2 .left)
 
 pub lookup-spec : {M : Type 1} → statement M
 lookup-spec =

@@ -30,14 +30,16 @@ shared-slice-read-result c = search needs
 returns : tie.Need-returns
 unfolding numberOf numberAt
 returns c =
-    rw (← c .before .before .word .ensures)
+    let word = c .before .before .word in
+    rw (← word .ensures)
 
 returns-2 : tie.Need-returns-2
 unfolding numberOf numberAt
 returns-2 c =
     let a = c .before .before .before .before .args in
-    let l : length (a .items .now) ≤ 3 * c .before .word .result + 1 = omega arith in
-    rw (← c .before .word .ensures) (sym (List·getD-eq-default (a .items .now) 0 l))
+    let word = c .before .word in
+    let l : length (a .items .now) ≤ 3 * word .result + 1 = omega arith in
+    rw (← word .ensures) (sym (List·getD-eq-default (a .items .now) 0 l))
 
 pub number-of-spec : {M : Type 1} → statement M
 number-of-spec =

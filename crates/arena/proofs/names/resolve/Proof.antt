@@ -14,19 +14,33 @@ reference-requires c κs = search needs
 
 walk-requires : tie.Need-walk-requires
 walk-requires c κs =
-    let a = c .before .before .before .before .before .before .args in name-none (a .table .now) (a .start) (c .before .before .before .before .before .before .pre)
+    let entry = c .before .before .before .before .before .before in
+    let a = entry .args in
+    let pre = entry .pre in
+    name-none (a .table .now) (a .start) (pre)
 
 walk-requires-2 : tie.Need-walk-requires-2
 walk-requires-2 c κs =
-    let a = c .before .before .before .before .before .before .before .before .before .before .args in name-hand _ (a .table .now) _ (a .start) _ 0 0 _ _ (name-none (a .table .now) (a .start) (c .before .before .before .before .before .before .before .before .before .before .pre)) (c .before .before .before .walk .kept .1 .0) (c .before .before .before .walk .ensures)
+    let entry = c .before .before .before .before .before .before .before .before .before .before in
+    let a = entry .args in
+    let pre = entry .pre in
+    let walk = c .before .before .before .walk in
+    name-hand _ (a .table .now) _ (a .start) _ 0 0 _ _ (name-none (a .table .now) (a .start) pre) (walk .kept .1 .0) (walk .ensures)
 
 same-length : tie.Need-same-length
 same-length c =
-    c .before .before .walk2 .kept .1 .0 ∙ c .before .before .before .before .before .before .walk .kept .1 .0
+    let walk2 = c .before .before .walk2 in
+    let walk = c .before .before .before .before .before .before .walk in
+    walk2 .kept .1 .0 ∙ walk .kept .1 .0
 
 returns : tie.Need-returns
 returns c =
-    let a = c .before .before .before .before .before .before .before .before .before .before .before .before .before .args in resolved (a .items .now) (a .work .now) (a .node) (a .w) _ _ (c .before .before .before .before .before .before .before .before .reference .ensures) (c .before .before .before .before .before .before .before .before .before .number-of .ensures) (a .table .now) _ _ (a .start) _ _ _ _ (c .before .before .before .before .before .before .walk .ensures) (c .before .before .walk2 .ensures)
+    let a = c .before .before .before .before .before .before .before .before .before .before .before .before .before .args in
+    let reference = c .before .before .before .before .before .before .before .before .reference in
+    let number-of = c .before .before .before .before .before .before .before .before .before .number-of in
+    let walk = c .before .before .before .before .before .before .walk in
+    let walk2 = c .before .before .walk2 in
+    resolved (a .items .now) (a .work .now) (a .node) (a .w) _ _ (reference .ensures) (number-of .ensures) (a .table .now) _ _ (a .start) _ _ _ _ (walk .ensures) (walk2 .ensures)
 
 pub resolve-spec : {M : Type 1} → statement M
 resolve-spec =

@@ -15,43 +15,74 @@ number-of-requires-2 c κs = search needs
 
 returns : tie.Need-returns
 returns c =
-    let a = c .before .before .before .before .before .before .args in differ-numbers (a .items .now) (a .work .now) (a .a) (a .v) (a .b) (a .w) _ _ (c .before .before .number-of .ensures) (c .before .number-of2 .ensures) (c .if1 .taken)
+    let a = c .before .before .before .before .before .before .args in
+    let number-of = c .before .before .number-of in
+    let number-of2 = c .before .number-of2 in
+    differ-numbers (a .items .now) (a .work .now) (a .a) (a .v) (a .b) (a .w) _ _ (number-of .ensures) (number-of2 .ensures) (c .if1 .taken)
 
 resolve-requires : tie.Need-resolve-requires
 resolve-requires c κs = search needs
 
 resolve-requires-2 : tie.Need-resolve-requires-2
 resolve-requires-2 c κs =
-    omega (arith, c .before .before .before .before .before .before .before .before .before .before .before .pre, c .before .before .before .resolve .kept .1 .1 .0, count-most _ 0 _ (c .before .before .before .resolve .ensures .descends))
+    let pre = c .before .before .before .before .before .before .before .before .before .before .before .pre in
+    let resolve = c .before .before .before .resolve in
+    omega (arith, pre, resolve .kept .1 .1 .0, count-most _ 0 _ (resolve .ensures .descends))
 
 same-length : tie.Need-same-length
 same-length c =
-    c .before .before .before .before .before .resolve2 .kept .1 .1 .0 ∙ c .before .before .before .before .before .before .before .before .before .resolve .kept .1 .1 .0
+    let resolve2 = c .before .before .before .before .before .resolve2 in
+    let resolve = c .before .before .before .before .before .before .before .before .before .resolve in
+    resolve2 .kept .1 .1 .0 ∙ resolve .kept .1 .1 .0
 
 returns-2 : tie.Need-returns-2
 returns-2 c =
-    let a = c .before .before .before .before .before .before .before .before .before .before .before .before .before .before .before .before .before .args in differ-bindings (a .items .now) (a .work .now) (a .a) (a .v) (a .b) (a .w) _ _ (c .before .before .before .before .before .before .before .before .before .before .before .before .before .number-of .ensures) (c .before .before .before .before .before .before .before .before .before .before .before .before .number-of2 .ensures) _ _ _ _ _ _ _ (c .before .before .before .before .before .before .before .before .before .resolve .ensures) (c .before .before .before .before .before .resolve2 .ensures) (c .if2 .taken)
+    let a = c .before .before .before .before .before .before .before .before .before .before .before .before .before .before .before .before .before .args in
+    let number-of = c .before .before .before .before .before .before .before .before .before .before .before .before .before .number-of in
+    let number-of2 = c .before .before .before .before .before .before .before .before .before .before .before .before .number-of2 in
+    let resolve = c .before .before .before .before .before .before .before .before .before .resolve in
+    let resolve2 = c .before .before .before .before .before .resolve2 in
+    differ-bindings (a .items .now) (a .work .now) (a .a) (a .v) (a .b) (a .w) _ _ (number-of .ensures) (number-of2 .ensures) _ _ _ _ _ _ _ (resolve .ensures) (resolve2 .ensures) (c .if2 .taken)
 
 same-length-2 : tie.Need-same-length-2
 same-length-2 c =
-    c .before .before .before .before .before .before .before .resolve2 .kept .1 .1 .0 ∙ c .before .before .before .before .before .before .before .before .before .before .before .resolve .kept .1 .1 .0
+    let resolve2 = c .before .before .before .before .before .before .before .resolve2 in
+    let resolve = c .before .before .before .before .before .before .before .before .before .before .before .resolve in
+    resolve2 .kept .1 .1 .0 ∙ resolve .kept .1 .1 .0
 
 returns-3 : tie.Need-returns-3
 returns-3 c =
-    let a = c .before .before .before .before .before .before .before .before .before .before .before .before .before .before .before .before .before .before .before .args in differ-counts (a .items .now) (a .work .now) (a .a) (a .v) (a .b) (a .w) _ _ (c .before .before .before .before .before .before .before .before .before .before .before .before .before .before .before .number-of .ensures) (c .before .before .before .before .before .before .before .before .before .before .before .before .before .before .number-of2 .ensures) _ _ _ _ _ _ _ (c .before .before .before .before .before .before .before .before .before .before .before .resolve .ensures) (c .before .before .before .before .before .before .before .resolve2 .ensures) (c .if3 .taken)
+    let a = c .before .before .before .before .before .before .before .before .before .before .before .before .before .before .before .before .before .before .before .args in
+    let number-of = c .before .before .before .before .before .before .before .before .before .before .before .before .before .before .before .number-of in
+    let number-of2 = c .before .before .before .before .before .before .before .before .before .before .before .before .before .before .number-of2 in
+    let resolve = c .before .before .before .before .before .before .before .before .before .before .before .resolve in
+    let resolve2 = c .before .before .before .before .before .before .before .resolve2 in
+    differ-counts (a .items .now) (a .work .now) (a .a) (a .v) (a .b) (a .w) _ _ (number-of .ensures) (number-of2 .ensures) _ _ _ _ _ _ _ (resolve .ensures) (resolve2 .ensures) (λ z. omega arith)
 
 equal-marks-requires : tie.Need-equal-marks-requires
 equal-marks-requires c κs =
-    let m = count-most _ 0 _ (c .before .before .before .before .before .before .before .before .before .before .before .before .resolve .ensures .descends) in
-    (omega (arith, c .before .before .before .before .before .before .before .before .before .before .before .before .before .before .before .before .before .before .before .before .pre, c .before .before .before .before .before .before .before .before .before .before .before .before .resolve .kept .1 .1 .0, c .before .before .before .before .before .before .before .before .resolve2 .kept .1 .1 .0, m), omega (arith, c .before .before .before .before .before .before .before .before .before .before .before .before .before .before .before .before .before .before .before .before .pre, c .before .before .before .before .before .before .before .before .before .before .before .before .resolve .kept .1 .1 .0, c .before .before .before .before .before .before .before .before .resolve2 .kept .1 .1 .0, m))
+    let resolve = c .before .before .before .before .before .before .before .before .before .before .before .before .resolve in
+    let pre = c .before .before .before .before .before .before .before .before .before .before .before .before .before .before .before .before .before .before .before .before .pre in
+    let resolve2 = c .before .before .before .before .before .before .before .before .resolve2 in
+    let m = count-most _ 0 _ (resolve .ensures .descends) in
+    (omega (arith, pre, resolve .kept .1 .1 .0, resolve2 .kept .1 .1 .0, m), omega (arith, pre, resolve .kept .1 .1 .0, resolve2 .kept .1 .1 .0, m))
 
 same-length-3 : tie.Need-same-length-3
 same-length-3 c =
-    c .before .before .before .before .before .before .before .before .before .resolve2 .kept .1 .1 .0 ∙ c .before .before .before .before .before .before .before .before .before .before .before .before .before .resolve .kept .1 .1 .0
+    let resolve2 = c .before .before .before .before .before .before .before .before .before .resolve2 in
+    let resolve = c .before .before .before .before .before .before .before .before .before .before .before .before .before .resolve in
+    resolve2 .kept .1 .1 .0 ∙ resolve .kept .1 .1 .0
 
 returns-4 : tie.Need-returns-4
 returns-4 c =
-    let a = c .before .before .before .before .before .before .before .before .before .before .before .before .before .before .before .before .before .before .before .before .before .args in same-marks (a .items .now) (a .work .now) (a .a) (a .v) (a .b) (a .w) _ _ (c .before .before .before .before .before .before .before .before .before .before .before .before .before .before .before .before .before .number-of .ensures) (c .before .before .before .before .before .before .before .before .before .before .before .before .before .before .before .before .number-of2 .ensures) _ _ _ _ _ _ _ (c .before .before .before .before .before .before .before .before .before .before .before .before .before .resolve .ensures) (c .before .before .before .before .before .before .before .before .before .resolve2 .ensures) (c .before .before .before .before .before .before .before .before .before .before .before .before .before .before .before .if1 .left) (c .before .before .before .before .if2 .left) (c .before .before .if3 .left) _ (c .equal-marks .ensures)
+    let a = c .before .before .before .before .before .before .before .before .before .before .before .before .before .before .before .before .before .before .before .before .before .args in
+    let number-of = c .before .before .before .before .before .before .before .before .before .before .before .before .before .before .before .before .before .number-of in
+    let number-of2 = c .before .before .before .before .before .before .before .before .before .before .before .before .before .before .before .before .number-of2 in
+    let resolve = c .before .before .before .before .before .before .before .before .before .before .before .before .before .resolve in
+    let resolve2 = c .before .before .before .before .before .before .before .before .before .resolve2 in
+    let if1 = c .before .before .before .before .before .before .before .before .before .before .before .before .before .before .before .if1 in
+    let if2 = c .before .before .before .before .if2 in
+    same-marks (a .items .now) (a .work .now) (a .a) (a .v) (a .b) (a .w) _ _ (number-of .ensures) (number-of2 .ensures) _ _ _ _ _ _ _ (resolve .ensures) (resolve2 .ensures) (if1 .left) (if2 .left) (omega arith) _ (c .equal-marks .ensures)
 
 pub same-names-spec : {M : Type 1} → statement M
 same-names-spec =

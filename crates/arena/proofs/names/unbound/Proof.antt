@@ -7,11 +7,13 @@ use native.Mathlib.Omega.{arith}
 
 returns : tie.Need-returns
 returns c =
-    let a = c .before .args in unbound-form (a .operations .now) (a .number) (c .if1 .taken)
+    let a = c .before .args in
+    unbound-form (a .operations .now) (a .number) (c .if1 .taken)
 
 returns-2 : tie.Need-returns-2
 returns-2 c =
-    let a = c .before .before .args in unbound-out (a .operations .now) (a .number) (omega arith) (c .if2 .taken)
+    let a = c .before .before .args in
+    unbound-out (a .operations .now) (a .number) (omega arith) (c .if2 .taken)
 
 mul-place : tie.Need-mul-place
 mul-place c = search needs
@@ -21,14 +23,16 @@ shared-slice-read-place c = search needs
 
 returns-3 : tie.Need-returns-3
 returns-3 c =
-    let a = c .before .before .before .before .args in unbound-none (a .operations .now) (a .number) (omega arith) (c .if3 .taken)
+    let a = c .before .before .before .before .args in
+    unbound-none (a .operations .now) (a .number) (omega arith) (c .if3 .taken)
 
 sub-t8 : tie.Need-sub-t8
 sub-t8 c = search needs
 
 returns-4 : tie.Need-returns-4
 returns-4 c =
-    let a = c .before .before .before .before .args in unbound-some (a .operations .now) (a .number) (omega arith) (c .if3 .left)
+    let a = c .before .before .before .before .args in
+    unbound-some (a .operations .now) (a .number) (omega arith) (c .if3 .left)
 
 pub unbound-spec : {M : Type 1} → statement M
 unbound-spec =

@@ -35,56 +35,102 @@ marks-after-word-requires t c κs = search needs
 
 marks-after-returns : (t : ℕ) → marks-after-lts.Need-returns (marks-after-claims t) (marks-after-at t) marks-after.Post
 marks-after-returns t c =
-    let a = c .before .before .before .before .args in after-none (a .table .now) (a .start) (a .count) _ (c .before .before .before .before .pre .1) (wrap-idle (a .work .now) (a .w) _ (c .before .word .ensures) (λ z. omega arith) (λ z. omega arith) (λ z. omega arith))
+    let entry = c .before .before .before .before in
+    let a = entry .args in
+    let pre = entry .pre in
+    let word = c .before .word in
+    after-none (a .table .now) (a .start) (a .count) _ (pre .1) (wrap-idle (a .work .now) (a .w) _ (word .ensures) (λ z. omega arith) (λ z. omega arith) (λ z. omega arith))
 
 marks-after-returns-2 : (t : ℕ) → marks-after-lts.Need-returns-2 (marks-after-claims t) (marks-after-at t) marks-after.Post
 marks-after-returns-2 t c =
-    let a = c .before .before .before .before .before .args in after-none (a .table .now) (a .start) (a .count) _ (c .before .before .before .before .before .pre .1) (wrap-idle (a .work .now) (a .w) _ (c .before .before .word .ensures) (λ z. omega arith) (λ z. omega arith) (λ z. omega arith))
+    let entry = c .before .before .before .before .before in
+    let a = entry .args in
+    let pre = entry .pre in
+    let word = c .before .before .word in
+    after-none (a .table .now) (a .start) (a .count) _ (pre .1) (wrap-idle (a .work .now) (a .w) _ (word .ensures) (λ z. omega arith) (λ z. omega arith) (λ z. omega arith))
 
 marks-after-reference-requires : (t : ℕ) → marks-after-lts.Need-reference-requires (marks-after-claims t) (marks-after-at t) marks-after.Post
 marks-after-reference-requires t c κs = search needs
 
 marks-after-marks-after-requires : (t : ℕ) → marks-after-lts.Need-marks-after-requires (marks-after-claims t) (marks-after-at t) marks-after.Post
 marks-after-marks-after-requires t c κs =
-    let a = c .before .before .before .before .before .before .before .args in (omega (arith, wrap-falls (a .work .now) (a .w) _ (c .before .before .before .before .word .ensures) 2 _ (c .before .before .before .if1 .left) (c .before .reference .ensures)), c .before .before .before .before .before .before .before .pre .1)
+    let entry = c .before .before .before .before .before .before .before in
+    let a = entry .args in
+    let word = c .before .before .before .before .word in
+    let if1 = c .before .before .before .if1 in
+    let reference = c .before .reference in
+    let pre = entry .pre in
+    (omega (arith, wrap-falls (a .work .now) (a .w) _ (word .ensures) 2 _ (if1 .left) (reference .ensures)), pre .1)
 
 marks-after-word-requires-2 : (t : ℕ) → marks-after-lts.Need-word-requires-2 (marks-after-claims t) (marks-after-at t) marks-after.Post
 marks-after-word-requires-2 t c κs = search needs
 
 marks-after-mark-requires : (t : ℕ) → marks-after-lts.Need-mark-requires (marks-after-claims t) (marks-after-at t) marks-after.Post
 marks-after-mark-requires t c κs =
-    let a = c .before .before .before .before .before .before .before .before .before .before .before .before .before .args in after-hand _ (a .table .now) _ (a .start) (a .count) _ (c .before .before .before .before .before .before .before .before .before .before .before .before .before .pre .1) (c .before .before .before .before .before .marks-after .kept .1 .0) (c .before .before .before .before .before .marks-after .ensures)
+    let entry = c .before .before .before .before .before .before .before .before .before .before .before .before .before in
+    let a = entry .args in
+    let pre = entry .pre in
+    let marks-after = c .before .before .before .before .before .marks-after in
+    after-hand _ (a .table .now) _ (a .start) (a .count) _ (pre .1) (marks-after .kept .1 .0) (marks-after .ensures)
 
 marks-after-same-length : (t : ℕ) → marks-after-lts.Need-same-length (marks-after-claims t) (marks-after-at t) marks-after.Post
 marks-after-same-length t c =
-    c .before .before .mark .kept .0 ∙ c .before .before .before .before .before .before .before .before .marks-after .kept .1 .0
+    let mark = c .before .before .mark in
+    let marks-after = c .before .before .before .before .before .before .before .before .marks-after in
+    mark .kept .0 ∙ marks-after .kept .1 .0
 
 marks-after-returns-3 : (t : ℕ) → marks-after-lts.Need-returns-3 (marks-after-claims t) (marks-after-at t) marks-after.Post
 marks-after-returns-3 t c =
-    let a = c .before .before .before .before .before .before .before .before .before .before .before .before .before .before .before .before .args in marks-mark (a .work .now) (a .w) _ (c .before .before .before .before .before .before .before .before .before .before .before .before .before .word .ensures) _ (c .before .before .before .before .before .before .before .before .before .before .reference .ensures) (a .table .now) _ (a .start) (a .count) _ (c .before .before .before .before .before .before .before .before .marks-after .ensures) _ (c .before .before .before .before .before .if3 .taken) (c .before .before .before .before .word2 .ensures) _ _ (c .before .before .mark .ensures)
+    let a = c .before .before .before .before .before .before .before .before .before .before .before .before .before .before .before .before .args in
+    let word = c .before .before .before .before .before .before .before .before .before .before .before .before .before .word in
+    let reference = c .before .before .before .before .before .before .before .before .before .before .reference in
+    let marks-after = c .before .before .before .before .before .before .before .before .marks-after in
+    let if3 = c .before .before .before .before .before .if3 in
+    let word2 = c .before .before .before .before .word2 in
+    let mark = c .before .before .mark in
+    marks-mark (a .work .now) (a .w) _ (word .ensures) _ (reference .ensures) (a .table .now) _ (a .start) (a .count) _ (marks-after .ensures) _ (if3 .taken) (word2 .ensures) _ _ (mark .ensures)
 
 marks-after-reference-requires-2 : (t : ℕ) → marks-after-lts.Need-reference-requires-2 (marks-after-claims t) (marks-after-at t) marks-after.Post
 marks-after-reference-requires-2 t c κs = search needs
 
 marks-after-marks-after-requires-2 : (t : ℕ) → marks-after-lts.Need-marks-after-requires-2 (marks-after-claims t) (marks-after-at t) marks-after.Post
 marks-after-marks-after-requires-2 t c κs =
-    let a = c .before .before .before .before .before .before .before .before .before .before .before .before .before .before .args in
-    (omega (arith, wrap-falls (a .work .now) (a .w) _ (c .before .before .before .before .before .before .before .before .before .before .before .word .ensures) 3 _ (c .before .before .before .before .before .before .before .before .before .before .if1 .left) (c .before .reference2 .ensures)), after-hand _ (a .table .now) _ (a .start) (a .count) _ (c .before .before .before .before .before .before .before .before .before .before .before .before .before .before .pre .1) (c .before .before .before .before .before .before .marks-after .kept .1 .0) (c .before .before .before .before .before .before .marks-after .ensures))
+    let entry = c .before .before .before .before .before .before .before .before .before .before .before .before .before .before in
+    let a = entry .args in
+    let word = c .before .before .before .before .before .before .before .before .before .before .before .word in
+    let if1 = c .before .before .before .before .before .before .before .before .before .before .if1 in
+    let reference2 = c .before .reference2 in
+    let pre = entry .pre in
+    let marks-after = c .before .before .before .before .before .before .marks-after in
+    (omega (arith, wrap-falls (a .work .now) (a .w) _ (word .ensures) 3 _ (if1 .left) (reference2 .ensures)), after-hand _ (a .table .now) _ (a .start) (a .count) _ (pre .1) (marks-after .kept .1 .0) (marks-after .ensures))
 
 marks-after-same-length-2 : (t : ℕ) → marks-after-lts.Need-same-length-2 (marks-after-claims t) (marks-after-at t) marks-after.Post
 marks-after-same-length-2 t c =
-    c .before .before .marks-after2 .kept .1 .0 ∙ c .before .before .before .before .before .before .before .before .before .marks-after .kept .1 .0
+    let marks-after2 = c .before .before .marks-after2 in
+    let marks-after = c .before .before .before .before .before .before .before .before .before .marks-after in
+    marks-after2 .kept .1 .0 ∙ marks-after .kept .1 .0
 
 marks-after-returns-4 : (t : ℕ) → marks-after-lts.Need-returns-4 (marks-after-claims t) (marks-after-at t) marks-after.Post
 marks-after-returns-4 t c =
-    let a = c .before .before .before .before .before .before .before .before .before .before .before .before .before .before .before .before .before .args in marks-join (a .work .now) (a .w) _ (c .before .before .before .before .before .before .before .before .before .before .before .before .before .before .word .ensures) _ (c .before .before .before .before .before .before .before .before .before .before .before .reference .ensures) (a .table .now) _ (a .start) (a .count) _ (c .before .before .before .before .before .before .before .before .before .marks-after .ensures) _ (c .before .before .before .before .before .if4 .taken) (c .before .before .before .before .reference2 .ensures) _ _ (c .before .before .marks-after2 .ensures)
+    let a = c .before .before .before .before .before .before .before .before .before .before .before .before .before .before .before .before .before .args in
+    let word = c .before .before .before .before .before .before .before .before .before .before .before .before .before .before .word in
+    let reference = c .before .before .before .before .before .before .before .before .before .before .before .reference in
+    let marks-after = c .before .before .before .before .before .before .before .before .before .marks-after in
+    let if4 = c .before .before .before .before .before .if4 in
+    let reference2 = c .before .before .before .before .reference2 in
+    let marks-after2 = c .before .before .marks-after2 in
+    marks-join (a .work .now) (a .w) _ (word .ensures) _ (reference .ensures) (a .table .now) _ (a .start) (a .count) _ (marks-after .ensures) _ (if4 .taken) (reference2 .ensures) _ _ (marks-after2 .ensures)
 
 marks-after-same-length-3 : (t : ℕ) → marks-after-lts.Need-same-length-3 (marks-after-claims t) (marks-after-at t) marks-after.Post
 marks-after-same-length-3 t c = search needs
 
 marks-after-returns-5 : (t : ℕ) → marks-after-lts.Need-returns-5 (marks-after-claims t) (marks-after-at t) marks-after.Post
 marks-after-returns-5 t c =
-    let a = c .before .before .before .before .before .before .before .before .before .before .before .before .args in marks-binder (a .work .now) (a .w) _ (c .before .before .before .before .before .before .before .before .before .word .ensures) _ (c .before .before .before .before .before .before .reference .ensures) (a .table .now) _ (a .start) (a .count) _ (c .before .before .before .before .marks-after .ensures) (omega arith)
+    let a = c .before .before .before .before .before .before .before .before .before .before .before .before .args in
+    let word = c .before .before .before .before .before .before .before .before .before .word in
+    let reference = c .before .before .before .before .before .before .reference in
+    let marks-after = c .before .before .before .before .marks-after in
+    marks-binder (a .work .now) (a .w) _ (word .ensures) _ (reference .ensures) (a .table .now) _ (a .start) (a .count) _ (marks-after .ensures) (omega arith)
 
 pub +marks-after-spec : {M : Type 1} → statement M
 +marks-after-spec = close μ-marks-after λ t. marks-after-lts.spec (

@@ -35,61 +35,114 @@ walk-word-requires t c κs = search needs
 
 walk-returns : (t : ℕ) → walk-lts.Need-returns (walk-claims t) (walk-at t) walk.Post
 walk-returns t c =
-    let a = c .before .before .before .before .args in name-idle _ (a .table .now) (a .start) (a .number) (a .count) (a .binding) (c .before .before .before .before .pre .1) (wrap-idle (a .work .now) (a .w) _ (c .before .word .ensures) (λ z. omega arith) (λ z. omega arith) (λ z. omega arith))
+    let entry = c .before .before .before .before in
+    let a = entry .args in
+    let pre = entry .pre in
+    let word = c .before .word in
+    name-idle _ (a .table .now) (a .start) (a .number) (a .count) (a .binding) (pre .1) (wrap-idle (a .work .now) (a .w) _ (word .ensures) (λ z. omega arith) (λ z. omega arith) (λ z. omega arith))
 
 walk-returns-2 : (t : ℕ) → walk-lts.Need-returns-2 (walk-claims t) (walk-at t) walk.Post
 walk-returns-2 t c =
-    let a = c .before .before .before .before .before .args in name-idle _ (a .table .now) (a .start) (a .number) (a .count) (a .binding) (c .before .before .before .before .before .pre .1) (wrap-idle (a .work .now) (a .w) _ (c .before .before .word .ensures) (λ z. omega arith) (λ z. omega arith) (λ z. omega arith))
+    let entry = c .before .before .before .before .before in
+    let a = entry .args in
+    let pre = entry .pre in
+    let word = c .before .before .word in
+    name-idle _ (a .table .now) (a .start) (a .number) (a .count) (a .binding) (pre .1) (wrap-idle (a .work .now) (a .w) _ (word .ensures) (λ z. omega arith) (λ z. omega arith) (λ z. omega arith))
 
 walk-reference-requires : (t : ℕ) → walk-lts.Need-reference-requires (walk-claims t) (walk-at t) walk.Post
 walk-reference-requires t c κs = search needs
 
 walk-walk-requires : (t : ℕ) → walk-lts.Need-walk-requires (walk-claims t) (walk-at t) walk.Post
 walk-walk-requires t c κs =
-    let a = c .before .before .before .before .before .before .before .args in (omega (arith, wrap-falls (a .work .now) (a .w) _ (c .before .before .before .before .word .ensures) 2 _ (c .before .before .before .if1 .left) (c .before .reference .ensures)), c .before .before .before .before .before .before .before .pre .1)
+    let entry = c .before .before .before .before .before .before .before in
+    let a = entry .args in
+    let word = c .before .before .before .before .word in
+    let if1 = c .before .before .before .if1 in
+    let reference = c .before .reference in
+    let pre = entry .pre in
+    (omega (arith, wrap-falls (a .work .now) (a .w) _ (word .ensures) 2 _ (if1 .left) (reference .ensures)), pre .1)
 
 walk-word-requires-2 : (t : ℕ) → walk-lts.Need-word-requires-2 (walk-claims t) (walk-at t) walk.Post
 walk-word-requires-2 t c κs = search needs
 
 walk-mark-requires : (t : ℕ) → walk-lts.Need-mark-requires (walk-claims t) (walk-at t) walk.Post
 walk-mark-requires t c κs =
-    let a = c .before .before .before .before .before .before .before .before .before .before .before .before .before .args in name-marks (name-hand _ (a .table .now) _ (a .start) (a .number) (a .count) (a .binding) _ _ (c .before .before .before .before .before .before .before .before .before .before .before .before .before .pre .1) (c .before .before .before .before .before .walk .kept .1 .0) (c .before .before .before .before .before .walk .ensures))
+    let entry = c .before .before .before .before .before .before .before .before .before .before .before .before .before in
+    let a = entry .args in
+    let pre = entry .pre in
+    let walk = c .before .before .before .before .before .walk in
+    name-marks (name-hand _ (a .table .now) _ (a .start) (a .number) (a .count) (a .binding) _ _ (pre .1) (walk .kept .1 .0) (walk .ensures))
 
 walk-same-length : (t : ℕ) → walk-lts.Need-same-length (walk-claims t) (walk-at t) walk.Post
 walk-same-length t c =
-    c .before .before .mark .kept .0 ∙ c .before .before .before .before .before .before .before .before .walk .kept .1 .0
+    let mark = c .before .before .mark in
+    let walk = c .before .before .before .before .before .before .before .before .walk in
+    mark .kept .0 ∙ walk .kept .1 .0
 
 walk-returns-3 : (t : ℕ) → walk-lts.Need-returns-3 (walk-claims t) (walk-at t) walk.Post
 walk-returns-3 t c =
-    let a = c .before .before .before .before .before .before .before .before .before .before .before .before .before .before .before .before .args in walk-mark (a .work .now) (a .w) _ (c .before .before .before .before .before .before .before .before .before .before .before .before .before .word .ensures) _ (c .before .before .before .before .before .before .before .before .before .before .reference .ensures) (a .table .now) _ (a .start) (a .number) (a .count) (a .binding) _ _ (c .before .before .before .before .before .before .before .before .walk .ensures) _ (c .before .before .before .before .before .if3 .taken) (c .before .before .before .before .word2 .ensures) _ _ (c .before .before .mark .ensures)
+    let a = c .before .before .before .before .before .before .before .before .before .before .before .before .before .before .before .before .args in
+    let word = c .before .before .before .before .before .before .before .before .before .before .before .before .before .word in
+    let reference = c .before .before .before .before .before .before .before .before .before .before .reference in
+    let walk = c .before .before .before .before .before .before .before .before .walk in
+    let if3 = c .before .before .before .before .before .if3 in
+    let word2 = c .before .before .before .before .word2 in
+    let mark = c .before .before .mark in
+    walk-mark (a .work .now) (a .w) _ (word .ensures) _ (reference .ensures) (a .table .now) _ (a .start) (a .number) (a .count) (a .binding) _ _ (walk .ensures) _ (if3 .taken) (word2 .ensures) _ _ (mark .ensures)
 
 walk-reference-requires-2 : (t : ℕ) → walk-lts.Need-reference-requires-2 (walk-claims t) (walk-at t) walk.Post
 walk-reference-requires-2 t c κs = search needs
 
 walk-walk-requires-2 : (t : ℕ) → walk-lts.Need-walk-requires-2 (walk-claims t) (walk-at t) walk.Post
 walk-walk-requires-2 t c κs =
-    let a = c .before .before .before .before .before .before .before .before .before .before .before .before .before .before .args in
-    (omega (arith, wrap-falls (a .work .now) (a .w) _ (c .before .before .before .before .before .before .before .before .before .before .before .word .ensures) 3 _ (c .before .before .before .before .before .before .before .before .before .before .if1 .left) (c .before .reference2 .ensures)), name-hand _ (a .table .now) _ (a .start) (a .number) (a .count) (a .binding) _ _ (c .before .before .before .before .before .before .before .before .before .before .before .before .before .before .pre .1) (c .before .before .before .before .before .before .walk .kept .1 .0) (c .before .before .before .before .before .before .walk .ensures))
+    let entry = c .before .before .before .before .before .before .before .before .before .before .before .before .before .before in
+    let a = entry .args in
+    let word = c .before .before .before .before .before .before .before .before .before .before .before .word in
+    let if1 = c .before .before .before .before .before .before .before .before .before .before .if1 in
+    let reference2 = c .before .reference2 in
+    let pre = entry .pre in
+    let walk = c .before .before .before .before .before .before .walk in
+    (omega (arith, wrap-falls (a .work .now) (a .w) _ (word .ensures) 3 _ (if1 .left) (reference2 .ensures)), name-hand _ (a .table .now) _ (a .start) (a .number) (a .count) (a .binding) _ _ (pre .1) (walk .kept .1 .0) (walk .ensures))
 
 walk-same-length-2 : (t : ℕ) → walk-lts.Need-same-length-2 (walk-claims t) (walk-at t) walk.Post
 walk-same-length-2 t c =
-    c .before .before .walk2 .kept .1 .0 ∙ c .before .before .before .before .before .before .before .before .before .walk .kept .1 .0
+    let walk2 = c .before .before .walk2 in
+    let walk = c .before .before .before .before .before .before .before .before .before .walk in
+    walk2 .kept .1 .0 ∙ walk .kept .1 .0
 
 walk-returns-4 : (t : ℕ) → walk-lts.Need-returns-4 (walk-claims t) (walk-at t) walk.Post
 walk-returns-4 t c =
-    let a = c .before .before .before .before .before .before .before .before .before .before .before .before .before .before .before .before .before .args in walk-join (a .work .now) (a .w) _ (c .before .before .before .before .before .before .before .before .before .before .before .before .before .before .word .ensures) _ (c .before .before .before .before .before .before .before .before .before .before .before .reference .ensures) (a .table .now) _ (a .start) (a .number) (a .count) (a .binding) _ _ (c .before .before .before .before .before .before .before .before .before .walk .ensures) _ (c .before .before .before .before .before .if4 .taken) (c .before .before .before .before .reference2 .ensures) _ _ _ (c .before .before .walk2 .ensures)
+    let a = c .before .before .before .before .before .before .before .before .before .before .before .before .before .before .before .before .before .args in
+    let word = c .before .before .before .before .before .before .before .before .before .before .before .before .before .before .word in
+    let reference = c .before .before .before .before .before .before .before .before .before .before .before .reference in
+    let walk = c .before .before .before .before .before .before .before .before .before .walk in
+    let if4 = c .before .before .before .before .before .if4 in
+    let reference2 = c .before .before .before .before .reference2 in
+    let walk2 = c .before .before .walk2 in
+    walk-join (a .work .now) (a .w) _ (word .ensures) _ (reference .ensures) (a .table .now) _ (a .start) (a .number) (a .count) (a .binding) _ _ (walk .ensures) _ (if4 .taken) (reference2 .ensures) _ _ _ (walk2 .ensures)
 
 walk-rebind-requires : (t : ℕ) → walk-lts.Need-rebind-requires (walk-claims t) (walk-at t) walk.Post
 walk-rebind-requires t c κs =
-    let a = c .before .before .before .before .before .before .before .before .before .before .before .before .before .args in name-hand _ (a .table .now) _ (a .start) (a .number) (a .count) (a .binding) _ _ (c .before .before .before .before .before .before .before .before .before .before .before .before .before .pre .1) (c .before .before .before .before .before .walk .kept .1 .0) (c .before .before .before .before .before .walk .ensures)
+    let entry = c .before .before .before .before .before .before .before .before .before .before .before .before .before in
+    let a = entry .args in
+    let pre = entry .pre in
+    let walk = c .before .before .before .before .before .walk in
+    name-hand _ (a .table .now) _ (a .start) (a .number) (a .count) (a .binding) _ _ (pre .1) (walk .kept .1 .0) (walk .ensures)
 
 walk-same-length-3 : (t : ℕ) → walk-lts.Need-same-length-3 (walk-claims t) (walk-at t) walk.Post
 walk-same-length-3 t c =
-    c .before .before .rebind .kept .1 .0 ∙ c .before .before .before .before .before .before .before .before .walk .kept .1 .0
+    let rebind = c .before .before .rebind in
+    let walk = c .before .before .before .before .before .before .before .before .walk in
+    rebind .kept .1 .0 ∙ walk .kept .1 .0
 
 walk-returns-5 : (t : ℕ) → walk-lts.Need-returns-5 (walk-claims t) (walk-at t) walk.Post
 walk-returns-5 t c =
-    let a = c .before .before .before .before .before .before .before .before .before .before .before .before .before .before .before .before .args in walk-binder (a .work .now) (a .w) _ (c .before .before .before .before .before .before .before .before .before .before .before .before .before .word .ensures) _ (c .before .before .before .before .before .before .before .before .before .before .reference .ensures) (a .table .now) _ (a .start) (a .number) (a .count) (a .binding) _ _ (c .before .before .before .before .before .before .before .before .walk .ensures) (omega arith) _ _ (c .before .before .rebind .ensures)
+    let a = c .before .before .before .before .before .before .before .before .before .before .before .before .before .before .before .before .args in
+    let word = c .before .before .before .before .before .before .before .before .before .before .before .before .before .word in
+    let reference = c .before .before .before .before .before .before .before .before .before .before .reference in
+    let walk = c .before .before .before .before .before .before .before .before .walk in
+    let rebind = c .before .before .rebind in
+    walk-binder (a .work .now) (a .w) _ (word .ensures) _ (reference .ensures) (a .table .now) _ (a .start) (a .number) (a .count) (a .binding) _ _ (walk .ensures) (omega arith) _ _ (rebind .ensures)
 
 pub +walk-spec : {M : Type 1} → statement M
 +walk-spec = close μ-walk λ t. walk-lts.spec (

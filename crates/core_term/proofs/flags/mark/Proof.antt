@@ -1,3 +1,4 @@
+-- The flags from `from` up to k are set; the others are as they were.
 use Rattle.core_term.proofs.flags.mark.Statement.{statement}
 use Rattle.core_term.proofs.flags.mark.Tie as tie
 use Rattle.core_term.proofs.flags.mark.Reads as reads
@@ -6,12 +7,11 @@ use Rattle.core_term.proofs.flags.set.Reads as set-reads
 use borrow.Author.Needs.{needs}
 use Prim.Native.Nat.{ℕ, _≤_, _-_}
 use native.Mathlib.Omega.{arith}
-use mathlib.Core.Path.{_≡_, refl, sym, ap, _∙_}
+use mathlib.Core.Path.{_≡_, refl, ap, _∙_}
 use mathlib.Core.List.{List}
 use lib.ListN.{length}
 use Rattle.core_term.specs.Window.{put, marked}
-use Rattle.core_term.specs.WindowLaws.{marked-more, marked-length}
-
+use Rattle.core_term.specs.WindowLaws.{marked-more}
 
 abbrev Inv-loop : tie.InvT-loop
 Inv-loop flags₀ base from to value k₀ flags k =
@@ -21,38 +21,31 @@ abbrev μ-loop : tie.MeasureT-loop
 μ-loop flags₀ base from to value k₀ flags k =
     to - k
 
--- src/flags.rt:27:5
 loop-holds : tie.Need-loop-holds Inv-loop μ-loop
 unfolding marked
 loop-holds c =
     let e : c .before .args .from - c .before .args .from ≡ 0 = omega arith in (refl, omega arith, omega arith, rw e)
 
--- src/flags.rt:28:9
 set-requires : tie.Need-set-requires Inv-loop μ-loop
 set-requires c κs =
     search needs
 
--- src/flags.rt:29:13
 add-k : tie.Need-add-k Inv-loop μ-loop
 add-k c =
     search needs
 
--- src/flags.rt:27:5
 loop-less : tie.Need-loop-less Inv-loop μ-loop
 loop-less c =
     search needs
 
--- src/flags.rt:27:5
 loop-again : tie.Need-loop-again Inv-loop μ-loop
 loop-again c =
     let a = c .before .before .before .before .before .before .before .args in let l = c .before .before .before .before .before .loop in let e = c .before .before .set .ensures ∙ ap (λ (s : List ℕ). put (a .base) (l .k) (a .value) s) (l .inv .3) ∙ marked-more (a .base) (a .from) (l .k) (a .value) (a .flags .now) (l .inv .1) in (c .before .before .set .kept .0 ∙ l .inv .0, omega arith, omega arith, e)
 
--- src/flags.rt:23:1
 same-length : tie.Need-same-length Inv-loop μ-loop
 same-length c =
     c .before .loop .inv .0
 
--- src/flags.rt:23:1
 returns : tie.Need-returns Inv-loop μ-loop
 returns c =
     let a = c .before .before .before .args in let l = c .before .loop in let e : l .k - a .from ≡ a .to - a .from = omega arith in l .inv .3 ∙ ap (λ (n : ℕ). marked (a .base) (a .from) n (a .value) (a .flags .now)) e

@@ -1,36 +1,28 @@
+-- One flag, or none where the variable is outside the window.
 use borrow.Author.Needs.{needs}
 use Rattle.core_term.proofs.flags.set.Statement.{statement}
 use Rattle.core_term.proofs.flags.set.Tie as tie
 use Rattle.core_term.proofs.flags.set.Reads as reads
 use Rattle.core_term.proofs.flags.set.Lts as lts
-use Prim.Native.Nat.{_≤_, _-_}
-use native.Mathlib.Omega.{arith}
-use mathlib.Core.Path.{_≡_, sym}
-use lib.ListN.{length}
+use mathlib.Core.Path.{sym}
 use Rattle.core_term.specs.WindowLaws.{put-below, put-in, put-past}
 
-
--- src/flags.rt:13:9
 returns : tie.Need-returns
 returns c =
     sym (put-below _ _ _ _ (c .if1 .taken))
 
--- src/flags.rt:17:9
 returns-2 : tie.Need-returns-2
 returns-2 c =
     sym (put-past _ _ _ _ (c .before .if1 .left) (c .if2 .taken))
 
--- src/flags.rt:19:5
 slice-write-flags : tie.Need-slice-write-flags
 slice-write-flags c =
     search needs
 
--- src/flags.rt:9:1
 same-length : tie.Need-same-length
 same-length c =
     search needs
 
--- src/flags.rt:9:1
 returns-3 : tie.Need-returns-3
 returns-3 c =
     sym (put-in _ _ _ _ (c .before .if1 .left))

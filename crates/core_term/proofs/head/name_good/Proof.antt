@@ -1,56 +1,46 @@
+-- The length byte of a slot that exists.
 use borrow.Author.Needs.{needs}
 use Rattle.core_term.proofs.head.name_good.Statement.{statement}
 use Rattle.core_term.proofs.head.name_good.Tie as tie
 use Rattle.core_term.proofs.head.name_good.Reads as reads
 use Rattle.core_term.proofs.head.name_good.Lts as lts
 use Rattle.core_term.proofs.head.size.Reads as size-reads
-use native.Mathlib.Omega.{arith}
-use mathlib.Core.Path.{_≡_, sym}
+use mathlib.Core.Path.{sym}
 use borrow.Author.Tests.{not-true, not-false}
 use Rattle.core_term.specs.WindowLaws.{good-past, good-free, good-short, good-some, good-empty}
 
-
--- src/head.rt:39:9
 returns : tie.Need-returns
 returns c =
     sym (good-past _ _ _ (c .if1 .taken))
 
--- src/head.rt:42:9
 returns-2 : tie.Need-returns-2
 returns-2 c =
     sym (good-free _ _ _ (c .before .if1 .left) (not-true (c .before .before .before .args .tabled) (c .if2 .taken)))
 
--- src/head.rt:44:17
 mul-start : tie.Need-mul-start
 mul-start c =
     search needs
 
--- src/head.rt:45:22
 add-if3 : tie.Need-add-if3
 add-if3 c =
     search needs
 
--- src/head.rt:46:9
 returns-3 : tie.Need-returns-3
 returns-3 c =
     sym (good-short _ _ _ (c .before .before .if1 .left) (not-false (c .before .before .before .before .args .tabled) (c .before .if2 .left)) (c .if3 .taken))
 
--- src/head.rt:48:23
 shared-slice-read-size : tie.Need-shared-slice-read-size
 shared-slice-read-size c =
     search needs
 
--- src/head.rt:48:9
 size-requires : tie.Need-size-requires
 size-requires c κs =
     search needs
 
--- src/head.rt:35:1
 returns-4 : tie.Need-returns-4
 returns-4 c =
     sym (good-some _ _ _ _ (c .before .size .ensures) (c .before .before .before .before .before .if1 .left) (not-false (c .before .before .before .before .before .before .before .args .tabled) (c .before .before .before .before .if2 .left)) (c .before .before .before .if3 .left) (c .if4 .taken))
 
--- src/head.rt:35:1
 returns-5 : tie.Need-returns-5
 returns-5 c =
     sym (good-empty _ _ _ _ (c .before .size .ensures) (c .before .before .before .before .before .if1 .left) (not-false (c .before .before .before .before .before .before .before .args .tabled) (c .before .before .before .before .if2 .left)) (c .before .before .before .if3 .left) (c .if4 .left))

@@ -2,7 +2,7 @@
 use Rattle.reader.proofs.bytes.is_running.Statement.{statement}
 use Rattle.reader.proofs.bytes.is_running.Tie as tie
 use native.Mathlib.Omega.{arith}
-use mathlib.Core.Path.{_≡_, refl, sym}
+use mathlib.Core.Path.{refl}
 use mathlib.Core.Bool.{true, false}
 use mathlib.Core.List.{[], _∷_}
 use mathlib.Core.Logic.{⊎-elim}
@@ -14,37 +14,54 @@ use Rattle.reading.specs.Token.{isDigit, isRunning}
 returns : tie.Need-returns
 unfolding isRunning isDigit within any bytes valued
 returns c =
-    valued-at isRunning true [] 48 10 refl (c .before .before .before .before .before .before .args .b) (omega arith) (omega arith) refl
+    let args = c .before .before .before .before .before .before .args in
+    valued-at isRunning true [] 48 10 refl (args .b) (omega arith) (omega arith) refl
 
 returns-2 : tie.Need-returns-2
 unfolding isRunning isDigit within any bytes valued
 returns-2 c =
-    valued-at isRunning true [] 97 26 refl (c .before .before .before .before .before .before .args .b) (omega arith) (omega arith) refl
+    let args = c .before .before .before .before .before .before .args in
+    valued-at isRunning true [] 97 26 refl (args .b) (omega arith) (omega arith) refl
 
 returns-3 : tie.Need-returns-3
 unfolding isRunning isDigit within any bytes valued
 returns-3 c =
-    valued-at isRunning false (33 ∷ 95 ∷ []) 0 42 refl (c .before .before .before .args .b) (omega arith) (omega arith) (any-neither _ 33 95 (c .before .before .match .rest .1))
+    let args = c .before .before .before .args in
+    let match = c .before .before .match in
+    valued-at isRunning false (33 ∷ 95 ∷ []) 0 42 refl (args .b) (omega arith) (omega arith)
+    (any-neither _ 33 95 (match .rest .1))
 
 returns-4 : tie.Need-returns-4
 unfolding isRunning isDigit within any bytes valued
 returns-4 c =
-    valued-at isRunning false (33 ∷ 95 ∷ []) 44 1 refl (c .before .before .before .before .before .args .b) (omega arith) (omega arith) (any-neither _ 33 95 (c .before .before .before .before .match .rest .1))
+    let args = c .before .before .before .before .before .args in
+    let match = c .before .before .before .before .match in
+    valued-at isRunning false (33 ∷ 95 ∷ []) 44 1 refl (args .b) (omega arith) (omega arith)
+    (any-neither _ 33 95 (match .rest .1))
 
 returns-5 : tie.Need-returns-5
 unfolding isRunning isDigit within any bytes valued
 returns-5 c =
-    valued-at isRunning false (33 ∷ 95 ∷ []) 58 2 refl (c .before .before .before .args .b) (omega arith) (omega arith) (any-neither _ 33 95 (c .before .before .match .rest .1))
+    let args = c .before .before .before .args in
+    let match = c .before .before .match in
+    valued-at isRunning false (33 ∷ 95 ∷ []) 58 2 refl (args .b) (omega arith) (omega arith)
+    (any-neither _ 33 95 (match .rest .1))
 
 returns-6 : tie.Need-returns-6
 unfolding isRunning isDigit within any bytes valued
 returns-6 c =
-    valued-at isRunning false (33 ∷ 95 ∷ []) 64 33 refl (c .before .before .before .before .before .args .b) (omega arith) (omega arith) (any-neither _ 33 95 (c .before .before .before .before .match .rest .1))
+    let args = c .before .before .before .before .before .args in
+    let match = c .before .before .before .before .match in
+    valued-at isRunning false (33 ∷ 95 ∷ []) 64 33 refl (args .b) (omega arith) (omega arith)
+    (any-neither _ 33 95 (match .rest .1))
 
 returns-7 : tie.Need-returns-7
 unfolding isRunning isDigit within any bytes valued
 returns-7 c =
-    valued-at isRunning false (33 ∷ 95 ∷ []) 123 133 refl (c .before .before .before .before .before .before .args .b) (omega arith) (omega arith) (any-neither _ 33 95 (c .before .before .before .before .before .match .rest .1))
+    let args = c .before .before .before .before .before .before .args in
+    let match = c .before .before .before .before .before .match in
+    valued-at isRunning false (33 ∷ 95 ∷ []) 123 133 refl (args .b) (omega arith) (omega arith)
+    (any-neither _ 33 95 (match .rest .1))
 
 returns-8 : tie.Need-returns-8
 unfolding isRunning isDigit within any bytes
@@ -54,17 +71,20 @@ returns-8 c =
 returns-9 : tie.Need-returns-9
 unfolding isRunning isDigit within any bytes valued
 returns-9 c =
-    valued-at isRunning true [] 42 2 refl (c .before .before .before .before .args .b) (omega arith) (omega arith) refl
+    let args = c .before .before .before .before .args in
+    valued-at isRunning true [] 42 2 refl (args .b) (omega arith) (omega arith) refl
 
 returns-10 : tie.Need-returns-10
 unfolding isRunning isDigit within any bytes valued
 returns-10 c =
-    valued-at isRunning true [] 45 3 refl (c .before .before .before .before .before .before .args .b) (omega arith) (omega arith) refl
+    let args = c .before .before .before .before .before .before .args in
+    valued-at isRunning true [] 45 3 refl (args .b) (omega arith) (omega arith) refl
 
 returns-11 : tie.Need-returns-11
 unfolding isRunning isDigit within any bytes valued
 returns-11 c =
-    valued-at isRunning true [] 60 4 refl (c .before .before .before .before .args .b) (omega arith) (omega arith) refl
+    let args = c .before .before .before .before .args in
+    valued-at isRunning true [] 60 4 refl (args .b) (omega arith) (omega arith) refl
 
 pub is-running-spec : {M : Type 1} → statement M
 is-running-spec =

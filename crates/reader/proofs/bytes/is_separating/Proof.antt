@@ -2,7 +2,7 @@
 use Rattle.reader.proofs.bytes.is_separating.Statement.{statement}
 use Rattle.reader.proofs.bytes.is_separating.Tie as tie
 use native.Mathlib.Omega.{arith}
-use mathlib.Core.Path.{_≡_, refl, sym}
+use mathlib.Core.Path.{refl}
 use mathlib.Core.Bool.{true, false}
 use mathlib.Core.List.{[], _∷_}
 use mathlib.Core.Logic.{⊎-elim}
@@ -14,12 +14,17 @@ use Rattle.reading.specs.Token.{isSeparating}
 returns : tie.Need-returns
 unfolding isSeparating any bytes valued
 returns c =
-    valued-at isSeparating false (13 ∷ 32 ∷ []) 0 9 refl (c .before .before .args .b) (omega arith) (omega arith) (any-neither _ 13 32 (c .before .match .rest .1))
+    let args = c .before .before .args in
+    valued-at isSeparating false (13 ∷ 32 ∷ []) 0 9 refl (args .b) (omega arith) (omega arith)
+    (any-neither _ 13 32 (c .before .match .rest .1))
 
 returns-2 : tie.Need-returns-2
 unfolding isSeparating any bytes valued
 returns-2 c =
-    valued-at isSeparating false (13 ∷ 32 ∷ []) 11 245 refl (c .before .before .before .args .b) (omega arith) (omega arith) (any-neither _ 13 32 (c .before .before .match .rest .1))
+    let args = c .before .before .before .args in
+    let match = c .before .before .match in
+    valued-at isSeparating false (13 ∷ 32 ∷ []) 11 245 refl (args .b) (omega arith) (omega arith)
+    (any-neither _ 13 32 (match .rest .1))
 
 returns-3 : tie.Need-returns-3
 unfolding isSeparating any bytes
@@ -29,7 +34,8 @@ returns-3 c =
 returns-4 : tie.Need-returns-4
 unfolding isSeparating any bytes valued
 returns-4 c =
-    valued-at isSeparating true [] 9 2 refl (c .before .before .before .args .b) (omega arith) (omega arith) refl
+    let args = c .before .before .before .args in
+    valued-at isSeparating true [] 9 2 refl (args .b) (omega arith) (omega arith) refl
 
 pub is-separating-spec : {M : Type 1} → statement M
 is-separating-spec = tie.close (tie.spec returns returns-2 returns-3 returns-4)

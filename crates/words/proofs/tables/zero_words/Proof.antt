@@ -3,31 +3,31 @@ use Rattle.words.proofs.tables.zero_words.Statement.{statement}
 use Rattle.words.proofs.tables.zero_words.Tie as tie
 use native.Mathlib.Omega.{arith}
 use mathlib.Core.Path.{_≡_, refl, ap, _∙_}
-use mathlib.Core.List.{List, _++_, append-nil}
-use Prim.Native.Nat.{ℕ, _≤_, _<_, _-_}
+use mathlib.Core.List.{_++_, append-nil}
+use Prim.Native.Nat.{_≤_, _<_, _-_}
 use lib.ListN.{length, drop, replicate, set, length-set}
 use lib.Seq.{drop-length}
 use borrow.Author.Fill.{fill-more}
 use borrow.Author.Needs.{needs}
 
 abbrev Inv-loop : tie.InvT-loop
-Inv-loop table₀ i₀ table i =
-    (length table ≡ length table₀) × (i ≤ length table₀) × (table ≡ replicate i 0 ++ drop i table₀)
+Inv-loop words₀ end i₀ words i =
+    (length words ≡ length words₀) × (i ≤ length words₀) × (words ≡ replicate i 0 ++ drop i words₀)
 
 abbrev μ-loop : tie.MeasureT-loop
-μ-loop table₀ i₀ table i =
-    length table₀ - i
+μ-loop words₀ end i₀ words i =
+    end - i
 
 loop-holds : tie.Need-loop-holds Inv-loop μ-loop
 loop-holds c =
     (refl, omega arith, refl)
 
-mul-table : tie.Need-mul-table Inv-loop μ-loop
-mul-table c =
+mul-words : tie.Need-mul-words Inv-loop μ-loop
+mul-words c =
     search needs
 
-slice-write-table : tie.Need-slice-write-table Inv-loop μ-loop
-slice-write-table c =
+slice-write-words : tie.Need-slice-write-words Inv-loop μ-loop
+slice-write-words c =
     search needs
 
 add-i : tie.Need-add-i Inv-loop μ-loop
@@ -40,8 +40,14 @@ loop-less c =
 
 loop-again : tie.Need-loop-again Inv-loop μ-loop
 loop-again c =
-    let h : c .before .loop .i < length (c .before .before .args .table .now) = omega arith in
-    (simp length-set (omega arith), omega arith, ap (λ l. set l (c .before .loop .i) 0) (c .before .loop .inv .2) ∙ fill-more (c .before .loop .i) 0 (c .before .before .args .table .now) h)
+    let loop = c .before .loop in
+    let args = c .before .before .args in
+    let h : loop .i < length (args .words .now) = omega arith in (
+      simp length-set (omega arith),
+      omega arith,
+      ap (λ l. set l (loop .i) 0) (loop .inv .2) ∙ fill-more (loop .i) 0
+          (args .words .now) h,
+    )
 
 same-length : tie.Need-same-length Inv-loop μ-loop
 same-length c =
@@ -49,7 +55,9 @@ same-length c =
 
 returns : tie.Need-returns Inv-loop μ-loop
 returns c =
-    let e : c .before .loop .i ≡ length (c .before .before .args .table .now) = omega arith in c .before .loop .inv .2 ∙ rw (e, drop-length, append-nil)
+    let loop = c .before .loop in
+    let args = c .before .before .args in
+    let e : loop .i ≡ length (args .words .now) = omega arith in loop .inv .2 ∙ rw (e, drop-length, append-nil)
 
 pub zero-words-spec : {M : Type 1} → statement M
 zero-words-spec =
@@ -58,8 +66,8 @@ zero-words-spec =
     Inv-loop
     μ-loop
     loop-holds
-    mul-table
-    slice-write-table
+    mul-words
+    slice-write-words
     add-i
     loop-less
     loop-again

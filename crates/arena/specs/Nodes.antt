@@ -1,0 +1,61 @@
+-- What opening a node tells, under whatever wrap waits on it, and laws of it in the code's shape.
+use mathlib.Core.Path.{_≡_, refl, sym, ap, ap₂, _∙_}
+use mathlib.Core.List.{List}
+use Prim.Native.Nat.{ℕ, _<_}
+use native.Mathlib.Omega.{arith}
+use Rattle.recipe.specs.Tree.{Tree, empty, constant, name, pair}
+use Rattle.arena.specs.Arena.{wordAt, referenceAt, nameAt, constantAt, treeAt}
+use Rattle.arena.specs.ArenaLaws.{wordAt-some, referenceAt-falls}
+use Rattle.arena.specs.NodeLaws.{treeAt-empty, treeAt-name, treeAt-pair, treeAt-constant}
+use Rattle.arena.specs.declared.nodes.Node.{Node}
+use Rattle.arena.specs.declared.nodes.Node.the-variants.{Empty, Name, Pair, Constant}
+
+pub record OpensName (work : List ℕ) (node item own : ℕ) : Type 0 where
+  pub item-is : item ≡ wordAt work node 2
+  pub own-is : own ≡ referenceAt work node 1
+  pub tree : (items : List ℕ) (w : ℕ) → treeAt items work node w ≡ name (nameAt items work node w)
+
+-- head and tail stand below
+pub record OpensPair (work : List ℕ) (node head tail : ℕ) : Type 0 where
+  pub head-falls : head < node
+  pub tail-falls : tail < node
+  pub tree : (items : List ℕ) (w : ℕ) → treeAt items work node w ≡ pair (treeAt items work head w) (treeAt items work tail w)
+
+-- a constant's kind is no other node's
+pub record OpensConstant (work : List ℕ) (node k a b : ℕ) : Type 0 where
+  pub not-empty : k ≡ 0 → ⊥
+  pub not-name : k ≡ 3 → ⊥
+  pub not-pair : k ≡ 4 → ⊥
+  pub tree : (items : List ℕ) (w : ℕ) → treeAt items work node w ≡ constant (record { kind = k; first = a; second = b })
+
+abbrev pub Opens : List ℕ → ℕ → Node → Type 0
+Opens work node Empty = (items : List ℕ) (w : ℕ) → treeAt items work node w ≡ empty
+Opens work node (Name item own) = OpensName work node item own
+Opens work node (Pair head tail) = OpensPair work node head tail
+Opens work node (Constant k a b) = OpensConstant work node k a b
+
+module _ (work : List ℕ) (node kind : ℕ) (kind-is : kind ≡ wordAt work node 3) where
+  pub opens-empty : kind ≡ 0 → Opens work node Empty
+  opens-empty e items w = treeAt-empty items work node w (sym kind-is ∙ e)
+
+  pub opens-name : (item own : ℕ) → kind ≡ 3 → item ≡ wordAt work node 2 → own ≡ referenceAt work node 1 → Opens work node (Name item own)
+  opens-name item own e p q = record { item-is = p; own-is = q; tree = λ items w. treeAt-name items work node w (sym kind-is ∙ e) }
+
+  pub opens-pair : (head tail : ℕ) → kind ≡ 4 → head ≡ referenceAt work node 2 → tail ≡ referenceAt work node 1 → Opens work node (Pair head tail)
+  opens-pair head tail e p q =
+      let some : 0 < node = wordAt-some work node 3 (omega arith) (λ z. omega (arith, kind-is ∙ z)) in
+      record {
+        head-falls = rw p (referenceAt-falls work node 2 some);
+        tail-falls = rw q (referenceAt-falls work node 1 some);
+        tree = λ items w. rw (p, q) (treeAt-pair items work node w (sym kind-is ∙ e));
+      }
+
+  pub opens-constant : (a b : ℕ) → (kind ≡ 0 → ⊥) → (kind ≡ 3 → ⊥) → (kind ≡ 4 → ⊥) → a ≡ wordAt work node 2 → b ≡ wordAt work node 1 → Opens work node (Constant kind a b)
+  unfolding constantAt
+  opens-constant a b x y z p q =
+      record {
+        not-empty = x;
+        not-name = y;
+        not-pair = z;
+        tree = λ items w. rw (kind-is, p, q) (treeAt-constant items work node w (λ h. x (kind-is ∙ h)) (λ h. y (kind-is ∙ h)) (λ h. z (kind-is ∙ h)));
+      }

@@ -1,0 +1,164 @@
+-- Laws of ground 19: what a term that passes is, and what the checker's walks through the windows say of it.
+use mathlib.Core.Path.{_≡_, refl, sym, ap, subst, _∙_}
+use mathlib.Core.Bool.{Bool, true, false, cond, _&&_, false≢true}
+use mathlib.Core.List.{List, [], _++_, append-nil}
+use mathlib.Core.Option.{Option, none, some}
+use Prim.Native.Nat.{ℕ, _+_, _-_, _≤_, _<_}
+use native.Mathlib.Omega.{arith}
+use lib.Dec.{leb}
+use lib.ListN.{length, drop, length-drop, length-append, length-replicate}
+use lib.Seq.{drop-length}
+use borrow.Author.Tests.{le-leb, leb-true}
+use Rattle.core_term.specs.Term.{Plain, variables}
+use Rattle.core_term.specs.Words.{encode}
+use Rattle.core_term.specs.Decode.{decode}
+use Rattle.core_term.specs.NodeLaws.{both}
+use Rattle.core_term.specs.DecodeLaws.{forget-plain, decode-encode, encode-decode, encode-unique}
+use Rattle.core_term.specs.Every.{every, wellFormed}
+use Rattle.core_term.specs.Check.{scoped, numbered, allKnown, passes, passing, termOf, isSome, isTerm}
+use Rattle.core_term.specs.Window.{window}
+use Rattle.core_term.specs.WindowLaws.{case, allowed-node}
+use Rattle.core_term.specs.Shape.{Whole, None, Clear}
+use Rattle.core_term.specs.ShapeLaws.{every-proper, only}
+use Rattle.core_term.specs.Windows.{windowSize, noFlags, noFlags-clear, window-passes, Passed, Covered, windows-numbered, windows-known, windows-scoped}
+
+module _ (operations : ℕ) (nameGood : ℕ → Bool) where
+  -- the words are exactly this term, and ground 19 lets it pass
+  pub record Accepted (ws : List ℕ) (t : Plain) : Type 0 where
+    pub words : encode t ≡ ws
+    pub formed : wellFormed t ≡ true
+    pub few : operations ≤ 256
+    pub closed : scoped t ≡ true
+    pub counted : numbered t ≡ true
+    pub known′ : allKnown operations nameGood t ≡ true
+
+  pub accepted : (ws : List ℕ) (t : Plain) → termOf operations nameGood ws ≡ some t → Accepted ws t
+  unfolding termOf passing passes
+  accepted ws t h = go (decode ws) refl h
+    where
+      one : (u : Plain) → decode ws ≡ some u → (c : Bool) → (leb operations 256 && passes operations nameGood u) ≡ c → cond c (some u) none ≡ some t → Accepted ws t
+      one u d true p k =
+          let e : u ≡ t = cc in
+          let q = both (leb operations 256) (passes operations nameGood u) p in
+          let r = both (scoped u) (numbered u && allKnown operations nameGood u) (q .1) in
+          let s = both (numbered u) (allKnown operations nameGood u) (r .1) in
+          let w = encode-decode ws u d in
+          subst (λ (z : Plain). Accepted ws z) e
+          (record { words = w .0; formed = w .1; few = leb-true operations 256 (q .0); closed = r .0; counted = s .0; known′ = s .1 })
+      one u d false p k = let z : _≡_ {A = ℕ} 0 1 = cc in absurd (omega arith)
+
+      go : (o : Option Plain) → decode ws ≡ o → passing operations nameGood o ≡ some t → Accepted ws t
+      go none d k = let z : _≡_ {A = ℕ} 0 1 = cc in absurd (omega arith)
+      go (some u) d k = one u d (leb operations 256 && passes operations nameGood u) refl k
+
+  pub termOf-is : (ws : List ℕ) (t : Plain) → Accepted ws t → termOf operations nameGood ws ≡ some t
+  unfolding termOf passing passes
+  termOf-is ws t a =
+      let d : decode ws ≡ some t = ap decode (sym (a .words)) ∙ decode-encode t (a .formed) ∙ ap some (forget-plain t) in
+      rw (d, le-leb operations 256 (a .few), a .closed, a .counted, a .known′)
+
+  -- ---- whether there is one
+
+  pub isTerm-yes : (ws : List ℕ) (t : Plain) → Accepted ws t → isTerm operations nameGood ws ≡ true
+  unfolding isTerm isSome
+  isTerm-yes ws t a = rw (termOf-is ws t a)
+
+  pub isTerm-no : (ws : List ℕ) → ((t : Plain) → Accepted ws t → ⊥) → isTerm operations nameGood ws ≡ false
+  unfolding isTerm isSome
+  isTerm-no ws h = go (termOf operations nameGood ws) refl
+    where
+      go : (o : Option Plain) → termOf operations nameGood ws ≡ o → isSome o ≡ false
+      go none e = refl
+      go (some t) e = absurd (h t (accepted ws t e))
+
+  pub isTerm-some : (ws : List ℕ) → isTerm operations nameGood ws ≡ true → (t : Plain) × (termOf operations nameGood ws ≡ some t)
+  unfolding isTerm isSome
+  isTerm-some ws h = go (termOf operations nameGood ws) refl h
+    where
+      go : (o : Option Plain) → termOf operations nameGood ws ≡ o → isSome o ≡ true → (t : Plain) × (termOf operations nameGood ws ≡ some t)
+      go none e k = let z : _≡_ {A = Bool} false true = k in absurd (let y : _≡_ {A = ℕ} 0 1 = cc in omega arith)
+      go (some t) e k = (t, e)
+
+  -- ---- from the walks
+
+  module _ (ws : List ℕ) where
+    pub many-no : 256 < operations → isTerm operations nameGood ws ≡ false
+    many-no h = isTerm-no ws (λ t a. omega (arith, a .few))
+
+    -- a window with no term
+    pub none-no : (base : ℕ) → None (window operations nameGood base) false noFlags 0 ws → isTerm operations nameGood ws ≡ false
+    none-no base n = isTerm-no ws (λ t a. n t [] (λ h. absurd (false≢true h)) (window-passes operations nameGood t base (a .formed) (a .closed) (a .counted) (a .known′)) (sym (a .words) ∙ sym (append-nil (encode t))))
+
+    module _ (used after : ℕ) (w : Whole (window operations nameGood 0) false noFlags 0 ws used after) where
+      -- words left over
+      pub left-no : (used ≡ length ws → ⊥) → isTerm operations nameGood ws ≡ false
+      left-no h = isTerm-no ws (λ t a.
+          let p = window-passes operations nameGood t 0 (a .formed) (a .closed) (a .counted) (a .known′) in
+          let z = only (window operations nameGood 0) (allowed-node operations nameGood 0) t (w .term) [] (drop used ws) noFlags noFlags 0 0 p (w .fine)
+          (append-nil (encode t) ∙ a .words ∙ w .words) in
+          h (omega (arith, ap length (z .1), length-drop used ws, w .size, ap length (w .words) ∙ length-append (encode (w .term)) (drop used ws))))
+
+      -- another window's walk finds the same term
+      pub same-passed : (base m n : ℕ) → Whole (window operations nameGood base) false noFlags 0 ws m n → every (window operations nameGood base) noFlags 0 (w .term) ≡ true
+      same-passed base m n v =
+          let z = encode-unique (v .term) (w .term) (drop m ws) (drop used ws) 0 0
+          (every-proper (window operations nameGood base) (allowed-node operations nameGood base) (v .term) noFlags 0 (v .fine))
+          (every-proper (window operations nameGood 0) (allowed-node operations nameGood 0) (w .term) noFlags 0 (w .fine))
+          (sym (v .words) ∙ w .words) in
+          subst (λ (t : Plain). every (window operations nameGood base) noFlags 0 t ≡ true) (z .0) (v .fine)
+
+      -- every window passed
+      pub whole-yes : used ≡ length ws → operations ≤ 256 → ((n : ℕ) → n < variables (w .term) → Covered operations nameGood (w .term) n) → isTerm operations nameGood ws ≡ true
+      unfolding wellFormed
+      whole-yes e f c =
+          let t = w .term in
+          let one : Passed operations nameGood t = record { base = 0; ran = w .fine } in
+          let d : drop used ws ≡ [] = ap (λ (n : ℕ). drop n ws) e ∙ drop-length ws in
+          isTerm-yes ws t
+          (record {
+            words = sym (w .words ∙ ap (λ (z : List ℕ). encode t ++ z) d ∙ append-nil (encode t));
+            formed = every-proper (window operations nameGood 0) (allowed-node operations nameGood 0) t noFlags 0 (w .fine);
+            few = f;
+            closed = windows-scoped operations nameGood t one c;
+            counted = windows-numbered operations nameGood t one;
+            known′ = windows-known operations nameGood t one;
+          })
+
+  -- ---- from one window to the next
+
+  -- every window up to base has been walked through
+  pub record Walked (ws : List ℕ) (used after base : ℕ) (flags : List ℕ) : Type 0 where
+    pub whole : Whole (window operations nameGood 0) false noFlags 0 ws used after
+    pub clean : flags ≡ noFlags
+    pub some′ : base ≤ after
+    pub cover : (n : ℕ) → n < base + windowSize → Covered operations nameGood (whole .term) n
+
+  module _ (ws : List ℕ) (used after : ℕ) where
+    pub walked-first : (flags : List ℕ) → Whole (window operations nameGood 0) false noFlags 0 ws used after → flags ≡ noFlags → Walked ws used after 0 flags
+    walked-first flags w e =
+        record { whole = w; clean = e; some′ = omega arith; cover = λ n l. record { in′ = record { base = 0; ran = w .fine }; low = omega arith; high = l } }
+
+    module _ (base : ℕ) (flags : List ℕ) (k : Walked ws used after base flags) where
+      pub walked-more : (m n : ℕ) (flags′ : List ℕ) → windowSize < after - base → Whole (window operations nameGood (base + windowSize)) false flags 0 ws m n → flags′ ≡ flags
+          → Walked ws used after (base + windowSize) flags′
+      walked-more m n flags′ l v e =
+          let u = subst (λ (z : List ℕ). Whole (window operations nameGood (base + windowSize)) false z 0 ws m n) (k .clean) v in
+          record {
+            whole = k .whole;
+            clean = e ∙ k .clean;
+            some′ = omega arith;
+            cover = λ i h. case i (base + windowSize) (k .cover i)
+                (λ g. record { in′ = record { base = base + windowSize; ran = same-passed ws used after (k .whole) (base + windowSize) m n u }; low = g; high = h });
+          }
+
+      pub walked-none : None (window operations nameGood (base + windowSize)) false flags 0 ws → isTerm operations nameGood ws ≡ false
+      walked-none n = none-no ws (base + windowSize) (subst (λ (z : List ℕ). None (window operations nameGood (base + windowSize)) false z 0 ws) (k .clean) n)
+
+      pub walked-length : length flags ≡ windowSize
+      walked-length = ap length (k .clean) ∙ length-replicate {A = ℕ} windowSize 0
+
+      pub walked-clear : (low b : ℕ) → Clear low b flags
+      walked-clear low b = subst (λ (z : List ℕ). Clear low b z) (sym (k .clean)) (noFlags-clear low b)
+
+      pub walked-all : after - base ≤ windowSize → used ≡ length ws → operations ≤ 256 → isTerm operations nameGood ws ≡ true
+      walked-all l e f = whole-yes ws used after (k .whole) e f (λ n h. k .cover n (omega (arith, k .whole .bound)))

@@ -1,0 +1,218 @@
+-- The cycle of `quotes::quote` and `quotes::quote_all`: a list's elements stand below it.
+use Prim.Native.Nat.{ℕ, _<_, _+_, _*_}
+use borrow.Fn.Kinds.{In}
+use borrow.Fn.PlainCycle.{Measures, is, falls, and}
+use Rattle.forms.proofs.quotes.quote.Reads as quote
+use Rattle.forms.proofs.quotes.quote.Kinds as quote-kinds
+use Rattle.forms.proofs.quotes.+quote+quote_all.Lts-quote as quote-lts
+use Rattle.forms.proofs.quotes.quote_all.Reads as quote-all
+use Rattle.forms.proofs.quotes.quote_all.Kinds as quote-all-kinds
+use Rattle.forms.proofs.quotes.+quote+quote_all.Lts-quote_all as quote-all-lts
+use Rattle.arena.proofs.cells.reference.Reads as reference-reads
+use Rattle.arena.proofs.cells.word.Reads as word-reads
+use Rattle.arena.proofs.names.number_of.Reads as number-of-reads
+use Rattle.steps.proofs.lists.count.Reads as count-reads
+use Rattle.forms.proofs.quotes.put_two.Reads as put-two-reads
+use Rattle.forms.proofs.quotes.+quote+quote_all.{statement}
+use Rattle.forms.proofs.quotes.+quote+quote_all.Tie.{close}
+use native.Mathlib.Omega.{arith}
+use borrow.Author.Needs.{needs}
+use mathlib.Core.Path.{ap, _∙_}
+use lib.ListN.{length}
+use Rattle.forms.specs.Quotes.{Walked}
+use Rattle.forms.specs.QuoteLaws.{written-as, quoted-empty, quoted-name, quoted-constant, constant-small, quoted-pair, quoted-list, walked-none, walked-end, after-falls, first-low, first-quotable, walked-room, walked-more}
+
+abbrev μ-quote : Measures 3 quote-kinds.ps ℕ
+μ-quote κs a =
+    2 * a .1 .1 .0 + 1
+
+abbrev μ-quote-all : Measures 3 quote-all-kinds.ps ℕ
+μ-quote-all κs a =
+    2 * a .1 .1 .0
+
+abbrev quote-at : ℕ → In 3 quote-kinds.ps
+quote-at t = and 3 quote-kinds.ps (is 3 quote-kinds.ps μ-quote t) quote.Pre
+
+abbrev quote-below : ℕ → In 3 quote-kinds.ps
+quote-below t = and 3 quote-kinds.ps (falls 3 quote-kinds.ps _<_ μ-quote t) quote.Pre
+
+abbrev quote-all-at : ℕ → In 3 quote-all-kinds.ps
+quote-all-at t = and 3 quote-all-kinds.ps (is 3 quote-all-kinds.ps μ-quote-all t) quote-all.Pre
+
+abbrev quote-all-below : ℕ → In 3 quote-all-kinds.ps
+quote-all-below t =
+    and 3 quote-all-kinds.ps (falls 3 quote-all-kinds.ps _<_ μ-quote-all t) quote-all.Pre
+
+abbrev quote-claims : ℕ → quote-lts.Claims
+quote-claims t =
+    (word-reads.Asked, word-reads.Learnt, count-reads.Asked, count-reads.Learnt, put-two-reads.Asked, put-two-reads.Learnt, quote-all-below t, quote-all.Post, number-of-reads.Asked, number-of-reads.Learnt)
+
+abbrev quote-all-claims : ℕ → quote-all-lts.Claims
+quote-all-claims t =
+    (word-reads.Asked, word-reads.Learnt, reference-reads.Asked, reference-reads.Learnt, quote-below t, quote.Post)
+
+quote-word-requires : (t : ℕ) → quote-lts.Need-word-requires (quote-claims t) (quote-at t) quote.Post
+quote-word-requires t c κs =
+    search needs
+
+quote-count-requires : (t : ℕ) → quote-lts.Need-count-requires (quote-claims t) (quote-at t) quote.Post
+quote-count-requires t c κs =
+    search needs
+
+quote-put-two-requires : (t : ℕ) → quote-lts.Need-put-two-requires (quote-claims t) (quote-at t) quote.Post
+quote-put-two-requires t c κs =
+    let a = c .before .before .before .before .before .before .before .args in
+    omega (arith, c .before .before .before .before .before .before .before .pre .1 .0, ap length (quoted-pair (a .items .now) (a .work .now) (a .node) _ (c .before .before .before .word .ensures) (c .before .before .if1 .taken) _ (c .before .count .ensures)))
+
+quote-quote-all-requires : (t : ℕ) → quote-lts.Need-quote-all-requires (quote-claims t) (quote-at t) quote.Post
+quote-quote-all-requires t c κs =
+    let a = c .before .before .before .before .before .before .before .before .before .before .before .args in
+    (omega (arith, c .before .before .before .before .before .before .before .before .before .before .before .pre .0), (omega (arith, c .before .before .before .before .before .before .before .before .before .before .before .pre .1 .0, ap length (quoted-pair (a .items .now) (a .work .now) (a .node) _ (c .before .before .before .before .before .before .before .word .ensures) (c .before .before .before .before .before .before .if1 .taken) _ (c .before .before .before .before .before .count .ensures)), c .before .before .before .put-two .ensures .end, c .before .before .before .put-two .kept .0), c .before .before .before .before .before .before .before .before .before .before .before .pre .1 .1))
+
+quote-same-length : (t : ℕ) → quote-lts.Need-same-length (quote-claims t) (quote-at t) quote.Post
+quote-same-length t c =
+    c .before .before .quote-all .kept .1 .1 .1 .0 ∙ c .before .before .before .before .before .before .put-two .kept .0
+
+quote-returns : (t : ℕ) → quote-lts.Need-returns (quote-claims t) (quote-at t) quote.Post
+quote-returns t c =
+    let a = c .before .before .before .before .before .before .before .before .before .before .before .before .before .before .args in
+    quoted-list (a .items .now) (a .work .now) (a .node) _ (c .before .before .before .before .before .before .before .before .before .before .word .ensures) (c .before .before .before .before .before .before .before .before .before .if1 .taken) _ (c .before .before .before .before .before .before .before .before .count .ensures) (a .core .now) _ _ (a .at) _ _ (c .before .before .before .before .before .before .before .before .before .before .before .before .before .before .pre .1 .0) (c .before .before .before .before .before .before .put-two .ensures) (c .before .before .quote-all .ensures)
+
+quote-number-of-requires : (t : ℕ) → quote-lts.Need-number-of-requires (quote-claims t) (quote-at t) quote.Post
+quote-number-of-requires t c κs =
+    search needs
+
+quote-put-two-requires-2 : (t : ℕ) → quote-lts.Need-put-two-requires-2 (quote-claims t) (quote-at t) quote.Post
+quote-put-two-requires-2 t c κs =
+    let a = c .before .before .before .before .before .before .before .before .args in
+    omega (arith, c .before .before .before .before .before .before .before .before .pre .1 .0, ap length (quoted-name (a .items .now) (a .work .now) (a .node) _ (c .before .before .before .before .word .ensures) (c .before .before .if2 .taken) _ (c .before .number-of .ensures)))
+
+quote-same-length-2 : (t : ℕ) → quote-lts.Need-same-length-2 (quote-claims t) (quote-at t) quote.Post
+quote-same-length-2 t c =
+    c .before .before .put-two2 .kept .0
+
+quote-returns-2 : (t : ℕ) → quote-lts.Need-returns-2 (quote-claims t) (quote-at t) quote.Post
+quote-returns-2 t c =
+    let a = c .before .before .before .before .before .before .before .before .before .before .before .args in
+    written-as _ _ (a .core .now) _ (a .at) _ (quoted-name (a .items .now) (a .work .now) (a .node) _ (c .before .before .before .before .before .before .before .word .ensures) (c .before .before .before .before .before .if2 .taken) _ (c .before .before .before .before .number-of .ensures)) (c .before .before .put-two2 .ensures)
+
+quote-put-two-requires-3 : (t : ℕ) → quote-lts.Need-put-two-requires-3 (quote-claims t) (quote-at t) quote.Post
+quote-put-two-requires-3 t c κs =
+    let a = c .before .before .before .before .before .before .before .before .args in
+    omega (arith, c .before .before .before .before .before .before .before .before .pre .1 .0, ap length (quoted-empty (a .items .now) (a .work .now) (a .node) _ (c .before .before .before .before .word .ensures) (c .before .if3 .taken)))
+
+quote-same-length-3 : (t : ℕ) → quote-lts.Need-same-length-3 (quote-claims t) (quote-at t) quote.Post
+quote-same-length-3 t c =
+    c .before .before .put-two3 .kept .0
+
+quote-returns-3 : (t : ℕ) → quote-lts.Need-returns-3 (quote-claims t) (quote-at t) quote.Post
+quote-returns-3 t c =
+    let a = c .before .before .before .before .before .before .before .before .before .before .before .args in
+    written-as _ _ (a .core .now) _ (a .at) _ (quoted-empty (a .items .now) (a .work .now) (a .node) _ (c .before .before .before .before .before .before .before .word .ensures) (c .before .before .before .before .if3 .taken)) (c .before .before .put-two3 .ensures)
+
+quote-word-requires-2 : (t : ℕ) → quote-lts.Need-word-requires-2 (quote-claims t) (quote-at t) quote.Post
+quote-word-requires-2 t c κs =
+    search needs
+
+quote-add-put-two : (t : ℕ) → quote-lts.Need-add-put-two (quote-claims t) (quote-at t) quote.Post
+quote-add-put-two t c =
+    let a = c .before .before .before .before .before .before .before .before .before .args in
+    omega (arith, constant-small (a .items .now) (a .work .now) (a .node) _ (c .before .before .before .before .before .word .ensures) (c .before .before .if3 .left) (c .before .before .before .if2 .left) (c .before .before .before .before .if1 .left) (c .before .before .before .before .before .before .before .before .before .pre .1 .1))
+
+quote-put-two-requires-4 : (t : ℕ) → quote-lts.Need-put-two-requires-4 (quote-claims t) (quote-at t) quote.Post
+quote-put-two-requires-4 t c κs =
+    let a = c .before .before .before .before .before .before .before .before .before .args in
+    omega (arith, c .before .before .before .before .before .before .before .before .before .pre .1 .0, ap length (quoted-constant (a .items .now) (a .work .now) (a .node) _ (c .before .before .before .before .before .word .ensures) (c .before .before .if3 .left) (c .before .before .before .if2 .left) (c .before .before .before .before .if1 .left) _ (c .before .word2 .ensures)))
+
+quote-same-length-4 : (t : ℕ) → quote-lts.Need-same-length-4 (quote-claims t) (quote-at t) quote.Post
+quote-same-length-4 t c =
+    c .before .before .put-two4 .kept .0
+
+quote-returns-4 : (t : ℕ) → quote-lts.Need-returns-4 (quote-claims t) (quote-at t) quote.Post
+quote-returns-4 t c =
+    let a = c .before .before .before .before .before .before .before .before .before .before .before .before .args in
+    written-as _ _ (a .core .now) _ (a .at) _ (quoted-constant (a .items .now) (a .work .now) (a .node) _ (c .before .before .before .before .before .before .before .before .word .ensures) (c .before .before .before .before .before .if3 .left) (c .before .before .before .before .before .before .if2 .left) (c .before .before .before .before .before .before .before .if1 .left) _ (c .before .before .before .before .word2 .ensures)) (c .before .before .put-two4 .ensures)
+
+abbrev quote-all-Inv-loop : quote-all-lts.InvT-loop
+quote-all-Inv-loop items work list core₀ at rest₀ n₀ core rest n =
+    Walked items work list at core₀ rest n core
+
+abbrev quote-all-μ-loop : quote-all-lts.MeasureT-loop
+quote-all-μ-loop items work list core₀ at rest₀ n₀ core rest n =
+    rest
+
+quote-all-loop-holds : (t : ℕ) → quote-all-lts.Need-loop-holds (quote-all-claims t) (quote-all-at t) quote-all.Post quote-all-Inv-loop quote-all-μ-loop
+quote-all-loop-holds t c =
+    let a = c .before .before .before .args in
+    walked-none (a .items .now) (a .work .now) (a .list) (a .at) (a .core .now) (c .before .before .before .pre .1 .1)
+
+quote-all-word-requires : (t : ℕ) → quote-all-lts.Need-word-requires (quote-all-claims t) (quote-all-at t) quote-all.Post quote-all-Inv-loop quote-all-μ-loop
+quote-all-word-requires t c κs =
+    search needs
+
+quote-all-reference-requires : (t : ℕ) → quote-all-lts.Need-reference-requires (quote-all-claims t) (quote-all-at t) quote-all.Post quote-all-Inv-loop quote-all-μ-loop
+quote-all-reference-requires t c κs =
+    search needs
+
+quote-all-quote-requires : (t : ℕ) → quote-all-lts.Need-quote-requires (quote-all-claims t) (quote-all-at t) quote-all.Post quote-all-Inv-loop quote-all-μ-loop
+quote-all-quote-requires t c κs =
+    let a = c .before .before .before .before .before .before .before .before .args in
+    (omega (arith, c .before .before .before .before .before .before .before .before .pre .0, first-low (a .items .now) (a .work .now) (a .list) (a .at) (a .core .now) _ _ _ (c .before .before .before .before .loop .inv) _ (c .before .before .before .word .ensures) (c .before .before .if1 .taken) _ (c .before .reference .ensures)), (walked-room (a .items .now) (a .work .now) (a .list) (a .at) (a .core .now) _ _ _ (c .before .before .before .before .loop .inv) _ (c .before .before .before .word .ensures) (c .before .before .if1 .taken) _ (c .before .reference .ensures) (c .before .before .before .before .before .before .before .before .pre .1 .0), first-quotable (a .items .now) (a .work .now) (a .list) (a .at) (a .core .now) _ _ _ (c .before .before .before .before .loop .inv) _ (c .before .before .before .word .ensures) (c .before .before .if1 .taken) _ (c .before .reference .ensures)))
+
+quote-all-reference-requires-2 : (t : ℕ) → quote-all-lts.Need-reference-requires-2 (quote-all-claims t) (quote-all-at t) quote-all.Post quote-all-Inv-loop quote-all-μ-loop
+quote-all-reference-requires-2 t c κs =
+    search needs
+
+quote-all-loop-less : (t : ℕ) → quote-all-lts.Need-loop-less (quote-all-claims t) (quote-all-at t) quote-all.Post quote-all-Inv-loop quote-all-μ-loop
+quote-all-loop-less t c =
+    let a = c .before .before .before .before .before .before .before .before .before .before .before .before .args in
+    after-falls (a .items .now) (a .work .now) (a .list) (a .at) (a .core .now) _ _ _ (c .before .before .before .before .before .before .before .before .loop .inv) _ (c .before .before .before .before .before .before .before .word .ensures) (c .before .before .before .before .before .before .if1 .taken) _ (c .before .before .before .before .before .reference .ensures) _ (c .reference2 .ensures)
+
+quote-all-loop-again : (t : ℕ) → quote-all-lts.Need-loop-again (quote-all-claims t) (quote-all-at t) quote-all.Post quote-all-Inv-loop quote-all-μ-loop
+quote-all-loop-again t c =
+    let a = c .before .before .before .before .before .before .before .before .before .before .before .before .args in
+    walked-more (a .items .now) (a .work .now) (a .list) (a .at) (a .core .now) _ _ _ (c .before .before .before .before .before .before .before .before .loop .inv) _ (c .before .before .before .before .before .before .before .word .ensures) (c .before .before .before .before .before .before .if1 .taken) _ (c .before .before .before .before .before .reference .ensures) (c .before .before .before .before .before .before .before .before .before .before .before .before .pre .1 .0) _ (c .reference2 .ensures) _ _ (c .before .before .before .quote .kept .1 .1 .1 .0) (c .before .before .before .quote .ensures)
+
+quote-all-same-length : (t : ℕ) → quote-all-lts.Need-same-length (quote-all-claims t) (quote-all-at t) quote-all.Post quote-all-Inv-loop quote-all-μ-loop
+quote-all-same-length t c =
+    c .before .before .loop .inv .same
+
+quote-all-returns : (t : ℕ) → quote-all-lts.Need-returns (quote-all-claims t) (quote-all-at t) quote-all.Post quote-all-Inv-loop quote-all-μ-loop
+quote-all-returns t c =
+    let a = c .before .before .before .before .before .before .args in
+    walked-end (a .items .now) (a .work .now) (a .list) (a .at) (a .core .now) _ _ _ (c .before .before .loop .inv) _ (c .before .word .ensures) (c .if1 .left)
+
+pub +quote+quote-all-spec : {M : Type 1} → statement M
++quote+quote-all-spec = close μ-quote μ-quote-all (λ t. quote-lts.spec (quote-claims t) (quote-at t)
+    quote.Post
+    (quote-word-requires t)
+    (quote-count-requires t)
+    (quote-put-two-requires t)
+    (quote-quote-all-requires t)
+    (quote-same-length t)
+    (quote-returns t)
+    (quote-number-of-requires t)
+    (quote-put-two-requires-2 t)
+    (quote-same-length-2 t)
+    (quote-returns-2 t)
+    (quote-put-two-requires-3 t)
+    (quote-same-length-3 t)
+    (quote-returns-3 t)
+    (quote-word-requires-2 t)
+    (quote-add-put-two t)
+    (quote-put-two-requires-4 t)
+    (quote-same-length-4 t)
+    (quote-returns-4 t))
+    λ t. quote-all-lts.spec (quote-all-claims t) (quote-all-at t)
+    quote-all.Post
+    quote-all-Inv-loop
+    quote-all-μ-loop
+    (quote-all-loop-holds t)
+    (quote-all-word-requires t)
+    (quote-all-reference-requires t)
+    (quote-all-quote-requires t)
+    (quote-all-reference-requires-2 t)
+    (quote-all-loop-less t)
+    (quote-all-loop-again t)
+    (quote-all-same-length t)
+    (quote-all-returns t)

@@ -1,0 +1,104 @@
+-- Laws of the names that a list binds, one for each way through the code.
+use mathlib.Core.Path.{_≡_, refl, sym, _∙_}
+use mathlib.Core.Bool.{Bool, true, false}
+use mathlib.Core.List.{List, [], _∷_}
+use Prim.Native.Nat.{ℕ, _<_}
+use native.Mathlib.Omega.{arith}
+use lib.Dec.{eqb}
+use borrow.Author.Tests.{eqb-true, eqb-false}
+use Rattle.words.specs.Lists.{any}
+use Rattle.words.specs.ListLaws.{never}
+use Rattle.words.specs.TestLaws.{and-right, all-parts}
+use Rattle.recipe.specs.Name.{Name, same, distinct}
+use Rattle.recipe.specs.Tree.{Tree, name, pair, names, isOrdinaryName, isListOf, elements, element}
+use Rattle.expansion.specs.Forms.{isMacro}
+use Rattle.arena.specs.Arena.{wordAt, referenceAt, nameAt, treeAt}
+use Rattle.arena.specs.ArenaLaws.{cases, wordAt-some, referenceAt-falls}
+use Rattle.arena.specs.NodeLaws.{treeAt-name}
+use Rattle.steps.specs.Lists.{Means}
+use Rattle.forms.specs.ListLaws.{no-pair, a-pair}
+use Rattle.forms.specs.Shapes.{ownName, bindsOne}
+use Rattle.forms.specs.ShapeLaws.{ordinary-other}
+use Rattle.forms.specs.Binders.{AllNames, ownNames, namesIn, Opened}
+
+-- ---- names
+
+ordinary-name : (items work : List ℕ) (node w : ℕ) → isOrdinaryName (treeAt items work node w) ≡ true → treeAt items work node w ≡ name (nameAt items work node w)
+ordinary-name items work node w h =
+    cases (eqb (wordAt work node 3) 3)
+    (λ t. treeAt-name items work node w (eqb-true (wordAt work node 3) 3 t))
+    (λ t. never h (sym (ordinary-other items work node (wordAt work node 3) refl (eqb-false (wordAt work node 3) 3 t) w)))
+
+-- an element that binds as it should has an ordinary name
+pub binds-ordinary : (macros : Bool) (c : Tree) → bindsOne macros c ≡ true → isOrdinaryName (ownName macros c) ≡ true
+unfolding bindsOne ownName isMacro
+binds-ordinary false c h = h
+binds-ordinary true c h = and-right (isListOf 2 c) (isOrdinaryName (element 0 c)) h
+
+module _ (items work : List ℕ) (list kind : ℕ) (kind-is : kind ≡ wordAt work list 3) (w : ℕ) (macros : Bool) where
+  -- the list's tree, and another's under the same wrap
+  abbrev at : ℕ → Tree
+  at node = treeAt items work node w
+
+  pub names-none : (kind ≡ 4 → ⊥) → namesIn macros (at list) ≡ []
+  unfolding namesIn elements ownNames
+  names-none other = no-pair work list kind kind-is (λ t. namesIn macros t ≡ []) refl (λ x. refl) (λ a. refl) other items w
+
+  module _ (a-list : kind ≡ 4) where
+    part-falls : (k rest : ℕ) → rest ≡ referenceAt work list k → rest < list
+    part-falls k rest e =
+        let some : 0 < list = wordAt-some work list 3 (omega arith) (λ z. omega (arith, kind-is ∙ z)) in
+        rw e (referenceAt-falls work list k some)
+
+    rest-names : AllNames macros (at list) → (rest : ℕ) → rest ≡ referenceAt work list 1 → AllNames macros (at rest)
+    unfolding elements
+    rest-names h rest e =
+        let g : AllNames macros (pair (at (referenceAt work list 2)) (at (referenceAt work list 1))) = rw (a-pair work list kind kind-is a-list items w) at h in
+        rw e (all-parts (bindsOne macros) (at (referenceAt work list 2)) (elements (at (referenceAt work list 1))) g .1)
+
+    first-name : AllNames macros (at list) → (first own : ℕ) → first ≡ referenceAt work list 2 → Means work first own (ownName macros) → ownName macros (at first) ≡ name (nameAt items work own w)
+    unfolding elements
+    first-name h first own e p =
+        let g : AllNames macros (pair (at (referenceAt work list 2)) (at (referenceAt work list 1))) = rw (a-pair work list kind kind-is a-list items w) at h in
+        let b : bindsOne macros (at first) ≡ true = rw e (all-parts (bindsOne macros) (at (referenceAt work list 2)) (elements (at (referenceAt work list 1))) g .0) in
+        sym (p .is items w) ∙ ordinary-name items work own w (rw (p .is items w) (binds-ordinary macros (at first) b))
+
+    names-more : AllNames macros (at list) → (first own rest : ℕ) → first ≡ referenceAt work list 2 → Means work first own (ownName macros) → rest ≡ referenceAt work list 1 → namesIn macros (at list) ≡ nameAt items work own w ∷ namesIn macros (at rest)
+    unfolding namesIn elements ownNames names
+    names-more h first own rest e p q =
+        rw (a-pair work list kind kind-is a-list items w, sym e, sym q, first-name h first own e p)
+
+    pub opened : AllNames macros (at list) → (first own rest : ℕ) → first ≡ referenceAt work list 2 → Means work first own (ownName macros) → rest ≡ referenceAt work list 1 → Opened items work list w macros own rest
+    opened h first own rest e p q =
+        record {
+          own-low = omega (arith, p .low, part-falls 2 first e);
+          rest-low = part-falls 1 rest q;
+          names-are = names-more h first own rest e p q;
+          ordinary = rest-names h rest q;
+        }
+
+-- ---- sameness
+
+pub among-none : (x : Name) (xs : List Name) → xs ≡ [] → false ≡ any (same x) xs
+unfolding any
+among-none x xs e = rw e
+
+pub among-first : (x y : Name) (xs ys : List Name) (r : Bool) → xs ≡ y ∷ ys → r ≡ same x y → r ≡ true → true ≡ any (same x) xs
+unfolding any
+among-first x y xs ys r e s t = rw (e, sym s ∙ t)
+
+pub among-later : (x y : Name) (xs ys : List Name) (r q : Bool) → xs ≡ y ∷ ys → r ≡ same x y → r ≡ false → q ≡ any (same x) ys → q ≡ any (same x) xs
+unfolding any
+among-later x y xs ys r q e s t h = h ∙ rw (e, sym s ∙ t)
+
+pub distinct-none : (xs : List Name) → xs ≡ [] → true ≡ distinct xs
+unfolding distinct
+distinct-none xs e = rw e
+
+pub distinct-not : (y : Name) (xs ys : List Name) (r : Bool) → xs ≡ y ∷ ys → r ≡ any (same y) ys → r ≡ true → false ≡ distinct xs
+unfolding distinct
+distinct-not y xs ys r e s t = rw (e, sym s ∙ t)
+
+pub distinct-later : (y : Name) (xs ys : List Name) (r q : Bool) → xs ≡ y ∷ ys → r ≡ any (same y) ys → r ≡ false → q ≡ distinct ys → q ≡ distinct xs
+unfolding distinct
+distinct-later y xs ys r q e s t h = h ∙ rw (e, sym s ∙ t)

@@ -1,0 +1,62 @@
+-- The names that a list binds, and what their binders leave.
+use mathlib.Core.Path.{_≡_}
+use mathlib.Core.Bool.{Bool, true, false}
+use mathlib.Core.List.{List, [], _∷_, _++_}
+use Prim.Native.Nat.{ℕ, suc, _+_, _*_, _^_, _≤_, _<_}
+use lib.ListN.{length, take}
+use Rattle.words.specs.Lists.{all}
+use Rattle.recipe.specs.Name.{Binding, variable, macro, Name, bindName}
+use Rattle.recipe.specs.Tree.{Tree, names, elements}
+use Rattle.recipe.specs.Tidy.{Tidy}
+use Rattle.arena.specs.Arena.{markLimit, wrapAt, nameAt, treeAt}
+use Rattle.forms.specs.Shapes.{ownName, bindsOne}
+
+-- every element binds as it should; shapes tells before
+abbrev pub AllNames : (macros : Bool) → Tree → Type 0
+AllNames macros t = all (bindsOne macros) (elements t) ≡ true
+
+-- the names that elements bind, from the left
+unfoldable pub ownNames : (macros : Bool) → List Tree → List Name
+ownNames macros [] = []
+ownNames macros (c ∷ cs) = names (ownName macros c) ++ ownNames macros cs
+
+unfoldable pub namesIn : (macros : Bool) → Tree → List Name
+namesIn macros t = ownNames macros (elements t)
+
+-- every tail in it is a list, as in all that a run has at hand
+abbrev pub Proper : Tree → Type 0
+Proper = Tidy (λ x. Unit {0}) (λ a. Unit {0})
+
+-- a form's kind says what it binds names to
+unfoldable pub bindsTo : (macros : Bool) → ℕ → Binding
+bindsTo false n = variable n
+bindsTo true n = macro n
+
+-- bindAll, one name at a time
+unfoldable pub bindNames : (ℕ → Binding) → ℕ → List Name → Name → Name
+bindNames f k [] x = x
+bindNames f k (y ∷ ys) x = bindNames f (suc k) ys (bindName y (f k) x)
+
+-- what opening a list that binds tells: the name of its first element, and the rest
+pub record Opened (items work : List ℕ) (list w : ℕ) (macros : Bool) (own rest : ℕ) : Type 0 where
+  pub own-low : own < list
+  pub rest-low : rest < list
+  pub names-are : namesIn macros (treeAt items work list w) ≡ nameAt items work own w ∷ namesIn macros (treeAt items work rest w)
+  pub ordinary : AllNames macros (treeAt items work rest w)
+
+-- room for binders of names xs: nine words a name, and numbers that fit a word; node, wraps and marks in hand as they should be
+pub record Space (xs : List Name) (work table : List ℕ) (node w number parent top : ℕ) : Type 0 where
+  pub fits : top + 9 * length xs ≤ length work
+  pub small : top + 9 * length xs < 2 ^ 32
+  pub numbers : number + length xs ≤ 2 ^ 30
+  pub node-below : node ≤ top
+  pub w-below : w ≤ top
+  pub parent-below : parent ≤ top
+  pub marks : 2 * markLimit < length table
+
+-- names xs are bound, numbered from k, after what `parent` means
+pub record Scoped (f : ℕ → Binding) (k : ℕ) (xs : List Name) (parent : ℕ) (old new : List ℕ) (top wrap end : ℕ) : Type 0 where
+  pub end-is : end ≡ top + 9 * length xs
+  pub wrap-below : wrap ≤ end
+  pub kept : take top new ≡ take top old
+  pub means : (x : Name) → wrapAt new wrap x ≡ bindNames f k xs (wrapAt old parent x)

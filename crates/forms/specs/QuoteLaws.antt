@@ -1,0 +1,255 @@
+-- Laws of quoting, one for each way through the code.
+use mathlib.Core.Path.{_≡_, refl, sym, ap, ap₂, subst, _∙_}
+use mathlib.Core.Bool.{Bool, true, false, _&&_}
+use mathlib.Core.List.{List, [], _∷_, _++_, append-assoc, append-nil}
+use Prim.Native.Nat.{ℕ, zero, suc, _+_, _*_, _≤_, _<_}
+use native.Mathlib.Omega.{arith}
+use native.Mathlib.Numerals.{add-one}
+use lib.Dec.{eqb, ltb}
+use lib.ListN.{length, getD, take, drop, set, length-append, take-append-drop}
+use lib.Seq.{take-at, drop-at, drop-drop, length-take-le, sets-eq}
+use Rattle.words.specs.ListLaws.{never}
+use Rattle.datum.specs.Constant.{Constant, isConstant, constantWords}
+use Rattle.datum.specs.Datum as D
+use Rattle.recipe.specs.Name.{Name}
+use Rattle.recipe.specs.Tree.{Tree, empty, constant, name, pair, size, isList, elements, strip, stripTail, onNames}
+use Rattle.recipe.specs.Tidy.{Tidy, tidyConstant, tidyName, tidyPair, tidy-weaken, onNames-isList}
+use Rattle.core_term.specs.Node.{nodeWords}
+use Rattle.core_term.specs.Words.{datumWords, dataWords}
+use Rattle.arena.specs.Arena.{wordAt, referenceAt, wrapAt, constantAt, treeAt}
+use Rattle.arena.specs.ArenaLaws.{wrapAt-number, wordAt-some, referenceAt-falls}
+use Rattle.arena.specs.NodeLaws.{treeAt-wrap, treeAt-empty, treeAt-name, treeAt-constant}
+use Rattle.arena.specs.Names.{numberOf}
+use Rattle.arena.specs.NameLaws.{nameAt-number}
+use Rattle.steps.specs.Lists.{Counts}
+use Rattle.forms.specs.ListLaws.{no-pair, a-pair}
+use Rattle.forms.specs.Quotes.{quotedAt, elementsAt, Quotable, Written, Walked}
+
+-- ---- words in the table
+
+module _ (at : ℕ) (d c : List ℕ) (h : at + length c ≤ length d) where
+  head-length : length (take at d ++ c) ≡ at + length c
+  head-length = let k : at ≤ length d = omega arith in length-append (take at d) c ∙ ap (λ (n : ℕ). n + length c) (length-take-le at d k)
+
+  head-is : take (at + length c) (take at d ++ c ++ drop (at + length c) d) ≡ take at d ++ c
+  head-is = take-at (take at d ++ c) _ (at + length c) head-length
+
+  tail-is : (k : ℕ) → drop (at + length c + k) (take at d ++ c ++ drop (at + length c) d) ≡ drop (at + length c + k) d
+  tail-is k =
+      sym (drop-drop k (at + length c) (take at d ++ c ++ drop (at + length c) d))
+      ∙ ap (drop k) (drop-at (take at d ++ c) (drop (at + length c) d) (at + length c) head-length)
+      ∙ drop-drop k (at + length c) d
+
+pub written-none : (d : List ℕ) (at : ℕ) → Written [] d d at at
+written-none d at = record { end = omega arith; words = sym (ap (λ (l : List ℕ). l ++ drop at d) (append-nil (take at d)) ∙ take-append-drop at d) }
+
+-- b after c
+pub written-then : (at : ℕ) (d c b e g : List ℕ) (n r : ℕ) → r ≤ length d → Written c d e at n → Written b e g n r → Written (c ++ b) d g at r
+written-then at d c b e g n r l p q =
+    let h : at + length c ≤ length d = omega (arith, p .end, q .end) in
+    let x : e ≡ take at d ++ c ++ drop (at + length c) d = p .words ∙ ap (λ (k : ℕ). take at d ++ c ++ drop k d) (p .end) in
+    let e1 : take n e ≡ take at d ++ c = rw (p .end, x) (head-is at d c h) in
+    let e2 : drop r e ≡ drop r d = rw (q .end, p .end, x) (tail-is at d c h (length b)) in
+    record {
+      end = omega (arith, p .end, q .end, length-append c b);
+      words = q .words ∙ rw (e1, e2) (simp append-assoc);
+    }
+
+pub written-two : (d : List ℕ) (at a b : ℕ) → at + 2 ≤ length d → Written (a ∷ b ∷ []) d (set (set d at a) (at + 1) b) at (at + 2)
+written-two d at a b h = record { end = refl; words = rw (add-one at) (sets-eq (a ∷ b ∷ []) d at h) }
+
+-- what stood before is kept
+pub written-kept : (ws d e : List ℕ) (at r : ℕ) → r ≤ length d → Written ws d e at r → take at e ≡ take at d
+written-kept ws d e at r l p =
+    let k : at ≤ length d = omega (arith, p .end) in
+    ap (take at) (p .words ∙ append-assoc (take at d) ws (drop r d)) ∙ take-at (take at d) (ws ++ drop r d) at (length-take-le at d k)
+
+pub written-as : (ws vs d e : List ℕ) (at r : ℕ) → ws ≡ vs → Written ws d e at r → Written vs d e at r
+written-as ws vs d e at r h w = subst (λ (l : List ℕ). Written l d e at r) h w
+
+-- ---- waiting does not change what is quoted
+
+module _ (f : Name → Name) (same : (x : Name) → f x .number ≡ x .number) where
+  mutual
+    unfolding strip onNames
+
+    strip-onNames : (t : Tree) → strip (onNames f t) ≡ strip t
+    strip-onNames empty = refl
+    strip-onNames (constant a) = refl
+    strip-onNames (name x) = ap D.nameD (same x)
+    strip-onNames (pair h t) = ap₂ (λ (d : D.Datum) (ds : D.Data). D.listD (D.moreD d ds)) (strip-onNames h) (tail-onNames t)
+
+    tail-onNames : (t : Tree) → stripTail (onNames f t) ≡ stripTail t
+    tail-onNames empty = refl
+    tail-onNames (constant a) = refl
+    tail-onNames (name x) = refl
+    tail-onNames (pair h t) = ap₂ D.moreD (strip-onNames h) (tail-onNames t)
+
+pub quoted-any : (items work : List ℕ) (node w : ℕ) → datumWords (strip (treeAt items work node w)) ≡ quotedAt items work node
+unfolding quotedAt
+quoted-any items work node w = ap datumWords (ap strip (treeAt-wrap items work node w) ∙ strip-onNames (wrapAt work w) (wrapAt-number work w) (treeAt items work node 0))
+
+-- ---- the parts of what may be quoted
+
+pair-parts : {h t : Tree} → Quotable (pair h t) → (Quotable h) × (Quotable t) × (isList t ≡ true)
+pair-parts (tidyPair p q l) = (p, q, l)
+
+quotable-onNames : (f : Name → Name) (t : Tree) → Quotable (onNames f t) → Quotable t
+unfolding onNames
+quotable-onNames f empty q = q
+quotable-onNames f (constant a) q = q
+quotable-onNames f (name x) q = tidyName tt
+quotable-onNames f (pair h t) q =
+    let g = pair-parts q in
+    tidyPair (quotable-onNames f h (g .0)) (quotable-onNames f t (g .1)) (sym (onNames-isList f t) ∙ g .2)
+
+-- whatever waits on it
+pub quotable-any : (items work : List ℕ) (node w : ℕ) → Quotable (treeAt items work node w) → Quotable (treeAt items work node 0)
+quotable-any items work node w q = quotable-onNames (wrapAt work w) (treeAt items work node 0) (subst Quotable (treeAt-wrap items work node w) q)
+
+-- a run's trees may be quoted
+pub quotable : {N : Name → Type 0} {t : Tree} → Tidy N (λ a. isConstant a ≡ true) t → Quotable t
+quotable t = tidy-weaken (λ x n. tt) t
+
+kind-most : (k : ℕ) (a b : Bool) → getD (false ∷ a ∷ b ∷ []) k false ≡ true → k ≤ 2
+kind-most zero a b h = omega arith
+kind-most (suc zero) a b h = omega arith
+kind-most (suc (suc zero)) a b h = omega arith
+kind-most (suc (suc (suc k))) a b h = never h refl
+
+constant-kind : {a : Constant} → Quotable (constant a) → a .kind ≤ 2
+unfolding isConstant
+constant-kind {a} (tidyConstant c) = kind-most (a .kind) (eqb (a .second) 0) (ltb (a .first) 2 && eqb (a .second) 0) c
+
+-- ---- a node's words
+
+count-elements : (t : Tree) → D.count (stripTail t) ≡ length (elements t)
+unfolding stripTail elements D.count
+count-elements empty = refl
+count-elements (constant a) = refl
+count-elements (name x) = refl
+count-elements (pair h t) = ap suc (count-elements t)
+
+module _ (items work : List ℕ) (node kind : ℕ) (kind-is : kind ≡ wordAt work node 3) where
+  pub quoted-empty : kind ≡ 0 → 5 ∷ 0 ∷ [] ≡ quotedAt items work node
+  unfolding quotedAt strip datumWords nodeWords D.count
+  quoted-empty e = rw (treeAt-empty items work node 0 (sym kind-is ∙ e))
+
+  pub quoted-name : kind ≡ 3 → (number : ℕ) → number ≡ numberOf items work node → 4 ∷ number ∷ [] ≡ quotedAt items work node
+  unfolding quotedAt strip datumWords nodeWords
+  quoted-name e number n = rw (treeAt-name items work node 0 (sym kind-is ∙ e), nameAt-number items work node 0, n)
+
+  module _ (not-empty : kind ≡ 0 → ⊥) (not-name : kind ≡ 3 → ⊥) (not-pair : kind ≡ 4 → ⊥) where
+    constant-is : treeAt items work node 0 ≡ constant (constantAt work node)
+    constant-is = treeAt-constant items work node 0 (λ z. not-empty (kind-is ∙ z)) (λ z. not-name (kind-is ∙ z)) (λ z. not-pair (kind-is ∙ z))
+
+    pub quoted-constant : (first : ℕ) → first ≡ wordAt work node 2 → (kind + 1) ∷ first ∷ [] ≡ quotedAt items work node
+    unfolding quotedAt strip datumWords nodeWords constantWords constantAt
+    quoted-constant first e = rw (constant-is, kind-is, e, add-one (wordAt work node 3))
+
+    pub constant-small : Quotable (treeAt items work node 0) → kind ≤ 2
+    unfolding constantAt
+    constant-small q = rw kind-is (constant-kind (subst Quotable constant-is q))
+
+  pub quoted-pair : kind ≡ 4 → (count : ℕ) → Counts work node count → (5 ∷ count ∷ []) ++ elementsAt items work node ≡ quotedAt items work node
+  unfolding quotedAt elementsAt strip datumWords nodeWords D.count elements
+  quoted-pair e count c =
+      let t = a-pair work node kind kind-is e items 0 in
+      let n : count ≡ D.count (stripTail (treeAt items work node 0)) = c .is items 0 ∙ sym (count-elements (treeAt items work node 0)) in
+      rw (n, t)
+
+  pub quoted-list : kind ≡ 4 → (count : ℕ) → Counts work node count → (d e g : List ℕ) (at n r : ℕ) → at + length (quotedAt items work node) ≤ length d
+      → Written (5 ∷ count ∷ []) d e at n → Written (elementsAt items work node) e g n r → Written (quotedAt items work node) d g at r
+  quoted-list h count c d e g at n r room p q =
+      let same = quoted-pair h count c in
+      written-as _ (quotedAt items work node) d g at r same
+      (written-then at d (5 ∷ count ∷ []) (elementsAt items work node) e g n r (omega (arith, ap length same, p .end, q .end)) p q)
+
+  -- ---- a list's elements
+
+  pub elements-none : (kind ≡ 4 → ⊥) → elementsAt items work node ≡ []
+  unfolding elementsAt strip datumWords
+  elements-none other = no-pair work node kind kind-is (λ t. dataWords (stripTail t) ≡ []) refl (λ x. refl) (λ a. refl) other items 0
+
+  module _ (a-list : kind ≡ 4) (first rest : ℕ) (first-is : first ≡ referenceAt work node 2) (rest-is : rest ≡ referenceAt work node 1) where
+    pub elements-more : elementsAt items work node ≡ quotedAt items work first ++ elementsAt items work rest
+    unfolding elementsAt quotedAt strip datumWords
+    elements-more = rw (a-pair work node kind kind-is a-list items 0, first-is, rest-is)
+
+    parts-of : Quotable (treeAt items work node 0) → (Quotable (treeAt items work first 0)) × (Quotable (treeAt items work rest 0))
+    parts-of q =
+        let g = pair-parts (subst Quotable (a-pair work node kind kind-is a-list items 0) q) in
+        (rw first-is (g .0), rw rest-is (g .1))
+
+    pub first-good : Quotable (treeAt items work node 0) → Quotable (treeAt items work first 0)
+    first-good q = parts-of q .0
+
+    pub rest-good : Quotable (treeAt items work node 0) → Quotable (treeAt items work rest 0)
+    rest-good q = parts-of q .1
+
+-- ---- the loop over elements
+
+pub walked-none : (items work : List ℕ) (list at : ℕ) (d : List ℕ) → Quotable (treeAt items work list 0) → Walked items work list at d list at d
+walked-none items work list at d q = record { sofar = []; whole = refl; written = written-none d at; low = omega arith; good = q; same = refl }
+
+module _ (items work : List ℕ) (list at : ℕ) (d : List ℕ) (rest n : ℕ) (e : List ℕ) (walked : Walked items work list at d rest n e)
+    (kind : ℕ) (kind-is : kind ≡ wordAt work rest 3) where
+  pub walked-end : (kind ≡ 4 → ⊥) → Written (elementsAt items work list) d e at n
+  walked-end other =
+      subst (λ (ws : List ℕ). Written ws d e at n) (sym (walked .whole ∙ ap (λ (l : List ℕ). walked .sofar ++ l) (elements-none items work rest kind kind-is other) ∙ append-nil (walked .sofar)))
+      (walked .written)
+
+  module _ (a-list : kind ≡ 4) (first : ℕ) (first-is : first ≡ referenceAt work rest 2) where
+    abbrev after : ℕ
+    after = referenceAt work rest 1
+
+    some-word : 0 < rest
+    some-word = wordAt-some work rest 3 (omega arith) (λ z. omega (arith, kind-is ∙ z))
+
+    pub after-falls : (next : ℕ) → next ≡ after → next < rest
+    after-falls next e′ = omega (arith, e′, referenceAt-falls work rest 1 some-word)
+
+    pub first-low : first < list
+    first-low = omega (arith, walked .low, first-is, referenceAt-falls work rest 2 some-word)
+
+    pub first-quotable : Quotable (treeAt items work first 0)
+    first-quotable = first-good items work rest kind kind-is a-list first after first-is refl (walked .good)
+
+    whole-length : length (elementsAt items work list) ≡ length (walked .sofar) + (length (quotedAt items work first) + length (elementsAt items work after))
+    whole-length =
+        ap length (walked .whole ∙ ap (λ (l : List ℕ). walked .sofar ++ l) (elements-more items work rest kind kind-is a-list first after first-is refl))
+        ∙ length-append (walked .sofar) _ ∙ ap (λ (k : ℕ). length (walked .sofar) + k) (length-append (quotedAt items work first) (elementsAt items work after))
+
+    pub walked-room : at + length (elementsAt items work list) ≤ length d → n + length (quotedAt items work first) ≤ length e
+    walked-room h = omega (arith, whole-length, walked .written .end, walked .same)
+
+    pub walked-more : at + length (elementsAt items work list) ≤ length d → (next : ℕ) → next ≡ after → (g : List ℕ) (r : ℕ) → length g ≡ length e → Written (quotedAt items work first) e g n r → Walked items work list at d next r g
+    walked-more h next e′ g r l v =
+        record {
+          sofar = walked .sofar ++ quotedAt items work first;
+          whole = walked .whole ∙ ap (λ (ws : List ℕ). walked .sofar ++ ws) (elements-more items work rest kind kind-is a-list first next first-is e′) ∙ sym (append-assoc (walked .sofar) (quotedAt items work first) (elementsAt items work next));
+          written = written-then at d (walked .sofar) (quotedAt items work first) e g n r (omega (arith, whole-length, walked .written .end, v .end)) (walked .written) v;
+          low = omega (arith, walked .low, e′, referenceAt-falls work rest 1 some-word);
+          good = rest-good items work rest kind kind-is a-list first next first-is e′ (walked .good);
+          same = l ∙ walked .same;
+        }
+
+-- ---- room: two words an item
+
+mutual
+  unfolding strip datumWords nodeWords constantWords size
+
+  pub quoted-size : (t : Tree) → length (datumWords (strip t)) ≤ 2 * size t
+  quoted-size empty = omega arith
+  quoted-size (constant a) = omega arith
+  quoted-size (name x) = omega arith
+  quoted-size (pair h t) = simp length-append (omega (arith, quoted-size h, elements-size t))
+
+  elements-size : (t : Tree) → length (dataWords (stripTail t)) + 2 ≤ 2 * size t
+  elements-size empty = omega arith
+  elements-size (constant a) = omega arith
+  elements-size (name x) = omega arith
+  elements-size (pair h t) = simp length-append (omega (arith, quoted-size h, elements-size t))
+
+pub quoted-most : (items work : List ℕ) (node w : ℕ) → length (quotedAt items work node) ≤ 2 * size (treeAt items work node w)
+quoted-most items work node w = rw (sym (quoted-any items work node w)) (quoted-size (treeAt items work node w))

@@ -1,0 +1,136 @@
+-- Laws of shapes, one for each way through the code.
+use mathlib.Core.Path.{_≡_, refl, sym, ap, _∙_}
+use mathlib.Core.Bool.{Bool, true, false, not, _&&_, and-false}
+use mathlib.Core.List.{List}
+use Prim.Native.Nat.{ℕ, zero, suc, _-_}
+use native.Mathlib.Omega.{arith}
+use lib.Dec.{eqb, leb·zero, leb·suc-zero, leb·suc-suc}
+use lib.ListN.{length}
+use borrow.Author.Tests.{eqb-true, eqb-false, ne-eqb, le-leb}
+use Rattle.words.specs.Lists.{within, all}
+use Rattle.recipe.specs.Name.{isOrdinary, isEllipsis, isWildcard}
+use Rattle.recipe.specs.Tree.{pair, onName, isOrdinaryName, isList, isListOf, onEmpty, onPair, elements, element}
+use Rattle.expansion.specs.Forms.{isLambda, isMacro, isMacros}
+use Rattle.arena.specs.Arena.{wordAt, referenceAt, nameAt, treeAt}
+use Rattle.arena.specs.ArenaLaws.{cases}
+use Rattle.arena.specs.NodeLaws.{treeAt-empty, treeAt-name, treeAt-pair, treeAt-constant}
+use Rattle.arena.specs.Names.{numberOf}
+use Rattle.arena.specs.NameLaws.{nameAt-number}
+use Rattle.steps.specs.Lists.{Means}
+use Rattle.forms.specs.ListLaws.{no-pair, a-pair}
+use Rattle.forms.specs.Shapes.{Tests, TestsIn, ownName, bindsOne, bindsAll}
+
+-- ---- names
+
+module _ (items work : List ℕ) (node kind : ℕ) (kind-is : kind ≡ wordAt work node 3) where
+  pub ordinary-other : (kind ≡ 3 → ⊥) → TestsIn isOrdinaryName items work node false
+  unfolding isOrdinaryName onName
+  ordinary-other other w =
+      cases (eqb kind 0)
+      (λ t. rw (treeAt-empty items work node w (sym kind-is ∙ eqb-true kind 0 t)))
+      (λ t.
+      cases (eqb kind 4)
+      (λ u. rw (treeAt-pair items work node w (sym kind-is ∙ eqb-true kind 4 u)))
+      (λ u. rw (treeAt-constant items work node w (λ z. eqb-false kind 0 t (kind-is ∙ z)) (λ z. other (kind-is ∙ z)) (λ z. eqb-false kind 4 u (kind-is ∙ z)))))
+
+  module _ (number : ℕ) (number-is : number ≡ numberOf items work node) (a-name : kind ≡ 3) where
+    number-same : (w : ℕ) → nameAt items work node w .number ≡ number
+    number-same w = nameAt-number items work node w ∙ sym number-is
+
+    pub ordinary-ellipsis : number ≡ 6 → TestsIn isOrdinaryName items work node false
+    unfolding isOrdinaryName onName isOrdinary isEllipsis isWildcard
+    ordinary-ellipsis e w = rw (treeAt-name items work node w (sym kind-is ∙ a-name), number-same w, e)
+
+    pub ordinary-last : (number ≡ 6 → ⊥) → TestsIn isOrdinaryName items work node (not (eqb number 7))
+    unfolding isOrdinaryName onName isOrdinary isEllipsis isWildcard
+    ordinary-last e w = rw (treeAt-name items work node w (sym kind-is ∙ a-name), number-same w, ne-eqb number 6 e)
+
+-- ---- what an element binds
+
+pub own-macro : (work : List ℕ) (node r : ℕ) (macros : Bool) → macros ≡ true → Means work node r (element 0) → Means work node r (ownName macros)
+unfolding ownName
+own-macro work node r macros e p = rw e (record { low = p .low; is = p .is })
+
+pub own-formal : (work : List ℕ) (node : ℕ) (macros : Bool) → macros ≡ false → Means work node node (ownName macros)
+unfolding ownName
+own-formal work node macros e = rw e (record { low = omega arith; is = λ items w. refl })
+
+module _ (items work : List ℕ) (node : ℕ) (listed : Bool) (list-of : Tests (isListOf 2) work node listed) where
+  pub macro-shape : listed ≡ false → TestsIn isMacro items work node false
+  unfolding isMacro
+  macro-shape e w = rw (sym (list-of items w) ∙ e)
+
+  pub macro-name : listed ≡ true → (own : ℕ) (r : Bool) → Means work node own (element 0) → TestsIn isOrdinaryName items work own r → TestsIn isMacro items work node r
+  unfolding isMacro
+  macro-name e own r p h w = h w ∙ rw (sym (list-of items w) ∙ e, p .is items w)
+
+pub one-macro : (items work : List ℕ) (node : ℕ) (macros r : Bool) → macros ≡ true → TestsIn isMacro items work node r → TestsIn (bindsOne macros) items work node r
+unfolding bindsOne
+one-macro items work node macros r e h = rw e h
+
+pub one-formal : (items work : List ℕ) (node : ℕ) (macros r : Bool) → macros ≡ false → TestsIn isOrdinaryName items work node r → TestsIn (bindsOne macros) items work node r
+unfolding bindsOne
+one-formal items work node macros r e h = rw e h
+
+-- ---- all of a list
+
+module _ (items work : List ℕ) (node kind : ℕ) (kind-is : kind ≡ wordAt work node 3) (macros : Bool) where
+  pub all-none : (most : ℕ) → (kind ≡ 4 → ⊥) → TestsIn (bindsAll macros most) items work node true
+  unfolding bindsAll elements all
+  all-none most other = no-pair work node kind kind-is (λ t. true ≡ bindsAll macros most t) (sym (leb·zero most)) (λ x. sym (leb·zero most)) (λ a. sym (leb·zero most)) other items
+
+  pub all-over : (most : ℕ) → kind ≡ 4 → most ≡ 0 → TestsIn (bindsAll macros most) items work node false
+  unfolding bindsAll elements
+  all-over most p z w =
+      rw (a-pair work node kind kind-is p items w, z, leb·suc-zero (length (elements (treeAt items work (referenceAt work node 1) w))))
+      (sym (and-false (all (bindsOne macros) (elements (pair (treeAt items work (referenceAt work node 2) w) (treeAt items work (referenceAt work node 1) w))))))
+
+  pub all-first : (most first : ℕ) (r : Bool) → kind ≡ 4 → first ≡ referenceAt work node 2 → TestsIn (bindsOne macros) items work first r → r ≡ false → TestsIn (bindsAll macros most) items work node false
+  unfolding bindsAll elements all
+  all-first most first r p q h e w = rw (a-pair work node kind kind-is p items w, sym q, sym (h w) ∙ e)
+
+  pub all-later : (most first rest : ℕ) (r s : Bool) → kind ≡ 4 → (most ≡ 0 → ⊥) → first ≡ referenceAt work node 2 → TestsIn (bindsOne macros) items work first r → r ≡ true → rest ≡ referenceAt work node 1 → TestsIn (bindsAll macros (most - 1)) items work rest s
+      → TestsIn (bindsAll macros most) items work node s
+  unfolding bindsAll elements all
+  all-later zero first rest r s p z q h e l g = λ w. absurd (z refl)
+  all-later (suc most) first rest r s p z q h e l g =
+      λ w.
+      let d : suc most - 1 ≡ most = omega arith in
+      g w ∙ rw (d, a-pair work node kind kind-is p items w, sym q, sym (h w) ∙ e, l) (ap (λ (b : Bool). all (bindsOne macros) (elements (treeAt items work (referenceAt work node 1) w)) && b) (sym (leb·suc-suc (length (elements (treeAt items work (referenceAt work node 1) w))) most)))
+
+-- ---- forms
+
+module _ (items work : List ℕ) (node : ℕ) (listed : Bool) (list-of : Tests (isListOf 3) work node listed) where
+  pub lambda-shape : listed ≡ false → TestsIn isLambda items work node false
+  unfolding isLambda
+  lambda-shape e w = rw (sym (list-of items w) ∙ e)
+
+  pub macros-shape : (limit : ℕ) → listed ≡ false → TestsIn (isMacros limit) items work node false
+  unfolding isMacros
+  macros-shape limit e w = rw (sym (list-of items w) ∙ e)
+
+  module _ (list : ℕ) (part : Means work node list (element 1)) where
+    pub lambda-list : (r : Bool) → Tests isList work list r → r ≡ false → TestsIn isLambda items work node false
+    unfolding isLambda
+    lambda-list r h e w = rw (sym (part .is items w), sym (h items w) ∙ e) (sym (and-false (isListOf 3 (treeAt items work node w))))
+
+    pub lambda-all : listed ≡ true → (r s : Bool) → Tests isList work list r → r ≡ true → TestsIn (bindsAll false 8) items work list s → TestsIn isLambda items work node s
+    unfolding isLambda bindsAll bindsOne
+    lambda-all e r s h d g w = g w ∙ rw (sym (list-of items w) ∙ e, sym (part .is items w), sym (h items w) ∙ d)
+
+    module _ (kind : ℕ) (kind-is : kind ≡ wordAt work list 3) (limit : ℕ) where
+      pub macros-none : (kind ≡ 4 → ⊥) → TestsIn (isMacros limit) items work node false
+      unfolding isMacros isList onEmpty onPair elements all within
+      macros-none other w =
+          rw (sym (part .is items w))
+          (no-pair work list kind kind-is (λ t. false ≡ (isListOf 3 (treeAt items work node w) && (isList t && (all isMacro (elements t) && within 1 limit (length (elements t))))))
+          none (λ x. none) (λ a. none) other items w)
+        where
+          none : false ≡ (isListOf 3 (treeAt items work node w) && false)
+          none = sym (and-false (isListOf 3 (treeAt items work node w)))
+
+      pub macros-all : listed ≡ true → (s : Bool) → kind ≡ 4 → TestsIn (bindsAll true limit) items work list s → TestsIn (isMacros limit) items work node s
+      unfolding isMacros isList onEmpty onPair elements bindsAll bindsOne within
+      macros-all e s p g w =
+          let n : ℕ = length (elements (treeAt items work (referenceAt work list 1) w)) in
+          g w ∙ rw (sym (list-of items w) ∙ e, sym (part .is items w), a-pair work list kind kind-is p items w, le-leb 1 (suc n) (omega arith))

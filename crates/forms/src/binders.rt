@@ -1,0 +1,166 @@
+// Names that a form binds: whether no two are the same (ground 14), and their binders. `macros` says which kind of form
+// binds, as in shapes. `table` is lent for marks in hand; nothing is promised of what is left in it.
+
+ghost use mathlib.Core.Path.{_≡_};
+ghost use mathlib.Core.Bool.{true, false};
+ghost use Prim.Native.Nat.{_+_, _*_, _^_, _<_};
+ghost use lib.ListN.{length};
+ghost use Rattle.words.specs.Lists.{any};
+ghost use mathlib.Core.Option.{some};
+ghost use Rattle.recipe.specs.Name.{variable, macro, same, distinct, bindingKey};
+ghost use Rattle.recipe.specs.Tree.{element};
+ghost use Rattle.expansion.specs.Forms.{isLambda, formals, keywords};
+ghost use Rattle.arena.specs.Arena.{markLimit, nameAt, treeAt};
+ghost use Rattle.forms.specs.Binders.{AllNames, namesIn, Proper, bindsTo, Space, Scoped};
+use crate::shapes;
+use arena::cells;
+use arena::names;
+use steps::lists;
+
+// Whether a name is the same as one that the list binds.
+pub fn is_among(
+    items: &[u32],
+    work: &[u32],
+    table: &mut [u32],
+    node: u32,
+    list: u32,
+    w: u32,
+    macros: bool,
+) -> bool
+    requires { ⌜ (3 * markLimit < length (now table)) × (AllNames macros (treeAt (now items) (now work) list w)) ⌝ }
+    ensures { λ r. ⌜ r ≡ any (same (nameAt (now (items .entry)) (now (work .entry)) node w)) (namesIn macros (treeAt (now (items .entry)) (now (work .entry)) list w)) ⌝ }
+{
+    if cells::word(work, list, 3) != cells::PAIR {
+        return false;
+    }
+    let first = cells::reference(work, list, 2);
+    let own = shapes::own_name(work, first, macros);
+    if names::same_names(items, work, table, node, w, own, w) {
+        return true;
+    }
+    let rest = cells::reference(work, list, 1);
+    is_among(items, work, table, node, rest, w, macros)
+}
+
+// Whether no two of the names that a list binds are the same.
+pub fn are_distinct(
+    items: &[u32],
+    work: &[u32],
+    table: &mut [u32],
+    list: u32,
+    w: u32,
+    macros: bool,
+) -> bool
+    requires { ⌜ (3 * markLimit < length (now table)) × (AllNames macros (treeAt (now items) (now work) list w)) ⌝ }
+    ensures { λ r. ⌜ r ≡ distinct (namesIn macros (treeAt (now (items .entry)) (now (work .entry)) list w)) ⌝ }
+{
+    if cells::word(work, list, 3) != cells::PAIR {
+        return true;
+    }
+    let first = cells::reference(work, list, 2);
+    let own = shapes::own_name(work, first, macros);
+    let rest = cells::reference(work, list, 1);
+    if is_among(items, work, table, own, rest, w, macros) {
+        return false;
+    }
+    are_distinct(items, work, table, rest, w, macros)
+}
+
+// No two names of a lambda are the same.
+pub fn formals_distinct(items: &[u32], work: &[u32], table: &mut [u32], node: u32, w: u32) -> bool
+    requires { ⌜ (3 * markLimit < length (now table)) × (isLambda (treeAt (now items) (now work) node w) ≡ true) × (Proper (treeAt (now items) (now work) node w)) ⌝ }
+    ensures { λ r. ⌜ r ≡ distinct (formals (treeAt (now (items .entry)) (now (work .entry)) node w)) ⌝ }
+{
+    let list = lists::element(work, node, 1);
+    are_distinct(items, work, table, list, w, false)
+}
+
+// No two names of macros are the same.
+pub fn keywords_distinct(items: &[u32], work: &[u32], table: &mut [u32], node: u32, w: u32) -> bool
+    requires { ⌜ (3 * markLimit < length (now table)) × (AllNames true (element 1 (treeAt (now items) (now work) node w))) ⌝ }
+    ensures { λ r. ⌜ r ≡ distinct (keywords (treeAt (now (items .entry)) (now (work .entry)) node w)) ⌝ }
+{
+    let list = lists::element(work, node, 1);
+    are_distinct(items, work, table, list, w, true)
+}
+
+// The key of variable or macro n.
+pub fn key_of(macros: bool, n: u32) -> u32
+    requires { ⌜ n < 2 ^ 30 ⌝ }
+    ensures { λ r. ⌜ r ≡ bindingKey (some (bindsTo macros n)) ⌝ }
+{
+    if macros {
+        return 2 * n + 2;
+    }
+    2 * n + 1
+}
+
+// The wrap that binds, and the new top.
+pub struct Scope {
+    pub wrap: u32,
+    pub top: u32,
+}
+
+// A binder for each name that the list binds, numbered from `number`, after what `parent` means. Each own name is resolved
+// under w, the wrap that waits on the form.
+pub fn bind_names(
+    items: &[u32],
+    work: &mut [u32],
+    table: &mut [u32],
+    list: u32,
+    w: u32,
+    macros: bool,
+    number: u32,
+    parent: u32,
+    top: u32,
+) -> Scope
+    requires { ⌜ (AllNames macros (treeAt (now items) (now work) list w)) × (Space (namesIn macros (treeAt (now items) (now work) list w)) (now work) (now table) list w number parent top) ⌝ }
+    ensures { λ r. ⌜ Scoped (bindsTo macros) number (namesIn macros (treeAt (now (items .entry)) (now (work .entry)) list w)) parent (now (work .entry)) (now (work .exit)) top (r .wrap) (r .top) ⌝ }
+{
+    if cells::word(work, list, 3) != cells::PAIR {
+        return Scope {
+            wrap: parent,
+            top: top,
+        };
+    }
+    let first = cells::reference(work, list, 2);
+    let own = shapes::own_name(work, first, macros);
+    let rest = cells::reference(work, list, 1);
+    let key = key_of(macros, number);
+    let next = names::bind(items, work, table, top, own, w, key, parent);
+    bind_names(items, work, table, rest, w, macros, number + 1, next, next)
+}
+
+// Binders for a lambda's names, variables from `first`.
+pub fn bind_formals(
+    items: &[u32],
+    work: &mut [u32],
+    table: &mut [u32],
+    node: u32,
+    w: u32,
+    first: u32,
+    top: u32,
+) -> Scope
+    requires { ⌜ (isLambda (treeAt (now items) (now work) node w) ≡ true) × (Proper (treeAt (now items) (now work) node w)) × (Space (formals (treeAt (now items) (now work) node w)) (now work) (now table) node w first w top) ⌝ }
+    ensures { λ r. ⌜ Scoped variable first (formals (treeAt (now (items .entry)) (now (work .entry)) node w)) w (now (work .entry)) (now (work .exit)) top (r .wrap) (r .top) ⌝ }
+{
+    let list = lists::element(work, node, 1);
+    bind_names(items, work, table, list, w, false, first, w, top)
+}
+
+// Binders for the names of macros, numbered from `first`.
+pub fn bind_macros(
+    items: &[u32],
+    work: &mut [u32],
+    table: &mut [u32],
+    node: u32,
+    w: u32,
+    first: u32,
+    top: u32,
+) -> Scope
+    requires { ⌜ (AllNames true (element 1 (treeAt (now items) (now work) node w))) × (Space (keywords (treeAt (now items) (now work) node w)) (now work) (now table) node w first w top) ⌝ }
+    ensures { λ r. ⌜ Scoped macro first (keywords (treeAt (now (items .entry)) (now (work .entry)) node w)) w (now (work .entry)) (now (work .exit)) top (r .wrap) (r .top) ⌝ }
+{
+    let list = lists::element(work, node, 1);
+    bind_names(items, work, table, list, w, true, first, w, top)
+}

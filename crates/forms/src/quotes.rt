@@ -1,0 +1,62 @@
+// Quoting: the core words of a node without marks and bindings, whatever waits on it. Recursion goes with nesting alone.
+
+ghost use mathlib.Core.List.{[], _∷_};
+ghost use Prim.Native.Nat.{_+_, _≤_};
+ghost use lib.ListN.{length};
+ghost use Rattle.arena.specs.Arena.{treeAt};
+ghost use Rattle.forms.specs.Quotes.{quotedAt, elementsAt, Quotable, Written};
+use arena::cells;
+use arena::names;
+use steps::lists;
+
+// Codes of a quoted name and of a quoted list.
+pub const QUOTED_NAME: u32 = 4;
+
+pub const QUOTED_LIST: u32 = 5;
+
+// Two words at `at`; answers where the next stand.
+fn put_two(core: &mut [u32], at: usize, a: u32, b: u32) -> usize
+    requires { ⌜ at + 2 ≤ length (now core) ⌝ }
+    ensures { λ r. ⌜ Written (a ∷ b ∷ []) (now (core .entry)) (now (core .exit)) at r ⌝ }
+{
+    core[at] = a;
+    core[at + 1] = b;
+    at + 2
+}
+
+// The words of a node, from `at`; answers where the next stand.
+pub fn quote(items: &[u32], work: &[u32], node: u32, core: &mut [u32], at: usize) -> usize
+    requires { ⌜ (at + length (quotedAt (now items) (now work) node) ≤ length (now core)) × (Quotable (treeAt (now items) (now work) node 0)) ⌝ }
+    ensures { λ r. ⌜ Written (quotedAt (now (items .entry)) (now (work .entry)) node) (now (core .entry)) (now (core .exit)) at r ⌝ }
+{
+    let kind = cells::word(work, node, 3);
+    if kind == cells::PAIR {
+        let count = lists::count(work, node);
+        let n = put_two(core, at, QUOTED_LIST, count);
+        return quote_all(items, work, node, core, n);
+    }
+    if kind == cells::NAME {
+        let number = names::number_of(items, work, node);
+        return put_two(core, at, QUOTED_NAME, number);
+    }
+    if kind == cells::EMPTY {
+        return put_two(core, at, QUOTED_LIST, 0);
+    }
+    let first = cells::word(work, node, 2);
+    put_two(core, at, kind + 1, first)
+}
+
+// The words of a list's elements.
+fn quote_all(items: &[u32], work: &[u32], list: u32, core: &mut [u32], at: usize) -> usize
+    requires { ⌜ (at + length (elementsAt (now items) (now work) list) ≤ length (now core)) × (Quotable (treeAt (now items) (now work) list 0)) ⌝ }
+    ensures { λ r. ⌜ Written (elementsAt (now (items .entry)) (now (work .entry)) list) (now (core .entry)) (now (core .exit)) at r ⌝ }
+{
+    let mut rest = list;
+    let mut n = at;
+    while cells::word(work, rest, 3) == cells::PAIR {
+        let first = cells::reference(work, rest, 2);
+        n = quote(items, work, first, core, n);
+        rest = cells::reference(work, rest, 1);
+    }
+    n
+}

@@ -1,0 +1,75 @@
+// The services for C and Rust. Each call answers document 01's ground, 0 where it accepts, and tells its numbers in a lent table.
+// No call has a requirement: it tests what it is lent. A slice passes as a pointer and a count of elements.
+
+ghost use mathlib.Core.Path.{_≡_};
+ghost use lib.ListN.{length};
+ghost use Rattle.reading.specs.Read.{read, groundOf, itemCount, nameCount, itemsAfter, namesAfter};
+ghost use Rattle.writer.specs.Writing.{textOf, ground, size, after};
+ghost use Rattle.grebetallboy.specs.Calls.{told};
+use reader::Reading;
+use writer::Writing;
+
+// Two numbers, where the table has two words for them.
+fn tell(counts: &mut [u64], a: u64, b: u64)
+    ensures { λ _. ⌜ now (counts .exit) ≡ told a b (now (counts .entry)) ⌝ }
+{
+    if counts.len() < 2 {
+        return;
+    }
+    counts[0] = a;
+    counts[1] = b;
+}
+
+// Reading: counts has the items and the names of an accepted text.
+#[no_mangle]
+pub extern "C" fn grebetallboy_read(
+    text: &[u8],
+    items: &mut [u32],
+    names: &mut [u8],
+    counts: &mut [u64],
+) -> u32
+    ensures { λ r. ⌜ (r ≡ groundOf (read (now (text .entry)) (length (now (items .entry))) (length (now (names .entry)))))
+        × (now (items .exit) ≡ itemsAfter (read (now (text .entry)) (length (now (items .entry))) (length (now (names .entry)))) (now (items .entry)))
+        × (now (names .exit) ≡ namesAfter (read (now (text .entry)) (length (now (items .entry))) (length (now (names .entry)))) (now (names .entry)))
+        × (now (counts .exit) ≡ told (itemCount (read (now (text .entry)) (length (now (items .entry))) (length (now (names .entry))))) (nameCount (read (now (text .entry)) (length (now (items .entry))) (length (now (names .entry))))) (now (counts .entry))) ⌝ }
+{
+    match reader::read(text, items, names) {
+        Reading::Read { items: i, names: n } => {
+            tell(counts, i as u64, n as u64);
+            0
+        }
+        Reading::Refused(g) => {
+            tell(counts, 0, 0);
+            g
+        }
+    }
+}
+
+// Writing: counts has the length of the text, then 0.
+#[no_mangle]
+pub extern "C" fn grebetallboy_write(
+    words: &[u32],
+    operations: u32,
+    names: &[u8],
+    out: &mut [u8],
+    counts: &mut [u64],
+) -> u32
+    ensures { λ r. ⌜ (r ≡ ground (now (out .entry)) (textOf (now (words .entry)) operations (now (names .entry))))
+        × (now (out .exit) ≡ after (now (out .entry)) (textOf (now (words .entry)) operations (now (names .entry))))
+        × (now (counts .exit) ≡ told (size (now (out .entry)) (textOf (now (words .entry)) operations (now (names .entry)))) 0 (now (counts .entry))) ⌝ }
+{
+    match writer::write(words, operations, names, out) {
+        Writing::Written(n) => {
+            tell(counts, n as u64, 0);
+            0
+        }
+        Writing::NoTerm => {
+            tell(counts, 0, 0);
+            19
+        }
+        Writing::NoRoom => {
+            tell(counts, 0, 0);
+            20
+        }
+    }
+}

@@ -1,0 +1,65 @@
+-- `is_pair` answers the test of a pair: one law of `ItemTests` for each way.
+use borrow.Author.Needs.{needs}
+use Rattle.layout.proofs.item.is_pair.Statement.{statement}
+use Rattle.layout.proofs.item.is_pair.Tie as tie
+use mathlib.Core.Path.{ap, sym, _∙_}
+use native.Mathlib.Omega.{arith}
+use Rattle.recipe.specs.Table.{kindAt}
+use Rattle.recipe.specs.Layout.{isListKind}
+use Rattle.layout.specs.ItemTests.{head-low, head-high, tail-low, tail-high, references-good}
+
+head-requires : tie.Need-head-requires
+head-requires c κs =
+    search needs
+
+tail-requires : tie.Need-tail-requires
+tail-requires c κs =
+    search needs
+
+returns : tie.Need-returns
+returns c =
+    let a = c .before .before .before .before .args in let ws = a .table .now in
+    sym (head-low ws (a .n) (a .i) (omega arith))
+
+returns-2 : tie.Need-returns-2
+returns-2 c =
+    let a = c .before .before .before .before .before .args in let ws = a .table .now in
+    sym (head-high ws (a .n) (a .i) (omega arith) (omega arith))
+
+returns-3 : tie.Need-returns-3
+returns-3 c =
+    let a = c .before .before .before .before .before .before .args in let ws = a .table .now in
+    sym (tail-low ws (a .n) (a .i) (omega arith))
+
+returns-4 : tie.Need-returns-4
+returns-4 c =
+    let a = c .before .before .before .before .before .before .before .args in let ws = a .table .now in
+    sym (tail-high ws (a .n) (a .i) (omega arith) (omega arith))
+
+kind-requires : tie.Need-kind-requires
+kind-requires c κs =
+    search needs
+
+is-list-kind-requires : tie.Need-is-list-kind-requires
+is-list-kind-requires c κs =
+    search needs
+
+returns-5 : tie.Need-returns-5
+returns-5 c =
+    let a = c .before .before .before .before .before .before .before .before .before .args in let ws = a .table .now in
+    c .is-list-kind .ensures ∙ ap isListKind (c .before .kind .ensures ∙ ap (kindAt ws) (c .before .before .before .before .before .before .tail .ensures))
+    ∙ sym (references-good ws (a .n) (a .i) (omega arith) (omega arith) (omega arith) (omega arith))
+
+pub is-pair-spec : {M : Type 1} → statement M
+is-pair-spec =
+    tie.close
+    (tie.spec
+    head-requires
+    tail-requires
+    returns
+    returns-2
+    returns-3
+    returns-4
+    kind-requires
+    is-list-kind-requires
+    returns-5)

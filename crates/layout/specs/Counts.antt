@@ -1,0 +1,155 @@
+-- Laws of counting references (ground 7): every item but item 0 is referred to by exactly one word.
+use mathlib.Core.Path.{_≡_, refl, _∙_}
+use mathlib.Core.Bool.{Bool, true, false, cond}
+use mathlib.Core.List.{List, [], _∷_}
+use Prim.Native.Nat.{ℕ, suc, _+_, _*_, _<_, _≤_}
+use native.Mathlib.Omega.{arith}
+use native.Mathlib.Numerals.{add-one}
+use lib.Dec.{eqb}
+use lib.ListN.{length, getD, set, drop, replicate, getD-replicate, drop-of-length-le}
+use lib.Seq.{getD-set-same, getD-set-other}
+use borrow.Author.Tests.{eqb-true, eqb-false, eq-eqb, ne-eqb}
+use Rattle.words.specs.Limits.{itemsMost}
+use Rattle.words.specs.Lists.{all}
+use Rattle.recipe.specs.Table.{Item, items, references, occurrences, kindAt, isReferredOnce}
+use Rattle.recipe.specs.ItemLaws.{itemAt, items-length, items-drop}
+use Rattle.recipe.specs.TreeFrom.{headAt, tailAt}
+use Rattle.layout.specs.ItemTests.{all-more}
+
+-- after has one more at each place for each time that it is among the references
+abbrev pub Counted : (before after refs : List ℕ) → Type 0
+Counted before after refs = (k : ℕ) → k < itemsMost → getD after k 0 ≡ getD before k 0 + occurrences k refs
+
+-- no count is above m
+abbrev pub AtMost : ℕ → List ℕ → Type 0
+AtMost m counts = (k : ℕ) → k < itemsMost → getD counts k 0 ≤ m
+
+-- each count is that of the table's references
+abbrev pub Referred : (ws counts : List ℕ) → Type 0
+Referred ws counts = (k : ℕ) → k < itemsMost → getD counts k 0 ≡ occurrences k (references (items 0 ws))
+
+-- ---- one reference
+
+occurrences-one : (k x : ℕ) (xs : List ℕ) → occurrences k (x ∷ xs) ≡ occurrences k (x ∷ []) + occurrences k xs
+unfolding occurrences
+occurrences-one k x xs = by (eqb k x)
+  where
+    by : (b : Bool) → cond b (suc (occurrences k xs)) (occurrences k xs) ≡ cond b 1 0 + occurrences k xs
+    by true = omega arith
+    by false = omega arith
+
+occurrences-least : (k x : ℕ) → occurrences k (x ∷ []) ≤ 1
+unfolding occurrences
+occurrences-least k x = by (eqb k x)
+  where
+    by : (b : Bool) → cond b 1 0 ≤ 1
+    by true = omega arith
+    by false = omega arith
+
+pub counted-one : (counts : List ℕ) (x : ℕ) → length counts ≡ itemsMost → Counted counts (set counts x (getD counts x 0 + 1)) (x ∷ [])
+unfolding occurrences
+counted-one counts x l k h = by (eqb k x) refl
+  where
+    by : (b : Bool) → eqb k x ≡ b → getD (set counts x (getD counts x 0 + 1)) k 0 ≡ getD counts k 0 + occurrences k (x ∷ [])
+    by true e =
+        let q : k ≡ x = eqb-true k x e in
+        let r : x < length counts = omega arith in
+        rw (e, q) (getD-set-same counts x (getD counts x 0 + 1) 0 r)
+    by false e = rw e (getD-set-other counts x k (getD counts x 0 + 1) 0 (eqb-false k x e) ∙ omega arith)
+
+-- past the table there is no count
+pub counted-past : (counts : List ℕ) (x : ℕ) → itemsMost ≤ x → Counted counts counts (x ∷ [])
+unfolding occurrences
+counted-past counts x l k h = let n : k ≡ x → ⊥ = λ e. omega arith in rw (ne-eqb k x n) (omega arith)
+
+pub counted-none : (counts : List ℕ) → Counted counts counts []
+unfolding occurrences
+counted-none counts k h = omega arith
+
+-- no count yet
+pub most-zero : AtMost 0 (replicate itemsMost 0)
+most-zero k h = omega (arith, getD-replicate {A = ℕ} itemsMost k 0 0 h)
+
+-- ---- one item
+
+module _ (ws : List ℕ) (i : ℕ) where
+  pub references-pair : kindAt ws i ≡ 4 → references (itemAt ws i ∷ []) ≡ headAt ws i ∷ tailAt ws i ∷ []
+  unfolding references itemAt kindAt headAt tailAt
+  references-pair k = rw k
+
+  pub references-none : (kindAt ws i ≡ 4 → ⊥) → references (itemAt ws i ∷ []) ≡ []
+  unfolding references itemAt kindAt
+  references-none k = rw (ne-eqb (kindAt ws i) 4 k)
+
+pub counted-two : (a b c : List ℕ) (x y : ℕ) → Counted a b (x ∷ []) → Counted b c (y ∷ []) → Counted a c (x ∷ y ∷ [])
+counted-two a b c x y p q k h = omega (arith, p k h, q k h, occurrences-one k x (y ∷ []))
+
+-- one count more at most
+pub most-one : (a b : List ℕ) (x m : ℕ) → Counted a b (x ∷ []) → AtMost m a → AtMost (m + 1) b
+most-one a b x m p q k h = omega (arith, p k h, q k h, occurrences-least k x)
+
+-- ---- all items, as a loop counts them
+
+occurrences-item : (k : ℕ) (x : Item) (xs : List Item) → occurrences k (references (x ∷ xs)) ≡ occurrences k (references (x ∷ [])) + occurrences k (references xs)
+unfolding references occurrences
+occurrences-item k x xs = by (eqb (x .kind) 4)
+  where
+    by : (b : Bool) → occurrences k (cond b (x .first ∷ x .second ∷ references xs) (references xs)) ≡ occurrences k (cond b (x .first ∷ x .second ∷ []) []) + occurrences k (references xs)
+    by true =
+        occurrences-one k (x .first) (x .second ∷ references xs)
+        ∙ omega (arith, occurrences-one k (x .second) (references xs), occurrences-one k (x .first) (x .second ∷ []))
+    by false = omega arith
+
+occurrences-two : (k : ℕ) (x : Item) → occurrences k (references (x ∷ [])) ≤ 2
+unfolding references occurrences
+occurrences-two k x = by (eqb (x .kind) 4)
+  where
+    by : (b : Bool) → occurrences k (cond b (x .first ∷ x .second ∷ []) []) ≤ 2
+    by true = omega (arith, occurrences-one k (x .first) (x .second ∷ []), occurrences-least k (x .first), occurrences-least k (x .second))
+    by false = omega arith
+
+occurrences-most : (k : ℕ) (xs : List Item) → occurrences k (references xs) ≤ 2 * length xs
+unfolding references occurrences
+occurrences-most k [] = omega arith
+occurrences-most k (x ∷ xs) = omega (arith, occurrences-item k x xs, occurrences-two k x, occurrences-most k xs)
+
+-- counted so far and left to count, together, are all references
+abbrev pub Counting : (ws : List ℕ) (i : ℕ) (counts : List ℕ) → Type 0
+Counting ws i counts = (k : ℕ) → k < itemsMost → getD counts k 0 + occurrences k (references (drop i (items 0 ws))) ≡ occurrences k (references (items 0 ws))
+
+module _ (ws : List ℕ) (n : ℕ) (e : length ws ≡ 3 * n) where
+  pub counting-start : (counts : List ℕ) → AtMost 0 counts → Counting ws 0 counts
+  counting-start counts z k h = omega (arith, z k h)
+
+  pub counting-most : (i : ℕ) (counts : List ℕ) → Counting ws i counts → AtMost (2 * n) counts
+  counting-most i counts c k h = omega (arith, c k h, occurrences-most k (items 0 ws), items-length 0 n ws e)
+
+  pub counting-more : (i : ℕ) (a b : List ℕ) → i < n → Counting ws i a → Counted a b (references (itemAt ws i ∷ [])) → Counting ws (i + 1) b
+  counting-more i a b h c d k l =
+      let s : occurrences k (references (drop i (items 0 ws))) ≡ occurrences k (references (itemAt ws i ∷ [])) + occurrences k (references (drop (i + 1) (items 0 ws)))
+      = rw (add-one, items-drop ws n i e h) (occurrences-item k (itemAt ws i) (drop (suc i) (items 0 ws))) in
+      omega (arith, c k l, d k l, s)
+
+  pub counting-end : (counts : List ℕ) → Counting ws n counts → Referred ws counts
+  unfolding references occurrences
+  counting-end counts c k h =
+      let d : drop n (items 0 ws) ≡ [] = drop-of-length-le (items 0 ws) {i = n} (omega (arith, items-length 0 n ws e)) in
+      let s : getD counts k 0 + occurrences k (references []) ≡ occurrences k (references (items 0 ws)) = rw d at (c k h) in
+      omega (arith, s)
+
+  -- ---- the test of each count
+
+  pub once-first : 0 < n → all (isReferredOnce (references (items 0 ws))) (items 0 ws) ≡ all (isReferredOnce (references (items 0 ws))) (drop 1 (items 0 ws))
+  unfolding isReferredOnce itemAt
+  once-first h = all-more (isReferredOnce (references (items 0 ws))) ws n e 0 h refl
+
+  module _ (counts : List ℕ) (c : Referred ws counts) (i : ℕ) (z : 0 < i) (l : i < itemsMost) where
+    once-is : isReferredOnce (references (items 0 ws)) (itemAt ws i) ≡ eqb (getD counts i 0) 1
+    unfolding isReferredOnce itemAt
+    once-is = let nz : i ≡ 0 → ⊥ = λ q. omega arith in rw (ne-eqb i 0 nz, c i l)
+
+    pub once-not : (getD counts i 0 ≡ 1 → ⊥) → isReferredOnce (references (items 0 ws)) (itemAt ws i) ≡ false
+    once-not h = once-is ∙ ne-eqb (getD counts i 0) 1 h
+
+    pub once-so : getD counts i 0 ≡ 1 → isReferredOnce (references (items 0 ws)) (itemAt ws i) ≡ true
+    once-so h = once-is ∙ eq-eqb (getD counts i 0) 1 h

@@ -1,0 +1,144 @@
+-- The walk through the list of operations (ground 10): what holds on the way, and one law for each way through `operations`.
+use mathlib.Core.Path.{_≡_, refl, sym, ap, _∙_}
+use mathlib.Core.Bool.{Bool, true, false, _&&_, cond, and-false}
+use mathlib.Core.List.{List, [], _∷_, _++_, map, append-nil}
+use Prim.Native.Nat.{ℕ, suc, _+_, _<_, _≤_}
+use native.Mathlib.Omega.{arith}
+use lib.Dec.{ltb, leb}
+use lib.ListN.{length, getD, set, length-append}
+use lib.Seq.{append-snoc}
+use borrow.Author.Tests.{ltb-true, lt-ltb, le-leb, lt-leb}
+use Rattle.words.specs.Limits.{namesMost, operationsMost}
+use Rattle.words.specs.Lists.{all}
+use Rattle.words.specs.TestLaws.{and-none-right, all-append}
+use Rattle.recipe.specs.Name.{Name, plainName, distinct}
+use Rattle.recipe.specs.Tree.{Tree, empty, constant, name, pair, onName, isName, names, elements, element}
+use Rattle.expansion.specs.Run.{operationNumbers, areOperations}
+use Rattle.layout.specs.Places.{Places, plainNames, numbers, numbers-append, numbers-length, plain-append, plain-length, distinct-more, distinct-twice, unplaced, placed-before, places-more}
+
+-- the number of an operation's name, 0 where the tree is none: no name above 7
+unfoldable pub operationNumber : Tree → ℕ
+operationNumber = onName (λ x. cond (ltb 7 (x .number)) (x .number) 0) 0
+
+-- ground 10 of the first element
+unfoldable pub areNames : Tree → Bool
+areNames e = all isName (elements e) && (leb (length (numbers (names e))) operationsMost && (all (ltb 7) (numbers (names e)) && distinct (names e)))
+
+pub areOperations-first : (t : Tree) → areOperations t ≡ areNames (element 0 t)
+unfolding areOperations operationNumbers areNames numbers
+areOperations-first t = refl
+
+-- ---- on the way: what was passed, and what is left
+
+pub record Walked (first rest : Tree) (table : List ℕ) (place : ℕ) : Type 0 where
+  pub passed : List (ℕ × ℕ)
+  pub elementsAre : elements first ≡ map name (plainNames passed) ++ elements rest
+  pub namesAre : names first ≡ plainNames passed ++ names rest
+  pub count : place ≡ length passed
+  pub few : place ≤ operationsMost
+  pub above : all (ltb 7) (numbers (plainNames passed)) ≡ true
+  pub apart : distinct (plainNames passed) ≡ true
+  pub places : Places table (numbers (plainNames passed))
+
+pub walked-start : (first : Tree) (table : List ℕ) → Places table [] → Walked first first table 0
+unfolding plainNames numbers all distinct
+walked-start first table h =
+    record { passed = []; elementsAre = refl; namesAre = refl; count = refl; few = omega arith; above = refl; apart = refl; places = h }
+
+all-out : {A : Type 0} (f : A → Bool) (xs : List A) (y : A) (ys : List A) → f y ≡ false → all f (xs ++ y ∷ ys) ≡ false
+unfolding all
+all-out f xs y ys h = all-append f xs (y ∷ ys) ∙ rw h (and-false (all f xs))
+
+map-snoc : (xs : List Name) (x : Name) → map name (xs ++ (x ∷ [])) ≡ map name xs ++ (name x ∷ [])
+map-snoc [] x = refl
+map-snoc (y ∷ ys) x = ap (λ (l : List Tree). name y ∷ l) (map-snoc ys x)
+
+all-names : (xs : List Name) → all isName (map name xs) ≡ true
+unfolding all isName onName
+all-names [] = refl
+all-names (x ∷ xs) = all-names xs
+
+module _ (first rest : Tree) (table : List ℕ) (place : ℕ) (w : Walked first rest table place) where
+  -- ---- the end
+  pub walked-end : rest ≡ empty → areNames first ≡ true
+  unfolding areNames elements names
+  walked-end r =
+      let a : elements first ≡ map name (plainNames (w .passed)) = w .elementsAre ∙ rw r (append-nil (map name (plainNames (w .passed)))) in
+      let b : names first ≡ plainNames (w .passed) = w .namesAre ∙ rw r (append-nil (plainNames (w .passed))) in
+      let s : length (numbers (plainNames (w .passed))) ≤ operationsMost = omega (arith, numbers-length (plainNames (w .passed)), plain-length (w .passed), w .count, w .few) in
+      rw (a, b, all-names (plainNames (w .passed)), le-leb (length (numbers (plainNames (w .passed)))) operationsMost s, w .above) (w .apart)
+
+  pub walked-places : rest ≡ empty → Places table (numbers (names first))
+  unfolding names
+  walked-places r =
+      let b : names first ≡ plainNames (w .passed) = w .namesAre ∙ rw r (append-nil (plainNames (w .passed))) in
+      rw b (w .places)
+
+  -- ---- the next element is no name above 7
+  not-name : (h t : Tree) → rest ≡ pair h t → isName h ≡ false → areNames first ≡ false
+  unfolding areNames elements
+  not-name h t r f = rw (w .elementsAre, r, all-out isName (map name (plainNames (w .passed))) h (elements t) f)
+
+  names-of : (x : Name) (t : Tree) → rest ≡ pair (name x) t → names first ≡ plainNames (w .passed) ++ x ∷ names t
+  unfolding names
+  names-of x t r = w .namesAre ∙ rw r
+
+  low : (x : Name) (t : Tree) → rest ≡ pair (name x) t → ltb 7 (x .number) ≡ false → areNames first ≡ false
+  unfolding areNames names numbers
+  low x t r f =
+      let b : numbers (names first) ≡ numbers (plainNames (w .passed)) ++ x .number ∷ numbers (names t) = ap numbers (names-of x t r) ∙ numbers-append (plainNames (w .passed)) (x ∷ names t) in
+      let c : all (ltb 7) (numbers (names first)) ≡ false = rw b (all-out (ltb 7) (numbers (plainNames (w .passed))) (x .number) (numbers (names t)) f) in
+      and-none-right (all isName (elements first)) _ (and-none-right (leb (length (numbers (names first))) operationsMost) _ (rw c))
+
+  pub walked-bad : (h t : Tree) → rest ≡ pair h t → operationNumber h ≡ 0 → areNames first ≡ false
+  unfolding isName onName operationNumber
+  walked-bad empty t r z = not-name empty t r refl
+  walked-bad (constant a) t r z = not-name (constant a) t r refl
+  walked-bad (pair a b) t r z = not-name (pair a b) t r refl
+  walked-bad (name x) t r z = low x t r (by (ltb 7 (x .number)) refl)
+    where
+      by : (b : Bool) → ltb 7 (x .number) ≡ b → ltb 7 (x .number) ≡ false
+      by true e = let n : x .number ≡ 0 = rw e at z in absurd (omega (arith, ltb-true 7 (x .number) e))
+      by false e = e
+
+  module _ (n i : ℕ) (t : Tree) (r : rest ≡ pair (name (plainName n i)) t) where
+    names-next : names first ≡ plainNames (w .passed) ++ plainName n i ∷ names t
+    names-next = names-of (plainName n i) t r
+
+    -- ---- there are 256 already
+    pub walked-full : place ≡ operationsMost → areNames first ≡ false
+    unfolding areNames
+    walked-full p =
+        let s : length (numbers (names first)) ≡ length (plainNames (w .passed)) + suc (length (names t)) =
+        numbers-length (names first) ∙ ap length names-next ∙ length-append (plainNames (w .passed)) (plainName n i ∷ names t) in
+        let l : operationsMost < length (numbers (names first)) = omega (arith, s, plain-length (w .passed), w .count) in
+        and-none-right (all isName (elements first)) _ (rw (lt-leb (length (numbers (names first))) operationsMost l))
+
+    module _ (below : n < namesMost) where
+      -- ---- it has a place already
+      pub walked-twice : (getD table n 0 ≡ 0 → ⊥) → areNames first ≡ false
+      unfolding areNames
+      walked-twice z =
+          let d : distinct (names first) ≡ false = rw names-next (distinct-twice 0 n i (w .passed) (names t) (placed-before table (w .passed) n i (w .places) below z)) in
+          rw d (and-none-right (all isName (elements first)) _ (and-none-right (leb (length (numbers (names first))) operationsMost) _ (and-false (all (ltb 7) (numbers (names first))))))
+
+      -- ---- it gets the next place
+      pub walked-more : 7 < n → place < operationsMost → length table ≡ namesMost → getD table n 0 ≡ 0 → Walked first t (set table n (place + 1)) (place + 1)
+      unfolding elements plainNames plainName numbers all
+      walked-more above few long z =
+          let ps = w .passed in
+          let one : List (ℕ × ℕ) = (n, i) ∷ [] in
+          let x = plainName n i in
+          let q : plainNames (ps ++ one) ≡ plainNames ps ++ (x ∷ []) = plain-append ps one in
+          let e : elements first ≡ map name (plainNames ps) ++ name x ∷ elements t = w .elementsAre ∙ rw r in
+          let a : numbers (plainNames (ps ++ one)) ≡ numbers (plainNames ps) ++ (n ∷ []) = ap numbers q ∙ numbers-append (plainNames ps) (x ∷ []) in
+          record {
+            passed = ps ++ one;
+            elementsAre = e ∙ sym (ap (λ (l : List Name). map name l ++ elements t) q ∙ ap (λ (l : List Tree). l ++ elements t) (map-snoc (plainNames ps) x) ∙ append-snoc (map name (plainNames ps)) (name x) (elements t));
+            namesAre = names-next ∙ sym (ap (λ (l : List Name). l ++ names t) q ∙ append-snoc (plainNames ps) x (names t));
+            count = omega (arith, w .count, length-append ps one);
+            few = omega arith;
+            above = rw (a, all-append (ltb 7) (numbers (plainNames ps)) (n ∷ []), w .above, lt-ltb 7 n above);
+            apart = rw q (distinct-more 0 n i ps (unplaced table ps n i (w .places) below z) (w .apart));
+            places = rw (w .count) (places-more table ps n i (w .places) below long z);
+          }

@@ -1,0 +1,107 @@
+// One item of a table: its three words, and whether they are those of its kind.
+ghost use mathlib.Core.Path.{_≡_};
+ghost use mathlib.Core.Bool.{true};
+ghost use Prim.Native.Nat.{_+_, _*_, _<_};
+ghost use lib.ListN.{length};
+ghost use Rattle.words.specs.Lists.{all};
+ghost use Rattle.recipe.specs.Table.{items, kindAt, isPairItem, isItem};
+ghost use Rattle.recipe.specs.ItemLaws.{itemAt};
+ghost use Rattle.recipe.specs.TreeFrom.{headAt, tailAt};
+ghost use Rattle.recipe.specs.Layout.{isListKind};
+
+// Item i's three words: its kind; a constant's word, a name's number or a pair's head item; a pair's tail item.
+pub fn kind(table: &[u32], i: usize) -> u32
+    requires { ⌜ 3 * i + 2 < length (now table) ⌝ }
+    ensures { λ r. ⌜ r ≡ kindAt (now (table .entry)) i ⌝ }
+{
+    table[3 * i]
+}
+
+pub fn head(table: &[u32], i: usize) -> usize
+    requires { ⌜ 3 * i + 2 < length (now table) ⌝ }
+    ensures { λ r. ⌜ r ≡ headAt (now (table .entry)) i ⌝ }
+{
+    table[3 * i + 1] as usize
+}
+
+pub fn tail(table: &[u32], i: usize) -> usize
+    requires { ⌜ 3 * i + 2 < length (now table) ⌝ }
+    ensures { λ r. ⌜ r ≡ tailAt (now (table .entry)) i ⌝ }
+{
+    table[3 * i + 2] as usize
+}
+
+// The empty list or a pair.
+pub fn is_list_kind(k: u32) -> bool
+    ensures { λ r. ⌜ r ≡ isListKind k ⌝ }
+{
+    if k == 0 {
+        return true;
+    }
+    k == 4
+}
+
+// A pair's references point to higher items of the n, and its tail is a list.
+fn is_pair(table: &[u32], n: usize, i: usize) -> bool
+    requires { ⌜ (length (now table) ≡ 3 * n) × (i < n) ⌝ }
+    ensures { λ r. ⌜ r ≡ isPairItem (now (table .entry)) n (itemAt (now (table .entry)) i) ⌝ }
+{
+    let h = head(table, i);
+    let t = tail(table, i);
+    if h <= i {
+        return false;
+    }
+    if n <= h {
+        return false;
+    }
+    if t <= i {
+        return false;
+    }
+    if n <= t {
+        return false;
+    }
+    is_list_kind(kind(table, t))
+}
+
+// Item i's words are those of its kind, unused ones 0; n items in all.
+fn is_item(table: &[u32], n: usize, i: usize) -> bool
+    requires { ⌜ (length (now table) ≡ 3 * n) × (i < n) ⌝ }
+    ensures { λ r. ⌜ r ≡ isItem (now (table .entry)) n (itemAt (now (table .entry)) i) ⌝ }
+{
+    let k = kind(table, i);
+    if k == 4 {
+        return is_pair(table, n, i);
+    }
+    if tail(table, i) != 0 {
+        return false;
+    }
+    let word = head(table, i);
+    if k == 0 {
+        return word == 0;
+    }
+    if k == 1 {
+        return true;
+    }
+    if k == 2 {
+        return word < 2;
+    }
+    if k == 3 {
+        return word < words::NAMES;
+    }
+    false
+}
+
+// Every item's words are those of its kind.
+pub fn items_fit(table: &[u32], n: usize) -> bool
+    requires { ⌜ length (now table) ≡ 3 * n ⌝ }
+    ensures { λ r. ⌜ r ≡ all (isItem (now (table .entry)) n) (items 0 (now (table .entry))) ⌝ }
+{
+    let mut i = 0;
+    while i < n {
+        if !is_item(table, n, i) {
+            return false;
+        }
+        i += 1;
+    }
+    true
+}

@@ -1,0 +1,77 @@
+// The tests that expansion makes before it runs: ground 7 (the layout of the item table), 8 and 9 (fuel and lent
+// tables) and 10 (the operations). None of them reads or writes the lent work and core tables.
+pub mod item;
+pub mod operation;
+mod reference;
+
+ghost use mathlib.Core.Path.{_≡_};
+ghost use mathlib.Core.Bool.{true, _&&_};
+ghost use Prim.Native.Nat.{_+_, _*_, _≤_, _<_};
+ghost use lib.Dec.{leb};
+ghost use lib.ListN.{length};
+ghost use Rattle.words.specs.Limits.{itemsMost, fuelMost, workRate, coreRate};
+ghost use Rattle.words.specs.Lists.{all};
+ghost use Rattle.recipe.specs.Tree.{isList, isListOf, element};
+ghost use Rattle.recipe.specs.Table.{items, isItem, treeOf, isLayout};
+
+// Item 0 begins the list of the two elements, the first of them a list. Each item is known to be good.
+fn begins_two(table: &[u32], n: usize) -> bool
+    requires { ⌜ (length (now table) ≡ 3 * n) × (0 < n) × (all (isItem (now table) n) (items 0 (now table)) ≡ true) ⌝ }
+    ensures { λ r. ⌜ r ≡ (isListOf 2 (treeOf (now (table .entry))) && isList (element 0 (treeOf (now (table .entry))))) ⌝ }
+{
+    if item::kind(table, 0) != 4 {
+        return false;
+    }
+    let second = item::tail(table, 0);
+    if item::kind(table, second) != 4 {
+        return false;
+    }
+    let end = item::tail(table, second);
+    if item::kind(table, end) != 0 {
+        return false;
+    }
+    let first = item::head(table, 0);
+    item::is_list_kind(item::kind(table, first))
+}
+
+// Ground 7.
+pub fn is_layout(table: &[u32]) -> bool
+    ensures { λ r. ⌜ r ≡ isLayout (now (table .entry)) ⌝ }
+{
+    let n = table.len() / 3;
+    if table.len() != 3 * n {
+        return false;
+    }
+    if n < words::LEAST_ITEMS {
+        return false;
+    }
+    if words::MOST_ITEMS < n {
+        return false;
+    }
+    if !item::items_fit(table, n) {
+        return false;
+    }
+    if !reference::referred_once(table, n) {
+        return false;
+    }
+    begins_two(table, n)
+}
+
+// Ground 8.
+pub fn fuel_fits(fuel: u32) -> bool
+    ensures { λ r. ⌜ r ≡ leb fuel fuelMost ⌝ }
+{
+    fuel <= words::FUEL
+}
+
+// Ground 9 of n items and lent tables of these lengths, past grounds 7 and 8: so the products are small.
+pub fn tables_fit(n: usize, fuel: u32, work: usize, core: usize) -> bool
+    requires { ⌜ (n ≤ itemsMost) × (fuel ≤ fuelMost) ⌝ }
+    ensures { λ r. ⌜ r ≡ (leb (workRate * (n + fuel)) work && leb (coreRate * (n + fuel)) core) ⌝ }
+{
+    let need = n + fuel as usize;
+    if work < words::WORK_RATE * need {
+        return false;
+    }
+    words::CORE_RATE * need <= core
+}

@@ -1,0 +1,89 @@
+-- The items of the private name, among the names of a tree; and that no variable has a number that no name has.
+use mathlib.Core.Path.{_≡_, refl, ap, ap₂, sym, _∙_}
+use mathlib.Core.Bool.{Bool, true, false, _&&_, _||_, cond, false≢true}
+use mathlib.Core.List.{List, [], _∷_}
+use Prim.Native.Nat.{ℕ, _+_, _≤_}
+use native.Mathlib.Omega.{arith}
+use borrow.Author.Tests.{eqb-true, eq-eqb}
+use lib.Dec.{eqb}
+use Rattle.words.specs.Lists.{any}
+use Rattle.words.specs.TestLaws.{or-left, or-right, any-append}
+use Rattle.recipe.specs.Name.{Name, isEllipsis}
+use Rattle.recipe.specs.Tree.{Tree, empty, constant, name, pair, names}
+use Rattle.recipe.specs.TreeNames.{TreeAll, all-empty, all-constant, all-name, all-pair, treeAll-map, uses}
+use Rattle.expansion.specs.Rules.{variables, isVariable, depthBefore}
+
+module _ (o : ℕ) where
+  -- a name of the old number that stems from item i
+  unfoldable pub isOld : ℕ → Name → Bool
+  isOld i x = eqb (x .number) o && eqb (x .item) i
+
+  -- it is one of the tree's names
+  pub old-uses : (i : ℕ) (t : Tree) → any (isOld i) (names t) ≡ true → 1 ≤ uses i t
+  unfolding any names isOld uses
+  old-uses i empty e = absurd (false≢true e)
+  old-uses i (constant a) e = absurd (false≢true e)
+  old-uses i (name x) e = go (eqb (x .number) o) (eqb (x .item) i) e
+    where
+      go : (a b : Bool) → ((a && b) || false) ≡ true → 1 ≤ cond b 1 0
+      go a true e = omega arith
+      go true false e = absurd (false≢true e)
+      go false false e = absurd (false≢true e)
+  old-uses i (pair h t) e = go (any (isOld i) (names h)) (any (isOld i) (names t)) (sym (any-append (isOld i) (names h) (names t)) ∙ e) (old-uses i h) (old-uses i t)
+    where
+      go : (a b : Bool) → (a || b) ≡ true → (a ≡ true → 1 ≤ uses i h) → (b ≡ true → 1 ≤ uses i t) → 1 ≤ uses i h + uses i t
+      go true b e f g = omega (arith, f refl)
+      go false b e f g = omega (arith, g e)
+
+  -- where numbers go by items, its item's number is the old one
+  pub old-number : (N : ℕ → ℕ) (i : ℕ) {t : Tree} → TreeAll (λ x. x .number ≡ N (x .item)) t → any (isOld i) (names t) ≡ true → N i ≡ o
+  unfolding any names isOld
+  old-number N i all-empty e = absurd (false≢true e)
+  old-number N i all-constant e = absurd (false≢true e)
+  old-number N i (all-name {x = x} p) e = go (eqb (x .number) o) (eqb (x .item) i) refl refl e
+    where
+      go : (a b : Bool) → eqb (x .number) o ≡ a → eqb (x .item) i ≡ b → ((a && b) || false) ≡ true → N i ≡ o
+      go true true d f e = ap N (sym (eqb-true (x .item) i f)) ∙ sym p ∙ eqb-true (x .number) o d
+      go true false d f e = absurd (false≢true e)
+      go false b d f e = absurd (false≢true e)
+  old-number N i (all-pair {h = h} {t = t} p q) e = go (any (isOld i) (names h)) (any (isOld i) (names t)) (sym (any-append (isOld i) (names h) (names t)) ∙ e) (old-number N i p) (old-number N i q)
+    where
+      go : (a b : Bool) → (a || b) ≡ true → (a ≡ true → N i ≡ o) → (b ≡ true → N i ≡ o) → N i ≡ o
+      go true b e f g = f refl
+      go false b e f g = g e
+
+  -- each name of the old number is one
+  pub old-each : (t : Tree) → TreeAll (λ x. eqb (x .number) o ≡ true → any (isOld (x .item)) (names t) ≡ true) t
+  unfolding names isOld any
+  old-each empty = all-empty
+  old-each (constant a) = all-constant
+  old-each (name x) = all-name (λ e. ap₂ (λ a b. (a && b) || false) e (eq-eqb (x .item) (x .item) refl))
+  old-each (pair h t) = all-pair
+      (treeAll-map (λ x f e. any-append (isOld (x .item)) (names h) (names t) ∙ or-left _ _ (f e)) (old-each h))
+      (treeAll-map (λ x f e. any-append (isOld (x .item)) (names h) (names t) ∙ or-right (any (isOld (x .item)) (names h)) _ (f e)) (old-each t))
+
+  -- there is one, where a name has the old number
+  pub old-some : (xs : List Name) → any (λ x. eqb (x .number) o) xs ≡ true → (i : ℕ) × (any (isOld i) xs ≡ true)
+  unfolding any isOld
+  old-some [] e = absurd (false≢true e)
+  old-some (x ∷ xs) e = go (eqb (x .number) o) refl e (old-some xs)
+    where
+      go : (b : Bool) → eqb (x .number) o ≡ b → (b || any (λ x. eqb (x .number) o) xs) ≡ true → (any (λ x. eqb (x .number) o) xs ≡ true → (i : ℕ) × (any (isOld i) xs ≡ true))
+          → (i : ℕ) × (any (isOld i) (x ∷ xs) ≡ true)
+      go true d e h = (x .item, or-left (isOld (x .item) x) (any (isOld (x .item)) xs) (ap₂ _&&_ d (eq-eqb (x .item) (x .item) refl)))
+      go false d e h = let w = h e in (w .0, or-right (isOld (w .0) x) (any (isOld (w .0)) xs) (w .1))
+
+-- ---- no variable has a number that no name has
+
+pub variables-none : (literals : List Name) (n d : ℕ) {t : Tree} → TreeAll (λ x. eqb (x .number) n ≡ false) t → any (λ v. eqb (v .0 .number) n) (variables isEllipsis literals d t) ≡ false
+unfolding variables any
+variables-none literals n d all-empty = refl
+variables-none literals n d all-constant = refl
+variables-none literals n d (all-name {x = x} e) = go (isVariable isEllipsis literals x)
+  where
+    go : (b : Bool) → any (λ (v : Name × ℕ). eqb (v .0 .number) n) (cond b ((x, d) ∷ []) []) ≡ false
+    go true = ap (λ c. c || false) e
+    go false = refl
+variables-none literals n d (all-pair {h = h} {t = t} p q) =
+    any-append (λ v. eqb (v .0 .number) n) (variables isEllipsis literals (depthBefore isEllipsis t d) h) (variables isEllipsis literals d t)
+    ∙ ap₂ _||_ (variables-none literals n (depthBefore isEllipsis t d) p) (variables-none literals n d q)

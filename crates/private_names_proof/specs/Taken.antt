@@ -1,0 +1,108 @@
+-- The renaming that the statement takes, by a choice in a table of the layout, and its rule: what `renamed-hole` asks of it holds.
+-- And the first element, the operations, stays as it is.
+use mathlib.Core.Path.{_≡_, ap, sym, _∙_}
+use mathlib.Core.Bool.{true, false, not}
+use mathlib.Core.List.{List}
+use mathlib.Core.Option.{some}
+use Prim.Native.Nat.{ℕ, suc, _≤_}
+use native.Mathlib.Omega.{arith}
+use borrow.Author.Tests.{ltb-false, not-true, ne-eqb}
+use lib.Dec.{eqb, ltb}
+use Rattle.words.specs.Limits.{namesMost, baseNameCount}
+use Rattle.words.specs.Lists.{any}
+use Rattle.words.specs.TestLaws.{and-parts}
+use Rattle.recipe.specs.Tree.{Tree, names, element, tail, onNames}
+use Rattle.recipe.specs.TreeLaws.{onNames-element, element-tail}
+use Rattle.recipe.specs.TreeNames.{TreeAll, treeAll-element, treeAll-tail, uses-elements}
+use Rattle.recipe.specs.Table.{isLayout, treeOf}
+use Rattle.recipe.specs.TableNames.{numberAt, treeOf-plain, treeOf-numbered, treeOf-uses}
+use Rattle.expansion.specs.Computation.{Events}
+use Rattle.private_names.specs.Statement as S
+use Rattle.private_names.specs.Statement.{Choice, formAt, rulesAt, ruleAt, templateAt, isVariableAt, isOldItem, isNew, isOwnedByCopy}
+use Rattle.simulation.specs.Names.Shown.{Renaming}
+use Rattle.simulation.specs.Form.Scopes.{hasVariable}
+use Rattle.simulation.specs.Form.Places.{still-eq}
+use Rattle.private_names_proof.specs.Renumber.{tree-new}
+use Rattle.private_names_proof.specs.Paths.{sub, treeAll-sub, Headed, headed-of-element, headed-part}
+use Rattle.private_names_proof.specs.Renamed.OldItems.{isOld, old-some, variables-none}
+use Rattle.private_names_proof.specs.Renamed.{unbound, renew, still-tree, Held, held-element, templateIn, Chosen, renamed-holds}
+
+module _ (ws : List ℕ) (c : Choice) (layout : isLayout ws ≡ true) (private : S.isPrivate (treeOf ws) c ≡ true) (new : isNew ws (c .new) ≡ true) (shown : Events) where
+  abbrev T : Tree
+  T = treeOf ws
+
+  pub old-free : (eqb (c .old) 6 ≡ false) × ((eqb (c .old) 7 ≡ false) × (isVariableAt T c (c .old) ≡ false))
+  unfolding S.isPrivate
+  old-free =
+      let a = and-parts (any (λ x. eqb (x .number) (c .old)) (names (templateAt T c))) _ private in
+      let b = and-parts (not (eqb (c .old) 6)) _ (a .1) in
+      let d = and-parts (not (eqb (c .old) 7)) (not (isVariableAt T c (c .old))) (b .1) in
+      (not-true _ (b .0), (not-true _ (d .0), not-true _ (d .1)))
+
+  some-private : (i : ℕ) × (isOldItem T c i ≡ true)
+  unfolding S.isPrivate isOldItem isOld
+  some-private = old-some (c .old) (names (templateAt T c)) (and-parts (any (λ x. eqb (x .number) (c .old)) (names (templateAt T c))) _ private .0)
+
+  pub new-large : (baseNameCount ≤ c .new) × (ltb (c .new) namesMost ≡ true)
+  unfolding isNew
+  new-large =
+      let a = and-parts (not (ltb (c .new) baseNameCount)) _ new in
+      let b = and-parts (ltb (c .new) namesMost) _ (a .1) in
+      (ltb-false (c .new) baseNameCount (not-true (ltb (c .new) baseNameCount) (a .0)), b .0)
+
+  abbrev pub renaming : Renaming
+  renaming = record {
+    isPrivate = isOldItem T c;
+    isOwned = λ b. isOwnedByCopy (isOldItem T c) shown (some b);
+    old = c .old;
+    new = c .new;
+    old-6 = old-free .0;
+    old-7 = old-free .1 .0;
+    new-6 = ne-eqb (c .new) 6 (λ e. omega (arith, new-large .0));
+    new-7 = ne-eqb (c .new) 7 (λ e. omega (arith, new-large .0));
+  }
+
+  pub held : Held (numberAt ws) T
+  held = record { plain = treeOf-plain ws; numbered = treeOf-numbered ws; once = λ q. treeOf-uses q ws layout }
+
+  -- where the form lies at l of the expression
+  module _ (l : List ℕ) (i : Headed (c .form) l (element 1 T)) where
+    abbrev R : Tree
+    R = element 1 (element (c .macro) (element 1 (sub l (element 1 T))))
+
+    rules-at : rulesAt T c ≡ R
+    unfolding rulesAt formAt sub
+    rules-at = ap (λ t. element 1 (element (c .macro) (element 1 t))) (headed-part (c .form) (headed-of-element (c .form) 1 T i) (held .once (c .form)) .1)
+
+    new-rules : TreeAll (λ x. eqb (x .number) (c .new) ≡ false) R
+    new-rules = treeAll-element 1 (treeAll-element (c .macro) (treeAll-element 1 (treeAll-sub l (treeAll-element 1 (tree-new ws (c .new) new)))))
+
+    template-at : templateAt T c ≡ templateIn (c .rule) R
+    unfolding templateAt ruleAt templateIn
+    template-at = ap (λ r. element 1 (element (c .rule) (tail (tail r)))) rules-at ∙ ap (element 1) (element-tail (c .rule) (tail R) ∙ element-tail (suc (c .rule)) R)
+
+    items-at : (q : ℕ) → isOldItem T c q ≡ any (isOld (c .old) q) (names (templateIn (c .rule) R))
+    unfolding isOldItem isOld
+    items-at q = ap (λ t. any (isOld (c .old) q) (names t)) template-at
+
+    old-at : hasVariable (c .rule) (c .old) R ≡ false
+    unfolding hasVariable isVariableAt ruleAt
+    old-at = sym (ap (hasVariable (c .rule) (c .old)) rules-at) ∙ old-free .1 .1
+
+    new-at : hasVariable (c .rule) (c .new) R ≡ false
+    unfolding hasVariable
+    new-at = variables-none (names (element 1 R)) (c .new) 0 (treeAll-tail (treeAll-element 0 (treeAll-element (c .rule) (treeAll-tail (treeAll-tail new-rules)))))
+
+    new-template : TreeAll (λ x. eqb (x .number) (c .new) ≡ false) (templateIn (c .rule) R)
+    unfolding templateIn
+    new-template = treeAll-element 1 (treeAll-element (suc (suc (c .rule))) new-rules)
+
+    pub chosen : Chosen renaming (c .rule) R
+    chosen = record { private = items-at; some = some-private; fresh = new-template; old-free = old-at; new-free = new-at }
+
+    -- the first element has no private item
+    pub operations-same : element 0 (onNames (renew renaming) T) ≡ element 0 T
+    operations-same =
+        onNames-element (renew renaming) 0 T
+        ∙ sym (still-eq renaming unbound (still-tree renaming (treeAll-element 0 (held .plain))
+        (λ q e. omega (arith, held .once q, renamed-holds renaming (numberAt ws) l (c .macro) (c .rule) (element 1 T) (held-element (numberAt ws) 1 T held) chosen q e, uses-elements q 0 1 T (omega arith)))))

@@ -1,0 +1,270 @@
+use borrow.Author.Needs.{needs}
+use Rattle.reader.proofs.element.advance.Statement.{statement}
+use Rattle.reader.proofs.element.advance.Tie as tie
+use mathlib.Core.Path.{refl, sym, ap, subst, _∙_}
+use native.Mathlib.Omega.{arith}
+use mir.Syntax.{w32}
+use mir.Val.{ofZ}
+use mir.Facts.{toZ-ofZ}
+use Rattle.words.specs.Parts.{part}
+use Rattle.datum.specs.Constant.{integer, boolean}
+use Rattle.reading.specs.Meaning.{begins, ends, constant, name}
+use Rattle.reader.specs.Code.Told.{Told}
+use Rattle.reader.specs.Code.MovedLaws.{stepped-moved, constant-stepped, refused-moved, end-moved}
+
+token-at-requires : tie.Need-token-at-requires
+token-at-requires c κs =
+    search needs
+
+enum-told : tie.Need-enum-told
+enum-told c =
+    search needs
+
+finish-requires : tie.Need-finish-requires
+finish-requires c κs =
+    search needs
+
+enum-known-ground : tie.Need-enum-known-ground
+enum-known-ground c =
+    search needs
+
+enum-known-next : tie.Need-enum-known-next
+enum-known-next c =
+    search needs
+
+open-list-requires : tie.Need-open-list-requires
+open-list-requires c κs =
+    search needs
+
+moved-requires : tie.Need-moved-requires
+moved-requires c κs =
+    search needs
+
+enum-known-next-2 : tie.Need-enum-known-next-2
+enum-known-next-2 c =
+    search needs
+
+close-list-requires : tie.Need-close-list-requires
+close-list-requires c κs =
+    search needs
+
+moved-requires-2 : tie.Need-moved-requires-2
+moved-requires-2 c κs =
+    search needs
+
+enum-known-b : tie.Need-enum-known-b
+enum-known-b c =
+    search needs
+
+put-token-requires : tie.Need-put-token-requires
+put-token-requires c κs =
+    search needs
+
+moved-requires-3 : tie.Need-moved-requires-3
+moved-requires-3 c κs =
+    search needs
+
+enum-known-z : tie.Need-enum-known-z
+enum-known-z c =
+    search needs
+
+to-word-requires : tie.Need-to-word-requires
+to-word-requires c κs =
+    search needs
+
+put-token-requires-2 : tie.Need-put-token-requires-2
+put-token-requires-2 c κs =
+    search needs
+
+moved-requires-4 : tie.Need-moved-requires-4
+moved-requires-4 c κs =
+    search needs
+
+enum-known-from : tie.Need-enum-known-from
+enum-known-from c =
+    search needs
+
+sub-put-name : tie.Need-sub-put-name
+sub-put-name c =
+    let args = c .before .before .before .before .before .before .before .before .before .args in
+    let from = c .before .before .before .from in
+    let token-at = c .before .before .before .before .before .token-at in
+    let n = subst (Told (args .text .now) (args .cursor .at)) (from .given .1) (token-at .ensures) in omega (arith, n .1)
+
+part-put-name-start : tie.Need-part-put-name-start
+part-put-name-start c =
+    let args = c .before .before .before .before .before .before .before .before .before .args in
+    let from = c .before .before .before .from in
+    let token-at = c .before .before .before .before .before .token-at in
+    let n = subst (Told (args .text .now) (args .cursor .at)) (from .given .1) (token-at .ensures) in omega (arith, n .1)
+
+part-put-name-end : tie.Need-part-put-name-end
+part-put-name-end c =
+    let args = c .before .before .before .before .before .before .before .before .before .args in
+    let from = c .before .before .before .from in
+    let token-at = c .before .before .before .before .before .token-at in
+    let n = subst (Told (args .text .now) (args .cursor .at)) (from .given .1) (token-at .ensures) in omega (arith, n .3 .high)
+
+put-name-requires : tie.Need-put-name-requires
+put-name-requires c κs =
+    let args = c .before .before .before .before .before .before .before .before .before .before .args in
+    let from = c .before .before .before .before .from in
+    let token-at = c .before .before .before .before .before .before .token-at in
+    let pre = c .before .before .before .before .before .before .before .before .before .before .pre in
+    let n = subst (Told (args .text .now) (args .cursor .at)) (from .given .1) (token-at .ensures) in
+    (pre .1 .0, (pre .1 .1, n .2))
+
+moved-requires-5 : tie.Need-moved-requires-5
+moved-requires-5 c κs =
+    search needs
+
+returns : tie.Need-returns
+returns c =
+    λ r h.
+    let args = c .before .before .before .before .before .before .before .args in
+    let token-at = c .before .before .before .token-at in
+    end-moved (args .text .now) (args .cursor .at) r (args .place) (args .items .now) (args .names .now) h
+    (subst (Told (args .text .now) (args .cursor .at)) (c .before .enum-told .given .1) (token-at .ensures)) (c .finish .result)
+    (c .finish .ensures)
+
+returns-2 : tie.Need-returns-2
+returns-2 c =
+    λ r h.
+    let args = c .before .before .before .before .before .before .before .args in
+    let ground = c .before .ground in
+    let token-at = c .before .before .before .token-at in
+    refused-moved (args .text .now) (args .cursor .at) r (ground .given .0 .0)
+    (subst (Told (args .text .now) (args .cursor .at)) (ground .given .1) (token-at .ensures))
+
+same-length : tie.Need-same-length
+same-length c =
+    search needs
+
+returns-3 : tie.Need-returns-3
+returns-3 c =
+    λ r h.
+    let args = c .before .before .before .before .before .before .before .before .before .before .before .before .args in
+    let open-list = c .before .before .before .open-list in
+    let next = c .before .before .before .before .before .before .next in
+    let token-at = c .before .before .before .before .before .before .before .before .token-at in
+    stepped-moved (args .text .now) (args .cursor .at) r (open-list .last .0) (args .names .now) begins (next .given .0 .0)
+    (subst (Told (args .text .now) (args .cursor .at)) (next .given .1) (token-at .ensures)) (open-list .result)
+    (c .moved .result) (c .moved .ensures) (open-list .ensures r (args .names .now) h)
+
+same-length-2 : tie.Need-same-length-2
+same-length-2 c =
+    search needs
+
+returns-4 : tie.Need-returns-4
+returns-4 c =
+    λ r h.
+    let args = c .before .before .before .before .before .before .before .before .before .before .before .before .args in
+    let close-list = c .before .before .before .close-list in
+    let next2 = c .before .before .before .before .before .before .next2 in
+    let token-at = c .before .before .before .before .before .before .before .before .token-at in
+    stepped-moved (args .text .now) (args .cursor .at) r (close-list .last .0) (args .names .now) ends (next2 .given .0 .0)
+    (subst (Told (args .text .now) (args .cursor .at)) (next2 .given .1) (token-at .ensures)) (close-list .result)
+    (c .moved2 .result) (c .moved2 .ensures) (close-list .ensures r (args .names .now) h)
+
+same-length-3 : tie.Need-same-length-3
+same-length-3 c =
+    search needs
+
+returns-5 : tie.Need-returns-5
+unfolding boolean
+returns-5 c =
+    λ r h.
+    let args = c .before .before .before .before .before .before .before .before .before .before .before .before .args in
+    let put-token = c .before .before .before .put-token in
+    let b = c .before .before .before .before .before .before .b in
+    let token-at = c .before .before .before .before .before .before .before .before .token-at in
+    stepped-moved (args .text .now) (args .cursor .at) r (put-token .last .0) (args .names .now)
+    (constant (boolean (b .given .0 .0))) (b .given .0 .1 .0)
+    (subst (Told (args .text .now) (args .cursor .at)) (b .given .1) (token-at .ensures)) (put-token .result) (c .moved3 .result)
+    (c .moved3 .ensures)
+    (constant-stepped r (args .place) (args .items .now) (put-token .last .0) (args .names .now) (boolean (b .given .0 .0))
+    (b .given .0 .0) (put-token .result) h refl refl (put-token .ensures))
+
+same-length-4 : tie.Need-same-length-4
+same-length-4 c =
+    search needs
+
+returns-6 : tie.Need-returns-6
+unfolding integer
+returns-6 c =
+    λ r h.
+    let args = c .before .before .before .before .before .before .before .before .before .before .before .before .before .args in
+    let put-token2 = c .before .before .before .put-token2 in
+    let z′ = c .before .before .before .before .before .before .before .z in
+    let token-at = c .before .before .before .before .before .before .before .before .before .token-at in
+    let to-word = c .before .before .before .before .to-word in
+    let known-told5 = c .before .before .before .before .before .before .known-told5 in
+    stepped-moved (args .text .now) (args .cursor .at) r (put-token2 .last .0) (args .names .now)
+    (constant (integer (ofZ w32 (z′ .given .0 .0)))) (z′ .given .0 .1 .0)
+    (subst (Told (args .text .now) (args .cursor .at)) (z′ .given .1) (token-at .ensures)) (put-token2 .result)
+    (c .moved4 .result) (c .moved4 .ensures)
+    (constant-stepped r (args .place) (args .items .now) (put-token2 .last .0) (args .names .now)
+    (integer (ofZ w32 (z′ .given .0 .0))) (to-word .result) (put-token2 .result) h refl
+    (sym (to-word .ensures ∙ ap (ofZ w32)
+    (toZ-ofZ {w = w32} {z = z′ .given .0 .0} (record { sfits = known-told5 .given .0 .1 })))) (put-token2 .ensures))
+
+same-length-5 : tie.Need-same-length-5
+same-length-5 c =
+    search needs
+
+same-length-6 : tie.Need-same-length-6
+same-length-6 c =
+    search needs
+
+returns-7 : tie.Need-returns-7
+returns-7 c =
+    λ r h.
+    let args = c .before .before .before .before .before .before .before .before .before .before .before .before .before .before .before .before .args in
+    let from = c .before .before .before .before .before .before .before .before .before .before .from in
+    let token-at = c .before .before .before .before .before .before .before .before .before .before .before .before .token-at in
+    let put-name = c .before .before .before .before .before .put-name in
+    let n = subst (Told (args .text .now) (args .cursor .at)) (from .given .1) (token-at .ensures) in
+    stepped-moved (args .text .now) (args .cursor .at) r (put-name .last .0) (put-name .last .1 .0)
+    (name (part (from .given .0 .0) (from .given .0 .1 .0 .at) (args .text .now))) (from .given .0 .1 .0)
+    (n .3) (put-name .result) (c .moved5 .result) (c .moved5 .ensures) (put-name .ensures r h)
+
+pub advance-spec : {M : Type 1} → statement M
+advance-spec =
+    tie.close
+    (tie.spec
+    token-at-requires
+    enum-told
+    finish-requires
+    enum-known-ground
+    enum-known-next
+    open-list-requires
+    moved-requires
+    enum-known-next-2
+    close-list-requires
+    moved-requires-2
+    enum-known-b
+    put-token-requires
+    moved-requires-3
+    enum-known-z
+    to-word-requires
+    put-token-requires-2
+    moved-requires-4
+    enum-known-from
+    sub-put-name
+    part-put-name-start
+    part-put-name-end
+    put-name-requires
+    moved-requires-5
+    returns
+    returns-2
+    same-length
+    returns-3
+    same-length-2
+    returns-4
+    same-length-3
+    returns-5
+    same-length-4
+    returns-6
+    same-length-5
+    same-length-6
+    returns-7)

@@ -1,0 +1,137 @@
+-- The loop's invariant: the rest of the text, from the cursor on, has the outcome of the whole.
+use Rattle.reader.proofs.read_text.Statement.{statement}
+use Rattle.reader.proofs.read_text.Tie as tie
+use mathlib.Core.Path.{_≡_, refl, _∙_}
+use native.Mathlib.Omega.{arith}
+use Prim.Native.Nat.{_-_}
+use lib.ListN.{length}
+use Rattle.reader.specs.Code.Reached.{Reached}
+use Rattle.reader.specs.Code.StepLaws.{holds-sound}
+use Rattle.reader.specs.Code.NameStepLaws.{holds-names}
+use Rattle.reader.specs.Code.ServedLaws.{reached-first, reached-on, reached-later, reached-done, reached-refused}
+use borrow.Author.Needs.{needs}
+
+abbrev Inv-loop : tie.InvT-loop
+Inv-loop text items₀ names₀ cursor₀ place₀ items names cursor place =
+    (length items ≡ length items₀) × (length names ≡ length names₀) × Reached text items names place cursor
+
+abbrev μ-loop : tie.MeasureT-loop
+μ-loop text items₀ names₀ cursor₀ place₀ items names cursor place =
+    length text - cursor .at
+
+loop-holds : tie.Need-loop-holds Inv-loop μ-loop
+loop-holds c =
+    let args = c .before .before .before .args in
+    let pre = c .before .before .before .pre in
+    (refl, refl, reached-first (args .text .now) (args .items .now) (args .names .now) (pre .0 .0) (pre .0 .1) (pre .1))
+
+advance-requires : tie.Need-advance-requires Inv-loop μ-loop
+advance-requires c κs =
+    let loop = c .before .before .loop in
+    let r = loop .inv .2 in (
+      r .high,
+      (
+        holds-sound (r .reading) (loop .place) (loop .items) (loop .names) (r .holds),
+        holds-names (r .reading)
+            (loop .place) (loop .items) (loop .names) (r .holds),
+      ),
+    )
+
+enum-known-p : tie.Need-enum-known-p Inv-loop μ-loop
+enum-known-p c =
+    search needs
+
+loop-less : tie.Need-loop-less Inv-loop μ-loop
+loop-less c =
+    let args = c .before .before .before .before .before .before .before .before .before .before .before .before .before .before .args in
+    let loop = c .before .before .before .before .before .before .before .before .before .before .loop in
+    let advance = c .before .before .before .before .before .before .before .advance in
+    let p = c .before .p in
+    let l = reached-later (args .text .now) (loop .items) (loop .names) (loop .place) (loop .cursor) (loop .inv .2)
+    (advance .last .1 .1 .1 .0) (advance .last .1 .1 .1 .1 .0) (advance .result) (advance .ensures) (p .given .0 .0)
+    (p .given .0 .1 .0) (p .given .1) in omega (arith, l .0, l .1)
+
+loop-again : tie.Need-loop-again Inv-loop μ-loop
+loop-again c =
+    let advance = c .before .before .before .before .before .before .before .advance in
+    let loop = c .before .before .before .before .before .before .before .before .before .before .loop in
+    let args = c .before .before .before .before .before .before .before .before .before .before .before .before .before .before .args in
+    let p = c .before .p in (
+      advance .kept .1 .1 .1 .0 ∙ loop .inv .0,
+      advance .kept .1 .1 .1 .1 .0 ∙ loop .inv .1,
+      reached-on (args .text .now)
+          (loop .items) (loop .names) (loop .place) (loop .cursor) (loop .inv .2) (advance .last .1 .1 .1 .0)
+          (advance .last .1 .1 .1 .1 .0) (advance .result) (advance .ensures) (p .given .0 .0) (p .given .0 .1 .0) (p .given .1),
+    )
+
+enum-known-i : tie.Need-enum-known-i Inv-loop μ-loop
+enum-known-i c =
+    search needs
+
+same-length : tie.Need-same-length Inv-loop μ-loop
+same-length c =
+    let advance = c .before .before .before .before .before .before .before .advance in
+    let loop = c .before .before .before .before .before .before .before .before .before .before .loop in
+    advance .kept .1 .1 .1 .0 ∙ loop .inv .0
+
+same-length-2 : tie.Need-same-length-2 Inv-loop μ-loop
+same-length-2 c =
+    let advance = c .before .before .before .before .before .before .before .advance in
+    let loop = c .before .before .before .before .before .before .before .before .before .before .loop in
+    advance .kept .1 .1 .1 .1 .0 ∙ loop .inv .1
+
+returns : tie.Need-returns Inv-loop μ-loop
+returns c =
+    let args = c .before .before .before .before .before .before .before .before .before .before .before .before .before .before .args in
+    let loop = c .before .before .before .before .before .before .before .before .before .before .loop in
+    let advance = c .before .before .before .before .before .before .before .advance in
+    let i = c .before .i in
+    reached-done (args .text .now) (loop .items) (loop .names) (loop .place) (loop .cursor) (loop .inv .2)
+    (advance .last .1 .1 .1 .0) (advance .last .1 .1 .1 .1 .0) (advance .result) (advance .ensures) (i .given .0 .0)
+    (i .given .0 .1 .0) (i .given .1)
+
+enum-known-ground : tie.Need-enum-known-ground Inv-loop μ-loop
+enum-known-ground c =
+    search needs
+
+same-length-3 : tie.Need-same-length-3 Inv-loop μ-loop
+same-length-3 c =
+    let advance = c .before .before .before .before .before .before .before .advance in
+    let loop = c .before .before .before .before .before .before .before .before .before .before .loop in
+    advance .kept .1 .1 .1 .0 ∙ loop .inv .0
+
+same-length-4 : tie.Need-same-length-4 Inv-loop μ-loop
+same-length-4 c =
+    let advance = c .before .before .before .before .before .before .before .advance in
+    let loop = c .before .before .before .before .before .before .before .before .before .before .loop in
+    advance .kept .1 .1 .1 .1 .0 ∙ loop .inv .1
+
+returns-2 : tie.Need-returns-2 Inv-loop μ-loop
+returns-2 c =
+    let args = c .before .before .before .before .before .before .before .before .before .before .before .before .before .before .args in
+    let loop = c .before .before .before .before .before .before .before .before .before .before .loop in
+    let advance = c .before .before .before .before .before .before .before .advance in
+    let ground = c .before .ground in
+    reached-refused (args .text .now) (loop .items) (loop .names) (loop .place) (loop .cursor) (loop .inv .2)
+    (advance .last .1 .1 .1 .0) (advance .last .1 .1 .1 .1 .0) (advance .result) (advance .ensures) (ground .given .0 .0)
+    (ground .given .1)
+
+pub read-text-spec : {M : Type 1} → statement M
+read-text-spec =
+    tie.close
+    (tie.spec
+    Inv-loop
+    μ-loop
+    loop-holds
+    advance-requires
+    enum-known-p
+    loop-less
+    loop-again
+    enum-known-i
+    same-length
+    same-length-2
+    returns
+    enum-known-ground
+    same-length-3
+    same-length-4
+    returns-2)

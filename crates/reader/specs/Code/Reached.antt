@@ -1,0 +1,26 @@
+-- What the loop over the tokens keeps: the rest of the text has the outcome of the whole.
+use mathlib.Core.Path.{_≡_}
+use mathlib.Core.List.{List}
+use Prim.Native.Nat.{ℕ, _≤_}
+use lib.ListN.{length}
+use Rattle.reader.specs.declared.Reading.{Reading}
+use Rattle.reader.specs.declared.Reading.the-variants.{Read, Refused}
+use Rattle.reader.specs.declared.place.Place.{Place}
+use Rattle.reader.specs.declared.token.Cursor.{Cursor}
+use Rattle.reading.specs.Elements as E
+use Rattle.reading.specs.Elements.{back}
+use Rattle.reading.specs.Read.{recipeOf}
+use Rattle.reader.specs.Code.Placed.{Holds}
+use Rattle.reader.specs.Code.Moved.{outcomeFrom, Whole}
+
+-- what all tokens come to
+abbrev pub Ended : List ℕ → List ℕ → List ℕ → Reading → Type 0
+Ended text words bytes (Read i n) = Whole (recipeOf text) i n words bytes
+Ended text words bytes (Refused g) = recipeOf text ≡ back g
+
+-- a place from which the rest of the text has the outcome of the whole
+pub record Reached (text words bytes : List ℕ) (p : Place) (c : Cursor) : Type 0 where
+  pub reading : E.Reading
+  pub holds : Holds reading p words bytes
+  pub high : c .at ≤ length text
+  pub same : outcomeFrom text (c .at) reading ≡ recipeOf text

@@ -1,0 +1,168 @@
+-- Laws of the service: the loop over the tokens, and each way through the call.
+use mathlib.Core.Path.{_≡_, refl, sym, ap₂, subst, _∙_}
+use mathlib.Core.List.{List, []}
+use Prim.Native.Nat.{ℕ, _-_, _≤_, _<_}
+use native.Mathlib.Omega.{arith}
+use lib.ListN.{length, replicate}
+use borrow.Author.Tests.{lt-ltb, le-ltb, lt-leb}
+use Rattle.words.specs.Limits.{itemWordsLeast, nameBytesLeast, textBytesMost}
+use Rattle.words.specs.Lists.{all}
+use Rattle.datum.specs.NameTable.{slots}
+use Rattle.reader.specs.declared.Reading.{Reading}
+use Rattle.reader.specs.declared.Reading.the-variants.{Read, Refused}
+use Rattle.reader.specs.declared.place.Place.{Place}
+use Rattle.reader.specs.declared.token.Cursor.{Cursor}
+use Rattle.reader.specs.declared.element.Move as M
+use Rattle.reader.specs.declared.element.Move.the-variants as MV
+use Rattle.reading.specs.Token.{tokens}
+use Rattle.reading.specs.Numbering.{baseNames}
+use Rattle.reading.specs.Elements as E
+use Rattle.reading.specs.Elements.{got, back, start}
+use Rattle.reading.specs.Read.{
+  Recipe,
+  recipeOver,
+  recipeOf,
+  read,
+  groundOf,
+  itemCount,
+  nameCount,
+  filled,
+  cleared,
+  itemWords,
+  nameBytes,
+  itemsAfter,
+  namesAfter,
+}
+use Rattle.reader.specs.Code.Stored.{NameTable}
+use Rattle.reader.specs.Code.Told.{meaningsFrom}
+use Rattle.reader.specs.Code.Placed.{Holds, itemsOf, itemsAround, wordsOf, wordsAround, openPair, nextItem, placed}
+use Rattle.reader.specs.Code.PlacedLaws.{filled-same}
+use Rattle.reader.specs.Code.Moved.{outcomeFrom, Whole, Moved, Advanced}
+use Rattle.reading.specs.Laws.Grounds.{ground-high}
+use Rattle.reader.specs.Served.{ground, items, names, answerOf, Served}
+use Rattle.reader.specs.Code.Reached.{Reached}
+
+-- ---- this paper's numbers
+
+pub ground-is : (a : E.Answer Recipe) → ground (answerOf a) ≡ groundOf a
+unfolding ground answerOf groundOf
+ground-is (got r) = refl
+ground-is (back g) = refl
+
+pub items-are : (a : E.Answer Recipe) → items (answerOf a) ≡ itemCount a
+unfolding items answerOf itemCount
+items-are (got r) = refl
+items-are (back g) = refl
+
+pub names-are : (a : E.Answer Recipe) → names (answerOf a) ≡ nameCount a
+unfolding names answerOf nameCount
+names-are (got r) = refl
+names-are (back g) = refl
+
+-- ---- the loop
+
+abbrev firstPlace : Place
+firstPlace = record { next = 0; pair = 0; depth = 0; count = 0; missing = 2; known = 8 }
+
+module _ (text words bytes : List ℕ) where
+  zeros-all : replicate {A = ℕ} (length words) 0 ≡ replicate (length words - 0) 0
+  zeros-all = let e : length words - 0 ≡ length words = omega arith in rw e
+
+  first-holds : itemWordsLeast ≤ length words → words ≡ replicate (length words) 0 → NameTable baseNames bytes
+      → Holds (start baseNames 2) firstPlace words bytes
+  unfolding start nextItem placed itemsOf itemsAround wordsOf wordsAround openPair filled baseNames
+  first-holds l z b = record {
+    next = refl;
+    pair = refl;
+    depth = refl;
+    count = refl;
+    missing = refl;
+    known = refl;
+    even = refl;
+    within = record { elements = omega arith; names = omega arith; lists = omega arith };
+    short = b .short;
+    items = z ∙ zeros-all;
+    names = b .bytes;
+    enoughItems = l;
+    enoughNames = b .room;
+  }
+
+  pub reached-first : itemWordsLeast ≤ length words → words ≡ replicate (length words) 0 → NameTable baseNames bytes
+      → Reached text words bytes firstPlace (record { at = 0 })
+  unfolding start outcomeFrom meaningsFrom recipeOf recipeOver tokens
+  reached-first l z b = record { reading = start baseNames 2; holds = first-holds l z b; high = omega arith; same = refl }
+
+  module _ (p : Place) (c : Cursor) (r : Reached text words bytes p c) (words′ bytes′ : List ℕ) (m : M.Move)
+      (a : Advanced text (c .at) p words words′ bytes bytes′ m) where
+    here : (v : M.Move) → m ≡ v → Moved text (c .at) (r .reading) words′ bytes′ v
+    here v e = subst (Moved text (c .at) (r .reading) words′ bytes′) e (a (r .reading) (r .holds))
+
+    pub reached-on : (q : Place) (d : Cursor) → m ≡ MV.On q d → Reached text words′ bytes′ q d
+    reached-on q d e =
+        let o = here (MV.On q d) e in
+        record { reading = o .next; holds = o .holds; high = o .high; same = sym (o .same) ∙ r .same }
+
+    pub reached-later : (q : Place) (d : Cursor) → m ≡ MV.On q d → (c .at < d .at) × (d .at ≤ length text)
+    reached-later q d e = let o = here (MV.On q d) e in (o .low, o .high)
+
+    pub reached-done : (i n : ℕ) → m ≡ MV.Done i n → Whole (recipeOf text) i n words′ bytes′
+    reached-done i n e = subst (λ o. Whole o i n words′ bytes′) (r .same) (here (MV.Done i n) e)
+
+    pub reached-refused : (g : ℕ) → m ≡ MV.Refused g → recipeOf text ≡ back g
+    reached-refused g e = sym (r .same) ∙ here (MV.Refused g) e
+
+-- ---- the call
+
+module _ (text words bytes : List ℕ) where
+  served-by : (a : E.Answer Recipe) (words′ bytes′ : List ℕ) (r : Reading) → read text (length words) (length bytes) ≡ a → r ≡ answerOf a
+      → words′ ≡ itemsAfter a words → bytes′ ≡ namesAfter a bytes → Served text words words′ bytes bytes′ r
+  served-by a words′ bytes′ r e f i n = record { answer = rw e f; items = rw e i; names = rw e n }
+
+  -- grounds 1 and 2 change nothing
+  pub served-few-items : length words < itemWordsLeast → Served text words words bytes bytes (Refused 1)
+  unfolding read answerOf itemsAfter namesAfter cleared
+  served-few-items h = served-by (back 1) words bytes (Refused 1) (rw (lt-ltb _ _ h)) refl refl refl
+
+  module _ (i : itemWordsLeast ≤ length words) where
+    pub served-few-names : length bytes < nameBytesLeast → Served text words words bytes bytes (Refused 1)
+    unfolding read answerOf itemsAfter namesAfter cleared
+    served-few-names h = served-by (back 1) words bytes (Refused 1) (rw (le-ltb _ _ i, lt-ltb _ _ h)) refl refl refl
+
+    module _ (n : nameBytesLeast ≤ length bytes) where
+      pub served-long : textBytesMost < length text → Served text words words bytes bytes (Refused 2)
+      unfolding read answerOf itemsAfter namesAfter cleared
+      served-long h = served-by (back 2) words bytes (Refused 2) (rw (le-ltb _ _ i, le-ltb _ _ n, lt-ltb _ _ h)) refl refl refl
+
+      module _ (t : length text ≤ textBytesMost) (words′ bytes′ : List ℕ) where
+        read-is : read text (length words) (length bytes) ≡ recipeOf text
+        unfolding read
+        read-is = rw (le-ltb _ _ i, le-ltb _ _ n, le-ltb _ _ t)
+
+        -- an accepted text: its layout and its names, then zeros
+        pub served-read : (k m : ℕ) → Whole (recipeOf text) k m words′ bytes′ → length words′ ≡ length words → length bytes′ ≡ length bytes
+            → Served text words words′ bytes bytes′ (Read k m)
+        unfolding answerOf itemsAfter namesAfter
+        served-read k m w e f =
+            served-by (got (w .recipe)) words′ bytes′ (Read k m) (read-is ∙ w .accepted) (ap₂ Read (w .itemCount) (w .nameCount))
+            (w .items ∙ filled-same (itemWords (w .recipe)) words′ words e) (w .names ∙ filled-same (nameBytes (w .recipe)) bytes′ bytes f)
+
+        -- a text that is turned back: both tables wholly zero
+        pub served-refused : (g : ℕ) → recipeOf text ≡ back g → words′ ≡ replicate (length words) 0 → bytes′ ≡ replicate (length bytes) 0
+            → Served text words words′ bytes bytes′ (Refused g)
+        unfolding answerOf itemsAfter namesAfter cleared
+        served-refused g e z y =
+            let h : 2 < g = ground-high text g e in
+            served-by (back g) words′ bytes′ (Refused g) (read-is ∙ e) refl (z ∙ rw (lt-leb g 2 h)) (y ∙ rw (lt-leb g 2 h))
+
+-- ---- a table that was zeroed
+
+-- zeros are zeros of the table's own length
+pub zeroed : (t u : List ℕ) → length u ≡ length t → u ≡ replicate (length t) 0 → u ≡ replicate (length u) 0
+zeroed t u l e = e ∙ rw l
+
+-- and hold no name
+pub zeroed-names : (t u : List ℕ) → nameBytesLeast ≤ length t → length u ≡ length t → u ≡ replicate (length t) 0 → NameTable [] u
+unfolding all slots filled
+zeroed-names t u h l e =
+    let m : length u - 0 ≡ length t = omega arith in
+    record { short = refl; bytes = e ∙ rw m; room = omega arith }

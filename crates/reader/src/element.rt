@@ -1,0 +1,93 @@
+// One token after another: each is placed, or turns the text back.
+ghost use mathlib.Core.Path.{_≡_};
+ghost use Prim.Native.Nat.{_≤_};
+ghost use lib.ListN.{length};
+ghost use Rattle.words.specs.Limits.{itemsMost, nameLengthMost};
+ghost use Rattle.reader.specs.Code.Placed.{Sound, NamesSound, NamePut};
+ghost use Rattle.reader.specs.Code.Moved.{movedBy, finishOf, Advanced};
+use crate::names::find;
+use crate::names::store;
+use crate::place::Place;
+use crate::place::Step;
+use crate::place::close_list;
+use crate::place::ground_at;
+use crate::place::is_complete;
+use crate::place::open_list;
+use crate::place::put_token;
+use crate::token::Cursor;
+use crate::token::Token;
+use crate::token::token_at;
+use words::signed::to_word;
+
+// What reading does next: it goes on from a place and a cursor, is done with so many items and names, or turns the text back.
+pub enum Move {
+    On(Place, Cursor),
+    Done(usize, usize),
+    Refused(u32),
+}
+
+// A name, by the number it has or the next one.
+pub fn put_name(items: &mut [u32], names: &mut [u8], place: Place, word: &[u8]) -> Step
+    requires { ⌜ Sound place (length (now items)) ⌝ }
+    requires { ⌜ NamesSound place (now names) ⌝ }
+    requires { ⌜ length (now word) ≤ nameLengthMost ⌝ }
+    ensures { λ s. ⌜ NamePut place (now (word .entry)) (now (items .entry)) (now (items .exit)) (now (names .entry)) (now (names .exit)) s ⌝ }
+{
+    let number = find(names, place.known, word);
+    if number < place.known {
+        return put_token(items, place, 3, number as u32, place.known);
+    }
+    if number == words::NAMES {
+        return Step::Refused(ground_at(place, number + 1, place.depth));
+    }
+    store(names, number, word);
+    put_token(items, place, 3, number as u32, number + 1)
+}
+
+// A step, with the cursor past its token.
+fn moved(step: Step, next: Cursor) -> Move
+    ensures { λ r. ⌜ r ≡ movedBy step next ⌝ }
+{
+    match step {
+        Step::Went(place) => Move::On(place, next),
+        Step::Refused(ground) => Move::Refused(ground),
+    }
+}
+
+// The end of the text: ground 5 where a list is open or an element missing.
+fn finish(place: Place) -> Move
+    requires { ⌜ place .next ≤ itemsMost ⌝ }
+    ensures { λ r. ⌜ r ≡ finishOf place ⌝ }
+{
+    if !is_complete(place) {
+        return Move::Refused(5);
+    }
+    Move::Done(place.next + 1, place.known)
+}
+
+// The next token, taken.
+pub fn advance(
+    text: &[u8],
+    cursor: Cursor,
+    place: Place,
+    items: &mut [u32],
+    names: &mut [u8],
+) -> Move
+    requires { ⌜ cursor .at ≤ length (now text) ⌝ }
+    requires { ⌜ Sound place (length (now items)) ⌝ }
+    requires { ⌜ NamesSound place (now names) ⌝ }
+    ensures { λ m. ⌜ Advanced (now (text .entry)) (cursor .at) place (now (items .entry)) (now (items .exit)) (now (names .entry)) (now (names .exit)) m ⌝ }
+{
+    match token_at(text, cursor) {
+        Token::End => finish(place),
+        Token::Refused(ground) => Move::Refused(ground),
+        Token::Open(next) => moved(open_list(items, place), next),
+        Token::Close(next) => moved(close_list(items, place), next),
+        Token::Boolean(b, next) => moved(put_token(items, place, 2, b, place.known), next),
+        Token::Integer(z, next) => moved(put_token(items, place, 1, to_word(z), place.known), next),
+        Token::Name(from, next) => {
+            let to = next.at;
+            moved(put_name(items, names, place, &text[from..to]), next)
+        }
+    }
+}

@@ -1,0 +1,60 @@
+-- `rules::rule`: its shape, then its parts.
+use borrow.Author.Needs.{needs}
+use Rattle.rule_cells.proofs.rules.rule.Statement.{statement}
+use Rattle.rule_cells.proofs.rules.rule.Tie as tie
+use Rattle.rule_cells.specs.RuleListLaws.{left-shape, parts-ask, left-parts}
+use mathlib.Core.Path.{sym, _∙_}
+
+rule-shape-requires : tie.Need-rule-shape-requires
+rule-shape-requires c κs = search needs
+
+head-requires : tie.Need-head-requires
+head-requires c κs = search needs
+
+tail-requires : tie.Need-tail-requires
+tail-requires c κs = search needs
+
+tail-requires-2 : tie.Need-tail-requires-2
+tail-requires-2 c κs = search needs
+
+head-requires-2 : tie.Need-head-requires-2
+head-requires-2 c κs = search needs
+
+rule-parts-requires : tie.Need-rule-parts-requires
+rule-parts-requires c κs =
+    let a = c .before .before .before .before .before .before .before .before .before .before .before .before .before .before .before .before .args in (c .before .before .before .before .before .before .before .before .before .before .before .before .before .before .before .before .pre .0, parts-ask (a .items .now) (a .work .now) (a .literals) (a .node) (a .w) (a .next) (a .top) (c .before .before .before .before .before .before .before .before .before .before .before .before .before .before .before .before .pre .1) (c .before .before .before .before .before .before .before .before .before .before .before .before .before .before .before .before .pre .2) (c .before .before .before .before .before .before .before .before .before .before .before .before .before .before .before .before .pre .3) _ _ _ _ (sym (c .before .before .before .before .before .before .before .before .before .before .if1 .taken) ∙ c .before .before .before .before .before .before .before .before .before .before .before .rule-shape .ensures (a .w)) (c .before .before .before .before .before .before .before .before .head .ensures) (c .before .before .before .before .before .before .tail .ensures) (c .before .before .before .before .tail2 .ensures) (c .before .before .head2 .ensures))
+
+same-length : tie.Need-same-length
+same-length c =
+    c .before .before .before .before .rule-parts .kept .1 .0
+
+same-length-2 : tie.Need-same-length-2
+same-length-2 c =
+    c .before .before .before .before .rule-parts .kept .1 .1 .0
+
+returns : tie.Need-returns
+returns c =
+    let a = c .before .before .before .before .before .before .before .before .before .before .before .before .before .before .before .before .before .before .before .before .before .args in left-parts (a .items .now) (a .work .now) (a .literals) (a .node) (a .w) (a .next) (a .top) (c .before .before .before .before .before .before .before .before .before .before .before .before .before .before .before .before .before .before .before .before .before .pre .1) (c .before .before .before .before .before .before .before .before .before .before .before .before .before .before .before .before .before .before .before .before .before .pre .2) (c .before .before .before .before .before .before .before .before .before .before .before .before .before .before .before .before .before .before .before .before .before .pre .3) _ _ _ _ (sym (c .before .before .before .before .before .before .before .before .before .before .before .before .before .before .before .if1 .taken) ∙ c .before .before .before .before .before .before .before .before .before .before .before .before .before .before .before .before .rule-shape .ensures (a .w)) (c .before .before .before .before .before .before .before .before .before .before .before .before .before .head .ensures) (c .before .before .before .before .before .before .before .before .before .before .before .tail .ensures) (c .before .before .before .before .before .before .before .before .before .tail2 .ensures) (c .before .before .before .before .before .before .before .head2 .ensures) (c .before .before .before .before .rule-parts .last .1 .0) (c .before .before .before .before .rule-parts .result) (c .before .before .before .before .rule-parts .ensures)
+
+same-length-3 : tie.Need-same-length-3
+same-length-3 c = search needs
+
+returns-2 : tie.Need-returns-2
+returns-2 c =
+    let a = c .before .before .before .before .before .before .args in left-shape (a .items .now) (a .work .now) (a .literals) (a .node) (a .w) (a .next) (a .top) (c .before .before .before .before .before .before .pre .1) (c .before .before .before .before .before .before .pre .2) (c .before .before .before .before .before .before .pre .3) (sym (c .if1 .left) ∙ c .before .rule-shape .ensures (a .w))
+
+pub rule-spec : {M : Type 1} → statement M
+rule-spec =
+    tie.close
+    (tie.spec
+    rule-shape-requires
+    head-requires
+    tail-requires
+    tail-requires-2
+    head-requires-2
+    rule-parts-requires
+    same-length
+    same-length-2
+    returns
+    same-length-3
+    returns-2)

@@ -1,0 +1,92 @@
+-- `variables::add`: a variable that breaks a limit is refused, any other goes behind the others.
+use borrow.Author.Needs.{needs}
+use Rattle.rule_cells.proofs.variables.add.Statement.{statement}
+use Rattle.rule_cells.proofs.variables.add.Tie as tie
+use Rattle.rule_cells.specs.VariableLaws.{add-one, add-deep, add-many, add-twice, found-at, found-not}
+use native.Mathlib.Omega.{arith}
+use lib.ListN.{length-set}
+
+returns : tie.Need-returns
+returns c =
+    let a = c .before .before .before .before .before .args in add-deep (a .items .now) (a .work .now) (a .w) (a .vars .now) (a .n) (a .node) (a .d) (c .if1 .taken)
+
+returns-2 : tie.Need-returns-2
+returns-2 c =
+    let a = c .before .before .before .before .before .before .args in add-many (a .items .now) (a .work .now) (a .w) (a .vars .now) (a .n) (a .node) (a .d) (c .if2 .taken)
+
+find-requires : tie.Need-find-requires
+find-requires c κs =
+    (c .before .before .before .before .before .before .before .before .pre .0, omega arith, c .before .before .before .before .before .before .before .before .pre .1)
+
+enum-known-k : tie.Need-enum-known-k
+enum-known-k c = search needs
+
+same-length : tie.Need-same-length
+same-length c =
+    c .before .before .before .before .before .find .kept .1 .1 .0
+
+same-length-2 : tie.Need-same-length-2
+same-length-2 c = search needs
+
+returns-3 : tie.Need-returns-3
+returns-3 c =
+    let a = c .before .before .before .before .before .before .before .before .before .before .before .before .before .before .args in add-twice (a .items .now) (a .work .now) (a .w) (a .vars .now) (a .n) (a .node) (a .d) _ (found-at _ _ _ _ (c .before .k .given .1) (c .before .before .before .before .before .find .ensures))
+
+enum-told : tie.Need-enum-told
+enum-told c = search needs
+
+mul-at : tie.Need-mul-at
+mul-at c = search needs
+
+mul-vars : tie.Need-mul-vars
+mul-vars c = search needs
+
+slice-write-vars : tie.Need-slice-write-vars
+slice-write-vars c = search needs
+
+add-vars : tie.Need-add-vars
+add-vars c = search needs
+
+mul-vars-2 : tie.Need-mul-vars-2
+mul-vars-2 c = search needs
+
+slice-write-vars-2 : tie.Need-slice-write-vars-2
+slice-write-vars-2 c =
+    simp length-set (omega (arith, c .before .before .before .before .before .before .before .before .before .before .before .before .before .pre .1))
+
+add-t22 : tie.Need-add-t22
+add-t22 c = search needs
+
+same-length-3 : tie.Need-same-length-3
+same-length-3 c =
+    c .before .before .before .before .find .kept .1 .1 .0
+
+same-length-4 : tie.Need-same-length-4
+same-length-4 c = search needs
+
+returns-4 : tie.Need-returns-4
+returns-4 c =
+    let a = c .before .before .before .before .before .before .before .before .before .before .before .before .before .args in add-one (a .items .now) (a .work .now) (a .w) (a .vars .now) (a .n) (a .node) (a .d) (omega (arith, c .before .before .before .before .before .before .before .before .before .before .before .before .before .pre .1)) (c .before .before .before .before .before .before .before .before .before .before .before .before .before .pre .2) (omega arith) (omega arith) (found-not _ _ (c .enum-told .given .1) (c .before .before .before .before .find .ensures))
+
+pub add-spec : {M : Type 1} → statement M
+add-spec =
+    tie.close
+    (tie.spec
+    returns
+    returns-2
+    find-requires
+    enum-known-k
+    same-length
+    same-length-2
+    returns-3
+    enum-told
+    mul-at
+    mul-vars
+    slice-write-vars
+    add-vars
+    mul-vars-2
+    slice-write-vars-2
+    add-t22
+    same-length-3
+    same-length-4
+    returns-4)

@@ -1,0 +1,136 @@
+-- Laws of gathering a pattern's variables.
+use mathlib.Core.Path.{_≡_, refl, sym, ap, ap₂, subst, _∙_}
+use mathlib.Core.Bool.{Bool, true, false, not, _&&_, _||_, cond}
+use mathlib.Core.List.{List, [], _∷_, _++_, append-assoc, append-nil}
+use Prim.Native.Nat.{ℕ, zero, suc, _+_, _*_, _≤_, _<_}
+use native.Mathlib.Omega.{arith}
+use lib.Dec.{eqb}
+use borrow.Author.Tests.{ne-eqb}
+use Rattle.words.specs.Lists.{any}
+use Rattle.recipe.specs.Name.{Name, same, isEllipsis, isWildcard}
+use Rattle.recipe.specs.Tree.{Tree, empty, constant, name, pair, onName, names}
+use Rattle.expansion.specs.Rules.{areVariables, dotsNext, depthBefore, isVariable, variables}
+use Rattle.arena.specs.Arena.{wordAt, referenceAt, nameAt, treeAt}
+use Rattle.arena.specs.ArenaLaws.{cases}
+use Rattle.arena.specs.NodeLaws.{treeAt-name, treeAt-pair}
+use Rattle.arena.specs.Names.{numberOf}
+use Rattle.arena.specs.NameLaws.{nameAt-number}
+use Rattle.rule_cells.specs.TreeLaws.{tree-cases, no-name, pair-falls}
+use Rattle.rule_cells.specs.Variables.{leafCount, variablesFrom, Held, Under, Stored, Gathered, Deeper}
+use Rattle.rule_cells.specs.declared.variables.Kept.{Kept}
+use Rattle.rule_cells.specs.declared.variables.Kept.the-variants.{Count, Bad}
+
+-- ---- which names are variables
+
+module _ (literals : List Name) (x : Name) where
+  pub dots-no-variable : x .number ≡ 6 → isVariable isEllipsis literals x ≡ false
+  unfolding isVariable isEllipsis
+  dots-no-variable e = rw e refl
+
+  pub wildcard-no-variable : (x .number ≡ 6 → ⊥) → x .number ≡ 7 → isVariable isEllipsis literals x ≡ false
+  unfolding isVariable isEllipsis isWildcard
+  wildcard-no-variable n e = rw e refl
+
+  pub literal-no-variable : (x .number ≡ 6 → ⊥) → (x .number ≡ 7 → ⊥) → true ≡ any (same x) literals → isVariable isEllipsis literals x ≡ false
+  unfolding isVariable isEllipsis isWildcard
+  literal-no-variable n m e = rw (ne-eqb _ _ n, ne-eqb _ _ m, ← e) refl
+
+  pub a-variable : (x .number ≡ 6 → ⊥) → (x .number ≡ 7 → ⊥) → false ≡ any (same x) literals → isVariable isEllipsis literals x ≡ true
+  unfolding isVariable isEllipsis isWildcard
+  a-variable n m e = rw (ne-eqb _ _ n, ne-eqb _ _ m, ← e) refl
+
+  variables-none : (d : ℕ) → isVariable isEllipsis literals x ≡ false → variables isEllipsis literals d (name x) ≡ []
+  unfolding variables
+  variables-none d e = rw e refl
+
+  variables-one : (d : ℕ) → isVariable isEllipsis literals x ≡ true → variables isEllipsis literals d (name x) ≡ (x, d) ∷ []
+  unfolding variables
+  variables-one d e = rw e refl
+
+-- ---- leaves
+
+module _ (items work : List ℕ) (node w : ℕ) (literals : List Name) where
+  pub leaf-no-name : (wordAt work node 3 ≡ 3 → ⊥) → 0 ≡ leafCount literals (treeAt items work node w)
+  unfolding leafCount
+  leaf-no-name n = sym (no-name items work node w (λ x. cond (isVariable isEllipsis literals x) 1 0) 0 n)
+
+  pub leaf-none : wordAt work node 3 ≡ 3 → isVariable isEllipsis literals (nameAt items work node w) ≡ false → 0 ≡ leafCount literals (treeAt items work node w)
+  unfolding leafCount onName
+  leaf-none e v = rw (treeAt-name items work node w e, v) refl
+
+  pub leaf-one : wordAt work node 3 ≡ 3 → isVariable isEllipsis literals (nameAt items work node w) ≡ true → 1 ≡ leafCount literals (treeAt items work node w)
+  unfolding leafCount onName
+  leaf-one e v = rw (treeAt-name items work node w e, v) refl
+
+-- an element lies at most one deeper than its list
+pub deeper-most : (items work : List ℕ) (rest d r : ℕ) → Deeper items work rest d r → r ≤ d + 1
+unfolding depthBefore
+deeper-most items work rest d r h =
+    cases (dotsNext isEllipsis (treeAt items work rest 0))
+    (λ t. let e : r ≡ suc d = rw t at (h 0) in omega arith)
+    (λ t. let e : r ≡ d = rw t at (h 0) in omega arith)
+
+-- ---- what is gathered
+
+module _ (items work : List ℕ) (w node n : ℕ) (old : List ℕ) where
+  gathered-is : (more more′ : List (Name × ℕ)) (new : List ℕ) (r : Kept) → more ≡ more′ → Gathered more items work w node n old new r → Gathered more′ items work w node n old new r
+  gathered-is more more′ new r e g = subst (λ (m : List (Name × ℕ)). Gathered m items work w node n old new r) e g
+
+  pub gathered-stored : (more : List (Name × ℕ)) (new : List ℕ) (r : Kept) (m : ℕ) → r ≡ Count m → Gathered more items work w node n old new r → Stored more items work w node n old new m
+  gathered-stored more new r m e g = subst (λ (k : Kept). Gathered more items work w node n old new k) e g
+
+  gathered-none : Held items work w old n → Gathered [] items work w node n old old (Count n)
+  gathered-none h = record { list = sym (append-nil (variablesFrom items work w old 0 n)); held = h; under = λ b l u. u }
+
+  module _ (literals : List Name) (d : ℕ) where
+    -- a name that is no variable
+    pub gathered-no : (x : Name) → isVariable isEllipsis literals x ≡ false → Held items work w old n → Gathered (variables isEllipsis literals d (name x)) items work w node n old old (Count n)
+    gathered-no x e h = gathered-is [] _ old (Count n) (sym (variables-none literals x d e)) (gathered-none h)
+
+    pub gathered-one : (x : Name) (new : List ℕ) (r : Kept) → isVariable isEllipsis literals x ≡ true → Gathered ((x, d) ∷ []) items work w node n old new r → Gathered (variables isEllipsis literals d (name x)) items work w node n old new r
+    gathered-one x new r e g = gathered-is _ _ new r (sym (variables-one literals x d e)) g
+
+    pub gathered-name : (new : List ℕ) (r : Kept) → wordAt work node 3 ≡ 3 → Gathered (variables isEllipsis literals d (name (nameAt items work node w))) items work w node n old new r → Gathered (variables isEllipsis literals d (treeAt items work node w)) items work w node n old new r
+    gathered-name new r e g = gathered-is _ _ new r (ap (variables isEllipsis literals d) (sym (treeAt-name items work node w e))) g
+
+    variables-other : (wordAt work node 3 ≡ 3 → ⊥) → (wordAt work node 3 ≡ 4 → ⊥) → variables isEllipsis literals d (treeAt items work node w) ≡ []
+    unfolding variables
+    variables-other m k = tree-cases items work node w (λ t. variables isEllipsis literals d t ≡ []) (λ e. refl) (λ e. absurd (m e)) (λ e. absurd (k e)) (λ p q s. refl)
+
+    pub gathered-other : (wordAt work node 3 ≡ 3 → ⊥) → (wordAt work node 3 ≡ 4 → ⊥) → Held items work w old n → Gathered (variables isEllipsis literals d (treeAt items work node w)) items work w node n old old (Count n)
+    gathered-other m k h = gathered-is [] _ old (Count n) (sym (variables-other m k)) (gathered-none h)
+
+    -- a pair: the variables of its head, then those of its tail
+    module _ (head rest inner : ℕ) (e : wordAt work node 3 ≡ 4) (f : head ≡ referenceAt work node 2) (g : rest ≡ referenceAt work node 1) (deeper : Deeper items work rest d inner) where
+      abbrev first : List (Name × ℕ)
+      first = variables isEllipsis literals inner (treeAt items work head w)
+
+      abbrev later : List (Name × ℕ)
+      later = variables isEllipsis literals d (treeAt items work rest w)
+
+      variables-pair : first ++ later ≡ variables isEllipsis literals d (treeAt items work node w)
+      unfolding variables
+      variables-pair = rw (treeAt-pair items work node w e, ← f, ← g, ← deeper w) refl
+
+      pub gathered-bad : (new : List ℕ) (r : Kept) → r ≡ Bad → Gathered first items work w head n old new r → Gathered (variables isEllipsis literals d (treeAt items work node w)) items work w node n old new Bad
+      gathered-bad new r b g =
+          let h : Gathered first items work w head n old new Bad = subst (λ (k : Kept). Gathered first items work w head n old new k) b g in
+          gathered-is (first ++ later) _ new Bad variables-pair
+          (λ more. ap (λ (l : List (Name × ℕ)). areVariables (variablesFrom items work w old 0 n ++ l)) (append-assoc first later more) ∙ h (later ++ more))
+
+      both : (mid new : List ℕ) (m : ℕ) (r : Kept) → Stored first items work w head n old mid m → Gathered later items work w rest m mid new r → Gathered (first ++ later) items work w node n old new r
+      both mid new m (Count k) a b =
+          record {
+            list = b .list ∙ ap (λ (l : List (Name × ℕ)). l ++ later) (a .list) ∙ append-assoc (variablesFrom items work w old 0 n) first later;
+            held = b .held;
+            under = λ c l u. b .under c (omega (arith, pair-falls work node 1 e)) (a .under c (omega (arith, pair-falls work node 2 e)) u);
+          }
+      both mid new m Bad a b =
+          λ more.
+          ap (λ (l : List (Name × ℕ)). areVariables (variablesFrom items work w old 0 n ++ l)) (append-assoc first later more)
+          ∙ ap areVariables (sym (append-assoc (variablesFrom items work w old 0 n) first (later ++ more)))
+          ∙ ap (λ (l : List (Name × ℕ)). areVariables (l ++ (later ++ more))) (sym (a .list))
+          ∙ b more
+
+      pub gathered-pair : (mid new : List ℕ) (m : ℕ) (r : Kept) → Stored first items work w head n old mid m → Gathered later items work w rest m mid new r → Gathered (variables isEllipsis literals d (treeAt items work node w)) items work w node n old new r
+      gathered-pair mid new m r a b = gathered-is (first ++ later) _ new r variables-pair (both mid new m r a b)

@@ -1,0 +1,32 @@
+-- What the constructors of rule cells leave: the new cell above the old top, its meaning, and all below as it was.
+use mathlib.Core.Path.{_≡_}
+use mathlib.Core.List.{List}
+use Prim.Native.Nat.{ℕ, _+_}
+use lib.ListN.{take}
+use Rattle.recipe.specs.Name.{bindingKey}
+use Rattle.expansion.specs.Rules.{literalP}
+use Rattle.arena.specs.Arena.{wordAt, nameAt}
+use Rattle.rule_cells.specs.Cells.{patternAt}
+
+-- five words at the top
+pub record Five (a b c d e : ℕ) (old new : List ℕ) (top r : ℕ) : Type 0 where
+  pub end : r ≡ top + 5
+  pub kept : take top new ≡ take top old
+  pub fifth : wordAt new r 5 ≡ a
+  pub fourth : wordAt new r 4 ≡ b
+  pub third : wordAt new r 3 ≡ c
+  pub second : wordAt new r 2 ≡ d
+  pub first : wordAt new r 1 ≡ e
+
+-- a new cell, read by `at`: what it means, whatever the items
+pub record Made {A : Type 0} (at : (items work : List ℕ) → ℕ → A) (value : List ℕ → A) (old new : List ℕ) (top r : ℕ) : Type 0 where
+  pub end : r ≡ top + 5
+  pub kept : take top new ≡ take top old
+  pub means : (items : List ℕ) → at items new r ≡ value items
+
+-- a literal's cell is given what its lookup has found
+pub record MadeLiteral (node w number key : ℕ) (old new : List ℕ) (top r : ℕ) : Type 0 where
+  pub end : r ≡ top + 5
+  pub kept : take top new ≡ take top old
+  pub means : (items : List ℕ) → number ≡ nameAt items old node w .number → key ≡ bindingKey (nameAt items old node w .binding)
+      → patternAt items new r ≡ literalP (nameAt items old node w)

@@ -1,0 +1,110 @@
+-- Laws of parsing that patterns and templates share: what is asked of the parts, and what grows.
+use mathlib.Core.Path.{_≡_, refl, sym, ap, subst, _∙_}
+use mathlib.Core.List.{List}
+use Prim.Native.Nat.{ℕ, suc, _+_, _*_, _≤_, _<_}
+use native.Mathlib.Omega.{arith}
+use lib.ListN.{length, take}
+use Rattle.recipe.specs.Tree.{Tree, empty, constant, name, pair, size}
+use Rattle.recipe.specs.TreeLaws.{size-positive}
+use Rattle.arena.specs.Arena.{wordAt, referenceAt, treeAt}
+use Rattle.arena.specs.ArenaLaws.{take-less}
+use Rattle.arena.specs.NodeLaws.{treeAt-pair}
+use Rattle.arena.specs.Cells.{Room}
+use Rattle.arena.specs.CellLaws.{tree-kept}
+use Rattle.rule_cells.specs.TreeLaws.{pair-falls}
+use Rattle.rule_cells.specs.Parse.{Asks, Grows}
+
+-- ---- what grows
+
+pub grows-nothing : (t : Tree) (old : List ℕ) (top : ℕ) → Grows t old old top 0 top
+grows-nothing t old top = record { at-most = omega arith; up = omega arith; words = omega arith; kept = refl }
+
+pub grows-leaf : (t : Tree) (old new : List ℕ) (top r : ℕ) → r ≡ top + 5 → take top new ≡ take top old → Grows t old new top r r
+grows-leaf t old new top r e kept = record { at-most = omega arith; up = omega arith; words = omega (arith, size-positive t); kept = kept }
+
+-- a cell over one part
+pub grows-over : (t h : Tree) (old mid new : List ℕ) (top a upper r : ℕ) → Grows h old mid top a upper → size h < size t → r ≡ upper + 5 → take upper new ≡ take upper mid → Grows t old new top r r
+grows-over t h old mid new top a upper r g l e kept =
+    record { at-most = omega arith; up = omega (arith, g .up); words = omega (arith, g .words); kept = take-less new mid top upper (g .up) kept ∙ g .kept }
+
+-- two parts, one above the other
+pub grows-both : (t h s : Tree) (old mid new : List ℕ) (top a upper b higher : ℕ) → Grows h old mid top a upper → Grows s mid new upper b higher → size h + size s ≤ size t → Grows t old new top b higher
+grows-both t h s old mid new top a upper b higher g k l =
+    record { at-most = k .at-most; up = omega (arith, g .up, k .up); words = omega (arith, g .words, k .words); kept = take-less new mid top upper (g .up) (k .kept) ∙ g .kept }
+
+-- a refusal after the first part
+pub kept-both : (h : Tree) (old mid new : List ℕ) (top a upper : ℕ) → Grows h old mid top a upper → take upper new ≡ take upper mid → take top new ≡ take top old
+kept-both h old mid new top a upper g e = take-less new mid top upper (g .up) e ∙ g .kept
+
+-- ---- what is asked of the parts of a pair
+
+module _ (items work : List ℕ) (node w top : ℕ) (asks : Asks items work node w top) where
+  -- room for a leaf's cell
+  pub room-leaf : Room work top 5
+  room-leaf = let l = size-positive (treeAt items work node w) in record { fits = omega (arith, asks .room .fits); small = omega (arith, asks .room .small) }
+
+  module _ (head rest : ℕ) (e : wordAt work node 3 ≡ 4) (f : head ≡ referenceAt work node 2) (g : rest ≡ referenceAt work node 1) where
+    pub tree-is : treeAt items work node w ≡ pair (treeAt items work head w) (treeAt items work rest w)
+    tree-is = rw (treeAt-pair items work node w e, f, g) refl
+
+    pub size-is : size (treeAt items work node w) ≡ suc (size (treeAt items work head w) + size (treeAt items work rest w))
+    unfolding size
+    size-is = ap size tree-is
+
+    pub head-below : head < node
+    head-below = omega (arith, pair-falls work node 2 e)
+
+    pub rest-below : rest < node
+    rest-below = omega (arith, pair-falls work node 1 e)
+
+    pub asks-head : Asks items work head w top
+    asks-head =
+        record {
+          node-below = omega (arith, head-below, asks .node-below);
+          wrap-below = asks .wrap-below;
+          room = record { fits = omega (arith, asks .room .fits, size-is); small = omega (arith, asks .room .small, size-is) };
+        }
+
+    pub asks-tail : Asks items work rest w top
+    asks-tail =
+        record {
+          node-below = omega (arith, rest-below, asks .node-below);
+          wrap-below = asks .wrap-below;
+          room = record { fits = omega (arith, asks .room .fits, size-is); small = omega (arith, asks .room .small, size-is) };
+        }
+
+    -- after the cells of the head
+    module _ (mid : List ℕ) (a upper : ℕ) (same-length : length mid ≡ length work) (grows : Grows (treeAt items work head w) work mid top a upper) where
+      pub rest-kept : treeAt items mid rest w ≡ treeAt items work rest w
+      rest-kept = tree-kept items work mid top rest w (omega (arith, rest-below, asks .node-below)) (asks .wrap-below) (grows .kept)
+
+      pub asks-rest : Asks items mid rest w upper
+      asks-rest =
+          record {
+            node-below = omega (arith, rest-below, asks .node-below, grows .up);
+            wrap-below = omega (arith, asks .wrap-below, grows .up);
+            room = record {
+              fits = rw rest-kept (omega (arith, asks .room .fits, size-is, grows .words));
+              small = rw rest-kept (omega (arith, asks .room .small, size-is, grows .words));
+            };
+          }
+
+      pub room-over : Room mid upper 5
+      room-over = record { fits = omega (arith, asks .room .fits, size-is, grows .words); small = omega (arith, asks .room .small, size-is, grows .words) }
+
+      -- and after those of the rest
+      pub room-pair : (last : List ℕ) (b higher : ℕ) → length last ≡ length mid → Grows (treeAt items mid rest w) mid last upper b higher → Room last higher 5
+      room-pair last b higher same k =
+          let s : higher ≤ upper + 5 * size (treeAt items work rest w) = rw rest-kept at (k .words) in
+          record { fits = omega (arith, asks .room .fits, size-is, grows .words); small = omega (arith, asks .room .small, size-is, grows .words) }
+
+      -- a pair's cell over both
+      pub grows-pair : (last new : List ℕ) (b higher r : ℕ) → Grows (treeAt items mid rest w) mid last upper b higher → r ≡ higher + 5 → take higher new ≡ take higher last → Grows (treeAt items work node w) work new top r r
+      grows-pair last new b higher r k re kept =
+          let k′ : Grows (treeAt items work rest w) mid last upper b higher = rw rest-kept at k in
+          record {
+            at-most = omega arith;
+            up = omega (arith, grows .up, k .up);
+            words = omega (arith, grows .words, k′ .words, size-is);
+            kept = take-less new last top higher (omega (arith, grows .up, k .up)) kept ∙ take-less last mid top upper (grows .up) (k .kept) ∙ grows .kept;
+          }

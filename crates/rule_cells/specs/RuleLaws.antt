@@ -1,0 +1,172 @@
+-- Laws of parsing rules, one for each way through the code.
+use mathlib.Core.Path.{_≡_, refl, sym, ap, ap₂, subst, _∙_}
+use mathlib.Core.Bool.{Bool, true, false, cond}
+use mathlib.Core.List.{List, [], _∷_, _++_, append-nil}
+use mathlib.Core.Option.{Option, none, some}
+use Prim.Native.Nat.{ℕ, zero, suc, _+_, _*_, _^_, _≤_, _<_}
+use native.Mathlib.Omega.{arith}
+use lib.ListN.{length, take}
+use Rattle.words.specs.Lists.{all}
+use Rattle.words.specs.Options.{guard, mapSome, mapBoth}
+use Rattle.recipe.specs.Name.{Name, distinct, isEllipsis}
+use Rattle.recipe.specs.Tree.{Tree, size, names}
+use Rattle.expansion.specs.Rules.{Pattern, Template, Rule, areVariables, variables, patternOf, templateOf}
+use Rattle.arena.specs.Arena.{treeAt}
+use Rattle.arena.specs.ArenaLaws.{cases, take-less}
+use Rattle.arena.specs.Cells.{Room}
+use Rattle.arena.specs.CellLaws.{tree-kept}
+use Rattle.rule_cells.specs.Cells.{patternAt, templateAt, rulesAt}
+use Rattle.rule_cells.specs.Made.{Made}
+use Rattle.rule_cells.specs.MadeLaws.{pattern-kept, rules-kept}
+use Rattle.rule_cells.specs.Variables.{variablesFrom, Held, Under, Stored, Gathered}
+use Rattle.rule_cells.specs.GatherLaws.{gathered-stored}
+use Rattle.rule_cells.specs.Parse.{Asks, Grows, PatternMade, PatternLeft, TemplateMade, TemplateLeft}
+use Rattle.rule_cells.specs.TemplateLaws.{variables-kept}
+use Rattle.rule_cells.specs.RuleParse.{partsOf, PartsAsk, RuleMade, RuleLeft, RulesMade, RulesLeft}
+use Rattle.rule_cells.specs.declared.variables.Kept.{Kept}
+use Rattle.rule_cells.specs.declared.variables.Kept.the-variants.{Count}
+use Rattle.rule_cells.specs.declared.variables.Kept.the-variants as kept-is
+use Rattle.rule_cells.specs.declared.patterns.Parsed.{Parsed}
+use Rattle.rule_cells.specs.declared.patterns.Parsed.the-variants as parsed
+use Rattle.rule_cells.specs.declared.templates.Built.{Built}
+use Rattle.rule_cells.specs.declared.templates.Built.the-variants.{Good, Bad}
+
+-- ---- a rule's parts
+
+module _ (literals : List Name) (p q : Tree) where
+  abbrev vs : List (Name × ℕ)
+  vs = variables isEllipsis literals 0 p
+
+  parts-variables : areVariables vs ≡ false → partsOf literals p q ≡ none
+  unfolding partsOf guard
+  parts-variables e = rw e refl
+
+  parts-pattern : patternOf isEllipsis literals 0 p ≡ none → partsOf literals p q ≡ none
+  unfolding partsOf guard mapBoth
+  parts-pattern e = rw e (cases (areVariables vs) (λ t. rw t refl) (λ t. rw t refl))
+
+  parts-template : (x : Pattern) → patternOf isEllipsis literals 0 p ≡ some x → templateOf isEllipsis vs 0 false q ≡ none → partsOf literals p q ≡ none
+  unfolding partsOf guard mapBoth mapSome
+  parts-template x e f = rw (e, f) (cases (areVariables vs) (λ t. rw t refl) (λ t. rw t refl))
+
+  parts-both : (x : Pattern) (y : Template) → areVariables vs ≡ true → patternOf isEllipsis literals 0 p ≡ some x → templateOf isEllipsis vs 0 false q ≡ some y → partsOf literals p q ≡ some (record { pattern = x; template = y })
+  unfolding partsOf guard mapBoth mapSome
+  parts-both x y v e f = rw (v, e, f) refl
+
+-- the table holds nothing at first
+pub held-none : (items work : List ℕ) (w : ℕ) (vars : List ℕ) → Held items work w vars 0
+unfolding variablesFrom areVariables distinct all
+held-none items work w vars = record { most = omega arith; good = refl }
+
+module _ (items old : List ℕ) (literals p q w next top : ℕ) (ask : PartsAsk items old literals p q w next top) where
+  abbrev listed : List Name
+  listed = names (treeAt items old literals w)
+
+  abbrev pt : Tree
+  pt = treeAt items old p w
+
+  abbrev qt : Tree
+  qt = treeAt items old q w
+
+  abbrev s : ℕ
+  s = size pt + size qt + 1
+
+  abbrev o : Option Rule
+  o = partsOf listed pt qt
+
+  pub small-p : 0 + p < 2 ^ 32
+  small-p = omega (arith, ask .p-below, ask .room .small)
+
+  pub asks-p : Asks items old p w top
+  asks-p =
+      record {
+        node-below = ask .p-below;
+        wrap-below = ask .wrap-below;
+        room = record { fits = omega (arith, ask .room .fits); small = omega (arith, ask .room .small) };
+      }
+
+  pub small-size : 0 + size pt < 2 ^ 32
+  small-size = omega (arith, ask .room .small)
+
+  pub left-variables : (vars new : List ℕ) (r : Kept) → r ≡ kept-is.Bad → Gathered (variables isEllipsis listed 0 pt) items old w p 0 vars new r → RuleLeft o s items old old next top Bad
+  unfolding variablesFrom
+  left-variables vars new r b g =
+      let h : Gathered (variables isEllipsis listed 0 pt) items old w p 0 vars new kept-is.Bad = subst (λ (z : Kept). Gathered (variables isEllipsis listed 0 pt) items old w p 0 vars new z) b g in
+      (parts-variables listed pt qt (ap areVariables (sym (append-nil (variables isEllipsis listed 0 pt))) ∙ h []), refl)
+
+  pub left-pattern : (mid : List ℕ) (r : Parsed) → r ≡ parsed.Bad → PatternLeft listed 0 pt items old mid top r → RuleLeft o s items old mid next top Bad
+  left-pattern mid r b g =
+      let h : PatternLeft listed 0 pt items old mid top parsed.Bad = subst (λ (z : Parsed). PatternLeft listed 0 pt items old mid top z) b g in
+      (parts-pattern listed pt qt (h .0), h .1)
+
+  pub made-pattern : (mid : List ℕ) (r : Parsed) (a t m : ℕ) → r ≡ parsed.Good a t m → PatternLeft listed 0 pt items old mid top r → PatternMade listed 0 pt items old mid top a t m
+  made-pattern mid r a t m b g = subst (λ (z : Parsed). PatternLeft listed 0 pt items old mid top z) b g
+
+  -- after the variables and the pattern
+  module _ (none-yet vars : List ℕ) (n : ℕ) (stored : Stored (variables isEllipsis listed 0 pt) items old w p 0 none-yet vars n) (mid : List ℕ) (a t m : ℕ) (same-length : length mid ≡ length old) (made : PatternMade listed 0 pt items old mid top a t m) where
+    pub under-top : Under vars n t
+    under-top = stored .under t (omega (arith, ask .p-below, made .grows .up)) (λ i l. absurd (omega arith))
+
+    under-old : Under vars n top
+    under-old = stored .under top (ask .p-below) (λ i l. absurd (omega arith))
+
+    variables-are : variablesFrom items mid w vars 0 n ≡ variables isEllipsis listed 0 pt
+    unfolding variablesFrom
+    variables-are = variables-kept items old mid w top (ask .wrap-below) (made .grows .kept) vars n under-old ∙ stored .list
+
+    q-is : treeAt items mid q w ≡ qt
+    q-is = tree-kept items old mid top q w (ask .q-below) (ask .wrap-below) (made .grows .kept)
+
+    limits : areVariables (variables isEllipsis listed 0 pt) ≡ true
+    unfolding variablesFrom
+    limits = ap areVariables (sym (stored .list)) ∙ stored .held .good
+
+    pub asks-q : Asks items mid q w t
+    asks-q =
+        record {
+          node-below = omega (arith, ask .q-below, made .grows .up);
+          wrap-below = omega (arith, ask .wrap-below, made .grows .up);
+          room = record {
+            fits = rw q-is (omega (arith, ask .room .fits, made .grows .words));
+            small = rw q-is (omega (arith, ask .room .small, made .grows .words));
+          };
+        }
+
+    pub small-q : 0 + q < 2 ^ 32
+    small-q = omega (arith, ask .q-below, ask .room .small)
+
+    template-is : templateOf isEllipsis (variablesFrom items mid w vars 0 n) 0 false (treeAt items mid q w) ≡ templateOf isEllipsis (variables isEllipsis listed 0 pt) 0 false qt
+    template-is = rw (variables-are, q-is) refl
+
+    pub left-template : (new : List ℕ) (r : Built) → r ≡ Bad → TemplateLeft (variablesFrom items mid w vars 0 n) 0 false (treeAt items mid q w) items mid new t r → RuleLeft o s items old new next top Bad
+    left-template new r b g =
+        let h : TemplateLeft (variablesFrom items mid w vars 0 n) 0 false (treeAt items mid q w) items mid new t Bad = subst (λ (z : Built). TemplateLeft (variablesFrom items mid w vars 0 n) 0 false (treeAt items mid q w) items mid new t z) b g in
+        (parts-template listed pt qt (patternAt items mid a) (made .means) (sym template-is ∙ h .0), take-less new mid top t (made .grows .up) (h .1) ∙ made .grows .kept)
+
+    pub made-template : (last : List ℕ) (r : Built) (b u : ℕ) → r ≡ Good b u → TemplateLeft (variablesFrom items mid w vars 0 n) 0 false (treeAt items mid q w) items mid last t r → TemplateMade (variablesFrom items mid w vars 0 n) 0 false (treeAt items mid q w) items mid last t b u
+    made-template last r b u e g = subst (λ (z : Built). TemplateLeft (variablesFrom items mid w vars 0 n) 0 false (treeAt items mid q w) items mid last t z) e g
+
+    module _ (last : List ℕ) (b u : ℕ) (same-last : length last ≡ length mid) (second : TemplateMade (variablesFrom items mid w vars 0 n) 0 false (treeAt items mid q w) items mid last t b u) where
+      words-two : u ≤ t + 5 * size qt
+      words-two = rw q-is at (second .grows .words)
+
+      pub rule-asks : (Room last u 5) × (a ≤ u) × (b ≤ u) × (next ≤ u)
+      rule-asks =
+          (record { fits = omega (arith, ask .room .fits, made .grows .words, words-two); small = omega (arith, ask .room .small, made .grows .words, words-two) }, omega (arith, made .grows .at-most, second .grows .up), second .grows .at-most, omega (arith, ask .next-below, made .grows .up, second .grows .up))
+
+      kept-two : take top last ≡ take top old
+      kept-two = take-less last mid top t (made .grows .up) (second .grows .kept) ∙ made .grows .kept
+
+      pub left-rule : (new : List ℕ) (r : ℕ) → Made rulesAt (λ i. record { pattern = patternAt i last a; template = templateAt i last b } ∷ rulesAt i last next) last new u r → RuleLeft o s items old new next top (Good r r)
+      left-rule new r c =
+          record {
+            rule = record { pattern = patternAt items mid a; template = templateAt items last b };
+            is = parts-both listed pt qt (patternAt items mid a) (templateAt items last b) limits (made .means) (sym template-is ∙ second .means);
+            means =
+                c .means items
+                ∙ ap₂ (λ (x : Pattern) (l : List Rule). record { pattern = x; template = templateAt items last b } ∷ l) (pattern-kept items mid last t (second .grows .kept) a (made .grows .at-most)) (rules-kept items old last top kept-two next (ask .next-below));
+            at-most = omega arith;
+            up = omega (arith, c .end, made .grows .up, second .grows .up);
+            words = omega (arith, c .end, made .grows .words, words-two);
+            kept = take-less new last top u (omega (arith, made .grows .up, second .grows .up)) (c .kept) ∙ kept-two;
+          }

@@ -1,0 +1,232 @@
+-- Laws of a rule's shape and of lists of rules.
+use mathlib.Core.Path.{_≡_, refl, sym, ap, ap₂, subst, _∙_}
+use mathlib.Core.Bool.{Bool, true, false, not, _&&_, cond}
+use mathlib.Core.List.{List, [], _∷_}
+use mathlib.Core.Option.{Option, none, some}
+use Prim.Native.Nat.{ℕ, zero, suc, _+_, _*_, _≤_, _<_}
+use native.Mathlib.Omega.{arith}
+use lib.Dec.{eqb}
+use lib.ListN.{length, take}
+use borrow.Author.Tests.{ne-eqb, eqb-true}
+use Rattle.words.specs.Options.{guard, mapSome, mapBoth, traverse}
+use Rattle.words.specs.TestLaws.{and-left, and-right}
+use Rattle.recipe.specs.Name.{Name, isEllipsis}
+use Rattle.recipe.specs.Tree.{Tree, empty, constant, name, pair, size, names, onEmpty, onName, onPair, isList, isListOf, elements, element, tail}
+use Rattle.recipe.specs.TreeLaws.{size-positive}
+use Rattle.expansion.specs.Rules.{Rule, ruleOf}
+use Rattle.arena.specs.Arena.{wordAt, referenceAt, nameAt, treeAt}
+use Rattle.arena.specs.ArenaLaws.{cases, take-less}
+use Rattle.arena.specs.NodeLaws.{treeAt-name}
+use Rattle.arena.specs.Names.{numberOf}
+use Rattle.arena.specs.NameLaws.{nameAt-number}
+use Rattle.arena.specs.CellLaws.{tree-kept}
+use Rattle.rule_cells.specs.Cells.{rulesAt}
+use Rattle.rule_cells.specs.CellLaws.{rulesAt-none}
+use Rattle.rule_cells.specs.Trees.{Part}
+use Rattle.rule_cells.specs.TreeLaws.{no-name, no-elements}
+use Rattle.rule_cells.specs.Parse.{Asks}
+use Rattle.rule_cells.specs.ParseLaws.{tree-is, size-is, head-below, rest-below}
+use Rattle.rule_cells.specs.RuleParse.{ruleShape, partsOf, PartsAsk, RuleMade, RuleLeft, RulesMade, RulesLeft}
+use Rattle.rule_cells.specs.declared.templates.Built.{Built}
+use Rattle.rule_cells.specs.declared.templates.Built.the-variants.{Good, Bad}
+
+-- ---- a rule's shape
+
+module _ (items work : List ℕ) (node w : ℕ) where
+  pub shape-no : false ≡ isListOf 2 (treeAt items work node w) → false ≡ ruleShape (treeAt items work node w)
+  unfolding ruleShape
+  shape-no e = rw (← e) refl
+
+  module _ (pattern first : ℕ) (l : true ≡ isListOf 2 (treeAt items work node w)) (p : Part (element 0) work node pattern) (q : Part (element 0) work pattern first) where
+    first-is : element 0 (element 0 (treeAt items work node w)) ≡ treeAt items work first w
+    first-is = sym (q .means items w ∙ ap (element 0) (p .means items w))
+
+    pub shape-other : (wordAt work first 3 ≡ 3 → ⊥) → false ≡ ruleShape (treeAt items work node w)
+    unfolding ruleShape
+    shape-other n = rw (← l, first-is, no-name items work first w (λ x. not (isEllipsis x)) false n) refl
+
+    pub shape-dots : (n : ℕ) → wordAt work first 3 ≡ 3 → n ≡ numberOf items work first → n ≡ 6 → false ≡ ruleShape (treeAt items work node w)
+    unfolding ruleShape onName isEllipsis
+    shape-dots n e f d = rw (← l, first-is, treeAt-name items work first w e, nameAt-number items work first w, ← f, d) refl
+
+    pub shape-yes : (n : ℕ) → wordAt work first 3 ≡ 3 → n ≡ numberOf items work first → (n ≡ 6 → ⊥) → true ≡ ruleShape (treeAt items work node w)
+    unfolding ruleShape onName isEllipsis
+    shape-yes n e f d = rw (← l, first-is, treeAt-name items work first w e, nameAt-number items work first w, ← f, ne-eqb n 6 d) refl
+
+-- ---- a rule
+
+rule-none : (literals : List Name) (t : Tree) → false ≡ ruleShape t → ruleOf isEllipsis literals t ≡ none
+unfolding ruleOf guard ruleShape
+rule-none literals t e =
+    cases (isListOf 2 t)
+    (λ a. let b : false ≡ onName (λ x. not (isEllipsis x)) false (element 0 (element 0 t)) = rw a at e in rw (a, ← b) refl)
+    (λ a. rw a refl)
+
+rule-is : (literals : List Name) (t : Tree) → true ≡ ruleShape t → partsOf literals (tail (element 0 t)) (element 1 t) ≡ ruleOf isEllipsis literals t
+unfolding ruleOf partsOf guard ruleShape
+rule-is literals t e =
+    let first = onName (λ x. not (isEllipsis x)) false (element 0 (element 0 t)) in
+    rw (and-left (isListOf 2 t) first (sym e), and-right (isListOf 2 t) first (sym e)) refl
+
+tail-size : (t : Tree) → size (tail t) ≤ size t
+unfolding size tail onPair
+tail-size empty = omega arith
+tail-size (constant a) = omega arith
+tail-size (name x) = omega arith
+tail-size (pair h t) = omega arith
+
+pair-size : (h q e : Tree) → size (tail h) + size q + 1 ≤ size (pair h (pair q e))
+unfolding size
+pair-size h q e = omega (arith, tail-size h)
+
+list-size : (t : Tree) → length (elements t) ≡ 2 → size (tail (element 0 t)) + size (element 1 t) + 1 ≤ size t
+unfolding elements element
+list-size empty e = absurd (omega arith)
+list-size (constant a) e = absurd (omega arith)
+list-size (name x) e = absurd (omega arith)
+list-size (pair h empty) e = absurd (omega arith)
+list-size (pair h (constant a)) e = absurd (omega arith)
+list-size (pair h (name x)) e = absurd (omega arith)
+list-size (pair h (pair q s)) e = pair-size h q s
+
+shape-size : (t : Tree) → true ≡ ruleShape t → size (tail (element 0 t)) + size (element 1 t) + 1 ≤ size t
+unfolding ruleShape isListOf
+shape-size t e =
+    let first = onName (λ x. not (isEllipsis x)) false (element 0 (element 0 t)) in
+    let l : (isList t && eqb (length (elements t)) 2) ≡ true = and-left (isListOf 2 t) first (sym e) in
+    list-size t (eqb-true (length (elements t)) 2 (and-right (isList t) (eqb (length (elements t)) 2) l))
+
+element-one : (t : Tree) → element 0 (tail t) ≡ element 1 t
+unfolding element elements tail onPair
+element-one empty = refl
+element-one (constant a) = refl
+element-one (name x) = refl
+element-one (pair h t) = refl
+
+rule-as : (o o′ : Option Rule) (s s′ : ℕ) (items old new : List ℕ) (next top : ℕ) (r : Built) → o ≡ o′ → s ≤ s′ → RuleLeft o s items old new next top r → RuleLeft o′ s′ items old new next top r
+rule-as o o′ s s′ items old new next top (Good at upper) e l m =
+    record { rule = m .rule; is = sym e ∙ m .is; means = m .means; at-most = m .at-most; up = m .up; words = omega (arith, m .words); kept = m .kept }
+rule-as o o′ s s′ items old new next top Bad e l m = (sym e ∙ m .0, m .1)
+
+module _ (items old : List ℕ) (literals node w next top : ℕ) (asks : Asks items old node w top) (literals-below : literals ≤ top) (next-below : next ≤ top) where
+  abbrev listed : List Name
+  listed = names (treeAt items old literals w)
+
+  abbrev t : Tree
+  t = treeAt items old node w
+
+  pub left-shape : false ≡ ruleShape t → RuleLeft (ruleOf isEllipsis listed t) (size t) items old old next top Bad
+  left-shape e = (rule-none listed t e, refl)
+
+  module _ (pattern p after q : ℕ) (shape : true ≡ ruleShape t) (a : Part (element 0) old node pattern) (b : Part tail old pattern p) (c : Part tail old node after) (d : Part (element 0) old after q) where
+    p-is : treeAt items old p w ≡ tail (element 0 t)
+    p-is = b .means items w ∙ ap tail (a .means items w)
+
+    q-is : treeAt items old q w ≡ element 1 t
+    q-is = d .means items w ∙ ap (element 0) (c .means items w) ∙ element-one t
+
+    fits : size (treeAt items old p w) + size (treeAt items old q w) + 1 ≤ size t
+    fits = rw (p-is, q-is) (shape-size t shape)
+
+    pub parts-ask : PartsAsk items old literals p q w next top
+    parts-ask =
+        record {
+          literals-below = literals-below;
+          p-below = omega (arith, a .below, b .below, asks .node-below);
+          q-below = omega (arith, c .below, d .below, asks .node-below);
+          wrap-below = asks .wrap-below;
+          next-below = next-below;
+          room = record { fits = omega (arith, asks .room .fits, fits); small = omega (arith, asks .room .small, fits) };
+        }
+
+    pub left-parts : (new : List ℕ) (r : Built) → RuleLeft (partsOf listed (treeAt items old p w) (treeAt items old q w)) (size (treeAt items old p w) + size (treeAt items old q w) + 1) items old new next top r → RuleLeft (ruleOf isEllipsis listed t) (size t) items old new next top r
+    left-parts new r m = rule-as _ _ _ _ items old new next top r (rw (p-is, q-is) (rule-is listed t shape)) fits m
+
+-- ---- lists of rules
+
+traverse-bad : (f : Tree → Option Rule) (x : Option Rule) (ys : Option (List Rule)) → ys ≡ none → mapBoth _∷_ x ys ≡ none
+unfolding mapBoth mapSome
+traverse-bad f none ys e = refl
+traverse-bad f (some x) ys e = rw e refl
+
+module _ (items old : List ℕ) (literals node w top : ℕ) (asks : Asks items old node w top) (literals-below : literals ≤ top) where
+  abbrev names-listed : List Name
+  names-listed = names (treeAt items old literals w)
+
+  abbrev answer : Tree → Option (List Rule)
+  answer t = traverse (ruleOf isEllipsis names-listed) (elements t)
+
+  pub left-end : (wordAt old node 3 ≡ 4 → ⊥) → RulesLeft (answer (treeAt items old node w)) (size (treeAt items old node w)) items old old top (Good 0 top)
+  unfolding traverse
+  left-end n =
+      record {
+        means = ap (traverse (ruleOf isEllipsis names-listed)) (no-elements items old node w n) ∙ ap some (sym (rulesAt-none items old 0 refl));
+        at-most = omega arith;
+        up = omega arith;
+        words = omega arith;
+        kept = refl;
+      }
+
+  module _ (head rest : ℕ) (e : wordAt old node 3 ≡ 4) (f : head ≡ referenceAt old node 2) (g : rest ≡ referenceAt old node 1) where
+    abbrev h : Tree
+    h = treeAt items old head w
+
+    abbrev s : Tree
+    s = treeAt items old rest w
+
+    answer-is : answer (treeAt items old node w) ≡ mapBoth _∷_ (ruleOf isEllipsis names-listed h) (answer s)
+    unfolding traverse elements
+    answer-is = ap answer (tree-is items old node w top asks head rest e f g)
+
+    pub left-later : (mid : List ℕ) (r : Built) → r ≡ Bad → RulesLeft (answer s) (size s) items old mid top r → RulesLeft (answer (treeAt items old node w)) (size (treeAt items old node w)) items old mid top Bad
+    left-later mid r b p =
+        let q : RulesLeft (answer s) (size s) items old mid top Bad = subst (λ (z : Built). RulesLeft (answer s) (size s) items old mid top z) b p in
+        (answer-is ∙ traverse-bad (ruleOf isEllipsis names-listed) (ruleOf isEllipsis names-listed h) (answer s) (q .0), q .1)
+
+    pub made-later : (mid : List ℕ) (r : Built) (next upper : ℕ) → r ≡ Good next upper → RulesLeft (answer s) (size s) items old mid top r → RulesMade (answer s) (size s) items old mid top next upper
+    made-later mid r next upper b p = subst (λ (z : Built). RulesLeft (answer s) (size s) items old mid top z) b p
+
+    -- after the later rules
+    module _ (mid : List ℕ) (next upper : ℕ) (same-length : length mid ≡ length old) (made : RulesMade (answer s) (size s) items old mid top next upper) where
+      head-is : treeAt items mid head w ≡ h
+      head-is = tree-kept items old mid top head w (omega (arith, head-below items old node w top asks head rest e f g, asks .node-below)) (asks .wrap-below) (made .kept)
+
+      listed-is : names (treeAt items mid literals w) ≡ names-listed
+      listed-is = ap names (tree-kept items old mid top literals w literals-below (asks .wrap-below) (made .kept))
+
+      whole-size : size (treeAt items old node w) ≡ suc (size h + size s)
+      whole-size = size-is items old node w top asks head rest e f g
+
+      pub asks-first : Asks items mid head w upper
+      asks-first =
+          record {
+            node-below = omega (arith, head-below items old node w top asks head rest e f g, asks .node-below, made .up);
+            wrap-below = omega (arith, asks .wrap-below, made .up);
+            room = record {
+              fits = rw head-is (omega (arith, asks .room .fits, whole-size, made .words));
+              small = rw head-is (omega (arith, asks .room .small, whole-size, made .words));
+            };
+          }
+
+      pub literals-still : literals ≤ upper
+      literals-still = omega (arith, made .up)
+
+      abbrev one : Option Rule
+      one = ruleOf isEllipsis (names (treeAt items mid literals w)) (treeAt items mid head w)
+
+      one-is : one ≡ ruleOf isEllipsis names-listed h
+      one-is = rw (listed-is, head-is) refl
+
+      pub left-both : (new : List ℕ) (r : Built) → RuleLeft one (size (treeAt items mid head w)) items mid new next upper r → RulesLeft (answer (treeAt items old node w)) (size (treeAt items old node w)) items old new top r
+      unfolding mapBoth mapSome
+      left-both new (Good at higher) m =
+          let words : higher ≤ upper + 5 * size h = rw head-is at (m .words) in
+          record {
+            means = answer-is ∙ ap₂ (mapBoth _∷_) (sym one-is ∙ m .is) (made .means) ∙ ap some (sym (m .means));
+            at-most = m .at-most;
+            up = omega (arith, m .up, made .up);
+            words = omega (arith, made .words, whole-size);
+            kept = take-less new mid top upper (made .up) (m .kept) ∙ made .kept;
+          }
+      left-both new Bad m =
+          (answer-is ∙ ap₂ (mapBoth _∷_) (sym one-is ∙ m .0) (made .means), take-less new mid top upper (made .up) (m .1) ∙ made .kept)

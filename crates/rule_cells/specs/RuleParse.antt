@@ -1,0 +1,62 @@
+-- What parsing rules asks and leaves.
+use mathlib.Core.Path.{_≡_}
+use mathlib.Core.Bool.{Bool, false, not, _&&_}
+use mathlib.Core.List.{List, _∷_}
+use mathlib.Core.Option.{Option, none, some}
+use Prim.Native.Nat.{ℕ, _+_, _*_, _≤_}
+use lib.ListN.{take}
+use Rattle.words.specs.Options.{guard, mapBoth}
+use Rattle.recipe.specs.Name.{Name, isEllipsis}
+use Rattle.recipe.specs.Tree.{Tree, size, onName, isListOf, element}
+use Rattle.expansion.specs.Rules.{Pattern, Template, Rule, areVariables, variables, patternOf, templateOf}
+use Rattle.arena.specs.Arena.{treeAt}
+use Rattle.arena.specs.Cells.{Room}
+use Rattle.rule_cells.specs.Cells.{rulesAt}
+use Rattle.rule_cells.specs.declared.templates.Built.{Built}
+use Rattle.rule_cells.specs.declared.templates.Built.the-variants.{Good, Bad}
+
+-- (pattern template); a pattern's first place is a name other than `...`
+unfoldable pub ruleShape : Tree → Bool
+ruleShape t = isListOf 2 t && onName (λ x. not (isEllipsis x)) false (element 0 (element 0 t))
+
+-- a rule from the rest of its pattern and its template
+unfoldable pub partsOf : List Name → Tree → Tree → Option Rule
+partsOf literals p q =
+    let vs = variables isEllipsis literals 0 p in
+    guard (areVariables vs) (mapBoth (λ x y. record { pattern = x; template = y }) (patternOf isEllipsis literals 0 p) (templateOf isEllipsis vs 0 false q))
+
+pub record PartsAsk (items work : List ℕ) (literals p q w next top : ℕ) : Type 0 where
+  pub literals-below : literals ≤ top
+  pub p-below : p ≤ top
+  pub q-below : q ≤ top
+  pub wrap-below : w ≤ top
+  pub next-below : next ≤ top
+  pub room : Room work top (5 * (size (treeAt items work p w) + size (treeAt items work q w) + 1))
+
+-- a rule's cell before those at `next`, for a tree of `items` s
+pub record RuleMade (o : Option Rule) (s : ℕ) (items old new : List ℕ) (next top at upper : ℕ) : Type 0 where
+  pub rule : Rule
+  pub is : o ≡ some rule
+  pub means : rulesAt items new at ≡ rule ∷ rulesAt items old next
+  pub at-most : at ≤ upper
+  pub up : top ≤ upper
+  pub words : upper ≤ top + 5 * s
+  pub kept : take top new ≡ take top old
+
+-- bad exactly where the definition has no rule
+abbrev pub RuleLeft : (o : Option Rule) (s : ℕ) (items old new : List ℕ) (next top : ℕ) → Built → Type 0
+RuleLeft o s items old new next top (Good at upper) = RuleMade o s items old new next top at upper
+RuleLeft o s items old new next top Bad = (o ≡ none) × (take top new ≡ take top old)
+
+-- the cells of a list of rules
+pub record RulesMade (o : Option (List Rule)) (s : ℕ) (items old new : List ℕ) (top at upper : ℕ) : Type 0 where
+  pub means : o ≡ some (rulesAt items new at)
+  pub at-most : at ≤ upper
+  pub up : top ≤ upper
+  pub words : upper ≤ top + 5 * s
+  pub kept : take top new ≡ take top old
+
+-- bad exactly where the definition has no rules
+abbrev pub RulesLeft : (o : Option (List Rule)) (s : ℕ) (items old new : List ℕ) (top : ℕ) → Built → Type 0
+RulesLeft o s items old new top (Good at upper) = RulesMade o s items old new top at upper
+RulesLeft o s items old new top Bad = (o ≡ none) × (take top new ≡ take top old)

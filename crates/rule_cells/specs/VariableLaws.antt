@@ -1,0 +1,258 @@
+-- Laws of a pattern's variables.
+use mathlib.Core.Path.{_≡_, refl, sym, ap, ap₂, subst, _∙_}
+use mathlib.Core.Bool.{Bool, true, false, not, _&&_, _||_, cond}
+use mathlib.Core.List.{List, [], _∷_, _++_, map}
+use mathlib.Core.Option.{Option, none, some}
+use Prim.Native.Nat.{ℕ, zero, suc, _+_, _*_, _-_, _≤_, _<_}
+use native.Mathlib.Omega.{arith}
+use lib.Dec.{eqb, leb}
+use lib.ListN.{length, getD, set, length-append, length-set}
+use lib.Seq.{getD-set-same, getD-set-other}
+use borrow.Author.Tests.{le-leb, lt-leb, eqb-true, eqb-false}
+use Rattle.words.specs.Limits.{patternVariablesMost, depthMost}
+use Rattle.words.specs.Lists.{all, any}
+use Rattle.words.specs.TestLaws.{and-none-left, and-none-right, and-both, and-left, and-right, or-left, or-right}
+use Rattle.recipe.specs.Name.{Name, same, distinct, isEllipsis, isWildcard}
+use Rattle.recipe.specs.Tree.{Tree, empty, constant, name, pair, names}
+use Rattle.expansion.specs.Rules.{variableFrom, areVariables, dotsNext, depthBefore, isVariable, variables}
+use Rattle.arena.specs.Arena.{wordAt, referenceAt, nameAt, treeAt}
+use Rattle.arena.specs.ArenaLaws.{cases}
+use Rattle.arena.specs.NodeLaws.{treeAt-name, treeAt-pair}
+use Rattle.rule_cells.specs.TreeLaws.{tree-cases}
+use Rattle.rule_cells.specs.Variables.{variableAt, variablesFrom, knownOf, Held, Under, Stored, Gathered, Deeper}
+use Rattle.rule_cells.specs.declared.variables.Known.{Known}
+use Rattle.rule_cells.specs.declared.variables.Known.the-variants.{At, Not}
+use Rattle.rule_cells.specs.declared.variables.Kept.{Kept}
+use Rattle.rule_cells.specs.declared.variables.Kept.the-variants.{Count, Bad}
+
+-- ---- listed literals
+
+or-false : (b : Bool) → (b || false) ≡ b
+or-false true = refl
+or-false false = refl
+
+any-append : {A : Type 0} (f : A → Bool) (a b : List A) → any f (a ++ b) ≡ (any f a || any f b)
+unfolding any
+any-append f [] b = refl
+any-append f (x ∷ a) b = rw (any-append f a b) (or-assoc (f x) (any f a) (any f b))
+  where
+    or-assoc : (p q r : Bool) → (p || (q || r)) ≡ ((p || q) || r)
+    or-assoc true q r = refl
+    or-assoc false q r = refl
+
+-- the names of a tree in the arena that pass a test
+module _ (items work : List ℕ) (list w : ℕ) (f : Name → Bool) where
+  pub any-name : (b : Bool) → wordAt work list 3 ≡ 3 → b ≡ f (nameAt items work list w) → b ≡ any f (names (treeAt items work list w))
+  unfolding any names
+  any-name b e h = rw (treeAt-name items work list w e, or-false (f (nameAt items work list w))) h
+
+  pub any-head : (r : ℕ) → wordAt work list 3 ≡ 4 → r ≡ referenceAt work list 2 → true ≡ any f (names (treeAt items work r w)) → true ≡ any f (names (treeAt items work list w))
+  unfolding names
+  any-head r e g h =
+      rw (treeAt-pair items work list w e, ← g, any-append f (names (treeAt items work r w)) (names (treeAt items work (referenceAt work list 1) w)), ← h) refl
+
+  pub any-rest : (r s : ℕ) (b : Bool) → wordAt work list 3 ≡ 4 → r ≡ referenceAt work list 2 → s ≡ referenceAt work list 1 → false ≡ any f (names (treeAt items work r w)) → b ≡ any f (names (treeAt items work s w)) → b ≡ any f (names (treeAt items work list w))
+  unfolding names
+  any-rest r s b e g k h j =
+      rw (treeAt-pair items work list w e, ← g, ← k, any-append f (names (treeAt items work r w)) (names (treeAt items work s w)), ← h) j
+
+  pub any-other : (wordAt work list 3 ≡ 3 → ⊥) → (wordAt work list 3 ≡ 4 → ⊥) → false ≡ any f (names (treeAt items work list w))
+  unfolding names any
+  any-other m n = tree-cases items work list w (λ t. false ≡ any f (names t)) (λ e. refl) (λ e. absurd (m e)) (λ e. absurd (n e)) (λ p q r. refl)
+
+-- ---- known variables
+
+module _ (items work : List ℕ) (w : ℕ) (vars : List ℕ) (x : Name) (i : ℕ) where
+  pub known-none : (n : ℕ) → n ≡ 0 → knownOf Not ≡ variableFrom i (variablesFrom items work w vars i n) x
+  unfolding knownOf variablesFrom variableFrom
+  known-none n e = rw e refl
+
+  known-step : (n : ℕ) → (n ≡ 0 → ⊥) → variableFrom i (variablesFrom items work w vars i n) x ≡ cond (same (nameAt items work (getD vars (2 * i) 0) w) x) (some (i, getD vars (2 * i + 1) 0)) (variableFrom (i + 1) (variablesFrom items work w vars (i + 1) (n - 1)) x)
+  unfolding variablesFrom variableFrom variableAt
+  known-step zero h = absurd (h refl)
+  known-step (suc n) h =
+      let e : suc n - 1 ≡ n = omega arith in
+      let d : suc i ≡ i + 1 = omega arith in
+      rw (e, ← d)
+
+  pub known-here : (n : ℕ) → (n ≡ 0 → ⊥) → true ≡ same (nameAt items work (getD vars (2 * i) 0) w) x → knownOf (At i (getD vars (2 * i + 1) 0)) ≡ variableFrom i (variablesFrom items work w vars i n) x
+  unfolding knownOf
+  known-here n h e = rw (known-step n h, ← e) refl
+
+  pub known-later : (n : ℕ) (r : Known) → (n ≡ 0 → ⊥) → false ≡ same (nameAt items work (getD vars (2 * i) 0) w) x → knownOf r ≡ variableFrom (i + 1) (variablesFrom items work w vars (i + 1) (n - 1)) x → knownOf r ≡ variableFrom i (variablesFrom items work w vars i n) x
+  known-later n r h e g = rw (known-step n h, ← e) g
+
+-- ---- limits
+
+-- the names of variables
+abbrev named : List (Name × ℕ) → List Name
+named vs = map (λ v. v .0) vs
+
+any-middle : (f : Name → Bool) (x : Name) (d : ℕ) (vs rest : List (Name × ℕ)) → f x ≡ true → any f (named (vs ++ ((x, d) ∷ rest))) ≡ true
+unfolding any
+any-middle f x d [] rest e = or-left (f x) (any f (named rest)) e
+any-middle f x d (v ∷ vs) rest e = or-right (f (v .0)) (any f (named (vs ++ ((x, d) ∷ rest)))) (any-middle f x d vs rest e)
+
+any-last : (f : Name → Bool) (x : Name) (d : ℕ) (vs : List (Name × ℕ)) → f x ≡ false → any f (named (vs ++ ((x, d) ∷ []))) ≡ any f (named vs)
+unfolding any
+any-last f x d [] e = rw e refl
+any-last f x d (v ∷ vs) e = rw (any-last f x d vs e)
+
+distinct-twice : (k : ℕ) (vs : List (Name × ℕ)) (x : Name) (d : ℕ) (rest : List (Name × ℕ)) (p : ℕ × ℕ) → variableFrom k vs x ≡ some p → distinct (named (vs ++ ((x, d) ∷ rest))) ≡ false
+unfolding variableFrom distinct
+distinct-twice k [] x d rest p e = absurd (let z : _≡_ {A = ℕ} 0 1 = cc in omega arith)
+distinct-twice k (v ∷ vs) x d rest p e =
+    cases (same (v .0) x)
+    (λ t. rw (any-middle (same (v .0)) x d vs rest t) refl)
+    (λ t. and-none-right (not (any (same (v .0)) (named (vs ++ ((x, d) ∷ rest))))) (distinct (named (vs ++ ((x, d) ∷ rest)))) (distinct-twice (suc k) vs x d rest p (rw t at e)))
+
+distinct-new : (k : ℕ) (vs : List (Name × ℕ)) (x : Name) (d : ℕ) → variableFrom k vs x ≡ none → distinct (named vs) ≡ true → distinct (named (vs ++ ((x, d) ∷ []))) ≡ true
+unfolding variableFrom distinct any
+distinct-new k [] x d e h = refl
+distinct-new k (v ∷ vs) x d e h =
+    cases (same (v .0) x)
+    (λ t. let s : some (k, v .1) ≡ none = rw t at e in absurd (let z : _≡_ {A = ℕ} 0 1 = cc in omega arith))
+    (λ t.
+    let fresh = not (any (same (v .0)) (named vs)) in
+    rw (any-last (same (v .0)) x d vs t)
+    (and-both fresh (distinct (named (vs ++ ((x, d) ∷ [])))) (and-left fresh (distinct (named vs)) h) (distinct-new (suc k) vs x d (rw t at e) (and-right fresh (distinct (named vs)) h))))
+
+-- no variable lies under too many ellipses
+abbrev shallow : List (Name × ℕ) → Bool
+shallow vs = all (λ v. leb (v .1) depthMost) vs
+
+shallow-not : (vs : List (Name × ℕ)) (x : Name) (d : ℕ) (rest : List (Name × ℕ)) → 2 < d → shallow (vs ++ ((x, d) ∷ rest)) ≡ false
+unfolding all
+shallow-not [] x d rest h = rw (lt-leb d 2 h) refl
+shallow-not (v ∷ vs) x d rest h = and-none-right (leb (v .1) 2) (shallow (vs ++ ((x, d) ∷ rest))) (shallow-not vs x d rest h)
+
+shallow-more : (vs : List (Name × ℕ)) (x : Name) (d : ℕ) → d ≤ 2 → shallow vs ≡ true → shallow (vs ++ ((x, d) ∷ [])) ≡ true
+unfolding all
+shallow-more [] x d h e = rw (le-leb d 2 h) refl
+shallow-more (v ∷ vs) x d h e = and-both (leb (v .1) 2) (shallow (vs ++ ((x, d) ∷ []))) (and-left (leb (v .1) 2) (shallow vs) e) (shallow-more vs x d h (and-right (leb (v .1) 2) (shallow vs) e))
+
+module _ (vs : List (Name × ℕ)) (x : Name) (d : ℕ) where
+  -- the three limits, of the variables with x and what comes after it
+  module _ (rest : List (Name × ℕ)) where
+    abbrev few : Bool
+    few = leb (length (vs ++ ((x, d) ∷ rest))) 16
+
+    abbrev apart : Bool
+    apart = distinct (named (vs ++ ((x, d) ∷ rest)))
+
+    abbrev low : Bool
+    low = shallow (vs ++ ((x, d) ∷ rest))
+
+    too-deep : 2 < d → areVariables (vs ++ ((x, d) ∷ rest)) ≡ false
+    unfolding areVariables
+    too-deep h = and-none-right few (apart && low) (and-none-right apart low (shallow-not vs x d rest h))
+
+    too-many : 16 ≤ length vs → areVariables (vs ++ ((x, d) ∷ rest)) ≡ false
+    unfolding areVariables
+    too-many h =
+        let l : 16 < length (vs ++ ((x, d) ∷ rest)) = omega (arith, length-append vs ((x, d) ∷ rest)) in
+        and-none-left few (apart && low) (lt-leb (length (vs ++ ((x, d) ∷ rest))) 16 l)
+
+    twice : (k : ℕ) (p : ℕ × ℕ) → variableFrom k vs x ≡ some p → areVariables (vs ++ ((x, d) ∷ rest)) ≡ false
+    unfolding areVariables
+    twice k p e = and-none-right few (apart && low) (and-none-left apart low (distinct-twice k vs x d rest p e))
+
+  one-more : (k : ℕ) → areVariables vs ≡ true → length vs < 16 → d ≤ 2 → variableFrom k vs x ≡ none → areVariables (vs ++ ((x, d) ∷ [])) ≡ true
+  unfolding areVariables
+  one-more k g l h e =
+      let m : length (vs ++ ((x, d) ∷ [])) ≤ 16 = omega (arith, length-append vs ((x, d) ∷ [])) in
+      let r : (distinct (named vs) && shallow vs) ≡ true = and-right (leb (length vs) 16) (distinct (named vs) && shallow vs) g in
+      and-both (few []) (apart [] && low []) (le-leb (length (vs ++ ((x, d) ∷ []))) 16 m)
+      (and-both (apart []) (low []) (distinct-new k vs x d e (and-left (distinct (named vs)) (shallow vs) r)) (shallow-more vs x d h (and-right (distinct (named vs)) (shallow vs) r)))
+
+-- ---- the table
+
+module _ (items work : List ℕ) (w : ℕ) where
+  variablesFrom-length : (vars : List ℕ) (i n : ℕ) → length (variablesFrom items work w vars i n) ≡ n
+  unfolding variablesFrom
+  variablesFrom-length vars i zero = refl
+  variablesFrom-length vars i (suc n) = ap suc (variablesFrom-length vars (suc i) n)
+
+  variablesFrom-last : (vars : List ℕ) (i n : ℕ) → variablesFrom items work w vars i (suc n) ≡ variablesFrom items work w vars i n ++ (variableAt items work w vars (i + n) ∷ [])
+  unfolding variablesFrom
+  variablesFrom-last vars i zero = let e : i + 0 ≡ i = omega arith in rw e refl
+  variablesFrom-last vars i (suc n) =
+      let e : suc i + n ≡ i + suc n = omega arith in
+      ap (λ (l : List (Name × ℕ)). variableAt items work w vars i ∷ l) (variablesFrom-last vars (suc i) n ∙ ap (λ (j : ℕ). variablesFrom items work w vars (suc i) n ++ (variableAt items work w vars j ∷ [])) e)
+
+  -- the table's variables depend on its first words alone
+  variablesFrom-same : (a b : List ℕ) (i n : ℕ) → ((j : ℕ) → j < 2 * (i + n) → getD a j 0 ≡ getD b j 0) → variablesFrom items work w a i n ≡ variablesFrom items work w b i n
+  unfolding variablesFrom variableAt
+  variablesFrom-same a b i zero h = refl
+  variablesFrom-same a b i (suc n) h =
+      ap₂ _∷_ (rw (h (2 * i) (omega arith), h (2 * i + 1) (omega arith)))
+      (variablesFrom-same a b (suc i) n (λ j l. h j (omega arith)))
+
+  module _ (vars : List ℕ) (n node d : ℕ) (room : 2 * n + 1 < length vars) where
+    abbrev added : List ℕ
+    added = set (set vars (2 * n) node) (2 * n + 1) d
+
+    added-below : (j : ℕ) → j < 2 * n → getD added j 0 ≡ getD vars j 0
+    added-below j h = getD-set-other (set vars (2 * n) node) (2 * n + 1) j d 0 (λ z. omega arith) ∙ getD-set-other vars (2 * n) j node 0 (λ z. omega arith)
+
+    added-node : getD added (2 * n) 0 ≡ node
+    added-node = getD-set-other (set vars (2 * n) node) (2 * n + 1) (2 * n) d 0 (λ z. omega arith) ∙ getD-set-same vars (2 * n) node 0 (omega arith)
+
+    added-depth : getD added (2 * n + 1) 0 ≡ d
+    added-depth = getD-set-same (set vars (2 * n) node) (2 * n + 1) d 0 (simp length-set (omega arith))
+
+    added-list : variablesFrom items work w added 0 (n + 1) ≡ variablesFrom items work w vars 0 n ++ ((nameAt items work node w, d) ∷ [])
+    unfolding variableAt
+    added-list =
+        let e : n + 1 ≡ suc n = omega arith in
+        let z : 0 + n ≡ n = omega arith in
+        ap (variablesFrom items work w added 0) e
+        ∙ variablesFrom-last added 0 n
+        ∙ ap₂ (λ (l : List (Name × ℕ)) (v : Name × ℕ). l ++ (v ∷ [])) (variablesFrom-same added vars 0 n (λ j h. added-below j (omega arith))) (rw (z, added-node, added-depth))
+
+    added-under : (b : ℕ) → node ≤ b → Under vars n b → Under added (n + 1) b
+    added-under b h u i l =
+        cases (eqb i n)
+        (λ t. rw (eqb-true i n t, added-node) h)
+        (λ t. let e : i ≡ n → ⊥ = eqb-false i n t in rw (added-below (2 * i) (omega arith)) (u i (omega arith)))
+
+    pub add-one : Held items work w vars n → n < 16 → d ≤ 2 → variableFrom 0 (variablesFrom items work w vars 0 n) (nameAt items work node w) ≡ none → Stored ((nameAt items work node w, d) ∷ []) items work w node n vars added (n + 1)
+    add-one h l s e =
+        record {
+          list = added-list;
+          held = record {
+            most = omega arith;
+            good = rw added-list (one-more (variablesFrom items work w vars 0 n) (nameAt items work node w) d 0 (h .good) (omega (arith, variablesFrom-length vars 0 n)) s e);
+          };
+          under = added-under;
+        }
+
+  module _ (vars : List ℕ) (n node d : ℕ) where
+    pub add-deep : 2 < d → (rest : List (Name × ℕ)) → areVariables (variablesFrom items work w vars 0 n ++ ((nameAt items work node w, d) ∷ rest)) ≡ false
+    add-deep h rest = too-deep (variablesFrom items work w vars 0 n) (nameAt items work node w) d rest h
+
+    pub add-many : 16 ≤ n → (rest : List (Name × ℕ)) → areVariables (variablesFrom items work w vars 0 n ++ ((nameAt items work node w, d) ∷ rest)) ≡ false
+    add-many h rest = too-many (variablesFrom items work w vars 0 n) (nameAt items work node w) d rest (omega (arith, variablesFrom-length vars 0 n))
+
+    pub add-twice : (p : ℕ × ℕ) → variableFrom 0 (variablesFrom items work w vars 0 n) (nameAt items work node w) ≡ some p → (rest : List (Name × ℕ)) → areVariables (variablesFrom items work w vars 0 n ++ ((nameAt items work node w, d) ∷ rest)) ≡ false
+    add-twice p e rest = twice (variablesFrom items work w vars 0 n) (nameAt items work node w) d rest 0 p e
+
+-- what `find` has answered
+pub found-at : (r : Known) (k e : ℕ) (o : Option (ℕ × ℕ)) → r ≡ At k e → knownOf r ≡ o → o ≡ some (k, e)
+unfolding knownOf
+found-at r k e o h g = sym g ∙ ap knownOf h
+
+pub found-not : (r : Known) (o : Option (ℕ × ℕ)) → r ≡ Not → knownOf r ≡ o → o ≡ none
+unfolding knownOf
+found-not r o h g = sym g ∙ ap knownOf h
+
+-- ---- depths
+
+module _ (items work : List ℕ) (rest d : ℕ) where
+  pub deeper-dots : ((w : ℕ) → true ≡ dotsNext isEllipsis (treeAt items work rest w)) → Deeper items work rest d (d + 1)
+  unfolding depthBefore
+  deeper-dots h w = rw (← h w) (let e : d + 1 ≡ suc d = omega arith in e)
+
+  pub deeper-not : ((w : ℕ) → false ≡ dotsNext isEllipsis (treeAt items work rest w)) → Deeper items work rest d d
+  unfolding depthBefore
+  deeper-not h w = rw (← h w) refl

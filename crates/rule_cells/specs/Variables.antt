@@ -1,0 +1,58 @@
+-- The variables of a pattern in a small table: two words each, the node of its name and its depth; all lie under one wrap.
+use mathlib.Core.Path.{_≡_}
+use mathlib.Core.Bool.{true, false, cond}
+use mathlib.Core.List.{List, [], _∷_, _++_}
+use mathlib.Core.Option.{Option, none, some}
+use Prim.Native.Nat.{ℕ, zero, suc, _+_, _*_, _≤_, _<_}
+use lib.ListN.{getD}
+use Rattle.recipe.specs.Name.{Name, isEllipsis}
+use Rattle.recipe.specs.Tree.{Tree, onName}
+use Rattle.expansion.specs.Rules.{areVariables, depthBefore, isVariable}
+use Rattle.arena.specs.Arena.{nameAt, treeAt}
+use Rattle.rule_cells.specs.declared.variables.Known.{Known}
+use Rattle.rule_cells.specs.declared.variables.Known.the-variants.{At, Not}
+use Rattle.rule_cells.specs.declared.variables.Kept.{Kept}
+use Rattle.rule_cells.specs.declared.variables.Kept.the-variants.{Count, Bad}
+
+-- a leaf is a variable or none
+unfoldable pub leafCount : List Name → Tree → ℕ
+leafCount literals = onName (λ x. cond (isVariable isEllipsis literals x) 1 0) 0
+
+-- variable i of the table, with the number of ellipses it lies under
+unfoldable pub variableAt : (items work : List ℕ) (w : ℕ) (vars : List ℕ) → ℕ → Name × ℕ
+variableAt items work w vars i = (nameAt items work (getD vars (2 * i) 0) w, getD vars (2 * i + 1) 0)
+
+-- n variables from number i on
+unfoldable pub variablesFrom : (items work : List ℕ) (w : ℕ) (vars : List ℕ) → (i n : ℕ) → List (Name × ℕ)
+variablesFrom items work w vars i zero = []
+variablesFrom items work w vars i (suc n) = variableAt items work w vars i ∷ variablesFrom items work w vars (suc i) n
+
+unfoldable pub knownOf : Known → Option (ℕ × ℕ)
+knownOf (At k d) = some (k, d)
+knownOf Not = none
+
+-- the depth of an element before this rest of its list, whatever waits on it
+abbrev pub Deeper : (items work : List ℕ) (rest d r : ℕ) → Type 0
+Deeper items work rest d r = (w : ℕ) → r ≡ depthBefore isEllipsis (treeAt items work rest w) d
+
+-- ---- gathering
+
+-- the table's variables keep the limits
+pub record Held (items work : List ℕ) (w : ℕ) (vars : List ℕ) (n : ℕ) : Type 0 where
+  pub most : n ≤ 16
+  pub good : areVariables (variablesFrom items work w vars 0 n) ≡ true
+
+-- the nodes of the table's variables stand below b
+abbrev pub Under : (vars : List ℕ) (n b : ℕ) → Type 0
+Under vars n b = (i : ℕ) → i < n → getD vars (2 * i) 0 ≤ b
+
+-- the variables `more`, of nodes up to `node`, behind the n of the table
+pub record Stored (more : List (Name × ℕ)) (items work : List ℕ) (w node n : ℕ) (old new : List ℕ) (m : ℕ) : Type 0 where
+  pub list : variablesFrom items work w new 0 m ≡ variablesFrom items work w old 0 n ++ more
+  pub held : Held items work w new m
+  pub under : (b : ℕ) → node ≤ b → Under old n b → Under new m b
+
+-- they are stored, or break the limits, whatever comes after them
+abbrev pub Gathered : (more : List (Name × ℕ)) (items work : List ℕ) (w node n : ℕ) (old new : List ℕ) → Kept → Type 0
+Gathered more items work w node n old new (Count m) = Stored more items work w node n old new m
+Gathered more items work w node n old new Bad = (rest : List (Name × ℕ)) → areVariables (variablesFrom items work w old 0 n ++ (more ++ rest)) ≡ false

@@ -1,0 +1,140 @@
+// Cells of parsed rules: one constructor for each kind. specs/Cells.antt says what they mean.
+// A cell has five words, the last its tag, and is referred to by its end; words that its kind does not use come first and are
+// 0. Reference 0 is the empty pattern, the empty template and the empty list of rules.
+
+ghost use Prim.Native.Nat.{_≤_};
+ghost use mathlib.Core.List.{_∷_};
+ghost use Rattle.expansion.specs.Rules.{variableP, wildcardP, constantP, pairP, ellipsisP, variableT, insertT, constantT, pairT, ellipsisT};
+ghost use Rattle.arena.specs.Arena.{nameAt};
+ghost use Rattle.arena.specs.Cells.{Room};
+ghost use Rattle.rule_cells.specs.Cells.{patternAt, templateAt, rulesAt};
+ghost use Rattle.rule_cells.specs.Made.{Five, Made, MadeLiteral};
+
+// Tags of patterns and templates.
+pub const VARIABLE: u32 = 1;
+
+pub const NAME: u32 = 2;
+
+pub const WILDCARD: u32 = 3;
+
+pub const CONSTANT: u32 = 4;
+
+pub const PAIR: u32 = 6;
+
+pub const ELLIPSIS: u32 = 7;
+
+// Five words at the top; answers the new top, which is the cell's reference.
+fn put(work: &mut [u32], top: u32, a: u32, b: u32, c: u32, d: u32, tag: u32) -> u32
+    requires { ⌜ Room (now work) top 5 ⌝ }
+    ensures { λ r. ⌜ Five a b c d tag (now (work .entry)) (now (work .exit)) top r ⌝ }
+{
+    let at = top as usize;
+    work[at] = a;
+    work[at + 1] = b;
+    work[at + 2] = c;
+    work[at + 3] = d;
+    work[at + 4] = tag;
+    top + 5
+}
+
+// ---- patterns
+
+// Pattern variable k.
+pub fn put_variable(work: &mut [u32], top: u32, k: u32) -> u32
+    requires { ⌜ Room (now work) top 5 ⌝ }
+    ensures { λ r. ⌜ Made patternAt (λ items. variableP k) (now (work .entry)) (now (work .exit)) top r ⌝ }
+{
+    put(work, top, 0, 0, 0, k, VARIABLE)
+}
+
+// A literal by its node and pending wrap, with the number and the binding's key that its lookup has found.
+pub fn put_literal(work: &mut [u32], top: u32, node: u32, w: u32, number: u32, key: u32) -> u32
+    requires { ⌜ (Room (now work) top 5) × (node ≤ top) × (w ≤ top) ⌝ }
+    ensures { λ r. ⌜ MadeLiteral node w number key (now (work .entry)) (now (work .exit)) top r ⌝ }
+{
+    put(work, top, node, w, number, key, NAME)
+}
+
+// The wildcard.
+pub fn put_wildcard(work: &mut [u32], top: u32) -> u32
+    requires { ⌜ Room (now work) top 5 ⌝ }
+    ensures { λ r. ⌜ Made patternAt (λ items. wildcardP) (now (work .entry)) (now (work .exit)) top r ⌝ }
+{
+    put(work, top, 0, 0, 0, 0, WILDCARD)
+}
+
+// A constant, by its item's three words.
+pub fn put_constant(work: &mut [u32], top: u32, kind: u32, first: u32, second: u32) -> u32
+    requires { ⌜ Room (now work) top 5 ⌝ }
+    ensures { λ r. ⌜ Made patternAt (λ items. constantP (record { kind = kind; first = first; second = second })) (now (work .entry)) (now (work .exit)) top r ⌝ }
+{
+    put(work, top, 0, kind, first, second, CONSTANT)
+}
+
+// A pair of two patterns.
+pub fn put_pair(work: &mut [u32], top: u32, head: u32, tail: u32) -> u32
+    requires { ⌜ (Room (now work) top 5) × (head ≤ top) × (tail ≤ top) ⌝ }
+    ensures { λ r. ⌜ Made patternAt (λ items. pairP (patternAt items (now (work .entry)) head) (patternAt items (now (work .entry)) tail)) (now (work .entry)) (now (work .exit)) top r ⌝ }
+{
+    put(work, top, 0, 0, head, tail, PAIR)
+}
+
+// An element followed by `...`, last in its list.
+pub fn put_ellipsis(work: &mut [u32], top: u32, element: u32) -> u32
+    requires { ⌜ (Room (now work) top 5) × (element ≤ top) ⌝ }
+    ensures { λ r. ⌜ Made patternAt (λ items. ellipsisP (patternAt items (now (work .entry)) element)) (now (work .entry)) (now (work .exit)) top r ⌝ }
+{
+    put(work, top, 0, 0, 0, element, ELLIPSIS)
+}
+
+// ---- templates
+
+// Variable k, under d ellipses in the pattern.
+pub fn put_variable_template(work: &mut [u32], top: u32, k: u32, d: u32) -> u32
+    requires { ⌜ Room (now work) top 5 ⌝ }
+    ensures { λ r. ⌜ Made templateAt (λ items. variableT k d) (now (work .entry)) (now (work .exit)) top r ⌝ }
+{
+    put(work, top, 0, 0, k, d, VARIABLE)
+}
+
+// An inserted name, by its node and pending wrap.
+pub fn put_insert(work: &mut [u32], top: u32, node: u32, w: u32) -> u32
+    requires { ⌜ (Room (now work) top 5) × (node ≤ top) × (w ≤ top) ⌝ }
+    ensures { λ r. ⌜ Made templateAt (λ items. insertT (nameAt items (now (work .entry)) node w)) (now (work .entry)) (now (work .exit)) top r ⌝ }
+{
+    put(work, top, 0, 0, node, w, NAME)
+}
+
+// A constant, by its item's three words.
+pub fn put_constant_template(work: &mut [u32], top: u32, kind: u32, first: u32, second: u32) -> u32
+    requires { ⌜ Room (now work) top 5 ⌝ }
+    ensures { λ r. ⌜ Made templateAt (λ items. constantT (record { kind = kind; first = first; second = second })) (now (work .entry)) (now (work .exit)) top r ⌝ }
+{
+    put(work, top, 0, kind, first, second, CONSTANT)
+}
+
+// A pair of two templates.
+pub fn put_pair_template(work: &mut [u32], top: u32, head: u32, tail: u32) -> u32
+    requires { ⌜ (Room (now work) top 5) × (head ≤ top) × (tail ≤ top) ⌝ }
+    ensures { λ r. ⌜ Made templateAt (λ items. pairT (templateAt items (now (work .entry)) head) (templateAt items (now (work .entry)) tail)) (now (work .entry)) (now (work .exit)) top r ⌝ }
+{
+    put(work, top, 0, 0, head, tail, PAIR)
+}
+
+// An element followed by `...`, then the rest of its list.
+pub fn put_ellipsis_template(work: &mut [u32], top: u32, element: u32, rest: u32) -> u32
+    requires { ⌜ (Room (now work) top 5) × (element ≤ top) × (rest ≤ top) ⌝ }
+    ensures { λ r. ⌜ Made templateAt (λ items. ellipsisT (templateAt items (now (work .entry)) element) (templateAt items (now (work .entry)) rest)) (now (work .entry)) (now (work .exit)) top r ⌝ }
+{
+    put(work, top, 0, 0, element, rest, ELLIPSIS)
+}
+
+// ---- rules
+
+// A rule and the rules after it.
+pub fn put_rule(work: &mut [u32], top: u32, pattern: u32, template: u32, next: u32) -> u32
+    requires { ⌜ (Room (now work) top 5) × (pattern ≤ top) × (template ≤ top) × (next ≤ top) ⌝ }
+    ensures { λ r. ⌜ Made rulesAt (λ items. record { pattern = patternAt items (now (work .entry)) pattern; template = templateAt items (now (work .entry)) template } ∷ rulesAt items (now (work .entry)) next) (now (work .entry)) (now (work .exit)) top r ⌝ }
+{
+    put(work, top, 0, 0, pattern, template, next)
+}

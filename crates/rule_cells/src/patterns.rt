@@ -1,0 +1,119 @@
+// Patterns, parsed to cells: children first, so that every reference falls. A part that breaks the rules makes the whole bad.
+
+ghost use mathlib.Core.Path.{_≡_};
+ghost use Prim.Native.Nat.{_+_, _*_, _^_, _≤_, _<_};
+ghost use lib.ListN.{length};
+ghost use Rattle.recipe.specs.Tree.{name, names, size};
+ghost use Rattle.arena.specs.Arena.{wordAt, markLimit, nameAt, treeAt};
+ghost use Rattle.arena.specs.Cells.{Room};
+ghost use Rattle.rule_cells.specs.Parse.{Asks, PatternLeft};
+use crate::cells;
+use crate::trees;
+use crate::variables;
+use arena::names;
+
+// The reference of a pattern, the new top, and the number of the next variable.
+pub enum Parsed {
+    Good(u32, u32, u32),
+    Bad,
+}
+
+// A pattern's name, with k variables to its left: `...` itself is none.
+pub fn pattern_name(
+    items: &[u32],
+    work: &mut [u32],
+    table: &mut [u32],
+    literals: u32,
+    node: u32,
+    w: u32,
+    k: u32,
+    top: u32,
+) -> Parsed
+    requires { ⌜ (3 * markLimit < length (now table)) × (Room (now work) top 5) × (node ≤ top) × (w ≤ top) × (k + 1 < 2 ^ 32) ⌝ }
+    ensures { λ r. ⌜ PatternLeft (names (treeAt (now (items .entry)) (now (work .entry)) literals w)) k (name (nameAt (now (items .entry)) (now (work .entry)) node w)) (now (items .entry)) (now (work .entry)) (now (work .exit)) top r ⌝ }
+{
+    let number = names::number_of(items, work, node);
+    if number == trees::DOTS {
+        return Parsed::Bad;
+    }
+    if number == trees::WILDCARD {
+        let r = cells::put_wildcard(work, top);
+        return Parsed::Good(r, r, k);
+    }
+    if variables::is_literal(items, work, table, literals, node, w) {
+        let key = names::binding_of(items, work, table, node, w);
+        let r = cells::put_literal(work, top, node, w, number, key);
+        return Parsed::Good(r, r, k);
+    }
+    let r = cells::put_variable(work, top, k);
+    Parsed::Good(r, r, k + 1)
+}
+
+// A part of a pattern that is no pair.
+pub fn pattern_leaf(
+    items: &[u32],
+    work: &mut [u32],
+    table: &mut [u32],
+    literals: u32,
+    node: u32,
+    w: u32,
+    k: u32,
+    top: u32,
+) -> Parsed
+    requires { ⌜ (3 * markLimit < length (now table)) × (Asks (now items) (now work) node w top) × (k + 1 < 2 ^ 32) × (wordAt (now work) node 3 ≡ 4 → ⊥) ⌝ }
+    ensures { λ r. ⌜ PatternLeft (names (treeAt (now (items .entry)) (now (work .entry)) literals w)) k (treeAt (now (items .entry)) (now (work .entry)) node w) (now (items .entry)) (now (work .entry)) (now (work .exit)) top r ⌝ }
+{
+    let kind = arena::cells::word(work, node, 3);
+    if kind == arena::cells::NAME {
+        return pattern_name(items, work, table, literals, node, w, k, top);
+    }
+    if kind == arena::cells::EMPTY {
+        return Parsed::Good(0, top, k);
+    }
+    let first = arena::cells::word(work, node, 2);
+    let second = arena::cells::word(work, node, 1);
+    let r = cells::put_constant(work, top, kind, first, second);
+    Parsed::Good(r, r, k)
+}
+
+// A part of a pattern, with k variables to its left. `...` may only stand last in its list, after an element.
+pub fn pattern(
+    items: &[u32],
+    work: &mut [u32],
+    table: &mut [u32],
+    literals: u32,
+    node: u32,
+    w: u32,
+    k: u32,
+    top: u32,
+) -> Parsed
+    requires { ⌜ (3 * markLimit < length (now table)) × (Asks (now items) (now work) node w top) × (literals ≤ top) × (k + size (treeAt (now items) (now work) node w) < 2 ^ 32) ⌝ }
+    ensures { λ r. ⌜ PatternLeft (names (treeAt (now (items .entry)) (now (work .entry)) literals w)) k (treeAt (now (items .entry)) (now (work .entry)) node w) (now (items .entry)) (now (work .entry)) (now (work .exit)) top r ⌝ }
+{
+    if arena::cells::word(work, node, 3) != arena::cells::PAIR {
+        return pattern_leaf(items, work, table, literals, node, w, k, top);
+    }
+    let head = arena::cells::reference(work, node, 2);
+    let rest = arena::cells::reference(work, node, 1);
+    if trees::dots_next(items, work, rest) {
+        if trees::is_list_of(work, rest, 1) {
+            let last = trees::tail(work, rest);
+            let more = variables::leaf_count(items, work, table, literals, last, w);
+            let Parsed::Good(a, t, n) = pattern(items, work, table, literals, head, w, k, top)
+            else {
+                return Parsed::Bad;
+            };
+            let r = cells::put_ellipsis(work, t, a);
+            return Parsed::Good(r, r, n + more);
+        }
+        return Parsed::Bad;
+    }
+    let Parsed::Good(a, t, n) = pattern(items, work, table, literals, head, w, k, top) else {
+        return Parsed::Bad;
+    };
+    let Parsed::Good(b, u, m) = pattern(items, work, table, literals, rest, w, n, t) else {
+        return Parsed::Bad;
+    };
+    let r = cells::put_pair(work, u, a, b);
+    Parsed::Good(r, r, m)
+}

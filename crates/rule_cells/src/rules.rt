@@ -1,0 +1,119 @@
+// Rules, parsed once, when their form is reached: (syntax-rules (literal ...) (pattern template) ...). Bad is ground 15.
+// The last rule is parsed first, so that each cell refers to lower ones.
+
+ghost use Prim.Native.Nat.{_+_, _*_, _≤_, _<_};
+ghost use lib.ListN.{length};
+ghost use Rattle.recipe.specs.Tree.{names, size, elements};
+ghost use Rattle.words.specs.Options.{traverse};
+ghost use Rattle.recipe.specs.Name.{isEllipsis};
+ghost use Rattle.expansion.specs.Rules.{ruleOf};
+ghost use Rattle.arena.specs.Arena.{markLimit, treeAt};
+ghost use Rattle.rule_cells.specs.Trees.{TellsOf};
+ghost use Rattle.rule_cells.specs.Parse.{Asks};
+ghost use Rattle.rule_cells.specs.RuleParse.{ruleShape, partsOf, PartsAsk, RuleLeft, RulesLeft};
+use crate::cells;
+use crate::patterns;
+use crate::patterns::Parsed;
+use crate::templates;
+use crate::templates::Built;
+use crate::trees;
+use crate::variables;
+use crate::variables::Kept;
+use arena::names;
+
+// A rule from the rest p of its pattern and its template q, before the rules at `next`.
+pub fn rule_parts(
+    items: &[u32],
+    work: &mut [u32],
+    table: &mut [u32],
+    literals: u32,
+    p: u32,
+    q: u32,
+    w: u32,
+    next: u32,
+    top: u32,
+) -> Built
+    requires { ⌜ (3 * markLimit < length (now table)) × (PartsAsk (now items) (now work) literals p q w next top) ⌝ }
+    ensures { λ r. ⌜ RuleLeft (partsOf (names (treeAt (now (items .entry)) (now (work .entry)) literals w)) (treeAt (now (items .entry)) (now (work .entry)) p w) (treeAt (now (items .entry)) (now (work .entry)) q w)) (size (treeAt (now (items .entry)) (now (work .entry)) p w) + size (treeAt (now (items .entry)) (now (work .entry)) q w) + 1) (now (items .entry)) (now (work .entry)) (now (work .exit)) next top r ⌝ }
+{
+    let mut vars = [0u32; 32];
+    let Kept::Count(n) = variables::gather(items, work, table, &mut vars, literals, p, w, 0, 0)
+    else {
+        return Built::Bad;
+    };
+    let Parsed::Good(a, t, m) = patterns::pattern(items, work, table, literals, p, w, 0, top) else {
+        return Built::Bad;
+    };
+    let Built::Good(b, u) = templates::template(items, work, table, &vars, n, q, w, 0, false, t)
+    else {
+        return Built::Bad;
+    };
+    let r = cells::put_rule(work, u, a, b, next);
+    Built::Good(r, r)
+}
+
+// Whether a tree is a list of two whose first begins with a name other than `...`.
+pub fn rule_shape(items: &[u32], work: &[u32], node: u32) -> bool
+    ensures { λ r. ⌜ TellsOf ruleShape (now (items .entry)) (now (work .entry)) node r ⌝ }
+{
+    if trees::is_list_of(work, node, 2) {
+        let pattern = trees::head(work, node);
+        let first = trees::head(work, pattern);
+        if arena::cells::word(work, first, 3) != arena::cells::NAME {
+            return false;
+        }
+        if names::number_of(items, work, first) == trees::DOTS {
+            return false;
+        }
+        return true;
+    }
+    false
+}
+
+// A rule, (pattern template), before the rules at `next`.
+pub fn rule(
+    items: &[u32],
+    work: &mut [u32],
+    table: &mut [u32],
+    literals: u32,
+    node: u32,
+    w: u32,
+    next: u32,
+    top: u32,
+) -> Built
+    requires { ⌜ (3 * markLimit < length (now table)) × (Asks (now items) (now work) node w top) × (literals ≤ top) × (next ≤ top) ⌝ }
+    ensures { λ r. ⌜ RuleLeft (ruleOf isEllipsis (names (treeAt (now (items .entry)) (now (work .entry)) literals w)) (treeAt (now (items .entry)) (now (work .entry)) node w)) (size (treeAt (now (items .entry)) (now (work .entry)) node w)) (now (items .entry)) (now (work .entry)) (now (work .exit)) next top r ⌝ }
+{
+    if rule_shape(items, work, node) {
+        let pattern = trees::head(work, node);
+        let p = trees::tail(work, pattern);
+        let after = trees::tail(work, node);
+        let q = trees::head(work, after);
+        return rule_parts(items, work, table, literals, p, q, w, next, top);
+    }
+    Built::Bad
+}
+
+// A list of rules, the last first.
+pub fn rule_list(
+    items: &[u32],
+    work: &mut [u32],
+    table: &mut [u32],
+    literals: u32,
+    node: u32,
+    w: u32,
+    top: u32,
+) -> Built
+    requires { ⌜ (3 * markLimit < length (now table)) × (Asks (now items) (now work) node w top) × (literals ≤ top) ⌝ }
+    ensures { λ r. ⌜ RulesLeft (traverse (ruleOf isEllipsis (names (treeAt (now (items .entry)) (now (work .entry)) literals w))) (elements (treeAt (now (items .entry)) (now (work .entry)) node w))) (size (treeAt (now (items .entry)) (now (work .entry)) node w)) (now (items .entry)) (now (work .entry)) (now (work .exit)) top r ⌝ }
+{
+    if arena::cells::word(work, node, 3) != arena::cells::PAIR {
+        return Built::Good(0, top);
+    }
+    let head = arena::cells::reference(work, node, 2);
+    let rest = arena::cells::reference(work, node, 1);
+    let Built::Good(next, t) = rule_list(items, work, table, literals, rest, w, top) else {
+        return Built::Bad;
+    };
+    rule(items, work, table, literals, head, w, next, t)
+}

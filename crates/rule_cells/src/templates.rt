@@ -1,0 +1,183 @@
+// Templates, parsed to cells under the variables of their rule's pattern: children first, so that every reference falls.
+// A part that breaks the rules makes the whole bad.
+
+ghost use mathlib.Core.Path.{_≡_};
+ghost use mathlib.Core.Bool.{false, cond};
+ghost use Prim.Native.Nat.{_+_, _*_, _^_, _≤_, _<_};
+ghost use lib.ListN.{length};
+ghost use Rattle.recipe.specs.Tree.{name};
+ghost use Rattle.expansion.specs.Rules.{depthFits, pairT, ellipsisT};
+ghost use Rattle.arena.specs.Arena.{wordAt, markLimit, nameAt, treeAt};
+ghost use Rattle.arena.specs.Cells.{Room};
+ghost use Rattle.rule_cells.specs.Cells.{templateAt};
+ghost use Rattle.rule_cells.specs.Made.{Made};
+ghost use Rattle.rule_cells.specs.Drive.{Drives, Accepts};
+ghost use Rattle.rule_cells.specs.Variables.{variablesFrom, Under};
+ghost use Rattle.rule_cells.specs.Parse.{Asks, TemplateLeft};
+use crate::cells;
+use crate::trees;
+use crate::variables;
+use crate::variables::Known;
+use arena::names;
+
+// The reference of a template or of a list of rules, and the new top.
+pub enum Built {
+    Good(u32, u32),
+    Bad,
+}
+
+// Whether a template holds a variable that drives its copies: one under more ellipses than the j inside the element.
+pub fn driven(work: &[u32], at: u32, j: u32) -> bool
+    requires { ⌜ j + at < 2 ^ 32 ⌝ }
+    ensures { λ r. ⌜ Drives (now (work .entry)) at j r ⌝ }
+{
+    let tag = arena::cells::word(work, at, 1);
+    if tag == cells::VARIABLE {
+        return j < arena::cells::word(work, at, 2);
+    }
+    if tag < cells::PAIR {
+        return false;
+    }
+    if cells::ELLIPSIS < tag {
+        return false;
+    }
+    let first = arena::cells::reference(work, at, 3);
+    let inner = j + (tag - cells::PAIR);
+    if driven(work, first, inner) {
+        return true;
+    }
+    let rest = arena::cells::reference(work, at, 2);
+    driven(work, rest, j)
+}
+
+// Whether an element may stand before what follows it: before `...` it holds a variable that drives its copies.
+pub fn accepted(work: &[u32], dots: bool, at: u32) -> bool
+    ensures { λ r. ⌜ Accepts (now (work .entry)) dots at r ⌝ }
+{
+    if dots {
+        return driven(work, at, 0);
+    }
+    true
+}
+
+// A variable under none may be anywhere; one under d > 0 must be under exactly d.
+pub fn depth_fits(d: u32, here: u32) -> bool
+    ensures { λ r. ⌜ r ≡ depthFits d here ⌝ }
+{
+    if d == 0 {
+        return true;
+    }
+    d == here
+}
+
+// An element and the rest of its list: an ellipsis where `...` follows the element, a pair otherwise.
+pub fn put_list(work: &mut [u32], top: u32, dots: bool, element: u32, rest: u32) -> u32
+    requires { ⌜ (Room (now work) top 5) × (element ≤ top) × (rest ≤ top) ⌝ }
+    ensures { λ r. ⌜ Made templateAt (λ items. cond dots (ellipsisT (templateAt items (now (work .entry)) element) (templateAt items (now (work .entry)) rest)) (pairT (templateAt items (now (work .entry)) element) (templateAt items (now (work .entry)) rest))) (now (work .entry)) (now (work .exit)) top r ⌝ }
+{
+    if dots {
+        return cells::put_ellipsis_template(work, top, element, rest);
+    }
+    cells::put_pair_template(work, top, element, rest)
+}
+
+// A template's name under d ellipses: a variable, or inserted; `...` itself is none.
+pub fn template_name(
+    items: &[u32],
+    work: &mut [u32],
+    table: &mut [u32],
+    vars: &[u32],
+    count: u32,
+    node: u32,
+    w: u32,
+    d: u32,
+    top: u32,
+) -> Built
+    requires { ⌜ (3 * markLimit < length (now table)) × (Room (now work) top 5) × (node ≤ top) × (w ≤ top) × (count ≤ 16) × (32 ≤ length (now vars)) ⌝ }
+    ensures { λ r. ⌜ TemplateLeft (variablesFrom (now (items .entry)) (now (work .entry)) w (now (vars .entry)) 0 count) d false (name (nameAt (now (items .entry)) (now (work .entry)) node w)) (now (items .entry)) (now (work .entry)) (now (work .exit)) top r ⌝ }
+{
+    if names::number_of(items, work, node) == trees::DOTS {
+        return Built::Bad;
+    }
+    match variables::find(items, work, table, vars, 0, count, node, w) {
+        Known::At(k, e) => {
+            if depth_fits(e, d) {
+                let r = cells::put_variable_template(work, top, k, e);
+                return Built::Good(r, r);
+            }
+            return Built::Bad;
+        }
+        Known::Not => {}
+    }
+    let r = cells::put_insert(work, top, node, w);
+    Built::Good(r, r)
+}
+
+// A part of a template that is no pair.
+pub fn template_leaf(
+    items: &[u32],
+    work: &mut [u32],
+    table: &mut [u32],
+    vars: &[u32],
+    count: u32,
+    node: u32,
+    w: u32,
+    d: u32,
+    top: u32,
+) -> Built
+    requires { ⌜ (3 * markLimit < length (now table)) × (Asks (now items) (now work) node w top) × (count ≤ 16) × (32 ≤ length (now vars)) × (wordAt (now work) node 3 ≡ 4 → ⊥) ⌝ }
+    ensures { λ r. ⌜ TemplateLeft (variablesFrom (now (items .entry)) (now (work .entry)) w (now (vars .entry)) 0 count) d false (treeAt (now (items .entry)) (now (work .entry)) node w) (now (items .entry)) (now (work .entry)) (now (work .exit)) top r ⌝ }
+{
+    let kind = arena::cells::word(work, node, 3);
+    if kind == arena::cells::NAME {
+        return template_name(items, work, table, vars, count, node, w, d, top);
+    }
+    if kind == arena::cells::EMPTY {
+        return Built::Good(0, top);
+    }
+    let first = arena::cells::word(work, node, 2);
+    let second = arena::cells::word(work, node, 1);
+    let r = cells::put_constant_template(work, top, kind, first, second);
+    Built::Good(r, r)
+}
+
+// A part of a template under d ellipses; `taken` where it begins with the `...` that the element before it has taken.
+pub fn template(
+    items: &[u32],
+    work: &mut [u32],
+    table: &mut [u32],
+    vars: &[u32],
+    count: u32,
+    node: u32,
+    w: u32,
+    d: u32,
+    taken: bool,
+    top: u32,
+) -> Built
+    requires { ⌜ (3 * markLimit < length (now table)) × (Asks (now items) (now work) node w top) × (count ≤ 16) × (32 ≤ length (now vars)) × (Under (now vars) count top) × (d + node < 2 ^ 32) ⌝ }
+    ensures { λ r. ⌜ TemplateLeft (variablesFrom (now (items .entry)) (now (work .entry)) w (now (vars .entry)) 0 count) d taken (treeAt (now (items .entry)) (now (work .entry)) node w) (now (items .entry)) (now (work .entry)) (now (work .exit)) top r ⌝ }
+{
+    if arena::cells::word(work, node, 3) != arena::cells::PAIR {
+        return template_leaf(items, work, table, vars, count, node, w, d, top);
+    }
+    let head = arena::cells::reference(work, node, 2);
+    let rest = arena::cells::reference(work, node, 1);
+    if taken {
+        return template(items, work, table, vars, count, rest, w, d, false, top);
+    }
+    let dots = trees::dots_next(items, work, rest);
+    let inner = variables::depth_before(items, work, rest, d);
+    let Built::Good(a, t) = template(items, work, table, vars, count, head, w, inner, false, top)
+    else {
+        return Built::Bad;
+    };
+    if accepted(work, dots, a) {
+        let Built::Good(b, u) = template(items, work, table, vars, count, rest, w, d, dots, t)
+        else {
+            return Built::Bad;
+        };
+        let r = put_list(work, u, dots, a, b);
+        return Built::Good(r, r);
+    }
+    Built::Bad
+}

@@ -1,0 +1,218 @@
+// The variables of a pattern: names other than `...`, `_` and the listed literals, gathered from the left into a small table,
+// node and depth of each. specs/Variables.antt says what the table holds. All names here lie under one pending wrap.
+
+ghost use mathlib.Core.Path.{_≡_};
+ghost use mathlib.Core.List.{[], _∷_};
+ghost use Prim.Native.Nat.{_+_, _*_, _^_, _≤_, _<_};
+ghost use lib.ListN.{length};
+ghost use Rattle.words.specs.Lists.{any};
+ghost use Rattle.recipe.specs.Name.{same, isEllipsis};
+ghost use Rattle.recipe.specs.Tree.{name, names};
+ghost use Rattle.expansion.specs.Rules.{variableFrom, variables};
+ghost use Rattle.arena.specs.Arena.{markLimit, nameAt, treeAt};
+ghost use Rattle.rule_cells.specs.Variables.{leafCount, variablesFrom, knownOf, Deeper, Held, Gathered};
+use crate::trees;
+use arena::cells;
+use arena::names;
+
+// Room for the variables of a rule, two words each.
+pub const TABLE: usize = 32;
+
+// The most variables of a pattern, and the most ellipses over one.
+pub const MOST: u32 = 16;
+
+pub const DEPTH: u32 = 2;
+
+// The variable that a name is the same as: its number and its depth.
+pub enum Known {
+    At(u32, u32),
+    Not,
+}
+
+// Whether a name is the same as one of the names of a list.
+pub fn is_literal(
+    items: &[u32],
+    work: &[u32],
+    table: &mut [u32],
+    list: u32,
+    node: u32,
+    w: u32,
+) -> bool
+    requires { ⌜ 3 * markLimit < length (now table) ⌝ }
+    ensures { λ r. ⌜ r ≡ any (same (nameAt (now (items .entry)) (now (work .entry)) node w)) (names (treeAt (now (items .entry)) (now (work .entry)) list w)) ⌝ }
+{
+    let kind = cells::word(work, list, 3);
+    if kind == cells::NAME {
+        return names::same_names(items, work, table, node, w, list, w);
+    }
+    if kind != cells::PAIR {
+        return false;
+    }
+    let first = cells::reference(work, list, 2);
+    if is_literal(items, work, table, first, node, w) {
+        return true;
+    }
+    let rest = cells::reference(work, list, 1);
+    is_literal(items, work, table, rest, node, w)
+}
+
+// How many variables a leaf of a pattern is, none or one.
+pub fn leaf_count(
+    items: &[u32],
+    work: &[u32],
+    table: &mut [u32],
+    literals: u32,
+    node: u32,
+    w: u32,
+) -> u32
+    requires { ⌜ 3 * markLimit < length (now table) ⌝ }
+    ensures { λ r. ⌜ r ≡ leafCount (names (treeAt (now (items .entry)) (now (work .entry)) literals w)) (treeAt (now (items .entry)) (now (work .entry)) node w) ⌝ }
+{
+    if cells::word(work, node, 3) != cells::NAME {
+        return 0;
+    }
+    let number = names::number_of(items, work, node);
+    if number == trees::DOTS {
+        return 0;
+    }
+    if number == trees::WILDCARD {
+        return 0;
+    }
+    if is_literal(items, work, table, literals, node, w) {
+        return 0;
+    }
+    1
+}
+
+// Which of `left` variables from number i on a name is the same as.
+pub fn find(
+    items: &[u32],
+    work: &[u32],
+    table: &mut [u32],
+    vars: &[u32],
+    i: u32,
+    left: u32,
+    node: u32,
+    w: u32,
+) -> Known
+    requires { ⌜ (3 * markLimit < length (now table)) × (i + left ≤ 16) × (32 ≤ length (now vars)) ⌝ }
+    ensures { λ r. ⌜ knownOf r ≡ variableFrom i (variablesFrom (now (items .entry)) (now (work .entry)) w (now (vars .entry)) i left) (nameAt (now (items .entry)) (now (work .entry)) node w) ⌝ }
+{
+    if left == 0 {
+        return Known::Not;
+    }
+    let at = 2 * (i as usize);
+    let v = vars[at];
+    if names::same_names(items, work, table, v, w, node, w) {
+        return Known::At(i, vars[at + 1]);
+    }
+    find(items, work, table, vars, i + 1, left - 1, node, w)
+}
+
+// How many variables the table holds, or none where there are more than 16, two the same, or one under three ellipses.
+pub enum Kept {
+    Count(u32),
+    Bad,
+}
+
+// The depth of an element before this rest of its list.
+pub fn depth_before(items: &[u32], work: &[u32], rest: u32, d: u32) -> u32
+    requires { ⌜ d + 1 < 2 ^ 32 ⌝ }
+    ensures { λ r. ⌜ Deeper (now (items .entry)) (now (work .entry)) rest d r ⌝ }
+{
+    if trees::dots_next(items, work, rest) {
+        return d + 1;
+    }
+    d
+}
+
+// One more variable behind the n of the table, under d ellipses.
+pub fn add(
+    items: &[u32],
+    work: &[u32],
+    table: &mut [u32],
+    vars: &mut [u32],
+    node: u32,
+    w: u32,
+    d: u32,
+    n: u32,
+) -> Kept
+    requires { ⌜ (3 * markLimit < length (now table)) × (32 ≤ length (now vars)) × (Held (now items) (now work) w (now vars) n) ⌝ }
+    ensures { λ r. ⌜ Gathered ((nameAt (now (items .entry)) (now (work .entry)) node w, d) ∷ []) (now (items .entry)) (now (work .entry)) w node n (now (vars .entry)) (now (vars .exit)) r ⌝ }
+{
+    if DEPTH < d {
+        return Kept::Bad;
+    }
+    if MOST <= n {
+        return Kept::Bad;
+    }
+    match find(items, work, table, vars, 0, n, node, w) {
+        Known::At(k, e) => {
+            return Kept::Bad;
+        }
+        Known::Not => {}
+    }
+    let at = 2 * (n as usize);
+    vars[at] = node;
+    vars[at + 1] = d;
+    Kept::Count(n + 1)
+}
+
+// The variable of a pattern's name, where it is one.
+pub fn gather_name(
+    items: &[u32],
+    work: &[u32],
+    table: &mut [u32],
+    vars: &mut [u32],
+    literals: u32,
+    node: u32,
+    w: u32,
+    d: u32,
+    n: u32,
+) -> Kept
+    requires { ⌜ (3 * markLimit < length (now table)) × (32 ≤ length (now vars)) × (Held (now items) (now work) w (now vars) n) ⌝ }
+    ensures { λ r. ⌜ Gathered (variables isEllipsis (names (treeAt (now (items .entry)) (now (work .entry)) literals w)) d (name (nameAt (now (items .entry)) (now (work .entry)) node w))) (now (items .entry)) (now (work .entry)) w node n (now (vars .entry)) (now (vars .exit)) r ⌝ }
+{
+    let number = names::number_of(items, work, node);
+    if number == trees::DOTS {
+        return Kept::Count(n);
+    }
+    if number == trees::WILDCARD {
+        return Kept::Count(n);
+    }
+    if is_literal(items, work, table, literals, node, w) {
+        return Kept::Count(n);
+    }
+    add(items, work, table, vars, node, w, d, n)
+}
+
+// The variables of a pattern from the left, each with the number of ellipses it lies under, behind the n of the table.
+pub fn gather(
+    items: &[u32],
+    work: &[u32],
+    table: &mut [u32],
+    vars: &mut [u32],
+    literals: u32,
+    node: u32,
+    w: u32,
+    d: u32,
+    n: u32,
+) -> Kept
+    requires { ⌜ (3 * markLimit < length (now table)) × (32 ≤ length (now vars)) × (Held (now items) (now work) w (now vars) n) × (d + node < 2 ^ 32) ⌝ }
+    ensures { λ r. ⌜ Gathered (variables isEllipsis (names (treeAt (now (items .entry)) (now (work .entry)) literals w)) d (treeAt (now (items .entry)) (now (work .entry)) node w)) (now (items .entry)) (now (work .entry)) w node n (now (vars .entry)) (now (vars .exit)) r ⌝ }
+{
+    let kind = cells::word(work, node, 3);
+    if kind == cells::NAME {
+        return gather_name(items, work, table, vars, literals, node, w, d, n);
+    }
+    if kind != cells::PAIR {
+        return Kept::Count(n);
+    }
+    let head = cells::reference(work, node, 2);
+    let rest = cells::reference(work, node, 1);
+    let inner = depth_before(items, work, rest, d);
+    let Kept::Count(m) = gather(items, work, table, vars, literals, head, w, inner, n) else {
+        return Kept::Bad;
+    };
+    gather(items, work, table, vars, literals, rest, w, d, m)
+}

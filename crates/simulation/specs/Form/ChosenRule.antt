@@ -1,0 +1,146 @@
+-- Reading the rules of the form in both runs: the private names of the chosen template are inserted in both, and every other rule is one.
+use mathlib.Core.Path.{_≡_, refl, ap, ap₂, sym, _∙_, subst}
+use mathlib.Core.Logic.{_⊎_, inl, inr}
+use mathlib.Core.Bool.{Bool, true, false, _&&_, _||_, cond, true≢false, false≢true}
+use mathlib.Core.List.{List, [], _∷_}
+use mathlib.Core.Option.{Option, none, some}
+use Prim.Native.Nat.{ℕ, suc}
+use native.Mathlib.Omega.{arith}
+use borrow.Author.Tests.{eq-eqb}
+use lib.Dec.{eqb}
+use Rattle.words.specs.Lists.{any, equal}
+use Rattle.words.specs.Options.{traverse}
+use Rattle.recipe.specs.Name.{Name, bindingKey, same, isEllipsis}
+use Rattle.recipe.specs.Tree.{Tree, onPair, elements, element, tail}
+use Rattle.expansion.specs.Lookup.{isSyntaxRules}
+use Rattle.expansion.specs.Rules.{Rule, variableFrom, variables, ruleOf, rulesOf}
+use Rattle.simulation.specs.Relations.{ListRel, ends, joins, OptionRel, nones, somes, length-rel, list-map, list-eq, guard-rel, mapBoth-rel, traverse-rel}
+use Rattle.simulation.specs.Shapes.{TreeOf, RuleOf, tree-map, pattern-map, template-map, names-rel, elements-rel, isListOf-rel, element-rel, onName-rel}
+use Rattle.simulation.specs.RulesKept.{ruleOf-by, ruleOf-rel, isRulesForm-rel, rulesOf-rel}
+use Rattle.simulation.specs.Names.Shown.{Renaming, ofCopy}
+use Rattle.simulation.specs.Names.{Kind, Coherent, Raw, NameRel, kept, turned, unowned}
+use Rattle.simulation.specs.Steps.{Older, Below}
+use Rattle.simulation.specs.States.{Literal, RuleRel, RulesRel, no-rule, rule, MacrosRel, no-macro, with}
+use Rattle.simulation.specs.Form.Holes.{Hole, first, later, hole-tree, hole-here, hole-elements, hole-at, hole-at, hole-off}
+use Rattle.simulation.specs.Form.Scopes.{Scope, hasVariable}
+use Rattle.simulation.specs.Form.Places.{still-eq, Still, InTemplate, stays, turns, still-dots, still-wild, template-dots, ChosenRules, Foreign, AtRest, rest-coherent, rest-below, still-rel}
+
+-- ---- no variable of this number
+
+-- names of different numbers are not the same
+same-number : (x y : Name) → eqb (x .number) (y .number) ≡ false → same x y ≡ false
+unfolding same
+same-number x y e = ap (λ b. b && (equal (x .marks) (y .marks) && eqb (bindingKey (x .binding)) (bindingKey (y .binding)))) e
+
+-- a name of that number is none of the variables
+no-variable : (n : ℕ) (x : Name) → x .number ≡ n → (k : ℕ) (vs : List (Name × ℕ)) → any (λ v. eqb (v .0 .number) n) vs ≡ false → variableFrom k vs x ≡ none
+unfolding variableFrom any
+no-variable n x e k [] f = refl
+no-variable n x e k (v ∷ vs) f = go (eqb (v .0 .number) n) refl f (no-variable n x e (suc k) vs)
+  where
+    go : (b : Bool) → eqb (v .0 .number) n ≡ b → (b || any (λ v. eqb (v .0 .number) n) vs) ≡ false
+        → (any (λ v. eqb (v .0 .number) n) vs ≡ false → variableFrom (suc k) vs x ≡ none) → variableFrom k (v ∷ vs) x ≡ none
+    go true d g h = absurd (true≢false g)
+    go false d g h = ap (λ b. cond b (some (k, v .1)) (variableFrom (suc k) vs x)) (same-number (v .0) x (ap (eqb (v .0 .number)) e ∙ d)) ∙ h g
+
+module _ (ρ : Renaming) (β : Scope) where
+  -- ---- names that are still
+
+  still-same : (i j x y : Name) → Still ρ β i j → Still ρ β x y → same i x ≡ same j y
+  still-same i j x y p q = ap₂ same (p .eq) (q .eq)
+
+  -- ---- reading
+
+  -- a rule of the form: all still, or with the chosen template
+  pub data FormRule (r s : Rule) : Type 0 where
+    plain : RuleOf (Still ρ β) (Still ρ β) r s → FormRule r s
+    chosen : RuleOf (Still ρ β) (InTemplate ρ β) r s → FormRule r s
+
+  plain-rules : {x y : Option (List Rule)} → OptionRel (ListRel (RuleOf (Still ρ β) (Still ρ β))) x y → OptionRel (ListRel FormRule) x y
+  plain-rules nones = nones
+  plain-rules (somes r) = somes (list-map (λ x y q. plain q) r)
+
+  -- the chosen rule, whose names of the old number in one run and of the new in the other are no variables
+  chosen-rule : {ls ms : List Name} → ListRel (Still ρ β) ls ms → {t u : Tree} → Hole (Still ρ β) (TreeOf (InTemplate ρ β)) (1 ∷ []) t u
+      → any (λ v. eqb (v .0 .number) (ρ .old)) (variables isEllipsis ls 0 (tail (element 0 t))) ≡ false
+      → any (λ v. eqb (v .0 .number) (ρ .new)) (variables isEllipsis ls 0 (tail (element 0 t))) ≡ false
+      → OptionRel (RuleOf (Still ρ β) (InTemplate ρ β)) (ruleOf isEllipsis ls t) (ruleOf isEllipsis ms u)
+  chosen-rule {ls} {ms} l {t} {u} r e f =
+      let p = hole-off r 0 (omega arith) in
+      let vs = variables isEllipsis ls 0 (tail (element 0 t)) in
+      let ws : vs ≡ variables isEllipsis ms 0 (tail (element 0 u)) = ap₂ (λ l p. variables isEllipsis l 0 (tail p)) (list-eq (λ x y q. q .eq) l) (still-eq ρ β p) in
+      ruleOf-by (Still ρ β) still-same (still-wild ρ β) isEllipsis isEllipsis (still-dots ρ β) l (InTemplate ρ β) (template-dots ρ β) t u
+      (isListOf-rel 2 (hole-tree {R = λ x y. Unit {0}} (λ x y s. tt) (λ t u q. tree-map (λ x y s. tt) q) r)) p (hole-here (hole-at r))
+      (λ x y q. subst (λ l. variableFrom 0 vs x ≡ variableFrom 0 l y) ws (variable-eq vs e f x y q))
+    where
+      variable-eq : (vs : List (Name × ℕ)) → any (λ v. eqb (v .0 .number) (ρ .old)) vs ≡ false → any (λ v. eqb (v .0 .number) (ρ .new)) vs ≡ false → (x y : Name) → InTemplate ρ β x y → variableFrom 0 vs x ≡ variableFrom 0 vs y
+      variable-eq vs e f x y (stays s a b) = ap (variableFrom 0 vs) (s .eq)
+      variable-eq vs e f x y (turns t) = no-variable (ρ .old) x (t .old) 0 vs e ∙ sym (no-variable (ρ .new) y (t .new) 0 vs f)
+
+  chosen-rules : {ls ms : List Name} → ListRel (Still ρ β) ls ms → {j : ℕ} {t u : Tree} → Hole (Still ρ β) (TreeOf (InTemplate ρ β)) (j ∷ 1 ∷ []) t u
+      → any (λ v. eqb (v .0 .number) (ρ .old)) (variables isEllipsis ls 0 (tail (element 0 (element j t)))) ≡ false
+      → any (λ v. eqb (v .0 .number) (ρ .new)) (variables isEllipsis ls 0 (tail (element 0 (element j t)))) ≡ false
+      → OptionRel (ListRel FormRule) (traverse (ruleOf isEllipsis ls) (elements t)) (traverse (ruleOf isEllipsis ms) (elements u))
+  unfolding traverse element elements
+  chosen-rules l (first r s) e f = mapBoth-rel _∷_ _∷_ (λ x y u v p q. joins (chosen p) q) (chosen-rule l r e f)
+      (plain-rules (traverse-rel _ _ (ruleOf-rel (Still ρ β) still-same (still-wild ρ β) isEllipsis isEllipsis (still-dots ρ β) l) (elements-rel s)))
+  chosen-rules l (later s r) e f = mapBoth-rel _∷_ _∷_ (λ x y u v p q. joins (plain p) q) (ruleOf-rel (Still ρ β) still-same (still-wild ρ β) isEllipsis isEllipsis (still-dots ρ β) l _ _ s) (chosen-rules l r e f)
+
+  chosen-form : (j : ℕ) {t u : Tree} → Hole (Still ρ β) (TreeOf (InTemplate ρ β)) (suc (suc j) ∷ 1 ∷ []) t u → hasVariable j (ρ .old) t ≡ false → hasVariable j (ρ .new) t ≡ false → OptionRel (ListRel FormRule) (rulesOf t) (rulesOf u)
+  unfolding rulesOf hasVariable element elements tail onPair
+  chosen-form j (later h (later l r)) e f =
+      guard-rel (isRulesForm-rel (Still ρ β) (still-dots ρ β) (still-wild ρ β) _ _ (onName-rel _ _ (λ x y s. ap isSyntaxRules (s .eq)) false h) l (length-rel (hole-elements r)))
+      (chosen-rules (names-rel l) r e f)
+
+  -- a rules form of the form
+  abbrev pub FormRules : Tree → Tree → Type 0
+  FormRules t u = TreeOf (Still ρ β) t u ⊎ ChosenRules ρ β t u
+
+  pub formRules-read : (t u : Tree) → FormRules t u → OptionRel (ListRel FormRule) (rulesOf t) (rulesOf u)
+  formRules-read t u (inl r) = plain-rules (rulesOf-rel (Still ρ β) (still-dots ρ β) (still-wild ρ β) still-same t u r (onName-rel _ _ (λ x y s. ap isSyntaxRules (s .eq)) false (element-rel 0 r)))
+  formRules-read t u (inr c) = chosen-form (c .rule) (c .hole) (c .old-free) (c .new-free)
+
+  -- ---- as the simulation knows them
+
+  -- names of the chosen template
+  abbrev Chosen : Kind
+  Chosen = λ k i b ms. (ms ≡ []) × (eqb k (ρ .old) ≡ true → ρ .isPrivate i ≡ true) × (eqb k (ρ .new) ≡ true → ρ .isPrivate i ≡ true)
+
+  chosen-coherent : Coherent ρ Chosen
+  chosen-coherent = record {
+    old = λ i j a b ms p q. p .1 (eq-eqb (ρ .old) (ρ .old) refl) ∙ sym (q .1 (eq-eqb (ρ .old) (ρ .old) refl));
+    new = λ i j a b ms p q e. p .2 (eq-eqb (ρ .new) (ρ .new) refl);
+  }
+
+  chosen-below : (m : ℕ) → Below m Chosen
+  chosen-below m k i b ms p = subst (Older m) (sym (p .0)) tt
+
+  module _ (raw : Raw ρ) (free : Foreign ρ β) (e₀ : β (ρ .old) ≡ raw .first) (e₁ : β (ρ .new) ≡ raw .second) where
+    template-rel : (x y : Name) → InTemplate ρ β x y → NameRel ρ raw Chosen x y
+    template-rel x y (stays s e f) = kept (s .placed .unmarked, λ g. absurd (false≢true (sym e ∙ g)), λ g. absurd (false≢true (sym f ∙ g)))
+        (record { eq = s .eq; not-private = s .not-private; free = ap (ofCopy ρ) (s .placed .bound) ∙ free (x .number) })
+    template-rel x y (turns t) = turned (t .first .unmarked, λ g. t .private, λ g. t .private)
+        (record {
+          private = t .private;
+          old = t .old;
+          new = t .new;
+          item = t .item;
+          produced = t .first .unproduced ∙ sym (t .second .unproduced);
+          marks = t .first .unmarked ∙ sym (t .second .unmarked);
+          tie = unowned (t .first .bound ∙ ap β (t .old) ∙ e₀) (t .second .bound ∙ ap β (t .new) ∙ e₁);
+        })
+
+    literal-rel : (x y : Name) → Still ρ β x y → Literal ρ raw x y
+    literal-rel x y s = kept (λ e. absurd (false≢true (sym (s .not-private) ∙ e))) (record { eq = s .eq; not-private = s .not-private; free = ap (ofCopy ρ) (s .placed .bound) ∙ free (x .number) })
+
+    rule-rel : (m : ℕ) {r s : Rule} → FormRule r s → RuleRel ρ raw m r s
+    rule-rel m (plain q) = record { kind = AtRest ρ; coherent = rest-coherent ρ; below = rest-below ρ m; pattern = pattern-map literal-rel (q .pattern); template = template-map (still-rel ρ raw β free) (q .template) }
+    rule-rel m (chosen q) = record { kind = Chosen; coherent = chosen-coherent; below = chosen-below m; pattern = pattern-map literal-rel (q .pattern); template = template-map template-rel (q .template) }
+
+    rules-rel : (m : ℕ) {r s : List Rule} → ListRel FormRule r s → RulesRel ρ raw m r s
+    rules-rel m ends = no-rule
+    rules-rel m (joins q qs) = rule (rule-rel m q) (rules-rel m qs)
+
+    pub formMacros-rel : (m : ℕ) {r s : List (List Rule)} → ListRel (ListRel FormRule) r s → MacrosRel ρ raw m r s
+    formMacros-rel m ends = no-macro
+    formMacros-rel m (joins q qs) = with (rules-rel m q) (formMacros-rel m qs)

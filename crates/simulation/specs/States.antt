@@ -1,0 +1,103 @@
+-- Macros and states of two runs that agree: equal counts, and rules whose names are related.
+use mathlib.Core.Path.{_≡_, refl, ap, sym, _∙_}
+use mathlib.Core.Bool.{true, false, true≢false}
+use mathlib.Core.List.{List, [], _∷_, _++_}
+use mathlib.Core.Option.{Option, none, some}
+use Prim.Native.Nat.{ℕ, zero, suc, _≤_}
+use borrow.Author.Tests.{eq-eqb}
+use lib.Dec.{eqb}
+use lib.ListN.{length, getD}
+use Rattle.recipe.specs.Name.{Name}
+use Rattle.expansion.specs.Rules.{Rule}
+use Rattle.expansion.specs.Computation.{State}
+use Rattle.simulation.specs.Relations.{ListRel, ends, joins}
+use Rattle.simulation.specs.Shapes.{PatternOf, TemplateOf, RuleOf, pattern-map, pattern-self, template-self}
+use Rattle.simulation.specs.Names.Shown.{Renaming}
+use Rattle.simulation.specs.Names.{Kind, Coherent, Ready, Raw, NameRel, kept, turned, name-map}
+use Rattle.simulation.specs.Steps.{Below, older-le}
+
+module _ (ρ : Renaming) (raw : Raw ρ) where
+  -- a pattern's literals: those that are private are copies
+  abbrev pub Literal : Name → Name → Type 0
+  Literal = NameRel ρ raw (λ k i b ms. ρ .isPrivate i ≡ true → b ≡ true)
+
+  -- each rule has its own names, whose marks are older than k
+  pub record RuleRel (k : ℕ) (r s : Rule) : Type 1 where
+    pub kind : Kind
+    pub coherent : Coherent ρ kind
+    pub below : Below k kind
+    pub pattern : PatternOf Literal (r .pattern) (s .pattern)
+    pub template : TemplateOf (NameRel ρ raw kind) (r .template) (s .template)
+
+  pub data RulesRel (k : ℕ) : List Rule → List Rule → Type 1 where
+    no-rule : RulesRel k [] []
+    rule : {r s : Rule} {rs ss : List Rule} → RuleRel k r s → RulesRel k rs ss → RulesRel k (r ∷ rs) (s ∷ ss)
+
+  pub data MacrosRel (k : ℕ) : List (List Rule) → List (List Rule) → Type 1 where
+    no-macro : MacrosRel k [] []
+    with : {r s : List Rule} {rs ss : List (List Rule)} → RulesRel k r s → MacrosRel k rs ss → MacrosRel k (r ∷ rs) (s ∷ ss)
+
+  -- the next step is k or later
+  pub record StateRel (k : ℕ) (s t : State) : Type 1 where
+    pub enough : k ≤ suc (s .steps)
+    pub steps : s .steps ≡ t .steps
+    pub sum : s .sum ≡ t .sum
+    pub variables : s .variables ≡ t .variables
+    pub macros : MacrosRel (suc (s .steps)) (s .macros) (t .macros)
+
+  -- a rule chosen in both runs, or in neither
+  pub data RuleOption (k : ℕ) : Option Rule → Option Rule → Type 1 where
+    no-one : RuleOption k none none
+    this : {r s : Rule} → RuleRel k r s → RuleOption k (some r) (some s)
+
+  -- ---- macros
+
+  rules-up : (k l : ℕ) → k ≤ l → {r s : List Rule} → RulesRel k r s → RulesRel l r s
+  rules-up k l h no-rule = no-rule
+  rules-up k l h (rule q rs) = rule (record { kind = q .kind; coherent = q .coherent; below = λ j i b ms x. older-le k l ms h (q .below j i b ms x); pattern = q .pattern; template = q .template }) (rules-up k l h rs)
+
+  pub macros-up : (k l : ℕ) → k ≤ l → {r s : List (List Rule)} → MacrosRel k r s → MacrosRel l r s
+  macros-up k l h no-macro = no-macro
+  macros-up k l h (with r rs) = with (rules-up k l h r) (macros-up k l h rs)
+
+  pub macros-length : {k : ℕ} {r s : List (List Rule)} → MacrosRel k r s → length r ≡ length s
+  macros-length no-macro = refl
+  macros-length (with r rs) = ap suc (macros-length rs)
+
+  pub macros-append : {k : ℕ} {r s t u : List (List Rule)} → MacrosRel k r s → MacrosRel k t u → MacrosRel k (r ++ t) (s ++ u)
+  macros-append no-macro q = q
+  macros-append (with r rs) q = with r (macros-append rs q)
+
+  pub macro-at : {k : ℕ} {r s : List (List Rule)} → MacrosRel k r s → (j : ℕ) → RulesRel k (getD r j []) (getD s j [])
+  macro-at no-macro j = no-rule
+  macro-at (with r rs) zero = r
+  macro-at (with r rs) (suc j) = macro-at rs j
+
+  -- the rules that a form reads
+  module _ (k : ℕ) (Q : Kind) (co : Coherent ρ Q) (rd : Ready ρ Q) (b : Below k Q) where
+    new-rules : {r s : List Rule} → ListRel (RuleOf (NameRel ρ raw Q) (NameRel ρ raw Q)) r s → RulesRel k r s
+    new-rules ends = no-rule
+    new-rules (joins r rs) = rule (record { kind = Q; coherent = co; below = b; pattern = pattern-map (name-map ρ raw rd) (r .pattern); template = r .template }) (new-rules rs)
+
+    pub new-macros : {r s : List (List Rule)} → ListRel (ListRel (RuleOf (NameRel ρ raw Q) (NameRel ρ raw Q))) r s → MacrosRel k r s
+    new-macros ends = no-macro
+    new-macros (joins r rs) = with (new-rules r) (new-macros rs)
+
+-- ---- a state beside itself: no name is private, so what the template's own names are bound to does not matter
+
+module _ (ρ : Renaming) (differ : eqb (ρ .old) (ρ .new) ≡ false) (raw raw′ : Raw ρ) where
+  name-self : {Q : Kind} (x y : Name) → NameRel ρ raw Q x y → x ≡ y → NameRel ρ raw′ Q x y
+  name-self x y (kept q k) e = kept q (record { eq = k .eq; not-private = k .not-private; free = k .free })
+  name-self x y (turned q t) e = absurd (true≢false (sym (eq-eqb (ρ .old) (ρ .new) (sym (t .old) ∙ ap (λ z. z .number) e ∙ t .new)) ∙ differ))
+
+  rules-self : (k : ℕ) {r s : List Rule} → RulesRel ρ raw k r s → r ≡ s → RulesRel ρ raw′ k r s
+  rules-self k no-rule e = no-rule
+  rules-self k (rule {r = r} {s = s} q qs) e = let d : r ≡ s = cc in
+      rule (record { kind = q .kind; coherent = q .coherent; below = q .below; pattern = pattern-self name-self (q .pattern) (ap (λ z. z .pattern) d); template = template-self name-self (q .template) (ap (λ z. z .template) d) }) (rules-self k qs cc)
+
+  macros-self : (k : ℕ) {r s : List (List Rule)} → MacrosRel ρ raw k r s → r ≡ s → MacrosRel ρ raw′ k r s
+  macros-self k no-macro e = no-macro
+  macros-self k (with q qs) e = with (rules-self k q cc) (macros-self k qs cc)
+
+  pub state-self : (k : ℕ) (s : State) → StateRel ρ raw k s s → StateRel ρ raw′ k s s
+  state-self k s q = record { enough = q .enough; steps = refl; sum = refl; variables = refl; macros = macros-self (suc (s .steps)) (q .macros) refl }

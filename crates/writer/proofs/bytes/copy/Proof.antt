@@ -1,0 +1,94 @@
+-- The first i bytes of src are laid at `at`.
+use Rattle.writer.proofs.bytes.copy.Statement.{statement}
+use Rattle.writer.proofs.bytes.copy.Tie as tie
+use Rattle.writer.proofs.bytes.copy.Reads as reads
+use Rattle.writer.proofs.bytes.copy.Lts as lts
+use borrow.Author.Needs.{needs}
+use native.Mathlib.Omega.{arith}
+use mathlib.Core.Path.{_≡_, refl, sym, _∙_}
+use Prim.Native.Nat.{_≤_, _-_}
+use lib.ListN.{length, length-set}
+use lib.Seq.{paste, paste-zero}
+use borrow.Author.Tests.{not-true, not-false}
+use Rattle.writer.specs.LaidLaws.{laid-dry, copy-more, copy-done}
+use Rattle.writer.specs.Laid.{done, full}
+
+abbrev Inv-loop : tie.InvT-loop
+Inv-loop src out₀ at ink to i₀ out i =
+    (length out ≡ length out₀) × (i ≤ length src) × (out ≡ paste out₀ at src i)
+
+abbrev μ-loop : tie.MeasureT-loop
+μ-loop src out₀ at ink to i₀ out i =
+    length src - i
+
+sub-if1 : tie.Need-sub-if1 Inv-loop μ-loop
+sub-if1 c =
+    search needs
+
+returns : tie.Need-returns Inv-loop μ-loop
+returns c =
+    full (omega arith) (λ h. refl)
+
+add-to : tie.Need-add-to Inv-loop μ-loop
+add-to c =
+    search needs
+
+returns-2 : tie.Need-returns-2 Inv-loop μ-loop
+returns-2 c =
+    done refl (omega arith) (sym (laid-dry (c .before .before .args .ink) _ _ _ (not-true (c .before .before .args .ink) (c .if2 .taken))))
+
+loop-holds : tie.Need-loop-holds Inv-loop μ-loop
+loop-holds c =
+    (refl, omega arith, paste-zero (c .before .before .args .out .now) (c .before .before .args .at) (c .before .before .args .src .now))
+
+shared-slice-read-out : tie.Need-shared-slice-read-out Inv-loop μ-loop
+shared-slice-read-out c =
+    search needs
+
+add-out : tie.Need-add-out Inv-loop μ-loop
+add-out c =
+    search needs
+
+slice-write-out : tie.Need-slice-write-out Inv-loop μ-loop
+slice-write-out c =
+    omega (arith, c .before .before .loop .inv .0)
+
+add-i : tie.Need-add-i Inv-loop μ-loop
+add-i c =
+    search needs
+
+loop-less : tie.Need-loop-less Inv-loop μ-loop
+loop-less c =
+    search needs
+
+loop-again : tie.Need-loop-again Inv-loop μ-loop
+loop-again c =
+    (length-set (c .before .before .loop .out) _ _ ∙ c .before .before .loop .inv .0, omega arith, copy-more (c .before .before .before .before .before .args .out .now) _ (c .before .before .before .before .before .args .src .now) (c .before .before .loop .out) (c .before .before .loop .i) (omega arith) (omega arith) (c .before .before .loop .inv .2))
+
+same-length : tie.Need-same-length Inv-loop μ-loop
+same-length c =
+    c .before .loop .inv .0
+
+returns-3 : tie.Need-returns-3 Inv-loop μ-loop
+returns-3 c =
+    done refl (omega arith) (copy-done (c .before .before .before .before .args .out .now) _ (c .before .before .before .before .args .src .now) _ (c .before .loop .i) (c .before .before .before .before .args .ink) (omega arith) (not-false (c .before .before .before .before .args .ink) (c .before .before .if2 .left)) (c .before .loop .inv .2))
+
+pub copy-spec : {M : Type 1} → statement M
+copy-spec =
+    tie.close
+    (tie.spec
+    Inv-loop
+    μ-loop
+    sub-if1
+    returns
+    add-to
+    returns-2
+    loop-holds
+    shared-slice-read-out
+    add-out
+    slice-write-out
+    add-i
+    loop-less
+    loop-again
+    same-length
+    returns-3)

@@ -1,0 +1,108 @@
+-- The digits before the last, then the last. The measure is the number.
+use Prim.Native.Nat.{ℕ, _<_}
+use borrow.Fn.Kinds.{In}
+use borrow.Fn.PlainCycle.{Measures, is, falls, and}
+use Rattle.writer.proofs.numbers.digits.Reads as digits
+use Rattle.writer.proofs.numbers.digits.Kinds as digits-kinds
+use Rattle.writer.proofs.numbers.+digits.Lts-digits as digits-lts
+use Rattle.writer.proofs.bytes.byte.Reads as byte-reads
+use Rattle.writer.proofs.numbers.+digits.{statement}
+use Rattle.writer.proofs.numbers.+digits.Tie.{close}
+use borrow.Author.Needs.{needs}
+use native.Mathlib.Omega.{arith}
+use mathlib.Core.Path.{sym, _∙_}
+use Rattle.writer.specs.LaidLaws.{left-room, left-full, left-then, left-is}
+use Rattle.core_term.specs.DecimalLaws.{decimal-one, decimal-more}
+
+abbrev μ-digits : Measures 1 digits-kinds.ps ℕ
+μ-digits κs a =
+    a .0
+
+abbrev digits-at : ℕ → In 1 digits-kinds.ps
+digits-at t = and 1 digits-kinds.ps (is 1 digits-kinds.ps μ-digits t) digits.Pre
+
+abbrev digits-below : ℕ → In 1 digits-kinds.ps
+digits-below t = and 1 digits-kinds.ps (falls 1 digits-kinds.ps _<_ μ-digits t) digits.Pre
+
+-- what the callees promise
+abbrev E : ℕ → digits-lts.Claims
+E t = (byte-reads.Asked, byte-reads.Learnt, digits-below t, digits.Post)
+
+digits-cast-byte : (t : ℕ) → digits-lts.Need-cast-byte (E t) (digits-at t) digits.Post
+digits-cast-byte t c =
+    search needs
+
+digits-add-byte : (t : ℕ) → digits-lts.Need-add-byte (E t) (digits-at t) digits.Post
+digits-add-byte t c =
+    search needs
+
+digits-byte-requires : (t : ℕ) → digits-lts.Need-byte-requires (E t) (digits-at t) digits.Post
+digits-byte-requires t c κs =
+    search needs
+
+digits-same-length : (t : ℕ) → digits-lts.Need-same-length (E t) (digits-at t) digits.Post
+digits-same-length t c =
+    search needs
+
+digits-returns : (t : ℕ) → digits-lts.Need-returns (E t) (digits-at t) digits.Post
+digits-returns t c =
+    left-is (sym (decimal-one _ (c .before .before .before .before .if1 .taken))) (c .before .before .byte .ensures)
+
+digits-digits-requires : (t : ℕ) → digits-lts.Need-digits-requires (E t) (digits-at t) digits.Post
+digits-digits-requires t c κs =
+    (omega arith, c .before .before .before .pre .1)
+
+digits-enum-known-to : (t : ℕ) → digits-lts.Need-enum-known-to (E t) (digits-at t) digits.Post
+digits-enum-known-to t c =
+    search needs
+
+digits-enum-told : (t : ℕ) → digits-lts.Need-enum-told (E t) (digits-at t) digits.Post
+digits-enum-told t c =
+    search needs
+
+digits-same-length-2 : (t : ℕ) → digits-lts.Need-same-length-2 (E t) (digits-at t) digits.Post
+digits-same-length-2 t c =
+    c .before .before .before .before .digits .kept .1 .0
+
+digits-returns-2 : (t : ℕ) → digits-lts.Need-returns-2 (E t) (digits-at t) digits.Post
+digits-returns-2 t c =
+    left-is (sym (decimal-more _ (c .before .before .before .before .before .before .if1 .left))) (left-full (c .before .before .before .before .digits .ensures) _ (c .enum-told .given .1))
+
+digits-cast-byte-2 : (t : ℕ) → digits-lts.Need-cast-byte-2 (E t) (digits-at t) digits.Post
+digits-cast-byte-2 t c =
+    search needs
+
+digits-add-byte-2 : (t : ℕ) → digits-lts.Need-add-byte-2 (E t) (digits-at t) digits.Post
+digits-add-byte-2 t c =
+    search needs
+
+digits-byte-requires-2 : (t : ℕ) → digits-lts.Need-byte-requires-2 (E t) (digits-at t) digits.Post
+digits-byte-requires-2 t c κs =
+    left-room (c .before .before .before .before .before .before .digits .ensures) _ (c .before .before .to .given .1)
+
+digits-same-length-3 : (t : ℕ) → digits-lts.Need-same-length-3 (E t) (digits-at t) digits.Post
+digits-same-length-3 t c =
+    c .before .before .byte2 .kept .1 .0 ∙ c .before .before .before .before .before .before .before .before .before .digits .kept .1 .0
+
+digits-returns-3 : (t : ℕ) → digits-lts.Need-returns-3 (E t) (digits-at t) digits.Post
+digits-returns-3 t c =
+    left-is (sym (decimal-more _ (c .before .before .before .before .before .before .before .before .before .before .before .if1 .left))) (left-then (c .before .before .before .before .before .before .before .before .before .digits .ensures) _ (c .before .before .before .before .before .to .given .1) (c .before .before .byte2 .ensures))
+
+pub +digits-spec : {M : Type 1} → statement M
++digits-spec = close μ-digits λ t. digits-lts.spec (E t) (digits-at t)
+    digits.Post
+    (digits-cast-byte t)
+    (digits-add-byte t)
+    (digits-byte-requires t)
+    (digits-same-length t)
+    (digits-returns t)
+    (digits-digits-requires t)
+    (digits-enum-known-to t)
+    (digits-enum-told t)
+    (digits-same-length-2 t)
+    (digits-returns-2 t)
+    (digits-cast-byte-2 t)
+    (digits-add-byte-2 t)
+    (digits-byte-requires-2 t)
+    (digits-same-length-3 t)
+    (digits-returns-3 t)

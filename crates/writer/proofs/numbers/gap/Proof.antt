@@ -1,0 +1,30 @@
+-- One space or none.
+use borrow.Author.Needs.{needs}
+use Rattle.writer.proofs.numbers.gap.Statement.{statement}
+use Rattle.writer.proofs.numbers.gap.Tie as tie
+use Rattle.writer.proofs.numbers.gap.Reads as reads
+use Rattle.writer.proofs.numbers.gap.Lts as lts
+use Rattle.writer.proofs.bytes.byte.Reads as byte-reads
+use mathlib.Core.Path.{sym}
+use Rattle.writer.specs.LaidLaws.{left-is, left-none}
+use borrow.Author.Tests.{not-true, not-false}
+use Rattle.writer.specs.PiecesLaws.{gap-yes, gap-no}
+
+returns : tie.Need-returns
+returns c =
+    left-is (sym (gap-no (c .before .before .args .wanted) (not-true (c .before .before .args .wanted) (c .if1 .taken)))) (left-none (c .before .before .args .ink) _ (c .before .before .args .out .now) (c .before .before .pre))
+
+byte-requires : tie.Need-byte-requires
+byte-requires c κs =
+    search needs
+
+same-length : tie.Need-same-length
+same-length c =
+    c .before .before .byte .kept .1 .0
+
+returns-2 : tie.Need-returns-2
+returns-2 c =
+    left-is (sym (gap-yes (c .before .before .before .before .before .before .args .wanted) (not-false (c .before .before .before .before .before .before .args .wanted) (c .before .before .before .before .if1 .left)))) (c .before .before .byte .ensures)
+
+pub gap-spec : {M : Type 1} → statement M
+gap-spec = tie.close (tie.spec returns byte-requires same-length returns-2)

@@ -1,0 +1,145 @@
+-- What opens a node, by its code.
+use borrow.Author.Needs.{needs}
+use Rattle.writer.proofs.pieces.begin.Statement.{statement}
+use Rattle.writer.proofs.pieces.begin.Tie as tie
+use Rattle.writer.proofs.pieces.begin.Reads as reads
+use Rattle.writer.proofs.pieces.begin.Lts as lts
+use Rattle.writer.proofs.bytes.byte.Reads as byte-reads
+use Rattle.writer.proofs.bytes.copy.Reads as copy-reads
+use Rattle.writer.proofs.numbers.numbered.Reads as numbered-reads
+use Rattle.writer.proofs.numbers.wide.Reads as wide-reads
+use Rattle.writer.proofs.pieces.datum_opening.Reads as datum-opening-reads
+use Rattle.writer.proofs.pieces.lambda_opening.Reads as lambda-opening-reads
+use native.Mathlib.Omega.{arith}
+use mathlib.Core.Path.{_≡_, ap, _∙_}
+use mathlib.Core.List.{_∷_}
+use Prim.Native.Nat.{ℕ}
+use Rattle.writer.specs.LaidLaws.{left-is}
+use lib.ListN.{getD}
+use Rattle.core_term.specs.Decimal.{decimal}
+use Rattle.writer.specs.OpenedLaws.{some-words, two-words, three-words, code-most, opens-if, opens-variable, opens-operation, opens-lambda, lambda-same, opens-application}
+
+shared-slice-read-code : tie.Need-shared-slice-read-code
+shared-slice-read-code c =
+    let o = c .before .before .before .before .pre .1 in omega (arith, some-words (c .before .before .before .before .args .words .now) (o .it) (o .left) (o .is))
+
+slice-aggregate-copy : tie.Need-slice-aggregate-copy
+slice-aggregate-copy c =
+    search needs
+
+copy-requires : tie.Need-copy-requires
+copy-requires c κs =
+    c .before .before .before .before .before .before .before .pre .0
+
+same-length : tie.Need-same-length
+same-length c =
+    c .before .before .copy .kept .1 .0
+
+returns : tie.Need-returns
+returns c =
+    λ x l h. left-is (opens-if (c .before .before .before .before .before .before .before .before .before .before .args .words .now) x l h _ _ (c .before .before .before .before .before .if1 .taken)) (c .before .before .copy .ensures)
+
+shared-slice-read-wide : tie.Need-shared-slice-read-wide
+shared-slice-read-wide c =
+    let o = c .before .before .before .before .before .before .pre .1 in omega (arith, two-words (c .before .before .before .before .before .before .args .words .now) (o .it) (o .left) (o .is) (c .before .if1 .left))
+
+wide-requires : tie.Need-wide-requires
+wide-requires c κs =
+    search needs
+
+numbered-requires : tie.Need-numbered-requires
+numbered-requires c κs =
+    c .before .before .before .before .before .before .before .before .before .pre .0
+
+same-length-2 : tie.Need-same-length-2
+same-length-2 c =
+    c .before .before .numbered .kept .1 .1 .0
+
+returns-2 : tie.Need-returns-2
+returns-2 c =
+    λ x l h. left-is (ap (λ (n : ℕ). 118 ∷ decimal n) (c .before .before .before .before .before .wide .ensures) ∙ opens-variable (c .before .before .before .before .before .before .before .before .before .before .before .before .args .words .now) x l h _ _ (c .before .before .before .before .if2 .taken)) (c .before .before .numbered .ensures)
+
+numbered-requires-2 : tie.Need-numbered-requires-2
+numbered-requires-2 c κs =
+    c .before .before .before .before .before .before .before .before .before .before .pre .0
+
+same-length-3 : tie.Need-same-length-3
+same-length-3 c =
+    c .before .before .numbered2 .kept .1 .1 .0
+
+returns-3 : tie.Need-returns-3
+returns-3 c =
+    λ x l h. left-is (ap (λ (n : ℕ). 111 ∷ decimal n) (c .before .before .before .before .before .before .wide .ensures) ∙ opens-operation (c .before .before .before .before .before .before .before .before .before .before .before .before .before .args .words .now) x l h _ _ (c .before .before .before .before .if3 .taken)) (c .before .before .numbered2 .ensures)
+
+datum-opening-requires : tie.Need-datum-opening-requires
+datum-opening-requires c κs =
+    (c .before .before .before .before .before .before .before .before .before .before .before .pre .0, c .before .before .before .before .before .before .before .before .before .before .before .pre .1, omega (arith, c .before .before .before .if2 .left, c .before .before .if3 .left), c .before .if4 .taken)
+
+same-length-4 : tie.Need-same-length-4
+same-length-4 c =
+    c .before .before .datum-opening .kept .1 .1 .0
+
+returns-4 : tie.Need-returns-4
+returns-4 c =
+    λ x l h. c .before .before .datum-opening .ensures x l h
+
+shared-slice-read-wide-2 : tie.Need-shared-slice-read-wide-2
+shared-slice-read-wide-2 c =
+    let o = c .before .before .before .before .before .before .before .before .before .before .before .before .pre .1 in omega (arith, three-words (c .before .before .before .before .before .before .before .before .before .before .before .before .args .words .now) (o .it) (o .left) (o .is) (c .before .if5 .taken))
+
+wide-requires-2 : tie.Need-wide-requires-2
+wide-requires-2 c κs =
+    search needs
+
+lambda-opening-requires : tie.Need-lambda-opening-requires
+lambda-opening-requires c κs =
+    (c .before .before .before .before .before .before .before .before .before .before .before .before .before .before .pre .0, omega (arith, c .before .before .before .before .before .before .before .wide .ensures, c .before .wide2 .ensures, c .before .before .shared-slice-known5 .given 1, c .before .before .shared-slice-known5 .given 2))
+
+same-length-5 : tie.Need-same-length-5
+same-length-5 c =
+    c .before .before .lambda-opening .kept .1 .1 .0
+
+returns-5 : tie.Need-returns-5
+returns-5 c =
+    λ x l h. left-is (lambda-same _ _ _ _ (c .before .before .before .before .before .before .before .before .before .before .wide .ensures) (c .before .before .before .before .wide2 .ensures) ∙ opens-lambda (c .before .before .before .before .before .before .before .before .before .before .before .before .before .before .before .before .before .args .words .now) x l h _ _ (c .before .before .before .before .before .before .if5 .taken)) (c .before .before .lambda-opening .ensures)
+
+byte-requires : tie.Need-byte-requires
+byte-requires c κs =
+    c .before .before .before .before .before .before .before .before .before .before .before .before .pre .0
+
+same-length-6 : tie.Need-same-length-6
+same-length-6 c =
+    c .before .before .byte .kept .1 .0
+
+returns-6 : tie.Need-returns-6
+returns-6 c =
+    λ x l h. let o = c .before .before .before .before .before .before .before .before .before .before .before .before .before .before .before .pre .1 in let e : getD (c .before .before .before .before .before .before .before .before .before .before .before .before .before .before .before .args .words .now) 0 0 ≡ 8 = omega (arith, code-most (c .before .before .before .before .before .before .before .before .before .before .before .before .before .before .before .args .words .now) x l h, c .before .before .before .before .before .before .before .before .before .before .if1 .left, c .before .before .before .before .before .if4 .left, c .before .before .before .before .if5 .left) in left-is (opens-application (c .before .before .before .before .before .before .before .before .before .before .before .before .before .before .before .args .words .now) x l h _ _ e) (c .before .before .byte .ensures)
+
+pub begin-spec : {M : Type 1} → statement M
+begin-spec =
+    tie.close
+    (tie.spec
+    shared-slice-read-code
+    slice-aggregate-copy
+    copy-requires
+    same-length
+    returns
+    shared-slice-read-wide
+    wide-requires
+    numbered-requires
+    same-length-2
+    returns-2
+    numbered-requires-2
+    same-length-3
+    returns-3
+    datum-opening-requires
+    same-length-4
+    returns-4
+    shared-slice-read-wide-2
+    wide-requires-2
+    lambda-opening-requires
+    same-length-5
+    returns-5
+    byte-requires
+    same-length-6
+    returns-6)

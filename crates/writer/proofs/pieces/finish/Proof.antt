@@ -1,0 +1,78 @@
+-- What closes it.
+use borrow.Author.Needs.{needs}
+use Rattle.writer.proofs.pieces.finish.Statement.{statement}
+use Rattle.writer.proofs.pieces.finish.Tie as tie
+use Rattle.writer.proofs.pieces.finish.Reads as reads
+use Rattle.writer.proofs.pieces.finish.Lts as lts
+use Rattle.writer.proofs.bytes.byte.Reads as byte-reads
+use Rattle.writer.proofs.bytes.copy.Reads as copy-reads
+use native.Mathlib.Omega.{arith}
+use mathlib.Core.Path.{_≡_}
+use Rattle.writer.specs.LaidLaws.{left-is, left-none}
+use lib.ListN.{getD}
+use Rattle.writer.specs.OpenedLaws.{closes-leaf, closes-one, closes-list}
+
+shared-slice-read-code : tie.Need-shared-slice-read-code
+shared-slice-read-code c =
+    search needs
+
+returns : tie.Need-returns
+returns c =
+    λ x l h. left-is (closes-leaf (c .before .before .before .before .args .words .now) x l h _ (c .if1 .taken)) (left-none (c .before .before .before .before .args .ink) _ (c .before .before .before .before .args .out .now) (c .before .before .before .before .pre .0))
+
+byte-requires : tie.Need-byte-requires
+byte-requires c κs =
+    c .before .before .before .before .before .before .pre .0
+
+same-length : tie.Need-same-length
+same-length c =
+    c .before .before .byte .kept .1 .0
+
+returns-2 : tie.Need-returns-2
+returns-2 c =
+    λ x l h. left-is (closes-one (c .before .before .before .before .before .before .before .before .before .args .words .now) x l h (c .before .before .before .before .before .before .before .before .before .args .inner) (omega arith) (λ e. absurd (omega arith))) (c .before .before .byte .ensures)
+
+byte-requires-2 : tie.Need-byte-requires-2
+byte-requires-2 c κs =
+    c .before .before .before .before .before .before .before .pre .0
+
+same-length-2 : tie.Need-same-length-2
+same-length-2 c =
+    c .before .before .byte2 .kept .1 .0
+
+returns-3 : tie.Need-returns-3
+returns-3 c =
+    λ x l h. left-is (closes-one (c .before .before .before .before .before .before .before .before .before .before .args .words .now) x l h (c .before .before .before .before .before .before .before .before .before .before .args .inner) (omega arith) (λ e. c .before .before .before .before .if3 .taken)) (c .before .before .byte2 .ensures)
+
+slice-aggregate-copy : tie.Need-slice-aggregate-copy
+slice-aggregate-copy c =
+    search needs
+
+copy-requires : tie.Need-copy-requires
+copy-requires c κs =
+    c .before .before .before .before .before .before .before .before .pre .0
+
+same-length-3 : tie.Need-same-length-3
+same-length-3 c =
+    c .before .before .copy .kept .1 .0
+
+returns-4 : tie.Need-returns-4
+returns-4 c =
+    λ x l h. let e : getD (c .before .before .before .before .before .before .before .before .before .before .before .args .words .now) 0 0 ≡ 5 = omega arith in left-is (closes-list (c .before .before .before .before .before .before .before .before .before .before .before .args .words .now) x l h (c .before .before .before .before .before .before .before .before .before .before .before .args .inner) e (c .before .before .before .before .before .if3 .left)) (c .before .before .copy .ensures)
+
+pub finish-spec : {M : Type 1} → statement M
+finish-spec =
+    tie.close
+    (tie.spec
+    shared-slice-read-code
+    returns
+    byte-requires
+    same-length
+    returns-2
+    byte-requires-2
+    same-length-2
+    returns-3
+    slice-aggregate-copy
+    copy-requires
+    same-length-3
+    returns-4)

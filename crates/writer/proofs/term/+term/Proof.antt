@@ -1,0 +1,208 @@
+-- `term` lays the text of what the words begin with. The invariant is Going of specs/WalkLaws.antt; the measure is the count of words.
+use Prim.Native.Nat.{ℕ, _<_}
+use borrow.Fn.Kinds.{In}
+use borrow.Fn.PlainCycle.{Measures, is, falls, and}
+use Rattle.writer.proofs.term.term.Reads as term
+use Rattle.writer.proofs.term.term.Kinds as term-kinds
+use Rattle.writer.proofs.term.+term.Lts-term as term-lts
+use Rattle.writer.proofs.numbers.gap.Reads as gap-reads
+use Rattle.writer.proofs.pieces.begin.Reads as begin-reads
+use Rattle.writer.proofs.pieces.finish.Reads as finish-reads
+use Rattle.writer.proofs.term.parts_of.Reads as parts-of-reads
+use Rattle.writer.proofs.term.+term.{statement}
+use Rattle.writer.proofs.term.+term.Tie.{close}
+use borrow.Author.Needs.{needs}
+use native.Mathlib.Omega.{arith}
+use mathlib.Core.Path.{refl, _∙_}
+use Rattle.writer.specs.LaidLaws.{left-length, left-room}
+use lib.ListN.{length}
+use Rattle.writer.specs.OpenedLaws.{some-words}
+use Rattle.writer.specs.WalkLaws.{for-any, begins-node, begins-opened, Going, going-start, going-inside, going-shorter, going-next, going-on, going-end, gap-full, part-full, part-inside, open-stops, parts-stop, close-stops, all-walked}
+
+abbrev μ-term : Measures 3 term-kinds.ps ℕ
+μ-term κs a =
+    length (a .0 .now)
+
+abbrev term-at : ℕ → In 3 term-kinds.ps
+term-at t = and 3 term-kinds.ps (is 3 term-kinds.ps μ-term t) term.Pre
+
+abbrev term-below : ℕ → In 3 term-kinds.ps
+term-below t = and 3 term-kinds.ps (falls 3 term-kinds.ps _<_ μ-term t) term.Pre
+
+-- what the callees promise
+abbrev E : ℕ → term-lts.Claims
+E t = (begin-reads.Asked, begin-reads.Learnt, parts-of-reads.Asked, parts-of-reads.Learnt, gap-reads.Asked, gap-reads.Learnt, term-below t, term.Post, finish-reads.Asked, finish-reads.Learnt)
+
+abbrev term-Inv-loop : term-lts.InvT-loop
+term-Inv-loop words names out₀ at inner ink opened quoted from₀ left₀ wanted₀ to₀ out from left wanted to =
+    Going names inner ink quoted words opened out₀ from left to wanted out
+
+abbrev term-μ-loop : term-lts.MeasureT-loop
+term-μ-loop words names out₀ at inner ink opened quoted from₀ left₀ wanted₀ to₀ out from left wanted to =
+    left
+
+term-begin-requires : (t : ℕ) → term-lts.Need-begin-requires (E t) (term-at t) term.Post term-Inv-loop term-μ-loop
+term-begin-requires t c κs =
+    (c .before .before .before .before .pre .1 .0, begins-opened _ _ _ (c .before .before .before .before .pre .1 .1))
+
+term-enum-known-opened : (t : ℕ) → term-lts.Need-enum-known-opened (E t) (term-at t) term.Post term-Inv-loop term-μ-loop
+term-enum-known-opened t c =
+    search needs
+
+term-enum-told : (t : ℕ) → term-lts.Need-enum-told (E t) (term-at t) term.Post term-Inv-loop term-μ-loop
+term-enum-told t c =
+    search needs
+
+term-same-length : (t : ℕ) → term-lts.Need-same-length (E t) (term-at t) term.Post term-Inv-loop term-μ-loop
+term-same-length t c =
+    c .before .before .before .before .begin .kept .1 .1 .0
+
+term-returns : (t : ℕ) → term-lts.Need-returns (E t) (term-at t) term.Post term-Inv-loop term-μ-loop
+term-returns t c =
+    for-any _ _ _ (c .before .before .before .before .before .before .before .before .before .args .words .now) (c .before .before .before .before .before .before .before .before .before .pre .1 .1) _ _ _ _ (open-stops _ _ _ (c .before .before .before .before .before .before .before .before .before .args .words .now) (c .before .before .before .before .before .before .before .before .before .pre .1 .1) _ _ _ _ (c .before .before .before .before .begin .ensures) (c .enum-told .given .1))
+
+term-parts-of-requires : (t : ℕ) → term-lts.Need-parts-of-requires (E t) (term-at t) term.Post term-Inv-loop term-μ-loop
+term-parts-of-requires t c κs =
+    begins-opened _ _ _ (c .before .before .before .before .before .before .before .before .before .before .pre .1 .1)
+
+term-loop-holds : (t : ℕ) → term-lts.Need-loop-holds (E t) (term-at t) term.Post term-Inv-loop term-μ-loop
+term-loop-holds t c =
+    going-start _ _ _ _ (c .before .before .before .before .before .before .before .before .before .before .before .args .words .now) _ _ (c .before .before .before .before .before .before .before .before .before .before .before .pre .1 .1) (c .parts-of .result) refl (c .parts-of .ensures _ _ (begins-node _ _ (c .before .before .before .before .before .before .before .before .before .before .before .args .words .now) (c .before .before .before .before .before .before .before .before .before .before .before .pre .1 .1))) (left-room (c .before .before .before .before .before .before .begin .ensures _ _ (begins-node _ _ (c .before .before .before .before .before .before .before .before .before .before .before .args .words .now) (c .before .before .before .before .before .before .before .before .before .before .before .pre .1 .1))) _ (c .before .before .opened .given .1))
+
+term-gap-requires : (t : ℕ) → term-lts.Need-gap-requires (E t) (term-at t) term.Post term-Inv-loop term-μ-loop
+term-gap-requires t c κs =
+    left-room (c .before .before .loop .inv .laid) _ refl
+
+term-enum-known-start : (t : ℕ) → term-lts.Need-enum-known-start (E t) (term-at t) term.Post term-Inv-loop term-μ-loop
+term-enum-known-start t c =
+    search needs
+
+term-enum-told-2 : (t : ℕ) → term-lts.Need-enum-told-2 (E t) (term-at t) term.Post term-Inv-loop term-μ-loop
+term-enum-told-2 t c =
+    search needs
+
+term-same-length-2 : (t : ℕ) → term-lts.Need-same-length-2 (E t) (term-at t) term.Post term-Inv-loop term-μ-loop
+term-same-length-2 t c =
+    c .before .before .before .before .gap .kept .1 .0 ∙ left-length (c .before .before .before .before .before .before .before .loop .inv .laid) _ refl ∙ c .before .before .before .before .before .before .before .before .before .before .before .before .before .before .begin .kept .1 .1 .0
+
+term-returns-2 : (t : ℕ) → term-lts.Need-returns-2 (E t) (term-at t) term.Post term-Inv-loop term-μ-loop
+term-returns-2 t c =
+    let g = c .before .before .before .before .before .before .before .loop .inv in for-any _ _ _ (c .before .before .before .before .before .before .before .before .before .before .before .before .before .before .before .before .before .before .before .args .words .now) (g .whole) _ _ _ _ (parts-stop _ _ _ (c .before .before .before .before .before .before .before .before .before .before .before .before .before .before .before .before .before .before .before .args .words .now) (g .whole) _ _ _ _ (c .before .before .before .before .before .before .before .before .before .before .before .before .before .before .begin .ensures) _ (c .before .before .before .before .before .before .before .before .before .before .opened .given .1) _ (g .inner′) _ (gap-full _ _ _ _ (c .before .before .before .before .before .before .before .before .before .before .before .before .before .before .before .before .before .before .before .args .words .now) _ _ _ _ _ _ _ g (omega arith) _ _ (c .before .before .before .before .gap .ensures) (c .enum-told2 .given .1)))
+
+term-mul-term : (t : ℕ) → term-lts.Need-mul-term (E t) (term-at t) term.Post term-Inv-loop term-μ-loop
+term-mul-term t c =
+    let l = going-inside _ _ _ _ (c .before .before .before .before .before .before .before .before .before .before .before .before .before .before .before .before .before .before .before .before .args .words .now) _ _ _ _ _ _ _ (c .before .before .before .before .before .before .before .before .loop .inv) in omega (arith, c .before .before .before .before .before .before .before .before .before .before .before .before .before .before .before .before .before .before .before .before .good .0 .1)
+
+term-sub-term : (t : ℕ) → term-lts.Need-sub-term (E t) (term-at t) term.Post term-Inv-loop term-μ-loop
+term-sub-term t c =
+    let l = going-inside _ _ _ _ (c .before .before .before .before .before .before .before .before .before .before .before .before .before .before .before .before .before .before .before .before .args .words .now) _ _ _ _ _ _ _ (c .before .before .before .before .before .before .before .before .loop .inv) in omega arith
+
+term-part-term-start : (t : ℕ) → term-lts.Need-part-term-start (E t) (term-at t) term.Post term-Inv-loop term-μ-loop
+term-part-term-start t c =
+    let l = going-inside _ _ _ _ (c .before .before .before .before .before .before .before .before .before .before .before .before .before .before .before .before .before .before .before .before .args .words .now) _ _ _ _ _ _ _ (c .before .before .before .before .before .before .before .before .loop .inv) in omega arith
+
+term-part-term-end : (t : ℕ) → term-lts.Need-part-term-end (E t) (term-at t) term.Post term-Inv-loop term-μ-loop
+term-part-term-end t c =
+    search needs
+
+term-term-requires : (t : ℕ) → term-lts.Need-term-requires (E t) (term-at t) term.Post term-Inv-loop term-μ-loop
+term-term-requires t c κs =
+    let g = c .before .before .before .before .before .before .before .before .before .before .loop .inv in (omega (arith, going-shorter _ _ _ _ (c .before .before .before .before .before .before .before .before .before .before .before .before .before .before .before .before .before .before .before .before .before .before .args .words .now) _ _ _ _ _ _ _ g, c .before .before .before .before .before .before .before .before .before .before .before .before .before .before .before .before .before .before .before .before .before .before .pre .0), (left-room (c .before .before .before .before .before .before .before .gap .ensures) _ (c .before .before .before .start .given .1), going-next _ _ _ _ (c .before .before .before .before .before .before .before .before .before .before .before .before .before .before .before .before .before .before .before .before .before .before .args .words .now) _ _ _ _ _ _ _ g (omega arith)))
+
+term-enum-known-used : (t : ℕ) → term-lts.Need-enum-known-used (E t) (term-at t) term.Post term-Inv-loop term-μ-loop
+term-enum-known-used t c =
+    search needs
+
+term-enum-told-3 : (t : ℕ) → term-lts.Need-enum-told-3 (E t) (term-at t) term.Post term-Inv-loop term-μ-loop
+term-enum-told-3 t c =
+    search needs
+
+term-same-length-3 : (t : ℕ) → term-lts.Need-same-length-3 (E t) (term-at t) term.Post term-Inv-loop term-μ-loop
+term-same-length-3 t c =
+    c .before .before .before .before .term .kept .1 .1 .0 ∙ c .before .before .before .before .before .before .before .before .before .before .before .before .gap .kept .1 .0 ∙ left-length (c .before .before .before .before .before .before .before .before .before .before .before .before .before .before .before .loop .inv .laid) _ refl ∙ c .before .before .before .before .before .before .before .before .before .before .before .before .before .before .before .before .before .before .before .before .before .before .begin .kept .1 .1 .0
+
+term-returns-3 : (t : ℕ) → term-lts.Need-returns-3 (E t) (term-at t) term.Post term-Inv-loop term-μ-loop
+term-returns-3 t c =
+    let g = c .before .before .before .before .before .before .before .before .before .before .before .before .before .before .before .loop .inv in for-any _ _ _ (c .before .before .before .before .before .before .before .before .before .before .before .before .before .before .before .before .before .before .before .before .before .before .before .before .before .before .before .args .words .now) (g .whole) _ _ _ _ (parts-stop _ _ _ (c .before .before .before .before .before .before .before .before .before .before .before .before .before .before .before .before .before .before .before .before .before .before .before .before .before .before .before .args .words .now) (g .whole) _ _ _ _ (c .before .before .before .before .before .before .before .before .before .before .before .before .before .before .before .before .before .before .before .before .before .before .begin .ensures) _ (c .before .before .before .before .before .before .before .before .before .before .before .before .before .before .before .before .before .before .opened .given .1) _ (g .inner′) _ (part-full _ _ _ _ (c .before .before .before .before .before .before .before .before .before .before .before .before .before .before .before .before .before .before .before .before .before .before .before .before .before .before .before .args .words .now) _ _ _ _ _ _ _ g (omega arith) _ _ (c .before .before .before .before .before .before .before .before .before .before .before .before .gap .ensures) _ (c .before .before .before .before .before .before .before .before .start .given .1) _ _ (c .before .before .before .before .term .ensures) (c .enum-told3 .given .1)))
+
+term-add-from : (t : ℕ) → term-lts.Need-add-from (E t) (term-at t) term.Post term-Inv-loop term-μ-loop
+term-add-from t c =
+    let g = c .before .before .before .before .before .before .before .before .before .before .before .before .before .before .before .before .loop .inv in omega (arith, c .before .before .before .before .before .before .before .before .before .before .before .before .before .before .before .before .before .before .before .before .before .before .before .before .before .before .before .before .good .0 .1, part-inside _ _ _ _ (c .before .before .before .before .before .before .before .before .before .before .before .before .before .before .before .before .before .before .before .before .before .before .before .before .before .before .before .before .args .words .now) _ _ _ _ _ _ _ g (omega arith) _ _ (c .before .before .before .before .before .before .before .before .before .before .before .before .before .gap .ensures) _ (c .before .before .before .before .before .before .before .before .before .start .given .1) _ _ (c .before .before .before .before .before .term .ensures) _ _ (c .before .used .given .1))
+
+term-sub-left : (t : ℕ) → term-lts.Need-sub-left (E t) (term-at t) term.Post term-Inv-loop term-μ-loop
+term-sub-left t c =
+    search needs
+
+term-loop-less : (t : ℕ) → term-lts.Need-loop-less (E t) (term-at t) term.Post term-Inv-loop term-μ-loop
+term-loop-less t c =
+    search needs
+
+term-loop-again : (t : ℕ) → term-lts.Need-loop-again (E t) (term-at t) term.Post term-Inv-loop term-μ-loop
+term-loop-again t c =
+    let g = c .before .before .before .before .before .before .before .before .before .before .before .before .before .before .before .before .loop .inv in going-on _ _ _ _ (c .before .before .before .before .before .before .before .before .before .before .before .before .before .before .before .before .before .before .before .before .before .before .before .before .before .before .before .before .args .words .now) _ _ _ _ _ _ _ g (omega arith) _ _ (c .before .before .before .before .before .before .before .before .before .before .before .before .before .gap .ensures) _ (c .before .before .before .before .before .before .before .before .before .start .given .1) _ _ (c .before .before .before .before .before .term .ensures) _ _ (c .before .used .given .1)
+
+term-finish-requires : (t : ℕ) → term-lts.Need-finish-requires (E t) (term-at t) term.Post term-Inv-loop term-μ-loop
+term-finish-requires t c κs =
+    let g = c .before .before .loop .inv in (left-room (g .laid) _ refl, some-words (c .before .before .before .before .before .before .before .before .before .before .before .before .before .before .args .words .now) _ _ (begins-node _ _ (c .before .before .before .before .before .before .before .before .before .before .before .before .before .before .args .words .now) (g .whole)))
+
+term-enum-known-end : (t : ℕ) → term-lts.Need-enum-known-end (E t) (term-at t) term.Post term-Inv-loop term-μ-loop
+term-enum-known-end t c =
+    search needs
+
+term-enum-told-4 : (t : ℕ) → term-lts.Need-enum-told-4 (E t) (term-at t) term.Post term-Inv-loop term-μ-loop
+term-enum-told-4 t c =
+    search needs
+
+term-same-length-4 : (t : ℕ) → term-lts.Need-same-length-4 (E t) (term-at t) term.Post term-Inv-loop term-μ-loop
+term-same-length-4 t c =
+    c .before .before .before .before .finish .kept .1 .0 ∙ left-length (c .before .before .before .before .before .before .before .loop .inv .laid) _ refl ∙ c .before .before .before .before .before .before .before .before .before .before .before .before .before .before .begin .kept .1 .1 .0
+
+term-returns-4 : (t : ℕ) → term-lts.Need-returns-4 (E t) (term-at t) term.Post term-Inv-loop term-μ-loop
+term-returns-4 t c =
+    let g = c .before .before .before .before .before .before .before .loop .inv in for-any _ _ _ (c .before .before .before .before .before .before .before .before .before .before .before .before .before .before .before .before .before .before .before .args .words .now) (g .whole) _ _ _ _ (close-stops _ _ _ (c .before .before .before .before .before .before .before .before .before .before .before .before .before .before .before .before .before .before .before .args .words .now) (g .whole) _ _ _ _ (c .before .before .before .before .before .before .before .before .before .before .before .before .before .before .begin .ensures) _ (c .before .before .before .before .before .before .before .before .before .before .opened .given .1) _ (g .inner′) _ _ (going-end _ _ _ _ (c .before .before .before .before .before .before .before .before .before .before .before .before .before .before .before .before .before .before .before .args .words .now) _ _ _ _ _ _ _ g (omega arith) .1) _ _ (c .before .before .before .before .finish .ensures) (c .enum-told4 .given .1))
+
+term-same-length-5 : (t : ℕ) → term-lts.Need-same-length-5 (E t) (term-at t) term.Post term-Inv-loop term-μ-loop
+term-same-length-5 t c =
+    c .before .before .before .before .before .finish .kept .1 .0 ∙ left-length (c .before .before .before .before .before .before .before .before .loop .inv .laid) _ refl ∙ c .before .before .before .before .before .before .before .before .before .before .before .before .before .before .before .begin .kept .1 .1 .0
+
+term-returns-5 : (t : ℕ) → term-lts.Need-returns-5 (E t) (term-at t) term.Post term-Inv-loop term-μ-loop
+term-returns-5 t c =
+    let g = c .before .before .before .before .before .before .before .before .loop .inv in let z = going-end _ _ _ _ (c .before .before .before .before .before .before .before .before .before .before .before .before .before .before .before .before .before .before .before .before .args .words .now) _ _ _ _ _ _ _ g (omega arith) in for-any _ _ _ (c .before .before .before .before .before .before .before .before .before .before .before .before .before .before .before .before .before .before .before .before .args .words .now) (g .whole) _ _ _ _ (all-walked _ _ _ (c .before .before .before .before .before .before .before .before .before .before .before .before .before .before .before .before .before .before .before .before .args .words .now) (g .whole) _ _ _ _ (c .before .before .before .before .before .before .before .before .before .before .before .before .before .before .before .begin .ensures) _ (c .before .before .before .before .before .before .before .before .before .before .before .opened .given .1) _ (g .inner′) _ _ (z .1) _ _ (c .before .before .before .before .before .finish .ensures) _ _ (z .0) (c .before .end .given .1))
+
+pub +term-spec : {M : Type 1} → statement M
++term-spec = close μ-term λ t. term-lts.spec (E t) (term-at t)
+    term.Post
+    term-Inv-loop
+    term-μ-loop
+    (term-begin-requires t)
+    (term-enum-known-opened t)
+    (term-enum-told t)
+    (term-same-length t)
+    (term-returns t)
+    (term-parts-of-requires t)
+    (term-loop-holds t)
+    (term-gap-requires t)
+    (term-enum-known-start t)
+    (term-enum-told-2 t)
+    (term-same-length-2 t)
+    (term-returns-2 t)
+    (term-mul-term t)
+    (term-sub-term t)
+    (term-part-term-start t)
+    (term-part-term-end t)
+    (term-term-requires t)
+    (term-enum-known-used t)
+    (term-enum-told-3 t)
+    (term-same-length-3 t)
+    (term-returns-3 t)
+    (term-add-from t)
+    (term-sub-left t)
+    (term-loop-less t)
+    (term-loop-again t)
+    (term-finish-requires t)
+    (term-enum-known-end t)
+    (term-enum-told-4 t)
+    (term-same-length-4 t)
+    (term-returns-4 t)
+    (term-same-length-5 t)
+    (term-returns-5 t)

@@ -1,0 +1,67 @@
+-- A node and its parts, by its code.
+use borrow.Author.Needs.{needs}
+use Rattle.writer.proofs.term.parts_of.Statement.{statement}
+use Rattle.writer.proofs.term.parts_of.Tie as tie
+use Rattle.writer.proofs.term.parts_of.Reads as reads
+use Rattle.writer.proofs.term.parts_of.Lts as lts
+use Rattle.writer.proofs.numbers.wide.Reads as wide-reads
+use native.Mathlib.Omega.{arith}
+use mathlib.Core.Path.{_≡_}
+use lib.ListN.{getD}
+use Rattle.writer.specs.OpenedLaws.{some-words, two-words, code-most}
+use Rattle.writer.specs.WalkLaws.{shape, shaped-if, shaped-lambda, shaped-leaf, shaped-list, shaped-application}
+
+shared-slice-read-code : tie.Need-shared-slice-read-code
+shared-slice-read-code c =
+    let o = c .before .before .before .pre in omega (arith, some-words (c .before .before .before .args .words .now) (o .it) (o .left) (o .is))
+
+returns : tie.Need-returns
+unfolding shape
+returns c =
+    λ x l h. shaped-if (c .before .before .before .before .args .words .now) x l h (c .if1 .taken)
+
+returns-2 : tie.Need-returns-2
+unfolding shape
+returns-2 c =
+    λ x l h. shaped-lambda (c .before .before .before .before .before .args .words .now) x l h (c .if2 .taken)
+
+returns-3 : tie.Need-returns-3
+unfolding shape
+returns-3 c =
+    λ x l h. shaped-leaf (c .before .before .before .before .before .before .args .words .now) x l h (c .if3 .taken)
+
+shared-slice-read-wide : tie.Need-shared-slice-read-wide
+shared-slice-read-wide c =
+    let o = c .before .before .before .before .before .before .before .pre in omega (arith, two-words (c .before .before .before .before .before .before .before .args .words .now) (o .it) (o .left) (o .is) (c .before .before .before .if1 .left))
+
+wide-requires : tie.Need-wide-requires
+wide-requires c κs =
+    search needs
+
+returns-4 : tie.Need-returns-4
+unfolding shape
+returns-4 c =
+    λ x l h. shaped-list (c .before .before .before .before .before .before .before .before .before .args .words .now) x l h _ (c .before .wide .ensures) (c .if4 .taken)
+
+add-t9 : tie.Need-add-t9
+add-t9 c =
+    omega (arith, c .before .wide .ensures, c .before .before .shared-slice-known4 .given 1)
+
+returns-5 : tie.Need-returns-5
+unfolding shape
+returns-5 c =
+    λ x l h. let e : getD (c .before .before .before .before .before .before .before .before .before .args .words .now) 0 0 ≡ 8 = omega (arith, code-most (c .before .before .before .before .before .before .before .before .before .args .words .now) x l h, c .before .before .before .before .before .if1 .left, c .before .before .before .before .if2 .left, c .before .before .before .if3 .left, c .if4 .left) in shaped-application (c .before .before .before .before .before .before .before .before .before .args .words .now) x l h _ (c .before .wide .ensures) e
+
+pub parts-of-spec : {M : Type 1} → statement M
+parts-of-spec =
+    tie.close
+    (tie.spec
+    shared-slice-read-code
+    returns
+    returns-2
+    returns-3
+    shared-slice-read-wide
+    wide-requires
+    returns-4
+    add-t9
+    returns-5)

@@ -1,0 +1,105 @@
+-- Laws of laying bytes: one text after another is both together.
+use mathlib.Core.Path.{_≡_, refl, sym, ap, subst, _∙_}
+use mathlib.Core.Bool.{Bool, true, false}
+use mathlib.Core.List.{List, [], _∷_, _++_, append-assoc, append-nil}
+use Prim.Native.Nat.{ℕ, suc, _+_, _≤_, _<_}
+use native.Mathlib.Omega.{arith}
+use native.Mathlib.Numerals.{add-one}
+use native.Mathlib.Nat.{add-zero}
+use lib.ListN.{length, take, drop, set, getD, length-append, take-append-drop, length-drop}
+use lib.Seq.{set-split, append-snoc, paste, paste-suc, take-length, length-take-le, take-at, drop-at, drop-drop}
+use Rattle.writer.specs.declared.bytes.Put.{Put}
+use Rattle.writer.specs.declared.bytes.Put.the-variants.{Done, Full}
+use Rattle.writer.specs.Laid.{laid, Left, done, full}
+
+-- ---- one text
+
+pub laid-dry : (ink : Bool) (x : List ℕ) (at : ℕ) (d : List ℕ) → ink ≡ false → laid ink x at d ≡ d
+unfolding laid
+laid-dry ink x at d h = rw h
+
+pub laid-wet : (ink : Bool) (x : List ℕ) (at : ℕ) (d : List ℕ) → ink ≡ true → laid ink x at d ≡ take at d ++ x ++ drop (at + length x) d
+unfolding laid
+laid-wet ink x at d h = rw h
+
+pub laid-none : (ink : Bool) (at : ℕ) (d : List ℕ) → laid ink [] at d ≡ d
+unfolding laid
+laid-none true at d = rw (append-nil (take at d), add-zero at) (take-append-drop at d)
+laid-none false at d = refl
+
+pub laid-length : (ink : Bool) (x : List ℕ) (at : ℕ) (d : List ℕ) → at + length x ≤ length d → length (laid ink x at d) ≡ length d
+unfolding laid
+laid-length true x at d h =
+    let k : at ≤ length d = omega arith in
+    omega (arith, length-append (take at d ++ x) (drop (at + length x) d), length-append (take at d) x, length-take-le at d k, length-drop (at + length x) d)
+laid-length false x at d h = refl
+
+pub laid-byte : (b at : ℕ) (d : List ℕ) → at < length d → set d at b ≡ take at d ++ (b ∷ []) ++ drop (at + 1) d
+laid-byte b at d h = set-split d at b h ∙ rw add-one (sym (append-snoc (take at d) b (drop (suc at) d)))
+
+-- ---- a copy
+
+pub copy-more : (d : List ℕ) (at : ℕ) (s : List ℕ) (e : List ℕ) (i : ℕ) → at + length s ≤ length d → i < length s → e ≡ paste d at s i
+    → set e (at + i) (getD s i 0) ≡ paste d at s (i + 1)
+copy-more d at s e i h l p =
+    ap (λ (z : List ℕ). set z (at + i) (getD s i 0)) p ∙ paste-suc d at s i 0 (omega arith) l ∙ ap (paste d at s) (sym (add-one i))
+
+pub copy-done : (d : List ℕ) (at : ℕ) (s : List ℕ) (e : List ℕ) (i : ℕ) (ink : Bool) → i ≡ length s → ink ≡ true → e ≡ paste d at s i → e ≡ laid ink s at d
+copy-done d at s e i ink l h p =
+    p ∙ ap (paste d at s) l ∙ ap (λ (z : List ℕ). take at d ++ z ++ drop (at + length s) d) (take-length s) ∙ sym (laid-wet ink s at d h)
+
+-- ---- one after another
+
+pub laid-append : (ink : Bool) (x y : List ℕ) (at to : ℕ) (d : List ℕ) → to ≡ at + length x → to ≤ length d → laid ink y to (laid ink x at d) ≡ laid ink (x ++ y) at d
+unfolding laid
+laid-append false x y at to d e h = refl
+laid-append true x y at to d e h =
+    let k : at ≤ length d = omega arith in
+    let l : length (take at d ++ x) ≡ to = omega (arith, length-append (take at d) x, length-take-le at d k) in
+    let m : at + length (x ++ y) ≡ to + length y = omega (arith, length-append x y) in
+    let p : take to (take at d ++ x ++ drop (at + length x) d) ≡ take at d ++ x = take-at (take at d ++ x) (drop (at + length x) d) to l in
+    let q : drop (to + length y) (take at d ++ x ++ drop (at + length x) d) ≡ drop (to + length y) d =
+    sym (drop-drop (length y) to (take at d ++ x ++ drop (at + length x) d))
+    ∙ ap (drop (length y)) (drop-at (take at d ++ x) (drop (at + length x) d) to l ∙ ap (λ (n : ℕ). drop n d) (sym e))
+    ∙ drop-drop (length y) to d in
+    rw (p, q, m) (simp append-assoc)
+
+module _ {ink : Bool} {x : List ℕ} {at : ℕ} {d e : List ℕ} where
+  -- where it ends, that it fits, and the output
+  pub done-is : {to : ℕ} → Left ink x at d e (Done to) → (to ≡ at + length x) × (to ≤ length d) × (e ≡ laid ink x at d)
+  done-is (done p q s) = (p, q, s)
+
+  pub full-is : Left ink x at d e Full → (length d < at + length x) × (ink ≡ false → e ≡ d)
+  full-is (full p q) = (p, q)
+
+  module _ {r : Put} (l : Left ink x at d e r) where
+    pub left-done : (to : ℕ) → r ≡ Done to → Left ink x at d e (Done to)
+    left-done to h = subst (λ (z : Put). Left ink x at d e z) h l
+
+    -- how long the output is, and that the place is within it
+    pub left-length : (to : ℕ) → r ≡ Done to → length e ≡ length d
+    left-length to h = let k = done-is (left-done to h) in ap length (k .2) ∙ laid-length ink x at d (omega arith)
+
+    pub left-room : (to : ℕ) → r ≡ Done to → to ≤ length e
+    left-room to h = let k = done-is (left-done to h) in omega (arith, left-length to h)
+
+    -- the first of two texts does not fit
+    pub left-full : (y : List ℕ) → r ≡ Full → Left ink (x ++ y) at d e Full
+    left-full y h = let k = full-is (subst (λ (z : Put). Left ink x at d e z) h l) in full (omega (arith, length-append x y)) (k .1)
+
+    -- a second text after it
+    pub left-then : {y f : List ℕ} {s : Put} (to : ℕ) → r ≡ Done to → Left ink y to e f s → Left ink (x ++ y) at d f s
+    left-then {y} to h (done {to = u} p q m) =
+        let k = done-is (left-done to h) in
+        done {to = u} (omega (arith, length-append x y)) (omega (arith, left-length to h)) (m ∙ ap (laid ink y to) (k .2) ∙ laid-append ink x y at to d (k .0) (k .1))
+    left-then {y} to h (full p q) =
+        let k = done-is (left-done to h) in
+        full (omega (arith, length-append x y, left-length to h)) (λ n. q n ∙ k .2 ∙ laid-dry ink x at d n)
+
+  -- an equal text
+  pub left-is : {y : List ℕ} {r : Put} → x ≡ y → Left ink x at d e r → Left ink y at d e r
+  left-is {r = r} h l = subst (λ (z : List ℕ). Left ink z at d e r) h l
+
+-- nothing laid
+pub left-none : (ink : Bool) (at : ℕ) (d : List ℕ) → at ≤ length d → Left ink [] at d d (Done at)
+left-none ink at d h = done (sym (add-zero at)) h (sym (laid-none ink at d))

@@ -1,0 +1,198 @@
+-- A node by its code, with the words that stand with it.
+use mathlib.Core.Path.{_≡_, refl, sym, ap, subst, _∙_}
+use mathlib.Core.Bool.{Bool, true, false, cond, false≢true}
+use mathlib.Core.List.{List, [], _∷_, _++_}
+use Prim.Native.Nat.{ℕ, zero, suc, _+_, _-_, _*_, _≤_, _<_}
+use native.Mathlib.Omega.{arith}
+use native.Mathlib.Numerals.{add-one}
+use lib.Dec.{leb, ltb}
+use lib.ListN.{length, getD, take, drop}
+use borrow.Author.Tests.{leb-true, ltb-true, ne-eqb}
+use Rattle.words.specs.Lists.{within}
+use Rattle.datum.specs.NameTable.{lengthAt, nameAt, hasName}
+use Rattle.datum.specs.Constant.{isConstant, constantWords, integer, boolean}
+use Rattle.core_term.specs.Node.{Node, nodeWords, got, missing, nodeAt, sound, isNode, variableN, operationN, constantN, nameN, listN, ifN, lambdaN, applicationN}
+use Rattle.core_term.specs.NodeLaws.{both, node-read}
+use Rattle.core_term.specs.WindowLaws.{case}
+use Rattle.core_term.specs.HeadLaws.{at-none, at-past, short-missing, lambda-short, variable-at, operation-at, integer-at, boolean-at, name-at, list-at, if-at, lambda-at, application-at}
+use Rattle.words.specs.Text.{bytes}
+use Rattle.core_term.specs.Decimal.{decimal, integerText}
+use Rattle.core_term.specs.Text.{variableText, operationText, constantText}
+use Rattle.writer.specs.Pieces.{formalsText, opening, closing}
+use Rattle.writer.specs.PiecesLaws.{list-inner, list-quoted}
+use Rattle.writer.specs.Opened.{named, Opened}
+
+-- ---- names
+
+-- a slot that exists, with length 1 to 63
+pub record Slot (names : List ℕ) (n : ℕ) : Type 0 where
+  pub few : n < 1024
+  pub there : 64 * n + 64 ≤ length names
+  pub short : getD names (64 * n) 0 ≤ 63
+
+pub slot-of : (names : List ℕ) (n : ℕ) → hasName names n ≡ true → Slot names n
+unfolding hasName within lengthAt
+slot-of names n h =
+    let a = both (ltb n 1024) _ h in
+    let b = both (leb (64 * suc n) (length names)) _ (a .1) in
+    let c = both (leb 1 (getD names (64 * n) 0)) (leb (getD names (64 * n) 0) 63) (b .1) in
+    record { few = ltb-true n 1024 (a .0); there = omega (arith, leb-true (64 * suc n) (length names) (b .0)); short = leb-true (getD names (64 * n) 0) 63 (c .1) }
+
+-- its bytes, as code cuts them out
+pub name-cut : (names : List ℕ) (n l : ℕ) → l ≡ getD names (64 * n) 0 → take (64 * n + 1 + l - (64 * n + 1)) (drop (64 * n + 1) names) ≡ nameAt names n
+unfolding nameAt lengthAt
+name-cut names n l e = let h : 64 * n + 1 + l - (64 * n + 1) ≡ getD names (64 * n) 0 = omega arith in rw (h, add-one (64 * n))
+
+-- ---- nodes
+
+no-got : {X : Type 0} (x : Node) (r : List ℕ) → missing ≡ got x r → X
+no-got x r h = let z : _≡_ {A = ℕ} 0 1 = cc in absurd (omega arith)
+
+sound-is : (y : Node) (s : List ℕ) (x : Node) (r : List ℕ) → sound (got y s) ≡ got x r → (x ≡ y) × (isNode y ≡ true)
+unfolding sound
+sound-is y s x r h = go (isNode y) refl h
+  where
+    go : (b : Bool) → isNode y ≡ b → cond b (got y s) missing ≡ got x r → (x ≡ y) × (isNode y ≡ true)
+    go true e k = (cc, e)
+    go false e k = no-got x r k
+
+module _ (ws : List ℕ) (x : Node) (r : List ℕ) (is : nodeAt ws ≡ got x r) where
+  pub some-words : 1 ≤ length ws
+  some-words = go (length ws) refl
+    where
+      go : (n : ℕ) → length ws ≡ n → 1 ≤ length ws
+      go zero h = no-got x r (sym (at-none ws h) ∙ is)
+      go (suc n) h = omega arith
+
+  pub two-words : (getD ws 0 0 ≡ 6 → ⊥) → 2 ≤ length ws
+  two-words k = case (length ws) 2 (λ l. no-got x r (sym (short-missing ws k l) ∙ is)) (λ l. l)
+
+  pub three-words : getD ws 0 0 ≡ 7 → 3 ≤ length ws
+  three-words e = case (length ws) 3 (λ l. no-got x r (sym (lambda-short ws e l) ∙ is)) (λ l. l)
+
+  pub code-most : getD ws 0 0 ≤ 8
+  code-most = case (getD ws 0 0) 9 (λ l. omega arith) (λ l. no-got x r (sym (at-past ws l) ∙ is))
+
+  pub is-variable : getD ws 0 0 ≡ 0 → x ≡ variableN (getD ws 1 0)
+  is-variable e = let k = sym is ∙ variable-at ws (two-words (λ h. omega arith)) e in cc
+
+  pub is-operation : getD ws 0 0 ≡ 1 → x ≡ operationN (getD ws 1 0)
+  is-operation e = let k = sym is ∙ operation-at ws (two-words (λ h. omega arith)) e in cc
+
+  pub is-integer : getD ws 0 0 ≡ 2 → x ≡ constantN (integer (getD ws 1 0))
+  is-integer e = let k = sym is ∙ integer-at ws (two-words (λ h. omega arith)) e in cc
+
+  pub is-boolean : getD ws 0 0 ≡ 3 → x ≡ constantN (boolean (getD ws 1 0))
+  is-boolean e = sound-is _ _ x r (sym (boolean-at ws (two-words (λ h. omega arith)) e) ∙ is) .0
+
+  pub is-name : getD ws 0 0 ≡ 4 → x ≡ nameN (getD ws 1 0)
+  is-name e = let k = sym is ∙ name-at ws (two-words (λ h. omega arith)) e in cc
+
+  pub is-list : getD ws 0 0 ≡ 5 → x ≡ listN (getD ws 1 0)
+  is-list e = let k = sym is ∙ list-at ws (two-words (λ h. omega arith)) e in cc
+
+  pub is-if : getD ws 0 0 ≡ 6 → x ≡ ifN
+  is-if e = let k = sym is ∙ if-at ws some-words e in cc
+
+  pub is-lambda : getD ws 0 0 ≡ 7 → x ≡ lambdaN (getD ws 1 0) (getD ws 2 0)
+  is-lambda e = sound-is _ _ x r (sym (lambda-at ws (three-words e) e) ∙ is) .0
+
+  pub is-application : getD ws 0 0 ≡ 8 → x ≡ applicationN (getD ws 1 0)
+  is-application e = let k = sym is ∙ application-at ws (two-words (λ h. omega arith)) e in cc
+
+  -- ---- what opens and closes it
+
+  module _ (spell : ℕ → List ℕ) (inner : Bool) where
+    pub opens-variable : getD ws 0 0 ≡ 0 → 118 ∷ decimal (getD ws 1 0) ≡ opening spell inner x
+    unfolding opening variableText
+    opens-variable e = rw (is-variable e)
+
+    pub opens-operation : getD ws 0 0 ≡ 1 → 111 ∷ decimal (getD ws 1 0) ≡ opening spell inner x
+    unfolding opening operationText
+    opens-operation e = rw (is-operation e)
+
+    pub opens-integer : getD ws 0 0 ≡ 2 → integerText (getD ws 1 0) ≡ opening spell inner x
+    unfolding opening constantText integer
+    opens-integer e = rw (is-integer e)
+
+    pub opens-false : getD ws 0 0 ≡ 3 → getD ws 1 0 ≡ 0 → 35 ∷ 102 ∷ [] ≡ opening spell inner x
+    unfolding opening constantText boolean bytes
+    opens-false e h = rw (is-boolean e, h)
+
+    pub opens-true : getD ws 0 0 ≡ 3 → (getD ws 1 0 ≡ 0 → ⊥) → 35 ∷ 116 ∷ [] ≡ opening spell inner x
+    unfolding opening constantText boolean bytes
+    opens-true e h = rw (is-boolean e, ne-eqb _ _ h)
+
+    pub opens-name : getD ws 0 0 ≡ 4 → opening spell inner (nameN (getD ws 1 0)) ≡ opening spell inner x
+    opens-name e = ap (opening spell inner) (sym (is-name e))
+
+    pub opens-inner : getD ws 0 0 ≡ 5 → inner ≡ true → 40 ∷ [] ≡ opening spell inner x
+    opens-inner e h = sym (list-inner spell inner (getD ws 1 0) h) ∙ ap (opening spell inner) (sym (is-list e))
+
+    pub opens-quoted : getD ws 0 0 ≡ 5 → inner ≡ false → 40 ∷ 113 ∷ 117 ∷ 111 ∷ 116 ∷ 101 ∷ 32 ∷ 40 ∷ [] ≡ opening spell inner x
+    opens-quoted e h = sym (list-quoted spell inner (getD ws 1 0) h) ∙ ap (opening spell inner) (sym (is-list e))
+
+    pub opens-if : getD ws 0 0 ≡ 6 → 40 ∷ 105 ∷ 102 ∷ [] ≡ opening spell inner x
+    unfolding opening bytes
+    opens-if e = rw (is-if e)
+
+    pub opens-lambda : getD ws 0 0 ≡ 7 → bytes "(lambda (" ++ (formalsText false (getD ws 1 0) (getD ws 2 0) ++ bytes ")") ≡ opening spell inner x
+    unfolding opening
+    opens-lambda e = rw (is-lambda e)
+
+    pub opens-application : getD ws 0 0 ≡ 8 → 40 ∷ [] ≡ opening spell inner x
+    unfolding opening bytes
+    opens-application e = rw (is-application e)
+
+  pub closes-list : (inner : Bool) → getD ws 0 0 ≡ 5 → inner ≡ false → 41 ∷ 41 ∷ [] ≡ closing inner x
+  unfolding closing bytes
+  closes-list inner e h = rw (is-list e, h)
+
+  -- the code, as the node has it
+  pub code-is : getD ws 0 0 ≡ getD (nodeWords x ++ r) 0 0
+  code-is = ap (λ (l : List ℕ). getD l 0 0) (node-read ws x r is .words)
+
+-- a leaf, and what has parts
+leaf-closes : (inner : Bool) (x : Node) (r : List ℕ) → getD (nodeWords x ++ r) 0 0 < 5 → [] ≡ closing inner x
+unfolding closing nodeWords
+leaf-closes inner (variableN n) r h = refl
+leaf-closes inner (operationN n) r h = refl
+leaf-closes inner (constantN a) r h = refl
+leaf-closes inner (nameN n) r h = refl
+leaf-closes inner (listN n) r h = absurd (omega arith)
+leaf-closes inner ifN r h = absurd (omega arith)
+leaf-closes inner (lambdaN first n) r h = absurd (omega arith)
+leaf-closes inner (applicationN n) r h = absurd (omega arith)
+
+constant-code : (k : ℕ) (p q : Bool) → getD (false ∷ p ∷ q ∷ []) k false ≡ true → suc k ≤ 3
+constant-code zero p q h = omega arith
+constant-code (suc zero) p q h = omega arith
+constant-code (suc (suc zero)) p q h = omega arith
+constant-code (suc (suc (suc k))) p q h = absurd (false≢true h)
+
+rest-closes : (inner : Bool) (x : Node) (r : List ℕ) → isNode x ≡ true → 5 ≤ getD (nodeWords x ++ r) 0 0 → (getD (nodeWords x ++ r) 0 0 ≡ 5 → inner ≡ true) → 41 ∷ [] ≡ closing inner x
+unfolding closing nodeWords bytes isNode isConstant constantWords
+rest-closes inner (variableN n) r p h k = absurd (omega arith)
+rest-closes inner (operationN n) r p h k = absurd (omega arith)
+rest-closes inner (constantN a) r p h k = absurd (omega (arith, constant-code (a .kind) _ _ p))
+rest-closes inner (nameN n) r p h k = absurd (omega arith)
+rest-closes inner (listN n) r p h k = rw (k refl)
+rest-closes inner ifN r p h k = refl
+rest-closes inner (lambdaN first n) r p h k = refl
+rest-closes inner (applicationN n) r p h k = refl
+
+module _ (ws : List ℕ) (x : Node) (r : List ℕ) (is : nodeAt ws ≡ got x r) (inner : Bool) where
+  pub closes-leaf : getD ws 0 0 < 5 → [] ≡ closing inner x
+  closes-leaf h = leaf-closes inner x r (omega (arith, code-is ws x r is))
+
+  pub closes-one : 5 ≤ getD ws 0 0 → (getD ws 0 0 ≡ 5 → inner ≡ true) → 41 ∷ [] ≡ closing inner x
+  closes-one h k = rest-closes inner x r (node-read ws x r is .proper) (omega (arith, code-is ws x r is)) (λ e. k (code-is ws x r is ∙ e))
+
+-- a name that stands there has a slot
+pub name-spelled : (names ws : List ℕ) (o : Opened names ws) → getD ws 0 0 ≡ 4 → hasName names (getD ws 1 0) ≡ true
+unfolding named
+name-spelled names ws o e = subst (λ (y : Node). named names y ≡ true) (is-name ws (o .it) (o .left) (o .is) e) (o .spelled)
+
+-- an equal lambda opens equally
+pub lambda-same : (a b m n : ℕ) → a ≡ b → m ≡ n → bytes "(lambda (" ++ (formalsText false a m ++ bytes ")") ≡ bytes "(lambda (" ++ (formalsText false b n ++ bytes ")")
+lambda-same a b m n p q = rw (p, q)

@@ -1,0 +1,47 @@
+-- A walk through a term's words that lays its text.
+use mathlib.Core.Path.{_≡_}
+use mathlib.Core.Bool.{Bool, true, _&&_}
+use mathlib.Core.List.{List, _++_}
+use Prim.Native.Nat.{ℕ}
+use lib.ListN.{length}
+use Rattle.core_term.specs.Node.{Node, nodeWords, parts, isNode, isListNode}
+use Rattle.core_term.specs.Term.{Plain}
+use Rattle.core_term.specs.Words.{encode}
+use Rattle.core_term.specs.Every.{Asked, every}
+use Rattle.core_term.specs.Parts.{isDatum}
+use Rattle.writer.specs.declared.bytes.Put.the-variants as P
+use Rattle.writer.specs.declared.term.Step.{Step}
+use Rattle.writer.specs.declared.term.Step.the-variants as S
+use Rattle.writer.specs.declared.term.Shape.{Shape}
+use Rattle.writer.specs.Laid.{Left}
+use Rattle.writer.specs.Pieces.{gapFirst}
+use Rattle.writer.specs.Opened.{named}
+
+-- what a node says of its words
+pub record Shaped (x : Node) (s : Shape) : Type 0 where
+  pub own : s .own ≡ length (nodeWords x)
+  pub rest : s .parts ≡ parts x
+  pub gap : s .wanted ≡ gapFirst x
+  pub inner : s .quoted ≡ isListNode x
+
+-- every node is one, and its name has a slot
+unfoldable pub spelling : List ℕ → Asked (Unit {0})
+spelling names = record { test = λ e b x. isNode x && named names x; enter = λ e b x. e }
+
+-- a term that can be written; inside quote, a datum
+pub record Fits (names : List ℕ) (inner : Bool) (t : Plain) : Type 0 where
+  pub before : ℕ
+  pub fine : every (spelling names) tt before t ≡ true
+  pub datum : inner ≡ true → isDatum t ≡ true
+
+-- words that begin with one
+pub record Begins (names : List ℕ) (inner : Bool) (ws : List ℕ) : Type 0 where
+  pub term : Plain
+  pub rest : List ℕ
+  pub fits : Fits names inner term
+  pub words : ws ≡ encode term ++ rest
+
+-- n words walked through and text x laid
+pub data Walked (ink : Bool) (x : List ℕ) (n at : ℕ) (d e : List ℕ) : Step → Type 0 where
+  walked : {used to : ℕ} → used ≡ n → Left ink x at d e (P.Done to) → Walked ink x n at d e (S.Done used to)
+  stopped : Left ink x at d e P.Full → Walked ink x n at d e S.Full

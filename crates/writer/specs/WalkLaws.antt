@@ -1,0 +1,312 @@
+-- Laws of the walk: a node's shape, then its parts one after another.
+use mathlib.Core.Path.{_≡_, refl, sym, ap, subst, _∙_}
+use mathlib.Core.Bool.{Bool, true, false, _&&_}
+use mathlib.Core.List.{List, [], _++_, append-assoc, append-nil}
+use Prim.Native.Nat.{ℕ, suc, _+_, _-_, _≤_, _<_}
+use native.Mathlib.Omega.{arith}
+use native.Mathlib.Numerals.{add-one}
+use lib.ListN.{length, getD, take, drop, length-append, length-drop}
+use lib.Seq.{drop-append-seam, drop-at, drop-drop}
+use Rattle.datum.specs.Constant.{constantWords}
+use Rattle.core_term.specs.Node.{Node, got, nodeAt, nodeWords, parts, binds, isNode, isListNode, variableN, operationN, constantN, nameN, listN, ifN, lambdaN, applicationN}
+use Rattle.datum.specs.NameTable.{nameAt}
+use Rattle.core_term.specs.NodeLaws.{both, node-round, node-some, node-read}
+use Rattle.core_term.specs.Term.{noneC, moreC, Plain, Plains, count, variables}
+use Rattle.core_term.specs.Words.{encode, encodeAll}
+use Rattle.core_term.specs.DecodeLaws.{encode-unique}
+use Rattle.core_term.specs.Every.{every, everyTerm, proper}
+use Rattle.core_term.specs.EveryLaws.{every-from}
+use Rattle.core_term.specs.Parts.{node, partsOf, isDatum, areData}
+use Rattle.core_term.specs.PartsLaws.{encode-parts, every-parts, count-parts, list-data}
+use Rattle.core_term.specs.ShapeLaws.{rest-is}
+use Rattle.writer.specs.declared.bytes.Put.{Put}
+use Rattle.writer.specs.declared.bytes.Put.the-variants as P
+use Rattle.writer.specs.declared.term.Step.{Step}
+use Rattle.writer.specs.declared.term.Step.the-variants as S
+use Rattle.writer.specs.declared.term.Shape.{Shape}
+use Rattle.writer.specs.Laid.{Left}
+use Rattle.writer.specs.LaidLaws.{left-full, left-then, left-is, left-none}
+use Rattle.writer.specs.Pieces.{gapText, gapFirst, opening, closing, textIn, partsText}
+use Rattle.writer.specs.PiecesLaws.{pieces}
+use Rattle.writer.specs.Opened.{named, Opened}
+use Rattle.writer.specs.OpenedLaws.{code-is, is-list, is-if, is-lambda, is-application}
+use Rattle.writer.specs.Walk.{Shaped, spelling, Fits, Begins, Walked, walked, stopped}
+
+-- ---- shapes
+
+unfoldable pub shape : ℕ → ℕ → Bool → Bool → Shape
+shape own n wanted inner = record { own = own; parts = n; wanted = wanted; quoted = inner }
+
+leaf-shape : (x : Node) (r : List ℕ) → getD (nodeWords x ++ r) 0 0 < 5 → Shaped x (shape 2 0 false false)
+unfolding shape nodeWords constantWords parts gapFirst isListNode
+leaf-shape (variableN n) r h = record { own = refl; rest = refl; gap = refl; inner = refl }
+leaf-shape (operationN n) r h = record { own = refl; rest = refl; gap = refl; inner = refl }
+leaf-shape (constantN a) r h = record { own = refl; rest = refl; gap = refl; inner = refl }
+leaf-shape (nameN n) r h = record { own = refl; rest = refl; gap = refl; inner = refl }
+leaf-shape (listN n) r h = absurd (omega arith)
+leaf-shape ifN r h = absurd (omega arith)
+leaf-shape (lambdaN first n) r h = absurd (omega arith)
+leaf-shape (applicationN n) r h = absurd (omega arith)
+
+module _ (ws : List ℕ) (x : Node) (r : List ℕ) (is : nodeAt ws ≡ got x r) where
+  pub shaped-if : getD ws 0 0 ≡ 6 → Shaped x (shape 1 3 true false)
+  unfolding shape nodeWords parts gapFirst isListNode
+  shaped-if e = rw (is-if ws x r is e) (record { own = refl; rest = refl; gap = refl; inner = refl })
+
+  pub shaped-lambda : getD ws 0 0 ≡ 7 → Shaped x (shape 3 1 true false)
+  unfolding shape nodeWords parts gapFirst isListNode
+  shaped-lambda e = rw (is-lambda ws x r is e) (record { own = refl; rest = refl; gap = refl; inner = refl })
+
+  pub shaped-leaf : getD ws 0 0 < 5 → Shaped x (shape 2 0 false false)
+  shaped-leaf h = leaf-shape x r (omega (arith, code-is ws x r is))
+
+  pub shaped-list : (n : ℕ) → n ≡ getD ws 1 0 → getD ws 0 0 ≡ 5 → Shaped x (shape 2 n false true)
+  unfolding shape nodeWords parts gapFirst isListNode
+  shaped-list n h e = rw (is-list ws x r is e) (record { own = refl; rest = h; gap = refl; inner = refl })
+
+  pub shaped-application : (n : ℕ) → n ≡ getD ws 1 0 → getD ws 0 0 ≡ 8 → Shaped x (shape 2 (n + 1) false false)
+  unfolding shape nodeWords parts gapFirst isListNode
+  shaped-application n h e = rw (is-application ws x r is e) (record { own = refl; rest = add-one n ∙ ap suc h; gap = refl; inner = refl })
+
+-- ---- answers and rows of terms
+
+module _ {ink : Bool} {x : List ℕ} {n at : ℕ} {d e : List ℕ} where
+  walked-is : {used to : ℕ} → Walked ink x n at d e (S.Done used to) → (used ≡ n) × Left ink x at d e (P.Done to)
+  walked-is (walked h l) = (h, l)
+
+  stopped-is : Walked ink x n at d e S.Full → Left ink x at d e P.Full
+  stopped-is (stopped l) = l
+
+  pub walked-by : {s : Step} → Walked ink x n at d e s → (used to : ℕ) → s ≡ S.Done used to → (used ≡ n) × Left ink x at d e (P.Done to)
+  walked-by w used to h = walked-is (subst (λ (z : Step). Walked ink x n at d e z) h w)
+
+  pub stopped-by : {s : Step} → Walked ink x n at d e s → s ≡ S.Full → Left ink x at d e P.Full
+  stopped-by w h = stopped-is (subst (λ (z : Step). Walked ink x n at d e z) h w)
+
+-- a row that has a first
+record Row (ts : Plains) : Type 0 where
+  first : Plain
+  rest : Plains
+  is : ts ≡ moreC first rest
+
+next-of : (ts : Plains) (n : ℕ) → count ts ≡ n → 0 < n → Row ts
+unfolding count
+next-of noneC n h l = absurd (omega arith)
+next-of (moreC t ts) n h l = record { first = t; rest = ts; is = refl }
+
+none-left : (ts : Plains) → count ts ≡ 0 → ts ≡ noneC
+unfolding count
+none-left noneC h = refl
+none-left (moreC t ts) h = absurd (omega arith)
+
+-- ---- the term that words begin with
+
+module _ (names : List ℕ) where
+  spelling-proper : (t : Plain) (b : ℕ) → every (spelling names) tt b t ≡ true → every proper tt b t ≡ true
+  unfolding spelling proper
+  spelling-proper t b h =
+      every-from (λ (i : Unit {0}). spelling names) proper (b + variables t) (λ f g c. Unit {0})
+      (λ f g c x r l k. both (isNode x) (named names x) (k tt) .0) (λ f g c x r k. tt) (λ f g c n r. tt) t (λ i. tt) tt b tt (omega arith) (λ i. h)
+
+  -- it is the only one
+  module _ (inner : Bool) (ws : List ℕ) (t u : Plain) (r s : List ℕ) (f : Fits names inner t) (g : Fits names inner u) (v : ws ≡ encode t ++ r) (w : ws ≡ encode u ++ s) where
+    same-term : t ≡ u
+    same-term = encode-unique t u r s (f .before) (g .before) (spelling-proper t (f .before) (f .fine)) (spelling-proper u (g .before) (g .fine)) (sym v ∙ w) .0
+
+  -- what is said of one term is said of each
+  pub for-any : (inner ink : Bool) (ws : List ℕ) (b : Begins names inner ws) (at : ℕ) (d e : List ℕ) (s : Step)
+      → Walked ink (textIn (nameAt names) inner (b .term)) (length (encode (b .term))) at d e s
+      → (t : Plain) (r : List ℕ) → Fits names inner t → ws ≡ encode t ++ r → Walked ink (textIn (nameAt names) inner t) (length (encode t)) at d e s
+  for-any inner ink ws b at d e s k t r f w =
+      subst (λ (u : Plain). Walked ink (textIn (nameAt names) inner u) (length (encode u)) at d e s) (same-term inner ws (b .term) t (b .rest) r (b .fits) f (b .words) w) k
+
+  -- ---- its node
+
+  module _ (inner : Bool) (ws : List ℕ) (b : Begins names inner ws) where
+    node-fine : (spelling names .test tt (b .fits .before) (node (b .term)) && everyTerm (spelling names) tt (b .fits .before + binds (node (b .term))) (partsOf (b .term))) ≡ true
+    unfolding spelling
+    node-fine = sym (every-parts (spelling names) tt (b .fits .before) (b .term)) ∙ b .fits .fine
+
+    pub begins-node : nodeAt ws ≡ got (node (b .term)) (encodeAll (partsOf (b .term)) ++ b .rest)
+    unfolding spelling
+    begins-node =
+        let x = node (b .term) in
+        let p : isNode x ≡ true = both (isNode x) (named names x) (both (isNode x && named names x) _ node-fine .0) .0 in
+        ap nodeAt (b .words ∙ ap (λ (z : List ℕ). z ++ b .rest) (encode-parts (b .term)) ∙ append-assoc (nodeWords x) (encodeAll (partsOf (b .term))) (b .rest))
+        ∙ node-round x (encodeAll (partsOf (b .term)) ++ b .rest) p
+
+    pub begins-opened : Opened names ws
+    unfolding spelling
+    begins-opened =
+        let x = node (b .term) in
+        record { it = x; left = encodeAll (partsOf (b .term)) ++ b .rest; is = begins-node; spelled = both (isNode x) (named names x) (both (isNode x && named names x) _ node-fine .0) .1 }
+
+  -- ---- its parts
+
+  module _ (inner ink quoted : Bool) (ws : List ℕ) (opened : ℕ) (d : List ℕ) where
+    -- parts laid from `opened` into d, up to `to` in e; those left stand at `from`
+    pub record Going (from left to : ℕ) (wanted : Bool) (e : List ℕ) : Type 0 where
+      pub whole : Begins names inner ws
+      pub inner′ : quoted ≡ isListNode (node (whole .term))
+      pub todo : Plains
+      pub many : count todo ≡ left
+      pub before : ℕ
+      pub fine : everyTerm (spelling names) tt before todo ≡ true
+      pub data′ : quoted ≡ true → areData todo ≡ true
+      pub place : drop from ws ≡ encodeAll todo ++ whole .rest
+      pub size : from + length (encodeAll todo) ≡ length (encode (whole .term))
+      pub begun : 1 ≤ from
+      pub sofar : List ℕ
+      pub text : partsText (nameAt names) quoted (gapFirst (node (whole .term))) (partsOf (whole .term)) ≡ sofar ++ partsText (nameAt names) quoted wanted todo
+      pub laid : Left ink sofar opened d e (P.Done to)
+
+    pub going-start : (b : Begins names inner ws) (s : Shape) → quoted ≡ s .quoted → Shaped (node (b .term)) s → opened ≤ length d → Going (s .own) (s .parts) opened (s .wanted) d
+    unfolding spelling
+    going-start b s q h l =
+        let x = node (b .term) in
+        let n : length (nodeWords x) + length (encodeAll (partsOf (b .term))) ≡ length (encode (b .term)) = sym (ap length (encode-parts (b .term)) ∙ length-append (nodeWords x) (encodeAll (partsOf (b .term)))) in
+        let w : drop (length (nodeWords x)) ws ≡ encodeAll (partsOf (b .term)) ++ b .rest =
+        ap (drop (length (nodeWords x))) (node-read ws x (encodeAll (partsOf (b .term)) ++ b .rest) (begins-node inner ws b) .words)
+        ∙ drop-append-seam (nodeWords x) (encodeAll (partsOf (b .term)) ++ b .rest) in
+        record {
+          whole = b;
+          inner′ = q ∙ h .inner;
+          todo = partsOf (b .term);
+          many = count-parts (b .term) ∙ sym (h .rest);
+          before = b .fits .before + binds x;
+          fine = both (isNode x && named names x) _ (node-fine inner ws b) .1;
+          data′ = λ k. list-data (b .term) (sym (q ∙ h .inner) ∙ k);
+          place = ap (λ (i : ℕ). drop i ws) (h .own) ∙ w;
+          size = omega (arith, h .own);
+          begun = omega (arith, h .own, node-some x);
+          sofar = [];
+          text = ap (λ (z : Bool). partsText (nameAt names) quoted z (partsOf (b .term))) (sym (h .gap));
+          laid = left-none ink opened d l;
+        }
+
+    module _ (from left to : ℕ) (wanted : Bool) (e : List ℕ) (g : Going from left to wanted e) where
+      pub going-inside : from ≤ length ws
+      going-inside = omega (arith, g .size, ap length (g .whole .words) ∙ length-append (encode (g .whole .term)) (g .whole .rest))
+
+      pub going-shorter : length (take (length ws - from) (drop from ws)) < length ws
+      going-shorter = omega (arith, ap length (rest-is from ws) ∙ length-drop from ws, g .begun, going-inside)
+
+      -- no part is left
+      pub going-end : left ≡ 0 → (from ≡ length (encode (g .whole .term))) × Left ink (partsText (nameAt names) quoted (gapFirst (node (g .whole .term))) (partsOf (g .whole .term))) opened d e (P.Done to)
+      unfolding encode partsText count
+      going-end h =
+          let z : g .todo ≡ noneC = none-left (g .todo) (g .many ∙ h) in (
+            omega (arith, g .size, ap (λ (ts : Plains). length (encodeAll ts)) z),
+            left-is (sym (g .text ∙ ap (λ (ts : Plains). g .sofar ++ partsText (nameAt names) quoted wanted ts) z ∙ append-nil (g .sofar))) (g .laid),
+          )
+
+      module _ (h : 0 < left) where
+        next : Row (g .todo)
+        next = next-of (g .todo) left (g .many) h
+
+        next-fine : (every (spelling names) tt (g .before) (next .first) && everyTerm (spelling names) tt (g .before + variables (next .first)) (next .rest)) ≡ true
+        unfolding every
+        next-fine = sym (ap (everyTerm (spelling names) tt (g .before)) (next .is)) ∙ g .fine
+
+        next-data : quoted ≡ true → (isDatum (next .first) && areData (next .rest)) ≡ true
+        unfolding areData
+        next-data q = sym (ap areData (next .is)) ∙ g .data′ q
+
+        next-place : drop from ws ≡ encode (next .first) ++ (encodeAll (next .rest) ++ g .whole .rest)
+        unfolding encode
+        next-place = g .place ∙ ap (λ (ts : Plains). encodeAll ts ++ g .whole .rest) (next .is) ∙ append-assoc (encode (next .first)) (encodeAll (next .rest)) (g .whole .rest)
+
+        next-length : length (encodeAll (g .todo)) ≡ length (encode (next .first)) + length (encodeAll (next .rest))
+        unfolding encode
+        next-length = ap (λ (ts : Plains). length (encodeAll ts)) (next .is) ∙ length-append (encode (next .first)) (encodeAll (next .rest))
+
+        next-count : left ≡ suc (count (next .rest))
+        unfolding count
+        next-count = sym (g .many) ∙ ap count (next .is)
+
+        next-text : partsText (nameAt names) quoted (gapFirst (node (g .whole .term))) (partsOf (g .whole .term))
+            ≡ g .sofar ++ (gapText wanted ++ (textIn (nameAt names) quoted (next .first) ++ partsText (nameAt names) quoted true (next .rest)))
+        unfolding partsText
+        next-text = g .text ∙ ap (λ (ts : Plains). g .sofar ++ partsText (nameAt names) quoted wanted ts) (next .is)
+
+        next-fits : Fits names quoted (next .first)
+        next-fits = record { before = g .before; fine = both (every (spelling names) tt (g .before) (next .first)) _ next-fine .0; datum = λ q. both (isDatum (next .first)) (areData (next .rest)) (next-data q) .0 }
+
+        -- the next part
+        pub going-next : Begins names quoted (take (length ws - from) (drop from ws))
+        going-next = record { term = next .first; rest = encodeAll (next .rest) ++ g .whole .rest; fits = next-fits; words = rest-is from ws ∙ next-place }
+
+        module _ (f : List ℕ) (r : Put) (k : Left ink (gapText wanted) to e f r) where
+          -- no room for the space before it
+          pub gap-full : r ≡ P.Full → Left ink (partsText (nameAt names) quoted (gapFirst (node (g .whole .term))) (partsOf (g .whole .term))) opened d f P.Full
+          gap-full q = left-is (sym next-text) (left-then (g .laid) to refl (left-full k _ q))
+
+          module _ (m : ℕ) (q : r ≡ P.Done m) (f′ : List ℕ) (s : Step)
+              (c : (t : Plain) (z : List ℕ) → Fits names quoted t → take (length ws - from) (drop from ws) ≡ encode t ++ z → Walked ink (textIn (nameAt names) quoted t) (length (encode t)) m f f′ s) where
+            child : Walked ink (textIn (nameAt names) quoted (next .first)) (length (encode (next .first))) m f f′ s
+            child = c (next .first) (encodeAll (next .rest) ++ g .whole .rest) next-fits (rest-is from ws ∙ next-place)
+
+            -- nor for the part itself
+            pub part-full : s ≡ S.Full → Left ink (partsText (nameAt names) quoted (gapFirst (node (g .whole .term))) (partsOf (g .whole .term))) opened d f′ P.Full
+            part-full u = left-is (sym next-text) (left-then (g .laid) to refl (left-then k m q (left-full (stopped-by child u) (partsText (nameAt names) quoted true (next .rest)) refl)))
+
+            module _ (used end : ℕ) (u : s ≡ S.Done used end) where
+              laid-child : (used ≡ length (encode (next .first))) × Left ink (textIn (nameAt names) quoted (next .first)) m f f′ (P.Done end)
+              laid-child = walked-by child used end u
+
+              pub part-inside : from + used ≤ length ws
+              part-inside =
+                  let l : length (encodeAll (g .todo)) ≡ length (encode (next .first)) + length (encodeAll (next .rest)) = next-length in
+                  omega (arith, g .size, laid-child .0, ap length (g .whole .words) ∙ length-append (encode (g .whole .term)) (g .whole .rest))
+
+              pub going-on : Going (from + used) (left - 1) end true f′
+              going-on =
+                  let p = textIn (nameAt names) quoted (next .first) in
+                  record {
+                    whole = g .whole;
+                    inner′ = g .inner′;
+                    todo = next .rest;
+                    many = omega (arith, next-count);
+                    before = g .before + variables (next .first);
+                    fine = both (every (spelling names) tt (g .before) (next .first)) _ next-fine .1;
+                    data′ = λ z. both (isDatum (next .first)) (areData (next .rest)) (next-data z) .1;
+                    place = sym (drop-drop used from ws) ∙ ap (drop used) next-place ∙ drop-at (encode (next .first)) (encodeAll (next .rest) ++ g .whole .rest) used (sym (laid-child .0));
+                    size = omega (arith, g .size, laid-child .0, next-length);
+                    begun = omega (arith, g .begun);
+                    sofar = g .sofar ++ (gapText wanted ++ p);
+                    text = next-text ∙ simp append-assoc;
+                    laid = left-then (g .laid) to refl (left-then k m q (laid-child .1));
+                  }
+
+  -- ---- the whole
+
+  module _ (inner ink : Bool) (ws : List ℕ) (b : Begins names inner ws) (at : ℕ) (d₀ d : List ℕ) (r : Put)
+      (o : (x : Node) (l : List ℕ) → nodeAt ws ≡ got x l → Left ink (opening (nameAt names) inner x) at d₀ d r) where
+    x′ : Node
+    x′ = node (b .term)
+
+    opened-left : Left ink (opening (nameAt names) inner (node (b .term))) at d₀ d r
+    opened-left = o (node (b .term)) _ (begins-node inner ws b)
+
+    abbrev Parts : Bool → List ℕ
+    Parts q = partsText (nameAt names) q (gapFirst (node (b .term))) (partsOf (b .term))
+
+    all-text : (q : Bool) → q ≡ isListNode (node (b .term)) → opening (nameAt names) inner (node (b .term)) ++ (Parts q ++ closing inner (node (b .term))) ≡ textIn (nameAt names) inner (b .term)
+    all-text q h = ap (λ (z : Bool). opening (nameAt names) inner (node (b .term)) ++ (Parts z ++ closing inner (node (b .term)))) h ∙ sym (pieces (nameAt names) inner (b .term) (b .fits .datum))
+
+    pub open-stops : r ≡ P.Full → Walked ink (textIn (nameAt names) inner (b .term)) (length (encode (b .term))) at d₀ d S.Full
+    open-stops h = stopped (left-is (all-text _ refl) (left-full opened-left _ h))
+
+    module _ (opened : ℕ) (h : r ≡ P.Done opened) (q : Bool) (i : q ≡ isListNode (node (b .term))) (e : List ℕ) where
+      pub parts-stop : Left ink (Parts q) opened d e P.Full → Walked ink (textIn (nameAt names) inner (b .term)) (length (encode (b .term))) at d₀ e S.Full
+      parts-stop l = stopped (left-is (all-text q i) (left-then opened-left opened h (left-full l _ refl)))
+
+      module _ (to : ℕ) (l : Left ink (Parts q) opened d e (P.Done to)) (f : List ℕ) (s : Put) (c : (x : Node) (z : List ℕ) → nodeAt ws ≡ got x z → Left ink (closing inner x) to e f s) where
+        closed : Left ink (closing inner (node (b .term))) to e f s
+        closed = c (node (b .term)) _ (begins-node inner ws b)
+
+        pub close-stops : s ≡ P.Full → Walked ink (textIn (nameAt names) inner (b .term)) (length (encode (b .term))) at d₀ f S.Full
+        close-stops k = stopped (subst (λ (z : Put). Left ink (textIn (nameAt names) inner (b .term)) at d₀ f z) k (left-is (all-text q i) (left-then opened-left opened h (left-then l to refl closed))))
+
+        pub all-walked : (used end : ℕ) → used ≡ length (encode (b .term)) → s ≡ P.Done end → Walked ink (textIn (nameAt names) inner (b .term)) (length (encode (b .term))) at d₀ f (S.Done used end)
+        all-walked used end n k = walked n (subst (λ (z : Put). Left ink (textIn (nameAt names) inner (b .term)) at d₀ f z) k (left-is (all-text q i) (left-then opened-left opened h (left-then l to refl closed))))

@@ -1,0 +1,154 @@
+-- What a call of writing answers and leaves, as its promise says it, and the laws that show it.
+use mathlib.Core.Path.{_≡_, refl, sym, ap, subst, _∙_}
+use mathlib.Core.Bool.{Bool, true, false, true≢false, false≢true}
+use mathlib.Core.List.{List, [], _++_, append-nil}
+use mathlib.Core.Option.{Option, none, some}
+use Prim.Native.Nat.{ℕ, _+_, _≤_, _<_}
+use native.Mathlib.Omega.{arith}
+use native.Mathlib.Nat.{zero-add}
+use lib.ListN.{length, drop}
+use borrow.Author.Tests.{le-leb, lt-leb}
+use Rattle.datum.specs.NameTable.{nameAt, hasName}
+use Rattle.core_term.specs.Node.{Node, isNode, variableN, operationN, constantN, nameN, listN, ifN, lambdaN, applicationN}
+use Rattle.core_term.specs.Term.{Plain, variables}
+use Rattle.core_term.specs.Words.{encode}
+use Rattle.core_term.specs.Every.{Asked, every, proper, wellFormed}
+use Rattle.core_term.specs.EveryLaws.{every-from}
+use Rattle.core_term.specs.Check.{Scope, outside, known, asked, allKnown, termOf, isTerm, isSome}
+use Rattle.core_term.specs.CheckLaws.{Accepted, accepted, isTerm-some}
+use Rattle.writer.specs.declared.term.Step.{Step}
+use Rattle.writer.specs.declared.term.Step.the-variants as S
+use Rattle.writer.specs.declared.Writing.{Writing}
+use Rattle.writer.specs.declared.Writing.the-variants.{Written, NoTerm, NoRoom}
+use Rattle.writer.specs.Laid.{laid}
+use Rattle.writer.specs.LaidLaws.{done-is, full-is}
+use Rattle.writer.specs.Pieces.{textIn}
+use Rattle.writer.specs.Opened.{named}
+use Rattle.writer.specs.Walk.{spelling, Fits, Begins, Walked}
+use Rattle.writer.specs.WalkLaws.{walked-by, stopped-by}
+use Rattle.writer.specs.Writing.{groundOf, lengthOf, textFor, textOf, ground, size, after}
+
+-- the ground, the length and the output are the definition's
+pub record Wrote (x : Option (List ℕ)) (out out′ : List ℕ) (r : Writing) : Type 0 where
+  pub number : groundOf r ≡ ground out x
+  pub value : lengthOf r ≡ size out x
+  pub left : out′ ≡ after out x
+
+-- ---- no term
+
+pub no-term : (ws : List ℕ) (operations : ℕ) (names out : List ℕ) → isTerm operations (hasName names) ws ≡ false → Wrote (textOf ws operations names) out out NoTerm
+unfolding isTerm isSome textOf textFor groundOf lengthOf ground size after
+no-term ws operations names out h = go (termOf operations (hasName names) ws) h
+  where
+    go : (o : Option Plain) → isSome o ≡ false → Wrote (textFor names o) out out NoTerm
+    go none k = record { number = refl; value = refl; left = refl }
+    go (some t) k = absurd (true≢false k)
+
+-- ---- a text
+
+module _ (x out : List ℕ) where
+  wrote-all : length x ≤ length out → (n : ℕ) (out′ : List ℕ) → n ≡ length x → out′ ≡ x ++ drop (length x) out → Wrote (some x) out out′ (Written n)
+  unfolding groundOf lengthOf ground size after
+  wrote-all h n out′ e l = let k = le-leb (length x) (length out) h in record { number = rw k; value = rw k e; left = rw k l }
+
+  wrote-none : length out < length x → (out′ : List ℕ) → out′ ≡ out → Wrote (some x) out out′ NoRoom
+  unfolding groundOf lengthOf ground size after
+  wrote-none h out′ l = let k = lt-leb (length x) (length out) h in record { number = rw k; value = rw k; left = rw k l }
+
+-- ---- the term
+
+-- names that stand in it have slots
+known-named : (operations : ℕ) (names : List ℕ) (s : Scope) (b : ℕ) (x : Node) → known operations (hasName names) s b x ≡ true → named names x ≡ true
+unfolding known named
+known-named operations names s b (variableN n) h = refl
+known-named operations names s b (operationN n) h = refl
+known-named operations names s b (constantN a) h = refl
+known-named operations names s b (nameN n) h = h
+known-named operations names s b (listN n) h = refl
+known-named operations names s b ifN h = refl
+known-named operations names s b (lambdaN first n) h = refl
+known-named operations names s b (applicationN n) h = refl
+
+module _ (ws : List ℕ) (operations : ℕ) (names : List ℕ) where
+  spelled-fine : (t : Plain) → Accepted operations (hasName names) ws t → every (spelling names) tt 0 t ≡ true
+  unfolding spelling asked allKnown proper wellFormed
+  spelled-fine t a =
+      every-from both-ask (spelling names) (variables t) (λ f g c. Unit {0}) tests (λ f g c x r k. tt) (λ f g c n r. tt) t (λ i. outside) tt 0 tt (omega arith) all
+    where
+      shaped : Scope → ℕ → Node → Bool
+      shaped s b x = isNode x
+
+      both-ask : Bool → Asked Scope
+      both-ask true = asked shaped
+      both-ask false = asked (known operations (hasName names))
+
+      tests : (e : Bool → Scope) (f : Unit {0}) (b : ℕ) (x : Node) → Unit {0} → b ≤ variables t → ((i : Bool) → both-ask i .test (e i) b x ≡ true) → spelling names .test f b x ≡ true
+      tests e f b x r l h = rw (h true) (known-named operations names (e false) b x (h false))
+
+      all : (i : Bool) → every (both-ask i) outside 0 t ≡ true
+      all true =
+          every-from (λ (i : Unit {0}). proper) (asked shaped) (variables t) (λ f g c. Unit {0})
+          (λ f g c x r l k. k tt) (λ f g c x r k. tt) (λ f g c n r. tt) t (λ i. tt) outside 0 tt (omega arith) (λ i. a .formed)
+      all false = a .known′
+
+  module _ (h : isTerm operations (hasName names) ws ≡ true) where
+    abbrev it : Plain
+    it = isTerm-some operations (hasName names) ws h .0
+
+    it-passes : Accepted operations (hasName names) ws it
+    it-passes = accepted operations (hasName names) ws it (isTerm-some operations (hasName names) ws h .1)
+
+    it-fits : Fits names false it
+    it-fits = record { before = 0; fine = spelled-fine it it-passes; datum = λ k. absurd (false≢true k) }
+
+    it-words : ws ≡ encode it ++ []
+    it-words = sym (it-passes .words) ∙ sym (append-nil (encode it))
+
+    -- the words begin with it
+    pub term-begins : Begins names false ws
+    term-begins = record { term = it; rest = []; fits = it-fits; words = it-words }
+
+    abbrev Text : List ℕ
+    Text = textIn (nameAt names) false it
+
+    text-is : some Text ≡ textOf ws operations names
+    unfolding textIn textOf textFor
+    text-is = sym (ap (textFor names) (isTerm-some operations (hasName names) ws h .1))
+
+    -- the measuring walk, then the laying one
+    module _ (out e : List ℕ) (s : Step)
+        (c : (t : Plain) (r : List ℕ) → Fits names false t → ws ≡ encode t ++ r → Walked false (textIn (nameAt names) false t) (length (encode t)) 0 out e s) where
+      first : Walked false Text (length (encode it)) 0 out e s
+      first = c it [] it-fits it-words
+
+      pub no-room : s ≡ S.Full → Wrote (textOf ws operations names) out e NoRoom
+      no-room k =
+          let l = full-is (stopped-by first k) in
+          subst (λ (z : Option (List ℕ)). Wrote z out e NoRoom) text-is (wrote-none Text out (omega arith) e (l .1 refl))
+
+      module _ (used n : ℕ) (k : s ≡ S.Done used n) where
+        measured : (n ≡ 0 + length Text) × (n ≤ length out) × (e ≡ laid false Text 0 out)
+        measured = done-is (walked-by first used n k .1)
+
+        same : e ≡ out
+        unfolding laid
+        same = measured .2
+
+        pub still-room : 0 ≤ length e
+        still-room = omega arith
+
+        module _ (f : List ℕ) (u : Step)
+            (d : (t : Plain) (r : List ℕ) → Fits names false t → ws ≡ encode t ++ r → Walked true (textIn (nameAt names) false t) (length (encode t)) 0 e f u) where
+          second : Walked true Text (length (encode it)) 0 e f u
+          second = d it [] it-fits it-words
+
+          -- what has been measured fits
+          pub no-second : u ≡ S.Full → Wrote (textOf ws operations names) out f NoRoom
+          no-second q = absurd (omega (arith, full-is (stopped-by second q) .0, measured, ap length same))
+
+          pub wrote-text : (again end : ℕ) → u ≡ S.Done again end → Wrote (textOf ws operations names) out f (Written end)
+          unfolding laid
+          wrote-text again end q =
+              let l = done-is (walked-by second again end q .1) in
+              let z : f ≡ Text ++ drop (length Text) out = l .2 ∙ ap (λ (o : List ℕ). Text ++ drop (0 + length Text) o) same ∙ ap (λ (i : ℕ). Text ++ drop i out) (zero-add (length Text)) in
+              subst (λ (o : Option (List ℕ)). Wrote o out f (Written end)) text-is (wrote-all Text out (omega (arith, measured)) end f (omega arith) z)

@@ -1,0 +1,87 @@
+// Numbers as text.
+ghost use mathlib.Core.Path.{_≡_};
+ghost use mathlib.Core.List.{_∷_};
+ghost use Prim.Native.Nat.{_+_, _≤_, _<_};
+ghost use lib.ListN.{length};
+ghost use Rattle.core_term.specs.Decimal.{decimal, integerText};
+ghost use Rattle.writer.specs.Laid.{Left};
+ghost use Rattle.writer.specs.Pieces.{gapText, formalsText};
+use crate::bytes::Put;
+use crate::bytes::byte;
+
+pub fn wide(n: u32) -> usize
+    ensures { λ r. ⌜ r ≡ n ⌝ }
+{
+    n as usize
+}
+
+// The digits of n.
+pub fn digits(n: usize, out: &mut [u8], at: usize, ink: bool) -> Put
+    requires { ⌜ at ≤ length (now out) ⌝ }
+    ensures { λ r. ⌜ Left ink (decimal n) at (now (out .entry)) (now (out .exit)) r ⌝ }
+{
+    if n < 10 {
+        return byte(48 + n as u8, out, at, ink);
+    }
+    let Put::Done(to) = digits(n / 10, out, at, ink) else {
+        return Put::Full;
+    };
+    byte(48 + (n % 10) as u8, out, to, ink)
+}
+
+// A letter and the digits of n, as v0.
+pub fn numbered(letter: u8, n: usize, out: &mut [u8], at: usize, ink: bool) -> Put
+    requires { ⌜ at ≤ length (now out) ⌝ }
+    ensures { λ r. ⌜ Left ink (letter ∷ decimal n) at (now (out .entry)) (now (out .exit)) r ⌝ }
+{
+    let Put::Done(to) = byte(letter, out, at, ink) else {
+        return Put::Full;
+    };
+    digits(n, out, to, ink)
+}
+
+// The integer with the two's complement bits w.
+pub fn integer(w: u32, out: &mut [u8], at: usize, ink: bool) -> Put
+    requires { ⌜ at ≤ length (now out) ⌝ }
+    ensures { λ r. ⌜ Left ink (integerText w) at (now (out .entry)) (now (out .exit)) r ⌝ }
+{
+    if w < 0x8000_0000 {
+        return digits(wide(w), out, at, ink);
+    }
+    numbered(45, wide(0xffff_ffff - w) + 1, out, at, ink)
+}
+
+// A space, where one is wanted.
+pub fn gap(wanted: bool, out: &mut [u8], at: usize, ink: bool) -> Put
+    requires { ⌜ at ≤ length (now out) ⌝ }
+    ensures { λ r. ⌜ Left ink (gapText wanted) at (now (out .entry)) (now (out .exit)) r ⌝ }
+{
+    if !wanted {
+        return Put::Done(at);
+    }
+    byte(b' ', out, at, ink)
+}
+
+// v0 v1: count variables from first on, with a space before the first where one is wanted.
+pub fn formals(
+    wanted: bool,
+    first: usize,
+    count: usize,
+    out: &mut [u8],
+    at: usize,
+    ink: bool,
+) -> Put
+    requires { ⌜ (at ≤ length (now out)) × (first + count < 18446744073709551616) ⌝ }
+    ensures { λ r. ⌜ Left ink (formalsText wanted first count) at (now (out .entry)) (now (out .exit)) r ⌝ }
+{
+    if count == 0 {
+        return Put::Done(at);
+    }
+    let Put::Done(a) = gap(wanted, out, at, ink) else {
+        return Put::Full;
+    };
+    let Put::Done(b) = numbered(b'v', first, out, a, ink) else {
+        return Put::Full;
+    };
+    formals(true, first + 1, count - 1, out, b, ink)
+}

@@ -1,0 +1,143 @@
+// What opens and closes a node.
+ghost use mathlib.Core.Path.{_≡_};
+ghost use mathlib.Core.Bool.{true, false};
+ghost use mathlib.Core.List.{List, _++_};
+ghost use Prim.Native.Nat.{ℕ, _+_, _≤_, _<_};
+ghost use lib.ListN.{length, getD};
+ghost use Rattle.words.specs.Text.{bytes};
+ghost use Rattle.datum.specs.NameTable.{nameAt, hasName};
+ghost use Rattle.core_term.specs.Node.{Node, nodeAt, got, nameN};
+ghost use Rattle.writer.specs.Laid.{Left};
+ghost use Rattle.writer.specs.Pieces.{formalsText, opening, closing};
+ghost use Rattle.writer.specs.Opened.{Opened};
+use crate::bytes::Put;
+use crate::bytes::byte;
+use crate::bytes::copy;
+use crate::numbers::formals;
+use crate::numbers::integer;
+use crate::numbers::numbered;
+use crate::numbers::wide;
+use words::SLOT;
+
+fn size(n: u8) -> usize
+    ensures { λ r. ⌜ r ≡ n ⌝ }
+{
+    n as usize
+}
+
+// The spelling of name n.
+fn name(n: usize, names: &[u8], out: &mut [u8], at: usize, ink: bool) -> Put
+    requires { ⌜ (at ≤ length (now out)) × (hasName (now names) n ≡ true) ⌝ }
+    ensures { λ r. ⌜ Left ink (nameAt (now (names .entry)) n) at (now (out .entry)) (now (out .exit)) r ⌝ }
+{
+    let start = SLOT * n;
+    let from = start + 1;
+    let to = from + size(names[start]);
+    copy(&names[from..to], out, at, ink)
+}
+
+// A name inside quote, or (quote name).
+fn name_opening(n: usize, names: &[u8], out: &mut [u8], at: usize, inner: bool, ink: bool) -> Put
+    requires { ⌜ (at ≤ length (now out)) × (hasName (now names) n ≡ true) ⌝ }
+    ensures { λ r. ⌜ Left ink (opening (nameAt (now (names .entry))) inner (nameN n)) at (now (out .entry)) (now (out .exit)) r ⌝ }
+{
+    if inner {
+        return name(n, names, out, at, ink);
+    }
+    let Put::Done(a) = copy(b"(quote ", out, at, ink) else {
+        return Put::Full;
+    };
+    let Put::Done(b) = name(n, names, out, a, ink) else {
+        return Put::Full;
+    };
+    byte(b')', out, b, ink)
+}
+
+// (lambda (v0 v1)
+fn lambda_opening(first: usize, count: usize, out: &mut [u8], at: usize, ink: bool) -> Put
+    requires { ⌜ (at ≤ length (now out)) × (first + count < 18446744073709551616) ⌝ }
+    ensures { λ r. ⌜ Left ink (bytes "(lambda (" ++ (formalsText false first count ++ bytes ")")) at (now (out .entry)) (now (out .exit)) r ⌝ }
+{
+    let Put::Done(a) = copy(b"(lambda (", out, at, ink) else {
+        return Put::Full;
+    };
+    let Put::Done(b) = formals(false, first, count, out, a, ink) else {
+        return Put::Full;
+    };
+    byte(b')', out, b, ink)
+}
+
+// What opens a datum: a constant, a name or a list.
+fn datum_opening(
+    words: &[u32],
+    names: &[u8],
+    out: &mut [u8],
+    at: usize,
+    inner: bool,
+    ink: bool,
+) -> Put
+    requires { ⌜ (at ≤ length (now out)) × Opened (now names) (now words) × (2 ≤ getD (now words) 0 0) × (getD (now words) 0 0 ≤ 5) ⌝ }
+    ensures { λ r. ⌜ ((x : Node) (left : List ℕ) → nodeAt (now (words .entry)) ≡ got x left → Left ink (opening (nameAt (now (names .entry))) inner x) at (now (out .entry)) (now (out .exit)) r) ⌝ }
+{
+    let code = words[0];
+    let a = words[1];
+    if code == 2 {
+        return integer(a, out, at, ink);
+    }
+    if code == 3 {
+        if a == 0 {
+            return copy(b"#f", out, at, ink);
+        }
+        return copy(b"#t", out, at, ink);
+    }
+    if code == 4 {
+        return name_opening(wide(a), names, out, at, inner, ink);
+    }
+    if inner {
+        return byte(b'(', out, at, ink);
+    }
+    copy(b"(quote (", out, at, ink)
+}
+
+// What opens the node at the beginning of words.
+pub fn begin(words: &[u32], names: &[u8], out: &mut [u8], at: usize, inner: bool, ink: bool) -> Put
+    requires { ⌜ (at ≤ length (now out)) × Opened (now names) (now words) ⌝ }
+    ensures { λ r. ⌜ ((x : Node) (left : List ℕ) → nodeAt (now (words .entry)) ≡ got x left → Left ink (opening (nameAt (now (names .entry))) inner x) at (now (out .entry)) (now (out .exit)) r) ⌝ }
+{
+    let code = words[0];
+    if code == 6 {
+        return copy(b"(if", out, at, ink);
+    }
+    let a = wide(words[1]);
+    if code == 0 {
+        return numbered(b'v', a, out, at, ink);
+    }
+    if code == 1 {
+        return numbered(b'o', a, out, at, ink);
+    }
+    if code <= 5 {
+        return datum_opening(words, names, out, at, inner, ink);
+    }
+    if code == 7 {
+        return lambda_opening(a, wide(words[2]), out, at, ink);
+    }
+    byte(b'(', out, at, ink)
+}
+
+// What closes it.
+pub fn finish(words: &[u32], out: &mut [u8], at: usize, inner: bool, ink: bool) -> Put
+    requires { ⌜ (at ≤ length (now out)) × (1 ≤ length (now words)) ⌝ }
+    ensures { λ r. ⌜ ((x : Node) (left : List ℕ) → nodeAt (now (words .entry)) ≡ got x left → Left ink (closing inner x) at (now (out .entry)) (now (out .exit)) r) ⌝ }
+{
+    let code = words[0];
+    if code < 5 {
+        return Put::Done(at);
+    }
+    if code > 5 {
+        return byte(b')', out, at, ink);
+    }
+    if inner {
+        return byte(b')', out, at, ink);
+    }
+    copy(b"))", out, at, ink)
+}
