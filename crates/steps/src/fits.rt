@@ -73,24 +73,14 @@ pub fn fits(items: &[u32], work: &[u32], marks: &mut [u32], p: u32, u: u32, w: u
     if kind != cells::PAIR {
         return false;
     }
-    if !fits(
-        items,
-        work,
-        marks,
-        cells::reference(work, p, 3),
-        cells::reference(work, u, cells::HEAD),
-        w,
-    ) {
+    let head = cells::reference(work, p, 3);
+    let first = cells::reference(work, u, cells::HEAD);
+    if !fits(items, work, marks, head, first, w) {
         return false;
     }
-    fits(
-        items,
-        work,
-        marks,
-        cells::reference(work, p, 2),
-        cells::reference(work, u, cells::TAIL),
-        w,
-    )
+    let tail = cells::reference(work, p, 2);
+    let rest = cells::reference(work, u, cells::TAIL);
+    fits(items, work, marks, tail, rest, w)
 }
 
 // Whether every element of a list fits.

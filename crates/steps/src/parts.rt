@@ -52,25 +52,11 @@ pub fn part(work: &[u32], p: u32, k: u32, d: u32, outer: u32, inner: u32, u: u32
     }
     let element = cells::reference(work, p, 2);
     if d == 1 {
-        return part(
-            work,
-            element,
-            k,
-            0,
-            outer,
-            inner,
-            lists::element(work, u, inner),
-        );
+        let v = lists::element(work, u, inner);
+        return part(work, element, k, 0, outer, inner, v);
     }
-    part(
-        work,
-        element,
-        k,
-        1,
-        outer,
-        inner,
-        lists::element(work, u, outer),
-    )
+    let v = lists::element(work, u, outer);
+    part(work, element, k, 1, outer, inner, v)
 }
 
 // What variable k takes under the innermost d of the n indices.
