@@ -4,7 +4,6 @@ ghost use mathlib.Core.Path.{_≡_};
 ghost use Rattle.steps.specs.Plain.{deepen};
 ghost use Rattle.steps.specs.Lengths.{LengthsAgree, CopiesAgree};
 use crate::lengths;
-use crate::parts;
 use arena::cells;
 
 // How many indices are kept, with one more.
@@ -21,16 +20,16 @@ pub fn deepen(n: u32) -> u32
 pub fn lengths_agree(work: &[u32], p: u32, u: u32, n: u32, outer: u32, inner: u32, t: u32) -> bool
     ensures { λ r. ⌜ LengthsAgree (now (work .entry)) p u n outer inner t r ⌝ }
 {
-    let tag = cells::word(work, t, 1);
-    if tag < parts::PAIR {
+    let tag = cells::word(work, t, cells::TAG);
+    if tag < rule_cells::cells::PAIR {
         return true;
     }
-    if parts::ELLIPSIS < tag {
+    if rule_cells::cells::ELLIPSIS < tag {
         return true;
     }
     let head = cells::reference(work, t, 3);
     let rest = cells::reference(work, t, 2);
-    if tag == parts::PAIR {
+    if tag == rule_cells::cells::PAIR {
         if !lengths_agree(work, p, u, n, outer, inner, head) {
             return false;
         }

@@ -9,21 +9,17 @@ ghost use Rattle.arena.specs.Cells.{Room};
 ghost use Rattle.steps.specs.Build.{Waiting, Built, Buildable, CopiesBuildable, Behind};
 ghost use Rattle.steps.specs.ResultLaws.{Made};
 use crate::agree;
-use crate::fits;
 use crate::lengths;
 use crate::parts;
 use arena::cells;
-
-// The tag of an inserted name; the others are a pattern's.
-pub const INSERT: u32 = 2;
 
 // A fresh name from a name's node and a wrap that waits on it.
 pub fn copy_name(work: &mut [u32], top: u32, node: u32, w: u32) -> u32
     requires { ⌜ (Room (now work) top 6) × (node ≤ top) × (w ≤ top) ⌝ }
     ensures { λ r. ⌜ Built (λ items. name (nameAt items (now (work .entry)) node w)) (now (work .entry)) (now (work .exit)) top r ⌝ }
 {
-    let item = cells::word(work, node, 2);
-    let own = cells::reference(work, node, 1);
+    let item = cells::word(work, node, cells::ITEM);
+    let own = cells::reference(work, node, cells::OWN);
     if own == 0 {
         return cells::put_name(work, top, item, w);
     }
@@ -36,20 +32,20 @@ pub fn copy_tree(work: &mut [u32], top: u32, node: u32, w: u32) -> u32
     requires { ⌜ Waiting (now work) top node w ⌝ }
     ensures { λ r. ⌜ Built (λ items. treeAt items (now (work .entry)) node w) (now (work .entry)) (now (work .exit)) top r ⌝ }
 {
-    let kind = cells::word(work, node, 3);
+    let kind = cells::word(work, node, cells::KIND);
     if kind == cells::EMPTY {
         return cells::put_empty(work, top);
     }
     if kind == cells::NAME {
         return copy_name(work, top, node, w);
     }
-    let a = cells::word(work, node, 2);
-    let b = cells::word(work, node, 1);
+    let a = cells::word(work, node, cells::FIRST);
+    let b = cells::word(work, node, cells::SECOND);
     if kind != cells::PAIR {
         return cells::put_constant(work, top, kind, a, b);
     }
-    let first = cells::reference(work, node, 2);
-    let rest = cells::reference(work, node, 1);
+    let first = cells::reference(work, node, cells::HEAD);
+    let rest = cells::reference(work, node, cells::TAIL);
     let tail = copy_tree(work, top, rest, w);
     let head = copy_tree(work, tail, first, w);
     cells::put_pair(work, head, head, tail)
@@ -70,19 +66,19 @@ pub fn build_leaf(
     requires { ⌜ (Buildable (now work) top p u w n outer inner t) × (wordAt (now work) t 1 ≡ 6 → ⊥) × (wordAt (now work) t 1 ≡ 7 → ⊥) ⌝ }
     ensures { λ r. ⌜ Made (now (work .entry)) (now (work .exit)) top p u w n outer inner t r ⌝ }
 {
-    let tag = cells::word(work, t, 1);
-    if tag == parts::VARIABLE {
+    let tag = cells::word(work, t, cells::TAG);
+    if tag == rule_cells::cells::VARIABLE {
         let k = cells::word(work, t, 3);
         let d = cells::word(work, t, 2);
         let node = parts::taken(work, p, u, n, outer, inner, k, d);
         return copy_tree(work, top, node, w);
     }
-    if tag == INSERT {
+    if tag == rule_cells::cells::NAME {
         let node = cells::reference(work, t, 3);
         let wrap = cells::reference(work, t, 2);
         return copy_name(work, top, node, wrap);
     }
-    if tag == fits::CONSTANT {
+    if tag == rule_cells::cells::CONSTANT {
         let kind = cells::word(work, t, 4);
         let a = cells::word(work, t, 3);
         let b = cells::word(work, t, 2);
@@ -106,16 +102,16 @@ pub fn build(
     requires { ⌜ Buildable (now work) top p u w n outer inner t ⌝ }
     ensures { λ r. ⌜ Made (now (work .entry)) (now (work .exit)) top p u w n outer inner t r ⌝ }
 {
-    let tag = cells::word(work, t, 1);
-    if tag < parts::PAIR {
+    let tag = cells::word(work, t, cells::TAG);
+    if tag < rule_cells::cells::PAIR {
         return build_leaf(work, top, p, u, w, n, outer, inner, t);
     }
-    if parts::ELLIPSIS < tag {
+    if rule_cells::cells::ELLIPSIS < tag {
         return build_leaf(work, top, p, u, w, n, outer, inner, t);
     }
     let first = cells::reference(work, t, 3);
     let rest = cells::reference(work, t, 2);
-    if tag == parts::PAIR {
+    if tag == rule_cells::cells::PAIR {
         let tail = build(work, top, p, u, w, n, outer, inner, rest);
         let head = build(work, tail, p, u, w, n, outer, inner, first);
         return cells::put_pair(work, head, head, tail);

@@ -15,11 +15,11 @@ pub fn size(work: &[u32], node: u32, acc: u32, limit: u32) -> u32
     if limit < acc {
         return acc;
     }
-    if cells::word(work, node, 3) != cells::PAIR {
+    if cells::word(work, node, cells::KIND) != cells::PAIR {
         return acc + 1;
     }
-    let head = cells::reference(work, node, 2);
-    let tail = cells::reference(work, node, 1);
+    let head = cells::reference(work, node, cells::HEAD);
+    let tail = cells::reference(work, node, cells::TAIL);
     let sum = size(work, head, acc + 1, limit);
     size(work, tail, sum, limit)
 }
@@ -42,20 +42,20 @@ pub fn cost(
     if limit < acc {
         return acc;
     }
-    let tag = cells::word(work, t, 1);
+    let tag = cells::word(work, t, cells::TAG);
     let rest = cells::reference(work, t, 2);
     let head = cells::reference(work, t, 3);
-    if tag == parts::VARIABLE {
+    if tag == rule_cells::cells::VARIABLE {
         let k = cells::word(work, t, 3);
         let d = cells::word(work, t, 2);
         let node = parts::taken(work, p, u, n, outer, inner, k, d);
         return size(work, node, acc, limit);
     }
-    if tag == parts::PAIR {
+    if tag == rule_cells::cells::PAIR {
         let sum = cost(work, p, u, n, outer, inner, head, acc + 1, limit);
         return cost(work, p, u, n, outer, inner, rest, sum, limit);
     }
-    if tag != parts::ELLIPSIS {
+    if tag != rule_cells::cells::ELLIPSIS {
         return acc + 1;
     }
     let c = lengths::copies(work, p, u, n, outer, inner, head);

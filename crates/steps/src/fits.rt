@@ -5,23 +5,15 @@ ghost use Prim.Native.Nat.{_*_, _<_};
 ghost use lib.ListN.{length};
 ghost use Rattle.arena.specs.Arena.{markLimit};
 ghost use Rattle.steps.specs.Fits.{Fits, EachFits, LiteralFits, ConstantFits, FirstFit};
-use crate::parts;
 use arena::cells;
 use arena::names;
-
-// Tags of a pattern's cells, beside those with parts.
-pub const LITERAL: u32 = 2;
-
-pub const WILDCARD: u32 = 3;
-
-pub const CONSTANT: u32 = 4;
 
 // A literal fits a name whose lookup finds what its own has found.
 pub fn literal_fits(items: &[u32], work: &[u32], marks: &mut [u32], p: u32, u: u32, w: u32) -> bool
     requires { ⌜ 2 * markLimit < length (now marks) ⌝ }
     ensures { λ r. ⌜ LiteralFits (now (items .entry)) (now (work .entry)) p u w r ⌝ }
 {
-    if cells::word(work, u, 3) != cells::NAME {
+    if cells::word(work, u, cells::KIND) != cells::NAME {
         return false;
     }
     let number = cells::word(work, p, 3);
@@ -33,7 +25,7 @@ pub fn literal_fits(items: &[u32], work: &[u32], marks: &mut [u32], p: u32, u: u
 pub fn constant_fits(work: &[u32], p: u32, u: u32) -> bool
     ensures { λ r. ⌜ ConstantFits (now (work .entry)) p u r ⌝ }
 {
-    let kind = cells::word(work, u, 3);
+    let kind = cells::word(work, u, cells::KIND);
     if kind == cells::EMPTY {
         return false;
     }
@@ -46,10 +38,10 @@ pub fn constant_fits(work: &[u32], p: u32, u: u32) -> bool
     if cells::word(work, p, 4) != kind {
         return false;
     }
-    if cells::word(work, p, 3) != cells::word(work, u, 2) {
+    if cells::word(work, p, 3) != cells::word(work, u, cells::FIRST) {
         return false;
     }
-    cells::word(work, p, 2) == cells::word(work, u, 1)
+    cells::word(work, p, 2) == cells::word(work, u, cells::SECOND)
 }
 
 // Whether a pattern fits a use, from the left, up to the first misfit.
@@ -57,48 +49,38 @@ pub fn fits(items: &[u32], work: &[u32], marks: &mut [u32], p: u32, u: u32, w: u
     requires { ⌜ 2 * markLimit < length (now marks) ⌝ }
     ensures { λ r. ⌜ Fits (now (items .entry)) (now (work .entry)) p u w r ⌝ }
 {
-    let tag = cells::word(work, p, 1);
-    if tag == parts::VARIABLE {
+    let tag = cells::word(work, p, cells::TAG);
+    if tag == rule_cells::cells::VARIABLE {
         return true;
     }
-    if tag == LITERAL {
+    if tag == rule_cells::cells::NAME {
         return literal_fits(items, work, marks, p, u, w);
     }
-    if tag == WILDCARD {
+    if tag == rule_cells::cells::WILDCARD {
         return true;
     }
-    if tag == CONSTANT {
+    if tag == rule_cells::cells::CONSTANT {
         return constant_fits(work, p, u);
     }
-    if tag == parts::ELLIPSIS {
+    if tag == rule_cells::cells::ELLIPSIS {
         let element = cells::reference(work, p, 2);
         return each_fits(items, work, marks, element, u, w);
     }
-    let kind = cells::word(work, u, 3);
-    if tag != parts::PAIR {
+    let kind = cells::word(work, u, cells::KIND);
+    if tag != rule_cells::cells::PAIR {
         return kind == cells::EMPTY;
     }
     if kind != cells::PAIR {
         return false;
     }
-    if !fits(
-        items,
-        work,
-        marks,
-        cells::reference(work, p, 3),
-        cells::reference(work, u, 2),
-        w,
-    ) {
+    let head = cells::reference(work, p, 3);
+    let first = cells::reference(work, u, cells::HEAD);
+    if !fits(items, work, marks, head, first, w) {
         return false;
     }
-    fits(
-        items,
-        work,
-        marks,
-        cells::reference(work, p, 2),
-        cells::reference(work, u, 1),
-        w,
-    )
+    let tail = cells::reference(work, p, 2);
+    let rest = cells::reference(work, u, cells::TAIL);
+    fits(items, work, marks, tail, rest, w)
 }
 
 // Whether every element of a list fits.
@@ -107,13 +89,20 @@ pub fn each_fits(items: &[u32], work: &[u32], marks: &mut [u32], e: u32, list: u
     ensures { λ r. ⌜ EachFits (now (items .entry)) (now (work .entry)) e list w r ⌝ }
 {
     let mut node = list;
-    while cells::word(work, node, 3) == cells::PAIR {
-        if !fits(items, work, marks, e, cells::reference(work, node, 2), w) {
+    while cells::word(work, node, cells::KIND) == cells::PAIR {
+        if !fits(
+            items,
+            work,
+            marks,
+            e,
+            cells::reference(work, node, cells::HEAD),
+            w,
+        ) {
             return false;
         }
-        node = cells::reference(work, node, 1);
+        node = cells::reference(work, node, cells::TAIL);
     }
-    cells::word(work, node, 3) == cells::EMPTY
+    cells::word(work, node, cells::KIND) == cells::EMPTY
 }
 
 // The first of the rules that fits the use, 0 where none does.

@@ -18,7 +18,7 @@ pub fn deeper(tag: u32, j: u32) -> u32
     requires { ⌜ j + 1 < 2 ^ 32 ⌝ }
     ensures { λ r. ⌜ r ≡ deeper tag j ⌝ }
 {
-    if tag == parts::ELLIPSIS {
+    if tag == rule_cells::cells::ELLIPSIS {
         return j + 1;
     }
     j
@@ -38,8 +38,8 @@ pub fn driver(
     requires { ⌜ j + t < 2 ^ 32 ⌝ }
     ensures { λ r. ⌜ Drives (now (work .entry)) p u n outer inner j t r ⌝ }
 {
-    let tag = cells::word(work, t, 1);
-    if tag == parts::VARIABLE {
+    let tag = cells::word(work, t, cells::TAG);
+    if tag == rule_cells::cells::VARIABLE {
         let d = cells::word(work, t, 2);
         if d <= j {
             return Driving::None;
@@ -48,10 +48,10 @@ pub fn driver(
         let list = parts::taken(work, p, u, n, outer, inner, k, d - j - 1);
         return Driving::Length(lists::count(work, list));
     }
-    if tag < parts::PAIR {
+    if tag < rule_cells::cells::PAIR {
         return Driving::None;
     }
-    if parts::ELLIPSIS < tag {
+    if rule_cells::cells::ELLIPSIS < tag {
         return Driving::None;
     }
     let head = cells::reference(work, t, 3);
@@ -91,8 +91,8 @@ pub fn all_of(
     requires { ⌜ j + t < 2 ^ 32 ⌝ }
     ensures { λ r. ⌜ AllOf (now (work .entry)) p u n outer inner j t c r ⌝ }
 {
-    let tag = cells::word(work, t, 1);
-    if tag == parts::VARIABLE {
+    let tag = cells::word(work, t, cells::TAG);
+    if tag == rule_cells::cells::VARIABLE {
         let d = cells::word(work, t, 2);
         if d <= j {
             return true;
@@ -101,10 +101,10 @@ pub fn all_of(
         let list = parts::taken(work, p, u, n, outer, inner, k, d - j - 1);
         return c == lists::count(work, list);
     }
-    if tag < parts::PAIR {
+    if tag < rule_cells::cells::PAIR {
         return true;
     }
-    if parts::ELLIPSIS < tag {
+    if rule_cells::cells::ELLIPSIS < tag {
         return true;
     }
     let head = cells::reference(work, t, 3);

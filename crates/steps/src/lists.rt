@@ -11,20 +11,20 @@ use arena::cells;
 pub fn first(work: &[u32], node: u32) -> u32
     ensures { λ r. ⌜ Means (now (work .entry)) node r (element 0) ⌝ }
 {
-    if cells::word(work, node, 3) != cells::PAIR {
+    if cells::word(work, node, cells::KIND) != cells::PAIR {
         return 0;
     }
-    cells::reference(work, node, 2)
+    cells::reference(work, node, cells::HEAD)
 }
 
 // The list after its first element.
 pub fn rest(work: &[u32], node: u32) -> u32
     ensures { λ r. ⌜ Means (now (work .entry)) node r tail ⌝ }
 {
-    if cells::word(work, node, 3) != cells::PAIR {
+    if cells::word(work, node, cells::KIND) != cells::PAIR {
         return 0;
     }
-    cells::reference(work, node, 1)
+    cells::reference(work, node, cells::TAIL)
 }
 
 // Element i of a list.
@@ -46,8 +46,8 @@ pub fn count(work: &[u32], list: u32) -> u32
 {
     let mut node = list;
     let mut k = 0;
-    while cells::word(work, node, 3) == cells::PAIR {
-        node = cells::reference(work, node, 1);
+    while cells::word(work, node, cells::KIND) == cells::PAIR {
+        node = cells::reference(work, node, cells::TAIL);
         k += 1;
     }
     k

@@ -5,26 +5,19 @@ ghost use Rattle.steps.specs.Parts.{Holds, outward, Part, Taken};
 use crate::lists;
 use arena::cells;
 
-// Tags of a pattern's cells.
-pub const VARIABLE: u32 = 1;
-
-pub const PAIR: u32 = 6;
-
-pub const ELLIPSIS: u32 = 7;
-
 // Whether the pattern holds variable k.
 pub fn holds(work: &[u32], p: u32, k: u32) -> bool
     ensures { λ r. ⌜ Holds (now (work .entry)) p k r ⌝ }
 {
-    let tag = cells::word(work, p, 1);
-    if tag == VARIABLE {
+    let tag = cells::word(work, p, cells::TAG);
+    if tag == rule_cells::cells::VARIABLE {
         return k == cells::word(work, p, 2);
     }
-    if tag == ELLIPSIS {
+    if tag == rule_cells::cells::ELLIPSIS {
         let element = cells::reference(work, p, 2);
         return holds(work, element, k);
     }
-    if tag != PAIR {
+    if tag != rule_cells::cells::PAIR {
         return false;
     }
     let head = cells::reference(work, p, 3);
@@ -39,11 +32,11 @@ pub fn holds(work: &[u32], p: u32, k: u32) -> bool
 pub fn part(work: &[u32], p: u32, k: u32, d: u32, outer: u32, inner: u32, u: u32) -> u32
     ensures { λ r. ⌜ Part (now (work .entry)) p k (outward d outer inner) u r ⌝ }
 {
-    let tag = cells::word(work, p, 1);
-    if tag == VARIABLE {
+    let tag = cells::word(work, p, cells::TAG);
+    if tag == rule_cells::cells::VARIABLE {
         return u;
     }
-    if tag == PAIR {
+    if tag == rule_cells::cells::PAIR {
         let head = cells::reference(work, p, 3);
         if holds(work, head, k) {
             return part(work, head, k, d, outer, inner, lists::first(work, u));
@@ -51,7 +44,7 @@ pub fn part(work: &[u32], p: u32, k: u32, d: u32, outer: u32, inner: u32, u: u32
         let tail = cells::reference(work, p, 2);
         return part(work, tail, k, d, outer, inner, lists::rest(work, u));
     }
-    if tag != ELLIPSIS {
+    if tag != rule_cells::cells::ELLIPSIS {
         return 0;
     }
     if d == 0 {
@@ -59,25 +52,11 @@ pub fn part(work: &[u32], p: u32, k: u32, d: u32, outer: u32, inner: u32, u: u32
     }
     let element = cells::reference(work, p, 2);
     if d == 1 {
-        return part(
-            work,
-            element,
-            k,
-            0,
-            outer,
-            inner,
-            lists::element(work, u, inner),
-        );
+        let v = lists::element(work, u, inner);
+        return part(work, element, k, 0, outer, inner, v);
     }
-    part(
-        work,
-        element,
-        k,
-        1,
-        outer,
-        inner,
-        lists::element(work, u, outer),
-    )
+    let v = lists::element(work, u, outer);
+    part(work, element, k, 1, outer, inner, v)
 }
 
 // What variable k takes under the innermost d of the n indices.

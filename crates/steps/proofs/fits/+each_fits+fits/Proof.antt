@@ -176,7 +176,7 @@ fits-reference-requires-3 t c κs =
 
 fits-fits-requires : (t : ℕ) → fits-lts.Need-fits-requires (fits-claims t) (fits-at t) fits.Post
 fits-fits-requires t c κs =
-    let a = c .before .before .before .before .before .before .before .before .before .before .before .before .before .before .before .args in let l = tag-falls (a .work .now) (a .p) _ (c .before .before .before .before .before .before .before .before .before .before .before .word .ensures) 3 _ (λ z. omega arith) (c .before .reference2 .ensures) in (omega (arith, l), c .before .before .before .before .before .before .before .before .before .before .before .before .before .before .before .pre .1)
+    let a = c .before .before .before .before .before .before .before .before .before .before .before .before .before .before .before .args in let l = tag-falls (a .work .now) (a .p) _ (c .before .before .before .before .before .before .before .before .before .before .before .word .ensures) 3 _ (λ z. omega arith) (c .before .before .reference2 .ensures) in (omega (arith, l), c .before .before .before .before .before .before .before .before .before .before .before .before .before .before .before .pre .1)
 
 fits-same-length-3 : (t : ℕ) → fits-lts.Need-same-length-3 (fits-claims t) (fits-at t) fits.Post
 fits-same-length-3 t c =
@@ -184,7 +184,7 @@ fits-same-length-3 t c =
 
 fits-returns-8 : (t : ℕ) → fits-lts.Need-returns-8 (fits-claims t) (fits-at t) fits.Post
 fits-returns-8 t c =
-    let a = c .before .before .before .before .before .before .before .before .before .before .before .before .before .before .before .before .before .before .before .args in fits-head-no (a .items .now) (a .work .now) (a .p) _ (c .before .before .before .before .before .before .before .before .before .before .before .before .before .before .before .word .ensures) (a .u) (a .w) _ (c .before .before .before .before .before .before .before .before .before .word2 .ensures) _ _ _ (c .before .before .before .before .before .before .before .before .if6 .left) (c .before .before .before .before .before .before .before .if7 .left) (c .before .before .before .before .before .reference2 .ensures) (c .before .before .before .before .reference3 .ensures) (c .before .before .before .fits2 .ensures) (not-true _ (c .if8 .taken))
+    let a = c .before .before .before .before .before .before .before .before .before .before .before .before .before .before .before .before .before .before .before .args in fits-head-no (a .items .now) (a .work .now) (a .p) _ (c .before .before .before .before .before .before .before .before .before .before .before .before .before .before .before .word .ensures) (a .u) (a .w) _ (c .before .before .before .before .before .before .before .before .before .word2 .ensures) _ _ _ (c .before .before .before .before .before .before .before .before .if6 .left) (c .before .before .before .before .before .before .before .if7 .left) (c .before .before .before .before .before .before .reference2 .ensures) (c .before .before .before .before .before .reference3 .ensures) (c .before .before .before .fits2 .ensures) (not-true _ (c .if8 .taken))
 
 fits-reference-requires-4 : (t : ℕ) → fits-lts.Need-reference-requires-4 (fits-claims t) (fits-at t) fits.Post
 fits-reference-requires-4 t c κs =
@@ -196,7 +196,7 @@ fits-reference-requires-5 t c κs =
 
 fits-fits-requires-2 : (t : ℕ) → fits-lts.Need-fits-requires-2 (fits-claims t) (fits-at t) fits.Post
 fits-fits-requires-2 t c κs =
-    let a = c .before .before .before .before .before .before .before .before .before .before .before .before .before .before .before .before .before .before .before .before .before .before .args in let l = tag-falls (a .work .now) (a .p) _ (c .before .before .before .before .before .before .before .before .before .before .before .before .before .before .before .before .before .before .word .ensures) 2 _ (λ z. omega arith) (c .before .reference4 .ensures) in (omega (arith, l), omega (arith, c .before .before .before .before .before .before .before .before .before .before .before .before .before .before .before .before .before .before .before .before .before .before .pre .1, c .before .before .before .before .before .before .fits2 .kept .1 .1 .0))
+    let a = c .before .before .before .before .before .before .before .before .before .before .before .before .before .before .before .before .before .before .before .before .before .before .args in let l = tag-falls (a .work .now) (a .p) _ (c .before .before .before .before .before .before .before .before .before .before .before .before .before .before .before .before .before .before .word .ensures) 2 _ (λ z. omega arith) (c .before .before .reference4 .ensures) in (omega (arith, l), omega (arith, c .before .before .before .before .before .before .before .before .before .before .before .before .before .before .before .before .before .before .before .before .before .before .pre .1, c .before .before .before .before .before .before .fits2 .kept .1 .1 .0))
 
 fits-same-length-4 : (t : ℕ) → fits-lts.Need-same-length-4 (fits-claims t) (fits-at t) fits.Post
 fits-same-length-4 t c =
@@ -204,7 +204,7 @@ fits-same-length-4 t c =
 
 fits-returns-9 : (t : ℕ) → fits-lts.Need-returns-9 (fits-claims t) (fits-at t) fits.Post
 fits-returns-9 t c =
-    let a = c .before .before .before .before .before .before .before .before .before .before .before .before .before .before .before .before .before .before .before .before .before .before .before .before .before .args in fits-tail (a .items .now) (a .work .now) (a .p) _ (c .before .before .before .before .before .before .before .before .before .before .before .before .before .before .before .before .before .before .before .before .before .word .ensures) (a .u) (a .w) _ (c .before .before .before .before .before .before .before .before .before .before .before .before .before .before .before .word2 .ensures) _ _ _ (c .before .before .before .before .before .before .before .before .before .before .before .before .before .before .if6 .left) (c .before .before .before .before .before .before .before .before .before .before .before .before .before .if7 .left) (c .before .before .before .before .before .before .before .before .before .before .before .reference2 .ensures) (c .before .before .before .before .before .before .before .before .before .before .reference3 .ensures) (c .before .before .before .before .before .before .before .before .before .fits2 .ensures) _ _ _ (not-false _ (c .before .before .before .before .before .before .if8 .left)) (c .before .before .before .before .reference4 .ensures) (c .before .before .before .reference5 .ensures) (c .before .before .fits3 .ensures)
+    let a = c .before .before .before .before .before .before .before .before .before .before .before .before .before .before .before .before .before .before .before .before .before .before .before .before .before .args in fits-tail (a .items .now) (a .work .now) (a .p) _ (c .before .before .before .before .before .before .before .before .before .before .before .before .before .before .before .before .before .before .before .before .before .word .ensures) (a .u) (a .w) _ (c .before .before .before .before .before .before .before .before .before .before .before .before .before .before .before .word2 .ensures) _ _ _ (c .before .before .before .before .before .before .before .before .before .before .before .before .before .before .if6 .left) (c .before .before .before .before .before .before .before .before .before .before .before .before .before .if7 .left) (c .before .before .before .before .before .before .before .before .before .before .before .before .reference2 .ensures) (c .before .before .before .before .before .before .before .before .before .before .before .reference3 .ensures) (c .before .before .before .before .before .before .before .before .before .fits2 .ensures) _ _ _ (not-false _ (c .before .before .before .before .before .before .if8 .left)) (c .before .before .before .before .before .reference4 .ensures) (c .before .before .before .before .reference5 .ensures) (c .before .before .fits3 .ensures)
 
 pub +each-fits+fits-spec : {M : Type 1} → statement M
 +each-fits+fits-spec = close μ-each-fits μ-fits (λ t. each-fits-lts.spec (each-fits-claims t) (each-fits-at t)
