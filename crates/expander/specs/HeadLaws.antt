@@ -11,7 +11,7 @@ use Rattle.core_term.specs.Term.{Term, variableC, operationC, datumC}
 use Rattle.expansion.specs.Lookup.{bound, form, quote, lambda, auxiliary, operation, nothing, lookup}
 use Rattle.expansion.specs.Computation.{State, M, give, refuse}
 use Rattle.expansion.specs.Forms.{expandTree, expandList, expandOperands, expandUse, expandLambda}
-use Rattle.expander.specs.Ends.{End, finished, stopped, endOf}
+use Rattle.expander.specs.Ends.{finished, stopped, endOf}
 use Rattle.expander.specs.EndLaws.{quote-end, name-end}
 use Rattle.expander.specs.Turns.{operationsOf, turnOf}
 use Rattle.expander.specs.Leaves.{nameEnd}

@@ -1,9 +1,8 @@
 -- Laws of expressions that are done at once, one for each way through the code.
 use mathlib.Core.Path.{_≡_, refl, ap, sym, subst, _∙_}
 use mathlib.Core.List.{List, [], _∷_}
-use Prim.Native.Nat.{ℕ, _+_, _*_, _-_, _≤_, _<_}
+use Prim.Native.Nat.{ℕ, _*_}
 use native.Mathlib.Omega.{arith}
-use lib.ListN.{length}
 use Rattle.words.specs.Limits.{macrosMost}
 use Rattle.recipe.specs.Name.{variable, macro, Name}
 use Rattle.recipe.specs.Tree.{Tree, name, pair, size}
@@ -23,11 +22,11 @@ use Rattle.expander.specs.declared.leaf.Looked.the-variants.{Finds, Noth
 use Rattle.expander.specs.declared.answers.Reached.{Reached}
 use Rattle.expander.specs.declared.answers.Ended.{Ended}
 use Rattle.expander.specs.declared.answers.Ended.the-variants.{Done, Refused}
-use Rattle.expander.specs.Ends.{End, finished, stopped, endOf}
+use Rattle.expander.specs.Ends.{End, stopped, endOf}
 use Rattle.expander.specs.EndLaws.{list-end}
-use Rattle.expander.specs.Memory.{Tables, tables, stateAt, Moved, Ready, Kept}
+use Rattle.expander.specs.Memory.{Tables, tables, stateAt, Moved, Ready}
 use Rattle.expander.specs.MemoryLaws.{kept-moved, state-moved}
-use Rattle.expander.specs.Turns.{Lent, operationsOf, Left, KeptBy, turnOf, Ends}
+use Rattle.expander.specs.Turns.{Lent, operationsOf, Left, turnOf, Ends}
 use Rattle.expander.specs.Leaves.{knownOf, Looks, Refuses, Makes, Stops, Leaf, nameEnd}
 
 -- ---- lookups

@@ -1,16 +1,16 @@
 -- The table of places that ground 10 leaves says of every name what the definition finds.
 use mathlib.Core.Path.{_≡_, refl, ap, sym, _∙_}
-use mathlib.Core.Bool.{Bool, true, false, cond}
+use mathlib.Core.Bool.{true, cond}
 use mathlib.Core.List.{List, [], _∷_}
-use Prim.Native.Nat.{ℕ, zero, suc, _+_, _-_, _≤_, _<_}
+use Prim.Native.Nat.{ℕ, zero, suc, _-_, _≤_, _<_}
 use native.Mathlib.Omega.{arith}
-use lib.Dec.{eqb, ltb}
+use lib.Dec.{ltb}
 use lib.ListN.{length, getD}
 use borrow.Author.Tests.{ltb-true, ltb-false, ne-eqb}
 use Rattle.words.specs.Limits.{namesMost, baseNameCount}
 use Rattle.words.specs.Lists.{all}
 use Rattle.words.specs.TestLaws.{all-parts}
-use Rattle.expansion.specs.Lookup.{Found, form, operation, nothing, formOf, placeFrom, unboundMeaning}
+use Rattle.expansion.specs.Lookup.{form, nothing, formOf, placeFrom, unboundMeaning}
 use Rattle.arena.specs.ArenaLaws.{cases}
 use Rattle.arena.specs.Names.{operationAt, unboundIn}
 use Rattle.layout.specs.Places.{placed, Places}

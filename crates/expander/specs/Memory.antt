@@ -5,8 +5,7 @@ use mathlib.Core.List.{List, [], _∷_, _++_}
 use Prim.Native.Nat.{ℕ, zero, suc, _+_, _*_, _-_, _^_, _≤_, _<_}
 use lib.ListN.{length, getD, take, drop}
 use Rattle.words.specs.Each.{Each}
-use Rattle.recipe.specs.Name.{Name}
-use Rattle.recipe.specs.Tree.{Tree, size, elements}
+use Rattle.recipe.specs.Tree.{Tree, elements}
 use Rattle.recipe.specs.Tidy.{Tidy}
 use Rattle.recipe.specs.TableTidy.{IsConstant}
 use Rattle.expansion.specs.Rules.{Rule}

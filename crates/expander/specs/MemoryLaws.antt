@@ -1,14 +1,13 @@
 -- Laws of the tables: what was settled stays, words follow words, and what is ready stays ready.
 use mathlib.Core.Path.{_≡_, refl, ap, ap₂, sym, subst, _∙_}
 use mathlib.Core.List.{List, [], _∷_, _++_, append-assoc, append-nil}
-use Prim.Native.Nat.{ℕ, zero, suc, _+_, _*_, _-_, _≤_, _<_}
+use Prim.Native.Nat.{ℕ, zero, suc, _+_, _*_, _≤_, _<_}
 use native.Mathlib.Omega.{arith}
 use native.Mathlib.Numerals.{add-one}
 use lib.Dec.{ltb}
 use borrow.Author.Tests.{ltb-true, ltb-false}
 use lib.ListN.{List·getD-append, length, getD, take, drop, set, length-append, length-drop, take-append-drop}
-use lib.Seq.{take-at, drop-append-add, take-take, drop-drop, getD-take, length-take-le, set-split, append-snoc, getD-append-seam}
-use Rattle.words.specs.Each.{Each}
+use lib.Seq.{take-at, drop-append-add, drop-drop, getD-take, length-take-le, set-split, append-snoc, getD-append-seam}
 use Rattle.expansion.specs.Rules.{Rule}
 use Rattle.rule_cells.specs.Cells.{rulesAt}
 use Rattle.rule_cells.specs.CellLaws.{rulesAt-below}
@@ -16,7 +15,7 @@ use Rattle.recipe.specs.Tree.{elements}
 use Rattle.arena.specs.Arena.{treeAt}
 use Rattle.arena.specs.ArenaLaws.{cases, take-less}
 use Rattle.expander.specs.declared.answers.Reached.{Reached}
-use Rattle.expander.specs.Memory.{Tables, tables, macrosAt, stateAt, CoreRoom, Put, moved, Moved, workNeed, coreNeed, variableNeed, macroNeed, Macros, Ready, Kept, Written, HeaderMoved}
+use Rattle.expander.specs.Memory.{Tables, tables, macrosAt, stateAt, Put, moved, Moved, workNeed, coreNeed, variableNeed, macroNeed, Macros, Ready, Kept, HeaderMoved}
 
 -- ---- words one after another
 

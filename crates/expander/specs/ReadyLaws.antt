@@ -1,16 +1,16 @@
 -- What is ready for an expression gives each turn the room it asks for.
-use mathlib.Core.Path.{_≡_, ap, sym, _∙_}
-use mathlib.Core.List.{List, []}
-use Prim.Native.Nat.{ℕ, _+_, _*_, _-_, _^_, _≤_, _<_}
+use mathlib.Core.Path.{_≡_, ap, _∙_}
+use mathlib.Core.List.{List}
+use Prim.Native.Nat.{ℕ, _*_, _≤_, _<_}
 use native.Mathlib.Omega.{arith}
 use lib.ListN.{length}
-use Rattle.recipe.specs.Tree.{Tree, size}
+use Rattle.recipe.specs.Tree.{size}
 use Rattle.recipe.specs.TreeLaws.{size-positive, onNames-size}
 use Rattle.arena.specs.Arena.{treeAt, wrapAt, markLimit}
 use Rattle.arena.specs.NodeLaws.{treeAt-wrap}
 use Rattle.forms.specs.QuoteLaws.{quotable-any}
 use Rattle.expander.specs.declared.answers.Reached.{Reached}
-use Rattle.expander.specs.Memory.{tables, CoreRoom, workNeed, coreNeed, variableNeed, macroNeed, Macros, Ready, Placed}
+use Rattle.expander.specs.Memory.{tables, CoreRoom, workNeed, coreNeed, variableNeed, macroNeed, Ready, Placed}
 use Rattle.expander.specs.Scopes.{Roomy, QuoteRoom}
 use Rattle.expander.specs.Uses.{UseRoom}
 

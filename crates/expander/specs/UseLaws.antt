@@ -3,34 +3,31 @@ use mathlib.Core.Path.{_≡_, refl, ap, ap₂, sym, subst, _∙_}
 use mathlib.Core.Bool.{Bool, true, false, cond}
 use mathlib.Core.List.{List, []}
 use mathlib.Core.Option.{Option, none, some}
-use Prim.Native.Nat.{ℕ, zero, suc, _+_, _*_, _-_, _^_, _≤_, _<_}
+use Prim.Native.Nat.{ℕ, suc, _+_, _*_, _-_, _^_, _≤_, _<_}
 use native.Mathlib.Omega.{arith}
 use lib.Dec.{ltb, leb}
-use lib.ListN.{length, getD, take}
-use borrow.Author.Tests.{lt-ltb, le-ltb, ltb-true, ltb-false, le-leb, lt-leb, leb-true, leb-false}
-use Rattle.words.specs.Limits.{macrosMost}
-use Rattle.words.specs.Each.{Each, noneOf, each-getD}
-use Rattle.recipe.specs.Name.{Name, markName, produceName}
+use lib.ListN.{length, getD}
+use borrow.Author.Tests.{lt-ltb, le-ltb, ltb-true, ltb-false, leb-true}
+use Rattle.words.specs.Each.{noneOf, each-getD}
+use Rattle.recipe.specs.Name.{markName, produceName}
 use Rattle.recipe.specs.Tree.{Tree, empty, constant, name, pair, size, tail, onPair, onNames, mark, produce}
-use Rattle.recipe.specs.TreeLaws.{onNames-∘, size-positive}
-use Rattle.core_term.specs.Term.{Term}
+use Rattle.recipe.specs.TreeLaws.{onNames-∘}
 use Rattle.expansion.specs.Rules.{Rule}
 use Rattle.expansion.specs.Match.{firstFit}
 use Rattle.arena.specs.Arena.{treeAt, wrapAt, markLimit}
-use Rattle.arena.specs.ArenaLaws.{cases, take-less, wrapAt-none}
+use Rattle.arena.specs.ArenaLaws.{cases, take-less}
 use Rattle.arena.specs.Cells.{Room, Wrapped}
-use Rattle.arena.specs.CellLaws.{tree-mark, tree-kept}
+use Rattle.arena.specs.CellLaws.{tree-mark}
 use Rattle.rule_cells.specs.Cells.{rulesAt}
 use Rattle.rule_cells.specs.CellLaws.{rulesAt-below, rulesAt-none}
 use Rattle.steps.specs.Lists.{Means}
-use Rattle.steps.specs.Plain.{Plain}
 use Rattle.expansion.specs.Transcribe.{equalLengths, transcribe}
 use Rattle.steps.specs.Apply.{Outcome, refused, result, applied, stepOf, Answers, Stepping, Stepped}
 use Rattle.steps.specs.declared.apply.Applied.{Applied}
 use Rattle.steps.specs.declared.apply.Applied.the-variants.{NoRule, Differ, Costly, Done}
 use Rattle.expander.specs.declared.answers.Reached.{Reached}
 use Rattle.expander.specs.declared.answers.Ended.{Ended}
-use Rattle.expander.specs.Memory.{Tables, tables, macrosAt, Macros, Placed}
+use Rattle.expander.specs.Memory.{macrosAt}
 use Rattle.expander.specs.MemoryLaws.{macrosAt-one, macrosAt-past}
 use Rattle.expander.specs.Leaves.{Refuses}
 use Rattle.expander.specs.Uses.{rulesWord, usedOf, outcomeOf, UseRoom, stepped, Used, Unused}

@@ -1,15 +1,15 @@
 -- The turn of a macro use: the result of the definition's step stands for the use, or the step is refused.
-use mathlib.Core.Path.{_≡_, refl, ap, ap₂, sym, subst, _∙_}
+use mathlib.Core.Path.{_≡_, refl, ap, sym, subst, _∙_}
 use mathlib.Core.Bool.{Bool, true, false, cond}
 use mathlib.Core.List.{List, []}
 use mathlib.Core.Option.{Option, none, some}
-use Prim.Native.Nat.{ℕ, suc, _+_, _*_, _-_, _≤_, _<_}
+use Prim.Native.Nat.{ℕ, suc, _+_, _-_, _≤_, _<_}
 use native.Mathlib.Omega.{arith}
 use lib.Dec.{leb}
-use lib.ListN.{length, getD, take}
+use lib.ListN.{length, getD}
 use borrow.Author.Tests.{le-leb, lt-leb, leb-true, leb-false}
 use Rattle.words.specs.Limits.{macrosMost}
-use Rattle.words.specs.Each.{Each, noneOf, each-getD, Given, missing, given}
+use Rattle.words.specs.Each.{noneOf, each-getD, Given, missing, given}
 use Rattle.recipe.specs.Name.{Name}
 use Rattle.recipe.specs.Tree.{Tree, size, tail, mark, produce}
 use Rattle.recipe.specs.TreeLaws.{size-positive, mark-size, produce-size}
@@ -32,10 +32,9 @@ use Rattle.expander.specs.declared.answers.Ended.the-variants.{Done, Ref
 use Rattle.expander.specs.Ends.{End, finished, stopped, halted, endOf, needs, withStep}
 use Rattle.expander.specs.Ends as E
 use Rattle.expander.specs.EndLaws as L
-use Rattle.expander.specs.Memory.{Tables, tables, macrosAt, stateAt, Put, workNeed, coreNeed, variableNeed, macroNeed, Proper, Macros, Ready, Placed, Kept}
+use Rattle.expander.specs.Memory.{Tables, tables, macrosAt, stateAt, Put, workNeed, coreNeed, variableNeed, macroNeed, Proper, Ready, Kept}
 use Rattle.expander.specs.MemoryLaws.{macrosAt-settled, macros-kept}
 use Rattle.expander.specs.Turns.{operationsOf, Left, turnOf, Ends, Follows}
-use Rattle.expander.specs.LeafLaws.{refused-ends}
 use Rattle.expander.specs.Uses.{usedOf, outcomeOf, stepped, Used, Unused}
 
 -- ---- the definition's step, by its outcome

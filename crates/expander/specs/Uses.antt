@@ -14,7 +14,7 @@ use Rattle.expander.specs.declared.answers.Reached.{Reached}
 use Rattle.expander.specs.declared.answers.Ended.{Ended}
 use Rattle.expander.specs.declared.answers.Turn.{Turn}
 use Rattle.expander.specs.declared.answers.Turn.the-variants.{Again, Operands, Over}
-use Rattle.expander.specs.Memory.{tables, numberMost, macrosAt, Macros, Placed}
+use Rattle.expander.specs.Memory.{tables, numberMost, Macros, Placed}
 use Rattle.expander.specs.Leaves.{Refuses}
 
 -- the reference to the rules of macro n, of so many

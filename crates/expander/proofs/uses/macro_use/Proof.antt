@@ -2,14 +2,6 @@
 use borrow.Author.Needs.{needs}
 use Rattle.expander.proofs.uses.macro_use.Statement.{statement}
 use Rattle.expander.proofs.uses.macro_use.Tie as tie
-use Rattle.expander.proofs.uses.macro_use.Reads as reads
-use Rattle.expander.proofs.uses.macro_use.Lts as lts
-use Rattle.arena.proofs.cells.put_mark.Reads as put-mark-reads
-use Rattle.expander.proofs.leaf.refuse.Reads as refuse-reads
-use Rattle.expander.proofs.uses.rules_of.Reads as rules-of-reads
-use Rattle.steps.proofs.apply.apply.Reads as apply-reads
-use Rattle.steps.proofs.lists.rest.Reads as rest-reads
-use native.Mathlib.Omega.{arith}
 use mathlib.Core.Path.{refl}
 use Rattle.expander.specs.UseLaws.{use-marks, use-stepping, use-no-rule, use-differs, use-costly, use-paid, use-marks-again, use-made}
 

@@ -2,9 +2,6 @@
 use borrow.Author.Needs.{needs}
 use Rattle.expander.proofs.uses.rules_of.Statement.{statement}
 use Rattle.expander.proofs.uses.rules_of.Tie as tie
-use Rattle.expander.proofs.uses.rules_of.Reads as reads
-use Rattle.expander.proofs.uses.rules_of.Lts as lts
-use native.Mathlib.Omega.{arith}
 use Rattle.expander.specs.UseLaws.{rules-known, rules-unknown}
 
 -- src/uses.rt:23:16
