@@ -1,5 +1,4 @@
 -- The loops of the cycle: what holds of an expression while turns stand for one another, and of operands while they are walked.
-use mathlib.Core.Path.{_≡_}
 use mathlib.Core.List.{List}
 use Prim.Native.Nat.{ℕ, _+_, _-_, _≤_}
 use Rattle.words.specs.Limits.{macrosMost}

@@ -1,30 +1,30 @@
 -- Laws of the cycle's loops, one for each way through the code.
 use mathlib.Core.Path.{_≡_, refl, ap, sym, subst, _∙_}
-use mathlib.Core.List.{List, [], _∷_, _++_}
-use Prim.Native.Nat.{ℕ, zero, suc, _+_, _*_, _-_, _≤_, _<_}
+use mathlib.Core.List.{List}
+use Prim.Native.Nat.{ℕ, zero, suc, _+_, _-_, _≤_, _<_}
 use native.Mathlib.Omega.{arith}
-use lib.ListN.{length, take}
+use lib.ListN.{length}
 use Rattle.words.specs.Limits.{macrosMost}
 use Rattle.recipe.specs.Name.{Name}
-use Rattle.recipe.specs.Tree.{Tree, empty, constant, name, pair, size, elements}
+use Rattle.recipe.specs.Tree.{Tree, pair, size, elements}
 use Rattle.recipe.specs.TreeLaws.{size-positive}
-use Rattle.recipe.specs.Tidy.{Tidy, tidyPair, tidy-tail, tidy-element}
-use Rattle.core_term.specs.Term.{Term, Terms, noneC, moreC}
+use Rattle.recipe.specs.Tidy.{tidyPair}
+use Rattle.core_term.specs.Term.{Term, Terms, moreC}
 use Rattle.core_term.specs.Words.{encode, encodeAll}
-use Rattle.expansion.specs.Computation.{State, M}
-use Rattle.expansion.specs.Forms.{expand, expandTree, expandAll}
+use Rattle.expansion.specs.Computation.{State}
+use Rattle.expansion.specs.Forms.{expand}
 use Rattle.arena.specs.Arena.{treeAt}
 use Rattle.arena.specs.CellLaws.{tree-kept}
 use Rattle.expander.specs.declared.answers.Reached.{Reached}
 use Rattle.expander.specs.declared.answers.Ended.{Ended}
 use Rattle.expander.specs.declared.answers.Ended.the-variants.{Done, Refused}
-use Rattle.expander.specs.Ends.{End, finished, stopped, halted, endOf, then}
+use Rattle.expander.specs.Ends.{End, finished, stopped, halted, then}
 use Rattle.expander.specs.EndLaws.{expandAll-pair}
-use Rattle.expander.specs.Memory.{Tables, stateAt, Put, workNeed, coreNeed, variableNeed, macroNeed, Proper, Ready, Placed, Kept}
+use Rattle.expander.specs.Memory.{Tables, stateAt, workNeed, coreNeed, variableNeed, macroNeed, Proper, Ready, Placed, Kept}
 use Rattle.expander.specs.MemoryLaws.{put-none, kept-both}
 use Rattle.expander.specs.Turns.{operationsOf, Left, KeptBy, turnOf, operandsOf, Ends, Follows, Spreads, Expands, ExpandsAll}
 use Rattle.expander.specs.SpreadLaws.{Prefixed, left-after, no-operands}
-use Rattle.expander.specs.Cycle.{expandBy, expandAllBy, Right, RightAll, Going, Walking}
+use Rattle.expander.specs.Cycle.{expandBy, expandAllBy, Right, Going, Walking}
 
 -- ---- what is kept, of a part and of nothing
 

@@ -1,23 +1,22 @@
 -- The ends of forms, one equation a form: what the definition of expansion says when nothing is shown.
-use mathlib.Core.Path.{_≡_, refl, ap, sym, _∙_}
-use mathlib.Core.Bool.{Bool, true, false, _&&_, cond}
-use mathlib.Core.List.{List, [], _∷_, _++_, map}
+use mathlib.Core.Path.{_≡_, refl, ap, _∙_}
+use mathlib.Core.Bool.{Bool, true, false, cond}
+use mathlib.Core.List.{List, [], _∷_, map}
 use mathlib.Core.Option.{Option, none, some}
-use Prim.Native.Nat.{ℕ, zero, suc, _+_}
+use Prim.Native.Nat.{ℕ, suc, _+_}
 use lib.Dec.{leb}
 use lib.ListN.{length, getD}
 use Rattle.words.specs.Options.{mapSome, mapBoth, traverse}
-use Rattle.datum.specs.Datum.{constantD}
-use Rattle.recipe.specs.Name.{Binding, variable, macro, Name, distinct}
-use Rattle.recipe.specs.Tree.{Tree, empty, constant, name, pair, size, strip, isListOf, element, tail, mark, produce, bindAll}
-use Rattle.core_term.specs.Term.{Term, datumC, ifC, lambdaC, applicationC, Terms, noneC, moreC}
-use Rattle.expansion.specs.Lookup.{lookup, Found}
+use Rattle.recipe.specs.Name.{variable, macro, Name, distinct}
+use Rattle.recipe.specs.Tree.{Tree, name, pair, size, strip, isListOf, element, tail, mark, produce, bindAll}
+use Rattle.core_term.specs.Term.{Term, datumC, ifC, lambdaC, applicationC, moreC}
+use Rattle.expansion.specs.Lookup.{lookup}
 use Rattle.expansion.specs.Rules.{Rule, rulesOf}
 use Rattle.expansion.specs.Match.{firstFit}
 use Rattle.expansion.specs.Transcribe.{equalLengths, transcribe}
-use Rattle.expansion.specs.Computation.{State, Event, Events, Out, done, refused, starved, M, after, goOn, _>>=_, _>>_, give, refuse, show, test, orRefuse, get, addVariables, addMacros, addStep}
+use Rattle.expansion.specs.Computation.{State, Events, Out, done, refused, starved, M, after, goOn, _>>=_, _>>_, give, show, test, orRefuse, get, addVariables, addMacros, addStep}
 use Rattle.expansion.specs.Forms.{isLambda, formals, isMacros, keywords, rulesForms, readRules, expandAll, expandQuote, expandIf, expandLambda, expandMacros, expandUse, expandOperands, expandList, expandName, expandApplication, expandPair, expandTree}
-use Rattle.expander.specs.Ends.{End, finished, stopped, halted, endOf, then, needs, given, withVariables, withMacros, withStep}
+use Rattle.expander.specs.Ends.{End, finished, endOf, then, needs, given, withVariables, withMacros, withStep}
 
 -- ---- computations
 

@@ -1,14 +1,14 @@
 -- Laws of a lambda's turn: its names are bound, and its body stands for it.
 use mathlib.Core.Path.{_≡_, refl, ap, ap₂, sym, subst, _∙_}
-use mathlib.Core.Bool.{Bool, true, false, _&&_}
-use mathlib.Core.List.{List, [], _∷_, _++_}
-use Prim.Native.Nat.{ℕ, suc, _+_, _*_, _-_, _^_, _≤_, _<_}
+use mathlib.Core.Bool.{true, false}
+use mathlib.Core.List.{List, [], _∷_}
+use Prim.Native.Nat.{ℕ, _+_, _*_, _^_, _≤_, _<_}
 use native.Mathlib.Omega.{arith}
-use lib.ListN.{length, take}
+use lib.ListN.{length}
 use Rattle.words.specs.Limits.{macrosMost}
 use Rattle.words.specs.TestLaws.{and-parts}
 use Rattle.recipe.specs.Name.{variable, Name, distinct}
-use Rattle.recipe.specs.Tree.{Tree, pair, size, names, isListOf, elements, element, bindAll}
+use Rattle.recipe.specs.Tree.{Tree, pair, size, isListOf, elements, element, bindAll}
 use Rattle.recipe.specs.TreeLaws.{size-positive, names-size, bindAll-size}
 use Rattle.recipe.specs.Tidy.{tidy-element, tidy-bindAll}
 use Rattle.core_term.specs.Term.{Term, lambdaC}
@@ -16,7 +16,7 @@ use Rattle.core_term.specs.Node.{nodeWords}
 use Rattle.core_term.specs.Words.{encode}
 use Rattle.expansion.specs.Computation.{State, M}
 use Rattle.expansion.specs.Forms.{isLambda, formals, expandLambda}
-use Rattle.arena.specs.Arena.{treeAt, markLimit}
+use Rattle.arena.specs.Arena.{treeAt}
 use Rattle.steps.specs.Lists.{Means, Counts}
 use Rattle.forms.specs.Binders as F
 use Rattle.forms.specs.Binders.{Space, Scoped}
@@ -27,12 +27,12 @@ use Rattle.expander.specs.declared.answers.Turn.{Turn}
 use Rattle.expander.specs.declared.answers.Turn.the-variants.{Again, Operands, Over}
 use Rattle.expander.specs.Ends.{End, finished, stopped, halted, endOf, then, needs, withVariables}
 use Rattle.expander.specs.EndLaws.{lambda-end}
-use Rattle.expander.specs.Memory.{Tables, tables, stateAt, CoreRoom, Put, workNeed, coreNeed, variableNeed, macroNeed, Proper, Ready, Placed, Kept}
+use Rattle.expander.specs.Memory.{tables, stateAt, CoreRoom, Put, workNeed, coreNeed, variableNeed, macroNeed, Proper, Ready, Kept}
 use Rattle.expander.specs.MemoryLaws.{macrosAt-settled, macros-kept, put-long}
 use Rattle.expander.specs.Turns.{operationsOf, Left, turnOf, Ends, Follows}
 use Rattle.expander.specs.Leaves.{Refuses}
 use Rattle.expander.specs.LeafLaws.{refused-ends}
-use Rattle.expander.specs.SpreadLaws.{Cons, cons, listed, Prefixed, left-after}
+use Rattle.expander.specs.SpreadLaws.{cons, listed, Prefixed, left-after}
 use Rattle.expander.specs.Scopes.{Roomy, widened, Bound, BoundLeft, LambdaBound, LambdaRefused, LambdaLeft}
 
 -- ---- sizes

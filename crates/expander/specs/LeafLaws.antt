@@ -1,15 +1,18 @@
 -- Laws of expressions that are done at once, one for each way through the code.
 use mathlib.Core.Path.{_≡_, refl, ap, sym, subst, _∙_}
 use mathlib.Core.List.{List, [], _∷_}
-use Prim.Native.Nat.{ℕ, _+_, _*_, _-_, _≤_, _<_}
+use Prim.Native.Nat.{ℕ, zero, suc, _+_, _*_, _≤_}
 use native.Mathlib.Omega.{arith}
-use lib.ListN.{length}
+use mathlib.Core.Bool.{Bool, true, false, false≢true}
+use lib.ListN.{getD}
 use Rattle.words.specs.Limits.{macrosMost}
+use Rattle.datum.specs.Constant.{Constant, isConstant, constantWords}
+use Rattle.datum.specs.Datum.{constantD}
 use Rattle.recipe.specs.Name.{variable, macro, Name}
 use Rattle.recipe.specs.Tree.{Tree, name, pair, size}
-use Rattle.core_term.specs.Term.{Term, variableC, operationC}
+use Rattle.core_term.specs.Term.{Term, variableC, operationC, datumC}
 use Rattle.core_term.specs.Node.{nodeWords}
-use Rattle.core_term.specs.Words.{encode}
+use Rattle.core_term.specs.Words.{datumWords, encode}
 use Rattle.expansion.specs.Lookup.{Found, bound, form, operation, nothing, lookup, orUnbound}
 use Rattle.expansion.specs.Computation.{State, M, give, refuse}
 use Rattle.expansion.specs.Forms.{expandName, expandList}
@@ -23,12 +26,12 @@ use Rattle.expander.specs.declared.leaf.Looked.the-variants.{Finds, Noth
 use Rattle.expander.specs.declared.answers.Reached.{Reached}
 use Rattle.expander.specs.declared.answers.Ended.{Ended}
 use Rattle.expander.specs.declared.answers.Ended.the-variants.{Done, Refused}
-use Rattle.expander.specs.Ends.{End, finished, stopped, endOf}
+use Rattle.expander.specs.Ends.{End, stopped, endOf}
 use Rattle.expander.specs.EndLaws.{list-end}
-use Rattle.expander.specs.Memory.{Tables, tables, stateAt, Moved, Ready, Kept}
+use Rattle.expander.specs.Memory.{Tables, tables, stateAt, Moved, Ready}
 use Rattle.expander.specs.MemoryLaws.{kept-moved, state-moved}
-use Rattle.expander.specs.Turns.{Lent, operationsOf, Left, KeptBy, turnOf, Ends}
-use Rattle.expander.specs.Leaves.{knownOf, Looks, Refuses, Makes, Stops, Leaf, nameEnd}
+use Rattle.expander.specs.Turns.{Lent, operationsOf, Left, turnOf, Ends}
+use Rattle.expander.specs.Leaves.{knownOf, Looks, Refuses, Makes, Stops, Leaf, nameEnd, constantEnd, ConstantLeft}
 
 -- ---- lookups
 
@@ -102,6 +105,30 @@ expandName-end limit operations fuel expand (bound (macro n)) s = refl
 expandName-end limit operations fuel expand (form f) s = refl
 expandName-end limit operations fuel expand (operation p) s = refl
 expandName-end limit operations fuel expand nothing s = refl
+
+-- ---- constants
+
+pub constant-made : (kind first : ℕ) (r : Reached) (core core′ : List ℕ) (q : Reached) → Moved ((kind + 1) ∷ first ∷ []) r core core′ q → ConstantLeft kind first r core core′ (Done q)
+unfolding constantEnd encode datumWords nodeWords constantWords
+constant-made kind first r core core′ q m second =
+    let e : kind + 1 ≡ suc kind = omega arith in
+    record {
+      term = datumC (constantD (record { kind = kind; first = first; second = second }));
+      is = λ s. refl;
+      short = omega arith;
+      moves = subst (λ (k : ℕ). Moved (k ∷ first ∷ []) r core core′ q) e m;
+    }
+
+-- a constant's kind is 1 or 2
+pub constant-small : (a : Constant) → isConstant a ≡ true → a .kind ≤ 2
+unfolding isConstant
+constant-small a e = go (a .kind) _ _ e
+  where
+    go : (k : ℕ) (x y : Bool) → getD (false ∷ x ∷ y ∷ []) k false ≡ true → k ≤ 2
+    go zero x y e = omega arith
+    go (suc zero) x y e = omega arith
+    go (suc (suc zero)) x y e = omega arith
+    go (suc (suc (suc k))) x y e = absurd (false≢true e)
 
 -- ---- a leaf ends the expression
 

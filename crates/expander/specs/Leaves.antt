@@ -3,8 +3,10 @@ use mathlib.Core.Path.{_≡_}
 use mathlib.Core.List.{List}
 use Prim.Native.Nat.{ℕ, _≤_}
 use lib.ListN.{length}
+use Rattle.datum.specs.Constant.{Constant}
+use Rattle.datum.specs.Datum.{constantD}
 use Rattle.recipe.specs.Name.{variable, macro, Name}
-use Rattle.core_term.specs.Term.{Term, variableC, operationC}
+use Rattle.core_term.specs.Term.{Term, variableC, operationC, datumC}
 use Rattle.core_term.specs.Words.{encode}
 use Rattle.expansion.specs.Lookup.{Found, bound, form, operation, nothing, formOf}
 use Rattle.expansion.specs.Computation.{State}
@@ -56,3 +58,10 @@ nameEnd (bound (macro n)) s = stopped 12 s
 nameEnd (form f) s = stopped 12 s
 nameEnd (operation p) s = finished (operationC p) s
 nameEnd nothing s = stopped 11 s
+
+-- the end of a constant
+unfoldable pub constantEnd : Constant → State → End (Term Name)
+constantEnd a s = finished (datumC (constantD a)) s
+
+abbrev pub ConstantLeft : (kind first : ℕ) (r : Reached) (core core′ : List ℕ) → Ended → Type 0
+ConstantLeft kind first r core core′ a = (second : ℕ) → Leaf (constantEnd (record { kind = kind; first = first; second = second })) 2 r core core′ a

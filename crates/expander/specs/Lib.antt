@@ -10,6 +10,12 @@ pub mod SpreadLaws
 pub mod Scopes
 pub mod QuotedLaws
 pub mod LambdaLaws
+pub mod Uses
+pub mod UseLaws
+pub mod UseTurnLaws
+pub mod HeadLaws
+pub mod ReadyLaws
+pub mod LentLaws
 pub mod Cycle
 pub mod CycleLaws
 pub mod Service

@@ -5,8 +5,7 @@ use mathlib.Core.List.{List, [], _∷_, _++_}
 use Prim.Native.Nat.{ℕ, zero, suc, _+_, _*_, _-_, _^_, _≤_, _<_}
 use lib.ListN.{length, getD, take, drop}
 use Rattle.words.specs.Each.{Each}
-use Rattle.recipe.specs.Name.{Name}
-use Rattle.recipe.specs.Tree.{Tree, size, elements}
+use Rattle.recipe.specs.Tree.{Tree, elements}
 use Rattle.recipe.specs.Tidy.{Tidy}
 use Rattle.recipe.specs.TableTidy.{IsConstant}
 use Rattle.expansion.specs.Rules.{Rule}
@@ -14,6 +13,7 @@ use Rattle.expansion.specs.TidyRules.{TidyRules}
 use Rattle.expansion.specs.Computation.{State}
 use Rattle.arena.specs.Arena.{treeAt}
 use Rattle.rule_cells.specs.Cells.{rulesAt}
+use Rattle.steps.specs.Plain.{Plain}
 use Rattle.expander.specs.declared.answers.Reached.{Reached}
 
 pub record Tables : Type 0 where
@@ -90,16 +90,18 @@ macroNeed fuel n r = r .macros + n + (fuel - r .sum)
 abbrev pub Proper : Tree → Type 0
 Proper = Tidy (λ x. Unit {0}) IsConstant
 
--- the macros so far: their rules stand below the top, and insert proper trees
+-- the macros so far: their rules stand below the top, insert proper trees, and are plain
 pub record Macros (items : List ℕ) (r : Reached) (t : Tables) : Type 0 where
   pub below : (k : ℕ) → k < r .macros → getD (t .macros) k 0 ≤ r .top
   pub proper : Each (TidyRules (λ x. Unit {0}) IsConstant) (macrosAt items (t .work) (t .macros) (r .macros))
+  pub plain : Each (Each (λ x. Plain (x .template))) (macrosAt items (t .work) (t .macros) (r .macros))
 
 -- a tree of n items may be expanded from r
 pub record Ready (items : List ℕ) (fuel n : ℕ) (r : Reached) (t : Tables) : Type 0 where
   pub fuelled : fuel ≤ 8192
   pub spent : r .sum ≤ fuel
   pub stepped : r .steps ≤ r .sum
+  pub items-below : length items ≤ r .top
   pub room : workNeed fuel n r ≤ length (t .work)
   pub core-room : coreNeed fuel n r ≤ length (t .core)
   pub macro-room : macroNeed fuel n r ≤ length (t .macros)

@@ -1,20 +1,21 @@
 -- Laws of the tables: what was settled stays, words follow words, and what is ready stays ready.
 use mathlib.Core.Path.{_≡_, refl, ap, ap₂, sym, subst, _∙_}
 use mathlib.Core.List.{List, [], _∷_, _++_, append-assoc, append-nil}
-use Prim.Native.Nat.{ℕ, zero, suc, _+_, _*_, _-_, _≤_, _<_}
+use Prim.Native.Nat.{ℕ, zero, suc, _+_, _*_, _≤_, _<_}
 use native.Mathlib.Omega.{arith}
 use native.Mathlib.Numerals.{add-one}
-use lib.ListN.{length, getD, take, drop, set, length-append, length-drop, take-append-drop}
-use lib.Seq.{take-at, drop-append-add, take-take, drop-drop, getD-take, length-take-le, set-split, append-snoc}
-use Rattle.words.specs.Each.{Each}
+use lib.Dec.{ltb}
+use borrow.Author.Tests.{ltb-true, ltb-false}
+use lib.ListN.{List·getD-append, length, getD, take, drop, set, length-append, length-drop, take-append-drop}
+use lib.Seq.{take-at, drop-append-add, drop-drop, getD-take, length-take-le, set-split, append-snoc, getD-append-seam}
 use Rattle.expansion.specs.Rules.{Rule}
 use Rattle.rule_cells.specs.Cells.{rulesAt}
 use Rattle.rule_cells.specs.CellLaws.{rulesAt-below}
 use Rattle.recipe.specs.Tree.{elements}
 use Rattle.arena.specs.Arena.{treeAt}
-use Rattle.arena.specs.ArenaLaws.{take-less}
+use Rattle.arena.specs.ArenaLaws.{cases, take-less}
 use Rattle.expander.specs.declared.answers.Reached.{Reached}
-use Rattle.expander.specs.Memory.{Tables, tables, macrosAt, stateAt, CoreRoom, Put, moved, Moved, workNeed, coreNeed, variableNeed, macroNeed, Macros, Ready, Kept, Written, HeaderMoved}
+use Rattle.expander.specs.Memory.{Tables, tables, macrosAt, stateAt, Put, moved, Moved, workNeed, coreNeed, variableNeed, macroNeed, Macros, Ready, Kept, HeaderMoved}
 
 -- ---- words one after another
 
@@ -66,6 +67,7 @@ macros-kept items r q a b m h e arena same =
     record {
       below = λ k l. let g : getD (a .macros) k 0 ≤ r .top = m .below k (omega arith) in rw same (omega arith);
       proper = rw (e, same) (rw (macrosAt-settled items (a .work) (b .work) (a .macros) (a .macros) (r .top) arena (r .macros) refl (m .below)) (m .proper));
+      plain = rw (e, same) (rw (macrosAt-settled items (a .work) (b .work) (a .macros) (a .macros) (r .top) arena (r .macros) refl (m .below)) (m .plain));
     }
 
 pub state-kept : (items : List ℕ) (r q : Reached) (a b : Tables) → Macros items r a → q .steps ≡ r .steps → q .sum ≡ r .sum → q .variables ≡ r .variables → q .macros ≡ r .macros
@@ -103,6 +105,7 @@ module _ (items : List ℕ) (fuel n m l : ℕ) (r q p : Reached) (a b d : Tables
         fuelled = x .fuelled;
         spent = k .spent;
         stepped = k .stepped;
+        items-below = omega (arith, x .items-below, k .top-grows);
         room = omega (arith, x .room, k .work-spent, k .work-long);
         core-room = omega (arith, x .core-room, k .core-spent, k .core-long);
         macro-room = omega (arith, x .macro-room, k .macros-spent, k .macros-long);
@@ -160,3 +163,35 @@ pub header-moved : (list code number n at : ℕ) (r : Reached) (work before afte
 unfolding moved
 header-moved list code number n at r work before after h p items w =
     record { is = refl; put = subst (λ (k : ℕ). Put (8 ∷ k ∷ code ∷ number ∷ []) (r .at) before after at) (h items w) p }
+
+-- ---- the rules of one macro
+
+macrosAt-length : (items work macros : List ℕ) (n : ℕ) → length (macrosAt items work macros n) ≡ n
+unfolding macrosAt
+macrosAt-length items work macros zero = refl
+macrosAt-length items work macros (suc n) = omega (arith, length-append (macrosAt items work macros n) (rulesAt items work (getD macros n 0) ∷ []), macrosAt-length items work macros n)
+
+pub macrosAt-one : (items work macros : List ℕ) (count n : ℕ) → n < count → getD (macrosAt items work macros count) n [] ≡ rulesAt items work (getD macros n 0)
+unfolding macrosAt
+macrosAt-one items work macros zero n h = absurd (omega arith)
+macrosAt-one items work macros (suc k) n h =
+    let long : length (macrosAt items work macros k) ≡ k = macrosAt-length items work macros k in
+    cases (ltb n k)
+    (λ t.
+    let l : n < k = ltb-true n k t in
+    List·getD-append (macrosAt items work macros k) (rulesAt items work (getD macros k 0) ∷ []) [] n (omega arith) ∙ macrosAt-one items work macros k n l)
+    (λ t.
+    let g : k ≤ n = ltb-false n k t in
+    let e : n ≡ k = omega arith in
+    let d : n ≡ length (macrosAt items work macros k) = omega arith in
+    ap (λ (j : ℕ). getD (macrosAt items work macros k ++ (rulesAt items work (getD macros k 0) ∷ [])) j []) d
+    ∙ getD-append-seam (macrosAt items work macros k) (rulesAt items work (getD macros k 0)) [] []
+    ∙ ap (λ (j : ℕ). rulesAt items work (getD macros j 0)) (sym e))
+
+pub macrosAt-past : (items work macros : List ℕ) (count n : ℕ) → count ≤ n → getD (macrosAt items work macros count) n [] ≡ []
+macrosAt-past items work macros count n h = getD-past (macrosAt items work macros count) n (omega (arith, macrosAt-length items work macros count))
+  where
+    getD-past : (l : List (List Rule)) (n : ℕ) → length l ≤ n → getD l n [] ≡ []
+    getD-past [] n h = refl
+    getD-past (x ∷ xs) zero h = absurd (omega arith)
+    getD-past (x ∷ xs) (suc n) h = getD-past xs n (omega arith)

@@ -5,13 +5,11 @@ use mathlib.Core.List.{List}
 use Prim.Native.Nat.{ℕ, _+_, _*_, _^_, _≤_, _<_}
 use native.Mathlib.Omega.{arith}
 use lib.ListN.{length}
-use Rattle.recipe.specs.Name.{Name}
 use Rattle.recipe.specs.Tree.{Tree, size, strip, isListOf, element}
 use Rattle.recipe.specs.TreeLaws.{element-size}
 use Rattle.recipe.specs.Tidy.{tidy-element}
 use Rattle.core_term.specs.Term.{datumC}
 use Rattle.core_term.specs.Words.{datumWords, encode}
-use Rattle.expansion.specs.Computation.{State}
 use Rattle.arena.specs.Arena.{treeAt}
 use Rattle.steps.specs.Lists.{Means}
 use Rattle.forms.specs.Quotes as Q
@@ -19,7 +17,7 @@ use Rattle.forms.specs.Quotes.{quotedAt, Quotable}
 use Rattle.forms.specs.QuoteLaws.{quoted-any, quoted-size}
 use Rattle.expander.specs.declared.answers.Reached.{Reached}
 use Rattle.expander.specs.declared.answers.Ended.{Ended}
-use Rattle.expander.specs.declared.answers.Ended.the-variants.{Done, Refused}
+use Rattle.expander.specs.declared.answers.Ended.the-variants.{Done}
 use Rattle.expander.specs.Ends.{needs}
 use Rattle.expander.specs.Memory.{moved}
 use Rattle.expander.specs.Leaves.{Refuses}

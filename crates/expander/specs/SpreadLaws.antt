@@ -1,30 +1,30 @@
 -- Laws of turns that leave operands: applications and if. Their header words are written, and the operands' words follow.
 use mathlib.Core.Path.{_≡_, refl, ap, ap₂, sym, subst, _∙_}
-use mathlib.Core.Bool.{Bool, true, false, _&&_, cond}
+use mathlib.Core.Bool.{true}
 use mathlib.Core.List.{List, [], _∷_, _++_, append-nil}
-use Prim.Native.Nat.{ℕ, zero, suc, _+_, _*_, _-_, _≤_, _<_}
+use Prim.Native.Nat.{ℕ, suc, _+_, _*_, _-_, _≤_}
 use native.Mathlib.Omega.{arith}
 use lib.Dec.{eqb}
 use lib.ListN.{length}
 use borrow.Author.Tests.{eqb-true}
 use Rattle.words.specs.Limits.{macrosMost}
 use Rattle.words.specs.TestLaws.{and-parts}
-use Rattle.recipe.specs.Name.{variable, Name}
-use Rattle.recipe.specs.Tree.{Tree, empty, constant, name, pair, size, onPair, isList, isListOf, elements, element, tail}
+use Rattle.recipe.specs.Name.{Name}
+use Rattle.recipe.specs.Tree.{Tree, empty, constant, name, pair, size, isList, isListOf, elements, element}
 use Rattle.recipe.specs.TreeLaws.{size-positive}
-use Rattle.core_term.specs.Term.{Term, variableC, operationC, ifC, applicationC, Terms, noneC, moreC, count}
+use Rattle.core_term.specs.Term.{Term, variableC, ifC, applicationC, Terms, noneC, moreC, count}
 use Rattle.core_term.specs.Node.{nodeWords}
 use Rattle.core_term.specs.Words.{encode, encodeAll}
-use Rattle.expansion.specs.Lookup.{bound, form, if, operation, lookup}
+use Rattle.expansion.specs.Lookup.{form, if, lookup}
 use Rattle.expansion.specs.Computation.{State, M, give}
-use Rattle.expansion.specs.Forms.{expandAll, expandIf, expandOperands, expandApplication, expandList, expandPair, expandTree}
+use Rattle.expansion.specs.Forms.{expandAll, expandOperands, expandApplication, expandList, expandPair, expandTree}
 use Rattle.arena.specs.Arena.{treeAt}
 use Rattle.expander.specs.declared.answers.Reached.{Reached}
 use Rattle.expander.specs.declared.answers.Ended.{Ended}
 use Rattle.expander.specs.declared.answers.Ended.the-variants.{Done, Refused}
 use Rattle.expander.specs.Ends.{End, finished, stopped, halted, endOf, then, needs}
-use Rattle.expander.specs.EndLaws.{expandAll-pair, if-end, operands-end, application-end, list-end}
-use Rattle.expander.specs.Memory.{Tables, tables, stateAt, Put, moved, Moved, coreNeed, Ready, Placed, Kept}
+use Rattle.expander.specs.EndLaws.{expandAll-pair, if-end, operands-end, application-end}
+use Rattle.expander.specs.Memory.{Tables, tables, stateAt, Put, moved, Moved, coreNeed, Ready, Placed}
 use Rattle.expander.specs.MemoryLaws.{put-after, kept-moved, state-moved}
 use Rattle.expander.specs.Turns.{operationsOf, Left, turnOf, operandsOf, Spreads}
 use Rattle.expander.specs.LeafLaws.{headed}

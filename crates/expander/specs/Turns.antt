@@ -21,7 +21,7 @@ use Rattle.expander.specs.declared.answers.Ended.the-variants.{Done, Ref
 use Rattle.expander.specs.declared.answers.Turn.{Turn}
 use Rattle.expander.specs.declared.answers.Turn.the-variants.{Again, Operands, Over}
 use Rattle.expander.specs.Ends.{End, finished, stopped, halted, endOf}
-use Rattle.expander.specs.Memory.{Tables, stateAt, Ready, Placed, Kept, Written}
+use Rattle.expander.specs.Memory.{Tables, stateAt, Placed, Kept, Written}
 
 -- the operations of a table's recipe, by number
 unfoldable pub operationsOf : List ℕ → List ℕ

@@ -1,10 +1,11 @@
-// Expressions that are done at once: bare names.
+// Expressions that are done at once: constants and bare names.
 
+ghost use Prim.Native.Nat.{_≤_};
 ghost use Rattle.arena.specs.Arena.{nameAt};
 ghost use Rattle.expansion.specs.Lookup.{lookup};
 ghost use Rattle.expander.specs.Memory.{CoreRoom};
 ghost use Rattle.expander.specs.Turns.{Lent, operationsOf};
-ghost use Rattle.expander.specs.Leaves.{Looks, Refuses, Leaf, nameEnd};
+ghost use Rattle.expander.specs.Leaves.{Looks, Refuses, Leaf, nameEnd, ConstantLeft};
 use crate::answers::Ended;
 use crate::answers::Reached;
 use crate::output;
@@ -55,6 +56,14 @@ pub fn refuse(ground: u32, reached: Reached) -> Ended
         steps: reached.steps,
         sum: reached.sum,
     }
+}
+
+// An integer or a boolean stands for itself.
+pub fn constant(core: &mut [u32], kind: u32, first: u32, reached: Reached) -> Ended
+    requires { ⌜ (CoreRoom (now core) (reached .at) 2) × (kind ≤ 2) ⌝ }
+    ensures { λ r. ⌜ ConstantLeft kind first reached (now (core .entry)) (now (core .exit)) r ⌝ }
+{
+    Ended::Done(output::put_node(core, reached, kind + 1, first))
 }
 
 // A bare name is a variable or an operation (grounds 11 and 12).

@@ -4,6 +4,7 @@ pub mod answers;
 pub mod leaf;
 pub mod output;
 pub mod turns;
+pub mod uses;
 
 // How a call ends: accepted with the two counts and the term's length, or refused with its ground and, for 11 to 18,
 // the counts of completed steps.

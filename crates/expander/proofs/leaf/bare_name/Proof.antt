@@ -2,11 +2,6 @@
 use borrow.Author.Needs.{needs}
 use Rattle.expander.proofs.leaf.bare_name.Statement.{statement}
 use Rattle.expander.proofs.leaf.bare_name.Tie as tie
-use Rattle.expander.proofs.leaf.bare_name.Reads as reads
-use Rattle.expander.proofs.leaf.bare_name.Lts as lts
-use Rattle.expander.proofs.leaf.look.Reads as look-reads
-use Rattle.expander.proofs.leaf.refuse.Reads as refuse-reads
-use Rattle.expander.proofs.output.put_node.Reads as put-node-reads
 use Rattle.expansion.specs.Lookup.{lookup}
 use Rattle.arena.specs.Arena.{nameAt}
 use Rattle.expander.specs.Turns.{operationsOf}

@@ -2,9 +2,6 @@
 use borrow.Author.Needs.{needs}
 use Rattle.expander.proofs.leaf.look.Statement.{statement}
 use Rattle.expander.proofs.leaf.look.Tie as tie
-use Rattle.expander.proofs.leaf.look.Reads as reads
-use Rattle.expander.proofs.leaf.look.Lts as lts
-use Rattle.arena.proofs.names.lookup.Reads as lookup-reads
 use Rattle.arena.specs.Arena.{nameAt}
 use Rattle.expander.specs.LeafLaws.{look-variable, look-macro, look-form, look-operation, look-nothing}
 

@@ -2,10 +2,6 @@
 use borrow.Author.Needs.{needs}
 use Rattle.expander.proofs.output.put_application.Statement.{statement}
 use Rattle.expander.proofs.output.put_application.Tie as tie
-use Rattle.expander.proofs.output.put_application.Reads as reads
-use Rattle.expander.proofs.output.put_application.Lts as lts
-use Rattle.expander.proofs.output.put_four.Reads as put-four-reads
-use Rattle.steps.proofs.lists.count.Reads as count-reads
 use Rattle.expander.specs.Memory.{moved}
 use Rattle.expander.specs.MemoryLaws.{header-moved}
 

@@ -2,9 +2,6 @@
 use borrow.Author.Needs.{needs}
 use Rattle.expander.proofs.output.put_four.Statement.{statement}
 use Rattle.expander.proofs.output.put_four.Tie as tie
-use Rattle.expander.proofs.output.put_four.Reads as reads
-use Rattle.expander.proofs.output.put_four.Lts as lts
-use Rattle.expander.proofs.output.put_two.Reads as put-two-reads
 use native.Mathlib.Omega.{arith}
 use Rattle.expander.specs.MemoryLaws.{put-after}
 

@@ -2,9 +2,6 @@
 use borrow.Author.Needs.{needs}
 use Rattle.expander.proofs.output.put_if.Statement.{statement}
 use Rattle.expander.proofs.output.put_if.Tie as tie
-use Rattle.expander.proofs.output.put_if.Reads as reads
-use Rattle.expander.proofs.output.put_if.Lts as lts
-use Rattle.expander.proofs.output.put_word.Reads as put-word-reads
 use mathlib.Core.Path.{refl}
 use Rattle.expander.specs.Memory.{moved}
 

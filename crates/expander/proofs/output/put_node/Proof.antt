@@ -2,9 +2,6 @@
 use borrow.Author.Needs.{needs}
 use Rattle.expander.proofs.output.put_node.Statement.{statement}
 use Rattle.expander.proofs.output.put_node.Tie as tie
-use Rattle.expander.proofs.output.put_node.Reads as reads
-use Rattle.expander.proofs.output.put_node.Lts as lts
-use Rattle.expander.proofs.output.put_two.Reads as put-two-reads
 use mathlib.Core.Path.{refl}
 use Rattle.expander.specs.Memory.{moved}
 

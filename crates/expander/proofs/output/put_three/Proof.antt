@@ -2,10 +2,6 @@
 use borrow.Author.Needs.{needs}
 use Rattle.expander.proofs.output.put_three.Statement.{statement}
 use Rattle.expander.proofs.output.put_three.Tie as tie
-use Rattle.expander.proofs.output.put_three.Reads as reads
-use Rattle.expander.proofs.output.put_three.Lts as lts
-use Rattle.expander.proofs.output.put_two.Reads as put-two-reads
-use Rattle.expander.proofs.output.put_word.Reads as put-word-reads
 use native.Mathlib.Omega.{arith}
 use Rattle.expander.specs.MemoryLaws.{put-after}
 

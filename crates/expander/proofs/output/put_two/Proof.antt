@@ -2,9 +2,6 @@
 use borrow.Author.Needs.{needs}
 use Rattle.expander.proofs.output.put_two.Statement.{statement}
 use Rattle.expander.proofs.output.put_two.Tie as tie
-use Rattle.expander.proofs.output.put_two.Reads as reads
-use Rattle.expander.proofs.output.put_two.Lts as lts
-use Rattle.expander.proofs.output.put_word.Reads as put-word-reads
 use native.Mathlib.Omega.{arith}
 use Rattle.expander.specs.MemoryLaws.{put-after}
 

@@ -2,8 +2,6 @@
 use borrow.Author.Needs.{needs}
 use Rattle.expander.proofs.output.put_word.Statement.{statement}
 use Rattle.expander.proofs.output.put_word.Tie as tie
-use Rattle.expander.proofs.output.put_word.Reads as reads
-use Rattle.expander.proofs.output.put_word.Lts as lts
 use native.Mathlib.Omega.{arith}
 use Rattle.expander.specs.MemoryLaws.{put-one}
 

@@ -2,11 +2,6 @@
 use borrow.Author.Needs.{needs}
 use Rattle.expander.proofs.turns.condition.Statement.{statement}
 use Rattle.expander.proofs.turns.condition.Tie as tie
-use Rattle.expander.proofs.turns.condition.Reads as reads
-use Rattle.expander.proofs.turns.condition.Lts as lts
-use Rattle.expander.proofs.leaf.refuse.Reads as refuse-reads
-use Rattle.expander.proofs.output.put_if.Reads as put-if-reads
-use Rattle.rule_cells.proofs.trees.is_list_of.Reads as is-list-of-reads
 use mathlib.Core.Path.{refl, sym, _∙_}
 use borrow.Author.Tests.{not-true, not-false}
 

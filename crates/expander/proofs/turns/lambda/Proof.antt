@@ -2,12 +2,6 @@
 use borrow.Author.Needs.{needs}
 use Rattle.expander.proofs.turns.lambda.Statement.{statement}
 use Rattle.expander.proofs.turns.lambda.Tie as tie
-use Rattle.expander.proofs.turns.lambda.Reads as reads
-use Rattle.expander.proofs.turns.lambda.Lts as lts
-use Rattle.expander.proofs.leaf.refuse.Reads as refuse-reads
-use Rattle.expander.proofs.turns.lambda_body.Reads as lambda-body-reads
-use Rattle.forms.proofs.binders.formals_distinct.Reads as formals-distinct-reads
-use Rattle.forms.proofs.shapes.is_lambda.Reads as is-lambda-reads
 use mathlib.Core.Path.{sym, _∙_}
 use borrow.Author.Tests.{not-true, not-false}
 use Rattle.arena.specs.Arena.{treeAt}

@@ -2,12 +2,6 @@
 use borrow.Author.Needs.{needs}
 use Rattle.expander.proofs.turns.lambda_body.Statement.{statement}
 use Rattle.expander.proofs.turns.lambda_body.Tie as tie
-use Rattle.expander.proofs.turns.lambda_body.Reads as reads
-use Rattle.expander.proofs.turns.lambda_body.Lts as lts
-use Rattle.expander.proofs.output.put_three.Reads as put-three-reads
-use Rattle.forms.proofs.binders.bind_formals.Reads as bind-formals-reads
-use Rattle.steps.proofs.lists.count.Reads as count-reads
-use Rattle.steps.proofs.lists.element.Reads as element-reads
 use Rattle.expander.specs.Scopes.{widened}
 use Rattle.expander.specs.LambdaLaws.{lambda-proper, lambda-space, lambda-core, lambda-few, bound-by}
 

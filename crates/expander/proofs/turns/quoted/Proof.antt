@@ -2,12 +2,6 @@
 use borrow.Author.Needs.{needs}
 use Rattle.expander.proofs.turns.quoted.Statement.{statement}
 use Rattle.expander.proofs.turns.quoted.Tie as tie
-use Rattle.expander.proofs.turns.quoted.Reads as reads
-use Rattle.expander.proofs.turns.quoted.Lts as lts
-use Rattle.expander.proofs.leaf.refuse.Reads as refuse-reads
-use Rattle.forms.proofs.quotes.quote.Reads as quote-reads
-use Rattle.rule_cells.proofs.trees.is_list_of.Reads as is-list-of-reads
-use Rattle.steps.proofs.lists.element.Reads as element-reads
 use mathlib.Core.Path.{sym, _∙_}
 use borrow.Author.Tests.{not-true, not-false}
 use Rattle.expander.specs.Memory.{moved}
