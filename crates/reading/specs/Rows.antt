@@ -86,6 +86,11 @@ pub names-hold : drop 448 (namesAfter (recipeOf (bytes "x y")) (replicate 641 9)
 unfolding recipeOf bytes namesAfter slot
 names-hold = refl
 
+-- a text that is turned back leaves zeros
+pub cleared-hold : itemsAfter (recipeOf (bytes "() A")) (replicate 7 9) ≡ replicate 7 0
+unfolding recipeOf bytes itemsAfter
+cleared-hold = refl
+
 -- integers as their words
 pub words-hold : drop 9 (itemsAfter (recipeOf (bytes "() -2147483648")) (replicate 15 9)) ≡ 1 ∷ 2147483648 ∷ 0 ∷ 0 ∷ 0 ∷ 0 ∷ []
 unfolding recipeOf bytes itemsAfter
