@@ -15,6 +15,8 @@ pub mod UseLaws
 pub mod UseTurnLaws
 pub mod MacroRules
 pub mod MacroRuleLaws
+pub mod MacroTurns
+pub mod MacroTurnLaws
 pub mod HeadLaws
 pub mod ReadyLaws
 pub mod LentLaws

@@ -1,8 +1,16 @@
 // The rules of a form's macros, parsed once, when the form is reached. Bad is ground 15.
 
+ghost use mathlib.Core.Path.{_≡_};
+ghost use mathlib.Core.Bool.{true, cond};
+ghost use Rattle.expansion.specs.Forms.{isMacros};
 ghost use Rattle.arena.specs.Arena.{treeAt};
 ghost use Rattle.expander.specs.MacroRules.{OneAsk, OneLeft, AllAsk, AllLeft};
+ghost use Rattle.expander.specs.MacroTurns.{MacroRoom, KnownLeft};
+use crate::answers::Reached;
+use crate::answers::Turn;
+use crate::leaf;
 use arena::cells;
+use forms::binders;
 use rule_cells::rules;
 use rule_cells::templates::Built;
 use steps::lists;
@@ -58,4 +66,51 @@ pub fn all_macros(
         return Read::Bad;
     };
     all_macros(items, work, macros, marks, rest, w, count + 1, upper)
+}
+
+// The wrap of a form's rules: that of its scope, or the one round the form.
+pub fn rules_wrap(inside: bool, scope: u32, outer: u32) -> u32
+    ensures { λ r. ⌜ r ≡ cond inside scope outer ⌝ }
+{
+    if inside {
+        return scope;
+    }
+    outer
+}
+
+// A form's macros, past its tests: its body stands for it.
+pub fn macros_body(
+    items: &[u32],
+    work: &mut [u32],
+    macros: &mut [u32],
+    marks: &mut [u32],
+    node: u32,
+    wrap: u32,
+    inside: bool,
+    reached: Reached,
+) -> Turn
+    requires { ⌜ (MacroRoom (now items) (now work) (now macros) (now marks) node wrap reached) × (isMacros 16 (treeAt (now items) (now work) node wrap) ≡ true) ⌝ }
+    ensures { λ r. ⌜ KnownLeft (treeAt (now (items .entry)) (now (work .entry)) node wrap) inside (now (items .entry)) reached (now (work .entry)) (now (work .exit)) (now (macros .entry)) (now (macros .exit)) r ⌝ }
+{
+    let first = reached.macros;
+    let list = lists::element(work, node, 1);
+    let count = lists::count(work, list);
+    let body = lists::element(work, node, 2);
+    let scope = binders::bind_macros(items, work, marks, node, wrap, first, reached.top);
+    let w = rules_wrap(inside, scope.wrap, wrap);
+    let Read::Good(top) = all_macros(items, work, macros, marks, list, w, first, scope.top) else {
+        return Turn::Over(leaf::refuse(15, reached));
+    };
+    Turn::Again {
+        node: body,
+        wrap: scope.wrap,
+        reached: Reached {
+            top: top,
+            at: reached.at,
+            steps: reached.steps,
+            sum: reached.sum,
+            variables: reached.variables,
+            macros: first + count,
+        },
+    }
 }
