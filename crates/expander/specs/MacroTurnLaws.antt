@@ -9,7 +9,7 @@ use lib.ListN.{length, getD, take}
 use Rattle.words.specs.Limits.{macrosMost}
 use Rattle.words.specs.Options.{traverse}
 use Rattle.words.specs.TestLaws.{and-parts}
-use Rattle.recipe.specs.Name.{Binding, macro, Name}
+use Rattle.recipe.specs.Name.{Binding, macro, Name, distinct}
 use Rattle.recipe.specs.Tree.{Tree, empty, constant, name, pair, size, isListOf, elements, element, onNames, bind, bindAll}
 use Rattle.recipe.specs.TreeLaws.{size-positive, bindAll-size}
 use Rattle.expansion.specs.Rules.{Rule, rulesOf}
@@ -26,12 +26,13 @@ use Rattle.expander.specs.declared.answers.Turn.{Turn}
 use Rattle.expander.specs.declared.answers.Turn.the-variants.{Again, Operands, Over}
 use Rattle.expander.specs.declared.macros.Read.{Read}
 use Rattle.expander.specs.declared.macros.Read.the-variants.{Good, Bad}
+use Rattle.expander.specs.Ends.{needs, given}
 use Rattle.expander.specs.Memory.{macrosAt}
 use Rattle.expander.specs.MemoryLaws.{macrosAt-settled}
 use Rattle.expander.specs.Leaves.{Refuses}
 use Rattle.expander.specs.LambdaLaws.{three-sizes}
 use Rattle.expander.specs.MacroRules.{Below, formsIn, AllAsk, AllRead, AllLeft}
-use Rattle.expander.specs.MacroTurns.{MacroRoom, formsOf, grown, Known, KnownLeft}
+use Rattle.expander.specs.MacroTurns.{MacroRoom, formsOf, grown, Known, KnownLeft, MacrosKnown, MacrosRefused, MacrosLeft}
 
 -- ---- forms under a scope
 
@@ -216,3 +217,32 @@ module _ (items work macros marks : List ℕ) (node w : ℕ) (inside : Bool) (r 
               kept = take-less work′ mid (r .top) end up (m .kept) ∙ scoped .kept;
               known = m .known;
             }
+
+-- ---- the tests
+
+module _ (t : Tree) (inside : Bool) (r : Reached) where
+  pub macros-unshaped : (a : Ended) → isMacros macrosMost t ≡ false → Refuses 13 r a → MacrosRefused t inside r a
+  unfolding needs
+  macros-unshaped a shape e = record { ground = 13; is = λ f s. rw shape; refuses = e }
+
+  pub macros-alike : (a : Ended) → isMacros macrosMost t ≡ true → distinct (keywords t) ≡ false → Refuses 14 r a → MacrosRefused t inside r a
+  unfolding needs
+  macros-alike a shape same e = record { ground = 14; is = λ f s. rw (shape, same); refuses = e }
+
+  pub macros-left : (items work work′ macros macros′ : List ℕ) (a : Turn) → isMacros macrosMost t ≡ true → distinct (keywords t) ≡ true → KnownLeft t inside items r work work′ macros macros′ a → MacrosLeft t inside items r work work′ macros macros′ a
+  unfolding needs given
+  macros-left items work work′ macros macros′ (Again n w q) shape apart b = record { shape = shape; apart = apart; knows = b }
+  macros-left items work work′ macros macros′ (Operands l w q) shape apart b = absurd b
+  macros-left items work work′ macros macros′ (Over a) shape apart b = record { ground = 15; is = λ f s. rw (shape, apart, b .0); refuses = b .1 }
+
+pub room-marks : (items work macros marks marks′ : List ℕ) (node w : ℕ) (r : Reached) → length marks′ ≡ length marks → MacroRoom items work macros marks node w r → MacroRoom items work macros marks′ node w r
+room-marks items work macros marks marks′ node w r e x =
+    record {
+      placed = x .placed;
+      fits = x .fits;
+      small = x .small;
+      slots = x .slots;
+      few = x .few;
+      below = x .below;
+      hands = omega (arith, x .hands);
+    }

@@ -5,15 +5,19 @@ ghost use mathlib.Core.Bool.{true, cond};
 ghost use Rattle.expansion.specs.Forms.{isMacros};
 ghost use Rattle.arena.specs.Arena.{treeAt};
 ghost use Rattle.expander.specs.MacroRules.{OneAsk, OneLeft, AllAsk, AllLeft};
-ghost use Rattle.expander.specs.MacroTurns.{MacroRoom, KnownLeft};
+ghost use Rattle.expander.specs.MacroTurns.{MacroRoom, KnownLeft, MacrosLeft};
 use crate::answers::Reached;
 use crate::answers::Turn;
 use crate::leaf;
 use arena::cells;
 use forms::binders;
+use forms::shapes;
 use rule_cells::rules;
 use rule_cells::templates::Built;
 use steps::lists;
+
+// The most macros of one form.
+pub const MACROS_MOST: u32 = 16;
 
 // The new top, or rules that break their rules.
 pub enum Read {
@@ -113,4 +117,27 @@ pub fn macros_body(
             macros: first + count,
         },
     }
+}
+
+// (let-syntax ((name rules) ...) body), and letrec-syntax, whose rules stand inside the scope
+pub fn let_syntax(
+    items: &[u32],
+    work: &mut [u32],
+    macros: &mut [u32],
+    marks: &mut [u32],
+    node: u32,
+    wrap: u32,
+    inside: bool,
+    reached: Reached,
+) -> Turn
+    requires { ⌜ MacroRoom (now items) (now work) (now macros) (now marks) node wrap reached ⌝ }
+    ensures { λ r. ⌜ MacrosLeft (treeAt (now (items .entry)) (now (work .entry)) node wrap) inside (now (items .entry)) reached (now (work .entry)) (now (work .exit)) (now (macros .entry)) (now (macros .exit)) r ⌝ }
+{
+    if !shapes::is_macros(items, work, node, MACROS_MOST) {
+        return Turn::Over(leaf::refuse(13, reached));
+    }
+    if !binders::keywords_distinct(items, work, marks, node, wrap) {
+        return Turn::Over(leaf::refuse(14, reached));
+    }
+    macros_body(items, work, macros, marks, node, wrap, inside, reached)
 }
