@@ -17,6 +17,7 @@ pub mod MacroRules
 pub mod MacroRuleLaws
 pub mod MacroTurns
 pub mod MacroTurnLaws
+pub mod MacroFollowLaws
 pub mod HeadLaws
 pub mod ReadyLaws
 pub mod LentLaws
