@@ -2,10 +2,10 @@
 use mathlib.Core.Path.{_≡_, refl, ap, ap₂, sym, subst, _∙_}
 use mathlib.Core.Bool.{Bool, true, false, cond}
 use mathlib.Core.List.{List, [], _∷_, _++_, map}
-use mathlib.Core.Option.{Option, none, some}
+use mathlib.Core.Option.{none}
 use Prim.Native.Nat.{ℕ, zero, suc, _+_, _*_, _^_, _≤_, _<_}
 use native.Mathlib.Omega.{arith}
-use lib.ListN.{length, getD, take}
+use lib.ListN.{length, getD}
 use Rattle.words.specs.Limits.{macrosMost}
 use Rattle.words.specs.Options.{traverse}
 use Rattle.words.specs.TestLaws.{and-parts}
@@ -31,8 +31,8 @@ use Rattle.expander.specs.Memory.{macrosAt}
 use Rattle.expander.specs.MemoryLaws.{macrosAt-settled}
 use Rattle.expander.specs.Leaves.{Refuses}
 use Rattle.expander.specs.LambdaLaws.{three-sizes}
-use Rattle.expander.specs.MacroRules.{Below, formsIn, AllAsk, AllRead, AllLeft}
-use Rattle.expander.specs.MacroTurns.{MacroRoom, formsOf, grown, Known, KnownLeft, MacrosKnown, MacrosRefused, MacrosLeft}
+use Rattle.expander.specs.MacroRules.{formsIn, AllAsk, AllRead, AllLeft}
+use Rattle.expander.specs.MacroTurns.{MacroRoom, formsOf, grown, Known, KnownLeft, MacrosRefused, MacrosLeft}
 
 -- ---- forms under a scope
 

@@ -31,97 +31,97 @@ all-macros-below t =
 abbrev all-macros-claims : ℕ → all-macros-lts.Claims
 all-macros-claims t = (word-reads.Asked, word-reads.Learnt, reference-reads.Asked, reference-reads.Learnt, element-reads.Asked, element-reads.Learnt, one-macro-reads.Asked, one-macro-reads.Learnt, all-macros-below t, all-macros.Post)
 
--- src/macros.rt:51:8
+-- src/macros.rt:63:8
 all-macros-word-requires : (t : ℕ) → all-macros-lts.Need-word-requires (all-macros-claims t) (all-macros-at t) all-macros.Post
 all-macros-word-requires t c κs =
     search needs
 
--- src/macros.rt:52:9
+-- src/macros.rt:64:9
 all-macros-same-length : (t : ℕ) → all-macros-lts.Need-same-length (all-macros-claims t) (all-macros-at t) all-macros.Post
 all-macros-same-length t c =
     search needs
 
--- src/macros.rt:52:9
+-- src/macros.rt:64:9
 all-macros-returns : (t : ℕ) → all-macros-lts.Need-returns (all-macros-claims t) (all-macros-at t) all-macros.Post
 all-macros-returns t c =
     let a = c .before .before .before .before .before .before .before .args in all-end (a .items .now) (a .work .now) (a .macros .now) (a .marks .now) (a .list) (a .w) (a .count) (a .top) (c .before .before .before .before .before .before .before .pre .1) (λ z. c .if1 .taken (c .before .word .ensures ∙ z))
 
--- src/macros.rt:54:9
+-- src/macros.rt:66:9
 all-macros-reference-requires : (t : ℕ) → all-macros-lts.Need-reference-requires (all-macros-claims t) (all-macros-at t) all-macros.Post
 all-macros-reference-requires t c κs =
     search needs
 
--- src/macros.rt:55:9
+-- src/macros.rt:67:9
 all-macros-reference-requires-2 : (t : ℕ) → all-macros-lts.Need-reference-requires-2 (all-macros-claims t) (all-macros-at t) all-macros.Post
 all-macros-reference-requires-2 t c κs =
     search needs
 
--- src/macros.rt:56:9
+-- src/macros.rt:68:9
 all-macros-element-requires : (t : ℕ) → all-macros-lts.Need-element-requires (all-macros-claims t) (all-macros-at t) all-macros.Post
 all-macros-element-requires t c κs =
     search needs
 
--- src/macros.rt:57:29
+-- src/macros.rt:69:29
 all-macros-one-macro-requires : (t : ℕ) → all-macros-lts.Need-one-macro-requires (all-macros-claims t) (all-macros-at t) all-macros.Post
 all-macros-one-macro-requires t c κs =
     let a = c .before .before .before .before .before .before .before .before .before .before .before .before .before .before .before .before .args in one-ask (a .items .now) (a .work .now) (a .macros .now) (a .marks .now) (a .list) (a .w) (a .count) (a .top) (c .before .before .before .before .before .before .before .before .before .before .before .before .before .before .before .before .pre .1) _ _ _ (sym (c .before .before .before .before .before .before .before .before .before .before .word .ensures) ∙ c .before .before .before .before .before .before .before .before .before .if1 .left) (c .before .before .before .before .before .before .before .reference .ensures) (c .before .before .before .before .before .reference2 .ensures) (c .before .before .before .element .ensures)
 
--- src/macros.rt:57:20
+-- src/macros.rt:69:20
 all-macros-enum-known-upper : (t : ℕ) → all-macros-lts.Need-enum-known-upper (all-macros-claims t) (all-macros-at t) all-macros.Post
 all-macros-enum-known-upper t c =
     search needs
 
--- src/macros.rt:58:9
+-- src/macros.rt:70:9
 all-macros-enum-told : (t : ℕ) → all-macros-lts.Need-enum-told (all-macros-claims t) (all-macros-at t) all-macros.Post
 all-macros-enum-told t c =
     search needs
 
--- src/macros.rt:58:9
+-- src/macros.rt:70:9
 all-macros-same-length-2 : (t : ℕ) → all-macros-lts.Need-same-length-2 (all-macros-claims t) (all-macros-at t) all-macros.Post
 all-macros-same-length-2 t c =
     c .before .before .before .before .before .before .before .before .one-macro .kept .1 .0
 
--- src/macros.rt:58:9
+-- src/macros.rt:70:9
 all-macros-same-length-3 : (t : ℕ) → all-macros-lts.Need-same-length-3 (all-macros-claims t) (all-macros-at t) all-macros.Post
 all-macros-same-length-3 t c =
     c .before .before .before .before .before .before .before .before .one-macro .kept .1 .1 .0
 
--- src/macros.rt:58:9
+-- src/macros.rt:70:9
 all-macros-same-length-4 : (t : ℕ) → all-macros-lts.Need-same-length-4 (all-macros-claims t) (all-macros-at t) all-macros.Post
 all-macros-same-length-4 t c =
     c .before .before .before .before .before .before .before .before .one-macro .kept .1 .1 .1 .0
 
--- src/macros.rt:58:9
+-- src/macros.rt:70:9
 all-macros-returns-2 : (t : ℕ) → all-macros-lts.Need-returns-2 (all-macros-claims t) (all-macros-at t) all-macros.Post
 all-macros-returns-2 t c =
     let a = c .before .before .before .before .before .before .before .before .before .before .before .before .before .before .before .before .before .before .before .before .before .before .before .before .before .args in all-bad (a .items .now) (a .work .now) (a .macros .now) (a .marks .now) (a .list) (a .w) (a .count) (a .top) (c .before .before .before .before .before .before .before .before .before .before .before .before .before .before .before .before .before .before .before .before .before .before .before .before .before .pre .1) _ _ _ (sym (c .before .before .before .before .before .before .before .before .before .before .before .before .before .before .before .before .before .before .before .word .ensures) ∙ c .before .before .before .before .before .before .before .before .before .before .before .before .before .before .before .before .before .before .if1 .left) (c .before .before .before .before .before .before .before .before .before .before .before .before .before .before .before .before .reference .ensures) (c .before .before .before .before .before .before .before .before .before .before .before .before .before .before .reference2 .ensures) (c .before .before .before .before .before .before .before .before .before .before .before .before .element .ensures) (c .before .before .before .before .before .before .before .before .one-macro .last .1 .0) (c .before .before .before .before .before .before .before .before .one-macro .last .1 .1 .0) (c .before .before .before .before .before .before .before .before .one-macro .last .1 .0) (c .before .before .before .before .before .before .before .before .one-macro .last .1 .1 .0) _ (c .enum-told .given .1) (c .before .before .before .before .before .before .before .before .one-macro .ensures)
 
--- src/macros.rt:60:53
+-- src/macros.rt:72:53
 all-macros-add-all-macros : (t : ℕ) → all-macros-lts.Need-add-all-macros (all-macros-claims t) (all-macros-at t) all-macros.Post
 all-macros-add-all-macros t c =
     let a = c .before .before .before .before .before .before .before .before .before .before .before .before .before .before .before .before .before .before .before .before .before .before .before .before .before .before .before .before .before .args in record { fits = count-small (a .items .now) (a .work .now) (a .macros .now) (a .marks .now) (a .list) (a .w) (a .count) (a .top) (c .before .before .before .before .before .before .before .before .before .before .before .before .before .before .before .before .before .before .before .before .before .before .before .before .before .before .before .before .before .pre .1) _ _ _ (sym (c .before .before .before .before .before .before .before .before .before .before .before .before .before .before .before .before .before .before .before .before .before .before .before .word .ensures) ∙ c .before .before .before .before .before .before .before .before .before .before .before .before .before .before .before .before .before .before .before .before .before .before .if1 .left) (c .before .before .before .before .before .before .before .before .before .before .before .before .before .before .before .before .before .before .before .before .reference .ensures) (c .before .before .before .before .before .before .before .before .before .before .before .before .before .before .before .before .before .before .reference2 .ensures) (c .before .before .before .before .before .before .before .before .before .before .before .before .before .before .before .before .element .ensures) }
 
--- src/macros.rt:60:5
+-- src/macros.rt:72:5
 all-macros-all-macros-requires : (t : ℕ) → all-macros-lts.Need-all-macros-requires (all-macros-claims t) (all-macros-at t) all-macros.Post
 all-macros-all-macros-requires t c κs =
     let a = c .before .before .before .before .before .before .before .before .before .before .before .before .before .before .before .before .before .before .before .before .before .before .before .before .before .before .before .before .before .args in (omega (arith, c .before .before .before .before .before .before .before .before .before .before .before .before .before .before .before .before .before .before .before .before .before .before .before .before .before .before .before .before .before .pre .0, rest-low (a .items .now) (a .work .now) (a .macros .now) (a .marks .now) (a .list) (a .w) (a .count) (a .top) (c .before .before .before .before .before .before .before .before .before .before .before .before .before .before .before .before .before .before .before .before .before .before .before .before .before .before .before .before .before .pre .1) _ _ _ (sym (c .before .before .before .before .before .before .before .before .before .before .before .before .before .before .before .before .before .before .before .before .before .before .before .word .ensures) ∙ c .before .before .before .before .before .before .before .before .before .before .before .before .before .before .before .before .before .before .before .before .before .before .if1 .left) (c .before .before .before .before .before .before .before .before .before .before .before .before .before .before .before .before .before .before .before .before .reference .ensures) (c .before .before .before .before .before .before .before .before .before .before .before .before .before .before .before .before .before .before .reference2 .ensures) (c .before .before .before .before .before .before .before .before .before .before .before .before .before .before .before .before .element .ensures)), ask-later (a .items .now) (a .work .now) (a .macros .now) (a .marks .now) (a .list) (a .w) (a .count) (a .top) (c .before .before .before .before .before .before .before .before .before .before .before .before .before .before .before .before .before .before .before .before .before .before .before .before .before .before .before .before .before .pre .1) _ _ _ (sym (c .before .before .before .before .before .before .before .before .before .before .before .before .before .before .before .before .before .before .before .before .before .before .before .word .ensures) ∙ c .before .before .before .before .before .before .before .before .before .before .before .before .before .before .before .before .before .before .before .before .before .before .if1 .left) (c .before .before .before .before .before .before .before .before .before .before .before .before .before .before .before .before .before .before .before .before .reference .ensures) (c .before .before .before .before .before .before .before .before .before .before .before .before .before .before .before .before .before .before .reference2 .ensures) (c .before .before .before .before .before .before .before .before .before .before .before .before .before .before .before .before .element .ensures) (c .before .before .before .before .before .before .before .before .before .before .before .before .one-macro .last .1 .0) (c .before .before .before .before .before .before .before .before .before .before .before .before .one-macro .last .1 .1 .0) (c .before .before .before .before .before .before .before .before .before .before .before .before .one-macro .last .1 .1 .1 .0) _ _ (c .before .before .before .before .upper .given .1) (c .before .before .before .before .before .before .before .before .before .before .before .before .one-macro .ensures) (c .before .before .before .before .before .before .before .before .before .before .before .before .one-macro .kept .1 .0) (c .before .before .before .before .before .before .before .before .before .before .before .before .one-macro .kept .1 .1 .0) (c .before .before .before .before .before .before .before .before .before .before .before .before .one-macro .kept .1 .1 .1 .0))
 
--- src/macros.rt:38:1
+-- src/macros.rt:50:1
 all-macros-same-length-5 : (t : ℕ) → all-macros-lts.Need-same-length-5 (all-macros-claims t) (all-macros-at t) all-macros.Post
 all-macros-same-length-5 t c =
     c .before .before .before .before .before .before .all-macros .kept .1 .0 ∙ c .before .before .before .before .before .before .before .before .before .before .before .before .before .before .before .before .before .before .before .one-macro .kept .1 .0
 
--- src/macros.rt:38:1
+-- src/macros.rt:50:1
 all-macros-same-length-6 : (t : ℕ) → all-macros-lts.Need-same-length-6 (all-macros-claims t) (all-macros-at t) all-macros.Post
 all-macros-same-length-6 t c =
     c .before .before .before .before .before .before .all-macros .kept .1 .1 .0 ∙ c .before .before .before .before .before .before .before .before .before .before .before .before .before .before .before .before .before .before .before .one-macro .kept .1 .1 .0
 
--- src/macros.rt:38:1
+-- src/macros.rt:50:1
 all-macros-same-length-7 : (t : ℕ) → all-macros-lts.Need-same-length-7 (all-macros-claims t) (all-macros-at t) all-macros.Post
 all-macros-same-length-7 t c =
     c .before .before .before .before .before .before .all-macros .kept .1 .1 .1 .0 ∙ c .before .before .before .before .before .before .before .before .before .before .before .before .before .before .before .before .before .before .before .one-macro .kept .1 .1 .1 .0
 
--- src/macros.rt:38:1
+-- src/macros.rt:50:1
 all-macros-returns-3 : (t : ℕ) → all-macros-lts.Need-returns-3 (all-macros-claims t) (all-macros-at t) all-macros.Post
 all-macros-returns-3 t c =
     let a = c .before .before .before .before .before .before .before .before .before .before .before .before .before .before .before .before .before .before .before .before .before .before .before .before .before .before .before .before .before .before .before .before .before .before .before .before .args in all-both (a .items .now) (a .work .now) (a .macros .now) (a .marks .now) (a .list) (a .w) (a .count) (a .top) (c .before .before .before .before .before .before .before .before .before .before .before .before .before .before .before .before .before .before .before .before .before .before .before .before .before .before .before .before .before .before .before .before .before .before .before .before .pre .1) _ _ _ (sym (c .before .before .before .before .before .before .before .before .before .before .before .before .before .before .before .before .before .before .before .before .before .before .before .before .before .before .before .before .before .before .word .ensures) ∙ c .before .before .before .before .before .before .before .before .before .before .before .before .before .before .before .before .before .before .before .before .before .before .before .before .before .before .before .before .before .if1 .left) (c .before .before .before .before .before .before .before .before .before .before .before .before .before .before .before .before .before .before .before .before .before .before .before .before .before .before .before .reference .ensures) (c .before .before .before .before .before .before .before .before .before .before .before .before .before .before .before .before .before .before .before .before .before .before .before .before .before .reference2 .ensures) (c .before .before .before .before .before .before .before .before .before .before .before .before .before .before .before .before .before .before .before .before .before .before .before .element .ensures) (c .before .before .before .before .before .before .before .before .before .before .before .before .before .before .before .before .before .before .before .one-macro .last .1 .0) (c .before .before .before .before .before .before .before .before .before .before .before .before .before .before .before .before .before .before .before .one-macro .last .1 .1 .0) (c .before .before .before .before .before .before .before .before .before .before .before .before .before .before .before .before .before .before .before .one-macro .last .1 .1 .1 .0) _ _ (c .before .before .before .before .before .before .before .before .before .before .before .upper .given .1) (c .before .before .before .before .before .before .before .before .before .before .before .before .before .before .before .before .before .before .before .one-macro .ensures) (c .before .before .before .before .before .before .before .before .before .before .before .before .before .before .before .before .before .before .before .one-macro .kept .1 .0) (c .before .before .before .before .before .before .before .before .before .before .before .before .before .before .before .before .before .before .before .one-macro .kept .1 .1 .0) (c .before .before .before .before .before .before .before .before .before .before .before .before .before .before .before .before .before .before .before .one-macro .kept .1 .1 .1 .0) (c .before .before .before .before .before .before .all-macros .last .1 .0) (c .before .before .before .before .before .before .all-macros .last .1 .1 .0) (c .before .before .before .before .before .before .all-macros .result) (c .before .before .before .before .before .before .all-macros .ensures)
