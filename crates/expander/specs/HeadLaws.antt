@@ -1,4 +1,5 @@
 -- The turn of an expression, by what it is and what its head finds: one equation for each way of the dispatch.
+use mathlib.Core.Bool.{true, false}
 use mathlib.Core.Path.{_≡_, refl, _∙_}
 use mathlib.Core.List.{List}
 use Prim.Native.Nat.{ℕ}
@@ -8,9 +9,9 @@ use Rattle.datum.specs.Datum.{constantD}
 use Rattle.recipe.specs.Name.{variable, macro, Name}
 use Rattle.recipe.specs.Tree.{Tree, empty, constant, name, pair, onPair, tail}
 use Rattle.core_term.specs.Term.{Term, variableC, operationC, datumC}
-use Rattle.expansion.specs.Lookup.{bound, form, quote, lambda, auxiliary, operation, nothing, lookup}
+use Rattle.expansion.specs.Lookup.{bound, form, quote, lambda, let-syntax, letrec-syntax, auxiliary, operation, nothing, lookup}
 use Rattle.expansion.specs.Computation.{State, M, give, refuse}
-use Rattle.expansion.specs.Forms.{expandTree, expandList, expandOperands, expandUse, expandLambda}
+use Rattle.expansion.specs.Forms.{expandTree, expandList, expandOperands, expandUse, expandLambda, expandMacros}
 use Rattle.expander.specs.Ends.{finished, stopped, endOf}
 use Rattle.expander.specs.EndLaws.{quote-end, name-end}
 use Rattle.expander.specs.Turns.{operationsOf, turnOf}
@@ -50,6 +51,14 @@ module _ (items : List ℕ) (fuel : ℕ) (expand : Tree → M (Term Name)) (s : 
     pub lambda-turn : lookup (operationsOf items) x ≡ form lambda → turnOf items fuel expand (pair (name x) t) s ≡ endOf (expandLambda macrosMost (operationsOf items) fuel expand (pair (name x) t) s)
     unfolding expandList
     lambda-turn e = headed items fuel x t (form lambda) e expand s
+
+    pub let-syntax-turn : lookup (operationsOf items) x ≡ form let-syntax → turnOf items fuel expand (pair (name x) t) s ≡ endOf (expandMacros macrosMost (operationsOf items) fuel expand false x (pair (name x) t) s)
+    unfolding expandList
+    let-syntax-turn e = headed items fuel x t (form let-syntax) e expand s
+
+    pub letrec-syntax-turn : lookup (operationsOf items) x ≡ form letrec-syntax → turnOf items fuel expand (pair (name x) t) s ≡ endOf (expandMacros macrosMost (operationsOf items) fuel expand true x (pair (name x) t) s)
+    unfolding expandList
+    letrec-syntax-turn e = headed items fuel x t (form letrec-syntax) e expand s
 
     pub auxiliary-turn : lookup (operationsOf items) x ≡ form auxiliary → turnOf items fuel expand (pair (name x) t) s ≡ stopped 12 s
     unfolding expandList refuse endOf

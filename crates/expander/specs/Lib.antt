@@ -13,6 +13,11 @@ pub mod LambdaLaws
 pub mod Uses
 pub mod UseLaws
 pub mod UseTurnLaws
+pub mod MacroRules
+pub mod MacroRuleLaws
+pub mod MacroTurns
+pub mod MacroTurnLaws
+pub mod MacroFollowLaws
 pub mod HeadLaws
 pub mod ReadyLaws
 pub mod LentLaws

@@ -166,7 +166,7 @@ header-moved list code number n at r work before after h p items w =
 
 -- ---- the rules of one macro
 
-macrosAt-length : (items work macros : List ℕ) (n : ℕ) → length (macrosAt items work macros n) ≡ n
+pub macrosAt-length : (items work macros : List ℕ) (n : ℕ) → length (macrosAt items work macros n) ≡ n
 unfolding macrosAt
 macrosAt-length items work macros zero = refl
 macrosAt-length items work macros (suc n) = omega (arith, length-append (macrosAt items work macros n) (rulesAt items work (getD macros n 0) ∷ []), macrosAt-length items work macros n)

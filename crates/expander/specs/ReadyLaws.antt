@@ -13,6 +13,7 @@ use Rattle.expander.specs.declared.answers.Reached.{Reached}
 use Rattle.expander.specs.Memory.{tables, CoreRoom, workNeed, coreNeed, variableNeed, macroNeed, Ready, Placed}
 use Rattle.expander.specs.Scopes.{Roomy, QuoteRoom}
 use Rattle.expander.specs.Uses.{UseRoom}
+use Rattle.expander.specs.MacroTurns.{MacroRoom}
 
 module _ (items work core macros marks : List ℕ) (fuel node w : ℕ) (r : Reached)
     (ready : Ready items fuel (size (treeAt items work node w)) r (tables work core macros)) (placed : Placed items work (r .top) node w) where
@@ -58,5 +59,18 @@ module _ (items work core macros marks : List ℕ) (fuel node w : ℕ) (r : Reac
           small = omega (arith, ready .small);
           counted = omega (arith, ready .macro-room);
           macros-are = record { below = ready .macros-are .below; proper = ready .macros-are .proper; plain = ready .macros-are .plain };
+          hands = hands;
+        }
+
+    pub ready-macros : MacroRoom items work macros marks node w r
+    unfolding workNeed macroNeed
+    ready-macros =
+        record {
+          placed = placed;
+          fits = omega (arith, ready .room);
+          small = omega (arith, ready .small);
+          slots = omega (arith, ready .macro-room);
+          few = omega (arith, ready .macros-few);
+          below = ready .macros-are .below;
           hands = hands;
         }

@@ -95,7 +95,7 @@ proper-rule limit used p (given {a = x} f) =
 
 -- ---- the words follow from the same place
 
-left-same : (items : List ℕ) (r q : Reached) (core : List ℕ) (last : Tables) (e : End (Term Name)) (a : Ended) → q .at ≡ r .at → Left items encode q core last e a → Left items encode r core last e a
+pub left-same : (items : List ℕ) (r q : Reached) (core : List ℕ) (last : Tables) (e : End (Term Name)) (a : Ended) → q .at ≡ r .at → Left items encode q core last e a → Left items encode r core last e a
 left-same items r q core last (finished v s) (Done p) h l = (l .0, subst (λ (n : ℕ). Put (encode v) n core (last .core) (p .at)) h (l .1))
 left-same items r q core last (finished v s) (Refused x y z) h l = l
 left-same items r q core last (stopped k s) (Done p) h l = l

@@ -2,6 +2,7 @@
 
 pub mod answers;
 pub mod leaf;
+pub mod macros;
 pub mod output;
 pub mod turns;
 pub mod uses;
