@@ -58,7 +58,7 @@ fn expansions() {
 /// `row "recipe" "output"` and `rowWith fuel "recipe" "output"`.
 #[test]
 fn outputs() {
-    let specs = spec("rows/specs/Rows.antt");
+    let specs = spec("output/specs/Rows.antt");
     let mut count = 0;
     for (at, word) in specs.match_indices("row \"").chain(specs.match_indices("rowWith ")) {
         let rest = &specs[at + word.trim_end_matches('"').len()..];

@@ -2,6 +2,7 @@
 use mathlib.Core.List.{List, [], _∷_}
 use Prim.Native.Nat.{ℕ}
 use Prim.Native.String.{String}
+use Rattle.words.specs.Limits.{filingFuel, filingWork, filingCore}
 use Rattle.words.specs.Text.{bytes}
 use Rattle.reading.specs.Elements.{Answer, got, back}
 use Rattle.reading.specs.Read.{Recipe, recipeOf, itemWords}
@@ -15,17 +16,6 @@ pub record Row : Type 0 where
   pub steps : ℕ
   pub sum : ℕ
   pub core : List ℕ
-
--- ---- the filing program's fuel and lengths of lent tables
-
-abbrev pub filingFuel : ℕ
-filingFuel = 512
-
-abbrev pub filingWork : ℕ
-filingWork = 16368
-
-abbrev pub filingCore : ℕ
-filingCore = 2046
 
 -- ---- rows
 

@@ -5,9 +5,10 @@ use mathlib.Core.List.{List, [], _∷_}
 use mathlib.Core.Option.{Option, none, some}
 use Prim.Native.Nat.{ℕ}
 use Prim.Native.String.{String}
+use Rattle.words.specs.Limits.{filingFuel}
 use Rattle.recipe.specs.Name.{Binding, variable, macro, Name}
 use Rattle.expansion.specs.Computation.{Event, looked, quoted, reached, binds, Events}
-use Rattle.expansion.specs.Row.{filingFuel, runOf}
+use Rattle.expansion.specs.Row.{runOf}
 
 -- a name that has stood in no step's result, by number and item, without marks
 unfoldable pub placed : (number item : ℕ) → Option Binding → Name

@@ -72,3 +72,14 @@ patternVariablesMost = 16
 -- ellipses over one variable
 abbrev pub depthMost : ℕ
 depthMost = 2
+
+-- ---- the filing program's fuel, and the lengths of the work and core tables that it lends
+
+abbrev pub filingFuel : ℕ
+filingFuel = 512
+
+abbrev pub filingWork : ℕ
+filingWork = 16368
+
+abbrev pub filingCore : ℕ
+filingCore = 2046

@@ -3,6 +3,7 @@ use mathlib.Core.Path.{_≡_, refl}
 use mathlib.Core.List.{List, [], _∷_, map}
 use Prim.Native.Nat.{ℕ}
 use Prim.Native.String.{String}
+use Rattle.words.specs.Limits.{filingFuel}
 use Rattle.words.specs.Lists as Lists
 use Rattle.words.specs.Text.{bytes}
 use Rattle.datum.specs.NameTable as NameTable
@@ -11,8 +12,7 @@ use Rattle.core_term.specs.Check as Check
 use Rattle.core_term.specs.Decimal as Decimal
 use Rattle.core_term.specs.Text as Text
 use Rattle.expansion.specs.Computed.{computed}
-use Rattle.expansion.specs.Row.{filingFuel}
-use Rattle.rows.specs.Output.{line, refusal, acceptance, printed, outputOf, output}
+use Rattle.output.specs.Output.{line, refusal, acceptance, printed, outputOf, filed, output}
 
 pub record Row : Type 0 where
   pub recipe : String
@@ -26,7 +26,8 @@ unfoldable pub row : String → String → Row
 unfolding rowWith
 row = rowWith filingFuel
 
-unfoldable pub filed : Row → List ℕ
+-- what the definitions give for a row
+unfoldable pub printedFor : Row → List ℕ
 unfolding
     Lists.within bytes
     NameTable.slot NameTable.slots NameTable.lengthAt NameTable.nameAt NameTable.hasName
@@ -36,8 +37,8 @@ unfolding
     Decimal.leading Decimal.digitsBy Decimal.decimal Decimal.signed Decimal.integerText
     Text.spacedAfter Text.spaced Text.parenthesized Text.variableText Text.operationText Text.formalTexts Text.constantText
     Text.bare Text.outermost Text.text
-    line refusal acceptance printed outputOf output
-filed r = output (bytes (r .recipe)) (r .fuel)
+    line refusal acceptance printed outputOf filed output
+printedFor r = output (bytes (r .recipe)) (r .fuel)
 
 unfoldable pub rows : List Row
 unfolding row rowWith
@@ -79,6 +80,6 @@ rows =
     "accepted 0 0\n(lambda (v0) (quote (y if #t -5 ())))\n" ∷
     []
 
-pub rows-hold : map filed rows ≡ map (λ r. bytes (r .output)) rows
-unfolding filed rows
+pub rows-hold : map printedFor rows ≡ map (λ r. bytes (r .output)) rows
+unfolding printedFor rows
 rows-hold = refl

@@ -2,7 +2,7 @@
 use mathlib.Core.List.{List, [], _∷_, _++_}
 use mathlib.Core.Option.{Option, none, some}
 use Prim.Native.Nat.{ℕ}
-use Rattle.words.specs.Limits.{itemWordsLeast, nameBytesLeast, operationsMost}
+use Rattle.words.specs.Limits.{itemWordsLeast, nameBytesLeast, operationsMost, filingWork, filingCore}
 use Rattle.words.specs.Text.{bytes}
 use Rattle.datum.specs.NameTable.{hasName, nameAt}
 use Rattle.reading.specs.Elements.{Answer, got, back}
@@ -12,7 +12,6 @@ use Rattle.core_term.specs.Check.{termOf}
 use Rattle.core_term.specs.Decimal.{decimal}
 use Rattle.core_term.specs.Text.{spaced, text}
 use Rattle.expansion.specs.Run.{Outcome, accepted, turnedBack, unfinished, Run, run}
-use Rattle.expansion.specs.Row.{filingWork, filingCore}
 
 -- a line of words, with its LF
 unfoldable pub line : List (List ℕ) → List ℕ
@@ -33,11 +32,17 @@ printed names accepted r = acceptance names (r .steps) (r .sum) (termOf operatio
 printed names (turnedBack ground) r = refusal ground (r .steps) (r .sum)
 printed names unfinished r = []
 
-unfoldable pub outputOf : ℕ → Answer Recipe → List ℕ
-outputOf fuel (back ground) = refusal ground 0 0
-outputOf fuel (got recipe) =
-    let r = run (itemWords recipe) fuel filingWork filingCore in
+-- the answer of reading, with the lengths of the work and core tables
+unfoldable pub outputOf : (fuel work core : ℕ) → Answer Recipe → List ℕ
+outputOf fuel work core (back ground) = refusal ground 0 0
+outputOf fuel work core (got recipe) =
+    let r = run (itemWords recipe) fuel work core in
     printed (nameBytes recipe) (r .outcome) r
 
+-- a text with fuel, and the lengths of the four lent tables
+unfoldable pub filed : List ℕ → (fuel items names work core : ℕ) → List ℕ
+filed text fuel items names work core = outputOf fuel work core (read text items names)
+
+-- in the filing program's tables
 unfoldable pub output : List ℕ → ℕ → List ℕ
-output recipe fuel = outputOf fuel (read recipe itemWordsLeast nameBytesLeast)
+output text fuel = filed text fuel itemWordsLeast nameBytesLeast filingWork filingCore
