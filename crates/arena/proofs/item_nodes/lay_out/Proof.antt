@@ -1,6 +1,6 @@
--- `layout::lay_out`. The last `laid` items have their nodes.
-use Rattle.arena.proofs.layout.lay_out.Statement.{statement}
-use Rattle.arena.proofs.layout.lay_out.Tie as tie
+-- `item_nodes::lay_out`. The last `laid` items have their nodes.
+use Rattle.arena.proofs.item_nodes.lay_out.Statement.{statement}
+use Rattle.arena.proofs.item_nodes.lay_out.Tie as tie
 use Rattle.recipe.specs.Table.{itemCount}
 use Rattle.arena.specs.LayOut.{most, Laid, laid-none, laid-all}
 use borrow.Author.Needs.{needs}

@@ -1,7 +1,7 @@
--- `forms::literals_good`: a list, its elements, and their count.
+-- `rules_form::literals_good`: a list, its elements, and their count.
 use borrow.Author.Needs.{needs}
-use Rattle.rule_cells.proofs.forms.literals_good.Statement.{statement}
-use Rattle.rule_cells.proofs.forms.literals_good.Tie as tie
+use Rattle.rule_cells.proofs.rules_form.literals_good.Statement.{statement}
+use Rattle.rule_cells.proofs.rules_form.literals_good.Tie as tie
 use Rattle.rule_cells.specs.Forms.{literals-no, literals-other, literals-most}
 use mathlib.Core.Path.{sym, _∙_}
 

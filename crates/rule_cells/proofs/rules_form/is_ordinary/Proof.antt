@@ -1,7 +1,7 @@
--- `forms::is_ordinary`: a name by its number.
+-- `rules_form::is_ordinary`: a name by its number.
 use borrow.Author.Needs.{needs}
-use Rattle.rule_cells.proofs.forms.is_ordinary.Statement.{statement}
-use Rattle.rule_cells.proofs.forms.is_ordinary.Tie as tie
+use Rattle.rule_cells.proofs.rules_form.is_ordinary.Statement.{statement}
+use Rattle.rule_cells.proofs.rules_form.is_ordinary.Tie as tie
 use Rattle.rule_cells.specs.Forms.{ordinary-no, ordinary-dots, ordinary-wildcard, ordinary-yes}
 use mathlib.Core.Path.{sym, _∙_}
 

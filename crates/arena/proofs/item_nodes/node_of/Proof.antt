@@ -1,7 +1,7 @@
--- `layout::node_of`: a difference that stops at 0.
+-- `item_nodes::node_of`: a difference that stops at 0.
 use borrow.Author.Needs.{needs}
-use Rattle.arena.proofs.layout.node_of.Statement.{statement}
-use Rattle.arena.proofs.layout.node_of.Tie as tie
+use Rattle.arena.proofs.item_nodes.node_of.Statement.{statement}
+use Rattle.arena.proofs.item_nodes.node_of.Tie as tie
 use Rattle.arena.specs.LayOut.{nodeOf}
 use native.Mathlib.Omega.{arith}
 

@@ -3,14 +3,14 @@ use borrow.Author.Needs.{needs}
 use Prim.Native.Nat.{ℕ, _<_}
 use borrow.Fn.Kinds.{In}
 use borrow.Fn.PlainCycle.{Measures, is, falls, and}
-use Rattle.rule_cells.proofs.forms.all_ordinary.Reads as all-ordinary
-use Rattle.rule_cells.proofs.forms.all_ordinary.Kinds as all-ordinary-kinds
-use Rattle.rule_cells.proofs.forms.+all_ordinary.Lts-all_ordinary as all-ordinary-lts
+use Rattle.rule_cells.proofs.rules_form.all_ordinary.Reads as all-ordinary
+use Rattle.rule_cells.proofs.rules_form.all_ordinary.Kinds as all-ordinary-kinds
+use Rattle.rule_cells.proofs.rules_form.+all_ordinary.Lts-all_ordinary as all-ordinary-lts
 use Rattle.arena.proofs.cells.reference.Reads as reference-reads
 use Rattle.arena.proofs.cells.word.Reads as word-reads
-use Rattle.rule_cells.proofs.forms.is_ordinary.Reads as is-ordinary-reads
-use Rattle.rule_cells.proofs.forms.+all_ordinary.{statement}
-use Rattle.rule_cells.proofs.forms.+all_ordinary.Tie.{close}
+use Rattle.rule_cells.proofs.rules_form.is_ordinary.Reads as is-ordinary-reads
+use Rattle.rule_cells.proofs.rules_form.+all_ordinary.{statement}
+use Rattle.rule_cells.proofs.rules_form.+all_ordinary.Tie.{close}
 use Rattle.rule_cells.specs.TreeLaws.{pair-falls}
 use Rattle.rule_cells.specs.Forms.{all-end, all-no, all-more}
 use mathlib.Core.Path.{sym, _∙_}

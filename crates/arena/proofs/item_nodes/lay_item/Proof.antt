@@ -1,7 +1,7 @@
--- `layout::lay_item`, by the item's kind.
+-- `item_nodes::lay_item`, by the item's kind.
 use borrow.Author.Needs.{needs}
-use Rattle.arena.proofs.layout.lay_item.Statement.{statement}
-use Rattle.arena.proofs.layout.lay_item.Tie as tie
+use Rattle.arena.proofs.item_nodes.lay_item.Statement.{statement}
+use Rattle.arena.proofs.item_nodes.lay_item.Tie as tie
 use Rattle.arena.specs.LayOut.{laying-whole, laying-most, laying-room, laid-empty, laid-name, laid-pair, laid-constant, head-below, tail-below}
 use native.Mathlib.Omega.{arith}
 use mathlib.Core.Path.{refl}

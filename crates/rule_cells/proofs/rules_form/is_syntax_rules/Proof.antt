@@ -1,7 +1,7 @@
--- `forms::is_syntax_rules`: the number, and no binding.
+-- `rules_form::is_syntax_rules`: the number, and no binding.
 use borrow.Author.Needs.{needs}
-use Rattle.rule_cells.proofs.forms.is_syntax_rules.Statement.{statement}
-use Rattle.rule_cells.proofs.forms.is_syntax_rules.Tie as tie
+use Rattle.rule_cells.proofs.rules_form.is_syntax_rules.Statement.{statement}
+use Rattle.rule_cells.proofs.rules_form.is_syntax_rules.Tie as tie
 use Rattle.rule_cells.specs.Forms.{head-no, head-other, head-yes}
 use mathlib.Core.Path.{sym, _∙_}
 

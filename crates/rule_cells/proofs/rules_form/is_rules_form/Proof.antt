@@ -1,7 +1,7 @@
--- `forms::is_rules_form`: its head, its literals, then the count of its rules.
+-- `rules_form::is_rules_form`: its head, its literals, then the count of its rules.
 use borrow.Author.Needs.{needs}
-use Rattle.rule_cells.proofs.forms.is_rules_form.Statement.{statement}
-use Rattle.rule_cells.proofs.forms.is_rules_form.Tie as tie
+use Rattle.rule_cells.proofs.rules_form.is_rules_form.Statement.{statement}
+use Rattle.rule_cells.proofs.rules_form.is_rules_form.Tie as tie
 use Rattle.rule_cells.specs.Forms.{form-no, form-literals, form-none, form-some}
 use mathlib.Core.Path.{sym, _∙_}
 

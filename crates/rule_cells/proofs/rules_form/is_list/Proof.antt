@@ -1,7 +1,7 @@
--- `forms::is_list`: the empty list or a pair.
+-- `rules_form::is_list`: the empty list or a pair.
 use borrow.Author.Needs.{needs}
-use Rattle.rule_cells.proofs.forms.is_list.Statement.{statement}
-use Rattle.rule_cells.proofs.forms.is_list.Tie as tie
+use Rattle.rule_cells.proofs.rules_form.is_list.Statement.{statement}
+use Rattle.rule_cells.proofs.rules_form.is_list.Tie as tie
 use Rattle.rule_cells.specs.Forms.{list-empty, list-pair, list-no}
 use mathlib.Core.Path.{sym, _∙_}
 
