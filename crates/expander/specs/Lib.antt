@@ -20,6 +20,8 @@ pub mod MacroTurnLaws
 pub mod MacroFollowLaws
 pub mod HeadLaws
 pub mod ReadyLaws
+pub mod Dispatch
+pub mod DispatchLaws
 pub mod LentLaws
 pub mod Cycle
 pub mod CycleLaws
