@@ -23,4 +23,5 @@ pub mod ReadyLaws
 pub mod LentLaws
 pub mod Cycle
 pub mod CycleLaws
+pub mod CycleCallLaws
 pub mod Service
