@@ -121,8 +121,10 @@ module _ (items : List ℕ) (fuel : ℕ) where
       )
 
       module _ (b : Tables) (e : Ended) (expanded : Expands items fuel first r a b e) where
-        pub operand-refused : (x y z : ℕ) → e ≡ Refused x y z → ExpandsAll items fuel tree r₀ before b (Refused x y z)
-        operand-refused x y z is = walking-refused items fuel tree r₀ before list w r a g head rest list-is head-low rest-low b x y z (subst (Expands items fuel first r a b) is expanded)
+        pub operand-refused : (x y z : ℕ) → e ≡ Refused x y z → ExpandsAll items fuel tree r₀ before b e
+        operand-refused x y z is =
+            subst (ExpandsAll items fuel tree r₀ before b) (sym is)
+            (walking-refused items fuel tree r₀ before list w r a g head rest list-is head-low rest-low b x y z (subst (Expands items fuel first r a b) is expanded))
 
         module _ (q : Reached) (is : e ≡ Done q) (next : ℕ) (next-is : next ≡ referenceAt (b .work) list 1) where
           done : Expands items fuel first r a b (Done q)

@@ -84,7 +84,7 @@ pub fn operands(
     let mut reached = from;
     while cells::word(work, list, cells::KIND) == cells::PAIR {
         let head = cells::reference(work, list, cells::HEAD);
-        match expression(
+        let ended = expression(
             items,
             work,
             core,
@@ -95,22 +95,11 @@ pub fn operands(
             head,
             wrap,
             reached,
-        ) {
-            Ended::Done(q) => {
-                reached = q;
-            }
-            Ended::Refused {
-                ground: g,
-                steps: n,
-                sum: m,
-            } => {
-                return Ended::Refused {
-                    ground: g,
-                    steps: n,
-                    sum: m,
-                };
-            }
-        }
+        );
+        let Ended::Done(done) = ended else {
+            return ended;
+        };
+        reached = done;
         list = cells::reference(work, list, cells::TAIL);
     }
     Ended::Done(reached)

@@ -199,12 +199,12 @@ operands-expression-requires t c κs =
     let asks = operand-asks (entry .args .items .now) (entry .args .fuel) _ _ _ _ _ _ _ (loop .inv .1) (entry .pre .1 .2) _ (word .ensures) (c .before .before .before .before .before .before .if1 .taken) _ (head .ensures) in
     (omega (arith, entry .pre .0, asks .0), (lent-kept _ _ _ _ (loop .inv .0) (entry .pre .1 .0), asks .1, asks .2))
 
-operands-enum-known-q : (t : ℕ) → operands-lts.Need-enum-known-q (operands-claims t) (operands-at t) operands.Post operands-Inv-loop operands-μ-loop
-operands-enum-known-q t c =
+operands-enum-known-ended : (t : ℕ) → operands-lts.Need-enum-known-ended (operands-claims t) (operands-at t) operands.Post operands-Inv-loop operands-μ-loop
+operands-enum-known-ended t c =
     search needs
 
-operands-enum-known-g : (t : ℕ) → operands-lts.Need-enum-known-g (operands-claims t) (operands-at t) operands.Post operands-Inv-loop operands-μ-loop
-operands-enum-known-g t c =
+operands-enum-told : (t : ℕ) → operands-lts.Need-enum-told (operands-claims t) (operands-at t) operands.Post operands-Inv-loop operands-μ-loop
+operands-enum-told t c =
     search needs
 
 operands-same-length : (t : ℕ) → operands-lts.Need-same-length (operands-claims t) (operands-at t) operands.Post operands-Inv-loop operands-μ-loop
@@ -225,13 +225,13 @@ operands-same-length-4 t c =
 
 operands-returns : (t : ℕ) → operands-lts.Need-returns (operands-claims t) (operands-at t) operands.Post operands-Inv-loop operands-μ-loop
 operands-returns t c =
-    let entry = c .before .before .before .before .before .before .before .before .before .before .before .before .before .before .before .before .before .before .before .before .before .before .before .before .before .before .before .before in
-    let loop = c .before .before .before .before .before .before .before .before .before .before .before .before .before .before .before .before .before .before .before .before .before .loop in
-    let word = c .before .before .before .before .before .before .before .before .before .before .before .before .before .before .before .before .before .before .before .word in
-    let head = c .before .before .before .before .before .before .before .before .before .before .before .before .before .before .before .before .reference in
-    let expression = c .before .before .before .before .before .before .before .before .before .before .before .expression in
+    let entry = c .before .before .before .before .before .before .before .before .before .before .before .before .before .before .before .before .before .before .before .before .before .before .before .before .before .before .before in
+    let loop = c .before .before .before .before .before .before .before .before .before .before .before .before .before .before .before .before .before .before .before .before .loop in
+    let word = c .before .before .before .before .before .before .before .before .before .before .before .before .before .before .before .before .before .before .word in
+    let head = c .before .before .before .before .before .before .before .before .before .before .before .before .before .before .before .reference in
+    let expression = c .before .before .before .before .before .before .before .before .before .before .expression in
     let after = tables (expression .last .1 .0) (expression .last .1 .1 .0) (expression .last .1 .1 .1 .0) in
-    operand-refused (entry .args .items .now) (entry .args .fuel) _ _ _ _ _ _ _ (loop .inv .1) (entry .pre .1 .2) _ (word .ensures) (c .before .before .before .before .before .before .before .before .before .before .before .before .before .before .before .before .before .before .if1 .taken) _ (head .ensures) after (expression .result) (expression .ensures) _ _ _ (c .before .g .given .1)
+    operand-refused (entry .args .items .now) (entry .args .fuel) _ _ _ _ _ _ _ (loop .inv .1) (entry .pre .1 .2) _ (word .ensures) (c .before .before .before .before .before .before .before .before .before .before .before .before .before .before .before .before .before .if1 .taken) _ (head .ensures) after (expression .result) (expression .ensures) _ _ _ (c .enum-told .given .1)
 
 operands-reference-requires-2 : (t : ℕ) → operands-lts.Need-reference-requires-2 (operands-claims t) (operands-at t) operands.Post operands-Inv-loop operands-μ-loop
 operands-reference-requires-2 t c κs =
@@ -246,7 +246,7 @@ operands-loop-less t c =
     let expression = c .before .before .before .before .before .before .before .before .before .before .before .before .before .expression in
     let after = tables (expression .last .1 .0) (expression .last .1 .1 .0) (expression .last .1 .1 .1 .0) in
     let tail = c .reference2 in
-    next-falls (entry .args .items .now) (entry .args .fuel) _ _ _ _ _ _ _ (loop .inv .1) (entry .pre .1 .2) _ (word .ensures) (c .before .before .before .before .before .before .before .before .before .before .before .before .before .before .before .before .before .before .before .before .if1 .taken) _ (head .ensures) after (expression .result) (expression .ensures) _ (c .before .before .before .q .given .1) _ (tail .ensures)
+    next-falls (entry .args .items .now) (entry .args .fuel) _ _ _ _ _ _ _ (loop .inv .1) (entry .pre .1 .2) _ (word .ensures) (c .before .before .before .before .before .before .before .before .before .before .before .before .before .before .before .before .before .before .before .before .if1 .taken) _ (head .ensures) after (expression .result) (expression .ensures) _ (c .before .before .before .ended .given .1) _ (tail .ensures)
 
 operands-loop-again : (t : ℕ) → operands-lts.Need-loop-again (operands-claims t) (operands-at t) operands.Post operands-Inv-loop operands-μ-loop
 operands-loop-again t c =
@@ -257,7 +257,7 @@ operands-loop-again t c =
     let expression = c .before .before .before .before .before .before .before .before .before .before .before .before .before .expression in
     let after = tables (expression .last .1 .0) (expression .last .1 .1 .0) (expression .last .1 .1 .1 .0) in
     let tail = c .reference2 in
-    (expression .kept .1 .1 .1 .1 .1 .0 ∙ loop .inv .0, operand-walking (entry .args .items .now) (entry .args .fuel) _ _ _ _ _ _ _ (loop .inv .1) (entry .pre .1 .2) _ (word .ensures) (c .before .before .before .before .before .before .before .before .before .before .before .before .before .before .before .before .before .before .before .before .if1 .taken) _ (head .ensures) after (expression .result) (expression .ensures) _ (c .before .before .before .q .given .1) _ (tail .ensures))
+    (expression .kept .1 .1 .1 .1 .1 .0 ∙ loop .inv .0, operand-walking (entry .args .items .now) (entry .args .fuel) _ _ _ _ _ _ _ (loop .inv .1) (entry .pre .1 .2) _ (word .ensures) (c .before .before .before .before .before .before .before .before .before .before .before .before .before .before .before .before .before .before .before .before .if1 .taken) _ (head .ensures) after (expression .result) (expression .ensures) _ (c .before .before .before .ended .given .1) _ (tail .ensures))
 
 operands-same-length-5 : (t : ℕ) → operands-lts.Need-same-length-5 (operands-claims t) (operands-at t) operands.Post operands-Inv-loop operands-μ-loop
 operands-same-length-5 t c =
@@ -315,8 +315,8 @@ pub +expression+operands-spec : {M : Type 1} → statement M
     (operands-word-requires t)
     (operands-reference-requires t)
     (operands-expression-requires t)
-    (operands-enum-known-q t)
-    (operands-enum-known-g t)
+    (operands-enum-known-ended t)
+    (operands-enum-told t)
     (operands-same-length t)
     (operands-same-length-2 t)
     (operands-same-length-3 t)
