@@ -25,4 +25,5 @@ pub mod DispatchLaws
 pub mod LentLaws
 pub mod Cycle
 pub mod CycleLaws
+pub mod CycleCallLaws
 pub mod Service

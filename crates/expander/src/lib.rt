@@ -1,6 +1,7 @@
 // The expansion service. What its tables mean and what a call leaves stands in specs/.
 
 pub mod answers;
+pub mod cycle;
 pub mod dispatch;
 pub mod leaf;
 pub mod macros;
