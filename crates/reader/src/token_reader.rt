@@ -3,7 +3,7 @@
 ghost use mathlib.Core.Path.{_≡_};
 ghost use Prim.Native.Nat.{_-_};
 ghost use lib.ListN.{length};
-ghost use Rattle.reader.specs.Code.Answered.{Answered};
+ghost use Rattle.reader.specs.Code.Answered.{Answered, pastOr, groundIn};
 use crate::token::Cursor;
 use crate::token::Token;
 use crate::token::token_at;
@@ -33,6 +33,36 @@ pub fn left_at(text: &[u8], at: usize) -> usize
         return 0;
     }
     text.len() - at
+}
+
+// The offset past an answer at an offset; at the end there is none further.
+pub fn past(token: Token, at: usize) -> usize
+    ensures { λ r. ⌜ r ≡ pastOr at token ⌝ }
+{
+    match token {
+        Token::End => at,
+        Token::Open(next) => next.at,
+        Token::Close(next) => next.at,
+        Token::Boolean(_, next) => next.at,
+        Token::Integer(_, next) => next.at,
+        Token::Name(_, next) => next.at,
+        Token::Refused(_, next) => next.at,
+    }
+}
+
+// The ground on which an answer turns the text back, 0 where it is allowed.
+pub fn ground(token: Token) -> u32
+    ensures { λ r. ⌜ r ≡ groundIn token ⌝ }
+{
+    match token {
+        Token::End => 0,
+        Token::Open(_) => 0,
+        Token::Close(_) => 0,
+        Token::Boolean(_, _) => 0,
+        Token::Integer(_, _) => 0,
+        Token::Name(_, _) => 0,
+        Token::Refused(ground, _) => ground,
+    }
 }
 
 // ---- by hand

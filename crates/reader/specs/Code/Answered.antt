@@ -25,6 +25,26 @@ meant text (Integer z c) = some (constant (integer (ofZ w32 z)), c .at)
 meant text (Name from c) = some (name (part from (c .at) text), c .at)
 meant text (Refused g c) = some (refused g, c .at)
 
+-- the offset past an answer, or another at the end
+abbrev pub pastOr : ℕ → T.Token → ℕ
+pastOr at End = at
+pastOr at (Open c) = c .at
+pastOr at (Close c) = c .at
+pastOr at (Boolean b c) = c .at
+pastOr at (Integer z c) = c .at
+pastOr at (Name from c) = c .at
+pastOr at (Refused g c) = c .at
+
+-- the ground of an answer, 0 where it is allowed
+abbrev pub groundIn : T.Token → ℕ
+groundIn End = 0
+groundIn (Open c) = 0
+groundIn (Close c) = 0
+groundIn (Boolean b c) = 0
+groundIn (Integer z c) = 0
+groundIn (Name from c) = 0
+groundIn (Refused g c) = g
+
 -- where an answer says that it starts; only names say it
 abbrev pub startOr : ℕ → T.Token → ℕ
 startOr start End = start

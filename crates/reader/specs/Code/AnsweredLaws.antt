@@ -14,7 +14,7 @@ use Rattle.reading.specs.Offset.{startAt, tokenAt, nextAt, before}
 use Rattle.reading.specs.Meaning.{Meaning, meaningOf}
 use Rattle.reading.specs.Laws.Offsets.{tokens-from, start-low, next-high, next-later, past-end}
 use Rattle.reader.specs.Code.Told.{meaningsFrom, Took, Told}
-use Rattle.reader.specs.Code.Answered.{meant, startOr, meaning, meaningAt, Answered, Takes, ended, further}
+use Rattle.reader.specs.Code.Answered.{meant, pastOr, startOr, meaning, meaningAt, Answered, Takes, ended, further}
 
 -- ---- the meaning at an offset
 
@@ -83,17 +83,39 @@ module _ (text : List ℕ) (at : ℕ) where
 
   module _ (t : T.Token) (a : Answered text at t) where
     -- past the token's start
-    pub answered-later : (m : Meaning) (next : ℕ) → meant text t ≡ some (m, next) → startAt text at < next
+    answered-later : (m : Meaning) (next : ℕ) → meant text t ≡ some (m, next) → startAt text at < next
     unfolding meaningAt
     answered-later m next e =
         let k = meant-some (nextAt text at) (tokenAt text at) m next (sym (a .means) ∙ e) in
         omega (arith, next-later text at (k .0) (k .1), k .3)
 
     -- and not past the end
-    pub answered-within : (m : Meaning) (next : ℕ) → meant text t ≡ some (m, next) → at ≤ length text → next ≤ length text
+    answered-within : (m : Meaning) (next : ℕ) → meant text t ≡ some (m, next) → at ≤ length text → next ≤ length text
     unfolding meaningAt
     answered-within m next e h =
         let k = meant-some (nextAt text at) (tokenAt text at) m next (sym (a .means) ∙ e) in omega (arith, next-high text at h, k .3)
+
+    -- the offset past the answer, whatever it is
+    past-within : (u : T.Token) → t ≡ u → at ≤ length text → pastOr at u ≤ length text
+    past-within End e h = h
+    past-within (Open c) e h = answered-within _ (c .at) (ap (meant text) e) h
+    past-within (Close c) e h = answered-within _ (c .at) (ap (meant text) e) h
+    past-within (Boolean b c) e h = answered-within _ (c .at) (ap (meant text) e) h
+    past-within (Integer z c) e h = answered-within _ (c .at) (ap (meant text) e) h
+    past-within (Name f c) e h = answered-within _ (c .at) (ap (meant text) e) h
+    past-within (Refused g c) e h = answered-within _ (c .at) (ap (meant text) e) h
+
+    past-later : (u : T.Token) → t ≡ u → (pastOr at u ≡ at → ⊥) → startAt text at < pastOr at u
+    past-later End e h = absurd (h refl)
+    past-later (Open c) e h = answered-later _ (c .at) (ap (meant text) e)
+    past-later (Close c) e h = answered-later _ (c .at) (ap (meant text) e)
+    past-later (Boolean b c) e h = answered-later _ (c .at) (ap (meant text) e)
+    past-later (Integer z c) e h = answered-later _ (c .at) (ap (meant text) e)
+    past-later (Name f c) e h = answered-later _ (c .at) (ap (meant text) e)
+    past-later (Refused g c) e h = answered-later _ (c .at) (ap (meant text) e)
+
+    pub answered-past : at ≤ length text → (pastOr at t ≤ length text) × ((pastOr at t ≡ at → ⊥) → startAt text at < pastOr at t)
+    answered-past h = (past-within t refl h, past-later t refl)
 
     answered-some : (m : Meaning) (next : ℕ) → meant text t ≡ some (m, next)
         → map meaningOf (tokensAfter nothing (drop at text)) ≡ m ∷ map meaningOf (tokensAfter nothing (drop next text))
