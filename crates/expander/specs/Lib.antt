@@ -24,3 +24,6 @@ pub mod LentLaws
 pub mod Cycle
 pub mod CycleLaws
 pub mod Service
+pub mod Start
+pub mod StartLaws
+pub mod ServiceLaws
