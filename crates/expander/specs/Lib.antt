@@ -27,3 +27,6 @@ pub mod Cycle
 pub mod CycleLaws
 pub mod CycleCallLaws
 pub mod Service
+pub mod Start
+pub mod StartLaws
+pub mod ServiceLaws
