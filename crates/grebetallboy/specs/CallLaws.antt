@@ -13,7 +13,10 @@ use Rattle.reader.specs.Code.ServedLaws.{ground-is, items-are, names-are}
 use Rattle.writer.specs.declared.Writing.{Writing}
 use Rattle.writer.specs.Writing as W
 use Rattle.writer.specs.Written.{Wrote}
-use Rattle.grebetallboy.specs.Calls.{told}
+use Rattle.expansion.specs.Run.{run}
+use Rattle.expander.specs.declared.Expansion.{Expansion}
+use Rattle.expander.specs.Service as E
+use Rattle.grebetallboy.specs.Calls.{told, tells}
 
 module _ (a b c : ℕ) where
   pub told-short : (t : List ℕ) → length t < 3 → t ≡ told a b c t
@@ -40,6 +43,17 @@ module _ {text words words′ bytes bytes′ counts′ : List ℕ} {r q : Readin
       let i : R.items q ≡ itemCount a = ap R.items answer ∙ items-are a in
       let n : R.names q ≡ nameCount a = ap R.names answer ∙ names-are a in
       (ap R.ground answer ∙ ground-is a, served .items, served .names, told-counts ∙ ap₂ (λ x y. told x y 0 counts) i n)
+
+-- expansion: ground, both tables, counts
+module _ {items work work′ core core′ counts′ : List ℕ} {fuel : ℕ} {r q : Expansion} (counts : List ℕ) where
+  pub expand-told : E.Served items fuel work work′ core core′ r → r ≡ q → counts′ ≡ tells (E.numbersOf q) counts
+      → ((E.numbersOf q) .ground ≡ (E.runNumbers (run items fuel (length work) (length core))) .ground)
+      × (work′ ≡ E.workAfter (run items fuel (length work) (length core)) work)
+      × (core′ ≡ E.coreAfter (run items fuel (length work) (length core)) core)
+      × (counts′ ≡ tells (E.runNumbers (run items fuel (length work) (length core))) counts)
+  expand-told served e told-counts =
+      let numbers = ap E.numbersOf (sym e) ∙ served .numbers in
+      (ap (λ (n : E.Numbers). n .ground) numbers, served .work-after, served .core-after, told-counts ∙ ap (λ n. tells n counts) numbers)
 
 -- writing: ground, output, length
 module _ {x : Option (List ℕ)} {out out′ counts′ : List ℕ} {r q : Writing} (counts : List ℕ) where

@@ -4,6 +4,11 @@ use mathlib.Core.List.{List, _∷_}
 use Prim.Native.Nat.{ℕ}
 use lib.Dec.{ltb}
 use lib.ListN.{length, drop}
+use Rattle.expander.specs.Service.{Numbers}
 
 unfoldable pub told : (a b c : ℕ) → List ℕ → List ℕ
 told a b c counts = cond (ltb (length counts) 3) counts (a ∷ b ∷ c ∷ drop 3 counts)
+
+-- expansion's: steps, sum, length
+unfoldable pub tells : Numbers → List ℕ → List ℕ
+tells n counts = told (n .steps) (n .sum) (n .length) counts

@@ -5,7 +5,10 @@ ghost use mathlib.Core.Path.{_≡_};
 ghost use lib.ListN.{length};
 ghost use Rattle.reading.specs.Read.{read, groundOf, itemCount, nameCount, itemsAfter, namesAfter};
 ghost use Rattle.writer.specs.Writing.{textOf, ground, size, after};
-ghost use Rattle.grebetallboy.specs.Calls.{told};
+ghost use Rattle.expansion.specs.Run.{run};
+ghost use Rattle.expander.specs.Service.{runNumbers, coreAfter, workAfter};
+ghost use Rattle.grebetallboy.specs.Calls.{told, tells};
+use expander::Expansion;
 use reader::Reading;
 use writer::Writing;
 
@@ -41,6 +44,40 @@ pub extern "C" fn grebetallboy_read(
         }
         Reading::Refused(g) => {
             tell(counts, 0, 0, 0);
+            g
+        }
+    }
+}
+
+// Expansion: counts has steps, sum and the length of the term; a refusal's length is 0.
+#[no_mangle]
+pub extern "C" fn grebetallboy_expand(
+    items: &[u32],
+    fuel: u32,
+    work: &mut [u32],
+    core: &mut [u32],
+    counts: &mut [u64],
+) -> u32
+    ensures { λ r. ⌜ (r ≡ (runNumbers (run (now (items .entry)) fuel (length (now (work .entry))) (length (now (core .entry))))) .ground)
+        × (now (work .exit) ≡ workAfter (run (now (items .entry)) fuel (length (now (work .entry))) (length (now (core .entry)))) (now (work .entry)))
+        × (now (core .exit) ≡ coreAfter (run (now (items .entry)) fuel (length (now (work .entry))) (length (now (core .entry)))) (now (core .entry)))
+        × (now (counts .exit) ≡ tells (runNumbers (run (now (items .entry)) fuel (length (now (work .entry))) (length (now (core .entry))))) (now (counts .entry))) ⌝ }
+{
+    match expander::expand(items, fuel, work, core) {
+        Expansion::Accepted {
+            steps: n,
+            sum: m,
+            length: l,
+        } => {
+            tell(counts, n as u64, m as u64, l as u64);
+            0
+        }
+        Expansion::Refused {
+            ground: g,
+            steps: n,
+            sum: m,
+        } => {
+            tell(counts, n as u64, m as u64, 0);
             g
         }
     }
