@@ -2,7 +2,7 @@
 
 pub mod cells;
 pub mod copy;
-pub mod layout;
+pub mod item_nodes;
 pub mod marks;
 pub mod names;
 pub mod nodes;

@@ -29,6 +29,10 @@ module _ (items : List ℕ) (fuel : ℕ) where
   abbrev pub RightAll : Tree → Reached → Tables → Tables → Ended → Type 0
   RightAll t r a last e = (gas : ℕ) → size t - 1 + fuel ≤ gas + r .sum → Left items encodeAll r (a .core) last (expandAllBy gas t a r) e
 
+  -- what falls: the items at hand and the fuel left
+  abbrev pub leftOf : (work : List ℕ) (node w : ℕ) → Reached → ℕ
+  leftOf work node w r = size (treeAt items work node w) + (fuel - r .sum)
+
   -- the expression at hand stands for the first
   pub record Going (tree : Tree) (r₀ : Reached) (before : Tables) (node w : ℕ) (r : Reached) (a : Tables) : Type 0 where
     pub kept : Kept items fuel (size tree) (size (treeAt items (a .work) node w)) r₀ r before a

@@ -175,7 +175,7 @@ module _ (items : List ℕ) (fuel : ℕ) where
       abbrev first : Tree
       first = treeAt items (a .work) head w
 
-      sizes : size left ≡ suc (size first + size (treeAt items (a .work) rest w))
+      pub sizes : size left ≡ suc (size first + size (treeAt items (a .work) rest w))
       unfolding size
       sizes = ap size list-is
 

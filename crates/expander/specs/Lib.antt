@@ -20,7 +20,13 @@ pub mod MacroTurnLaws
 pub mod MacroFollowLaws
 pub mod HeadLaws
 pub mod ReadyLaws
+pub mod Dispatch
+pub mod DispatchLaws
 pub mod LentLaws
 pub mod Cycle
 pub mod CycleLaws
+pub mod CycleCallLaws
 pub mod Service
+pub mod Start
+pub mod StartLaws
+pub mod ServiceLaws

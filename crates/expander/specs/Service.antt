@@ -1,14 +1,18 @@
--- What a call of the expansion service answers, and every word of both tables after it, from the definition's run.
+-- The promise of the expansion service: its answer and every word of both lent tables are those of the definition's run, for
+-- every item table, fuel and pair of lent tables.
+use mathlib.Core.Path.{_≡_}
 use mathlib.Core.Bool.{cond}
-use mathlib.Core.List.{List, _++_}
+use mathlib.Core.List.{List, [], _++_}
 use Prim.Native.Nat.{ℕ, _-_}
 use lib.Dec.{leb}
 use lib.ListN.{length, replicate}
-use Rattle.expansion.specs.Run.{Outcome, accepted, turnedBack, unfinished, Run}
+use Rattle.expansion.specs.Run.{Outcome, accepted, turnedBack, unfinished, Run, run}
 use Rattle.expander.specs.declared.Expansion.{Expansion}
 use Rattle.expander.specs.declared.Expansion.the-variants.{Accepted, Refused}
 
--- document 01's numbers for each answer: ground (accepted is 0), steps, sum, length
+-- ---- this paper's numbers for each answer
+
+-- ground (accepted is 0), steps, sum, length of the term
 pub record Numbers : Type 0 where
   pub ground : ℕ
   pub steps : ℕ
@@ -27,6 +31,8 @@ groundOf unfinished = 0
 unfoldable pub runNumbers : Run → Numbers
 runNumbers r = record { ground = groundOf (r .outcome); steps = r .steps; sum = r .sum; length = length (r .core) }
 
+-- ---- the tables
+
 -- words, then zeros to the end of a lent table
 unfoldable pub filled : List ℕ → List ℕ → List ℕ
 filled words table = words ++ replicate (length table - length words) 0
@@ -42,4 +48,12 @@ unfoldable pub coreAfter : Run → List ℕ → List ℕ
 coreAfter r core = leftBy (r .outcome) (r .core) core
 
 unfoldable pub workAfter : Run → List ℕ → List ℕ
-workAfter r work = leftBy (r .outcome) (replicate 0 0) work
+workAfter r work = leftBy (r .outcome) [] work
+
+-- ---- the promise
+
+-- what a call answers and leaves
+pub record Served (items : List ℕ) (fuel : ℕ) (work work′ core core′ : List ℕ) (r : Expansion) : Type 0 where
+  pub numbers : numbersOf r ≡ runNumbers (run items fuel (length work) (length core))
+  pub core-after : core′ ≡ coreAfter (run items fuel (length work) (length core)) core
+  pub work-after : work′ ≡ workAfter (run items fuel (length work) (length core)) work

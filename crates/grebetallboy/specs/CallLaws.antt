@@ -13,33 +13,49 @@ use Rattle.reader.specs.Code.ServedLaws.{ground-is, items-are, names-are}
 use Rattle.writer.specs.declared.Writing.{Writing}
 use Rattle.writer.specs.Writing as W
 use Rattle.writer.specs.Written.{Wrote}
-use Rattle.grebetallboy.specs.Calls.{told}
+use Rattle.expansion.specs.Run.{run}
+use Rattle.expander.specs.declared.Expansion.{Expansion}
+use Rattle.expander.specs.Service as E
+use Rattle.grebetallboy.specs.Calls.{told, tells}
 
-pub told-short : (a b : ℕ) (c : List ℕ) → length c < 2 → c ≡ told a b c
-unfolding told
-told-short a b c h = rw (lt-ltb (length c) 2 h)
+module _ (a b c : ℕ) where
+  pub told-short : (t : List ℕ) → length t < 3 → t ≡ told a b c t
+  unfolding told
+  told-short t h = rw (lt-ltb (length t) 3 h)
 
-pub told-long : (a b : ℕ) (c : List ℕ) → 2 ≤ length c → set (set c 0 a) 1 b ≡ told a b c
-unfolding told
-told-long a b [] h = absurd (omega arith)
-told-long a b (x ∷ []) h = absurd (omega arith)
-told-long a b (x ∷ y ∷ c) h = rw (le-ltb (length (x ∷ y ∷ c)) 2 h)
+  pub told-long : (t : List ℕ) → 3 ≤ length t → set (set (set t 0 a) 1 b) 2 c ≡ told a b c t
+  unfolding told
+  told-long [] h = absurd (omega arith)
+  told-long (x ∷ []) h = absurd (omega arith)
+  told-long (x ∷ y ∷ []) h = absurd (omega arith)
+  told-long (x ∷ y ∷ z ∷ t) h = rw (le-ltb (length (x ∷ y ∷ z ∷ t)) 3 h)
 
 -- reading: ground, both tables, counts; q is the answer as it was taken apart
 module _ {text words words′ bytes bytes′ counts′ : List ℕ} {r q : Reading} (counts : List ℕ) where
-  pub read-told : R.Served text words words′ bytes bytes′ r → r ≡ q → counts′ ≡ told (R.items q) (R.names q) counts
+  pub read-told : R.Served text words words′ bytes bytes′ r → r ≡ q → counts′ ≡ told (R.items q) (R.names q) 0 counts
       → (R.ground q ≡ groundOf (read text (length words) (length bytes)))
       × (words′ ≡ itemsAfter (read text (length words) (length bytes)) words)
       × (bytes′ ≡ namesAfter (read text (length words) (length bytes)) bytes)
-      × (counts′ ≡ told (itemCount (read text (length words) (length bytes))) (nameCount (read text (length words) (length bytes))) counts)
+      × (counts′ ≡ told (itemCount (read text (length words) (length bytes))) (nameCount (read text (length words) (length bytes))) 0 counts)
   read-told served e told-counts =
       let a = read text (length words) (length bytes) in
       let answer = sym e ∙ served .answer in
       let i : R.items q ≡ itemCount a = ap R.items answer ∙ items-are a in
       let n : R.names q ≡ nameCount a = ap R.names answer ∙ names-are a in
-      (ap R.ground answer ∙ ground-is a, served .items, served .names, told-counts ∙ ap₂ (λ x y. told x y counts) i n)
+      (ap R.ground answer ∙ ground-is a, served .items, served .names, told-counts ∙ ap₂ (λ x y. told x y 0 counts) i n)
+
+-- expansion: ground, both tables, counts
+module _ {items work work′ core core′ counts′ : List ℕ} {fuel : ℕ} {r q : Expansion} (counts : List ℕ) where
+  pub expand-told : E.Served items fuel work work′ core core′ r → r ≡ q → counts′ ≡ tells (E.numbersOf q) counts
+      → ((E.numbersOf q) .ground ≡ (E.runNumbers (run items fuel (length work) (length core))) .ground)
+      × (work′ ≡ E.workAfter (run items fuel (length work) (length core)) work)
+      × (core′ ≡ E.coreAfter (run items fuel (length work) (length core)) core)
+      × (counts′ ≡ tells (E.runNumbers (run items fuel (length work) (length core))) counts)
+  expand-told served e told-counts =
+      let numbers = ap E.numbersOf (sym e) ∙ served .numbers in
+      (ap (λ (n : E.Numbers). n .ground) numbers, served .work-after, served .core-after, told-counts ∙ ap (λ n. tells n counts) numbers)
 
 -- writing: ground, output, length
 module _ {x : Option (List ℕ)} {out out′ counts′ : List ℕ} {r q : Writing} (counts : List ℕ) where
-  pub write-told : Wrote x out out′ r → r ≡ q → counts′ ≡ told (W.lengthOf q) 0 counts → (W.groundOf q ≡ W.ground out x) × (out′ ≡ W.after out x) × (counts′ ≡ told (W.size out x) 0 counts)
-  write-told wrote e told-counts = (ap W.groundOf (sym e) ∙ wrote .number, wrote .left, told-counts ∙ ap (λ n. told n 0 counts) (ap W.lengthOf (sym e) ∙ wrote .value))
+  pub write-told : Wrote x out out′ r → r ≡ q → counts′ ≡ told (W.lengthOf q) 0 0 counts → (W.groundOf q ≡ W.ground out x) × (out′ ≡ W.after out x) × (counts′ ≡ told (W.size out x) 0 0 counts)
+  write-told wrote e told-counts = (ap W.groundOf (sym e) ∙ wrote .number, wrote .left, told-counts ∙ ap (λ n. told n 0 0 counts) (ap W.lengthOf (sym e) ∙ wrote .value))

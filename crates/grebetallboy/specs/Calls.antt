@@ -1,9 +1,14 @@
--- The numbers of an answer in a lent table; a table too short for them is left alone.
+-- The three numbers of an answer in a lent table; a table too short for them is left alone.
 use mathlib.Core.Bool.{cond}
 use mathlib.Core.List.{List, _∷_}
 use Prim.Native.Nat.{ℕ}
 use lib.Dec.{ltb}
 use lib.ListN.{length, drop}
+use Rattle.expander.specs.Service.{Numbers}
 
-unfoldable pub told : ℕ → ℕ → List ℕ → List ℕ
-told a b counts = cond (ltb (length counts) 2) counts (a ∷ b ∷ drop 2 counts)
+unfoldable pub told : (a b c : ℕ) → List ℕ → List ℕ
+told a b c counts = cond (ltb (length counts) 3) counts (a ∷ b ∷ c ∷ drop 3 counts)
+
+-- expansion's: steps, sum, length
+unfoldable pub tells : Numbers → List ℕ → List ℕ
+tells n counts = told (n .steps) (n .sum) (n .length) counts

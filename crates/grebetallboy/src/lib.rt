@@ -5,22 +5,26 @@ ghost use mathlib.Core.Path.{_≡_};
 ghost use lib.ListN.{length};
 ghost use Rattle.reading.specs.Read.{read, groundOf, itemCount, nameCount, itemsAfter, namesAfter};
 ghost use Rattle.writer.specs.Writing.{textOf, ground, size, after};
-ghost use Rattle.grebetallboy.specs.Calls.{told};
+ghost use Rattle.expansion.specs.Run.{run};
+ghost use Rattle.expander.specs.Service.{runNumbers, coreAfter, workAfter};
+ghost use Rattle.grebetallboy.specs.Calls.{told, tells};
+use expander::Expansion;
 use reader::Reading;
 use writer::Writing;
 
-// Two numbers, where the table has two words for them.
-fn tell(counts: &mut [u64], a: u64, b: u64)
-    ensures { λ _. ⌜ now (counts .exit) ≡ told a b (now (counts .entry)) ⌝ }
+// Three numbers, where the table has three words for them.
+fn tell(counts: &mut [u64], a: u64, b: u64, c: u64)
+    ensures { λ _. ⌜ now (counts .exit) ≡ told a b c (now (counts .entry)) ⌝ }
 {
-    if counts.len() < 2 {
+    if counts.len() < 3 {
         return;
     }
     counts[0] = a;
     counts[1] = b;
+    counts[2] = c;
 }
 
-// Reading: counts has the items and the names of an accepted text.
+// Reading: counts has the items and the names of an accepted text, then 0.
 #[no_mangle]
 pub extern "C" fn grebetallboy_read(
     text: &[u8],
@@ -31,21 +35,55 @@ pub extern "C" fn grebetallboy_read(
     ensures { λ r. ⌜ (r ≡ groundOf (read (now (text .entry)) (length (now (items .entry))) (length (now (names .entry)))))
         × (now (items .exit) ≡ itemsAfter (read (now (text .entry)) (length (now (items .entry))) (length (now (names .entry)))) (now (items .entry)))
         × (now (names .exit) ≡ namesAfter (read (now (text .entry)) (length (now (items .entry))) (length (now (names .entry)))) (now (names .entry)))
-        × (now (counts .exit) ≡ told (itemCount (read (now (text .entry)) (length (now (items .entry))) (length (now (names .entry))))) (nameCount (read (now (text .entry)) (length (now (items .entry))) (length (now (names .entry))))) (now (counts .entry))) ⌝ }
+        × (now (counts .exit) ≡ told (itemCount (read (now (text .entry)) (length (now (items .entry))) (length (now (names .entry))))) (nameCount (read (now (text .entry)) (length (now (items .entry))) (length (now (names .entry))))) 0 (now (counts .entry))) ⌝ }
 {
     match reader::read(text, items, names) {
         Reading::Read { items: i, names: n } => {
-            tell(counts, i as u64, n as u64);
+            tell(counts, i as u64, n as u64, 0);
             0
         }
         Reading::Refused(g) => {
-            tell(counts, 0, 0);
+            tell(counts, 0, 0, 0);
             g
         }
     }
 }
 
-// Writing: counts has the length of the text, then 0.
+// Expansion: counts has steps, sum and the length of the term; a refusal's length is 0.
+#[no_mangle]
+pub extern "C" fn grebetallboy_expand(
+    items: &[u32],
+    fuel: u32,
+    work: &mut [u32],
+    core: &mut [u32],
+    counts: &mut [u64],
+) -> u32
+    ensures { λ r. ⌜ (r ≡ (runNumbers (run (now (items .entry)) fuel (length (now (work .entry))) (length (now (core .entry))))) .ground)
+        × (now (work .exit) ≡ workAfter (run (now (items .entry)) fuel (length (now (work .entry))) (length (now (core .entry)))) (now (work .entry)))
+        × (now (core .exit) ≡ coreAfter (run (now (items .entry)) fuel (length (now (work .entry))) (length (now (core .entry)))) (now (core .entry)))
+        × (now (counts .exit) ≡ tells (runNumbers (run (now (items .entry)) fuel (length (now (work .entry))) (length (now (core .entry))))) (now (counts .entry))) ⌝ }
+{
+    match expander::expand(items, fuel, work, core) {
+        Expansion::Accepted {
+            steps: n,
+            sum: m,
+            length: l,
+        } => {
+            tell(counts, n as u64, m as u64, l as u64);
+            0
+        }
+        Expansion::Refused {
+            ground: g,
+            steps: n,
+            sum: m,
+        } => {
+            tell(counts, n as u64, m as u64, 0);
+            g
+        }
+    }
+}
+
+// Writing: counts has the length of the text, then 0 and 0.
 #[no_mangle]
 pub extern "C" fn grebetallboy_write(
     words: &[u32],
@@ -56,19 +94,19 @@ pub extern "C" fn grebetallboy_write(
 ) -> u32
     ensures { λ r. ⌜ (r ≡ ground (now (out .entry)) (textOf (now (words .entry)) operations (now (names .entry))))
         × (now (out .exit) ≡ after (now (out .entry)) (textOf (now (words .entry)) operations (now (names .entry))))
-        × (now (counts .exit) ≡ told (size (now (out .entry)) (textOf (now (words .entry)) operations (now (names .entry)))) 0 (now (counts .entry))) ⌝ }
+        × (now (counts .exit) ≡ told (size (now (out .entry)) (textOf (now (words .entry)) operations (now (names .entry)))) 0 0 (now (counts .entry))) ⌝ }
 {
     match writer::write(words, operations, names, out) {
         Writing::Written(n) => {
-            tell(counts, n as u64, 0);
+            tell(counts, n as u64, 0, 0);
             0
         }
         Writing::NoTerm => {
-            tell(counts, 0, 0);
+            tell(counts, 0, 0, 0);
             19
         }
         Writing::NoRoom => {
-            tell(counts, 0, 0);
+            tell(counts, 0, 0, 0);
             20
         }
     }

@@ -3,6 +3,8 @@ pub mod Answers
 pub mod NumberLaws
 pub mod Told
 pub mod ToldLaws
+pub mod Answered
+pub mod AnsweredLaws
 pub mod Stored
 pub mod StoredLaws
 pub mod Placed

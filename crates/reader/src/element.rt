@@ -80,7 +80,7 @@ pub fn advance(
 {
     match token_at(text, cursor) {
         Token::End => finish(place),
-        Token::Refused(ground) => Move::Refused(ground),
+        Token::Refused(ground, _) => Move::Refused(ground),
         Token::Open(next) => moved(open_list(items, place), next),
         Token::Close(next) => moved(close_list(items, place), next),
         Token::Boolean(b, next) => moved(put_token(items, place, 2, b, place.known), next),

@@ -21,6 +21,7 @@ pub mod names;
 pub mod number;
 pub mod place;
 pub mod token;
+pub mod token_reader;
 
 // The answer: item and name counts, or the ground.
 pub enum Reading {

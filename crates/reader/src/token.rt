@@ -15,7 +15,7 @@ pub struct Cursor {
     pub at: usize,
 }
 
-// What stands at a cursor, with the cursor past it. A name starts at its first field.
+// What stands at a cursor, with the cursor past it. A name starts at its first field; what is turned back has its ground.
 pub enum Token {
     End,
     Open(Cursor),
@@ -23,7 +23,7 @@ pub enum Token {
     Boolean(u32, Cursor),
     Integer(i32, Cursor),
     Name(usize, Cursor),
-    Refused(u32),
+    Refused(u32, Cursor),
 }
 
 // Past the separators.
@@ -82,12 +82,12 @@ pub fn run_token(text: &[u8], from: usize, to: usize) -> Token
         if is_name(word) {
             return Token::Name(from, Cursor { at: to });
         }
-        return Token::Refused(3);
+        return Token::Refused(3, Cursor { at: to });
     }
     match integer_of(word) {
         Integer::Value(z) => Token::Integer(z, Cursor { at: to }),
-        Integer::Malformed => Token::Refused(3),
-        Integer::OutOfRange => Token::Refused(4),
+        Integer::Malformed => Token::Refused(3, Cursor { at: to }),
+        Integer::OutOfRange => Token::Refused(4, Cursor { at: to }),
     }
 }
 
@@ -97,15 +97,16 @@ pub fn flag_at(text: &[u8], at: usize) -> Token
     ensures { λ r. ⌜ FlagTold (now (text .entry)) at r ⌝ }
 {
     if at == text.len() {
-        return Token::Refused(3);
+        return Token::Refused(3, Cursor { at });
     }
+    let next = Cursor { at: at + 1 };
     if text[at] == b't' {
-        return Token::Boolean(1, Cursor { at: at + 1 });
+        return Token::Boolean(1, next);
     }
     if text[at] == b'f' {
-        return Token::Boolean(0, Cursor { at: at + 1 });
+        return Token::Boolean(0, next);
     }
-    Token::Refused(3)
+    Token::Refused(3, next)
 }
 
 // The first token from a cursor on.
@@ -128,7 +129,7 @@ pub fn token_at(text: &[u8], cursor: Cursor) -> Token
         return flag_at(text, at + 1);
     }
     if !is_running(b) {
-        return Token::Refused(3);
+        return Token::Refused(3, Cursor { at: at + 1 });
     }
     run_token(text, at, run_end(text, at))
 }

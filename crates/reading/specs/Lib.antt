@@ -1,6 +1,7 @@
 -- Reading defined: a recipe text's bytes to tokens, tokens to two elements, elements to items and names.
 -- Read is its meaning, RecipeText says which texts are accepted, and Accepts proves it.
 pub mod Token
+pub mod Offset
 pub mod Meaning
 pub mod Numbering
 pub mod Elements

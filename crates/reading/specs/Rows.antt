@@ -1,10 +1,14 @@
 -- Texts with known readings, as rows of one table.
 use mathlib.Core.Path.{_≡_, refl}
 use mathlib.Core.List.{List, [], _∷_, _++_, map}
+use mathlib.Core.Option.{Option, none, some}
 use Prim.Native.Nat.{ℕ, zero, suc}
 use lib.ListN.{drop, replicate}
+use Rattle.words.specs.Lists.{within, any}
 use Rattle.words.specs.Text.{bytes}
 use Rattle.datum.specs.NameTable.{slot}
+use Rattle.reading.specs.Token.{Token, close′, bad, run, isDigit, isRunning, isSeparating, classOf, flagOf}
+use Rattle.reading.specs.Offset.{leading, tokenOf, widthOf, firstOf, firstWidth, startAt, tokenAt, nextAt}
 use Rattle.reading.specs.Read.{recipeOf, read, groundOf, itemCount, nameCount, itemsAfter, namesAfter}
 
 pub record Row : Type 0 where
@@ -73,6 +77,16 @@ rows =
 pub rows-hold : map (λ (r : Row). rowOf (r .text)) rows ≡ rows
 unfolding rows rowOf
 rows-hold = refl
+
+-- the tokens that are looked for from an offset on: where each stands, where the next one is looked for, and which it is
+unfoldable pub found : List ℕ → ℕ → ℕ × (ℕ × Option Token)
+unfolding startAt nextAt tokenAt firstOf firstWidth tokenOf widthOf leading classOf isSeparating isRunning isDigit flagOf within any
+found text at = (startAt text at, (nextAt text at, tokenAt text at))
+
+pub found-hold : map (found (bytes "() 1x #x")) (1 ∷ 2 ∷ 5 ∷ 8 ∷ [])
+    ≡ (1, (2, some close′)) ∷ (3, (5, some (run (bytes "1x")))) ∷ (6, (8, some bad)) ∷ (8, (8, none)) ∷ []
+unfolding found bytes
+found-hold = refl
 
 -- the item table after reading `1(2)`, of a lent table that held nines
 pub items-hold : itemsAfter (recipeOf (bytes "1(2)")) (replicate 24 9)

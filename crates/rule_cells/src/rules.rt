@@ -12,9 +12,9 @@ ghost use Rattle.rule_cells.specs.Trees.{TellsOf};
 ghost use Rattle.rule_cells.specs.Parse.{Asks};
 ghost use Rattle.rule_cells.specs.RuleParse.{ruleShape, partsOf, PartsAsk, RuleLeft, RulesLeft};
 use crate::cells;
-use crate::forms;
 use crate::patterns;
 use crate::patterns::Parsed;
+use crate::rules_form;
 use crate::templates;
 use crate::templates::Built;
 use crate::trees;
@@ -131,7 +131,7 @@ pub fn rules(
     requires { ⌜ (3 * markLimit < length (now table)) × (Asks (now items) (now work) node w top) ⌝ }
     ensures { λ r. ⌜ RulesLeft (rulesOf (treeAt (now (items .entry)) (now (work .entry)) node w)) (size (treeAt (now (items .entry)) (now (work .entry)) node w)) (now (items .entry)) (now (work .entry)) (now (work .exit)) top r ⌝ }
 {
-    if forms::is_rules_form(items, work, table, node, w) {
+    if rules_form::is_rules_form(items, work, table, node, w) {
         let after = trees::tail(work, node);
         let literals = trees::head(work, after);
         let list = trees::tail(work, after);

@@ -19,12 +19,12 @@ abbrev pub Older : ℕ → List ℕ → Type 0
 Older m [] = Unit {0}
 Older m (x ∷ xs) = x < m
 
-toggle-new : (m : ℕ) (ms : List ℕ) → Older m ms → toggle m ms ≡ m ∷ ms
+pub toggle-new : (m : ℕ) (ms : List ℕ) → Older m ms → toggle m ms ≡ m ∷ ms
 unfolding toggle
 toggle-new m [] h = refl
 toggle-new m (x ∷ xs) h = rw (ne-eqb m x (omega arith), lt-ltb x m h)
 
-toggle-back : (m : ℕ) (ms : List ℕ) → toggle m (m ∷ ms) ≡ ms
+pub toggle-back : (m : ℕ) (ms : List ℕ) → toggle m (m ∷ ms) ≡ ms
 unfolding toggle
 toggle-back m ms = rw (eq-eqb m m refl)
 

@@ -15,11 +15,11 @@ use Rattle.reader.specs.declared.place.Step as S
 use Rattle.reader.specs.declared.place.Step.the-variants as SV
 use Rattle.reader.specs.declared.element.Move.{Move}
 use Rattle.reader.specs.declared.element.Move.the-variants.{Refused}
-use Rattle.reading.specs.Meaning.{Meaning, constant}
+use Rattle.reading.specs.Meaning.{Meaning, constant, refused}
 use Rattle.reading.specs.Numbering.{datumWords, dataWords}
 use Rattle.reading.specs.Elements.{Answer, got, back, then, Reading, onto, noneOpen, isComplete, counted, put, takes, takesAll}
 use Rattle.reading.specs.Read.{finished, itemWords, nameBytes, filled}
-use Rattle.reader.specs.Code.Told.{meaningsFrom, Took, TurnedBack}
+use Rattle.reader.specs.Code.Told.{meaningsFrom, Took}
 use Rattle.reader.specs.Code.Placed.{Holds, Stepped, withToken, TokenPut, itemsOf, wordsOf, itemsAround, wordsAround, nextItem, placed}
 use Rattle.reader.specs.Code.PlacedLaws.{onto-items, onto-words, length-words, zeros, refill}
 use Rattle.reader.specs.Code.StepLaws.{complete-is}
@@ -53,9 +53,9 @@ constant-stepped r p words words′ bytes a value s h e f t =
 
 -- ---- a token that is turned back
 
-pub refused-moved : (text : List ℕ) (at : ℕ) (r : Reading) (g : ℕ) → TurnedBack text at g → outcomeFrom text at r ≡ back g
-unfolding outcomeFrom takesAll then takes TurnedBack
-refused-moved text at r g t = rw (t .1)
+pub refused-moved : (text : List ℕ) (at : ℕ) (r : Reading) (g next : ℕ) → Took text at (refused g) next → outcomeFrom text at r ≡ back g
+unfolding outcomeFrom takesAll then takes
+refused-moved text at r g next t = rw (t .means)
 
 -- ---- the end
 

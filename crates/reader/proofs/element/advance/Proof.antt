@@ -133,7 +133,7 @@ returns-2 c =
     let args = c .before .before .before .before .before .before .before .args in
     let ground = c .before .ground in
     let token-at = c .before .before .before .token-at in
-    refused-moved (args .text .now) (args .cursor .at) r (ground .given .0 .0)
+    refused-moved (args .text .now) (args .cursor .at) r (ground .given .0 .0) (ground .given .0 .1 .0 .at)
     (subst (Told (args .text .now) (args .cursor .at)) (ground .given .1) (token-at .ensures))
 
 same-length : tie.Need-same-length

@@ -1,7 +1,6 @@
 use borrow.Author.Needs.{needs}
 use Rattle.reader.proofs.token.flag_at.Statement.{statement}
 use Rattle.reader.proofs.token.flag_at.Tie as tie
-use mathlib.Core.Path.{refl}
 use Prim.Native.Nat.{_<_}
 use native.Mathlib.Omega.{arith}
 use lib.ListN.{length}
@@ -12,12 +11,12 @@ returns c =
     let args = c .before .args in
     end-flag (args .text .now) (args .at) (c .if1 .taken)
 
-shared-slice-read-if2 : tie.Need-shared-slice-read-if2
-shared-slice-read-if2 c =
+add-t4 : tie.Need-add-t4
+add-t4 c =
     search needs
 
-add-t7 : tie.Need-add-t7
-add-t7 c =
+shared-slice-read-if2 : tie.Need-shared-slice-read-if2
+shared-slice-read-if2 c =
     search needs
 
 returns-2 : tie.Need-returns-2
@@ -26,14 +25,10 @@ returns-2 c =
     let pre = c .before .before .before .pre in
     let if1 = c .before .before .if1 in
     let h : args .at < length (args .text .now) = omega (arith, pre, if1 .left) in
-    (refl, h, true-taken (args .text .now) (args .at) h (c .if2 .taken))
+    true-taken (args .text .now) (args .at) h (c .if2 .taken)
 
 shared-slice-read-if3 : tie.Need-shared-slice-read-if3
 shared-slice-read-if3 c =
-    search needs
-
-add-t10 : tie.Need-add-t10
-add-t10 c =
     search needs
 
 returns-3 : tie.Need-returns-3
@@ -42,7 +37,7 @@ returns-3 c =
     let pre = c .before .before .before .before .before .pre in
     let if1 = c .before .before .before .before .if1 in
     let h : args .at < length (args .text .now) = omega (arith, pre, if1 .left) in
-    (refl, h, false-taken (args .text .now) (args .at) h (c .if3 .taken))
+    false-taken (args .text .now) (args .at) h (c .if3 .taken)
 
 returns-4 : tie.Need-returns-4
 returns-4 c =
@@ -58,10 +53,9 @@ flag-at-spec =
     tie.close
     (tie.spec
     returns
+    add-t4
     shared-slice-read-if2
-    add-t7
     returns-2
     shared-slice-read-if3
-    add-t10
     returns-3
     returns-4)

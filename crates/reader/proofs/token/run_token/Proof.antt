@@ -54,9 +54,11 @@ returns-2 c =
     let args = c .before .before .before .before .before .before .args in
     let is-numeral = c .before .before .before .is-numeral in
     let if1 = c .before .before .if1 in
-    let w = part (args .from) (args .to) (args .text .now) in
-    other-means w (sym (is-numeral .ensures) ∙ not-true (is-numeral .result) (if1 .taken)) ∙ name-malformed w
-    (sym (c .before .is-name .ensures) ∙ c .if2 .left)
+    let w = part (args .from) (args .to) (args .text .now) in (
+      refl,
+      other-means w (sym (is-numeral .ensures) ∙ not-true (is-numeral .result) (if1 .taken)) ∙ name-malformed w
+          (sym (c .before .is-name .ensures) ∙ c .if2 .left),
+    )
 
 integer-of-requires : tie.Need-integer-of-requires
 integer-of-requires c κs =
@@ -96,9 +98,11 @@ returns-4 c =
     let is-numeral = c .before .before .before .before .is-numeral in
     let if1 = c .before .before .before .if1 in
     let integer-of = c .before .before .integer-of in
-    let w = part (args .from) (args .to) (args .text .now) in
-    numeral-means w (sym (is-numeral .ensures) ∙ not-false (is-numeral .result) (if1 .left)) ∙ sym (integer-of .ensures) ∙ ap
-    integerMeaning (c .enum-told .given .1)
+    let w = part (args .from) (args .to) (args .text .now) in (
+      refl,
+      numeral-means w (sym (is-numeral .ensures) ∙ not-false (is-numeral .result) (if1 .left)) ∙ sym (integer-of .ensures) ∙ ap
+          integerMeaning (c .enum-told .given .1),
+    )
 
 returns-5 : tie.Need-returns-5
 returns-5 c =
@@ -106,9 +110,11 @@ returns-5 c =
     let is-numeral = c .before .before .before .before .is-numeral in
     let if1 = c .before .before .before .if1 in
     let integer-of = c .before .before .integer-of in
-    let w = part (args .from) (args .to) (args .text .now) in
-    numeral-means w (sym (is-numeral .ensures) ∙ not-false (is-numeral .result) (if1 .left)) ∙ sym (integer-of .ensures) ∙ ap
-    integerMeaning (c .enum-told2 .given .1)
+    let w = part (args .from) (args .to) (args .text .now) in (
+      refl,
+      numeral-means w (sym (is-numeral .ensures) ∙ not-false (is-numeral .result) (if1 .left)) ∙ sym (integer-of .ensures) ∙ ap
+          integerMeaning (c .enum-told2 .given .1),
+    )
 
 pub run-token-spec : {M : Type 1} → statement M
 run-token-spec =

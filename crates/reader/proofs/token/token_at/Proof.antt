@@ -3,11 +3,11 @@ use Rattle.reader.proofs.token.token_at.Statement.{statement}
 use Rattle.reader.proofs.token.token_at.Tie as tie
 use native.Mathlib.Omega.{arith}
 use mathlib.Core.Path.{sym, _∙_}
-use Prim.Native.Nat.{_<_, _+_}
+use Prim.Native.Nat.{_<_}
 use borrow.Author.Tests.{not-true, not-false}
 use lib.ListN.{length}
-use Rattle.reading.specs.Meaning.{begins, ends}
-use Rattle.reader.specs.Code.ToldLaws.{end-taken, opening-taken, closing-taken, foreign-taken, run-longer, took-skipped, back-skipped, run-told, flag-told}
+use Rattle.reading.specs.Meaning.{begins, ends, refused}
+use Rattle.reader.specs.Code.ToldLaws.{end-taken, opening-taken, closing-taken, foreign-taken, run-longer, byte-skipped, run-told, flag-told}
 
 skip-requires : tie.Need-skip-requires
 skip-requires c κs =
@@ -36,8 +36,7 @@ returns-2 c =
     let text = args .text .now in
     let at = skip .result in
     let h : at < length text = omega (arith, skip .ensures .high, if1 .left) in
-    took-skipped text (args .cursor .at) at (skip .ensures) begins (at + 1) (omega arith) (omega arith)
-    (opening-taken text at h (c .if2 .taken))
+    byte-skipped text (args .cursor .at) at (skip .ensures) begins h (opening-taken text at h (c .if2 .taken))
 
 add-t11 : tie.Need-add-t11
 add-t11 c =
@@ -51,8 +50,7 @@ returns-3 c =
     let text = args .text .now in
     let at = skip .result in
     let h : at < length text = omega (arith, skip .ensures .high, if1 .left) in
-    took-skipped text (args .cursor .at) at (skip .ensures) ends (at + 1) (omega arith) (omega arith)
-    (closing-taken text at h (c .if3 .taken))
+    byte-skipped text (args .cursor .at) at (skip .ensures) ends h (closing-taken text at h (c .if3 .taken))
 
 add-flag-at : tie.Need-add-flag-at
 add-flag-at c =
@@ -78,6 +76,12 @@ is-running-requires : tie.Need-is-running-requires
 is-running-requires c κs =
     search needs
 
+add-t15 : tie.Need-add-t15
+add-t15 c =
+    let skip = c .before .before .before .before .before .before .before .skip in
+    let if1 = c .before .before .before .before .before .before .if1 in
+    omega (arith, skip .ensures .high, if1 .left)
+
 returns-5 : tie.Need-returns-5
 returns-5 c =
     let args = c .before .before .before .before .before .before .before .before .before .args in
@@ -91,7 +95,7 @@ returns-5 c =
     let at = skip .result in
     let h : at < length text = omega (arith, skip .ensures .high, if1 .left) in
     let r = sym (is-running .ensures) ∙ not-true (is-running .result) (c .if5 .taken) in
-    back-skipped text (args .cursor .at) at (skip .ensures) 3
+    byte-skipped text (args .cursor .at) at (skip .ensures) (refused 3) h
     (foreign-taken text at h r (skip .ensures .stops h) (if2 .left) (if3 .left) (if4 .left))
 
 run-end-requires : tie.Need-run-end-requires
@@ -141,6 +145,7 @@ token-at-spec =
     flag-at-requires
     returns-4
     is-running-requires
+    add-t15
     returns-5
     run-end-requires
     run-token-requires

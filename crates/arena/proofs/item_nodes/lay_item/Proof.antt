@@ -1,0 +1,208 @@
+-- `item_nodes::lay_item`, by the item's kind.
+use borrow.Author.Needs.{needs}
+use Rattle.arena.proofs.item_nodes.lay_item.Statement.{statement}
+use Rattle.arena.proofs.item_nodes.lay_item.Tie as tie
+use Rattle.arena.specs.LayOut.{laying-whole, laying-most, laying-room, laid-empty, laid-name, laid-pair, laid-constant, head-below, tail-below}
+use native.Mathlib.Omega.{arith}
+use mathlib.Core.Path.{refl}
+use Prim.Native.Nat.{_-_}
+
+sub-item : tie.Need-sub-item
+sub-item c =
+    let pre = c .before .before .pre in
+    omega (arith, pre .more)
+
+sub-item-2 : tie.Need-sub-item-2
+sub-item-2 c =
+    let pre = c .before .before .pre in
+    omega (arith, pre .more)
+
+cast-at : tie.Need-cast-at
+cast-at c = search needs
+
+mul-at : tie.Need-mul-at
+mul-at c = search needs
+
+mul-top : tie.Need-mul-top
+mul-top c =
+    let a = c .before .before .args in
+    let pre = c .before .before .pre in
+    omega (arith, laying-most (a .items .now) (a .work .now) (a .count) (a .laid) (pre), pre .more)
+
+mul-kind : tie.Need-mul-kind
+mul-kind c = search needs
+
+shared-slice-read-kind : tie.Need-shared-slice-read-kind
+shared-slice-read-kind c =
+    let entry = c .before .before .before in
+    let a = entry .args in
+    let pre = entry .pre in
+    omega (arith, laying-whole (a .items .now) (a .work .now) (a .count) (a .laid) (pre), pre .more)
+
+put-empty-requires : tie.Need-put-empty-requires
+put-empty-requires c κs =
+    let entry = c .before .before .before .before .before in
+    let a = entry .args in
+    let pre = entry .pre in
+    laying-room (a .items .now) (a .work .now) (a .count) (a .laid) (pre)
+
+same-length : tie.Need-same-length
+same-length c =
+    let put-empty = c .before .before .put-empty in
+    put-empty .kept .0
+
+returns : tie.Need-returns
+returns c =
+    let entry = c .before .before .before .before .before .before .before .before in
+    let a = entry .args in
+    let pre = entry .pre in
+    let if1 = c .before .before .before .before .if1 in
+    let put-empty = c .before .before .put-empty in
+    laid-empty (a .items .now) (a .work .now) _ (a .count) (a .laid) _ _ pre refl (if1 .taken) (put-empty .ensures)
+
+put-name-requires : tie.Need-put-name-requires
+put-name-requires c κs =
+    let entry = c .before .before .before .before .before .before in
+    let a = entry .args in
+    let pre = entry .pre in
+    (laying-room (a .items .now) (a .work .now) (a .count) (a .laid) (pre), omega arith)
+
+same-length-2 : tie.Need-same-length-2
+same-length-2 c =
+    let put-name = c .before .before .put-name in
+    put-name .kept .0
+
+returns-2 : tie.Need-returns-2
+returns-2 c =
+    let entry = c .before .before .before .before .before .before .before .before .before in
+    let a = entry .args in
+    let pre = entry .pre in
+    let if2 = c .before .before .before .before .if2 in
+    let put-name = c .before .before .put-name in
+    laid-name (a .items .now) (a .work .now) _ (a .count) (a .laid) _ _ pre refl (if2 .taken) (put-name .ensures)
+
+add-first : tie.Need-add-first
+add-first c = search needs
+
+mul-first : tie.Need-mul-first
+mul-first c = search needs
+
+shared-slice-read-first : tie.Need-shared-slice-read-first
+shared-slice-read-first c =
+    let entry = c .before .before .before .before .before .before in
+    let a = entry .args in
+    let pre = entry .pre in
+    omega (arith, laying-whole (a .items .now) (a .work .now) (a .count) (a .laid) (pre), pre .more)
+
+add-second : tie.Need-add-second
+add-second c = search needs
+
+mul-second : tie.Need-mul-second
+mul-second c = search needs
+
+shared-slice-read-second : tie.Need-shared-slice-read-second
+shared-slice-read-second c =
+    let entry = c .before .before .before .before .before .before .before in
+    let a = entry .args in
+    let pre = entry .pre in
+    omega (arith, laying-whole (a .items .now) (a .work .now) (a .count) (a .laid) (pre), pre .more)
+
+node-of-requires : tie.Need-node-of-requires
+node-of-requires c κs =
+    let entry = c .before .before .before .before .before .before .before .before in
+    let a = entry .args in
+    let pre = entry .pre in
+    laying-most (a .items .now) (a .work .now) (a .count) (a .laid) (pre)
+
+node-of-requires-2 : tie.Need-node-of-requires-2
+node-of-requires-2 c κs =
+    let entry = c .before .before .before .before .before .before .before .before .before in
+    let a = entry .args in
+    let pre = entry .pre in
+    laying-most (a .items .now) (a .work .now) (a .count) (a .laid) (pre)
+
+put-pair-requires : tie.Need-put-pair-requires
+put-pair-requires c κs =
+    let entry = c .before .before .before .before .before .before .before .before .before .before .before in
+    let a = entry .args in
+    let pre = entry .pre in
+    let if3 = c .before .before .before .if3 in
+    let node-of = c .before .before .node-of in
+    let node-of2 = c .before .node-of2 in
+    let h = head-below (a .items .now) (a .work .now) (a .work .now) (a .count) (a .laid) (a .count - 1 - a .laid) 0 pre refl (if3 .taken) in
+    let t = tail-below (a .items .now) (a .work .now) (a .work .now) (a .count) (a .laid) (a .count - 1 - a .laid) 0 pre refl (if3 .taken) in
+    (laying-room (a .items .now) (a .work .now) (a .count) (a .laid) (pre), omega (arith, node-of .ensures, node-of2 .ensures), omega (arith, node-of .ensures, node-of2 .ensures))
+
+same-length-3 : tie.Need-same-length-3
+same-length-3 c =
+    let put-pair = c .before .before .put-pair in
+    put-pair .kept .0
+
+returns-3 : tie.Need-returns-3
+returns-3 c =
+    let entry = c .before .before .before .before .before .before .before .before .before .before .before .before .before .before in
+    let a = entry .args in
+    let pre = entry .pre in
+    let if3 = c .before .before .before .before .before .before .if3 in
+    let node-of = c .before .before .before .before .before .node-of in
+    let node-of2 = c .before .before .before .before .node-of2 in
+    let put-pair = c .before .before .put-pair in
+    laid-pair (a .items .now) (a .work .now) _ (a .count) (a .laid) _ _ pre refl _ _ (if3 .taken) (node-of .ensures) (node-of2 .ensures) (put-pair .ensures)
+
+put-constant-requires : tie.Need-put-constant-requires
+put-constant-requires c κs =
+    let entry = c .before .before .before .before .before .before .before .before .before in
+    let a = entry .args in
+    let pre = entry .pre in
+    let if1 = c .before .before .before .before .before .if1 in
+    let if2 = c .before .before .before .before .if2 in
+    let if3 = c .before .if3 in
+    (laying-room (a .items .now) (a .work .now) (a .count) (a .laid) (pre), if1 .left, if2 .left, if3 .left)
+
+same-length-4 : tie.Need-same-length-4
+same-length-4 c =
+    let put-constant = c .before .before .put-constant in
+    put-constant .kept .0
+
+returns-4 : tie.Need-returns-4
+returns-4 c =
+    let entry = c .before .before .before .before .before .before .before .before .before .before .before .before in
+    let a = entry .args in
+    let pre = entry .pre in
+    let if1 = c .before .before .before .before .before .before .before .before .if1 in
+    let if2 = c .before .before .before .before .before .before .before .if2 in
+    let if3 = c .before .before .before .before .if3 in
+    let put-constant = c .before .before .put-constant in
+    laid-constant (a .items .now) (a .work .now) _ (a .count) (a .laid) _ _ pre refl (if1 .left) (if2 .left) (if3 .left) (put-constant .ensures)
+
+pub lay-item-spec : {M : Type 1} → statement M
+lay-item-spec =
+    tie.close
+    (tie.spec
+    sub-item
+    sub-item-2
+    cast-at
+    mul-at
+    mul-top
+    mul-kind
+    shared-slice-read-kind
+    put-empty-requires
+    same-length
+    returns
+    put-name-requires
+    same-length-2
+    returns-2
+    add-first
+    mul-first
+    shared-slice-read-first
+    add-second
+    mul-second
+    shared-slice-read-second
+    node-of-requires
+    node-of-requires-2
+    put-pair-requires
+    same-length-3
+    returns-3
+    put-constant-requires
+    same-length-4
+    returns-4)

@@ -1,0 +1,145 @@
+-- `expand`: grounds 7 to 10 are one law each; past them the recipe's expansion, zeros, and the answer.
+use borrow.Author.Needs.{needs}
+use Rattle.expander.proofs.expand.Statement.{statement}
+use Rattle.expander.proofs.expand.Tie as tie
+use mathlib.Core.Path.{_≡_, refl, sym, ap, _∙_}
+use mathlib.Core.Bool.{true}
+use lib.Dec.{leb}
+use Rattle.words.specs.Limits.{fuelMost}
+use Prim.Native.Nat.{ℕ}
+use lib.ListN.{replicate}
+use borrow.Author.Tests.{not-true, not-false, leb-true}
+use Rattle.recipe.specs.Table.{itemCount, isLayout}
+use Rattle.recipe.specs.TableLaws.{isLayout-parts}
+use Rattle.layout.specs.Places.{places-none}
+use Rattle.expander.specs.Turns.{operationsOf}
+use Rattle.expander.specs.ServiceLaws.{room, served-layout, served-fuel, served-tables, served-operations, lends, expanded-fits, served-expanded}
+
+-- the tests of grounds 7, 8 and 9 that are passed
+layout : (c : tie.Else1) → isLayout (c .before .before .before .before .before .args .items .now) ≡ true
+layout c = sym (c .before .is-layout .ensures) ∙ not-false _ (c .if1 .left)
+
+fuelled : (c : tie.Else2) → leb (c .before .before .before .before .before .before .before .args .fuel) fuelMost ≡ true
+fuelled c = sym (c .before .fuel-fits .ensures) ∙ not-false _ (c .if2 .left)
+
+roomy : (c : tie.Else3) → let a = c .before .before .before .before .before .before .before .before .before .args in room (a .items .now) (a .fuel) (a .work .now) (a .core .now) ≡ true
+unfolding itemCount
+roomy c = sym (c .before .tables-fit .ensures) ∙ not-false _ (c .if3 .left)
+
+is-layout-requires : tie.Need-is-layout-requires
+is-layout-requires c κs =
+    search needs
+
+refused-requires : tie.Need-refused-requires
+refused-requires c κs =
+    search needs
+
+returns : tie.Need-returns
+returns c =
+    let a = c .before .before .before .before .before .before .args in
+    served-layout (a .items .now) (a .fuel) (a .work .now) (a .core .now) (sym (c .before .before .is-layout .ensures) ∙ not-true _ (c .before .if1 .taken)) _ (c .refused .ensures)
+
+fuel-fits-requires : tie.Need-fuel-fits-requires
+fuel-fits-requires c κs =
+    search needs
+
+refused-requires-2 : tie.Need-refused-requires-2
+refused-requires-2 c κs =
+    search needs
+
+returns-2 : tie.Need-returns-2
+returns-2 c =
+    let a = c .before .before .before .before .before .before .before .before .args in
+    served-fuel (a .items .now) (a .fuel) (a .work .now) (a .core .now) (layout (c .before .before .before)) (sym (c .before .before .fuel-fits .ensures) ∙ not-true _ (c .before .if2 .taken)) _ (c .refused2 .ensures)
+
+tables-fit-requires : tie.Need-tables-fit-requires
+unfolding itemCount
+tables-fit-requires c κs =
+    (isLayout-parts (c .before .before .before .before .before .before .before .args .items .now) (layout (c .before .before)) .count .1, leb-true _ _ (fuelled (c)))
+
+refused-requires-3 : tie.Need-refused-requires-3
+refused-requires-3 c κs =
+    search needs
+
+returns-3 : tie.Need-returns-3
+unfolding itemCount
+returns-3 c =
+    let a = c .before .before .before .before .before .before .before .before .before .before .args in
+    served-tables (a .items .now) (a .fuel) (a .work .now) (a .core .now) (layout (c .before .before .before .before .before)) (fuelled (c .before .before .before)) (sym (c .before .before .tables-fit .ensures) ∙ not-true _ (c .before .if3 .taken)) _ (c .refused3 .ensures)
+
+slice-aggregate-operations : tie.Need-slice-aggregate-operations
+slice-aggregate-operations c =
+    search needs
+
+operations-requires : tie.Need-operations-requires
+operations-requires c κs =
+    (layout (c .before .before .before .before .before), refl, places-none)
+
+refused-requires-4 : tie.Need-refused-requires-4
+refused-requires-4 c κs =
+    search needs
+
+returns-4 : tie.Need-returns-4
+returns-4 c =
+    let a = c .before .before .before .before .before .before .before .before .before .before .before .before .before .before .args in
+    served-operations (a .items .now) (a .fuel) (a .work .now) (a .core .now) (layout (c .before .before .before .before .before .before .before .before .before)) (fuelled (c .before .before .before .before .before .before .before)) (roomy (c .before .before .before .before .before)) (sym (c .before .before .before .operations2 .ensures .0) ∙ not-true _ (c .before .if4 .taken)) _ (c .refused4 .ensures)
+
+slice-aggregate-expand-recipe : tie.Need-slice-aggregate-expand-recipe
+slice-aggregate-expand-recipe c =
+    search needs
+
+expand-recipe-requires : tie.Need-expand-recipe-requires
+unfolding operationsOf
+expand-recipe-requires c κs =
+    let a = c .before .before .before .before .before .before .before .before .before .before .before .before .before .before .before .before .args in
+    let good = not-false _ (c .before .before .before .if4 .left) in
+    lends (a .items .now) (a .fuel) (a .work .now) (a .core .now) (layout (c .before .before .before .before .before .before .before .before .before .before .before)) (fuelled (c .before .before .before .before .before .before .before .before .before)) (roomy (c .before .before .before .before .before .before .before)) _ (sym (c .before .before .before .before .before .operations2 .ensures .0) ∙ good) (c .before .before .before .before .before .operations2 .ensures .1 good) (c .before .before .before .before .before .operations2 .kept .1 .0)
+
+zero-words-requires : tie.Need-zero-words-requires
+zero-words-requires c κs =
+    search needs
+
+finish-requires : tie.Need-finish-requires
+finish-requires c κs =
+    let a = c .before .before .before .before .before .before .before .before .before .before .before .before .before .before .before .before .before .before .before .before .before .before .before .before .before .before .args in
+    let lent = expand-recipe-requires (c .before .before .before .before .before .before .before .before .before .before) (c .before .before .before .before .before .before .before .before .before .expand-recipe .lifetimes) in
+    expanded-fits (a .items .now) (a .fuel) (a .work .now) (a .core .now) _ _ (lent .begun) (c .before .before .before .before .before .before .before .before .before .expand-recipe .ensures) (c .before .before .before .before .before .before .before .before .before .expand-recipe .kept .1 .1 .0)
+
+same-length : tie.Need-same-length
+same-length c =
+    search needs
+
+same-length-2 : tie.Need-same-length-2
+same-length-2 c =
+    search needs
+
+returns-5 : tie.Need-returns-5
+returns-5 c =
+    let a = c .before .before .before .before .before .before .before .before .before .before .before .before .before .before .before .before .before .before .before .before .before .before .before .before .before .before .before .before .before .args in
+    let lent = expand-recipe-requires (c .before .before .before .before .before .before .before .before .before .before .before .before .before) (c .before .before .before .before .before .before .before .before .before .before .before .before .expand-recipe .lifetimes) in
+    served-expanded (a .items .now) (a .fuel) (a .work .now) (a .core .now) _ _ (lent .begun) (c .before .before .before .before .before .before .before .before .before .before .before .before .expand-recipe .ensures) (c .before .before .before .before .before .before .before .before .before .before .before .before .expand-recipe .kept .1 .1 .0) _ _ _ (c .before .before .finish .ensures) (c .before .before .before .before .before .before .zero-words .ensures ∙ ap (λ (n : ℕ). replicate n 0) (c .before .before .before .before .before .before .before .before .before .before .before .before .expand-recipe .kept .1 .0))
+
+pub expand-spec : {M : Type 1} → statement M
+expand-spec =
+    tie.close
+    (tie.spec
+    is-layout-requires
+    refused-requires
+    returns
+    fuel-fits-requires
+    refused-requires-2
+    returns-2
+    tables-fit-requires
+    refused-requires-3
+    returns-3
+    slice-aggregate-operations
+    operations-requires
+    refused-requires-4
+    returns-4
+    slice-aggregate-expand-recipe
+    expand-recipe-requires
+    zero-words-requires
+    finish-requires
+    same-length
+    same-length-2
+    returns-5)

@@ -1,0 +1,143 @@
+-- Laws of a call: a run that is turned back before it begins, and one that ends as its expansion.
+use mathlib.Core.Path.{_≡_, refl, ap, sym, _∙_}
+use mathlib.Core.Bool.{Bool, true, false, _&&_}
+use mathlib.Core.List.{List, [], _++_, append-nil}
+use Prim.Native.Nat.{ℕ, _+_, _*_, _-_, _≤_, _<_}
+use native.Mathlib.Omega.{arith}
+use lib.Dec.{leb}
+use lib.ListN.{length, take, drop, replicate, length-drop, drop-of-length-le}
+use borrow.Author.Tests.{leb-true, le-leb, lt-leb}
+use Rattle.words.specs.Limits.{namesMost, fuelMost, workRate, coreRate, macrosMost}
+use Rattle.words.specs.Parts.{rest}
+use Rattle.words.specs.ListLaws.{rest-is}
+use Rattle.words.specs.TestLaws.{and-parts}
+use Rattle.recipe.specs.Name.{Name}
+use Rattle.recipe.specs.Tree.{size, element}
+use Rattle.recipe.specs.Table.{itemCount, isLayout, treeOf}
+use Rattle.core_term.specs.Term.{Term}
+use Rattle.expansion.specs.Computation.{State, start, Events, Out, done, refused, starved}
+use Rattle.expansion.specs.Outcomes.{Holds, isDone, isRefused, isStarved, both-hold}
+use Rattle.expansion.specs.Run.{Run, ended, require, operationNumbers, areOperations, expandRecipe, run}
+use Rattle.expansion.specs.RunLaws.{unbegun, Begun, begun-run}
+use Rattle.expansion.specs.Bounds.{run-core-fits}
+use Rattle.expansion.specs.Bounds.Gas.{expandRecipe-spends}
+use Rattle.expansion.specs.Ways.{expand-keeps}
+use Rattle.layout.specs.Places.{Places}
+use Rattle.expander.specs.declared.Expansion.{Expansion}
+use Rattle.expander.specs.declared.Expansion.the-variants.{Accepted, Refused}
+use Rattle.expander.specs.declared.answers.Reached.{Reached}
+use Rattle.expander.specs.declared.answers.Ended.{Ended}
+use Rattle.expander.specs.declared.answers.Ended.the-variants.{Done}
+use Rattle.expander.specs.declared.answers.Ended.the-variants as ends
+use Rattle.expander.specs.Turns.{operationsOf}
+use Rattle.expander.specs.Service.{Numbers, numbersOf, groundOf, runNumbers, filled, leftBy, coreAfter, workAfter, Served}
+use Rattle.expander.specs.Start.{Lends, endNumbers, Expanded, keptTo, Finished}
+
+-- ---- turned back before it begins
+
+-- the room that ground 9 asks
+abbrev pub room : (items : List ℕ) (fuel : ℕ) (work core : List ℕ) → Bool
+room items fuel work core = leb (workRate * (itemCount items + fuel)) (length work) && leb (coreRate * (itemCount items + fuel)) (length core)
+
+module _ (items : List ℕ) (fuel : ℕ) (work core : List ℕ) where
+  -- refused on g, with both tables as they were
+  abbrev pub TurnedBack : ℕ → Type 0
+  TurnedBack g = (r : Expansion) → r ≡ Refused g 0 0 → Served items fuel work work core core r
+
+  turned : (g : ℕ) → g ≤ 10 → run items fuel (length work) (length core) ≡ unbegun g → TurnedBack g
+  unfolding unbegun numbersOf runNumbers groundOf coreAfter workAfter leftBy
+  turned g h e r i =
+      let t : leb g 10 ≡ true = le-leb g 10 h in
+      record { numbers = rw (e, i); core-after = rw (e, t); work-after = rw (e, t) }
+
+  pub served-layout : isLayout items ≡ false → TurnedBack 7
+  unfolding run require unbegun
+  served-layout e = turned 7 (omega arith) (rw e)
+
+  module _ (layout : isLayout items ≡ true) where
+    pub served-fuel : leb fuel fuelMost ≡ false → TurnedBack 8
+    unfolding run require unbegun
+    served-fuel e = turned 8 (omega arith) (rw (layout, e))
+
+    module _ (fuelled : leb fuel fuelMost ≡ true) where
+      pub served-tables : room items fuel work core ≡ false → TurnedBack 9
+      unfolding run require unbegun
+      served-tables e = turned 9 (omega arith) (rw (layout, fuelled, e))
+
+      module _ (roomy : room items fuel work core ≡ true) where
+        pub served-operations : areOperations (treeOf items) ≡ false → TurnedBack 10
+        unfolding run require unbegun
+        served-operations e = turned 10 (omega arith) (rw (layout, fuelled, roomy, e))
+
+        -- ---- past the tests
+
+        pub lends : (operations : List ℕ) → areOperations (treeOf items) ≡ true → Places operations (operationsOf items) → length operations ≡ namesMost → Lends items work core operations fuel
+        lends operations good placed long =
+            let rooms = and-parts (leb (workRate * (itemCount items + fuel)) (length work)) (leb (coreRate * (itemCount items + fuel)) (length core)) roomy in
+            record {
+              begun = record { layout = layout; fuelled = leb-true _ _ fuelled; work-room = leb-true _ _ (rooms .0); core-room = leb-true _ _ (rooms .1); operations = good };
+              placed = placed;
+              long = long;
+            }
+
+-- ---- the end
+
+-- the words of a finished expansion are in the table
+pub done-fits : (e : Ended) (q : Reached) (n : ℕ) → e ≡ Done q → endNumbers e .length ≤ n → q .at ≤ n
+unfolding endNumbers
+done-fits e q n i h = rw i at h
+
+-- zeros in the place of all that follows them
+pub finished-done : (e : Ended) (q : Reached) (core zeros : List ℕ) → e ≡ Done q → q .at ≤ length core → zeros ≡ replicate (length (rest (q .at) core)) 0
+    → Finished e core (take (q .at) core ++ (zeros ++ drop (length core - q .at) (drop (q .at) core))) (Accepted (q .steps) (q .sum) (q .at))
+unfolding endNumbers numbersOf keptTo
+finished-done e q core zeros i h z =
+    let none : drop (length core - q .at) (drop (q .at) core) ≡ [] = drop-of-length-le (drop (q .at) core) {i = length core - q .at} (omega (arith, length-drop (q .at) core)) in
+    let long : length (rest (q .at) core) ≡ length core - q .at = ap length (rest-is (q .at) core) ∙ length-drop (q .at) core in
+    record { numbers = rw i; table = rw (i, none, z, long) (rw append-nil) }
+
+pub finished-refused : (e : Ended) (g n m : ℕ) (core zeros : List ℕ) → e ≡ ends.Refused g n m → zeros ≡ replicate (length core) 0 → Finished e core zeros (Refused g n m)
+unfolding endNumbers numbersOf keptTo
+finished-refused e g n m core zeros i z = let l : length core - 0 ≡ length core = omega arith in record { numbers = rw i; table = rw (i, l, z) }
+
+-- a table ends as its words fill it, since grounds past the tests are above 10
+module _ (words table : List ℕ) where
+  ended-left : {S : Type 0} {R : ℕ → State → Events → Type 0} {Q : Term Name → State → Events → Type 0} (o : Out (Term Name)) → Holds S R Q o → (S → ⊥) → ((g : ℕ) (s : State) (l : Events) → R g s l → 11 ≤ g)
+      → leftBy (ended o .outcome) words table ≡ filled words table
+  unfolding ended leftBy
+  ended-left (done t s l) (isDone q) x y = refl
+  ended-left (refused g s l) (isRefused r) x y = let h : 10 < g = y g s l r in rw (lt-leb g 10 h)
+  ended-left (starved l) (isStarved s) x y = absurd (x s)
+
+  begun-left : (items : List ℕ) (fuel : ℕ) → leftBy (ended (expandRecipe fuel (treeOf items)) .outcome) words table ≡ filled words table
+  unfolding expandRecipe
+  begun-left items fuel =
+      let t = treeOf items in
+      ended-left (expandRecipe fuel t)
+      (both-hold (expandRecipe-spends fuel t) (expand-keeps macrosMost (operationNumbers t) fuel (size t + fuel) (element 1 t) start))
+      (λ p. p .0) (λ g s l p. p .1 .ground .0)
+
+module _ (items : List ℕ) (fuel : ℕ) (work core core₁ : List ℕ) (e : Ended) (b : Begun items fuel (length work) (length core))
+    (x : Expanded (ended (expandRecipe fuel (treeOf items))) core₁ e) (long : length core₁ ≡ length core) where
+  words-are : endNumbers e .length ≡ length (ended (expandRecipe fuel (treeOf items)) .core)
+  unfolding runNumbers
+  words-are = ap (λ (n : Numbers). n .length) (x .numbers)
+
+  pub expanded-fits : endNumbers e .length ≤ length core₁
+  expanded-fits =
+      let begun = begun-run items fuel (length work) (length core) b in
+      let fits : length (ended (expandRecipe fuel (treeOf items)) .core) ≤ length core = rw begun at (run-core-fits items fuel (length work) (length core)) in
+      omega (arith, words-are)
+
+  pub served-expanded : (core₂ work₂ : List ℕ) (r : Expansion) → Finished e core₁ core₂ r → work₂ ≡ replicate (length work) 0 → Served items fuel work work₂ core core₂ r
+  unfolding coreAfter workAfter keptTo filled
+  served-expanded core₂ work₂ r f w =
+      let words = ended (expandRecipe fuel (treeOf items)) .core in
+      let begun = sym (begun-run items fuel (length work) (length core) b) in
+      let kept : keptTo (endNumbers e .length) core₁ ≡ filled words core = rw (words-are, x .words, long) in
+      let none : replicate (length work) 0 ≡ filled [] work = let z : length work - 0 ≡ length work = omega arith in rw z in
+      record {
+        numbers = f .numbers ∙ x .numbers ∙ ap runNumbers begun;
+        core-after = f .table ∙ kept ∙ sym (begun-left words core items fuel) ∙ ap (λ (u : Run). coreAfter u core) begun;
+        work-after = w ∙ none ∙ sym (begun-left [] work items fuel) ∙ ap (λ (u : Run). workAfter u work) begun;
+      }

@@ -1,0 +1,106 @@
+// The cycle: an expression is expanded turn by turn in one loop, its operands one after another; the stack grows with nesting alone.
+
+ghost use Prim.Native.Nat.{_-_};
+ghost use Rattle.recipe.specs.Tree.{size};
+ghost use Rattle.arena.specs.Arena.{treeAt};
+ghost use Rattle.expander.specs.Memory.{tables, Placed, Ready};
+ghost use Rattle.expander.specs.Turns.{Lent, Expands, ExpandsAll};
+use crate::answers::Ended;
+use crate::answers::Reached;
+use crate::answers::Turn;
+use crate::dispatch;
+use arena::cells;
+
+pub fn expression(
+    items: &[u32],
+    work: &mut [u32],
+    core: &mut [u32],
+    known: &mut [u32],
+    operations: &[u32],
+    marks: &mut [u32],
+    fuel: u32,
+    start: u32,
+    outer: u32,
+    from: Reached,
+) -> Ended
+    requires { ⌜ (Lent (now items) (now operations) (now marks)) × (Placed (now items) (now work) (from .top) start outer) × (Ready (now items) fuel (size (treeAt (now items) (now work) start outer)) from (tables (now work) (now core) (now known))) ⌝ }
+    ensures { λ r. ⌜ Expands (now (items .entry)) fuel (treeAt (now (items .entry)) (now (work .entry)) start outer) from (tables (now (work .entry)) (now (core .entry)) (now (known .entry))) (tables (now (work .exit)) (now (core .exit)) (now (known .exit))) r ⌝ }
+{
+    let mut node = start;
+    let mut wrap = outer;
+    let mut reached = from;
+    loop {
+        match dispatch::turn(
+            items,
+            work,
+            core,
+            known,
+            operations,
+            marks,
+            fuel,
+            node,
+            wrap,
+            reached,
+        ) {
+            Turn::Again {
+                node: n,
+                wrap: w,
+                reached: q,
+            } => {
+                node = n;
+                wrap = w;
+                reached = q;
+            }
+            Turn::Operands {
+                list: l,
+                wrap: w,
+                reached: q,
+            } => {
+                return operands(items, work, core, known, operations, marks, fuel, l, w, q);
+            }
+            Turn::Over(e) => {
+                return e;
+            }
+        }
+    }
+}
+
+pub fn operands(
+    items: &[u32],
+    work: &mut [u32],
+    core: &mut [u32],
+    known: &mut [u32],
+    operations: &[u32],
+    marks: &mut [u32],
+    fuel: u32,
+    first: u32,
+    wrap: u32,
+    from: Reached,
+) -> Ended
+    requires { ⌜ (Lent (now items) (now operations) (now marks)) × (Placed (now items) (now work) (from .top) first wrap) × (Ready (now items) fuel (size (treeAt (now items) (now work) first wrap) - 1) from (tables (now work) (now core) (now known))) ⌝ }
+    ensures { λ r. ⌜ ExpandsAll (now (items .entry)) fuel (treeAt (now (items .entry)) (now (work .entry)) first wrap) from (tables (now (work .entry)) (now (core .entry)) (now (known .entry))) (tables (now (work .exit)) (now (core .exit)) (now (known .exit))) r ⌝ }
+{
+    let mut list = first;
+    let mut reached = from;
+    while cells::word(work, list, cells::KIND) == cells::PAIR {
+        let head = cells::reference(work, list, cells::HEAD);
+        let ended = expression(
+            items,
+            work,
+            core,
+            known,
+            operations,
+            marks,
+            fuel,
+            head,
+            wrap,
+            reached,
+        );
+        let Ended::Done(done) = ended else {
+            return ended;
+        };
+        reached = done;
+        list = cells::reference(work, list, cells::TAIL);
+    }
+    Ended::Done(reached)
+}

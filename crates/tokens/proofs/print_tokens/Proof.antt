@@ -1,0 +1,90 @@
+-- The loop's invariant: the offset is in the text.
+use Rattle.tokens.proofs.print_tokens.Statement.{statement}
+use Rattle.tokens.proofs.print_tokens.Tie as tie
+use native.Mathlib.Omega.{arith}
+use mathlib.Core.Path.{_∙_}
+use Prim.Native.Nat.{_≤_, _-_}
+use lib.ListN.{length}
+use borrow.Author.Needs.{needs}
+use Rattle.reading.specs.Laws.Offsets.{start-low}
+use Rattle.reader.specs.Code.AnsweredLaws.{answered-past}
+
+abbrev Inv-loop : tie.InvT-loop
+Inv-loop text at₀ at =
+    at ≤ length text
+
+abbrev μ-loop : tie.MeasureT-loop
+μ-loop text at₀ at =
+    length text - at
+
+loop-holds : tie.Need-loop-holds Inv-loop μ-loop
+loop-holds c =
+    search needs
+
+token-from-requires : tie.Need-token-from-requires Inv-loop μ-loop
+token-from-requires c κs =
+    search needs
+
+past-requires : tie.Need-past-requires Inv-loop μ-loop
+past-requires c κs =
+    search needs
+
+returns : tie.Need-returns Inv-loop μ-loop
+returns c =
+    search needs
+
+skip-requires : tie.Need-skip-requires Inv-loop μ-loop
+skip-requires c κs =
+    search needs
+
+ground-requires : tie.Need-ground-requires Inv-loop μ-loop
+ground-requires c κs =
+    search needs
+
+print-line-requires : tie.Need-print-line-requires Inv-loop μ-loop
+print-line-requires c κs =
+    let skip = c .before .skip in
+    let if1 = c .before .before .if1 in
+    let past = c .before .before .before .past in
+    let token-from = c .before .before .before .before .token-from in
+    let loop = c .before .before .before .before .before .loop in
+    let args = c .before .before .before .before .before .before .before .args in
+    let p = answered-past (args .text .now) (loop .at) (token-from .result) (token-from .ensures) (loop .inv) in
+    let later = p .1 (λ e. if1 .left (past .ensures ∙ e)) in
+    (omega (arith, skip .ensures .start, past .ensures, later), omega (arith, past .ensures, p .0))
+
+loop-less : tie.Need-loop-less Inv-loop μ-loop
+loop-less c =
+    let if1 = c .before .before .before .if1 in
+    let past = c .before .before .before .before .past in
+    let token-from = c .before .before .before .before .before .token-from in
+    let loop = c .before .before .before .before .before .before .loop in
+    let args = c .before .before .before .before .before .before .before .before .args in
+    let p = answered-past (args .text .now) (loop .at) (token-from .result) (token-from .ensures) (loop .inv) in
+    let later = p .1 (λ e. if1 .left (past .ensures ∙ e)) in
+    omega (arith, start-low (args .text .now) (loop .at), past .ensures, later, p .0)
+
+loop-again : tie.Need-loop-again Inv-loop μ-loop
+loop-again c =
+    let past = c .before .before .before .before .past in
+    let token-from = c .before .before .before .before .before .token-from in
+    let loop = c .before .before .before .before .before .before .loop in
+    let args = c .before .before .before .before .before .before .before .before .args in
+    let p = answered-past (args .text .now) (loop .at) (token-from .result) (token-from .ensures) (loop .inv) in
+    omega (arith, past .ensures, p .0)
+
+pub print-tokens-spec : {M : Type 1} → statement M
+print-tokens-spec =
+    tie.close
+    (tie.spec
+    Inv-loop
+    μ-loop
+    loop-holds
+    token-from-requires
+    past-requires
+    returns
+    skip-requires
+    ground-requires
+    print-line-requires
+    loop-less
+    loop-again)
