@@ -8,7 +8,8 @@ use lib.ListN.{length}
 use Rattle.words.specs.Limits.{operationsMost}
 use Rattle.datum.specs.NameTable.{hasName}
 use Rattle.core_term.specs.Check.{termOf}
-use Rattle.output.specs.Output.{header, acceptance}
+use Rattle.expansion.specs.Run.{Run}
+use Rattle.output.specs.Output.{header, acceptance, printed}
 use Rattle.writer.specs.declared.bytes.Put.{Put}
 use Rattle.writer.specs.declared.bytes.Put.the-variants.{Done, Full}
 use Rattle.writer.specs.Laid.{laid}
@@ -24,3 +25,7 @@ pub record Accepted (words names : List ℕ) (steps sum : ℕ) : Type 0 where
   pub term : List ℕ
   pub written : textOf words operationsMost names ≡ some term
   pub whole : acceptance names steps sum (termOf operationsMost (hasName names) words) ≡ header steps sum ++ (term ++ (10 ∷ []))
+
+-- the output of a run
+unfoldable pub printedRun : List ℕ → Run → List ℕ
+printedRun names r = printed names (r .outcome) r

@@ -2,3 +2,4 @@
 pub mod Lines
 pub mod File
 pub mod FileLaws
+pub mod RunLaws
