@@ -21,10 +21,14 @@ line ws = spaced ws ++ (10 ∷ [])
 unfoldable pub refusal : (ground steps sum : ℕ) → List ℕ
 refusal ground steps sum = line (bytes "refused" ∷ decimal ground ∷ decimal steps ∷ decimal sum ∷ [])
 
--- accepted, the two counts, and the term in a line of its own; words that writing refuses are ground 19
+-- accepted, the two counts
+unfoldable pub header : (steps sum : ℕ) → List ℕ
+header steps sum = line (bytes "accepted" ∷ decimal steps ∷ decimal sum ∷ [])
+
+-- that, and the term in a line of its own; words that writing refuses are ground 19
 unfoldable pub acceptance : List ℕ → (steps sum : ℕ) → Option Plain → List ℕ
 acceptance names steps sum none = refusal 19 0 0
-acceptance names steps sum (some t) = line (bytes "accepted" ∷ decimal steps ∷ decimal sum ∷ []) ++ line (text (nameAt names) t ∷ [])
+acceptance names steps sum (some t) = header steps sum ++ line (text (nameAt names) t ∷ [])
 
 -- a run, with the name table of its recipe
 unfoldable pub printed : List ℕ → Outcome → Run → List ℕ

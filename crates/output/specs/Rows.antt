@@ -12,7 +12,7 @@ use Rattle.core_term.specs.Check as Check
 use Rattle.core_term.specs.Decimal as Decimal
 use Rattle.core_term.specs.Text as Text
 use Rattle.expansion.specs.Computed.{computed}
-use Rattle.output.specs.Output.{line, refusal, acceptance, printed, outputOf, filed, output}
+use Rattle.output.specs.Output.{line, refusal, header, acceptance, printed, outputOf, filed, output}
 
 pub record Row : Type 0 where
   pub recipe : String
@@ -37,7 +37,7 @@ unfolding
     Decimal.leading Decimal.digitsBy Decimal.decimal Decimal.signed Decimal.integerText
     Text.spacedAfter Text.spaced Text.parenthesized Text.variableText Text.operationText Text.formalTexts Text.constantText
     Text.bare Text.outermost Text.text
-    line refusal acceptance printed outputOf filed output
+    line refusal header acceptance printed outputOf filed output
 printedFor r = output (bytes (r .recipe)) (r .fuel)
 
 unfoldable pub rows : List Row

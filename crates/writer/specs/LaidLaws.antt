@@ -2,12 +2,12 @@
 use mathlib.Core.Path.{_≡_, refl, sym, ap, subst, _∙_}
 use mathlib.Core.Bool.{Bool, true, false}
 use mathlib.Core.List.{List, [], _∷_, _++_, append-assoc, append-nil}
-use Prim.Native.Nat.{ℕ, suc, _+_, _≤_, _<_}
+use Prim.Native.Nat.{ℕ, suc, _+_, _-_, _≤_, _<_}
 use native.Mathlib.Omega.{arith}
 use native.Mathlib.Numerals.{add-one}
-use native.Mathlib.Nat.{add-zero}
+use native.Mathlib.Nat.{zero-add, add-zero}
 use lib.ListN.{length, take, drop, set, getD, length-append, take-append-drop, length-drop}
-use lib.Seq.{set-split, append-snoc, paste, paste-suc, take-length, length-take-le, take-at, drop-at, drop-drop}
+use lib.Seq.{set-split, append-snoc, paste, paste-suc, take-length, length-take-le, take-at, drop-at, take-take, drop-drop, take-append-le, drop-append-le}
 use Rattle.writer.specs.declared.bytes.Put.{Put}
 use Rattle.writer.specs.declared.bytes.Put.the-variants.{Done, Full}
 use Rattle.writer.specs.Laid.{laid, Left, done, full}
@@ -21,6 +21,11 @@ laid-dry ink x at d h = rw h
 pub laid-wet : (ink : Bool) (x : List ℕ) (at : ℕ) (d : List ℕ) → ink ≡ true → laid ink x at d ≡ take at d ++ x ++ drop (at + length x) d
 unfolding laid
 laid-wet ink x at d h = rw h
+
+-- from the beginning on it is all that comes before the rest
+pub laid-first : (x d : List ℕ) → laid true x 0 d ≡ x ++ drop (length x) d
+unfolding laid
+laid-first x d = ap (λ (i : ℕ). x ++ drop i d) (zero-add (length x))
 
 pub laid-none : (ink : Bool) (at : ℕ) (d : List ℕ) → laid ink [] at d ≡ d
 unfolding laid
@@ -63,6 +68,30 @@ laid-append true x y at to d e h =
     ∙ ap (drop (length y)) (drop-at (take at d ++ x) (drop (at + length x) d) to l ∙ ap (λ (n : ℕ). drop n d) (sym e))
     ∙ drop-drop (length y) to d in
     rw (p, q, m) (simp append-assoc)
+
+-- the second text first
+pub laid-before : (x y : List ℕ) (at to : ℕ) (d : List ℕ) → to ≡ at + length x → to + length y ≤ length d → laid true x at (laid true y to d) ≡ laid true (x ++ y) at d
+unfolding laid
+laid-before x y at to d e h =
+    let l : length (take to d) ≡ to = length-take-le to d (omega arith) in
+    let k : at ≤ length (take to d) = omega arith in
+    let m : at + length (x ++ y) ≡ to + length y = omega (arith, length-append x y) in
+    let p : take at (take to d ++ y ++ drop (to + length y) d) ≡ take at d =
+    ap (take at) (append-assoc (take to d) y (drop (to + length y) d)) ∙ take-append-le at (take to d) (y ++ drop (to + length y) d) k ∙ take-take at to d (omega arith) in
+    let q : drop (at + length x) (take to d ++ y ++ drop (to + length y) d) ≡ y ++ drop (to + length y) d =
+    ap (drop (at + length x)) (append-assoc (take to d) y (drop (to + length y) d)) ∙ drop-at (take to d) (y ++ drop (to + length y) d) (at + length x) (l ∙ e) in
+    rw (p, q, m) (simp append-assoc)
+
+-- a part of the output with the text at its beginning, put back in its place
+pub laid-part : (x : List ℕ) (at to : ℕ) (d : List ℕ) → to ≤ length d → at + length x ≤ to
+    → take at d ++ ((x ++ drop (length x) (take (to - at) (drop at d))) ++ drop (to - at) (drop at d)) ≡ laid true x at d
+unfolding laid
+laid-part x at to d h k =
+    let s = drop at d in
+    let l : length x ≤ length (take (to - at) s) = omega (arith, length-take-le (to - at) s (omega (arith, length-drop at d)), length-drop at d) in
+    let p : drop (length x) (take (to - at) s) ++ drop (to - at) s ≡ drop (at + length x) d =
+    sym (drop-append-le (length x) (take (to - at) s) (drop (to - at) s) l) ∙ ap (drop (length x)) (take-append-drop (to - at) s) ∙ drop-drop (length x) at d in
+    ap (λ (z : List ℕ). take at d ++ z) (append-assoc x _ _ ∙ ap (λ (z : List ℕ). x ++ z) p) ∙ sym (append-assoc (take at d) x _)
 
 module _ {ink : Bool} {x : List ℕ} {at : ℕ} {d e : List ℕ} where
   -- where it ends, that it fits, and the output

@@ -1,13 +1,13 @@
 -- What a call of writing answers and leaves, as its promise says it, and the laws that show it.
 use mathlib.Core.Path.{_≡_, refl, sym, ap, subst, _∙_}
-use mathlib.Core.Bool.{Bool, true, false, true≢false, false≢true}
+use mathlib.Core.Bool.{Bool, true, false, true≢false, false≢true, cond}
 use mathlib.Core.List.{List, [], _++_, append-nil}
 use mathlib.Core.Option.{Option, none, some}
 use Prim.Native.Nat.{ℕ, _+_, _≤_, _<_}
 use native.Mathlib.Omega.{arith}
-use native.Mathlib.Nat.{zero-add}
+use lib.Dec.{leb}
 use lib.ListN.{length, drop}
-use borrow.Author.Tests.{le-leb, lt-leb}
+use borrow.Author.Tests.{leb-true, leb-false, le-leb, lt-leb}
 use Rattle.datum.specs.NameTable.{nameAt, hasName}
 use Rattle.core_term.specs.Node.{Node, isNode, variableN, operationN, constantN, nameN, listN, ifN, lambdaN, applicationN}
 use Rattle.core_term.specs.Term.{Plain, variables}
@@ -16,12 +16,14 @@ use Rattle.core_term.specs.Every.{Asked, every, proper, wellFormed}
 use Rattle.core_term.specs.EveryLaws.{every-from}
 use Rattle.core_term.specs.Check.{Scope, outside, known, asked, allKnown, termOf, isTerm, isSome}
 use Rattle.core_term.specs.CheckLaws.{Accepted, accepted, isTerm-some}
+use Rattle.writer.specs.declared.bytes.Put.{Put}
+use Rattle.writer.specs.declared.bytes.Put.the-variants.{Done, Full}
 use Rattle.writer.specs.declared.term.Step.{Step}
 use Rattle.writer.specs.declared.term.Step.the-variants as S
 use Rattle.writer.specs.declared.Writing.{Writing}
 use Rattle.writer.specs.declared.Writing.the-variants.{Written, NoTerm, NoRoom}
-use Rattle.writer.specs.Laid.{laid}
-use Rattle.writer.specs.LaidLaws.{done-is, full-is}
+use Rattle.writer.specs.Laid.{laid, Left}
+use Rattle.writer.specs.LaidLaws.{laid-dry, laid-first, done-is, full-is, left-done}
 use Rattle.writer.specs.Pieces.{textIn}
 use Rattle.writer.specs.Opened.{named}
 use Rattle.writer.specs.Walk.{spelling, Fits, Begins, Walked}
@@ -47,13 +49,72 @@ no-term ws operations names out h = go (termOf operations (hasName names) ws) h
 -- ---- a text
 
 module _ (x out : List ℕ) where
-  wrote-all : length x ≤ length out → (n : ℕ) (out′ : List ℕ) → n ≡ length x → out′ ≡ x ++ drop (length x) out → Wrote (some x) out out′ (Written n)
+  pub wrote-all : length x ≤ length out → (n : ℕ) (out′ : List ℕ) → n ≡ length x → out′ ≡ x ++ drop (length x) out → Wrote (some x) out out′ (Written n)
   unfolding groundOf lengthOf ground size after
   wrote-all h n out′ e l = let k = le-leb (length x) (length out) h in record { number = rw k; value = rw k e; left = rw k l }
 
-  wrote-none : length out < length x → (out′ : List ℕ) → out′ ≡ out → Wrote (some x) out out′ NoRoom
+  pub wrote-none : length out < length x → (out′ : List ℕ) → out′ ≡ out → Wrote (some x) out out′ NoRoom
   unfolding groundOf lengthOf ground size after
   wrote-none h out′ l = let k = lt-leb (length x) (length out) h in record { number = rw k; value = rw k; left = rw k l }
+
+-- ---- what an answer says
+
+pub written-fits : (o : Option (List ℕ)) (out out′ : List ℕ) (n : ℕ) → Wrote o out out′ (Written n) → n ≤ length out
+unfolding lengthOf size
+written-fits none out out′ n w = omega (arith, w .value)
+written-fits (some x) out out′ n w = go (leb (length x) (length out)) refl (w .value)
+  where
+    go : (b : Bool) → leb (length x) (length out) ≡ b → n ≡ cond b (length x) 0 → n ≤ length out
+    go true k v = omega (arith, leb-true (length x) (length out) k)
+    go false k v = omega arith
+
+module _ (x out out′ : List ℕ) where
+  pub written-is : (n : ℕ) → Wrote (some x) out out′ (Written n) → (n ≡ length x) × (length x ≤ length out) × (out′ ≡ x ++ drop (length x) out)
+  unfolding groundOf lengthOf ground size after
+  written-is n w = go (leb (length x) (length out)) refl (w .number) (w .value) (w .left)
+    where
+      go : (b : Bool) → leb (length x) (length out) ≡ b → _≡_ {A = ℕ} 0 (cond b 0 20) → n ≡ cond b (length x) 0 → out′ ≡ cond b (x ++ drop (length x) out) out
+          → (n ≡ length x) × (length x ≤ length out) × (out′ ≡ x ++ drop (length x) out)
+      go true k g v l = (v, leb-true (length x) (length out) k, l)
+      go false k g v l = absurd (omega arith)
+
+  pub no-room-is : Wrote (some x) out out′ NoRoom → (length out < length x) × (out′ ≡ out)
+  unfolding groundOf ground after
+  no-room-is w = go (leb (length x) (length out)) refl (w .number) (w .left)
+    where
+      go : (b : Bool) → leb (length x) (length out) ≡ b → _≡_ {A = ℕ} 20 (cond b 0 20) → out′ ≡ cond b (x ++ drop (length x) out) out → (length out < length x) × (out′ ≡ out)
+      go true k g l = absurd (omega arith)
+      go false k g l = (leb-false (length x) (length out) k, l)
+
+  pub not-no-term : Wrote (some x) out out′ NoTerm → ⊥
+  unfolding groundOf ground
+  not-no-term w = go (leb (length x) (length out)) (w .number)
+    where
+      go : (b : Bool) → _≡_ {A = ℕ} 19 (cond b 0 20) → ⊥
+      go true g = omega arith
+      go false g = omega arith
+
+-- ---- a text that is measured, then laid, from the beginning
+
+module _ (x out e : List ℕ) (r : Put) (dry : Left false x 0 out e r) where
+  pub measured-full : r ≡ Full → Wrote (some x) out e NoRoom
+  measured-full h = let k = full-is (subst (Left false x 0 out e) h dry) in wrote-none x out (omega arith) e (k .1 refl)
+
+  module _ (n : ℕ) (h : r ≡ Done n) where
+    -- it fits, and the output is as it was
+    pub measured-is : (n ≡ length x) × (length x ≤ length out) × (e ≡ out)
+    measured-is = let k = done-is (left-done dry n h) in (omega arith, omega arith, k .2 ∙ laid-dry false x 0 out refl)
+
+    module _ (f : List ℕ) (s : Put) (wet : Left true x 0 e f s) where
+      -- what has been measured fits
+      pub laid-never-full : s ≡ Full → Wrote (some x) out f NoRoom
+      laid-never-full g = let k = full-is (subst (Left true x 0 e f) g wet) in let m = measured-is in absurd (omega (arith, ap length (m .2)))
+
+      pub laid-wrote : (to : ℕ) → s ≡ Done to → Wrote (some x) out f (Written to)
+      laid-wrote to g =
+          let k = done-is (left-done wet to g) in
+          let m = measured-is in
+          wrote-all x out (m .1) to f (omega arith) (k .2 ∙ ap (laid true x 0) (m .2) ∙ laid-first x out)
 
 -- ---- the term
 
@@ -122,33 +183,21 @@ module _ (ws : List ℕ) (operations : ℕ) (names : List ℕ) where
       first = c it [] it-fits it-words
 
       pub no-room : s ≡ S.Full → Wrote (textOf ws operations names) out e NoRoom
-      no-room k =
-          let l = full-is (stopped-by first k) in
-          subst (λ (z : Option (List ℕ)). Wrote z out e NoRoom) text-is (wrote-none Text out (omega arith) e (l .1 refl))
+      no-room k = subst (λ (z : Option (List ℕ)). Wrote z out e NoRoom) text-is (measured-full Text out e Full (stopped-by first k) refl)
 
       module _ (used n : ℕ) (k : s ≡ S.Done used n) where
-        measured : (n ≡ 0 + length Text) × (n ≤ length out) × (e ≡ laid false Text 0 out)
-        measured = done-is (walked-by first used n k .1)
-
-        same : e ≡ out
-        unfolding laid
-        same = measured .2
-
-        pub still-room : 0 ≤ length e
-        still-room = omega arith
+        abbrev dry : Left false Text 0 out e (Done n)
+        dry = walked-by first used n k .1
 
         module _ (f : List ℕ) (u : Step)
             (d : (t : Plain) (r : List ℕ) → Fits names false t → ws ≡ encode t ++ r → Walked true (textIn (nameAt names) false t) (length (encode t)) 0 e f u) where
           second : Walked true Text (length (encode it)) 0 e f u
           second = d it [] it-fits it-words
 
-          -- what has been measured fits
           pub no-second : u ≡ S.Full → Wrote (textOf ws operations names) out f NoRoom
-          no-second q = absurd (omega (arith, full-is (stopped-by second q) .0, measured, ap length same))
+          no-second q = subst (λ (o : Option (List ℕ)). Wrote o out f NoRoom) text-is (laid-never-full Text out e (Done n) dry n refl f Full (stopped-by second q) refl)
 
           pub wrote-text : (again end : ℕ) → u ≡ S.Done again end → Wrote (textOf ws operations names) out f (Written end)
-          unfolding laid
           wrote-text again end q =
-              let l = done-is (walked-by second again end q .1) in
-              let z : f ≡ Text ++ drop (length Text) out = l .2 ∙ ap (λ (o : List ℕ). Text ++ drop (0 + length Text) o) same ∙ ap (λ (i : ℕ). Text ++ drop i out) (zero-add (length Text)) in
-              subst (λ (o : Option (List ℕ)). Wrote o out f (Written end)) text-is (wrote-all Text out (omega (arith, measured)) end f (omega arith) z)
+              subst (λ (o : Option (List ℕ)). Wrote o out f (Written end)) text-is
+              (laid-wrote Text out e (Done n) dry n refl f (Done end) (walked-by second again end q .1) end refl)

@@ -1,6 +1,6 @@
 // Writing: a core term's one text, or ground 19 or 20. specs/Writing.antt says what each call answers and leaves.
-mod bytes; // bytes laid into the output
-mod numbers; // decimal text
+pub mod bytes; // bytes laid into the output
+pub mod numbers; // decimal text
 mod pieces; // what opens and closes a node
 mod term; // a term's text
 

@@ -1,0 +1,132 @@
+// The whole output of a recipe's text, in lent tables.
+ghost use mathlib.Core.Path.{_≡_};
+ghost use mathlib.Core.List.{List};
+ghost use mathlib.Core.Option.{some};
+ghost use Prim.Native.Nat.{ℕ, _<_};
+ghost use lib.ListN.{length};
+ghost use Rattle.words.specs.Limits.{operationsMost};
+ghost use Rattle.datum.specs.NameTable.{hasName};
+ghost use Rattle.core_term.specs.Check.{termOf};
+ghost use Rattle.expansion.specs.Run.{run};
+ghost use Rattle.output.specs.Output.{refusal, acceptance, filed};
+ghost use Rattle.writer.specs.Writing.{textOf};
+ghost use Rattle.writer.specs.Written.{Wrote};
+ghost use Rattle.filing.specs.File.{Spared, printedRun};
+use crate::lines::accepted_line;
+use crate::lines::refused_line;
+use core_term::is_term;
+use expander::Expansion;
+use expander::expand;
+use reader::Reading;
+use reader::read;
+use words::OPERATIONS;
+use words::SLOT;
+use writer::Writing;
+use writer::bytes::Put;
+use writer::bytes::byte;
+use writer::numbers::wide;
+use writer::write;
+
+// Words of an item.
+const ITEM: usize = 3;
+
+// The output of what is turned back. It is measured, then laid.
+fn refused(ground: u32, steps: u32, sum: u32, out: &mut [u8]) -> Writing
+    ensures { λ r. ⌜ Wrote (some (refusal ground steps sum)) (now (out .entry)) (now (out .exit)) r ⌝ }
+{
+    let Put::Done(length) = refused_line(ground, steps, sum, out, 0, false) else {
+        return Writing::NoRoom;
+    };
+    let Put::Done(to) = refused_line(ground, steps, sum, out, 0, true) else {
+        return Writing::NoRoom;
+    };
+    Writing::Written(to)
+}
+
+// The text of the words' term from a place on, where it and one byte more fit.
+fn term_at(words: &[u32], names: &[u8], out: &mut [u8], from: usize) -> Put
+    requires { ⌜ from < length (now out) ⌝ }
+    ensures { λ r. ⌜ ((x : List ℕ) → textOf (now (words .entry)) operationsMost (now (names .entry)) ≡ some x → Spared x from (now (out .entry)) (now (out .exit)) r) ⌝ }
+{
+    let last = out.len() - 1;
+    match write(words, OPERATIONS, names, &mut out[from..last]) {
+        Writing::Written(length) => Put::Done(from + length),
+        Writing::NoTerm => Put::Full,
+        Writing::NoRoom => Put::Full,
+    }
+}
+
+// The output of an accepted term. The term is written at its place, where all fits; then its line before it, and LF behind it.
+fn accepted(words: &[u32], names: &[u8], steps: u32, sum: u32, out: &mut [u8]) -> Writing
+    ensures { λ r. ⌜ Wrote (some (acceptance (now (names .entry)) steps sum (termOf operationsMost (hasName (now (names .entry))) (now (words .entry))))) (now (out .entry)) (now (out .exit)) r ⌝ }
+{
+    if !is_term(words, OPERATIONS, names) {
+        return refused(19, 0, 0, out);
+    }
+    let Put::Done(from) = accepted_line(steps, sum, out, 0, false) else {
+        return Writing::NoRoom;
+    };
+    if from >= out.len() {
+        return Writing::NoRoom;
+    }
+    let Put::Done(to) = term_at(words, names, out, from) else {
+        return Writing::NoRoom;
+    };
+    let Put::Done(end) = byte(b'\n', out, to, true) else {
+        return Writing::NoRoom;
+    };
+    let Put::Done(again) = accepted_line(steps, sum, out, 0, true) else {
+        return Writing::NoRoom;
+    };
+    Writing::Written(end)
+}
+
+// The output of a recipe's items, with the name table of the same reading.
+fn expanded(
+    items: &[u32],
+    fuel: u32,
+    names: &[u8],
+    work: &mut [u32],
+    core: &mut [u32],
+    out: &mut [u8],
+) -> Writing
+    ensures { λ r. ⌜ Wrote (some (printedRun (now (names .entry)) (run (now (items .entry)) fuel (length (now (work .entry))) (length (now (core .entry)))))) (now (out .entry)) (now (out .exit)) r ⌝ }
+{
+    match expand(items, fuel, work, core) {
+        Expansion::Accepted {
+            steps: n,
+            sum: m,
+            length: l,
+        } => {
+            let end = wide(l);
+            accepted(&core[..end], names, n, m, out)
+        }
+        Expansion::Refused {
+            ground: g,
+            steps: n,
+            sum: m,
+        } => refused(g, n, m, out),
+    }
+}
+
+// The output of a text with fuel, by way of four lent tables; nothing is laid where it does not fit.
+pub fn file(
+    text: &[u8],
+    fuel: u32,
+    items: &mut [u32],
+    names: &mut [u8],
+    work: &mut [u32],
+    core: &mut [u32],
+    out: &mut [u8],
+) -> Writing
+    ensures { λ r. ⌜ Wrote (some (filed (now (text .entry)) fuel (length (now (items .entry))) (length (now (names .entry))) (length (now (work .entry))) (length (now (core .entry))))) (now (out .entry)) (now (out .exit)) r ⌝ }
+{
+    match read(text, items, names) {
+        Reading::Read { items: i, names: n } => {
+            let words = ITEM * i;
+            let bytes = SLOT * n;
+            expanded(&items[..words], fuel, &names[..bytes], work, core, out)
+        }
+        Reading::Refused(ground) => refused(ground, 0, 0, out),
+    }
+}

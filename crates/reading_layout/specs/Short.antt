@@ -1,0 +1,127 @@
+-- The names of an accepted text have at most 63 bytes, so their slots are 64 bytes each.
+use mathlib.Core.Path.{_≡_, refl, subst}
+use mathlib.Core.Bool.{Bool, true, false, _||_, not, _&&_}
+use mathlib.Core.List.{List, [], _∷_, _++_, map}
+use Prim.Native.Nat.{ℕ, _*_, _≤_}
+use native.Mathlib.Omega.{arith}
+use lib.Dec.{ltb, leb}
+use lib.ListN.{length}
+use borrow.Author.Tests.{le-leb}
+use Rattle.words.specs.Limits.{itemWordsLeast, nameBytesLeast, textBytesMost}
+use Rattle.words.specs.Lists.{within, all, equal}
+use Rattle.words.specs.ListLaws.{either, and-left, within-high, all-append}
+use Rattle.datum.specs.Datum.{Datum, constantD}
+use Rattle.datum.specs.NameTableLaws.{isShort, length-slots}
+use Rattle.reading.specs.Token.{Token, open′, close′, bad, flag, run, isDigit, tokens}
+use Rattle.reading.specs.Meaning.{Meaning, begins, ends, constant, name, refused, unsigned, isNumeral, signed, integerOf, isName, nameOf, meaningOf}
+use Rattle.reading.specs.Numbering.{baseNames, numberOf, withName}
+use Rattle.reading.specs.Elements.{Answer, got, back, then, Reading, start, isComplete, counted, put, named, opened, closed, isWithin, begin, takes, takesAll}
+use Rattle.reading.specs.Read.{Recipe, finished, recipeOver, recipeOf, read, nameBytes}
+
+-- a name of a meaning, the names of a reading and of a recipe
+abbrev Short : Meaning → Type 0
+Short (name cs) = isShort cs ≡ true
+Short begins = 0 ≤ 0
+Short ends = 0 ≤ 0
+Short (constant a) = 0 ≤ 0
+Short (refused g) = 0 ≤ 0
+
+abbrev ShortAnswer : {A : Type 0} → (A → List (List ℕ)) → Answer A → Type 0
+ShortAnswer names (got a) = all isShort (names a) ≡ true
+ShortAnswer names (back g) = 0 ≤ 0
+
+abbrev ShortReading : Answer Reading → Type 0
+ShortReading = ShortAnswer (λ r. r .known)
+
+abbrev ShortRecipe : Answer Recipe → Type 0
+ShortRecipe = ShortAnswer (λ r. r .names)
+
+-- ---- meanings
+
+signed-short : (t : Bool) (n : ℕ) → Short (signed t n)
+unfolding signed
+signed-short true n = either (leb n 2147483648) (λ e. rw e (omega arith)) (λ e. rw e (omega arith))
+signed-short false n = either (leb n 2147483647) (λ e. rw e (omega arith)) (λ e. rw e (omega arith))
+
+integer-short : (cs : List ℕ) → Short (integerOf cs)
+unfolding integerOf
+integer-short cs = either (all isDigit (unsigned cs)) (λ e. rw e (signed-short _ _)) (λ e. rw e (omega arith))
+
+is-short : (cs : List ℕ) → isName cs ≡ true → isShort cs ≡ true
+unfolding isName isShort
+is-short cs e = le-leb _ _ (within-high 1 63 (length cs) (and-left (within 1 63 (length cs)) (not (equal cs (46 ∷ []))) e))
+
+name-short : (cs : List ℕ) → Short (nameOf cs)
+unfolding nameOf
+name-short cs = either (isName cs) (λ e. rw e (is-short cs e)) (λ e. rw e (omega arith))
+
+meaning-short : (t : Token) → Short (meaningOf t)
+unfolding meaningOf
+meaning-short open′ = omega arith
+meaning-short close′ = omega arith
+meaning-short bad = omega arith
+meaning-short (flag b) = omega arith
+meaning-short (run cs) = either (isNumeral cs) (λ e. rw e (integer-short cs)) (λ e. rw e (name-short cs))
+
+-- ---- elements
+
+with-short : (cs : List ℕ) (names : List (List ℕ)) → isShort cs ≡ true → all isShort names ≡ true → all isShort (withName cs names) ≡ true
+unfolding withName all
+with-short cs names s h =
+    either (ltb (numberOf cs names) (length names)) (λ e. rw e h) (λ e. rw e (all-append isShort names (cs ∷ []) h (one s)))
+  where
+    one : isShort cs ≡ true → all isShort (cs ∷ []) ≡ true
+    one k = rw k
+
+begin-short : (r q : Reading) → all isShort (q .known) ≡ true → ShortReading (begin r q)
+unfolding begin
+begin-short r q h =
+    either (isComplete r) (λ c. rw c (omega arith)) (λ c. either (isWithin q) (λ w. rw (c, w) h) (λ w. rw (c, w) (omega arith)))
+
+closed-short : (a : List (List Datum)) (r : Reading) → all isShort (r .known) ≡ true → ShortReading (closed a r)
+unfolding closed
+closed-short [] r h = omega arith
+closed-short (l ∷ ls) r h = h
+
+takes-short : (m : Meaning) (r : Reading) → Short m → all isShort (r .known) ≡ true → ShortReading (takes m r)
+unfolding takes opened counted put named
+takes-short begins r s h = begin-short r (opened (counted r)) h
+takes-short ends r s h = closed-short (r .around) r h
+takes-short (constant a) r s h = begin-short r (put (constantD a) (counted r)) h
+takes-short (name cs) r s h = begin-short r (named cs (counted r)) (with-short cs (r .known) s h)
+takes-short (refused g) r s h = omega arith
+
+then-short : (a : Answer Reading) (f : Reading → Answer Reading) → ShortReading a → ((r : Reading) → all isShort (r .known) ≡ true → ShortReading (f r)) → ShortReading (then a f)
+unfolding then
+then-short (got r) f h k = k r h
+then-short (back g) f h k = h
+
+all-short : (ts : List Token) (r : Reading) → all isShort (r .known) ≡ true → ShortReading (takesAll (map meaningOf ts) r)
+unfolding takesAll
+all-short [] r h = h
+all-short (t ∷ ts) r h =
+    then-short (takes (meaningOf t) r) (takesAll (map meaningOf ts)) (takes-short (meaningOf t) r (meaning-short t) h) (all-short ts)
+
+finished-short : (a : Answer Reading) → ShortReading a → ShortRecipe (then a finished)
+unfolding then finished
+finished-short (got r) h = either (isComplete r) (λ c. rw c h) (λ c. rw c (omega arith))
+finished-short (back g) h = h
+
+-- ---- texts
+
+recipe-short : (text : List ℕ) → ShortRecipe (recipeOf text)
+unfolding recipeOf recipeOver start baseNames all isShort
+recipe-short text = finished-short (takesAll (map meaningOf (tokens text)) (start baseNames 2)) (all-short (tokens text) (start baseNames 2) base)
+  where
+    base : all isShort baseNames ≡ true
+    base = refl
+
+read-short : (text : List ℕ) (items names : ℕ) → ShortRecipe (read text items names)
+unfolding read
+read-short text items names =
+    either (ltb items itemWordsLeast || ltb names nameBytesLeast) (λ e. rw e (omega arith))
+    (λ e. either (ltb textBytesMost (length text)) (λ l. rw (e, l) (omega arith)) (λ l. rw (e, l) (recipe-short text)))
+
+pub read-slots : (text : List ℕ) (items names : ℕ) (r : Recipe) → read text items names ≡ got r → length (nameBytes r) ≡ 64 * length (r .names)
+unfolding nameBytes
+read-slots text items names r e = length-slots (r .names) (subst ShortRecipe e (read-short text items names))
