@@ -1,8 +1,8 @@
--- `nodes::is_list`, by the node's kind.
+-- `lists::is_list`, by the node's kind.
 use borrow.Author.Needs.{needs}
-use Rattle.arena.proofs.nodes.is_list.Statement.{statement}
-use Rattle.arena.proofs.nodes.is_list.Tie as tie
-use Rattle.arena.specs.Lists.{list-empty, list-pair}
+use Rattle.arena.proofs.lists.is_list.Statement.{statement}
+use Rattle.arena.proofs.lists.is_list.Tie as tie
+use Rattle.arena.specs.ListLaws.{list-empty, list-pair}
 
 word-requires : tie.Need-word-requires
 word-requires c κs = search needs
