@@ -1,6 +1,6 @@
 -- Laws of lists in the arena: what a node can be, and what is answered, one law for each way through the code.
 use mathlib.Core.Path.{_≡_, refl, sym, ap, subst, _∙_}
-use mathlib.Core.Bool.{Bool, true, false}
+use mathlib.Core.Bool.{Bool, true, false, not}
 use mathlib.Core.List.{List, []}
 use Prim.Native.Nat.{ℕ, zero, suc, _+_, _-_, _<_}
 use native.Mathlib.Omega.{arith}
@@ -8,13 +8,15 @@ use lib.Dec.{eqb}
 use lib.ListN.{length}
 use borrow.Author.Tests.{eqb-true, eqb-false, eq-eqb, ne-eqb}
 use Rattle.datum.specs.Constant.{Constant}
-use Rattle.recipe.specs.Name.{Name}
-use Rattle.recipe.specs.Tree.{Tree, empty, constant, name, pair, onEmpty, onName, onPair, isName, isList, isListOf, elements, element, tail}
+use Rattle.recipe.specs.Name.{Name, isOrdinary, isEllipsis, isWildcard}
+use Rattle.recipe.specs.Tree.{Tree, empty, constant, name, pair, onEmpty, onName, onPair, isName, isOrdinaryName, isList, isListOf, elements, element, tail}
 use Rattle.recipe.specs.TreeLaws.{element-tail}
 use Rattle.arena.specs.Arena.{wordAt, referenceAt, nameAt, constantAt, treeAt}
 use Rattle.arena.specs.ArenaLaws.{cases, wordAt-some, wordAt-out, referenceAt-most, referenceAt-falls}
 use Rattle.arena.specs.NodeLaws.{treeAt-empty, treeAt-name, treeAt-pair, treeAt-constant}
-use Rattle.arena.specs.Lists.{Means, Counts, Tests, Counted, Walked}
+use Rattle.arena.specs.Names.{numberOf}
+use Rattle.arena.specs.NameLaws.{nameAt-number}
+use Rattle.arena.specs.Lists.{Means, Counts, Tests, TestsIn, Counted, Walked}
 
 -- ---- what a node can be
 
@@ -44,17 +46,11 @@ module _ (items work : List ℕ) (node w : ℕ) where
   unfolding elements
   no-elements n = tree-cases (λ t. elements t ≡ []) (λ e. refl) (λ e. refl) (λ e. absurd (n e)) (λ p q r. refl)
 
--- a node that is no pair, by the kind that was read
-pub by-kind : (items work : List ℕ) (node w kind : ℕ) → kind ≡ wordAt work node 3 → (P : Tree → Type 0)
-    → (kind ≡ 0 → P empty) → ((kind ≡ 0 → ⊥) → (x : Name) → P (name x)) → ((kind ≡ 0 → ⊥) → (a : Constant) → P (constant a))
-    → (kind ≡ 4 → ⊥) → P (treeAt items work node w)
-by-kind items work node w kind e P forEmpty forName forConstant other =
-    tree-cases items work node w P (λ z. forEmpty (e ∙ z)) (λ z. forName (λ y. omega arith) _) (λ z. absurd (other (e ∙ z))) (λ p q r. forConstant (λ y. p (sym e ∙ y)) _)
-
 module _ (work : List ℕ) (node kind : ℕ) (kind-is : kind ≡ wordAt work node 3) where
+  -- what holds of every tree that is no pair
   pub no-pair : (P : Tree → Type 0) → P empty → ((x : Name) → P (name x)) → ((a : Constant) → P (constant a)) → (kind ≡ 4 → ⊥)
       → (items : List ℕ) (w : ℕ) → P (treeAt items work node w)
-  no-pair P e n c other items w = by-kind items work node w kind kind-is P (λ z. e) (λ z. n) (λ z. c) other
+  no-pair P e n c other items w = tree-cases items work node w P (λ z. e) (λ z. n _) (λ z. absurd (other (kind-is ∙ z))) (λ p q r. c _)
 
   pub a-pair : kind ≡ 4 → (items : List ℕ) (w : ℕ) → treeAt items work node w ≡ pair (treeAt items work (referenceAt work node 2) w) (treeAt items work (referenceAt work node 1) w)
   a-pair e items w = treeAt-pair items work node w (sym kind-is ∙ e)
@@ -151,3 +147,22 @@ module _ (work : List ℕ) (node n : ℕ) (r : Bool) (listed : Tests isList work
   pub list-not : r ≡ false → Tests (isListOf n) work node false
   unfolding isListOf
   list-not e items w = rw (sym (listed items w) ∙ e)
+
+-- ---- names that may be bound
+
+module _ (items work : List ℕ) (node kind : ℕ) (kind-is : kind ≡ wordAt work node 3) where
+  pub ordinary-other : (kind ≡ 3 → ⊥) → TestsIn isOrdinaryName items work node false
+  unfolding isOrdinaryName
+  ordinary-other other w = sym (no-name items work node w isOrdinary false (λ z. other (kind-is ∙ z)))
+
+  module _ (number : ℕ) (number-is : number ≡ numberOf items work node) (a-name : kind ≡ 3) where
+    number-same : (w : ℕ) → nameAt items work node w .number ≡ number
+    number-same w = nameAt-number items work node w ∙ sym number-is
+
+    pub ordinary-ellipsis : number ≡ 6 → TestsIn isOrdinaryName items work node false
+    unfolding isOrdinaryName onName isOrdinary isEllipsis isWildcard
+    ordinary-ellipsis e w = rw (treeAt-name items work node w (sym kind-is ∙ a-name), number-same w, e)
+
+    pub ordinary-last : (number ≡ 6 → ⊥) → TestsIn isOrdinaryName items work node (not (eqb number 7))
+    unfolding isOrdinaryName onName isOrdinary isEllipsis isWildcard
+    ordinary-last e w = rw (treeAt-name items work node w (sym kind-is ∙ a-name), number-same w, ne-eqb number 6 e)

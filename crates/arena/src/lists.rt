@@ -1,8 +1,6 @@
 // Lists in the arena: elements, tails, lengths, tests. Node 0 is the empty list, which is answered where there is none to answer.
 // What a node means is said under every wrap, since opening a list hands its wrap on.
 
-ghost use mathlib.Core.Path.{_≡_};
-ghost use lib.ListN.{length};
 ghost use Rattle.recipe.specs.Tree.{element, tail, isList, isListOf};
 ghost use Rattle.arena.specs.Lists.{Means, Counts, Tests};
 use crate::cells;

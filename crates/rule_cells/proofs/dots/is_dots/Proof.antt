@@ -1,8 +1,8 @@
--- `trees::is_dots`: a name with the number of `...`.
+-- `dots::is_dots`: a name with the number of `...`.
 use borrow.Author.Needs.{needs}
-use Rattle.rule_cells.proofs.trees.is_dots.Statement.{statement}
-use Rattle.rule_cells.proofs.trees.is_dots.Tie as tie
-use Rattle.rule_cells.specs.TreeLaws.{dots-name, dots-other}
+use Rattle.rule_cells.proofs.dots.is_dots.Statement.{statement}
+use Rattle.rule_cells.proofs.dots.is_dots.Tie as tie
+use Rattle.rule_cells.specs.Dots.{dots-name, dots-other}
 use mathlib.Core.Path.{sym, _∙_}
 
 word-requires : tie.Need-word-requires

@@ -1,8 +1,8 @@
--- `shapes::is_ordinary`, by the node's kind and its number.
+-- `names::is_ordinary`, by the node's kind and its number.
 use borrow.Author.Needs.{needs}
-use Rattle.forms.proofs.shapes.is_ordinary.Statement.{statement}
-use Rattle.forms.proofs.shapes.is_ordinary.Tie as tie
-use Rattle.forms.specs.ShapeLaws.{ordinary-other, ordinary-ellipsis, ordinary-last}
+use Rattle.arena.proofs.names.is_ordinary.Statement.{statement}
+use Rattle.arena.proofs.names.is_ordinary.Tie as tie
+use Rattle.arena.specs.ListLaws.{ordinary-other, ordinary-ellipsis, ordinary-last}
 
 word-requires : tie.Need-word-requires
 word-requires c κs =

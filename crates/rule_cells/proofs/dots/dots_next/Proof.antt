@@ -1,8 +1,8 @@
--- `trees::dots_next`: a pair whose first element is `...`.
+-- `dots::dots_next`: a pair whose first element is `...`.
 use borrow.Author.Needs.{needs}
-use Rattle.rule_cells.proofs.trees.dots_next.Statement.{statement}
-use Rattle.rule_cells.proofs.trees.dots_next.Tie as tie
-use Rattle.rule_cells.specs.TreeLaws.{next-pair, next-other}
+use Rattle.rule_cells.proofs.dots.dots_next.Statement.{statement}
+use Rattle.rule_cells.proofs.dots.dots_next.Tie as tie
+use Rattle.rule_cells.specs.Dots.{next-pair, next-other}
 use mathlib.Core.Path.{sym, _∙_}
 
 word-requires : tie.Need-word-requires
