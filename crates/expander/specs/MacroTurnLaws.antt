@@ -17,7 +17,7 @@ use Rattle.expansion.specs.Forms.{isMacros, keywords, rulesForms}
 use Rattle.arena.specs.Arena.{treeAt}
 use Rattle.arena.specs.ArenaLaws.{take-less}
 use Rattle.arena.specs.CellLaws.{tree-kept}
-use Rattle.steps.specs.Lists.{Means, Counts}
+use Rattle.arena.specs.Lists.{Means, Counts}
 use Rattle.forms.specs.Binders.{AllNames, Space, Scoped}
 use Rattle.forms.specs.ScopeLaws.{scoped-tree, macros-names, keywords-count, keywords-most}
 use Rattle.expander.specs.declared.answers.Reached.{Reached}
