@@ -26,7 +26,7 @@ use Rattle.expansion.specs.Forms.{expand}
 use Rattle.expansion.specs.Run.{ended, operationNumbers, expandRecipe}
 use Rattle.arena.specs.Arena.{treeAt, markLimit}
 use Rattle.arena.specs.LayOut.{LaidOut}
-use Rattle.steps.specs.Lists.{Means}
+use Rattle.arena.specs.Lists.{Means}
 use Rattle.expander.specs.declared.answers.Reached.{Reached}
 use Rattle.expander.specs.declared.answers.Ended.{Ended}
 use Rattle.expander.specs.declared.answers.Ended.the-variants.{Done, Refused}

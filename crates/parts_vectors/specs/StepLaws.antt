@@ -22,7 +22,7 @@ use Rattle.rule_cells.specs.Parse.{Asks}
 use Rattle.rule_cells.specs.RuleParse.{RulesMade, RulesLeft}
 use Rattle.rule_cells.specs.declared.templates.Built.{Built}
 use Rattle.rule_cells.specs.declared.templates.Built.the-variants.{Good}
-use Rattle.steps.specs.Lists.{Means}
+use Rattle.arena.specs.Lists.{Means}
 use Rattle.steps.specs.Plain.{Plain}
 use Rattle.steps.specs.PlainRules.{treeAt-solid, rulesOf-plain}
 use Rattle.steps.specs.Apply.{Stepping}

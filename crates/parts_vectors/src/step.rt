@@ -2,11 +2,11 @@
 ghost use Rattle.parts_vectors.specs.Steps.{Begun};
 use arena::cells;
 use arena::item_nodes;
+use arena::lists;
 use rule_cells::rules;
 use rule_cells::templates::Built;
 use steps::apply;
 use steps::apply::Applied;
-use steps::lists;
 
 // The items have no layout, or there is too much fuel for the tables; grounds 15 to 18; or the result's root and its items.
 pub enum Tried {

@@ -66,3 +66,19 @@ fn limits() {
         assert_eq!(file(recipe.as_bytes(), 512), format!("refused {ground} 0 0\n"));
     }
 }
+
+/// The recipes of examples/, each with what is printed for it.
+#[test]
+fn examples() {
+    let folder = std::path::Path::new(env!("CARGO_MANIFEST_DIR")).join("../../examples");
+    let mut count = 0;
+    for entry in folder.read_dir().unwrap() {
+        let path = entry.unwrap().path();
+        if path.extension().is_some_and(|e| e == "scm") {
+            let output = std::fs::read_to_string(path.with_extension("out")).unwrap();
+            assert_eq!(file(&std::fs::read(&path).unwrap(), 512), output, "{}", path.display());
+            count += 1;
+        }
+    }
+    assert!(count > 2, "{count} recipes");
+}

@@ -17,7 +17,7 @@ use Rattle.parts_vectors.proofs.show.+rest+tree.Tie.{close}
 use mathlib.Core.Path.{sym, _∙_}
 use borrow.Author.Needs.{needs}
 use native.Mathlib.Omega.{arith}
-use Rattle.rule_cells.specs.TreeLaws.{pair-falls}
+use Rattle.arena.specs.ListLaws.{pair-falls}
 
 abbrev μ-rest : Measures 3 rest-kinds.ps ℕ
 μ-rest κs a =

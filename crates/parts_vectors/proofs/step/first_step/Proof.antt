@@ -7,8 +7,8 @@ use Rattle.parts_vectors.proofs.step.first_step.Lts as lts
 use Rattle.arena.proofs.cells.put_mark.Reads as put-mark-reads
 use Rattle.rule_cells.proofs.rules.rules.Reads as rules-reads
 use Rattle.steps.proofs.apply.apply.Reads as apply-reads
-use Rattle.steps.proofs.lists.element.Reads as element-reads
-use Rattle.steps.proofs.lists.rest.Reads as rest-reads
+use Rattle.arena.proofs.lists.element.Reads as element-reads
+use Rattle.arena.proofs.lists.rest.Reads as rest-reads
 use Rattle.parts_vectors.specs.StepLaws.{parse-asks, mark-asks, step-asks}
 
 element-requires : tie.Need-element-requires
