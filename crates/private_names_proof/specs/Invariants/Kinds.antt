@@ -47,6 +47,14 @@ bindName-marks i b x = go (same i x)
     go true = refl
     go false = refl
 
+pub bindName-produced : (i : Name) (b : Binding) (x : Name) → bindName i b x .produced ≡ x .produced
+unfolding bindName giveBinding
+bindName-produced i b x = go (same i x)
+  where
+    go : (c : Bool) → cond c (giveBinding b x) x .produced ≡ x .produced
+    go true = refl
+    go false = refl
+
 -- ---- a form binds a name
 
 pub data Bound (i : Name) (b : Binding) (Q : Name → Type 0) (z : Name) : Type 0 where
