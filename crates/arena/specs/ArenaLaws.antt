@@ -1,10 +1,10 @@
 -- Laws of the arena: what a cell means depends on the words below its reference alone; what each kind of wrap and node means;
 -- and that waiting on a tree is carrying through it.
-use mathlib.Core.Path.{_≡_, refl, sym, ap, ap₂, subst, _∙_}
-use mathlib.Core.Bool.{Bool, true, false, _&&_, _||_, cond}
+use mathlib.Core.Path.{_≡_, refl, sym, ap, ap₂, _∙_}
+use mathlib.Core.Bool.{Bool, true, false, _&&_, _||_}
 use mathlib.Core.List.{List, [], _∷_}
 use mathlib.Core.Option.{Option, none, some}
-use Prim.Native.Nat.{ℕ, zero, suc, _+_, _*_, _-_, _/_, _%_, _≤_, _<_}
+use Prim.Native.Nat.{ℕ, zero, suc, _*_, _-_, _/_, _%_, _≤_, _<_}
 use native.Mathlib.Omega.{arith}
 use lib.Dec.{eqb, ltb}
 use lib.ListN.{length, getD, take}
@@ -12,10 +12,7 @@ use lib.Seq.{getD-take, take-take}
 use borrow.Author.Tests.{lt-ltb, le-ltb, eq-eqb, ne-eqb, ltb-true, ltb-false, eqb-true, eqb-false}
 use Rattle.words.specs.Lists.{equal}
 use Rattle.recipe.specs.Name.{Binding, variable, macro, Name, plainName, bindingKey, markName, bindName, giveBinding, same, toggle}
-use Rattle.recipe.specs.Tree.{Tree, empty, constant, name, pair, onNames, mark, bind}
-use Rattle.recipe.specs.Table.{byKind}
-use Rattle.recipe.specs.TreeLaws.{onNames-∘, onNames-cong}
-use Rattle.arena.specs.Arena.{wordAt, falling, referenceAt, bindingOf, giveKey, markLimit, marked, newest, byTag, markOn, joinOn, ownMarks, sameMarks, isOwn, rebound, binderOn, wrapStep, wrapFrom, wrapAt, numberAt, nodeName, nameAt, constantAt, treeStep, treeFrom, treeAt}
+use Rattle.arena.specs.Arena.{wordAt, falling, referenceAt, bindingOf, giveKey, markLimit, marked, newest, byTag, markOn, joinOn, ownMarks, sameMarks, isOwn, rebound, binderOn, wrapStep, wrapFrom, wrapAt}
 
 -- ---- tests
 

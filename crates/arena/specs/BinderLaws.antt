@@ -1,17 +1,17 @@
 -- Laws of a binder that is met by the name in hand, one for each way through the code.
-use mathlib.Core.Path.{_≡_, refl, sym, ap, ap₂, subst, _∙_}
-use mathlib.Core.Bool.{Bool, true, false, _&&_, cond}
-use mathlib.Core.List.{List, [], _∷_}
-use Prim.Native.Nat.{ℕ, zero, suc, _+_, _-_, _≤_, _<_}
+use mathlib.Core.Path.{_≡_, refl, sym, ap, ap₂, _∙_}
+use mathlib.Core.Bool.{Bool, true, false, _&&_}
+use mathlib.Core.List.{List, []}
+use Prim.Native.Nat.{ℕ, _+_, _-_, _≤_, _<_}
 use native.Mathlib.Omega.{arith}
 use lib.Dec.{eqb, ltb}
-use lib.ListN.{length, getD, take}
+use lib.ListN.{length, take}
 use borrow.Author.Tests.{eq-eqb, ne-eqb, lt-ltb, le-ltb}
 use Rattle.words.specs.Lists.{equal}
 use Rattle.recipe.specs.Name.{Name, bindingKey, plainName}
-use Rattle.arena.specs.Arena.{wordAt, referenceAt, markLimit, newest, giveKey, bindingOf, ownMarks, sameMarks, isOwn, rebound, wrapAt}
+use Rattle.arena.specs.Arena.{wordAt, referenceAt, markLimit, newest, giveKey, ownMarks, sameMarks, isOwn, rebound, wrapAt}
 use Rattle.arena.specs.ArenaLaws.{cases, take-less, bindingKey-of, equal-true, or-true}
-use Rattle.arena.specs.Marks.{marksIn, Descends, none, Hand, MarksAfter, Holds, NameHand, NameAfter, OwnMarks}
+use Rattle.arena.specs.Marks.{marksIn, none, Hand, MarksAfter, Holds, NameHand, NameAfter, OwnMarks}
 use Rattle.arena.specs.MarkLaws.{marksIn-length, marksIn-below}
 use Rattle.arena.specs.HandLaws.{count-most}
 

@@ -1,21 +1,19 @@
 -- Laws of new cells.
-use mathlib.Core.Path.{_≡_, refl, sym, ap, ap₂, subst, _∙_}
-use mathlib.Core.Bool.{Bool, true, false, cond}
-use mathlib.Core.List.{List, [], _∷_}
-use mathlib.Core.Option.{some}
-use Prim.Native.Nat.{ℕ, zero, suc, _+_, _-_, _≤_, _<_}
+use mathlib.Core.Path.{_≡_, refl, sym, ap, ap₂, _∙_}
+use mathlib.Core.List.{List, []}
+use Prim.Native.Nat.{ℕ, _+_, _-_, _≤_, _<_}
 use native.Mathlib.Omega.{arith}
-use lib.Dec.{eqb, ltb}
+use lib.Dec.{ltb}
 use lib.ListN.{length, getD, take, set, length-set}
 use lib.Seq.{getD-set-same, getD-set-other, take-set-le}
 use borrow.Author.Tests.{ltb-true, ltb-false}
-use Rattle.recipe.specs.Name.{Binding, Name, plainName, bindingKey, markName, bindName}
-use Rattle.recipe.specs.Tree.{Tree, empty, constant, name, pair, onNames, mark, bind}
+use Rattle.recipe.specs.Name.{Name, plainName, markName, bindName}
+use Rattle.recipe.specs.Tree.{empty, constant, name, pair, onNames, mark}
 use Rattle.recipe.specs.TreeLaws.{onNames-∘, onNames-cong}
-use Rattle.arena.specs.Arena.{wordAt, falling, referenceAt, markLimit, marked, newest, ownMarks, rebound, wrapAt, nodeName, nameAt, constantAt, treeAt}
+use Rattle.arena.specs.Arena.{wordAt, referenceAt, markLimit, marked, ownMarks, wrapAt, nodeName, nameAt, constantAt, treeAt}
 use Rattle.arena.specs.ArenaLaws.{cases, wordAt-in, wordAt-out, wordAt-below, falling-is, take-less, wrapAt-below, wrapAt-mark, wrapAt-join, wrapAt-binder, marked-is, Own, rebound-is}
 use Rattle.arena.specs.NodeLaws.{treeAt-wrap, treeAt-below, treeAt-empty, treeAt-name, treeAt-pair, treeAt-constant}
-use Rattle.arena.specs.Cells.{itemName, Room, Cell, Wrapped, Described, Bound, Binds, Grown}
+use Rattle.arena.specs.Cells.{itemName, Cell, Wrapped, Described, Bound, Grown}
 
 -- ---- three words at the top
 
@@ -201,10 +199,3 @@ module _ (items old new : List ℕ) (top r node : ℕ) (below : node ≤ top) (k
   pub tree-mark : (m parent : ℕ) → Wrapped (λ x. markName m (wrapAt old parent x)) 3 old new top r → treeAt items new node r ≡ mark m (treeAt items old node parent)
   unfolding mark
   tree-mark m parent c = tree-after (markName m) parent (c .means)
-
-  pub tree-join : (outer inner : ℕ) → Wrapped (λ x. wrapAt old outer (wrapAt old inner x)) 3 old new top r → treeAt items new node r ≡ onNames (wrapAt old outer) (treeAt items old node inner)
-  tree-join outer inner c = tree-after (wrapAt old outer) inner (c .means)
-
-  pub tree-bind : (own w key parent : ℕ) (b : Binding) → key ≡ bindingKey (some b) → Binds items own w key parent old new top r → treeAt items new node r ≡ bind (nameAt items old own w) b (treeAt items old node parent)
-  unfolding bind
-  tree-bind own w key parent b e c = tree-after (bindName (nameAt items old own w) b) parent (c .means b e)

@@ -4,10 +4,9 @@ use mathlib.Core.Bool.{Bool}
 use mathlib.Core.List.{List, []}
 use mathlib.Core.Option.{none, some}
 use Prim.Native.Nat.{ℕ, _+_, _^_, _≤_, _<_}
-use lib.Dec.{ltb}
 use lib.ListN.{length, take}
-use Rattle.recipe.specs.Name.{Binding, Name, bindingKey, markName, bindName, plainName}
-use Rattle.recipe.specs.Tree.{Tree, empty, constant, name, pair}
+use Rattle.recipe.specs.Name.{Binding, Name, bindingKey, bindName, plainName}
+use Rattle.recipe.specs.Tree.{Tree}
 use Rattle.arena.specs.Arena.{wordAt, wrapAt, newest, numberAt, nameAt, treeAt}
 
 -- room for a cell of n words: the budget of ground 9 gives it, and references fit a word

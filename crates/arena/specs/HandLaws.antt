@@ -1,18 +1,15 @@
 -- Laws of a name in hand, one for each way through the code that walks a wrap.
-use mathlib.Core.Path.{_≡_, refl, sym, ap, subst, _∙_}
-use mathlib.Core.Bool.{Bool, true, false, _&&_, cond}
-use mathlib.Core.List.{List, [], _∷_}
+use mathlib.Core.Path.{_≡_, refl, sym, ap, _∙_}
+use mathlib.Core.List.{List, []}
 use Prim.Native.Nat.{ℕ, zero, suc, _+_, _-_, _≤_, _<_}
 use native.Mathlib.Omega.{arith}
-use lib.Dec.{eqb, ltb}
-use lib.ListN.{length, getD, take}
-use borrow.Author.Tests.{lt-ltb, le-ltb, eq-eqb, ne-eqb}
-use Rattle.words.specs.Lists.{equal}
-use Rattle.recipe.specs.Name.{Name, bindingKey, toggle, markName, plainName}
-use Rattle.arena.specs.Arena.{wordAt, referenceAt, markLimit, marked, newest, giveKey, bindingOf, ownMarks, isOwn, rebound, wrapAt}
-use Rattle.arena.specs.ArenaLaws.{cases, take-less, referenceAt-falls, marked-is, marked-number, rebound-marks, rebound-number, wrapAt-none, wrapAt-mark, wrapAt-join, wrapAt-binder, wrapAt-other, wordAt-some, bindingKey-of}
-use Rattle.arena.specs.Marks.{marksIn, Descends, none, more, Toggled, Hand, MarksAfter, Holds, NameHand, NameAfter}
-use Rattle.arena.specs.MarkLaws.{marksIn-length, marksIn-below, descends-length, descends-toggle}
+use lib.ListN.{length}
+use borrow.Author.Tests.{le-ltb}
+use Rattle.recipe.specs.Name.{Name, toggle, markName}
+use Rattle.arena.specs.Arena.{wordAt, referenceAt, markLimit, marked, rebound, wrapAt}
+use Rattle.arena.specs.ArenaLaws.{referenceAt-falls, marked-is, rebound-marks, wrapAt-none, wrapAt-mark, wrapAt-join, wrapAt-binder, wrapAt-other, wordAt-some}
+use Rattle.arena.specs.Marks.{marksIn, Descends, Toggled, Hand, MarksAfter}
+use Rattle.arena.specs.MarkLaws.{marksIn-length, descends-length, descends-toggle}
 
 -- ---- room
 

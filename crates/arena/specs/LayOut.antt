@@ -1,17 +1,16 @@
 -- The first arena: a node for each item, item i's with the reference 3 × (N - i), so that the nodes' references fall where
 -- the items' rise. The root means the tree that the item table holds.
-use mathlib.Core.Path.{_≡_, refl, sym, ap, ap₂, subst, _∙_}
-use mathlib.Core.Bool.{Bool, true, false, _&&_, _||_, cond}
+use mathlib.Core.Path.{_≡_, refl, sym, ap, ap₂, _∙_}
+use mathlib.Core.Bool.{Bool, true, false, _&&_, _||_}
 use mathlib.Core.List.{List, [], _∷_}
-use Prim.Native.Nat.{ℕ, zero, suc, _+_, _*_, _-_, _/_, _≤_, _<_}
+use Prim.Native.Nat.{ℕ, zero, suc, _+_, _*_, _-_, _≤_, _<_}
 use native.Mathlib.Omega.{arith}
 use lib.Dec.{eqb, ltb, leb}
 use lib.ListN.{length, getD, take}
-use borrow.Author.Tests.{eqb-true, eqb-false, eq-eqb, ne-eqb, leb-true, le-ltb}
+use borrow.Author.Tests.{eqb-true, eqb-false, ne-eqb, leb-true, le-ltb}
 use Rattle.words.specs.Lists.{within, all}
 use Rattle.words.specs.Limits.{itemsMost, itemsLeast}
-use Rattle.datum.specs.Constant.{Constant}
-use Rattle.recipe.specs.Name.{Name, plainName}
+use Rattle.recipe.specs.Name.{plainName}
 use Rattle.recipe.specs.Tree.{Tree, empty, constant, name, pair}
 use Rattle.recipe.specs.Table.{Item, items, byKind, constantOf, isItem, isPairItem, kindAt, isLayout, trees, treeOf, itemCount}
 use Rattle.arena.specs.Arena.{wrapAt, treeAt, numberAt}

@@ -1,16 +1,16 @@
 -- Laws of marks in hand, and of descending lists.
-use mathlib.Core.Path.{_≡_, refl, sym, ap, ap₂, subst, _∙_}
-use mathlib.Core.Bool.{Bool, true, false, _&&_, cond}
+use mathlib.Core.Path.{_≡_, refl, sym, ap, ap₂, _∙_}
+use mathlib.Core.Bool.{true, false}
 use mathlib.Core.List.{List, [], _∷_}
 use Prim.Native.Nat.{ℕ, zero, suc, _+_, _-_, _≤_, _<_}
 use native.Mathlib.Omega.{arith}
 use native.Mathlib.Numerals.{add-one}
 use lib.Dec.{eqb, ltb}
 use lib.ListN.{length, getD, take, set}
-use lib.Seq.{getD-take, take-take, getD-set-same, take-set-le}
-use borrow.Author.Tests.{lt-ltb, le-ltb, eq-eqb, ne-eqb, ltb-true, ltb-false, eqb-true, eqb-false}
+use lib.Seq.{getD-take, getD-set-same, take-set-le}
+use borrow.Author.Tests.{lt-ltb, le-ltb, eq-eqb, ne-eqb, ltb-true, ltb-false, eqb-false}
 use Rattle.words.specs.Lists.{equal}
-use Rattle.recipe.specs.Name.{Name, toggle}
+use Rattle.recipe.specs.Name.{toggle}
 use Rattle.arena.specs.Arena.{newest}
 use Rattle.arena.specs.ArenaLaws.{cases, take-less}
 use Rattle.arena.specs.Marks.{marksIn, Descends, none, more, Toggled}

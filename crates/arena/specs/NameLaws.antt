@@ -1,23 +1,21 @@
 -- Laws of names in the arena, in the code's shape.
-use mathlib.Core.Path.{_≡_, refl, sym, ap, ap₂, subst, _∙_}
-use mathlib.Core.Bool.{Bool, true, false, _&&_, _||_, cond}
-use mathlib.Core.List.{List, [], _∷_}
+use mathlib.Core.Path.{_≡_, refl, sym, ap, _∙_}
+use mathlib.Core.Bool.{Bool, true, false, _&&_}
+use mathlib.Core.List.{List, []}
 use mathlib.Core.Option.{Option, none, some}
-use Prim.Native.Nat.{ℕ, zero, suc, _+_, _*_, _-_, _/_, _%_, _≤_, _<_}
+use Prim.Native.Nat.{ℕ, _+_, _-_, _/_, _%_, _≤_, _<_}
 use native.Mathlib.Omega.{arith}
-use lib.Dec.{eqb, ltb}
-use lib.ListN.{length, getD, take, List·getD-eq-default}
-use borrow.Author.Tests.{lt-ltb, le-ltb, eq-eqb, ne-eqb, ltb-true, ltb-false}
+use lib.Dec.{eqb}
+use lib.ListN.{length, getD, List·getD-eq-default}
+use borrow.Author.Tests.{lt-ltb, le-ltb, eq-eqb, ne-eqb}
 use Rattle.words.specs.Lists.{equal}
-use Rattle.words.specs.Limits.{baseNameCount}
-use Rattle.recipe.specs.Name.{Binding, variable, macro, Name, plainName, bindingKey, isBound, same, bindName}
-use Rattle.expansion.specs.Lookup.{Found, bound, form, operation, nothing, formOf, placeFrom, unboundMeaning, orUnbound, lookup, agree}
-use Rattle.arena.specs.Arena.{wordAt, referenceAt, markLimit, newest, bindingOf, wrapAt, numberAt, nodeName, nameAt}
-use Rattle.arena.specs.ArenaLaws.{cases, bindingOf-key, wrapAt-marks, wrapAt-number}
-use Rattle.arena.specs.Marks.{marksIn, Descends, Holds, NameHand, NameAfter}
+use Rattle.recipe.specs.Name.{Binding, variable, macro, Name, plainName, bindingKey, isBound, same}
+use Rattle.expansion.specs.Lookup.{orUnbound, agree}
+use Rattle.arena.specs.Arena.{referenceAt, markLimit, newest, bindingOf, wrapAt, nodeName, nameAt}
+use Rattle.arena.specs.ArenaLaws.{bindingOf-key, wrapAt-marks, wrapAt-number}
+use Rattle.arena.specs.Marks.{marksIn, Holds, NameHand, NameAfter}
 use Rattle.arena.specs.Marks as Marks
 use Rattle.arena.specs.MarkLaws.{marksIn-length, marksIn-below}
-use Rattle.arena.specs.HandLaws.{count-most}
 use Rattle.arena.specs.BinderLaws.{equal-lengths}
 use Rattle.arena.specs.Cells.{Described, Bound, Binds}
 use Rattle.arena.specs.Names.{numberOf, Resolved, meansOf, operationAt, unboundIn, lookupIn, Agrees}
@@ -147,12 +145,6 @@ module _ (operations : List ℕ) (x : Name) (b : ℕ) (b-is : b ≡ bindingKey (
   pub lookup-macro : (b ≡ 0 → ⊥) → (b % 2 ≡ 1 → ⊥) → meansOf (Macro (b / 2 - 1)) ≡ lookupIn operations x
   unfolding lookupIn orUnbound bindingOf meansOf
   lookup-macro z e = rw (binding-is, ne-eqb _ _ z, ne-eqb _ _ e)
-
--- the table is the definition's list, by number
-pub lookupIn-is : (table operations : List ℕ) → ((n : ℕ) → baseNameCount ≤ n → operationAt (getD table n 0) ≡ placeFrom 0 n operations) → (x : Name) → lookupIn table x ≡ lookup operations x
-unfolding lookupIn lookup unboundIn unboundMeaning
-lookupIn-is table operations h x =
-    ap (orUnbound (x .binding)) (cases (ltb (x .number) baseNameCount) (λ t. rw t) (λ t. rw t (h (x .number) (ltb-false (x .number) baseNameCount t))))
 
 -- ---- literals
 

@@ -1,18 +1,17 @@
 -- Laws of nodes: what a tree in the arena means depends on the words below it alone; what each kind of node means; and that
 -- waiting on a tree is carrying through it.
-use mathlib.Core.Path.{_≡_, refl, sym, ap, ap₂, subst, _∙_}
-use mathlib.Core.Bool.{Bool, true, false, cond}
-use mathlib.Core.List.{List, [], _∷_}
-use Prim.Native.Nat.{ℕ, zero, suc, _+_, _≤_, _<_}
+use mathlib.Core.Path.{_≡_, refl, sym, ap, ap₂, _∙_}
+use mathlib.Core.List.{List, []}
+use Prim.Native.Nat.{ℕ, zero, suc, _≤_, _<_}
 use native.Mathlib.Omega.{arith}
-use lib.Dec.{eqb, ltb}
-use lib.ListN.{length, take}
+use lib.Dec.{eqb}
+use lib.ListN.{take}
 use borrow.Author.Tests.{ne-eqb}
 use Rattle.recipe.specs.Name.{Name}
 use Rattle.recipe.specs.Tree.{Tree, empty, constant, name, pair, onNames}
 use Rattle.recipe.specs.Table.{byKind}
-use Rattle.arena.specs.Arena.{wordAt, referenceAt, marked, markLimit, wrapAt, nodeName, nameAt, constantAt, treeStep, treeFrom, treeAt}
-use Rattle.arena.specs.ArenaLaws.{cases, wordAt-some, wordAt-out, wordAt-below, referenceAt-below, referenceAt-falls, take-less, wrapAt-below, wrapAt-none}
+use Rattle.arena.specs.Arena.{wordAt, referenceAt, wrapAt, nodeName, nameAt, constantAt, treeStep, treeFrom, treeAt}
+use Rattle.arena.specs.ArenaLaws.{cases, wordAt-below, referenceAt-below, referenceAt-falls, take-less, wrapAt-below, wrapAt-none}
 
 -- ---- what a node means depends on the words below it alone
 

@@ -1,9 +1,9 @@
 -- What opening a node tells, under whatever wrap waits on it, and laws of it in the code's shape.
-use mathlib.Core.Path.{_≡_, refl, sym, ap, ap₂, _∙_}
+use mathlib.Core.Path.{_≡_, sym, _∙_}
 use mathlib.Core.List.{List}
 use Prim.Native.Nat.{ℕ, _<_}
 use native.Mathlib.Omega.{arith}
-use Rattle.recipe.specs.Tree.{Tree, empty, constant, name, pair}
+use Rattle.recipe.specs.Tree.{empty, constant, name, pair}
 use Rattle.arena.specs.Arena.{wordAt, referenceAt, nameAt, constantAt, treeAt}
 use Rattle.arena.specs.ArenaLaws.{wordAt-some, referenceAt-falls}
 use Rattle.arena.specs.NodeLaws.{treeAt-empty, treeAt-name, treeAt-pair, treeAt-constant}

@@ -1,16 +1,14 @@
 -- Laws of the walk of a wrap by the name in hand, one for each way through the code.
-use mathlib.Core.Path.{_≡_, refl, sym, ap, subst, _∙_}
-use mathlib.Core.Bool.{Bool, true, false, cond}
-use mathlib.Core.List.{List, [], _∷_}
-use mathlib.Core.Option.{none}
-use Prim.Native.Nat.{ℕ, zero, suc, _+_, _≤_, _<_}
+use mathlib.Core.Path.{_≡_, refl, ap, _∙_}
+use mathlib.Core.List.{List, []}
+use Prim.Native.Nat.{ℕ}
 use native.Mathlib.Omega.{arith}
 use lib.Dec.{ltb}
-use lib.ListN.{length, take}
+use lib.ListN.{length}
 use Rattle.recipe.specs.Name.{Name, bindingKey, markName}
 use Rattle.arena.specs.Arena.{wordAt, referenceAt, markLimit, marked, rebound, wrapAt}
 use Rattle.arena.specs.ArenaLaws.{cases, marked-number}
-use Rattle.arena.specs.Marks.{marksIn, Descends, Hand, MarksAfter, Holds, NameHand, NameAfter}
+use Rattle.arena.specs.Marks.{Hand, MarksAfter, NameHand, NameAfter}
 use Rattle.arena.specs.HandLaws.{wrap-mark, wrap-join, wrap-binder}
 
 -- ---- room

@@ -57,12 +57,6 @@ word-found f [] h = absurd (omega arith)
 word-found f (w ∷ []) h = absurd (omega arith)
 word-found f (w ∷ a ∷ ws) h = refl
 
-pub word-missing : (f : ℕ → Node) (ws : List ℕ) → length ws < 2 → withWord f (drop 1 ws) ≡ missing
-unfolding withWord
-word-missing f [] h = refl
-word-missing f (w ∷ []) h = refl
-word-missing f (w ∷ a ∷ ws) h = absurd (omega arith)
-
 pub two-found : (f : ℕ → ℕ → Node) (ws : List ℕ) → 3 ≤ length ws → withTwo f (drop 1 ws) ≡ got (f (getD ws 1 0) (getD ws 2 0)) (drop 3 ws)
 unfolding withTwo
 two-found f [] h = absurd (omega arith)

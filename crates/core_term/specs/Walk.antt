@@ -60,12 +60,6 @@ module _ (operations : ℕ) (nameGood : ℕ → Bool) (base : ℕ) (q : Bool) (e
       record { marks = m; clear = rw (f .then, u) (marked-clear base b (binds (f .it)) e k); going = at-same (f .it) inner flags within size n (f .quotes) u (f .then) (f .own) (f .rest) g }
 
   module _ (within : ℕ) (inner : Bool) (flags : List ℕ) (c at left : ℕ) (w : Walking within inner flags c at left) where
-    pub walk-inside : at ≤ length ws
-    walk-inside = w .going .inside
-
-    pub walk-begun : 1 ≤ at
-    walk-begun = w .going .begun
-
     pub walk-length : length flags ≡ length e
     walk-length = ap length (w .marks) ∙ marked-length base b (within - b) 1 e
 

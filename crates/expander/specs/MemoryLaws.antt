@@ -70,12 +70,6 @@ macros-kept items r q a b m h e arena same =
       plain = rw (e, same) (rw (macrosAt-settled items (a .work) (b .work) (a .macros) (a .macros) (r .top) arena (r .macros) refl (m .below)) (m .plain));
     }
 
-pub state-kept : (items : List ℕ) (r q : Reached) (a b : Tables) → Macros items r a → q .steps ≡ r .steps → q .sum ≡ r .sum → q .variables ≡ r .variables → q .macros ≡ r .macros
-    → take (r .top) (b .work) ≡ take (r .top) (a .work) → b .macros ≡ a .macros → stateAt items b q ≡ stateAt items a r
-unfolding stateAt
-state-kept items r q a b m e1 e2 e3 e4 arena same =
-    rw (e1, e2, e3, e4, same, macrosAt-settled items (a .work) (b .work) (a .macros) (a .macros) (r .top) arena (r .macros) refl (m .below))
-
 -- ---- one part of an expansion after another
 
 module _ (items : List ℕ) (fuel n m l : ℕ) (r q p : Reached) (a b d : Tables) where

@@ -12,7 +12,7 @@ use Rattle.words.specs.Limits.{namesMost, itemsMost, fuelMost, macrosMost}
 use Rattle.words.specs.Lists.{all}
 use Rattle.words.specs.Each.{noneOf, each-map, true-each}
 use Rattle.recipe.specs.Name.{Name}
-use Rattle.recipe.specs.Tree.{Tree, size, element}
+use Rattle.recipe.specs.Tree.{size, element}
 use Rattle.recipe.specs.TreeLaws.{element-size}
 use Rattle.recipe.specs.Table.{itemCount, treeOf}
 use Rattle.recipe.specs.TableLaws.{isLayout-parts}

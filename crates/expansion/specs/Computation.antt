@@ -1,7 +1,7 @@
 -- A run on its way: its state, what it shows (the events that demand 3 speaks of), and how a computation ends.
 -- Events are an output beside the answer, and never an input.
 use mathlib.Core.Bool.{Bool, true, false}
-use mathlib.Core.List.{List, [], _∷_, _++_}
+use mathlib.Core.List.{List, [], _++_}
 use mathlib.Core.Option.{Option, none, some}
 use Prim.Native.Nat.{ℕ, suc, _+_}
 use Rattle.recipe.specs.Name.{Binding, Name}

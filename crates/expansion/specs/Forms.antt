@@ -10,11 +10,11 @@ use Rattle.datum.specs.Datum.{constantD}
 use Rattle.recipe.specs.Name.{Binding, variable, macro, Name, distinct}
 use Rattle.recipe.specs.Tree.{Tree, empty, constant, name, pair, size, names, strip, onName, isOrdinaryName, isList, isListOf, elements, element, tail, mark, produce, bindAll}
 use Rattle.core_term.specs.Term.{Term, variableC, operationC, datumC, ifC, lambdaC, applicationC, Terms, noneC, moreC}
-use Rattle.expansion.specs.Lookup.{Form, quote, if, lambda, let-syntax, letrec-syntax, auxiliary, Found, bound, form, operation, nothing, lookup}
+use Rattle.expansion.specs.Lookup.{quote, if, lambda, let-syntax, letrec-syntax, auxiliary, Found, bound, form, operation, nothing, lookup}
 use Rattle.expansion.specs.Rules.{Rule, rulesOf}
 use Rattle.expansion.specs.Match.{firstFit}
 use Rattle.expansion.specs.Transcribe.{equalLengths, transcribe}
-use Rattle.expansion.specs.Computation.{State, Events, looked, quoted, reached, binds, Out, starved, M, _>>=_, _>>_, give, refuse, show, test, orRefuse, get, addVariables, addMacros, addStep}
+use Rattle.expansion.specs.Computation.{Events, looked, quoted, reached, binds, starved, M, _>>=_, _>>_, give, refuse, show, test, orRefuse, get, addVariables, addMacros, addStep}
 
 -- ---- shapes (ground 13) and what a form binds
 

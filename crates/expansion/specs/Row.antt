@@ -1,5 +1,5 @@
 -- A recipe with a known expansion, as a row of a table: its text, the fuel, and what its run gives in the filing program's tables.
-use mathlib.Core.List.{List, [], _∷_}
+use mathlib.Core.List.{List, []}
 use Prim.Native.Nat.{ℕ}
 use Prim.Native.String.{String}
 use Rattle.words.specs.Limits.{filingFuel, filingWork, filingCore}

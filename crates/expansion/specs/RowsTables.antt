@@ -6,7 +6,7 @@ use Prim.Native.Nat.{ℕ, zero, suc}
 use Rattle.recipe.specs.Name.{plainName}
 use Rattle.recipe.specs.Tree.{Tree, empty, name, pair}
 use Rattle.recipe.specs.Rows.{X1, X2, X3}
-use Rattle.expansion.specs.Run.{Outcome, accepted, turnedBack, Run, areOperations}
+use Rattle.expansion.specs.Run.{Outcome, accepted, turnedBack, areOperations}
 use Rattle.expansion.specs.Computed.{computed}
 
 pub record Row : Type 0 where

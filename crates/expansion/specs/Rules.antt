@@ -1,9 +1,9 @@
 -- Rules (document 01, 'Forms'): read once, when their form is reached, into patterns and templates; none is ground 15.
 -- What matching and transcribing need is settled here, so that they test nothing more.
-use mathlib.Core.Bool.{Bool, true, false, not, _&&_, _||_, cond}
+use mathlib.Core.Bool.{Bool, false, not, _&&_, _||_, cond}
 use mathlib.Core.List.{List, [], _∷_, _++_, map}
 use mathlib.Core.Option.{Option, none, some}
-use Prim.Native.Nat.{ℕ, zero, suc, _+_, _-_}
+use Prim.Native.Nat.{ℕ, suc, _+_, _-_}
 use lib.Dec.{eqb, ltb, leb}
 use lib.ListN.{length}
 use Rattle.words.specs.Limits.{literalsMost, rulesMost, patternVariablesMost, depthMost}

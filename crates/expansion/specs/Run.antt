@@ -1,6 +1,6 @@
 -- A run (document 01, 'Runs, copies and private names'): what the definition gives for one item table, fuel and lengths of lent tables.
 use mathlib.Core.Bool.{Bool, true, false, _&&_}
-use mathlib.Core.List.{List, [], _∷_, map}
+use mathlib.Core.List.{List, [], map}
 use Prim.Native.Nat.{ℕ, _+_, _*_}
 use lib.Dec.{ltb, leb}
 use lib.ListN.{length}

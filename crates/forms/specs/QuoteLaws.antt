@@ -13,7 +13,7 @@ use Rattle.datum.specs.Constant.{Constant, isConstant, constantWords}
 use Rattle.datum.specs.Datum as D
 use Rattle.recipe.specs.Name.{Name}
 use Rattle.recipe.specs.Tree.{Tree, empty, constant, name, pair, size, isList, elements, strip, stripTail, onNames}
-use Rattle.recipe.specs.Tidy.{Tidy, tidyConstant, tidyName, tidyPair, tidy-weaken, onNames-isList}
+use Rattle.recipe.specs.Tidy.{tidyConstant, tidyName, tidyPair, onNames-isList}
 use Rattle.core_term.specs.Node.{nodeWords}
 use Rattle.core_term.specs.Words.{datumWords, dataWords}
 use Rattle.arena.specs.Arena.{wordAt, referenceAt, wrapAt, constantAt, treeAt}
@@ -58,12 +58,6 @@ written-then at d c b e g n r l p q =
 pub written-two : (d : List ℕ) (at a b : ℕ) → at + 2 ≤ length d → Written (a ∷ b ∷ []) d (set (set d at a) (at + 1) b) at (at + 2)
 written-two d at a b h = record { end = refl; words = rw (add-one at) (sets-eq (a ∷ b ∷ []) d at h) }
 
--- what stood before is kept
-pub written-kept : (ws d e : List ℕ) (at r : ℕ) → r ≤ length d → Written ws d e at r → take at e ≡ take at d
-written-kept ws d e at r l p =
-    let k : at ≤ length d = omega (arith, p .end) in
-    ap (take at) (p .words ∙ append-assoc (take at d) ws (drop r d)) ∙ take-at (take at d) (ws ++ drop r d) at (length-take-le at d k)
-
 pub written-as : (ws vs d e : List ℕ) (at r : ℕ) → ws ≡ vs → Written ws d e at r → Written vs d e at r
 written-as ws vs d e at r h w = subst (λ (l : List ℕ). Written l d e at r) h w
 
@@ -106,10 +100,6 @@ quotable-onNames f (pair h t) q =
 -- whatever waits on it
 pub quotable-any : (items work : List ℕ) (node w : ℕ) → Quotable (treeAt items work node w) → Quotable (treeAt items work node 0)
 quotable-any items work node w q = quotable-onNames (wrapAt work w) (treeAt items work node 0) (subst Quotable (treeAt-wrap items work node w) q)
-
--- a run's trees may be quoted
-pub quotable : {N : Name → Type 0} {t : Tree} → Tidy N (λ a. isConstant a ≡ true) t → Quotable t
-quotable t = tidy-weaken (λ x n. tt) t
 
 kind-most : (k : ℕ) (a b : Bool) → getD (false ∷ a ∷ b ∷ []) k false ≡ true → k ≤ 2
 kind-most zero a b h = omega arith
@@ -250,6 +240,3 @@ mutual
   elements-size (constant a) = omega arith
   elements-size (name x) = omega arith
   elements-size (pair h t) = simp length-append (omega (arith, quoted-size h, elements-size t))
-
-pub quoted-most : (items work : List ℕ) (node w : ℕ) → length (quotedAt items work node) ≤ 2 * size (treeAt items work node w)
-quoted-most items work node w = rw (sym (quoted-any items work node w)) (quoted-size (treeAt items work node w))

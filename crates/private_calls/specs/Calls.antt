@@ -6,7 +6,7 @@ use mathlib.Core.List.{List, []}
 use Prim.Native.Nat.{ℕ}
 use lib.ListN.{length}
 use Rattle.words.specs.Lists.{all}
-use Rattle.expansion.specs.Run.{Run, run}
+use Rattle.expansion.specs.Run.{run}
 use Rattle.private_names.specs.Statement.{Choice, renamed, hypotheses, Answer, answerOf, PrivateNames}
 use Rattle.private_names_proof.specs.Claim.{private-names}
 use Rattle.expander.specs.declared.Expansion.{Expansion}

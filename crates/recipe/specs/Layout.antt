@@ -13,7 +13,7 @@ use Rattle.words.specs.TestLaws.{and-left, and-right, within-least, within-most
 use Rattle.datum.specs.Constant.{isConstant}
 use Rattle.recipe.specs.Name.{plainName}
 use Rattle.recipe.specs.Tree.{empty, constant, name, pair, isList, isListOf, elements, element}
-use Rattle.recipe.specs.Table.{items, byKind, constantOf, kindAt, references, isPairItem, isItem, isReferredOnce, treeOf, itemCount, isLayout}
+use Rattle.recipe.specs.Table.{items, byKind, constantOf, kindAt, isPairItem, isItem, treeOf, itemCount, isLayout}
 use Rattle.recipe.specs.ItemLaws.{itemAt, items-drop}
 use Rattle.recipe.specs.TableLaws.{isLayout-parts}
 use Rattle.recipe.specs.TreeFrom.{treeFrom, headAt, tailAt, from-empty, from-name, from-pair, from-constant, from-isList}

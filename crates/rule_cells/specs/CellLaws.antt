@@ -1,18 +1,16 @@
 -- Laws of rule cells: what a pattern, a template or a list of rules means depends on the words below its reference alone, and
 -- what each tag means.
 use mathlib.Core.Path.{_≡_, refl, sym, ap, ap₂, _∙_}
-use mathlib.Core.Bool.{Bool, true, false, cond}
+use mathlib.Core.Bool.{cond}
 use mathlib.Core.List.{List, [], _∷_}
-use Prim.Native.Nat.{ℕ, zero, suc, _+_, _≤_, _<_}
+use Prim.Native.Nat.{ℕ, zero, suc, _≤_, _<_}
 use native.Mathlib.Omega.{arith}
 use lib.Dec.{eqb}
 use lib.ListN.{take}
 use borrow.Author.Tests.{ne-eqb}
-use Rattle.datum.specs.Constant.{Constant}
-use Rattle.recipe.specs.Name.{Name}
 use Rattle.expansion.specs.Rules.{Pattern, variableP, literalP, wildcardP, constantP, emptyP, pairP, ellipsisP, Template, variableT, insertT, constantT, emptyT, pairT, ellipsisT, Rule}
-use Rattle.arena.specs.Arena.{wordAt, falling, referenceAt, bindingOf, wrapAt, wrapFrom, nodeName, nameAt}
-use Rattle.arena.specs.ArenaLaws.{cases, wordAt-below, referenceAt-below, referenceAt-falls, take-less, wrapAt-below}
+use Rattle.arena.specs.Arena.{wordAt, falling, referenceAt, wrapAt, wrapFrom, nodeName, nameAt}
+use Rattle.arena.specs.ArenaLaws.{wordAt-below, referenceAt-below, referenceAt-falls, take-less, wrapAt-below}
 use Rattle.arena.specs.NodeLaws.{nameAt-agree}
 use Rattle.rule_cells.specs.Cells.{constantBefore, literalAt, patternStep, patternFrom, patternAt, templateStep, templateFrom, templateAt, ruleAt, rulesFrom, rulesAt}
 

@@ -1,6 +1,6 @@
 -- Parsed rules in the arena: patterns, templates and lists of rules, each a cell referred to by its end, its last word a tag.
 -- Every function is total: what a reference means depends on the words below it alone, and a tag that is none means the empty list.
-use mathlib.Core.Bool.{Bool, cond}
+use mathlib.Core.Bool.{cond}
 use mathlib.Core.List.{List, [], _∷_}
 use Prim.Native.Nat.{ℕ, zero, suc}
 use lib.Dec.{eqb}

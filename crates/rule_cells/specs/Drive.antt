@@ -2,12 +2,12 @@
 use mathlib.Core.Path.{_≡_, refl, sym, ap, _∙_}
 use mathlib.Core.Bool.{Bool, true, false, not, _||_, cond}
 use mathlib.Core.List.{List, [], _∷_, _++_}
-use Prim.Native.Nat.{ℕ, zero, suc, _+_, _-_, _≤_, _<_}
+use Prim.Native.Nat.{ℕ, suc, _+_, _-_, _≤_, _<_}
 use native.Mathlib.Omega.{arith}
 use lib.Dec.{eqb, ltb}
-use lib.ListN.{length, length-append}
+use lib.ListN.{length}
 use borrow.Author.Tests.{lt-ltb, ne-eqb, eqb-true, eqb-false}
-use Rattle.expansion.specs.Rules.{Template, variableT, insertT, constantT, emptyT, pairT, ellipsisT, drivers, depthFits}
+use Rattle.expansion.specs.Rules.{Template, variableT, emptyT, pairT, ellipsisT, drivers, depthFits}
 use Rattle.arena.specs.Arena.{wordAt, referenceAt}
 use Rattle.arena.specs.ArenaLaws.{cases, wordAt-some, referenceAt-falls}
 use Rattle.rule_cells.specs.Cells.{templateAt}

@@ -1,22 +1,19 @@
 -- Laws of gathering a pattern's variables.
-use mathlib.Core.Path.{_≡_, refl, sym, ap, ap₂, subst, _∙_}
-use mathlib.Core.Bool.{Bool, true, false, not, _&&_, _||_, cond}
+use mathlib.Core.Path.{_≡_, refl, sym, ap, subst, _∙_}
+use mathlib.Core.Bool.{true, false, cond}
 use mathlib.Core.List.{List, [], _∷_, _++_, append-assoc, append-nil}
-use Prim.Native.Nat.{ℕ, zero, suc, _+_, _*_, _≤_, _<_}
+use Prim.Native.Nat.{ℕ, suc, _+_, _≤_}
 use native.Mathlib.Omega.{arith}
-use lib.Dec.{eqb}
 use borrow.Author.Tests.{ne-eqb}
 use Rattle.words.specs.Lists.{any}
 use Rattle.recipe.specs.Name.{Name, same, isEllipsis, isWildcard}
-use Rattle.recipe.specs.Tree.{Tree, empty, constant, name, pair, onName, names}
+use Rattle.recipe.specs.Tree.{name, onName}
 use Rattle.expansion.specs.Rules.{areVariables, dotsNext, depthBefore, isVariable, variables}
 use Rattle.arena.specs.Arena.{wordAt, referenceAt, nameAt, treeAt}
 use Rattle.arena.specs.ArenaLaws.{cases}
 use Rattle.arena.specs.NodeLaws.{treeAt-name, treeAt-pair}
-use Rattle.arena.specs.Names.{numberOf}
-use Rattle.arena.specs.NameLaws.{nameAt-number}
 use Rattle.arena.specs.ListLaws.{tree-cases, no-name, pair-falls}
-use Rattle.rule_cells.specs.Variables.{leafCount, variablesFrom, Held, Under, Stored, Gathered, Deeper}
+use Rattle.rule_cells.specs.Variables.{leafCount, variablesFrom, Held, Stored, Gathered, Deeper}
 use Rattle.rule_cells.specs.declared.variables.Kept.{Kept}
 use Rattle.rule_cells.specs.declared.variables.Kept.the-variants.{Count, Bad}
 

@@ -1,13 +1,13 @@
 -- Laws of new rule cells.
-use mathlib.Core.Path.{_≡_, refl, sym, ap, ap₂, _∙_}
+use mathlib.Core.Path.{_≡_, refl, ap, ap₂, _∙_}
 use mathlib.Core.List.{List, [], _∷_}
-use Prim.Native.Nat.{ℕ, zero, suc, _+_, _-_, _≤_, _<_}
+use Prim.Native.Nat.{ℕ, _+_, _-_, _≤_, _<_}
 use native.Mathlib.Omega.{arith}
 use lib.ListN.{length, getD, take, set, length-set}
 use lib.Seq.{getD-set-same, getD-set-other, take-set-le}
-use Rattle.recipe.specs.Name.{Name, bindingKey}
-use Rattle.expansion.specs.Rules.{Pattern, variableP, literalP, wildcardP, constantP, emptyP, pairP, ellipsisP, Template, variableT, insertT, constantT, emptyT, pairT, ellipsisT, Rule}
-use Rattle.arena.specs.Arena.{wordAt, referenceAt, bindingOf, nameAt}
+use Rattle.recipe.specs.Name.{bindingKey}
+use Rattle.expansion.specs.Rules.{variableP, literalP, wildcardP, constantP, pairP, ellipsisP, variableT, insertT, constantT, pairT, ellipsisT}
+use Rattle.arena.specs.Arena.{wordAt, referenceAt, nameAt}
 use Rattle.arena.specs.ArenaLaws.{wordAt-in, take-less, bindingOf-key}
 use Rattle.arena.specs.CellLaws.{reference-is}
 use Rattle.rule_cells.specs.Cells.{constantBefore, literalAt, patternAt, templateAt, ruleAt, rulesAt}

@@ -1,10 +1,10 @@
 -- Laws of parsing that patterns and templates share: what is asked of the parts, and what grows.
-use mathlib.Core.Path.{_≡_, refl, sym, ap, subst, _∙_}
+use mathlib.Core.Path.{_≡_, refl, ap, _∙_}
 use mathlib.Core.List.{List}
 use Prim.Native.Nat.{ℕ, suc, _+_, _*_, _≤_, _<_}
 use native.Mathlib.Omega.{arith}
 use lib.ListN.{length, take}
-use Rattle.recipe.specs.Tree.{Tree, empty, constant, name, pair, size}
+use Rattle.recipe.specs.Tree.{Tree, pair, size}
 use Rattle.recipe.specs.TreeLaws.{size-positive}
 use Rattle.arena.specs.Arena.{wordAt, referenceAt, treeAt}
 use Rattle.arena.specs.ArenaLaws.{take-less}
@@ -26,11 +26,6 @@ grows-leaf t old new top r e kept = record { at-most = omega arith; up = omega a
 pub grows-over : (t h : Tree) (old mid new : List ℕ) (top a upper r : ℕ) → Grows h old mid top a upper → size h < size t → r ≡ upper + 5 → take upper new ≡ take upper mid → Grows t old new top r r
 grows-over t h old mid new top a upper r g l e kept =
     record { at-most = omega arith; up = omega (arith, g .up); words = omega (arith, g .words); kept = take-less new mid top upper (g .up) kept ∙ g .kept }
-
--- two parts, one above the other
-pub grows-both : (t h s : Tree) (old mid new : List ℕ) (top a upper b higher : ℕ) → Grows h old mid top a upper → Grows s mid new upper b higher → size h + size s ≤ size t → Grows t old new top b higher
-grows-both t h s old mid new top a upper b higher g k l =
-    record { at-most = k .at-most; up = omega (arith, g .up, k .up); words = omega (arith, g .words, k .words); kept = take-less new mid top upper (g .up) (k .kept) ∙ g .kept }
 
 -- a refusal after the first part
 pub kept-both : (h : Tree) (old mid new : List ℕ) (top a upper : ℕ) → Grows h old mid top a upper → take upper new ≡ take upper mid → take top new ≡ take top old

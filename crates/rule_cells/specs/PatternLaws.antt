@@ -1,12 +1,11 @@
 -- Laws of parsing a pattern, one for each way through the code.
 use mathlib.Core.Path.{_≡_, refl, sym, ap, ap₂, subst, _∙_}
-use mathlib.Core.Bool.{Bool, true, false, not, _&&_, cond}
-use mathlib.Core.List.{List, [], _∷_, _++_}
-use mathlib.Core.Option.{Option, none, some}
-use Prim.Native.Nat.{ℕ, zero, suc, _+_, _*_, _^_, _≤_, _<_}
+use mathlib.Core.Bool.{true, false}
+use mathlib.Core.List.{List, []}
+use mathlib.Core.Option.{none, some}
+use Prim.Native.Nat.{ℕ, suc, _+_, _^_, _≤_, _<_}
 use native.Mathlib.Omega.{arith}
-use lib.Dec.{eqb}
-use lib.ListN.{length, take, length-append}
+use lib.ListN.{length, length-append}
 use borrow.Author.Tests.{ne-eqb, eqb-true}
 use Rattle.words.specs.Lists.{any}
 use Rattle.words.specs.Options.{guard, mapSome, mapBoth}
@@ -15,16 +14,16 @@ use Rattle.recipe.specs.Name.{Name, same, isEllipsis, isWildcard, bindingKey}
 use Rattle.recipe.specs.Tree.{Tree, empty, constant, name, pair, size, names, onEmpty, onName, onPair, isList, isListOf, elements, tail}
 use Rattle.expansion.specs.Rules.{Pattern, variableP, literalP, wildcardP, constantP, emptyP, pairP, ellipsisP, dotsNext, depthBefore, isVariable, variables, patternOf}
 use Rattle.arena.specs.Arena.{wordAt, referenceAt, nameAt, constantAt, treeAt}
-use Rattle.arena.specs.ArenaLaws.{cases, take-less}
-use Rattle.arena.specs.NodeLaws.{treeAt-empty, treeAt-name, treeAt-pair, treeAt-constant}
+use Rattle.arena.specs.ArenaLaws.{cases}
+use Rattle.arena.specs.NodeLaws.{treeAt-empty, treeAt-name, treeAt-constant}
 use Rattle.arena.specs.CellLaws.{tree-kept}
 use Rattle.rule_cells.specs.Cells.{patternAt, patternFrom}
 use Rattle.rule_cells.specs.Made.{Made, MadeLiteral}
 use Rattle.rule_cells.specs.MadeLaws.{pattern-kept}
-use Rattle.rule_cells.specs.GatherLaws.{dots-no-variable, wildcard-no-variable, literal-no-variable, a-variable}
+use Rattle.rule_cells.specs.GatherLaws.{wildcard-no-variable, literal-no-variable, a-variable}
 use Rattle.rule_cells.specs.Variables.{leafCount}
-use Rattle.rule_cells.specs.Parse.{Asks, Grows, PatternMade, PatternLeft}
-use Rattle.rule_cells.specs.ParseLaws.{grows-nothing, grows-leaf, grows-over, kept-both, tree-is, size-is, head-below, rest-below, rest-kept, grows-pair}
+use Rattle.rule_cells.specs.Parse.{Asks, PatternMade, PatternLeft}
+use Rattle.rule_cells.specs.ParseLaws.{grows-nothing, grows-leaf, grows-over, kept-both, tree-is, size-is, rest-kept, grows-pair}
 use Rattle.rule_cells.specs.declared.patterns.Parsed.{Parsed}
 use Rattle.rule_cells.specs.declared.patterns.Parsed.the-variants.{Good, Bad}
 

@@ -1,9 +1,9 @@
 -- Laws of parsing rules, one for each way through the code.
 use mathlib.Core.Path.{_≡_, refl, sym, ap, ap₂, subst, _∙_}
-use mathlib.Core.Bool.{Bool, true, false, cond}
-use mathlib.Core.List.{List, [], _∷_, _++_, append-nil}
+use mathlib.Core.Bool.{true, false}
+use mathlib.Core.List.{List, [], _∷_, append-nil}
 use mathlib.Core.Option.{Option, none, some}
-use Prim.Native.Nat.{ℕ, zero, suc, _+_, _*_, _^_, _≤_, _<_}
+use Prim.Native.Nat.{ℕ, _+_, _*_, _^_, _≤_, _<_}
 use native.Mathlib.Omega.{arith}
 use lib.ListN.{length, take}
 use Rattle.words.specs.Lists.{all}
@@ -19,12 +19,10 @@ use Rattle.rule_cells.specs.Cells.{patternAt, templateAt, rulesAt}
 use Rattle.rule_cells.specs.Made.{Made}
 use Rattle.rule_cells.specs.MadeLaws.{pattern-kept, rules-kept}
 use Rattle.rule_cells.specs.Variables.{variablesFrom, Held, Under, Stored, Gathered}
-use Rattle.rule_cells.specs.GatherLaws.{gathered-stored}
-use Rattle.rule_cells.specs.Parse.{Asks, Grows, PatternMade, PatternLeft, TemplateMade, TemplateLeft}
+use Rattle.rule_cells.specs.Parse.{Asks, PatternMade, PatternLeft, TemplateMade, TemplateLeft}
 use Rattle.rule_cells.specs.TemplateLaws.{variables-kept}
-use Rattle.rule_cells.specs.RuleParse.{partsOf, PartsAsk, RuleMade, RuleLeft, RulesMade, RulesLeft}
+use Rattle.rule_cells.specs.RuleParse.{partsOf, PartsAsk, RuleLeft}
 use Rattle.rule_cells.specs.declared.variables.Kept.{Kept}
-use Rattle.rule_cells.specs.declared.variables.Kept.the-variants.{Count}
 use Rattle.rule_cells.specs.declared.variables.Kept.the-variants as kept-is
 use Rattle.rule_cells.specs.declared.patterns.Parsed.{Parsed}
 use Rattle.rule_cells.specs.declared.patterns.Parsed.the-variants as parsed

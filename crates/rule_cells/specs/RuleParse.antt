@@ -8,7 +8,7 @@ use lib.ListN.{take}
 use Rattle.words.specs.Options.{guard, mapBoth}
 use Rattle.recipe.specs.Name.{Name, isEllipsis}
 use Rattle.recipe.specs.Tree.{Tree, size, onName, isListOf, element}
-use Rattle.expansion.specs.Rules.{Pattern, Template, Rule, areVariables, variables, patternOf, templateOf}
+use Rattle.expansion.specs.Rules.{Rule, areVariables, variables, patternOf, templateOf}
 use Rattle.arena.specs.Arena.{treeAt}
 use Rattle.arena.specs.Cells.{Room}
 use Rattle.rule_cells.specs.Cells.{rulesAt}

@@ -1,11 +1,11 @@
 -- Laws of parsing a template, one for each way through the code.
 use mathlib.Core.Path.{_≡_, refl, sym, ap, ap₂, subst, _∙_}
-use mathlib.Core.Bool.{Bool, true, false, not, _&&_, _||_, cond}
+use mathlib.Core.Bool.{Bool, true, false, not, _||_, cond}
 use mathlib.Core.List.{List, [], _∷_}
 use mathlib.Core.Option.{Option, none, some}
-use Prim.Native.Nat.{ℕ, zero, suc, _+_, _*_, _^_, _≤_, _<_}
+use Prim.Native.Nat.{ℕ, zero, suc, _+_, _*_, _≤_, _<_}
 use native.Mathlib.Omega.{arith}
-use lib.Dec.{eqb, ltb}
+use lib.Dec.{ltb}
 use lib.ListN.{length, take, getD}
 use borrow.Author.Tests.{ne-eqb}
 use Rattle.words.specs.Options.{guard, mapSome, mapBoth}
@@ -22,7 +22,7 @@ use Rattle.rule_cells.specs.MadeLaws.{template-kept, name-kept}
 use Rattle.arena.specs.ListLaws.{tree-cases}
 use Rattle.rule_cells.specs.Variables.{variableAt, variablesFrom, Under, Deeper}
 use Rattle.rule_cells.specs.Drive.{drives}
-use Rattle.rule_cells.specs.Parse.{Asks, Grows, TemplateMade, TemplateLeft}
+use Rattle.rule_cells.specs.Parse.{Asks, TemplateMade, TemplateLeft}
 use Rattle.rule_cells.specs.ParseLaws.{grows-nothing, grows-leaf, kept-both, tree-is, size-is, rest-kept, grows-pair}
 use Rattle.rule_cells.specs.declared.templates.Built.{Built}
 use Rattle.rule_cells.specs.declared.templates.Built.the-variants.{Good, Bad}

@@ -1,5 +1,5 @@
 -- Laws of a pattern's variables.
-use mathlib.Core.Path.{_≡_, refl, sym, ap, ap₂, subst, _∙_}
+use mathlib.Core.Path.{_≡_, refl, sym, ap, ap₂, _∙_}
 use mathlib.Core.Bool.{Bool, true, false, not, _&&_, _||_, cond}
 use mathlib.Core.List.{List, [], _∷_, _++_, map}
 use mathlib.Core.Option.{Option, none, some}
@@ -9,21 +9,19 @@ use lib.Dec.{eqb, leb}
 use lib.ListN.{length, getD, set, length-append, length-set}
 use lib.Seq.{getD-set-same, getD-set-other}
 use borrow.Author.Tests.{le-leb, lt-leb, eqb-true, eqb-false}
-use Rattle.words.specs.Limits.{patternVariablesMost, depthMost}
+use Rattle.words.specs.Limits.{depthMost}
 use Rattle.words.specs.Lists.{all, any}
 use Rattle.words.specs.TestLaws.{and-none-left, and-none-right, and-both, and-left, and-right, or-left, or-right}
-use Rattle.recipe.specs.Name.{Name, same, distinct, isEllipsis, isWildcard}
-use Rattle.recipe.specs.Tree.{Tree, empty, constant, name, pair, names}
-use Rattle.expansion.specs.Rules.{variableFrom, areVariables, dotsNext, depthBefore, isVariable, variables}
+use Rattle.recipe.specs.Name.{Name, same, distinct, isEllipsis}
+use Rattle.recipe.specs.Tree.{names}
+use Rattle.expansion.specs.Rules.{variableFrom, areVariables, dotsNext, depthBefore}
 use Rattle.arena.specs.Arena.{wordAt, referenceAt, nameAt, treeAt}
 use Rattle.arena.specs.ArenaLaws.{cases}
 use Rattle.arena.specs.NodeLaws.{treeAt-name, treeAt-pair}
 use Rattle.arena.specs.ListLaws.{tree-cases}
-use Rattle.rule_cells.specs.Variables.{variableAt, variablesFrom, knownOf, Held, Under, Stored, Gathered, Deeper}
+use Rattle.rule_cells.specs.Variables.{variableAt, variablesFrom, knownOf, Held, Under, Stored, Deeper}
 use Rattle.rule_cells.specs.declared.variables.Known.{Known}
 use Rattle.rule_cells.specs.declared.variables.Known.the-variants.{At, Not}
-use Rattle.rule_cells.specs.declared.variables.Kept.{Kept}
-use Rattle.rule_cells.specs.declared.variables.Kept.the-variants.{Count, Bad}
 
 -- ---- listed literals
 

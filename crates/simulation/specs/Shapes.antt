@@ -63,26 +63,6 @@ module _ {R S : Name → Name → Type 0} (h : (x y : Name) → R x y → S x y)
   template-map (pairTs p q) = pairTs (template-map p) (template-map q)
   template-map (ellipsisTs p q) = ellipsisTs (template-map p) (template-map q)
 
--- ---- a pattern or template beside itself, where a larger relation is known of names beside themselves
-
-module _ {R S : Name → Name → Type 0} (h : (x y : Name) → R x y → x ≡ y → S x y) where
-  pub pattern-self : {p q : Pattern} → PatternOf R p q → p ≡ q → PatternOf S p q
-  pattern-self variablePs e = variablePs
-  pattern-self (literalPs r) e = literalPs (h _ _ r (cc))
-  pattern-self wildcardPs e = wildcardPs
-  pattern-self constantPs e = constantPs
-  pattern-self emptyPs e = emptyPs
-  pattern-self (pairPs p q) e = pairPs (pattern-self p (cc)) (pattern-self q (cc))
-  pattern-self (ellipsisPs p) e = ellipsisPs (pattern-self p (cc))
-
-  pub template-self : {e f : Template} → TemplateOf R e f → e ≡ f → TemplateOf S e f
-  template-self variableTs e = variableTs
-  template-self (insertTs r) e = insertTs (h _ _ r (cc))
-  template-self constantTs e = constantTs
-  template-self emptyTs e = emptyTs
-  template-self (pairTs p q) e = pairTs (template-self p (cc)) (template-self q (cc))
-  template-self (ellipsisTs p q) e = ellipsisTs (template-self p (cc)) (template-self q (cc))
-
 -- ---- trees
 
 module _ {R : Name → Name → Type 0} where

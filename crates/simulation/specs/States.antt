@@ -1,19 +1,17 @@
 -- Macros and states of two runs that agree: equal counts, and rules whose names are related.
-use mathlib.Core.Path.{_≡_, refl, ap, sym, _∙_}
-use mathlib.Core.Bool.{true, false, true≢false}
+use mathlib.Core.Path.{_≡_, refl, ap}
+use mathlib.Core.Bool.{true}
 use mathlib.Core.List.{List, [], _∷_, _++_}
 use mathlib.Core.Option.{Option, none, some}
 use Prim.Native.Nat.{ℕ, zero, suc, _≤_}
-use borrow.Author.Tests.{eq-eqb}
-use lib.Dec.{eqb}
 use lib.ListN.{length, getD}
 use Rattle.recipe.specs.Name.{Name}
 use Rattle.expansion.specs.Rules.{Rule}
 use Rattle.expansion.specs.Computation.{State}
 use Rattle.simulation.specs.Relations.{ListRel, ends, joins}
-use Rattle.simulation.specs.Shapes.{PatternOf, TemplateOf, RuleOf, pattern-map, pattern-self, template-self}
+use Rattle.simulation.specs.Shapes.{PatternOf, TemplateOf, RuleOf, pattern-map}
 use Rattle.simulation.specs.Names.Shown.{Renaming}
-use Rattle.simulation.specs.Names.{Kind, Coherent, Ready, Raw, NameRel, kept, turned, name-map}
+use Rattle.simulation.specs.Names.{Kind, Coherent, Ready, Raw, NameRel, name-map}
 use Rattle.simulation.specs.Steps.{Below, older-le}
 
 module _ (ρ : Renaming) (raw : Raw ρ) where
@@ -82,22 +80,3 @@ module _ (ρ : Renaming) (raw : Raw ρ) where
     pub new-macros : {r s : List (List Rule)} → ListRel (ListRel (RuleOf (NameRel ρ raw Q) (NameRel ρ raw Q))) r s → MacrosRel k r s
     new-macros ends = no-macro
     new-macros (joins r rs) = with (new-rules r) (new-macros rs)
-
--- ---- a state beside itself: no name is private, so what the template's own names are bound to does not matter
-
-module _ (ρ : Renaming) (differ : eqb (ρ .old) (ρ .new) ≡ false) (raw raw′ : Raw ρ) where
-  name-self : {Q : Kind} (x y : Name) → NameRel ρ raw Q x y → x ≡ y → NameRel ρ raw′ Q x y
-  name-self x y (kept q k) e = kept q (record { eq = k .eq; not-private = k .not-private; free = k .free })
-  name-self x y (turned q t) e = absurd (true≢false (sym (eq-eqb (ρ .old) (ρ .new) (sym (t .old) ∙ ap (λ z. z .number) e ∙ t .new)) ∙ differ))
-
-  rules-self : (k : ℕ) {r s : List Rule} → RulesRel ρ raw k r s → r ≡ s → RulesRel ρ raw′ k r s
-  rules-self k no-rule e = no-rule
-  rules-self k (rule {r = r} {s = s} q qs) e = let d : r ≡ s = cc in
-      rule (record { kind = q .kind; coherent = q .coherent; below = q .below; pattern = pattern-self name-self (q .pattern) (ap (λ z. z .pattern) d); template = template-self name-self (q .template) (ap (λ z. z .template) d) }) (rules-self k qs cc)
-
-  macros-self : (k : ℕ) {r s : List (List Rule)} → MacrosRel ρ raw k r s → r ≡ s → MacrosRel ρ raw′ k r s
-  macros-self k no-macro e = no-macro
-  macros-self k (with q qs) e = with (rules-self k q cc) (macros-self k qs cc)
-
-  pub state-self : (k : ℕ) (s : State) → StateRel ρ raw k s s → StateRel ρ raw′ k s s
-  state-self k s q = record { enough = q .enough; steps = refl; sum = refl; variables = refl; macros = macros-self (suc (s .steps)) (q .macros) refl }

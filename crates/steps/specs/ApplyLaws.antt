@@ -8,9 +8,8 @@ use native.Mathlib.Omega.{arith}
 use lib.Dec.{eqb, leb, ltb}
 use borrow.Author.Tests.{ne-eqb, le-leb, lt-leb, ltb-true}
 use Rattle.words.specs.Each.{Each, noneOf, also, Given, missing, given, given-at}
-use Rattle.recipe.specs.Name.{Name, markName, produceName}
-use Rattle.recipe.specs.Tree.{Tree, size, mark, produce}
-use Rattle.recipe.specs.TreeLaws.{onNames-∘}
+use Rattle.recipe.specs.Name.{Name}
+use Rattle.recipe.specs.Tree.{Tree, size}
 use Rattle.expansion.specs.Rules.{Template, Rule, pairT, ellipsisT}
 use Rattle.expansion.specs.Match.{orNext, firstFit}
 use Rattle.expansion.specs.Transcribe.{equalLengths}
@@ -166,7 +165,3 @@ module _ (items old marks : List ℕ) (top rules u w limit : ℕ) (ok : Stepping
               }
 
 -- ---- the result is expanded under the step's mark
-
-pub mark-produce : (m : ℕ) (t : Tree) → produce (mark m t) ≡ mark m (produce t)
-unfolding produce mark produceName markName
-mark-produce m t = onNames-∘ produceName (markName m) t ∙ sym (onNames-∘ (markName m) produceName t)

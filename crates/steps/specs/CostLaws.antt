@@ -21,10 +21,6 @@ use Rattle.steps.specs.Cost.{capped, Below, copyOf, added, Sized, Costs,
 
 -- ---- counting
 
-pub capped-most : (limit n : ℕ) → capped limit n ≤ limit + 1
-unfolding capped
-capped-most limit n = cases (ltb limit n) (λ t. rw t (omega arith)) (λ t. rw t (omega (arith, ltb-false limit n t)))
-
 capped-past : (limit acc s : ℕ) → limit < acc → acc ≤ limit + 1 → acc ≡ capped limit (acc + s)
 unfolding capped
 capped-past limit acc s h l = rw (lt-ltb limit (acc + s) (omega arith)) (omega arith)

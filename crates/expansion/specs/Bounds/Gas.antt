@@ -1,25 +1,16 @@
 -- No run is out of gas: the items of the recipe and the fuel together are enough.
-use mathlib.Core.Path.{_≡_, subst}
+use mathlib.Core.Path.{_≡_}
 use mathlib.Core.List.{List}
-use Prim.Native.Nat.{ℕ, _+_, _≤_}
+use Prim.Native.Nat.{ℕ, _+_}
 use native.Mathlib.Omega.{arith}
 use Rattle.words.specs.Limits.{macrosMost}
 use Rattle.recipe.specs.Tree.{Tree, size, element}
 use Rattle.recipe.specs.TreeLaws.{element-size}
 use Rattle.recipe.specs.Table.{treeOf}
-use Rattle.expansion.specs.Computation.{State, start, Events, starved}
+use Rattle.expansion.specs.Computation.{start}
 use Rattle.expansion.specs.Run.{unfinished, ended, operationNumbers, expandRecipe, run}
-use Rattle.expansion.specs.Forms.{expand}
-use Rattle.expansion.specs.Outcomes.{isStarved}
 use Rattle.expansion.specs.RunLaws.{accepted≢unfinished, turnedBack≢unfinished, unbegun, run-holds}
-use Rattle.expansion.specs.Bounds.Budget.{Solvent, SpendsTerm, expand-spends}
-
--- with gas for the tree and the fuel left, no computation is starved
-pub expand-unstarved : (limit : ℕ) (operations : List ℕ) (fuel gas : ℕ) (t : Tree) (s : State) → Solvent fuel s → size t + fuel ≤ gas + s .sum → (l : Events) → expand limit operations fuel gas t s ≡ starved l → ⊥
-expand-unstarved limit operations fuel gas t s low g l e = never (subst (λ o. SpendsTerm fuel (size t) s o) e (expand-spends limit operations fuel gas t s low g))
-  where
-    never : SpendsTerm fuel (size t) s (starved l) → ⊥
-    never (isStarved x) = x
+use Rattle.expansion.specs.Bounds.Budget.{SpendsTerm, expand-spends}
 
 -- a recipe's expansion is not out of gas, and spends no more than it may
 pub expandRecipe-spends : (fuel : ℕ) (t : Tree) → SpendsTerm fuel (size (element 1 t)) start (expandRecipe fuel t)

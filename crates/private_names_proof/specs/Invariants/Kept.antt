@@ -10,7 +10,7 @@ use lib.ListN.{length}
 use Rattle.words.specs.Each.{Each, noneOf, also, each-weaken, each-append, each-getD, each-map, Given, missing, given, given-at, given-weaken}
 use Rattle.datum.specs.Constant.{Constant}
 use Rattle.recipe.specs.Name.{variable, macro, Name, markName, produceName}
-use Rattle.recipe.specs.Tree.{Tree, isList, names, element, tail, mark, produce, bindAll}
+use Rattle.recipe.specs.Tree.{Tree, isList, element, tail, mark, produce, bindAll}
 use Rattle.recipe.specs.Tidy.{Tidy, tidyEmpty, tidyConstant, tidyName, tidyPair, tidy-elements, tidy-element, tidy-tail, tidy-onNames}
 use Rattle.core_term.specs.Term.{Term}
 use Rattle.expansion.specs.Lookup.{quote, if, lambda, let-syntax, letrec-syntax, auxiliary, Found, bound, form, operation, nothing, lookup}

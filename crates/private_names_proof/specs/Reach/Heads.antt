@@ -30,12 +30,6 @@ module _ (p : ℕ) where
       name₂ : {x : Name} → UnheadedAll (name x)
       pair₂ : {h t : Tree} → Unheaded h → UnheadedAll t → UnheadedAll (pair h t)
 
-  pub unheaded-all : {t : Tree} → Unheaded t → UnheadedAll t
-  unheaded-all empty₁ = empty₂
-  unheaded-all constant₁ = constant₂
-  unheaded-all name₁ = name₂
-  unheaded-all (pair₁ e u v) = pair₂ u v
-
   pub unheaded-element : (k : ℕ) {t : Tree} → UnheadedAll t → Unheaded (element k t)
   unfolding element elements
   unheaded-element k empty₂ = empty₁

@@ -144,10 +144,6 @@ module _ (text : List ℕ) (at : ℕ) where
   unfolding startAt
   start-high h = omega (arith, leading-within isSeparating (drop at text), length-drop at text)
 
-  pub next-low : startAt text at ≤ nextAt text at
-  unfolding nextAt
-  next-low = omega arith
-
   pub next-high : at ≤ length text → nextAt text at ≤ length text
   unfolding nextAt
   next-high h = omega (arith, start-high h, first-within (drop (startAt text at) text), length-drop (startAt text at) text)
