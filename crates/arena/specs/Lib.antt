@@ -14,5 +14,5 @@ pub mod NameLaws
 pub mod Nodes
 pub mod LayOut
 pub mod Lists
-pub mod Copy
+pub mod ListLaws
 pub mod Rows

@@ -1,8 +1,8 @@
 // The expansion service, from below: the arena in the lent work table, and names with what waits on them.
 
 pub mod cells;
-pub mod copy;
 pub mod item_nodes;
+pub mod lists;
 pub mod marks;
 pub mod names;
 pub mod nodes;

@@ -6,13 +6,20 @@ ghost use Prim.Native.Nat.{_+_, _*_, _≤_, _<_};
 ghost use lib.ListN.{length};
 ghost use mathlib.Core.Option.{some};
 ghost use Rattle.recipe.specs.Name.{variable, macro, same, bindingKey};
-ghost use Rattle.arena.specs.Arena.{wordAt, markLimit, nameAt};
+ghost use Rattle.recipe.specs.Tree.{isOrdinaryName};
+ghost use Rattle.arena.specs.Arena.{markLimit, nameAt};
 ghost use Rattle.arena.specs.Cells.{Room, Binds};
+ghost use Rattle.arena.specs.Lists.{TestsIn};
 ghost use Rattle.arena.specs.Names.{numberOf, Resolved, meansOf, lookupIn, unboundIn, Agrees};
 use crate::cells;
 use crate::marks;
 use crate::wraps;
 use crate::wraps::InHand;
+
+// The numbers of `...` and `_`.
+pub const ELLIPSIS: u32 = 6;
+
+pub const WILDCARD: u32 = 7;
 
 // What a lookup finds: bound variable n, macro n, form k, the place of an operation, or nothing.
 pub enum Meaning {
@@ -68,6 +75,20 @@ pub fn resolve(
     let n = s.count;
     let b = s.binding;
     wraps::walk(work, table, start, n, number, b, w)
+}
+
+// Whether a node is a name that may be bound: other than `...` and `_`, which are known by number alone.
+pub fn is_ordinary(items: &[u32], work: &[u32], node: u32) -> bool
+    ensures { λ r. ⌜ TestsIn isOrdinaryName (now (items .entry)) (now (work .entry)) node r ⌝ }
+{
+    if cells::word(work, node, cells::KIND) != cells::NAME {
+        return false;
+    }
+    let number = number_of(items, work, node);
+    if number == ELLIPSIS {
+        return false;
+    }
+    number != WILDCARD
 }
 
 // The key of a name's binding.

@@ -8,7 +8,7 @@ use Rattle.recipe.specs.Tree.{Tree, pair, size, elements}
 use Rattle.arena.specs.Arena.{treeAt, wordAt, referenceAt}
 use Rattle.arena.specs.ArenaLaws.{take-less, referenceAt-falls, referenceAt-below}
 use Rattle.arena.specs.NodeLaws.{treeAt-pair}
-use Rattle.steps.specs.ListLaws.{by-kind, kind-some}
+use Rattle.arena.specs.ListLaws.{no-pair, kind-some}
 use Rattle.expander.specs.declared.answers.Reached.{Reached}
 use Rattle.expander.specs.declared.answers.Ended.{Ended}
 use Rattle.expander.specs.declared.answers.Ended.the-variants.{Done, Refused}
@@ -81,7 +81,7 @@ module _ (items : List ℕ) (fuel : ℕ) where
     -- no pair: the end of the list
     one-left : (kind ≡ 4 → ⊥) → (length (elements left) ≡ 0) × (size left ≡ 1)
     unfolding elements size
-    one-left = by-kind items (a .work) list w kind kind-is (λ (t : Tree). (length (elements t) ≡ 0) × (size t ≡ 1)) (λ z. (refl, refl)) (λ z x. (refl, refl)) (λ z c. (refl, refl))
+    one-left other = no-pair (a .work) list kind kind-is (λ (t : Tree). (length (elements t) ≡ 0) × (size t ≡ 1)) (refl, refl) (λ x. (refl, refl)) (λ c. (refl, refl)) other items w
 
     pub operands-end : (kind ≡ 4 → ⊥) → ExpandsAll items fuel tree r₀ before a (Done r)
     operands-end other =

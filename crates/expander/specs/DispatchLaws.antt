@@ -21,11 +21,12 @@ use Rattle.expansion.specs.Computation.{State, M}
 use Rattle.expansion.specs.Forms.{expandList, expandMacros}
 use Rattle.arena.specs.Arena.{wordAt, nameAt, treeAt, markLimit}
 use Rattle.arena.specs.NodeLaws.{treeAt-name}
-use Rattle.arena.specs.Lists.{Tests, name-test}
+use Rattle.arena.specs.Lists.{Tests}
+use Rattle.arena.specs.ListLaws.{name-test}
 use Rattle.arena.specs.Nodes.{Opens, OpensName, OpensPair, OpensConstant}
 use Rattle.arena.specs.declared.nodes.Node.{Node}
 use Rattle.arena.specs.declared.nodes.Node.the-variants.{Empty}
-use Rattle.steps.specs.Lists.{Counts}
+use Rattle.arena.specs.Lists.{Counts}
 use Rattle.expander.specs.declared.answers.Reached.{Reached}
 use Rattle.expander.specs.declared.answers.Ended.{Ended}
 use Rattle.expander.specs.declared.answers.Ended.the-variants.{Done, Refused}

@@ -17,7 +17,7 @@ use Rattle.core_term.specs.Words.{encode}
 use Rattle.expansion.specs.Computation.{State, M}
 use Rattle.expansion.specs.Forms.{isLambda, formals, expandLambda}
 use Rattle.arena.specs.Arena.{treeAt}
-use Rattle.steps.specs.Lists.{Means, Counts}
+use Rattle.arena.specs.Lists.{Means, Counts}
 use Rattle.forms.specs.Binders as F
 use Rattle.forms.specs.Binders.{Space, Scoped}
 use Rattle.forms.specs.ScopeLaws.{scoped-tree, proper, formals-count}

@@ -34,7 +34,7 @@ use Rattle.expander.specs.MemoryLaws.{macrosAt-length}
 use Rattle.expander.specs.Turns.{operationsOf, Left, turnOf, Ends, Follows}
 use Rattle.expander.specs.UseTurnLaws.{left-same}
 use Rattle.expander.specs.MacroTurns.{formsOf, grown, Known, MacrosKnown, MacrosRefused}
-use Rattle.expander.specs.MacroTurnLaws.{macros-sizes}
+use Rattle.expander.specs.MacroTurnLaws.{macros-rate, macros-sizes}
 
 -- ---- the rules are proper and plain
 
@@ -136,7 +136,7 @@ module _ (items : List ℕ) (fuel : ℕ) (t : Tree) (inside : Bool) (head : Name
           work-spent = rw (sum-is, body-size) (omega (arith, sizes, x .words));
           core-spent = rw (at-is, sum-is, body-size) (omega (arith, sizes));
           variables-spent = rw (variables-are, sum-is, body-size) (omega (arith, sizes));
-          macros-spent = rw (macros-are, sum-is, body-size) (omega (arith, sizes));
+          macros-spent = rw (macros-are, sum-is, body-size) (omega (arith, macros-rate t (y .shape)));
           macros-are = known-macros;
         }
 

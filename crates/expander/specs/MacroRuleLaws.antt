@@ -18,11 +18,11 @@ use Rattle.arena.specs.ArenaLaws.{cases, take-less}
 use Rattle.arena.specs.CellLaws.{tree-kept}
 use Rattle.rule_cells.specs.Cells.{rulesAt}
 use Rattle.rule_cells.specs.ParseLaws.{tree-is, size-is, head-below, rest-below}
-use Rattle.rule_cells.specs.TreeLaws.{no-elements}
+use Rattle.arena.specs.ListLaws.{no-elements}
 use Rattle.rule_cells.specs.RuleParse.{RulesMade, RulesLeft}
 use Rattle.rule_cells.specs.declared.templates.Built.{Built}
 use Rattle.rule_cells.specs.declared.templates.Built.the-variants as built
-use Rattle.steps.specs.Lists.{Means}
+use Rattle.arena.specs.Lists.{Means}
 use Rattle.expander.specs.declared.macros.Read.{Read}
 use Rattle.expander.specs.declared.macros.Read.the-variants.{Good, Bad}
 use Rattle.expander.specs.Memory.{macrosAt}

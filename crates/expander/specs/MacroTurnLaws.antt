@@ -7,17 +7,18 @@ use Prim.Native.Nat.{ℕ, zero, suc, _+_, _*_, _^_, _≤_, _<_}
 use native.Mathlib.Omega.{arith}
 use lib.ListN.{length, getD}
 use Rattle.words.specs.Limits.{macrosMost}
+use Rattle.words.specs.Lists.{all}
 use Rattle.words.specs.Options.{traverse}
-use Rattle.words.specs.TestLaws.{and-parts}
+use Rattle.words.specs.TestLaws.{and-parts, all-parts}
 use Rattle.recipe.specs.Name.{Binding, macro, Name, distinct}
-use Rattle.recipe.specs.Tree.{Tree, empty, constant, name, pair, size, isListOf, elements, element, onNames, bind, bindAll}
+use Rattle.recipe.specs.Tree.{Tree, empty, constant, name, pair, size, isList, isListOf, elements, element, onNames, bind, bindAll}
 use Rattle.recipe.specs.TreeLaws.{size-positive, bindAll-size}
 use Rattle.expansion.specs.Rules.{Rule, rulesOf}
-use Rattle.expansion.specs.Forms.{isMacros, keywords, rulesForms}
+use Rattle.expansion.specs.Forms.{isMacro, isMacros, keywords, rulesForms}
 use Rattle.arena.specs.Arena.{treeAt}
 use Rattle.arena.specs.ArenaLaws.{take-less}
 use Rattle.arena.specs.CellLaws.{tree-kept}
-use Rattle.steps.specs.Lists.{Means, Counts}
+use Rattle.arena.specs.Lists.{Means, Counts}
 use Rattle.forms.specs.Binders.{AllNames, Space, Scoped}
 use Rattle.forms.specs.ScopeLaws.{scoped-tree, macros-names, keywords-count, keywords-most}
 use Rattle.expander.specs.declared.answers.Reached.{Reached}
@@ -27,9 +28,10 @@ use Rattle.expander.specs.declared.answers.Turn.the-variants.{Again, Ope
 use Rattle.expander.specs.declared.macros.Read.{Read}
 use Rattle.expander.specs.declared.macros.Read.the-variants.{Good, Bad}
 use Rattle.expander.specs.Ends.{needs, given}
-use Rattle.expander.specs.Memory.{macrosAt}
+use Rattle.expander.specs.Memory.{macrosAt, macroItems}
 use Rattle.expander.specs.MemoryLaws.{macrosAt-settled}
 use Rattle.expander.specs.Leaves.{Refuses}
+use Rattle.expander.specs.SpreadLaws.{listed}
 use Rattle.expander.specs.LambdaLaws.{three-sizes}
 use Rattle.expander.specs.MacroRules.{formsIn, AllAsk, AllRead, AllLeft}
 use Rattle.expander.specs.MacroTurns.{MacroRoom, formsOf, grown, Known, KnownLeft, MacrosRefused, MacrosLeft}
@@ -74,12 +76,30 @@ formsIn-bound f k (x ∷ xs) t = formsIn-bound f (suc k) xs (bind x (f k) t) ∙
 
 -- ---- sizes
 
-elements-few : (t : Tree) → 2 * length (elements t) ≤ size t
+elements-few : (t : Tree) → suc (2 * length (elements t)) ≤ size t
 unfolding elements size
 elements-few empty = omega arith
 elements-few (constant a) = omega arith
 elements-few (name x) = omega arith
 elements-few (pair h t) = omega (arith, elements-few t, size-positive h)
+
+entries-few : (t : Tree) → all isMacro (elements t) ≡ true → macroItems * length (elements t) ≤ size t
+unfolding elements size isMacro
+entries-few empty e = omega arith
+entries-few (constant a) e = omega arith
+entries-few (name x) e = omega arith
+entries-few (pair h t) e =
+    let g = all-parts isMacro h (elements t) e in
+    omega (arith, entries-few t (g .1), elements-few h, listed 2 h (and-parts (isListOf 2 h) _ (g .0) .0))
+
+-- a form has so many items for each macro, besides its body's
+pub macros-rate : (t : Tree) → isMacros macrosMost t ≡ true → macroItems * length (keywords t) + size (element 2 t) ≤ size t
+unfolding isMacros
+macros-rate t e =
+    let a = and-parts (isListOf 3 t) _ e in
+    let b = and-parts (isList (element 1 t)) _ (a .1) in
+    let c = and-parts (all isMacro (elements (element 1 t))) _ (b .1) in
+    omega (arith, three-sizes t (a .0), entries-few (element 1 t) (c .0), keywords-count t (macros-names t macrosMost e))
 
 pub macros-sizes : (t : Tree) → isMacros macrosMost t ≡ true → 9 * length (keywords t) + 5 * size (element 1 t) + 9 * size (element 2 t) + 5 ≤ 9 * size t
 unfolding isMacros
@@ -97,6 +117,9 @@ module _ (items work macros marks : List ℕ) (node w : ℕ) (inside : Bool) (r 
 
   sizes : 9 * length (keywords tree) + 5 * size (element 1 tree) + 9 * size (element 2 tree) + 5 ≤ 9 * size tree
   sizes = macros-sizes tree shape
+
+  rate : macroItems * length (keywords tree) + size (element 2 tree) ≤ size tree
+  rate = macros-rate tree shape
 
   count-most : length (keywords tree) ≤ size tree
   count-most = omega (arith, sizes)
@@ -180,7 +203,7 @@ module _ (items work macros marks : List ℕ) (node w : ℕ) (inside : Bool) (r 
                 small = rw size-same (omega (arith, room .small, sizes, scoped .end-is));
               };
             };
-            slots = omega (arith, forms-count, room .slots, count-most);
+            slots = omega (arith, forms-count, room .slots, rate);
             few = omega (arith, forms-count, room .few, count-most);
             below = λ k h. let g = room .below k h in omega (arith, scoped .end-is);
             hands = omega (arith, room .hands);

@@ -19,7 +19,7 @@ use Rattle.expander.specs.declared.answers.Ended.{Ended}
 use Rattle.expander.specs.declared.answers.Turn.{Turn}
 use Rattle.expander.specs.declared.answers.Turn.the-variants.{Again, Operands, Over}
 use Rattle.expander.specs.Ends.{End, stopped, needs, given}
-use Rattle.expander.specs.Memory.{macrosAt, itemRate, numberMost, Placed}
+use Rattle.expander.specs.Memory.{itemRate, macroItems, macrosAt, numberMost, Placed}
 use Rattle.expander.specs.Leaves.{Refuses}
 use Rattle.expander.specs.MacroRules.{Below}
 
@@ -28,7 +28,7 @@ pub record MacroRoom (items work macros marks : List ℕ) (node w : ℕ) (r : Re
   pub placed : Placed items work (r .top) node w
   pub fits : r .top + itemRate * size (treeAt items work node w) ≤ length work
   pub small : r .top + itemRate * size (treeAt items work node w) ≤ numberMost
-  pub slots : r .macros + size (treeAt items work node w) ≤ length macros
+  pub slots : macroItems * r .macros + size (treeAt items work node w) ≤ macroItems * length macros
   pub few : r .macros + size (treeAt items work node w) ≤ numberMost
   pub below : Below macros (r .macros) (r .top)
   pub hands : 3 * markLimit < length marks

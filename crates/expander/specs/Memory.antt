@@ -67,6 +67,10 @@ itemRate = 9
 abbrev pub fuelRate : ℕ
 fuelRate = 16
 
+-- items that a form has for each of its macros, at the least
+abbrev pub macroItems : ℕ
+macroItems = 6
+
 -- the most that an expansion's numbers reach
 abbrev pub numberMost : ℕ
 numberMost = 400000
@@ -82,7 +86,7 @@ unfoldable pub variableNeed : (fuel n : ℕ) → Reached → ℕ
 variableNeed fuel n r = r .variables + n + (fuel - r .sum)
 
 unfoldable pub macroNeed : (fuel n : ℕ) → Reached → ℕ
-macroNeed fuel n r = r .macros + n + (fuel - r .sum)
+macroNeed fuel n r = macroItems * r .macros + n + (fuel - r .sum)
 
 -- ---- what an expansion relies on, and what it keeps
 
@@ -104,7 +108,7 @@ pub record Ready (items : List ℕ) (fuel n : ℕ) (r : Reached) (t : Tables) : 
   pub items-below : length items ≤ r .top
   pub room : workNeed fuel n r ≤ length (t .work)
   pub core-room : coreNeed fuel n r ≤ length (t .core)
-  pub macro-room : macroNeed fuel n r ≤ length (t .macros)
+  pub macro-room : macroNeed fuel n r ≤ macroItems * length (t .macros)
   pub small : workNeed fuel n r ≤ numberMost
   pub core-small : coreNeed fuel n r ≤ numberMost
   pub few : variableNeed fuel n r ≤ numberMost

@@ -11,7 +11,7 @@ use Rattle.recipe.specs.Tidy.{tidy-element}
 use Rattle.core_term.specs.Term.{datumC}
 use Rattle.core_term.specs.Words.{datumWords, encode}
 use Rattle.arena.specs.Arena.{treeAt}
-use Rattle.steps.specs.Lists.{Means}
+use Rattle.arena.specs.Lists.{Means}
 use Rattle.forms.specs.Quotes as Q
 use Rattle.forms.specs.Quotes.{quotedAt, Quotable}
 use Rattle.forms.specs.QuoteLaws.{quoted-any, quoted-size}

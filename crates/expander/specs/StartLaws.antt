@@ -26,12 +26,12 @@ use Rattle.expansion.specs.Forms.{expand}
 use Rattle.expansion.specs.Run.{ended, operationNumbers, expandRecipe}
 use Rattle.arena.specs.Arena.{treeAt, markLimit}
 use Rattle.arena.specs.LayOut.{LaidOut}
-use Rattle.steps.specs.Lists.{Means}
+use Rattle.arena.specs.Lists.{Means}
 use Rattle.expander.specs.declared.answers.Reached.{Reached}
 use Rattle.expander.specs.declared.answers.Ended.{Ended}
 use Rattle.expander.specs.declared.answers.Ended.the-variants.{Done, Refused}
 use Rattle.expander.specs.Ends.{endOf}
-use Rattle.expander.specs.Memory.{Tables, tables, macrosAt, stateAt, workNeed, coreNeed, variableNeed, macroNeed, Placed, Ready}
+use Rattle.expander.specs.Memory.{macroItems, Tables, tables, macrosAt, stateAt, workNeed, coreNeed, variableNeed, macroNeed, Placed, Ready}
 use Rattle.expander.specs.Turns.{operationsOf, Lent, Left, Expands}
 use Rattle.expander.specs.LentLaws.{places-lent}
 use Rattle.expander.specs.Service.{groundOf, runNumbers}
@@ -84,7 +84,7 @@ module _ (items work core operations : List ℕ) (fuel : ℕ) (l : Lends items w
           proper = rw start-tree (tidy-element 1 (tidy-weaken (λ x p. tt) (treeOf-tidy items (l .begun .layout))));
         }
 
-    pub start-ready : (macros : List ℕ) → length work′ ≡ length work → itemsMost + fuelMost ≤ length macros → Ready items fuel (size (treeAt items work′ body 0)) (atStart top) (tables work′ core macros)
+    pub start-ready : (macros : List ℕ) → length work′ ≡ length work → itemsMost + fuelMost ≤ macroItems * length macros → Ready items fuel (size (treeAt items work′ body 0)) (atStart top) (tables work′ core macros)
     unfolding atStart workNeed coreNeed variableNeed macroNeed macrosAt
     start-ready macros long h =
         let parts = isLayout-parts items (l .begun .layout) in

@@ -20,7 +20,7 @@ use Rattle.arena.specs.Cells.{Room, Wrapped}
 use Rattle.arena.specs.CellLaws.{tree-mark}
 use Rattle.rule_cells.specs.Cells.{rulesAt}
 use Rattle.rule_cells.specs.CellLaws.{rulesAt-below, rulesAt-none}
-use Rattle.steps.specs.Lists.{Means}
+use Rattle.arena.specs.Lists.{Means}
 use Rattle.expansion.specs.Transcribe.{equalLengths, transcribe}
 use Rattle.steps.specs.Apply.{Outcome, refused, result, applied, stepOf, Answers, Stepping, Stepped}
 use Rattle.steps.specs.declared.apply.Applied.{Applied}

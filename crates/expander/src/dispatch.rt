@@ -14,9 +14,9 @@ use crate::macros;
 use crate::output;
 use crate::turns;
 use crate::uses;
+use arena::lists;
 use arena::nodes;
 use arena::nodes::Node;
-use steps::lists;
 
 // A list whose head finds base form k.
 pub fn form(

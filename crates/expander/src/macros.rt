@@ -10,11 +10,11 @@ use crate::answers::Reached;
 use crate::answers::Turn;
 use crate::leaf;
 use arena::cells;
+use arena::lists;
 use forms::binders;
 use forms::shapes;
 use rule_cells::rules;
 use rule_cells::templates::Built;
-use steps::lists;
 
 // The most macros of one form.
 pub const MACROS_MOST: u32 = 16;

@@ -3,7 +3,7 @@
 ghost use mathlib.Core.List.{[], _∷_};
 ghost use Rattle.expander.specs.Memory.{CoreRoom, Put, Moved, HeaderMoved};
 use crate::answers::Reached;
-use steps::lists;
+use arena::lists;
 
 pub fn put_word(core: &mut [u32], at: u32, a: u32) -> u32
     requires { ⌜ CoreRoom (now core) at 1 ⌝ }

@@ -6,10 +6,10 @@ ghost use Rattle.expander.specs.Start.{Lends, Expanded};
 use crate::answers::Ended;
 use crate::answers::Reached;
 use crate::cycle;
-use steps::lists;
+use arena::lists;
 
-// A word for each macro, of at most 4,096 items and a fuel of 8,192; and three for each mark in hand.
-const MACRO_WORDS: usize = 12288;
+// A word for each macro, which takes at least six of at most 4,096 items and a fuel of 8,192; and three for each mark in hand.
+const MACRO_WORDS: usize = 2048;
 
 const MARK_WORDS: usize = 24583;
 

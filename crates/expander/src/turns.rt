@@ -11,18 +11,17 @@ use crate::answers::Reached;
 use crate::answers::Turn;
 use crate::leaf;
 use crate::output;
+use arena::lists;
 use forms::binders;
 use forms::quotes;
 use forms::shapes;
-use rule_cells::trees;
-use steps::lists;
 
 // (quote d): the words of d without marks and bindings.
 pub fn quoted(items: &[u32], work: &[u32], core: &mut [u32], node: u32, reached: Reached) -> Ended
     requires { ⌜ QuoteRoom (now items) (now work) (now core) node reached ⌝ }
     ensures { λ r. ⌜ QuoteLeft (now (items .entry)) (now (work .entry)) node reached (now (core .entry)) (now (core .exit)) r ⌝ }
 {
-    if !trees::is_list_of(work, node, 2) {
+    if !lists::is_list_of(work, node, 2) {
         return leaf::refuse(13, reached);
     }
     let datum = lists::element(work, node, 1);
@@ -49,7 +48,7 @@ pub fn condition(
     requires { ⌜ CoreRoom (now core) (reached .at) 1 ⌝ }
     ensures { λ r. ⌜ IfLeft (now (work .entry)) node tail wrap reached (now (core .entry)) (now (core .exit)) r ⌝ }
 {
-    if !trees::is_list_of(work, node, 4) {
+    if !lists::is_list_of(work, node, 4) {
         return Turn::Over(leaf::refuse(13, reached));
     }
     Turn::Operands {

@@ -10,9 +10,9 @@ use crate::answers::Reached;
 use crate::answers::Turn;
 use crate::leaf;
 use arena::cells;
+use arena::lists;
 use steps::apply;
 use steps::apply::Applied;
-use steps::lists;
 
 // The rules of macro n, of `count` so far; none past them.
 pub fn rules_of(macros: &[u32], count: u32, n: u32) -> u32

@@ -15,10 +15,9 @@ use Rattle.expansion.specs.Forms.{isMacro}
 use Rattle.arena.specs.Arena.{wordAt, referenceAt, nameAt, treeAt}
 use Rattle.arena.specs.ArenaLaws.{cases, wordAt-some, referenceAt-falls}
 use Rattle.arena.specs.NodeLaws.{treeAt-name}
-use Rattle.steps.specs.Lists.{Means}
-use Rattle.forms.specs.ListLaws.{no-pair, a-pair}
+use Rattle.arena.specs.Lists.{Means}
+use Rattle.arena.specs.ListLaws.{no-pair, a-pair, ordinary-other}
 use Rattle.forms.specs.Shapes.{ownName, bindsOne}
-use Rattle.forms.specs.ShapeLaws.{ordinary-other}
 use Rattle.forms.specs.Binders.{AllNames, ownNames, namesIn, Opened}
 
 -- ---- names

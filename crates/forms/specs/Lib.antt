@@ -1,6 +1,5 @@
 -- Forms on cells: what its functions answer, and laws.
 pub mod Shapes
-pub mod ListLaws
 pub mod ShapeLaws
 pub mod Binders
 pub mod BinderLaws

@@ -21,8 +21,8 @@ use Rattle.arena.specs.ArenaLaws.{wrapAt-number, wordAt-some, referenceAt-falls
 use Rattle.arena.specs.NodeLaws.{treeAt-wrap, treeAt-empty, treeAt-name, treeAt-constant}
 use Rattle.arena.specs.Names.{numberOf}
 use Rattle.arena.specs.NameLaws.{nameAt-number}
-use Rattle.steps.specs.Lists.{Counts}
-use Rattle.forms.specs.ListLaws.{no-pair, a-pair}
+use Rattle.arena.specs.Lists.{Counts}
+use Rattle.arena.specs.ListLaws.{no-pair, a-pair}
 use Rattle.forms.specs.Quotes.{quotedAt, elementsAt, Quotable, Written, Walked}
 
 -- ---- words in the table

@@ -1,49 +1,19 @@
 -- Laws of shapes, one for each way through the code.
 use mathlib.Core.Path.{_≡_, refl, sym, ap, _∙_}
-use mathlib.Core.Bool.{Bool, true, false, not, _&&_, and-false}
+use mathlib.Core.Bool.{Bool, true, false, _&&_, and-false}
 use mathlib.Core.List.{List}
 use Prim.Native.Nat.{ℕ, zero, suc, _-_}
 use native.Mathlib.Omega.{arith}
-use lib.Dec.{eqb, leb·zero, leb·suc-zero, leb·suc-suc}
+use lib.Dec.{leb·zero, leb·suc-zero, leb·suc-suc}
 use lib.ListN.{length}
-use borrow.Author.Tests.{eqb-true, eqb-false, ne-eqb, le-leb}
+use borrow.Author.Tests.{le-leb}
 use Rattle.words.specs.Lists.{within, all}
-use Rattle.recipe.specs.Name.{isOrdinary, isEllipsis, isWildcard}
-use Rattle.recipe.specs.Tree.{pair, onName, isOrdinaryName, isList, isListOf, onEmpty, onPair, elements, element}
+use Rattle.recipe.specs.Tree.{pair, isOrdinaryName, isList, isListOf, onEmpty, onPair, elements, element}
 use Rattle.expansion.specs.Forms.{isLambda, isMacro, isMacros}
-use Rattle.arena.specs.Arena.{wordAt, referenceAt, nameAt, treeAt}
-use Rattle.arena.specs.ArenaLaws.{cases}
-use Rattle.arena.specs.NodeLaws.{treeAt-empty, treeAt-name, treeAt-pair, treeAt-constant}
-use Rattle.arena.specs.Names.{numberOf}
-use Rattle.arena.specs.NameLaws.{nameAt-number}
-use Rattle.steps.specs.Lists.{Means}
-use Rattle.forms.specs.ListLaws.{no-pair, a-pair}
-use Rattle.forms.specs.Shapes.{Tests, TestsIn, ownName, bindsOne, bindsAll}
-
--- ---- names
-
-module _ (items work : List ℕ) (node kind : ℕ) (kind-is : kind ≡ wordAt work node 3) where
-  pub ordinary-other : (kind ≡ 3 → ⊥) → TestsIn isOrdinaryName items work node false
-  unfolding isOrdinaryName onName
-  ordinary-other other w =
-      cases (eqb kind 0)
-      (λ t. rw (treeAt-empty items work node w (sym kind-is ∙ eqb-true kind 0 t)))
-      (λ t.
-      cases (eqb kind 4)
-      (λ u. rw (treeAt-pair items work node w (sym kind-is ∙ eqb-true kind 4 u)))
-      (λ u. rw (treeAt-constant items work node w (λ z. eqb-false kind 0 t (kind-is ∙ z)) (λ z. other (kind-is ∙ z)) (λ z. eqb-false kind 4 u (kind-is ∙ z)))))
-
-  module _ (number : ℕ) (number-is : number ≡ numberOf items work node) (a-name : kind ≡ 3) where
-    number-same : (w : ℕ) → nameAt items work node w .number ≡ number
-    number-same w = nameAt-number items work node w ∙ sym number-is
-
-    pub ordinary-ellipsis : number ≡ 6 → TestsIn isOrdinaryName items work node false
-    unfolding isOrdinaryName onName isOrdinary isEllipsis isWildcard
-    ordinary-ellipsis e w = rw (treeAt-name items work node w (sym kind-is ∙ a-name), number-same w, e)
-
-    pub ordinary-last : (number ≡ 6 → ⊥) → TestsIn isOrdinaryName items work node (not (eqb number 7))
-    unfolding isOrdinaryName onName isOrdinary isEllipsis isWildcard
-    ordinary-last e w = rw (treeAt-name items work node w (sym kind-is ∙ a-name), number-same w, ne-eqb number 6 e)
+use Rattle.arena.specs.Arena.{wordAt, referenceAt, treeAt}
+use Rattle.arena.specs.Lists.{Means, Tests, TestsIn}
+use Rattle.arena.specs.ListLaws.{no-pair, a-pair}
+use Rattle.forms.specs.Shapes.{ownName, bindsOne, bindsAll}
 
 -- ---- what an element binds
 

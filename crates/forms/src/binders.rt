@@ -14,8 +14,8 @@ ghost use Rattle.arena.specs.Arena.{markLimit, nameAt, treeAt};
 ghost use Rattle.forms.specs.Binders.{AllNames, namesIn, Proper, bindsTo, Space, Scoped};
 use crate::shapes;
 use arena::cells;
+use arena::lists;
 use arena::names;
-use steps::lists;
 
 // Whether a name is the same as one that the list binds.
 pub fn is_among(

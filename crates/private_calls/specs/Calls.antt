@@ -7,13 +7,13 @@ use Prim.Native.Nat.{ℕ}
 use lib.ListN.{length}
 use Rattle.words.specs.Lists.{all}
 use Rattle.expansion.specs.Run.{Run, run}
-use Rattle.private_names.specs.Statement.{Choice, renamed, hypotheses, Answer, answerOf}
+use Rattle.private_names.specs.Statement.{Choice, renamed, hypotheses, Answer, answerOf, PrivateNames}
 use Rattle.private_names_proof.specs.Claim.{private-names}
 use Rattle.expander.specs.declared.Expansion.{Expansion}
 use Rattle.expander.specs.Service.{Numbers, numbersOf, groundOf, runNumbers, leftBy, coreAfter, workAfter, Served}
 
 -- what a call of a recipe answers and leaves is told by outcome, counts and core words
-numbersFor : Answer → Numbers
+abbrev numbersFor : Answer → Numbers
 numbersFor a = record { ground = groundOf (a .outcome); steps = a .steps; sum = a .sum; length = length (a .core) }
 
 -- two calls with one fuel and the same lent tables: of a recipe, and of the recipe with a private name renamed
@@ -22,9 +22,10 @@ pub private-calls : (ws : List ℕ) (fuel : ℕ) (c : Choice) (work work₁ work
     → Served ws fuel work work₁ core core₁ first
     → Served (renamed ws c) fuel work work₂ core core₂ second
     → (numbersOf second ≡ numbersOf first) × (core₂ ≡ core₁) × (work₂ ≡ work₁)
-unfolding answerOf runNumbers coreAfter workAfter
+unfolding PrivateNames answerOf runNumbers coreAfter workAfter
 private-calls ws fuel c work work₁ work₂ core core₁ core₂ first second h p q =
-    let e = private-names ws fuel (length work) (length core) c h in
-    (q .numbers ∙ ap numbersFor e ∙ sym (p .numbers),
-    q .core-after ∙ ap (λ (a : Answer). leftBy (a .outcome) (a .core) core) e ∙ sym (p .core-after),
-    q .work-after ∙ ap (λ (a : Answer). leftBy (a .outcome) [] work) e ∙ sym (p .work-after))
+    let e = private-names ws fuel (length work) (length core) c h in (
+      q .numbers ∙ ap numbersFor e ∙ sym (p .numbers),
+      q .core-after ∙ ap (λ (a : Answer). leftBy (a .outcome) (a .core) core) e ∙ sym (p .core-after),
+      q .work-after ∙ ap (λ (a : Answer). leftBy (a .outcome) [] work) e ∙ sym (p .work-after),
+    )

@@ -64,7 +64,7 @@ expressions-agree ρ p limit operations fuel gas N l b j t i held chosen reaches
 
 -- ---- both runs
 
-ended-events : (o : Out (Term Name)) → ended o .events ≡ eventsOf o
+pub ended-events : (o : Out (Term Name)) → ended o .events ≡ eventsOf o
 unfolding ended eventsOf
 ended-events (done a s l) = refl
 ended-events (refused g s l) = refl
@@ -131,7 +131,7 @@ module _ (ws : List ℕ) (fuel work core : ℕ) (c : Choice) (k : Case ws fuel w
     unfolding firstOf expansionOf
     joins =
         expressions-agree ρ (c .form) macrosMost (operationNumbers (treeOf ws)) fuel (size (treeOf ws) + fuel) (numberAt ws) l (c .macro) (c .rule) (element 1 (treeOf ws)) i
-        (held-element (numberAt ws) 1 (treeOf ws) (held ws c layout (k .private) (k .new) (eventsOf (firstOf fuel ws)))) (chosen ws c layout (k .private) (k .new) (eventsOf (firstOf fuel ws)) l i) (k .reaches) fine
+        (held-element (numberAt ws) 1 (treeOf ws) (held ws c layout)) (chosen ws c layout (k .private) (k .new) (eventsOf (firstOf fuel ws)) l i) (k .reaches) fine
 
     same : element 0 (onNames (renew ρ) (treeOf ws)) ≡ element 0 (treeOf ws)
     same = operations-same ws c layout (k .private) (k .new) (eventsOf (firstOf fuel ws)) l i

@@ -1,8 +1,8 @@
 -- Tests of what a run has at hand, computed on recipes: the invariants' tests pass, and tests that say more fail.
 use mathlib.Core.Path.{_≡_, refl}
 use mathlib.Core.Bool.{Bool, not, _||_}
-use mathlib.Core.List.{List, [], _∷_, map}
-use Prim.Native.Nat.{ℕ, suc}
+use mathlib.Core.List.{[], _∷_}
+use Prim.Native.Nat.{ℕ}
 use Prim.Native.String.{String}
 use lib.Dec.{eqb}
 use Rattle.words.specs.Lists.{all, any}
@@ -10,7 +10,7 @@ use Rattle.recipe.specs.Name.{bindingKey}
 use Rattle.recipe.specs.Tree.{Tree, names}
 use Rattle.recipe.specs.Table.{treeOf}
 use Rattle.expansion.specs.Computation.{State}
-use Rattle.expansion.specs.Run.{Outcome, accepted, turnedBack, Run, ended}
+use Rattle.expansion.specs.Run.{Outcome, accepted, turnedBack, ended}
 use Rattle.expansion.specs.Computed.{computed}
 use Rattle.private_names.specs.Statement.{isCopy}
 use Rattle.private_names.specs.Witnesses.{itemsOf}

@@ -1,39 +1,51 @@
 -- The invariants of a run that demand 3 rests on, each a theorem about the definition. What a run has at hand is each expression that it
 -- comes to, in the state at that place: the definition with a test before each expression (`watched`) is the definition.
--- Read Tests and the head of Watch first. Kinds has what is kept, Kept the induction, AtForm where copies begin.
+-- Read Tests and the head of Watch first. Kinds has what is kept, Kept the induction; AtForm, Places and Reached have the form of a private
+-- name and the run up to it.
 pub mod Tests
 pub mod Watch
 pub mod Kinds
 pub mod Kept
 pub mod AtForm
 pub mod Followed
+pub mod Places
+pub mod Reached
 use mathlib.Core.Path.{_≡_, ap, sym, _∙_, subst}
+use mathlib.Core.Logic.{_⊎_, inl, inr}
 use mathlib.Core.Bool.{Bool, true, false, false≢true}
 use mathlib.Core.List.{List, _∷_}
 use Prim.Native.Nat.{ℕ, suc, _+_}
 use native.Mathlib.Omega.{arith}
 use Rattle.words.specs.Limits.{macrosMost}
 use Rattle.words.specs.Lists.{any}
-use Rattle.words.specs.Each.{Each, noneOf, each-weaken}
-use Rattle.recipe.specs.Name.{macro, Name, plainName, markName, produceName}
+use Rattle.words.specs.Each.{noneOf}
+use Rattle.recipe.specs.Name.{Name, plainName, markName, produceName}
 use Rattle.recipe.specs.Tree.{Tree, size, element}
-use Rattle.recipe.specs.Tidy.{tidy-element}
+use Rattle.recipe.specs.TreeNames.{treeAll-map, treeAll-element, uses-element}
+use Rattle.recipe.specs.Tidy.{tidy-element, tidy-weaken}
 use Rattle.recipe.specs.Table.{isLayout, treeOf}
+use Rattle.recipe.specs.TableNames.{numberAt}
 use Rattle.recipe.specs.TableTidy.{PlainName, IsConstant, treeOf-tidy}
 use Rattle.core_term.specs.Term.{Term}
 use Rattle.expansion.specs.Computation.{State, start, Out}
-use Rattle.expansion.specs.Forms.{keywords, expandMacros, expandUse, expand}
-use Rattle.expansion.specs.Run.{operationNumbers, expandRecipe}
-use Rattle.expansion.specs.TidyRules.{TidyRules}
-use Rattle.private_names.specs.Statement.{isReachedAt}
+use Rattle.expansion.specs.Forms.{expandUse, expand}
+use Rattle.expansion.specs.Run.{operationNumbers, expandRecipe, run}
+use Rattle.expansion.specs.RunLaws.{Begun, begun-run, shows-begun}
+use Rattle.private_names.specs.Statement.{Choice, isOldItem, isReachedAt}
 use Rattle.simulation.specs.Outcomes.{eventsOf}
+use Rattle.private_names_proof.specs.Reach.Heads.{Unheaded}
 use Rattle.private_names_proof.specs.Reach.{none-reached, use-unreached, expand-unreached}
+use Rattle.private_names_proof.specs.Paths.{Headed, find}
+use Rattle.private_names_proof.specs.Taken.{held, items-at}
+use Rattle.private_names_proof.specs.Claim.{ended-events}
 use Rattle.private_names_proof.specs.Invariants.Tests.{areFresh, haveOneBinding, areApart}
-use Rattle.private_names_proof.specs.Invariants.Watch.{watched, watched-is, watched-form-is}
-use Rattle.private_names_proof.specs.Invariants.Kinds.{Fresh, inserted-marks, used-marks, Good, Sound, boundAll-sound, boundAll-tidy}
-use Rattle.private_names_proof.specs.Invariants.Kept.{fails-nowhere, goodRules, Follows, macros-keeps, watched-keeps}
-use Rattle.private_names_proof.specs.Invariants.AtForm.{Copied, Public, public-good, InPlace, privateIn, form-rules, form-body}
-use Rattle.private_names_proof.specs.Invariants.Followed.{binding-carried, item-carried, fresh-follows, binding-follows, apart-follows}
+use Rattle.private_names_proof.specs.Invariants.Watch.{watched, watched-is}
+use Rattle.private_names_proof.specs.Invariants.Kinds.{Fresh, inserted-marks, used-marks, Sound}
+use Rattle.private_names_proof.specs.Invariants.Kept.{After, fails-nowhere, Follows, watched-keeps}
+use Rattle.private_names_proof.specs.Invariants.AtForm.{isPrivateName, Copied, rulesIn, privateIn}
+use Rattle.private_names_proof.specs.Invariants.Followed.{binding-carried, item-carried, fresh-follows, binding-follows, apart-follows, apart-rests}
+use Rattle.private_names_proof.specs.Invariants.Places.{Place}
+use Rattle.private_names_proof.specs.Invariants.Reached.{place-passes}
 
 -- the expansion of a recipe, `expandRecipe`, with a test before each expression
 unfoldable pub watchedRecipe : (test : Tree → State → Bool) (fuel : ℕ) → Tree → Out (Term Name)
@@ -60,6 +72,27 @@ recipe-follows test follows ws fuel layout =
     (watched-keeps (λ x. x .binding) (λ x. Unit {0}) IsConstant binding-carried test follows macrosMost operations fuel gas
     0 PlainName plain-sound (element 1 (treeOf ws)) (tidy-element 1 (treeOf-tidy ws layout)) start (record { later = omega arith; rules = noneOf })))
 
+-- the form in the recipe's expression, as the run begins
+form-place : (ws : List ℕ) (c : Choice) (layout : isLayout ws ≡ true) (l : List ℕ) → Headed (c .form) l (element 1 (treeOf ws)) → Place (numberAt ws) (c .form) (c .macro) (c .rule) (c .old) (isOldItem (treeOf ws) c) l (element 1 (treeOf ws))
+unfolding privateIn rulesIn plainName
+form-place ws c layout l i =
+    let h = held ws c layout in
+    record {
+      headed = i;
+      in-place = record {
+        tidy = tidy-element 1 (tidy-weaken (λ x q. tt) (treeOf-tidy ws layout));
+        unproduced = treeAll-element 1 (treeAll-map (λ x q. ap (λ y. y .produced) q) (h .plain));
+        unmarked = treeAll-element 1 (treeAll-map (λ x q. ap (λ y. y .marks) q) (h .plain));
+        numbered = treeAll-element 1 (h .numbered);
+        once = λ q. omega (arith, h .once q, uses-element q 1 (treeOf ws));
+      };
+      privates = items-at ws c layout l i;
+    }
+
+start-after : (private : ℕ → Bool) → After (isPrivateName private) (Copied private) IsConstant 0 start
+unfolding start
+start-after private = record { later = omega arith; rules = noneOf }
+
 -- ---- the invariants
 
 -- Marks are fresh: in each expression that a run comes to, every mark is that of a step already made. So the next step's mark is new.
@@ -76,25 +109,29 @@ marks-stick k x f = (inserted-marks k x f, used-marks k x f)
 pub marks-determine-binding : (ws : List ℕ) (fuel : ℕ) → isLayout ws ≡ true → watchedRecipe haveOneBinding fuel (treeOf ws) ≡ expandRecipe fuel (treeOf ws)
 marks-determine-binding = recipe-follows haveOneBinding binding-follows
 
--- A copy and a name that is no copy are never the same: in each expression that a run comes to from a let-syntax or letrec-syntax t on that is
--- in place, for any number n and rule j of its macro b, where no rule at hand before has a private name.
-pub copies-stay-apart : (number : ℕ → ℕ) (t : Tree) → InPlace IsConstant number t → (b j n : ℕ) (s : State)
-    → Each (TidyRules (λ x. (privateIn b j n t (x .item) ≡ false) × Fresh (s .steps) x) IsConstant) (s .macros)
-    → (limit : ℕ) (operations : List ℕ) (fuel gas : ℕ) (inside : Bool) (x : Name)
-    → expandMacros limit operations fuel (watched (areApart (privateIn b j n t)) limit operations fuel gas) inside x t s
-    ≡ expandMacros limit operations fuel (expand limit operations fuel gas) inside x t s
-copies-stay-apart number t p b j n s before limit operations fuel gas inside x =
-    let private = privateIn b j n t in
-    let c = item-carried private in
-    let kept = watched-keeps (λ x. private (x .item)) (Copied private) IsConstant c (areApart private) (apart-follows private) limit operations fuel gas in
-    let sound : Sound (λ x. private (x .item)) (Copied private) (s .steps) (Public private) = record { good = public-good private (s .steps); each = λ x q e. absurd (false≢true (sym (q .0) ∙ e)) } in
-    let g : Good (λ x. private (x .item)) (s .steps) (λ x. (private (x .item) ≡ false) × Fresh (s .steps) x) = record { fresh = λ x q. q .1; determines = λ x y q r _ _. q .0 ∙ sym (r .0) } in
-    watched-form-is (areApart private) limit operations fuel gas inside x t s
-    (fails-nowhere (λ x. private (x .item)) (Copied private) IsConstant
-    (macros-keeps (λ x. private (x .item)) (Copied private) IsConstant c limit operations fuel (watched (areApart private) limit operations fuel gas) kept (s .steps) inside x t
-    (form-rules IsConstant number t p b j n (s .steps) inside)
-    (λ i. kept (s .steps) _ (boundAll-sound (λ x. private (x .item)) (Copied private) c macro i (keywords t) sound) _ (boundAll-tidy macro i (keywords t) (form-body IsConstant number t p b j n)))
-    s (record { later = omega arith; rules = each-weaken (λ rules. goodRules (λ x. private (x .item)) (Copied private) IsConstant g) before })))
+-- A copy and a name that is no copy are never the same: in each expression that a run comes to, where it comes to the form of that
+-- template other than through a macro's result.
+pub copies-stay-apart : (ws : List ℕ) (fuel work core : ℕ) (c : Choice) → any (isReachedAt (c .form)) (run ws fuel work core .events) ≡ true
+    → watchedRecipe (areApart (isOldItem (treeOf ws) c)) fuel (treeOf ws) ≡ expandRecipe fuel (treeOf ws)
+unfolding watchedRecipe expandRecipe
+copies-stay-apart ws fuel work core c h = located (find (c .form) (element 1 (treeOf ws)))
+  where
+    begun : Begun ws fuel work core
+    begun = shows-begun ws fuel work core (isReachedAt (c .form)) h
+
+    reaches : any (isReachedAt (c .form)) (eventsOf (expand macrosMost (operationNumbers (treeOf ws)) fuel (size (treeOf ws) + fuel) (element 1 (treeOf ws)) start)) ≡ true
+    reaches = subst (λ l. any (isReachedAt (c .form)) l ≡ true) (ap (λ r. r .events) (begun-run ws fuel work core begun) ∙ ended-events (expandRecipe fuel (treeOf ws))) h
+
+    located : Unheaded (c .form) (element 1 (treeOf ws)) ⊎ ((l : List ℕ) × Headed (c .form) l (element 1 (treeOf ws)))
+        → watched (areApart (isOldItem (treeOf ws) c)) macrosMost (operationNumbers (treeOf ws)) fuel (size (treeOf ws) + fuel) (element 1 (treeOf ws)) start
+        ≡ expand macrosMost (operationNumbers (treeOf ws)) fuel (size (treeOf ws) + fuel) (element 1 (treeOf ws)) start
+    located (inl u) = absurd (false≢true (sym (none-reached (c .form) (expand-unreached (c .form) macrosMost (operationNumbers (treeOf ws)) fuel (size (treeOf ws) + fuel) (element 1 (treeOf ws)) u start)) ∙ reaches))
+    located (inr (l, i)) =
+        let private = isOldItem (treeOf ws) c in
+        watched-is (areApart private) macrosMost (operationNumbers (treeOf ws)) fuel (size (treeOf ws) + fuel) (element 1 (treeOf ws)) start
+        (fails-nowhere (isPrivateName private) (Copied private) IsConstant
+        (place-passes (numberAt ws) (c .form) (c .macro) (c .rule) (c .old) private (item-carried private) (areApart private) (apart-follows private) (apart-rests private (numberAt ws)) macrosMost (operationNumbers (treeOf ws)) fuel (size (treeOf ws) + fuel)
+        l (element 1 (treeOf ws)) (form-place ws c (begun .layout) l i) start (start-after private) reaches))
 
 -- A form reached outside results was in no use: whatever a macro use holds, its expansion reaches no form by a name that never stood in a result.
 pub reached-in-no-use : (limit : ℕ) (operations : List ℕ) (fuel gas n : ℕ) (t : Tree) (s : State) (p : ℕ)

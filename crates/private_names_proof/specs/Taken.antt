@@ -27,6 +27,30 @@ use Rattle.private_names_proof.specs.Paths.{sub, treeAll-sub, Headed, he
 use Rattle.private_names_proof.specs.Renamed.OldItems.{isOld, old-some, variables-none}
 use Rattle.private_names_proof.specs.Renamed.{unbound, renew, still-tree, Held, held-element, templateIn, Chosen, renamed-holds}
 
+-- ---- the form's rules in the table's tree
+
+module _ (ws : List ℕ) (c : Choice) (layout : isLayout ws ≡ true) where
+  pub held : Held (numberAt ws) (treeOf ws)
+  held = record { plain = treeOf-plain ws; numbered = treeOf-numbered ws; once = λ q. treeOf-uses q ws layout }
+
+  -- where the form lies at l of the expression
+  module _ (l : List ℕ) (i : Headed (c .form) l (element 1 (treeOf ws))) where
+    rules-at : rulesAt (treeOf ws) c ≡ element 1 (element (c .macro) (element 1 (sub l (element 1 (treeOf ws)))))
+    unfolding rulesAt formAt sub
+    rules-at = ap (λ t. element 1 (element (c .macro) (element 1 t))) (headed-part (c .form) (headed-of-element (c .form) 1 (treeOf ws) i) (held .once (c .form)) .1)
+
+    template-at : templateAt (treeOf ws) c ≡ templateIn (c .rule) (element 1 (element (c .macro) (element 1 (sub l (element 1 (treeOf ws))))))
+    unfolding templateAt ruleAt templateIn
+    template-at = let R = element 1 (element (c .macro) (element 1 (sub l (element 1 (treeOf ws))))) in
+        ap (λ r. element 1 (element (c .rule) (tail (tail r)))) rules-at ∙ ap (element 1) (element-tail (c .rule) (tail R) ∙ element-tail (suc (c .rule)) R)
+
+    -- the items of the old name are those of that template
+    pub items-at : (q : ℕ) → isOldItem (treeOf ws) c q ≡ any (isOld (c .old) q) (names (templateIn (c .rule) (element 1 (element (c .macro) (element 1 (sub l (element 1 (treeOf ws))))))))
+    unfolding isOldItem isOld
+    items-at q = ap (λ t. any (isOld (c .old) q) (names t)) template-at
+
+-- ---- the renaming
+
 module _ (ws : List ℕ) (c : Choice) (layout : isLayout ws ≡ true) (private : S.isPrivate (treeOf ws) c ≡ true) (new : isNew ws (c .new) ≡ true) (shown : Events) where
   abbrev T : Tree
   T = treeOf ws
@@ -62,32 +86,17 @@ module _ (ws : List ℕ) (c : Choice) (layout : isLayout ws ≡ true) (private :
     new-7 = ne-eqb (c .new) 7 (λ e. omega (arith, new-large .0));
   }
 
-  pub held : Held (numberAt ws) T
-  held = record { plain = treeOf-plain ws; numbered = treeOf-numbered ws; once = λ q. treeOf-uses q ws layout }
-
   -- where the form lies at l of the expression
   module _ (l : List ℕ) (i : Headed (c .form) l (element 1 T)) where
     abbrev R : Tree
     R = element 1 (element (c .macro) (element 1 (sub l (element 1 T))))
 
-    rules-at : rulesAt T c ≡ R
-    unfolding rulesAt formAt sub
-    rules-at = ap (λ t. element 1 (element (c .macro) (element 1 t))) (headed-part (c .form) (headed-of-element (c .form) 1 T i) (held .once (c .form)) .1)
-
     new-rules : TreeAll (λ x. eqb (x .number) (c .new) ≡ false) R
     new-rules = treeAll-element 1 (treeAll-element (c .macro) (treeAll-element 1 (treeAll-sub l (treeAll-element 1 (tree-new ws (c .new) new)))))
 
-    template-at : templateAt T c ≡ templateIn (c .rule) R
-    unfolding templateAt ruleAt templateIn
-    template-at = ap (λ r. element 1 (element (c .rule) (tail (tail r)))) rules-at ∙ ap (element 1) (element-tail (c .rule) (tail R) ∙ element-tail (suc (c .rule)) R)
-
-    items-at : (q : ℕ) → isOldItem T c q ≡ any (isOld (c .old) q) (names (templateIn (c .rule) R))
-    unfolding isOldItem isOld
-    items-at q = ap (λ t. any (isOld (c .old) q) (names t)) template-at
-
     old-at : hasVariable (c .rule) (c .old) R ≡ false
     unfolding hasVariable isVariableAt ruleAt
-    old-at = sym (ap (hasVariable (c .rule) (c .old)) rules-at) ∙ old-free .1 .1
+    old-at = sym (ap (hasVariable (c .rule) (c .old)) (rules-at ws c layout l i)) ∙ old-free .1 .1
 
     new-at : hasVariable (c .rule) (c .new) R ≡ false
     unfolding hasVariable
@@ -98,11 +107,11 @@ module _ (ws : List ℕ) (c : Choice) (layout : isLayout ws ≡ true) (private :
     new-template = treeAll-element 1 (treeAll-element (suc (suc (c .rule))) new-rules)
 
     pub chosen : Chosen renaming (c .rule) R
-    chosen = record { private = items-at; some = some-private; fresh = new-template; old-free = old-at; new-free = new-at }
+    chosen = record { private = items-at ws c layout l i; some = some-private; fresh = new-template; old-free = old-at; new-free = new-at }
 
     -- the first element has no private item
     pub operations-same : element 0 (onNames (renew renaming) T) ≡ element 0 T
     operations-same =
         onNames-element (renew renaming) 0 T
-        ∙ sym (still-eq renaming unbound (still-tree renaming (treeAll-element 0 (held .plain))
-        (λ q e. omega (arith, held .once q, renamed-holds renaming (numberAt ws) l (c .macro) (c .rule) (element 1 T) (held-element (numberAt ws) 1 T held) chosen q e, uses-elements q 0 1 T (omega arith)))))
+        ∙ sym (still-eq renaming unbound (still-tree renaming (treeAll-element 0 (held ws c layout .plain))
+        (λ q e. omega (arith, held ws c layout .once q, renamed-holds renaming (numberAt ws) l (c .macro) (c .rule) (element 1 T) (held-element (numberAt ws) 1 T (held ws c layout)) chosen q e, uses-elements q 0 1 T (omega arith)))))

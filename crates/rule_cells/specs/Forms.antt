@@ -1,25 +1,25 @@
 -- The shape of a rules form, in the parts that the code tests, and its laws.
 use mathlib.Core.Path.{_≡_, refl, sym, ap, _∙_}
-use mathlib.Core.Bool.{Bool, true, false, not, _&&_, _||_}
-use mathlib.Core.List.{List, [], _∷_}
-use Prim.Native.Nat.{ℕ, zero, suc, _+_, _≤_, _<_}
+use mathlib.Core.Bool.{Bool, true, false, _&&_}
+use mathlib.Core.List.{List}
+use Prim.Native.Nat.{ℕ, _≤_}
 use native.Mathlib.Omega.{arith}
 use lib.Dec.{eqb, leb}
 use lib.ListN.{length}
-use borrow.Author.Tests.{ne-eqb, lt-leb, le-leb}
+use borrow.Author.Tests.{ne-eqb, le-leb}
 use Rattle.words.specs.Limits.{literalsMost, rulesMost}
 use Rattle.words.specs.Lists.{within, all}
-use Rattle.recipe.specs.Name.{Name, isOrdinary, isEllipsis, isWildcard, bindingKey}
-use Rattle.recipe.specs.Tree.{Tree, empty, constant, name, pair, onEmpty, onName, onPair, isOrdinaryName, isList, elements, element, tail}
+use Rattle.recipe.specs.Name.{bindingKey}
+use Rattle.recipe.specs.Tree.{Tree, onName, isOrdinaryName, isList, elements, element, tail}
+use Rattle.recipe.specs.TreeLaws.{element-tail}
 use Rattle.expansion.specs.Lookup.{isSyntaxRules}
 use Rattle.expansion.specs.Rules.{isRulesForm}
 use Rattle.arena.specs.Arena.{wordAt, referenceAt, nameAt, treeAt}
-use Rattle.arena.specs.ArenaLaws.{cases}
-use Rattle.arena.specs.NodeLaws.{treeAt-empty, treeAt-name, treeAt-pair}
+use Rattle.arena.specs.NodeLaws.{treeAt-name, treeAt-pair}
 use Rattle.arena.specs.Names.{numberOf}
 use Rattle.arena.specs.NameLaws.{nameAt-number}
-use Rattle.rule_cells.specs.Trees.{Part, Counted, Tells, TellsOf}
-use Rattle.rule_cells.specs.TreeLaws.{element-one, tree-cases, no-name, no-elements}
+use Rattle.arena.specs.Lists.{Means, Counts, Tests, TestsIn}
+use Rattle.arena.specs.ListLaws.{no-name, no-elements}
 
 -- every element of a list is a name other than `...` and `_`
 unfoldable pub ordinaryAll : Tree → Bool
@@ -29,69 +29,36 @@ ordinaryAll t = all isOrdinaryName (elements t)
 unfoldable pub literalsGood : Tree → Bool
 literalsGood t = isList t && (ordinaryAll t && leb (length (elements t)) literalsMost)
 
--- ---- lists
-
-module _ (work : List ℕ) (node : ℕ) where
-  pub list-empty : wordAt work node 3 ≡ 0 → Tells isList work node true
-  unfolding isList onEmpty
-  list-empty e items w = rw (treeAt-empty items work node w e) refl
-
-  pub list-pair : wordAt work node 3 ≡ 4 → Tells isList work node true
-  unfolding isList onEmpty onPair
-  list-pair e items w = rw (treeAt-pair items work node w e) refl
-
-  pub list-no : (wordAt work node 3 ≡ 0 → ⊥) → (wordAt work node 3 ≡ 4 → ⊥) → Tells isList work node false
-  unfolding isList onEmpty onPair
-  list-no m n items w = tree-cases items work node w (λ t. false ≡ isList t) (λ e. absurd (m e)) (λ e. refl) (λ e. absurd (n e)) (λ p q r. refl)
-
 -- ---- ordinary names
 
 module _ (items work : List ℕ) (node : ℕ) where
-  pub ordinary-no : (wordAt work node 3 ≡ 3 → ⊥) → TellsOf isOrdinaryName items work node false
-  unfolding isOrdinaryName
-  ordinary-no n w = sym (no-name items work node w isOrdinary false n)
-
-  module _ (n : ℕ) (e : wordAt work node 3 ≡ 3) (f : n ≡ numberOf items work node) where
-    ordinary-is : (w : ℕ) → isOrdinaryName (treeAt items work node w) ≡ (not (eqb n 6) && not (eqb n 7))
-    unfolding isOrdinaryName onName isOrdinary isEllipsis isWildcard
-    ordinary-is w = rw (treeAt-name items work node w e, nameAt-number items work node w, ← f) refl
-
-    pub ordinary-dots : n ≡ 6 → TellsOf isOrdinaryName items work node false
-    ordinary-dots d w = sym (ordinary-is w ∙ rw d refl)
-
-    pub ordinary-wildcard : n ≡ 7 → TellsOf isOrdinaryName items work node false
-    ordinary-wildcard d w = sym (ordinary-is w ∙ rw d refl)
-
-    pub ordinary-yes : (n ≡ 6 → ⊥) → (n ≡ 7 → ⊥) → TellsOf isOrdinaryName items work node true
-    ordinary-yes d k w = sym (ordinary-is w ∙ rw (ne-eqb n 6 d, ne-eqb n 7 k) refl)
-
-  pub all-end : (wordAt work node 3 ≡ 4 → ⊥) → TellsOf ordinaryAll items work node true
+  pub all-end : (wordAt work node 3 ≡ 4 → ⊥) → TestsIn ordinaryAll items work node true
   unfolding ordinaryAll all
   all-end n w = rw (no-elements items work node w n) refl
 
   module _ (first : ℕ) (e : wordAt work node 3 ≡ 4) (f : first ≡ referenceAt work node 2) where
-    pub all-no : TellsOf isOrdinaryName items work first false → TellsOf ordinaryAll items work node false
+    pub all-no : TestsIn isOrdinaryName items work first false → TestsIn ordinaryAll items work node false
     unfolding ordinaryAll all elements
     all-no h w = rw (treeAt-pair items work node w e, ← f, ← h w) refl
 
-    pub all-more : (rest : ℕ) (r : Bool) → rest ≡ referenceAt work node 1 → TellsOf isOrdinaryName items work first true → TellsOf ordinaryAll items work rest r → TellsOf ordinaryAll items work node r
+    pub all-more : (rest : ℕ) (r : Bool) → rest ≡ referenceAt work node 1 → TestsIn isOrdinaryName items work first true → TestsIn ordinaryAll items work rest r → TestsIn ordinaryAll items work node r
     unfolding ordinaryAll all elements
     all-more rest r g h k w = rw (treeAt-pair items work node w e, ← f, ← g, ← h w) (k w)
 
   -- ---- literals
 
-  pub literals-no : Tells isList work node false → TellsOf literalsGood items work node false
+  pub literals-no : Tests isList work node false → TestsIn literalsGood items work node false
   unfolding literalsGood
   literals-no h w = rw (← h items w) refl
 
-  module _ (l : Tells isList work node true) where
-    pub literals-other : TellsOf ordinaryAll items work node false → TellsOf literalsGood items work node false
+  module _ (l : Tests isList work node true) where
+    pub literals-other : TestsIn ordinaryAll items work node false → TestsIn literalsGood items work node false
     unfolding literalsGood
     literals-other h w = rw (← l items w, ← h w) refl
 
-    pub literals-most : (n : ℕ) → TellsOf ordinaryAll items work node true → Counted work node n → TellsOf literalsGood items work node (leb n 8)
+    pub literals-most : (n : ℕ) → TestsIn ordinaryAll items work node true → Counts work node n → TestsIn literalsGood items work node (leb n 8)
     unfolding literalsGood
-    literals-most n h c w = rw (← l items w, ← h w, ← c .means items w) refl
+    literals-most n h c w = rw (← l items w, ← h w, ← c .is items w) refl
 
 -- ---- the head
 
@@ -139,22 +106,22 @@ within-some : (n : ℕ) → (n ≡ 0 → ⊥) → within 1 rulesMost n ≡ leb n
 unfolding within
 within-some n h = rw (le-leb 1 n (let l : 1 ≤ n = omega arith in l)) refl
 
-module _ (items work : List ℕ) (node w first : ℕ) (p : Part (element 0) work node first) where
+module _ (items work : List ℕ) (node w first : ℕ) (p : Means work node first (element 0)) where
   pub form-no : false ≡ onName isSyntaxRules false (treeAt items work first w) → false ≡ isRulesForm (treeAt items work node w)
-  form-no h = sym (form-is (treeAt items work node w) ∙ rw (← p .means items w, ← h) refl)
+  form-no h = sym (form-is (treeAt items work node w) ∙ rw (← p .is items w, ← h) refl)
 
-  module _ (h : true ≡ onName isSyntaxRules false (treeAt items work first w)) (after literals : ℕ) (a : Part tail work node after) (l : Part (element 0) work after literals) where
+  module _ (h : true ≡ onName isSyntaxRules false (treeAt items work first w)) (after literals : ℕ) (a : Means work node after tail) (l : Means work after literals (element 0)) where
     literals-are : element 1 (treeAt items work node w) ≡ treeAt items work literals w
-    literals-are = sym (l .means items w ∙ ap (element 0) (a .means items w) ∙ element-one (treeAt items work node w))
+    literals-are = sym (l .is items w ∙ ap (element 0) (a .is items w) ∙ element-tail 0 (treeAt items work node w))
 
-    pub form-literals : TellsOf literalsGood items work literals false → false ≡ isRulesForm (treeAt items work node w)
-    form-literals g = sym (form-is (treeAt items work node w) ∙ rw (← p .means items w, ← h, literals-are, ← g w) refl)
+    pub form-literals : TestsIn literalsGood items work literals false → false ≡ isRulesForm (treeAt items work node w)
+    form-literals g = sym (form-is (treeAt items work node w) ∙ rw (← p .is items w, ← h, literals-are, ← g w) refl)
 
-    module _ (g : TellsOf literalsGood items work literals true) (list n : ℕ) (b : Part tail work after list) (c : Counted work list n) where
+    module _ (g : TestsIn literalsGood items work literals true) (list n : ℕ) (b : Means work after list tail) (c : Counts work list n) where
       form-count : isRulesForm (treeAt items work node w) ≡ within 1 rulesMost n
       form-count =
-          let e : tail (tail (treeAt items work node w)) ≡ treeAt items work list w = sym (b .means items w ∙ ap tail (a .means items w)) in
-          form-is (treeAt items work node w) ∙ rw (← p .means items w, ← h, literals-are, ← g w, e, ← c .means items w) refl
+          let e : tail (tail (treeAt items work node w)) ≡ treeAt items work list w = sym (b .is items w ∙ ap tail (a .is items w)) in
+          form-is (treeAt items work node w) ∙ rw (← p .is items w, ← h, literals-are, ← g w, e, ← c .is items w) refl
 
       pub form-none : n ≡ 0 → false ≡ isRulesForm (treeAt items work node w)
       form-none z = sym (form-count ∙ rw z within-none)

@@ -15,7 +15,7 @@ use Rattle.arena.specs.ArenaLaws.{cases}
 use Rattle.arena.specs.NodeLaws.{treeAt-name, treeAt-pair}
 use Rattle.arena.specs.Names.{numberOf}
 use Rattle.arena.specs.NameLaws.{nameAt-number}
-use Rattle.rule_cells.specs.TreeLaws.{tree-cases, no-name, pair-falls}
+use Rattle.arena.specs.ListLaws.{tree-cases, no-name, pair-falls}
 use Rattle.rule_cells.specs.Variables.{leafCount, variablesFrom, Held, Under, Stored, Gathered, Deeper}
 use Rattle.rule_cells.specs.declared.variables.Kept.{Kept}
 use Rattle.rule_cells.specs.declared.variables.Kept.the-variants.{Count, Bad}

@@ -3,8 +3,7 @@ pub mod Cells
 pub mod CellLaws
 pub mod Made
 pub mod MadeLaws
-pub mod Trees
-pub mod TreeLaws
+pub mod Dots
 pub mod Variables
 pub mod VariableLaws
 pub mod GatherLaws

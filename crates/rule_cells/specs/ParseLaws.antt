@@ -11,7 +11,7 @@ use Rattle.arena.specs.ArenaLaws.{take-less}
 use Rattle.arena.specs.NodeLaws.{treeAt-pair}
 use Rattle.arena.specs.Cells.{Room}
 use Rattle.arena.specs.CellLaws.{tree-kept}
-use Rattle.rule_cells.specs.TreeLaws.{pair-falls}
+use Rattle.arena.specs.ListLaws.{pair-falls}
 use Rattle.rule_cells.specs.Parse.{Asks, Grows}
 
 -- ---- what grows

@@ -1,32 +1,31 @@
 -- Laws of a rule's shape and of lists of rules.
 use mathlib.Core.Path.{_≡_, refl, sym, ap, ap₂, subst, _∙_}
-use mathlib.Core.Bool.{Bool, true, false, not, _&&_, cond}
-use mathlib.Core.List.{List, [], _∷_}
+use mathlib.Core.Bool.{true, false, not, _&&_}
+use mathlib.Core.List.{List, _∷_}
 use mathlib.Core.Option.{Option, none, some}
-use Prim.Native.Nat.{ℕ, zero, suc, _+_, _*_, _≤_, _<_}
+use Prim.Native.Nat.{ℕ, suc, _+_, _*_, _≤_}
 use native.Mathlib.Omega.{arith}
 use lib.Dec.{eqb}
-use lib.ListN.{length, take}
+use lib.ListN.{length}
 use borrow.Author.Tests.{ne-eqb, eqb-true}
 use Rattle.words.specs.Options.{guard, mapSome, mapBoth, traverse}
 use Rattle.words.specs.TestLaws.{and-left, and-right}
 use Rattle.recipe.specs.Name.{Name, isEllipsis}
-use Rattle.recipe.specs.Tree.{Tree, empty, constant, name, pair, size, names, onEmpty, onName, onPair, isList, isListOf, elements, element, tail}
-use Rattle.recipe.specs.TreeLaws.{size-positive}
+use Rattle.recipe.specs.Tree.{Tree, empty, constant, name, pair, size, names, onName, onPair, isList, isListOf, elements, element, tail}
+use Rattle.recipe.specs.TreeLaws.{element-tail}
 use Rattle.expansion.specs.Rules.{Rule, ruleOf, isRulesForm, rulesOf}
-use Rattle.arena.specs.Arena.{wordAt, referenceAt, nameAt, treeAt}
+use Rattle.arena.specs.Arena.{wordAt, referenceAt, treeAt}
 use Rattle.arena.specs.ArenaLaws.{cases, take-less}
 use Rattle.arena.specs.NodeLaws.{treeAt-name}
 use Rattle.arena.specs.Names.{numberOf}
 use Rattle.arena.specs.NameLaws.{nameAt-number}
 use Rattle.arena.specs.CellLaws.{tree-kept}
-use Rattle.rule_cells.specs.Cells.{rulesAt}
+use Rattle.arena.specs.Lists.{Means}
+use Rattle.arena.specs.ListLaws.{no-name, no-elements}
 use Rattle.rule_cells.specs.CellLaws.{rulesAt-none}
-use Rattle.rule_cells.specs.Trees.{Part}
-use Rattle.rule_cells.specs.TreeLaws.{element-one, no-name, no-elements}
 use Rattle.rule_cells.specs.Parse.{Asks}
-use Rattle.rule_cells.specs.ParseLaws.{tree-is, size-is, head-below, rest-below}
-use Rattle.rule_cells.specs.RuleParse.{ruleShape, partsOf, PartsAsk, RuleMade, RuleLeft, RulesMade, RulesLeft}
+use Rattle.rule_cells.specs.ParseLaws.{tree-is, size-is, head-below}
+use Rattle.rule_cells.specs.RuleParse.{ruleShape, partsOf, PartsAsk, RuleLeft, RulesMade, RulesLeft}
 use Rattle.rule_cells.specs.declared.templates.Built.{Built}
 use Rattle.rule_cells.specs.declared.templates.Built.the-variants.{Good, Bad}
 
@@ -37,9 +36,9 @@ module _ (items work : List ℕ) (node w : ℕ) where
   unfolding ruleShape
   shape-no e = rw (← e) refl
 
-  module _ (pattern first : ℕ) (l : true ≡ isListOf 2 (treeAt items work node w)) (p : Part (element 0) work node pattern) (q : Part (element 0) work pattern first) where
+  module _ (pattern first : ℕ) (l : true ≡ isListOf 2 (treeAt items work node w)) (p : Means work node pattern (element 0)) (q : Means work pattern first (element 0)) where
     first-is : element 0 (element 0 (treeAt items work node w)) ≡ treeAt items work first w
-    first-is = sym (q .means items w ∙ ap (element 0) (p .means items w))
+    first-is = sym (q .is items w ∙ ap (element 0) (p .is items w))
 
     pub shape-other : (wordAt work first 3 ≡ 3 → ⊥) → false ≡ ruleShape (treeAt items work node w)
     unfolding ruleShape
@@ -111,12 +110,12 @@ module _ (items old : List ℕ) (literals node w next top : ℕ) (asks : Asks it
   pub left-shape : false ≡ ruleShape t → RuleLeft (ruleOf isEllipsis listed t) (size t) items old old next top Bad
   left-shape e = (rule-none listed t e, refl)
 
-  module _ (pattern p after q : ℕ) (shape : true ≡ ruleShape t) (a : Part (element 0) old node pattern) (b : Part tail old pattern p) (c : Part tail old node after) (d : Part (element 0) old after q) where
+  module _ (pattern p after q : ℕ) (shape : true ≡ ruleShape t) (a : Means old node pattern (element 0)) (b : Means old pattern p tail) (c : Means old node after tail) (d : Means old after q (element 0)) where
     p-is : treeAt items old p w ≡ tail (element 0 t)
-    p-is = b .means items w ∙ ap tail (a .means items w)
+    p-is = b .is items w ∙ ap tail (a .is items w)
 
     q-is : treeAt items old q w ≡ element 1 t
-    q-is = d .means items w ∙ ap (element 0) (c .means items w) ∙ element-one t
+    q-is = d .is items w ∙ ap (element 0) (c .is items w) ∙ element-tail 0 t
 
     fits : size (treeAt items old p w) + size (treeAt items old q w) + 1 ≤ size t
     fits = rw (p-is, q-is) (shape-size t shape)
@@ -125,8 +124,8 @@ module _ (items old : List ℕ) (literals node w next top : ℕ) (asks : Asks it
     parts-ask =
         record {
           literals-below = literals-below;
-          p-below = omega (arith, a .below, b .below, asks .node-below);
-          q-below = omega (arith, c .below, d .below, asks .node-below);
+          p-below = omega (arith, a .low, b .low, asks .node-below);
+          q-below = omega (arith, c .low, d .low, asks .node-below);
           wrap-below = asks .wrap-below;
           next-below = next-below;
           room = record { fits = omega (arith, asks .room .fits, fits); small = omega (arith, asks .room .small, fits) };
@@ -242,12 +241,12 @@ module _ (items old : List ℕ) (node w top : ℕ) (asks : Asks items old node w
   pub left-no-form : false ≡ isRulesForm (treeAt items old node w) → RulesLeft (rulesOf (treeAt items old node w)) (size (treeAt items old node w)) items old old top Bad
   left-no-form e = (rules-none (treeAt items old node w) e, refl)
 
-  module _ (after literals list : ℕ) (a : Part tail old node after) (b : Part (element 0) old after literals) (c : Part tail old after list) where
+  module _ (after literals list : ℕ) (a : Means old node after tail) (b : Means old after literals (element 0)) (c : Means old after list tail) where
     literals-are : treeAt items old literals w ≡ element 1 (treeAt items old node w)
-    literals-are = b .means items w ∙ ap (element 0) (a .means items w) ∙ element-one (treeAt items old node w)
+    literals-are = b .is items w ∙ ap (element 0) (a .is items w) ∙ element-tail 0 (treeAt items old node w)
 
     list-is : treeAt items old list w ≡ tail (tail (treeAt items old node w))
-    list-is = c .means items w ∙ ap tail (a .means items w)
+    list-is = c .is items w ∙ ap tail (a .is items w)
 
     smaller : size (treeAt items old list w) ≤ size (treeAt items old node w)
     smaller = rw list-is (omega (arith, tail-size (treeAt items old node w), tail-size (tail (treeAt items old node w))))
@@ -255,13 +254,13 @@ module _ (items old : List ℕ) (node w top : ℕ) (asks : Asks items old node w
     pub asks-list : Asks items old list w top
     asks-list =
         record {
-          node-below = omega (arith, a .below, c .below, asks .node-below);
+          node-below = omega (arith, a .low, c .low, asks .node-below);
           wrap-below = asks .wrap-below;
           room = record { fits = omega (arith, asks .room .fits, smaller); small = omega (arith, asks .room .small, smaller) };
         }
 
     pub literals-under : literals ≤ top
-    literals-under = omega (arith, a .below, b .below, asks .node-below)
+    literals-under = omega (arith, a .low, b .low, asks .node-below)
 
     pub left-form : (new : List ℕ) (r : Built) → true ≡ isRulesForm (treeAt items old node w) → RulesLeft (traverse (ruleOf isEllipsis (names (treeAt items old literals w))) (elements (treeAt items old list w))) (size (treeAt items old list w)) items old new top r → RulesLeft (rulesOf (treeAt items old node w)) (size (treeAt items old node w)) items old new top r
     left-form new r e m = rules-as _ _ _ _ items old new top r (rw (literals-are, list-is) (rules-are (treeAt items old node w) e)) smaller m

@@ -19,7 +19,7 @@ use Rattle.arena.specs.NodeLaws.{treeAt-empty, treeAt-name, treeAt-constant}
 use Rattle.rule_cells.specs.Cells.{templateAt, templateFrom}
 use Rattle.rule_cells.specs.Made.{Made}
 use Rattle.rule_cells.specs.MadeLaws.{template-kept, name-kept}
-use Rattle.rule_cells.specs.TreeLaws.{tree-cases}
+use Rattle.arena.specs.ListLaws.{tree-cases}
 use Rattle.rule_cells.specs.Variables.{variableAt, variablesFrom, Under, Deeper}
 use Rattle.rule_cells.specs.Drive.{drives}
 use Rattle.rule_cells.specs.Parse.{Asks, Grows, TemplateMade, TemplateLeft}

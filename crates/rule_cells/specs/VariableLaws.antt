@@ -18,7 +18,7 @@ use Rattle.expansion.specs.Rules.{variableFrom, areVariables, dotsNext, depthBe
 use Rattle.arena.specs.Arena.{wordAt, referenceAt, nameAt, treeAt}
 use Rattle.arena.specs.ArenaLaws.{cases}
 use Rattle.arena.specs.NodeLaws.{treeAt-name, treeAt-pair}
-use Rattle.rule_cells.specs.TreeLaws.{tree-cases}
+use Rattle.arena.specs.ListLaws.{tree-cases}
 use Rattle.rule_cells.specs.Variables.{variableAt, variablesFrom, knownOf, Held, Under, Stored, Gathered, Deeper}
 use Rattle.rule_cells.specs.declared.variables.Known.{Known}
 use Rattle.rule_cells.specs.declared.variables.Known.the-variants.{At, Not}

@@ -8,8 +8,9 @@ ghost use Rattle.arena.specs.Arena.{wordAt, markLimit, nameAt, treeAt};
 ghost use Rattle.arena.specs.Cells.{Room};
 ghost use Rattle.rule_cells.specs.Parse.{Asks, PatternLeft};
 use crate::cells;
-use crate::trees;
+use crate::dots;
 use crate::variables;
+use arena::lists;
 use arena::names;
 
 // The reference of a pattern, the new top, and the number of the next variable.
@@ -33,10 +34,10 @@ pub fn pattern_name(
     ensures { λ r. ⌜ PatternLeft (names (treeAt (now (items .entry)) (now (work .entry)) literals w)) k (name (nameAt (now (items .entry)) (now (work .entry)) node w)) (now (items .entry)) (now (work .entry)) (now (work .exit)) top r ⌝ }
 {
     let number = names::number_of(items, work, node);
-    if number == trees::DOTS {
+    if number == names::ELLIPSIS {
         return Parsed::Bad;
     }
-    if number == trees::WILDCARD {
+    if number == names::WILDCARD {
         let r = cells::put_wildcard(work, top);
         return Parsed::Good(r, r, k);
     }
@@ -95,9 +96,9 @@ pub fn pattern(
     }
     let head = arena::cells::reference(work, node, 2);
     let rest = arena::cells::reference(work, node, 1);
-    if trees::dots_next(items, work, rest) {
-        if trees::is_list_of(work, rest, 1) {
-            let last = trees::tail(work, rest);
+    if dots::dots_next(items, work, rest) {
+        if lists::is_list_of(work, rest, 1) {
+            let last = lists::rest(work, rest);
             let more = variables::leaf_count(items, work, table, literals, last, w);
             let Parsed::Good(a, t, n) = pattern(items, work, table, literals, head, w, k, top)
             else {

@@ -8,7 +8,7 @@ ghost use Rattle.words.specs.Options.{traverse};
 ghost use Rattle.recipe.specs.Name.{isEllipsis};
 ghost use Rattle.expansion.specs.Rules.{ruleOf, rulesOf};
 ghost use Rattle.arena.specs.Arena.{markLimit, treeAt};
-ghost use Rattle.rule_cells.specs.Trees.{TellsOf};
+ghost use Rattle.arena.specs.Lists.{TestsIn};
 ghost use Rattle.rule_cells.specs.Parse.{Asks};
 ghost use Rattle.rule_cells.specs.RuleParse.{ruleShape, partsOf, PartsAsk, RuleLeft, RulesLeft};
 use crate::cells;
@@ -17,9 +17,9 @@ use crate::patterns::Parsed;
 use crate::rules_form;
 use crate::templates;
 use crate::templates::Built;
-use crate::trees;
 use crate::variables;
 use crate::variables::Kept;
+use arena::lists;
 use arena::names;
 
 // A rule from the rest p of its pattern and its template q, before the rules at `next`.
@@ -55,15 +55,15 @@ pub fn rule_parts(
 
 // Whether a tree is a list of two whose first begins with a name other than `...`.
 pub fn rule_shape(items: &[u32], work: &[u32], node: u32) -> bool
-    ensures { λ r. ⌜ TellsOf ruleShape (now (items .entry)) (now (work .entry)) node r ⌝ }
+    ensures { λ r. ⌜ TestsIn ruleShape (now (items .entry)) (now (work .entry)) node r ⌝ }
 {
-    if trees::is_list_of(work, node, 2) {
-        let pattern = trees::head(work, node);
-        let first = trees::head(work, pattern);
+    if lists::is_list_of(work, node, 2) {
+        let pattern = lists::first(work, node);
+        let first = lists::first(work, pattern);
         if arena::cells::word(work, first, 3) != arena::cells::NAME {
             return false;
         }
-        if names::number_of(items, work, first) == trees::DOTS {
+        if names::number_of(items, work, first) == names::ELLIPSIS {
             return false;
         }
         return true;
@@ -86,10 +86,10 @@ pub fn rule(
     ensures { λ r. ⌜ RuleLeft (ruleOf isEllipsis (names (treeAt (now (items .entry)) (now (work .entry)) literals w)) (treeAt (now (items .entry)) (now (work .entry)) node w)) (size (treeAt (now (items .entry)) (now (work .entry)) node w)) (now (items .entry)) (now (work .entry)) (now (work .exit)) next top r ⌝ }
 {
     if rule_shape(items, work, node) {
-        let pattern = trees::head(work, node);
-        let p = trees::tail(work, pattern);
-        let after = trees::tail(work, node);
-        let q = trees::head(work, after);
+        let pattern = lists::first(work, node);
+        let p = lists::rest(work, pattern);
+        let after = lists::rest(work, node);
+        let q = lists::first(work, after);
         return rule_parts(items, work, table, literals, p, q, w, next, top);
     }
     Built::Bad
@@ -132,9 +132,9 @@ pub fn rules(
     ensures { λ r. ⌜ RulesLeft (rulesOf (treeAt (now (items .entry)) (now (work .entry)) node w)) (size (treeAt (now (items .entry)) (now (work .entry)) node w)) (now (items .entry)) (now (work .entry)) (now (work .exit)) top r ⌝ }
 {
     if rules_form::is_rules_form(items, work, table, node, w) {
-        let after = trees::tail(work, node);
-        let literals = trees::head(work, after);
-        let list = trees::tail(work, after);
+        let after = lists::rest(work, node);
+        let literals = lists::first(work, after);
+        let list = lists::rest(work, after);
         return rule_list(items, work, table, literals, list, w, top);
     }
     Built::Bad

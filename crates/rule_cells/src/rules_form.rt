@@ -4,14 +4,14 @@ ghost use mathlib.Core.Path.{_≡_};
 ghost use mathlib.Core.Bool.{false};
 ghost use Prim.Native.Nat.{_*_, _<_};
 ghost use lib.ListN.{length};
-ghost use Rattle.recipe.specs.Tree.{onName, isList, isOrdinaryName};
+ghost use Rattle.recipe.specs.Tree.{onName};
 ghost use Rattle.expansion.specs.Lookup.{isSyntaxRules};
 ghost use Rattle.expansion.specs.Rules.{isRulesForm};
 ghost use Rattle.arena.specs.Arena.{markLimit, treeAt};
-ghost use Rattle.rule_cells.specs.Trees.{Tells, TellsOf};
+ghost use Rattle.arena.specs.Lists.{TestsIn};
 ghost use Rattle.rule_cells.specs.Forms.{ordinaryAll, literalsGood};
-use crate::trees;
 use arena::cells;
+use arena::lists;
 use arena::names;
 
 // The number of syntax-rules; the most literals and rules of a form.
@@ -21,46 +21,15 @@ pub const LITERALS: u32 = 8;
 
 pub const RULES: u32 = 16;
 
-// Whether a tree is a list, empty or not.
-pub fn is_list(work: &[u32], node: u32) -> bool
-    ensures { λ r. ⌜ Tells isList (now (work .entry)) node r ⌝ }
-{
-    let kind = cells::word(work, node, 3);
-    if kind == cells::EMPTY {
-        return true;
-    }
-    if kind == cells::PAIR {
-        return true;
-    }
-    false
-}
-
-// Whether a tree is a name other than `...` and `_`.
-pub fn is_ordinary(items: &[u32], work: &[u32], node: u32) -> bool
-    ensures { λ r. ⌜ TellsOf isOrdinaryName (now (items .entry)) (now (work .entry)) node r ⌝ }
-{
-    if cells::word(work, node, 3) != cells::NAME {
-        return false;
-    }
-    let number = names::number_of(items, work, node);
-    if number == trees::DOTS {
-        return false;
-    }
-    if number == trees::WILDCARD {
-        return false;
-    }
-    true
-}
-
-// Whether all elements of a list are such names.
+// Whether all elements of a list are names other than `...` and `_`.
 pub fn all_ordinary(items: &[u32], work: &[u32], node: u32) -> bool
-    ensures { λ r. ⌜ TellsOf ordinaryAll (now (items .entry)) (now (work .entry)) node r ⌝ }
+    ensures { λ r. ⌜ TestsIn ordinaryAll (now (items .entry)) (now (work .entry)) node r ⌝ }
 {
     if cells::word(work, node, 3) != cells::PAIR {
         return true;
     }
     let first = cells::reference(work, node, 2);
-    if is_ordinary(items, work, first) {
+    if names::is_ordinary(items, work, first) {
         let rest = cells::reference(work, node, 1);
         return all_ordinary(items, work, rest);
     }
@@ -69,11 +38,11 @@ pub fn all_ordinary(items: &[u32], work: &[u32], node: u32) -> bool
 
 // Whether a tree is a list of at most 8 such names.
 pub fn literals_good(items: &[u32], work: &[u32], node: u32) -> bool
-    ensures { λ r. ⌜ TellsOf literalsGood (now (items .entry)) (now (work .entry)) node r ⌝ }
+    ensures { λ r. ⌜ TestsIn literalsGood (now (items .entry)) (now (work .entry)) node r ⌝ }
 {
-    if is_list(work, node) {
+    if lists::is_list(work, node) {
         if all_ordinary(items, work, node) {
-            return trees::count(work, node) <= LITERALS;
+            return lists::count(work, node) <= LITERALS;
         }
         return false;
     }
@@ -99,13 +68,13 @@ pub fn is_rules_form(items: &[u32], work: &[u32], table: &mut [u32], node: u32, 
     requires { ⌜ 2 * markLimit < length (now table) ⌝ }
     ensures { λ r. ⌜ r ≡ isRulesForm (treeAt (now (items .entry)) (now (work .entry)) node w) ⌝ }
 {
-    let first = trees::head(work, node);
+    let first = lists::first(work, node);
     if is_syntax_rules(items, work, table, first, w) {
-        let after = trees::tail(work, node);
-        let literals = trees::head(work, after);
+        let after = lists::rest(work, node);
+        let literals = lists::first(work, after);
         if literals_good(items, work, literals) {
-            let list = trees::tail(work, after);
-            let n = trees::count(work, list);
+            let list = lists::rest(work, after);
+            let n = lists::count(work, list);
             if n == 0 {
                 return false;
             }

@@ -15,7 +15,7 @@ ghost use Rattle.rule_cells.specs.Drive.{Drives, Accepts};
 ghost use Rattle.rule_cells.specs.Variables.{variablesFrom, Under};
 ghost use Rattle.rule_cells.specs.Parse.{Asks, TemplateLeft};
 use crate::cells;
-use crate::trees;
+use crate::dots;
 use crate::variables;
 use crate::variables::Known;
 use arena::names;
@@ -96,7 +96,7 @@ pub fn template_name(
     requires { ⌜ (3 * markLimit < length (now table)) × (Room (now work) top 5) × (node ≤ top) × (w ≤ top) × (count ≤ 16) × (32 ≤ length (now vars)) ⌝ }
     ensures { λ r. ⌜ TemplateLeft (variablesFrom (now (items .entry)) (now (work .entry)) w (now (vars .entry)) 0 count) d false (name (nameAt (now (items .entry)) (now (work .entry)) node w)) (now (items .entry)) (now (work .entry)) (now (work .exit)) top r ⌝ }
 {
-    if names::number_of(items, work, node) == trees::DOTS {
+    if names::number_of(items, work, node) == names::ELLIPSIS {
         return Built::Bad;
     }
     match variables::find(items, work, table, vars, 0, count, node, w) {
@@ -165,7 +165,7 @@ pub fn template(
     if taken {
         return template(items, work, table, vars, count, rest, w, d, false, top);
     }
-    let dots = trees::dots_next(items, work, rest);
+    let dots = dots::dots_next(items, work, rest);
     let inner = variables::depth_before(items, work, rest, d);
     let Built::Good(a, t) = template(items, work, table, vars, count, head, w, inner, false, top)
     else {

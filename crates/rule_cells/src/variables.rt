@@ -11,7 +11,7 @@ ghost use Rattle.recipe.specs.Tree.{name, names};
 ghost use Rattle.expansion.specs.Rules.{variableFrom, variables};
 ghost use Rattle.arena.specs.Arena.{markLimit, nameAt, treeAt};
 ghost use Rattle.rule_cells.specs.Variables.{leafCount, variablesFrom, knownOf, Deeper, Held, Gathered};
-use crate::trees;
+use crate::dots;
 use arena::cells;
 use arena::names;
 
@@ -69,10 +69,10 @@ pub fn leaf_count(
         return 0;
     }
     let number = names::number_of(items, work, node);
-    if number == trees::DOTS {
+    if number == names::ELLIPSIS {
         return 0;
     }
-    if number == trees::WILDCARD {
+    if number == names::WILDCARD {
         return 0;
     }
     if is_literal(items, work, table, literals, node, w) {
@@ -117,7 +117,7 @@ pub fn depth_before(items: &[u32], work: &[u32], rest: u32, d: u32) -> u32
     requires { ⌜ d + 1 < 2 ^ 32 ⌝ }
     ensures { λ r. ⌜ Deeper (now (items .entry)) (now (work .entry)) rest d r ⌝ }
 {
-    if trees::dots_next(items, work, rest) {
+    if dots::dots_next(items, work, rest) {
         return d + 1;
     }
     d
@@ -171,10 +171,10 @@ pub fn gather_name(
     ensures { λ r. ⌜ Gathered (variables isEllipsis (names (treeAt (now (items .entry)) (now (work .entry)) literals w)) d (name (nameAt (now (items .entry)) (now (work .entry)) node w))) (now (items .entry)) (now (work .entry)) w node n (now (vars .entry)) (now (vars .exit)) r ⌝ }
 {
     let number = names::number_of(items, work, node);
-    if number == trees::DOTS {
+    if number == names::ELLIPSIS {
         return Kept::Count(n);
     }
-    if number == trees::WILDCARD {
+    if number == names::WILDCARD {
         return Kept::Count(n);
     }
     if is_literal(items, work, table, literals, node, w) {

@@ -19,14 +19,19 @@ abbrev pub Older : ℕ → List ℕ → Type 0
 Older m [] = Unit {0}
 Older m (x ∷ xs) = x < m
 
+-- a new mark stands before the others
 pub toggle-new : (m : ℕ) (ms : List ℕ) → Older m ms → toggle m ms ≡ m ∷ ms
 unfolding toggle
 toggle-new m [] h = refl
 toggle-new m (x ∷ xs) h = rw (ne-eqb m x (omega arith), lt-ltb x m h)
 
-pub toggle-back : (m : ℕ) (ms : List ℕ) → toggle m (m ∷ ms) ≡ ms
+toggle-back : (m : ℕ) (ms : List ℕ) → toggle m (m ∷ ms) ≡ ms
 unfolding toggle
 toggle-back m ms = rw (eq-eqb m m refl)
+
+-- met twice it cancels
+pub toggle-twice : (m : ℕ) (ms : List ℕ) → Older m ms → toggle m (toggle m ms) ≡ ms
+toggle-twice m ms h = ap (toggle m) (toggle-new m ms h) ∙ toggle-back m ms
 
 pub older-le : (k l : ℕ) (ms : List ℕ) → k ≤ l → Older k ms → Older l ms
 older-le k l [] h g = tt
@@ -75,7 +80,7 @@ module _ (ρ : Renaming) (raw : Raw ρ) where
 module _ (m : ℕ) (Q P : Kind) (bq : Below m Q) (bp : Below m P) where
   pub result-is : (k i : ℕ) (b : Bool) (ms : List ℕ) → Produced (Marked m (Transcribed m Q P)) k i b ms → Result m Q P k i b ms
   result-is k i b ms (e₀, (a, (l, inl q, e))) = (e₀, inl (a, l, q, e ∙ toggle-new m l (bq k i a l q)))
-  result-is k i b ms (e₀, (a, (l, inr p, e))) = (e₀, inr (a, subst (P k i a) (sym (e ∙ ap (toggle m) (p .2 ∙ toggle-new m (p .0) (bp k i a (p .0) (p .1))) ∙ toggle-back m (p .0))) (p .1)))
+  result-is k i b ms (e₀, (a, (l, inr p, e))) = (e₀, inr (a, subst (P k i a) (sym (e ∙ ap (toggle m) (p .2) ∙ toggle-twice m (p .0) (bp k i a (p .0) (p .1)))) (p .1)))
 
   pub result-below : Below (suc m) (Result m Q P)
   result-below k i b ms (e₀, inl (a, l, q, e)) = subst (Older (suc m)) (sym e) (omega arith)

@@ -12,7 +12,7 @@ use Rattle.arena.specs.ArenaLaws.{cases}
 use Rattle.arena.specs.NodeLaws.{treeAt-pair}
 use Rattle.rule_cells.specs.Cells.{patternAt}
 use Rattle.rule_cells.specs.CellLaws.{templateAt-variable}
-use Rattle.steps.specs.ListLaws.{by-kind}
+use Rattle.arena.specs.ListLaws.{no-pair}
 use Rattle.steps.specs.Parts.{indices, Taken}
 use Rattle.steps.specs.Plain.{deepen, indices-more, transcribe-two}
 use Rattle.steps.specs.Lengths.{Copies}
@@ -55,9 +55,9 @@ module _ (work : List ℕ) (node acc limit : ℕ) where
     unfolding size
     sized-leaf other h =
         record {
-          is = λ items w.
-              by-kind items work node w kind kind-is (λ t. acc + 1 ≡ capped limit (acc + size t))
-              (λ z. capped-in limit (acc + 1) (omega arith)) (λ z x. capped-in limit (acc + 1) (omega arith)) (λ z a. capped-in limit (acc + 1) (omega arith)) other;
+          is =
+              no-pair work node kind kind-is (λ t. acc + 1 ≡ capped limit (acc + size t))
+              (capped-in limit (acc + 1) (omega arith)) (λ x. capped-in limit (acc + 1) (omega arith)) (λ a. capped-in limit (acc + 1) (omega arith)) other;
           most = omega arith;
         }
 

@@ -7,19 +7,19 @@ use mathlib.Core.Option.{Option, some}
 use Prim.Native.Nat.{ℕ, _≤_}
 use native.Mathlib.Omega.{arith}
 use lib.Dec.{eqb}
-use borrow.Author.Tests.{eq-eqb, ne-eqb, eqb-true, eqb-false}
+use borrow.Author.Tests.{eq-eqb, ne-eqb}
 use Rattle.datum.specs.Constant.{matches}
 use Rattle.recipe.specs.Name.{Name}
 use Rattle.recipe.specs.Tree.{Tree, onEmpty, onConstant, onName, onPair}
-use Rattle.expansion.specs.Rules.{Pattern, Rule, constantP, emptyP, pairP}
+use Rattle.expansion.specs.Rules.{Pattern, Rule, literalP, constantP, emptyP, pairP}
 use Rattle.expansion.specs.Match.{Fit, fitting, misfit, andThen, bothFit, eachFits, fit, orNext, firstFit}
 use Rattle.arena.specs.Arena.{wordAt, referenceAt, nameAt, constantAt, treeAt}
-use Rattle.arena.specs.ArenaLaws.{cases, bindingKey-of, referenceAt-most}
+use Rattle.arena.specs.ArenaLaws.{bindingKey-of, referenceAt-most}
 use Rattle.arena.specs.NodeLaws.{treeAt-empty, treeAt-name, treeAt-pair, treeAt-constant}
 use Rattle.arena.specs.Names.{Agrees}
+use Rattle.arena.specs.ListLaws.{tree-cases, no-pair}
 use Rattle.rule_cells.specs.Cells.{constantBefore, literalAt, patternAt, ruleAt, rulesAt}
 use Rattle.rule_cells.specs.CellLaws.{patternAt-variable, patternAt-literal, patternAt-wildcard, patternAt-constant, patternAt-pair, patternAt-ellipsis, patternAt-empty, rulesAt-none, rulesAt-more}
-use Rattle.steps.specs.ListLaws.{by-kind}
 use Rattle.steps.specs.Fits.{Fits, EachFits, LiteralFits, ConstantFits, ruleOr, FirstFit}
 
 -- ---- both fit
@@ -39,11 +39,7 @@ module _ (items work : List ℕ) (u w kind : ℕ) (kind-is : kind ≡ wordAt wor
   pub literal-no-name : (p : ℕ) → (kind ≡ 3 → ⊥) → LiteralFits items work p u w false
   unfolding fit onName misfit
   literal-no-name p other =
-      cases (eqb kind 4)
-      (λ t. rw (treeAt-pair items work u w (sym kind-is ∙ eqb-true kind 4 t)) refl)
-      (λ t. cases (eqb kind 0)
-      (λ z. rw (treeAt-empty items work u w (sym kind-is ∙ eqb-true kind 0 z)) refl)
-      (λ z. rw (treeAt-constant items work u w (λ i. eqb-false kind 0 z (kind-is ∙ i)) (λ i. other (kind-is ∙ i)) (λ i. eqb-false kind 4 t (kind-is ∙ i))) refl))
+      tree-cases items work u w (λ t. false ≡ fit (literalP (literalAt items work p)) t .1) (λ z. refl) (λ z. absurd (other (kind-is ∙ z))) (λ z. refl) (λ a b c. refl)
 
   pub literal-name : (p number binding : ℕ) (r : Bool) → kind ≡ 3 → number ≡ wordAt work p 3 → binding ≡ wordAt work p 2 → Agrees number binding (nameAt items work u w) r → LiteralFits items work p u w r
   unfolding fit onName literalAt
@@ -51,7 +47,7 @@ module _ (items work : List ℕ) (u w kind : ℕ) (kind-is : kind ≡ wordAt wor
 
   pub pair-no-pair : (p : ℕ) (q s : Pattern) → (kind ≡ 4 → ⊥) → false ≡ fit (pairP q s) (treeAt items work u w) .1
   unfolding fit onPair misfit
-  pair-no-pair p q s other = by-kind items work u w kind kind-is (λ t. false ≡ fit (pairP q s) t .1) (λ z. refl) (λ z x. refl) (λ z a. refl) other
+  pair-no-pair p q s other = no-pair work u kind kind-is (λ t. false ≡ fit (pairP q s) t .1) refl (λ x. refl) (λ a. refl) other items w
 
   pub pair-pair : (q s : Pattern) → kind ≡ 4 → fit (pairP q s) (treeAt items work u w) .1 ≡ (fit q (treeAt items work (referenceAt work u 2) w) .1 && fit s (treeAt items work (referenceAt work u 1) w) .1)
   unfolding fit onPair
@@ -63,14 +59,15 @@ module _ (items work : List ℕ) (u w kind : ℕ) (kind-is : kind ≡ wordAt wor
 
   pub each-end : (p : ℕ) → (kind ≡ 4 → ⊥) → EachFits items work p u w (eqb kind 0)
   unfolding eachFits fitting misfit
-  each-end p other = by-kind items work u w kind kind-is (λ t. eqb kind 0 ≡ eachFits (fit (patternAt items work p)) t .1) (λ z. eq-eqb kind 0 z) (λ z x. ne-eqb kind 0 z) (λ z a. ne-eqb kind 0 z) other
+  each-end p other =
+      tree-cases items work u w (λ t. eqb kind 0 ≡ eachFits (fit (patternAt items work p)) t .1)
+      (λ z. eq-eqb kind 0 (kind-is ∙ z)) (λ z. ne-eqb kind 0 (λ y. omega arith)) (λ z. absurd (other (kind-is ∙ z))) (λ a b c. ne-eqb kind 0 (λ y. a (sym kind-is ∙ y)))
 
   pub empty-fits : eqb kind 0 ≡ fit emptyP (treeAt items work u w) .1
   unfolding fit onEmpty fitting misfit
   empty-fits =
-      cases (eqb kind 4)
-      (λ t. let e : kind ≡ 4 = eqb-true kind 4 t in rw (treeAt-pair items work u w (sym kind-is ∙ e)) (ne-eqb kind 0 (λ z. omega arith)))
-      (λ t. by-kind items work u w kind kind-is (λ t. eqb kind 0 ≡ fit emptyP t .1) (λ z. eq-eqb kind 0 z) (λ z x. ne-eqb kind 0 z) (λ z a. ne-eqb kind 0 z) (eqb-false kind 4 t))
+      tree-cases items work u w (λ t. eqb kind 0 ≡ fit emptyP t .1)
+      (λ z. eq-eqb kind 0 (kind-is ∙ z)) (λ z. ne-eqb kind 0 (λ y. omega arith)) (λ z. ne-eqb kind 0 (λ y. omega arith)) (λ a b c. ne-eqb kind 0 (λ y. a (sym kind-is ∙ y)))
 
   -- ---- constants
 

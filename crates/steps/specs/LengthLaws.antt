@@ -15,7 +15,7 @@ use Rattle.arena.specs.Arena.{wordAt, referenceAt, treeAt}
 use Rattle.arena.specs.ArenaLaws.{cases}
 use Rattle.rule_cells.specs.Cells.{patternAt, templateAt}
 use Rattle.rule_cells.specs.CellLaws.{templateAt-variable, templateAt-insert, templateAt-constant, templateAt-pair, templateAt-ellipsis, templateAt-empty}
-use Rattle.steps.specs.Lists.{Counts}
+use Rattle.arena.specs.Lists.{Counts}
 use Rattle.steps.specs.Parts.{indices, Taken}
 use Rattle.steps.specs.Lengths.{driving, heading, lengthOr, Drives, AllOf, Copies, deeper}
 use Rattle.steps.specs.declared.lengths.Driving.{Driving}

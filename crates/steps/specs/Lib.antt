@@ -1,6 +1,4 @@
 -- A macro step on cells: what its functions mean, and laws.
-pub mod Lists
-pub mod ListLaws
 pub mod Parts
 pub mod PartLaws
 pub mod Fits

@@ -15,8 +15,8 @@ use Rattle.arena.specs.Arena.{wordAt, referenceAt}
 use Rattle.arena.specs.ArenaLaws.{cases, wordAt-some, referenceAt-falls}
 use Rattle.rule_cells.specs.Cells.{patternAt}
 use Rattle.rule_cells.specs.CellLaws.{patternAt-variable, patternAt-literal, patternAt-wildcard, patternAt-constant, patternAt-pair, patternAt-ellipsis, patternAt-empty}
-use Rattle.steps.specs.Lists.{Means}
-use Rattle.steps.specs.ListLaws.{treeAt-none}
+use Rattle.arena.specs.Lists.{Means}
+use Rattle.arena.specs.ListLaws.{treeAt-none}
 use Rattle.steps.specs.Parts.{Holds, indices, outward, Part, Taken}
 
 -- a pattern that holds no variable

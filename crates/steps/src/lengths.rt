@@ -3,9 +3,9 @@
 ghost use mathlib.Core.Path.{_≡_};
 ghost use Prim.Native.Nat.{_+_, _^_, _<_};
 ghost use Rattle.steps.specs.Lengths.{deeper, Drives, AllOf, Copies};
-use crate::lists;
 use crate::parts;
 use arena::cells;
+use arena::lists;
 
 // The length of the first driving list, where there is one.
 pub enum Driving {

@@ -1,4 +1,4 @@
-// A macro step on cells: lists and parts of a use, matching, lengths and cost, and the result's nodes.
+// A macro step on cells: parts of a use, matching, lengths and cost, and the result's nodes.
 
 pub mod agree;
 pub mod apply;
@@ -6,5 +6,4 @@ pub mod build;
 pub mod cost;
 pub mod fits;
 pub mod lengths;
-pub mod lists;
 pub mod parts;

@@ -2,8 +2,8 @@
 // Of the indices of the copies round a place the innermost two are kept: a variable lies under no more than two ellipses.
 
 ghost use Rattle.steps.specs.Parts.{Holds, outward, Part, Taken};
-use crate::lists;
 use arena::cells;
+use arena::lists;
 
 // Whether the pattern holds variable k.
 pub fn holds(work: &[u32], p: u32, k: u32) -> bool

@@ -1,5 +1,10 @@
 //! Random recipes, over few names so that they meet.
 
+#![allow(dead_code)] // each test takes its part
+
+pub mod patterns;
+pub mod rows;
+
 /// A small generator of numbers (xorshift), so that a seed gives one run.
 pub struct Random(u64);
 

@@ -55,7 +55,7 @@ returns-2 c =
 tables-fit-requires : tie.Need-tables-fit-requires
 unfolding itemCount
 tables-fit-requires c κs =
-    (isLayout-parts (c .before .before .before .before .before .before .before .args .items .now) (layout (c .before .before)) .count .1, leb-true _ _ (fuelled (c)))
+    (isLayout-parts (c .before .before .before .before .before .before .before .args .items .now) (layout (c .before .before)) .count .1, leb-true _ _ (fuelled c))
 
 refused-requires-3 : tie.Need-refused-requires-3
 refused-requires-3 c κs =

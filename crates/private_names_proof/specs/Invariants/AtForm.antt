@@ -4,7 +4,7 @@ use mathlib.Core.Path.{_≡_, refl, ap, sym, _∙_, subst}
 use mathlib.Core.Logic.{_⊎_, inl, inr}
 use mathlib.Core.Bool.{Bool, true, false, cond, true≢false}
 use mathlib.Core.List.{List, [], _∷_, map}
-use mathlib.Core.Option.{Option, none, some}
+use mathlib.Core.Option.{Option}
 use Prim.Native.Nat.{ℕ, suc, _+_, _≤_}
 use native.Mathlib.Omega.{arith}
 use borrow.Author.Tests.{eqb-true, eq-eqb}
@@ -80,24 +80,24 @@ module _ {A : Type 0} {P Q R : A → Type 0} (f : (x : A) → P x → Q x → R 
 
 -- ---- trees
 
-treeAll-onNames : {P Q : Name → Type 0} (f : Name → Name) → ((x : Name) → P x → Q (f x)) → {t : Tree} → TreeAll P t → TreeAll Q (onNames f t)
+pub treeAll-onNames : {P Q : Name → Type 0} (f : Name → Name) → ((x : Name) → P x → Q (f x)) → {t : Tree} → TreeAll P t → TreeAll Q (onNames f t)
 unfolding onNames
 treeAll-onNames f h all-empty = all-empty
 treeAll-onNames f h all-constant = all-constant
 treeAll-onNames f h (all-name p) = all-name (h _ p)
 treeAll-onNames f h (all-pair p q) = all-pair (treeAll-onNames f h p) (treeAll-onNames f h q)
 
-tidy-each : {N P : Name → Type 0} {C : Constant → Type 0} {t : Tree} → Tidy N C t → TreeAll P t → Tidy P C t
+pub tidy-each : {N P : Name → Type 0} {C : Constant → Type 0} {t : Tree} → Tidy N C t → TreeAll P t → Tidy P C t
 tidy-each tidyEmpty all-empty = tidyEmpty
 tidy-each (tidyConstant c) all-constant = tidyConstant c
 tidy-each (tidyName q) (all-name p) = tidyName p
 tidy-each (tidyPair a b l) (all-pair p q) = tidyPair (tidy-each a p) (tidy-each b q) l
 
-templateIn-onNames : (f : Name → Name) (j : ℕ) (t : Tree) → templateIn j (onNames f t) ≡ onNames f (templateIn j t)
+pub templateIn-onNames : (f : Name → Name) (j : ℕ) (t : Tree) → templateIn j (onNames f t) ≡ onNames f (templateIn j t)
 unfolding templateIn
 templateIn-onNames f j t = ap (element 1) (onNames-element f (suc (suc j)) t) ∙ onNames-element f 1 (element (suc (suc j)) t)
 
-templateIn-uses : (q j : ℕ) (t : Tree) → uses q (templateIn j t) ≤ uses q (element (suc (suc j)) t)
+pub templateIn-uses : (q j : ℕ) (t : Tree) → uses q (templateIn j t) ≤ uses q (element (suc (suc j)) t)
 unfolding templateIn
 templateIn-uses q j t = uses-element q 1 (element (suc (suc j)) t)
 
@@ -106,7 +106,7 @@ unfolding templateIn
 templateIn-all j a = treeAll-element 1 (treeAll-element (suc (suc j)) a)
 
 -- where no such item is used
-unused-all : (private : ℕ → Bool) (t : Tree) → ((q : ℕ) → private q ≡ true → uses q t ≡ 0) → TreeAll (λ x. private (x .item) ≡ false) t
+pub unused-all : (private : ℕ → Bool) (t : Tree) → ((q : ℕ) → private q ≡ true → uses q t ≡ 0) → TreeAll (λ x. private (x .item) ≡ false) t
 unfolding uses
 unused-all private empty h = all-empty
 unused-all private (constant a) h = all-constant
@@ -182,9 +182,10 @@ module _ (private : ℕ → Bool) where
 
 -- ---- the form
 
--- in place: names without marks, each of an item of its own that tells its number
+-- in place: names that never stood in a result, without marks, each of an item of its own that tells its number
 pub record InPlace (C : Constant → Type 0) (number : ℕ → ℕ) (t : Tree) : Type 0 where
   pub tidy : Tidy (λ x. Unit {0}) C t
+  pub unproduced : TreeAll (λ x. x .produced ≡ false) t
   pub unmarked : TreeAll (λ x. x .marks ≡ []) t
   pub numbered : TreeAll (λ x. x .number ≡ number (x .item)) t
   pub once : (q : ℕ) → uses q t ≤ 1

@@ -12,15 +12,17 @@ use Rattle.words.specs.ListLaws.{equal-true}
 use Rattle.words.specs.TestLaws.{and-parts, and-both}
 use Rattle.words.specs.Each.{Each, each-weaken, true-each}
 use Rattle.recipe.specs.Name.{Binding, Name, bindingKey, same, markName, produceName, giveBinding, bindName}
+use Rattle.recipe.specs.Tree.{Tree}
 use Rattle.recipe.specs.TreeNames.{bindName-item}
 use Rattle.recipe.specs.Tidy.{tidy-names}
 use Rattle.recipe.specs.TableTidy.{IsConstant}
+use Rattle.expansion.specs.Computation.{State}
 use Rattle.private_names.specs.Statement.{isCopy}
 use Rattle.simulation.specs.Names.Sameness.{same→Same}
 use Rattle.private_names_proof.specs.Invariants.Tests.{areFresh, haveOneBinding, areApart}
-use Rattle.private_names_proof.specs.Invariants.Kinds.{Carried}
+use Rattle.private_names_proof.specs.Invariants.Kinds.{bindName-produced, Carried}
 use Rattle.private_names_proof.specs.Invariants.Kept.{Follows}
-use Rattle.private_names_proof.specs.Invariants.AtForm.{Copied}
+use Rattle.private_names_proof.specs.Invariants.AtForm.{tidy-each, Copied, InPlace}
 
 -- ---- bindings, and the items that names stem from, are carried along
 
@@ -45,14 +47,6 @@ binding-carried = record {
   each-bound = λ i b x _. tt;
   each-produced = λ x. tt;
 }
-
-bindName-produced : (i : Name) (b : Binding) (x : Name) → bindName i b x .produced ≡ x .produced
-unfolding bindName giveBinding
-bindName-produced i b x = go (same i x)
-  where
-    go : (c : Bool) → cond c (giveBinding b x) x .produced ≡ x .produced
-    go true = refl
-    go false = refl
 
 pub item-carried : (private : ℕ → Bool) → Carried (λ x. private (x .item)) (Copied private)
 unfolding markName produceName
@@ -95,3 +89,8 @@ apart-follows private k Q sd t a s h = pairs-true _ (λ x y p q. excludes _ _ _ 
     let d = same→Same x y f in
     let c : private (y .item) ≡ true = sym (sd .good .determines x y p q (d .number) (d .marks)) ∙ and-parts (x .produced) (private (x .item)) e .1 in
     and-both (y .produced) (private (y .item)) (sd .each y q c) c) (tidy-names a)
+
+-- in place no name is a copy
+pub apart-rests : (private : ℕ → Bool) (number : ℕ → ℕ) (t : Tree) → InPlace IsConstant number t → (s : State) → areApart private t s ≡ true
+unfolding areApart isCopy
+apart-rests private number t a s = pairs-true _ (λ x y p q. excludes (isCopy private x) (isCopy private y) (same x y) λ e f. absurd (false≢true (sym p ∙ and-parts (x .produced) (private (x .item)) e .0))) (tidy-names (tidy-each (a .tidy) (a .unproduced)))

@@ -6,18 +6,18 @@ use mathlib.Core.List.{List, [], _++_, map}
 use mathlib.Core.Option.{Option}
 use Prim.Native.Nat.{ℕ, zero, suc, _≤_}
 use native.Mathlib.Omega.{arith}
-use lib.ListN.{length, getD}
+use lib.ListN.{length}
 use Rattle.words.specs.Each.{Each, noneOf, also, each-weaken, each-append, each-getD, each-map, Given, missing, given, given-at, given-weaken}
 use Rattle.datum.specs.Constant.{Constant}
 use Rattle.recipe.specs.Name.{variable, macro, Name, markName, produceName}
-use Rattle.recipe.specs.Tree.{Tree, name, pair, isList, names, element, tail, mark, produce, bindAll}
+use Rattle.recipe.specs.Tree.{Tree, isList, names, element, tail, mark, produce, bindAll}
 use Rattle.recipe.specs.Tidy.{Tidy, tidyEmpty, tidyConstant, tidyName, tidyPair, tidy-elements, tidy-element, tidy-tail, tidy-onNames}
 use Rattle.core_term.specs.Term.{Term}
 use Rattle.expansion.specs.Lookup.{quote, if, lambda, let-syntax, letrec-syntax, auxiliary, Found, bound, form, operation, nothing, lookup}
 use Rattle.expansion.specs.Rules.{Template, insertT, pairT, ellipsisT, Rule, rulesOf}
 use Rattle.expansion.specs.Match.{fit, orNext, firstFit}
 use Rattle.expansion.specs.Transcribe.{transcribe}
-use Rattle.expansion.specs.Computation.{State, Events, Out, refused, M, _>>=_, _>>_, give, refuse, show, test, orRefuse}
+use Rattle.expansion.specs.Computation.{State, Events, Out, refused, M, _>>=_, _>>_, give, refuse, show, test}
 use Rattle.expansion.specs.Forms.{formals, keywords, rulesForms, expandAll, expandQuote, expandIf, expandLambda, expandMacros, expandUse, expandOperands, expandList, expandName, expandApplication, expandPair, expandTree}
 use Rattle.expansion.specs.Outcomes.{Holds, isRefused, isStarved, give-holds, refuse-holds, test-holds, show-holds, get-holds, addVariables-holds, addMacros-holds, addStep-holds, then-holds, orRefuse-holds, weaken}
 use Rattle.expansion.specs.FormLaws.{readRules-holds}
@@ -72,7 +72,7 @@ module _ {Z : Type 0} (F : Name → Z) (E : Name → Type 0) (C : Constant → T
   pub goodRules : {k : ℕ} {Q : Name → Type 0} → Good F k Q → {rules : List Rule} → TidyRules Q C rules → Each (GoodRule k) rules
   goodRules g = each-weaken (λ r a. record { good = good-fewer F (inserts-tidy a) g; tidy = tidy-inserts a })
 
-  rules-later : {k l : ℕ} → k ≤ l → {macros : List (List Rule)} → Each (Each (GoodRule k)) macros → Each (Each (GoodRule l)) macros
+  pub rules-later : {k l : ℕ} → k ≤ l → {macros : List (List Rule)} → Each (Each (GoodRule k)) macros → Each (Each (GoodRule l)) macros
   rules-later h = each-weaken (λ rules. each-weaken (λ r g. record { good = good-later F h (g .good); tidy = g .tidy }))
 
   -- a state after k steps or more
@@ -88,7 +88,7 @@ module _ {Z : Type 0} (F : Name → Z) (E : Name → Type 0) (C : Constant → T
   Keeps k n = (s : State) → After k s → Passes k (n s)
 
   module _ (k : ℕ) {A : Type 0} where
-    keeps-give : (a : A) → Keeps k (give a)
+    pub keeps-give : (a : A) → Keeps k (give a)
     keeps-give a s h = give-holds a s h
 
     keeps-refuse : (g : ℕ) → 11 ≤ g → Keeps k (refuse {A = A} g)
@@ -100,7 +100,7 @@ module _ {Z : Type 0} (F : Name → Z) (E : Name → Type 0) (C : Constant → T
     keeps-show : (l : Events) (n : M A) → Keeps k n → Keeps k (_>>_ (show l) n)
     keeps-show l n q s h = show-holds l n s (q s h)
 
-  keeps-then : (k : ℕ) {A B : Type 0} (n : M A) (f : A → M B) → Keeps k n → ((a : A) → Keeps k (f a)) → Keeps k (_>>=_ n f)
+  pub keeps-then : (k : ℕ) {A B : Type 0} (n : M A) (f : A → M B) → Keeps k n → ((a : A) → Keeps k (f a)) → Keeps k (_>>=_ n f)
   keeps-then k n f h q s a = then-holds _ n f s (h s a) λ x t l w. q x t w
 
   -- ---- forms
@@ -128,14 +128,14 @@ module _ {Z : Type 0} (F : Name → Z) (E : Name → Type 0) (C : Constant → T
         (record { later = h .later; rules = each-append (h .rules) (rules-later (h .later) (read .each)) })))))))
 
     module _ (k : ℕ) (Q : Name → Type 0) (sd : Sound F E k Q) where
-      all-keeps : {t : Tree} → Tidy Q C t → Keeps k (expandAll limit operations fuel rec t)
+      pub all-keeps : {t : Tree} → Tidy Q C t → Keeps k (expandAll limit operations fuel rec t)
       unfolding expandAll
       all-keeps tidyEmpty = keeps-give k _
       all-keeps (tidyConstant a) = keeps-give k _
       all-keeps (tidyName x) = keeps-give k _
       all-keeps (tidyPair h t l) = keeps-then k _ _ (good k Q sd _ h) λ a. keeps-then k _ _ (all-keeps t) λ b. keeps-give k _
 
-      operands-keeps : (a : Term Name) {t : Tree} → Tidy Q C t → Keeps k (expandOperands limit operations fuel rec a t)
+      pub operands-keeps : (a : Term Name) {t : Tree} → Tidy Q C t → Keeps k (expandOperands limit operations fuel rec a t)
       unfolding expandOperands
       operands-keeps a t = keeps-then k _ _ (all-keeps t) λ b. keeps-give k _
 
@@ -168,7 +168,7 @@ module _ {Z : Type 0} (F : Name → Z) (E : Name → Type 0) (C : Constant → T
           (record { later = h .later; rules = h .rules })))))
 
       -- a rules form, as it is read
-      scoped-good : (inside : Bool) (j : ℕ) (xs : List Name) (r : Tree) → Tidy Q C r → Given (Each (GoodRule k)) (rulesOf (cond inside (bindAll macro j xs) (λ r. r) r))
+      pub scoped-good : (inside : Bool) (j : ℕ) (xs : List Name) (r : Tree) → Tidy Q C r → Given (Each (GoodRule k)) (rulesOf (cond inside (bindAll macro j xs) (λ r. r) r))
       scoped-good true j xs r a = given-weaken (λ rules. goodRules (boundAll-sound F E c macro j xs sd .good)) (rulesOf-tidy (boundAll-tidy macro j xs a))
       scoped-good false j xs r a = given-weaken (λ rules. goodRules (sd .good)) (rulesOf-tidy a)
 

@@ -135,10 +135,5 @@ module _ (test : Tree → State → Bool) (limit : ℕ) (operations : List ℕ) 
       go true r = r
       go false r = failed
 
-  -- an expression's expansion, and a form's
   pub watched-is : (gas : ℕ) (t : Tree) (s : State) → FailsNowhere (watched test limit operations fuel gas t s) → watched test limit operations fuel gas t s ≡ expand limit operations fuel gas t s
   watched-is gas t s h = upTo-is (watched-upTo gas t s) h
-
-  pub watched-form-is : (gas : ℕ) (inside : Bool) (x : Name) (t : Tree) (s : State) → FailsNowhere (expandMacros limit operations fuel (watched test limit operations fuel gas) inside x t s)
-      → expandMacros limit operations fuel (watched test limit operations fuel gas) inside x t s ≡ expandMacros limit operations fuel (expand limit operations fuel gas) inside x t s
-  watched-form-is gas inside x t s h = upTo-is (macros-upTo limit operations fuel (watched test limit operations fuel gas) (expand limit operations fuel gas) (watched-upTo gas) inside x t s) h

@@ -2,7 +2,7 @@
 use borrow.Author.Needs.{needs}
 use Rattle.arena.proofs.nodes.is_name.Statement.{statement}
 use Rattle.arena.proofs.nodes.is_name.Tie as tie
-use Rattle.arena.specs.Lists.{name-test}
+use Rattle.arena.specs.ListLaws.{name-test}
 
 word-requires : tie.Need-word-requires
 word-requires c κs = search needs

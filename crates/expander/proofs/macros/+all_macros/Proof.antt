@@ -8,7 +8,7 @@ use Rattle.expander.proofs.macros.+all_macros.Lts-all_macros as all-mac
 use Rattle.arena.proofs.cells.reference.Reads as reference-reads
 use Rattle.arena.proofs.cells.word.Reads as word-reads
 use Rattle.expander.proofs.macros.one_macro.Reads as one-macro-reads
-use Rattle.steps.proofs.lists.element.Reads as element-reads
+use Rattle.arena.proofs.lists.element.Reads as element-reads
 use Rattle.expander.proofs.macros.+all_macros.{statement}
 use Rattle.expander.proofs.macros.+all_macros.Tie.{close}
 use borrow.Author.Needs.{needs}

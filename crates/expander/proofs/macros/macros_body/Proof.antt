@@ -8,8 +8,8 @@ use Rattle.expander.proofs.leaf.refuse.Reads as refuse-reads
 use Rattle.expander.proofs.macros.all_macros.Reads as all-macros-reads
 use Rattle.expander.proofs.macros.rules_wrap.Reads as rules-wrap-reads
 use Rattle.forms.proofs.binders.bind_macros.Reads as bind-macros-reads
-use Rattle.steps.proofs.lists.count.Reads as count-reads
-use Rattle.steps.proofs.lists.element.Reads as element-reads
+use Rattle.arena.proofs.lists.count.Reads as count-reads
+use Rattle.arena.proofs.lists.element.Reads as element-reads
 use Rattle.expander.specs.MacroTurns.{grown}
 use Rattle.expander.specs.MacroTurnLaws.{macros-all-names, macros-space, macros-few, macros-ask, macros-bad, macros-known}
 

@@ -11,7 +11,7 @@ use Rattle.forms.proofs.quotes.+quote+quote_all.Lts-quote_all as quote-
 use Rattle.arena.proofs.cells.reference.Reads as reference-reads
 use Rattle.arena.proofs.cells.word.Reads as word-reads
 use Rattle.arena.proofs.names.number_of.Reads as number-of-reads
-use Rattle.steps.proofs.lists.count.Reads as count-reads
+use Rattle.arena.proofs.lists.count.Reads as count-reads
 use Rattle.forms.proofs.quotes.put_two.Reads as put-two-reads
 use Rattle.forms.proofs.quotes.+quote+quote_all.{statement}
 use Rattle.forms.proofs.quotes.+quote+quote_all.Tie.{close}

@@ -11,9 +11,9 @@ use Rattle.arena.proofs.cells.word.Reads as word-reads
 use Rattle.rule_cells.proofs.cells.put_ellipsis.Reads as put-ellipsis-reads
 use Rattle.rule_cells.proofs.cells.put_pair.Reads as put-pair-reads
 use Rattle.rule_cells.proofs.patterns.pattern_leaf.Reads as pattern-leaf-reads
-use Rattle.rule_cells.proofs.trees.dots_next.Reads as dots-next-reads
-use Rattle.rule_cells.proofs.trees.is_list_of.Reads as is-list-of-reads
-use Rattle.rule_cells.proofs.trees.tail.Reads as tail-reads
+use Rattle.rule_cells.proofs.dots.dots_next.Reads as dots-next-reads
+use Rattle.arena.proofs.lists.is_list_of.Reads as is-list-of-reads
+use Rattle.arena.proofs.lists.rest.Reads as rest-reads
 use Rattle.rule_cells.proofs.variables.leaf_count.Reads as leaf-count-reads
 use Rattle.rule_cells.proofs.patterns.+pattern.{statement}
 use Rattle.rule_cells.proofs.patterns.+pattern.Tie.{close}
@@ -37,7 +37,7 @@ abbrev pattern-below : ℕ → In 3 pattern-kinds.ps
 pattern-below t = and 3 pattern-kinds.ps (falls 3 pattern-kinds.ps _<_ μ-pattern t) pattern.Pre
 
 abbrev pattern-claims : ℕ → pattern-lts.Claims
-pattern-claims t = (word-reads.Asked, word-reads.Learnt, pattern-leaf-reads.Asked, pattern-leaf-reads.Learnt, reference-reads.Asked, reference-reads.Learnt, dots-next-reads.Asked, dots-next-reads.Learnt, is-list-of-reads.Asked, is-list-of-reads.Learnt, tail-reads.Asked, tail-reads.Learnt, leaf-count-reads.Asked, leaf-count-reads.Learnt, pattern-below t, pattern.Post, put-ellipsis-reads.Asked, put-ellipsis-reads.Learnt, put-pair-reads.Asked, put-pair-reads.Learnt)
+pattern-claims t = (word-reads.Asked, word-reads.Learnt, pattern-leaf-reads.Asked, pattern-leaf-reads.Learnt, reference-reads.Asked, reference-reads.Learnt, dots-next-reads.Asked, dots-next-reads.Learnt, is-list-of-reads.Asked, is-list-of-reads.Learnt, rest-reads.Asked, rest-reads.Learnt, leaf-count-reads.Asked, leaf-count-reads.Learnt, pattern-below t, pattern.Post, put-ellipsis-reads.Asked, put-ellipsis-reads.Learnt, put-pair-reads.Asked, put-pair-reads.Learnt)
 
 pattern-word-requires : (t : ℕ) → pattern-lts.Need-word-requires (pattern-claims t) (pattern-at t) pattern.Post
 pattern-word-requires t c κs = search needs
@@ -70,8 +70,8 @@ pattern-dots-next-requires t c κs = search needs
 pattern-is-list-of-requires : (t : ℕ) → pattern-lts.Need-is-list-of-requires (pattern-claims t) (pattern-at t) pattern.Post
 pattern-is-list-of-requires t c κs = search needs
 
-pattern-tail-requires : (t : ℕ) → pattern-lts.Need-tail-requires (pattern-claims t) (pattern-at t) pattern.Post
-pattern-tail-requires t c κs = search needs
+pattern-rest-requires : (t : ℕ) → pattern-lts.Need-rest-requires (pattern-claims t) (pattern-at t) pattern.Post
+pattern-rest-requires t c κs = search needs
 
 pattern-leaf-count-requires : (t : ℕ) → pattern-lts.Need-leaf-count-requires (pattern-claims t) (pattern-at t) pattern.Post
 pattern-leaf-count-requires t c κs =
@@ -105,7 +105,7 @@ pattern-put-ellipsis-requires t c κs =
 
 pattern-add-t55 : (t : ℕ) → pattern-lts.Need-add-t55 (pattern-claims t) (pattern-at t) pattern.Post
 pattern-add-t55 t c =
-    let a = c .before .before .before .before .before .before .before .before .before .before .before .before .before .before .before .before .before .before .before .before .before .before .before .before .before .before .before .before .before .before .before .before .before .before .before .before .before .args in omega (arith, small-ellipsis (a .items .now) (a .work .now) (a .literals) (a .node) (a .w) (a .k) (a .top) (c .before .before .before .before .before .before .before .before .before .before .before .before .before .before .before .before .before .before .before .before .before .before .before .before .before .before .before .before .before .before .before .before .before .before .before .before .before .pre .1 .1) (c .before .before .before .before .before .before .before .before .before .before .before .before .before .before .before .before .before .before .before .before .before .before .before .before .before .before .before .before .before .before .before .before .before .before .before .before .before .pre .1 .2) _ _ (sym (c .before .before .before .before .before .before .before .before .before .before .before .before .before .before .before .before .before .before .before .before .before .before .before .before .before .before .before .before .before .before .before .before .word .ensures) ∙ c .before .before .before .before .before .before .before .before .before .before .before .before .before .before .before .before .before .before .before .before .before .before .before .before .before .before .before .before .before .before .before .if1 .left) (c .before .before .before .before .before .before .before .before .before .before .before .before .before .before .before .before .before .before .before .before .before .before .before .before .before .before .before .before .before .reference .ensures) (c .before .before .before .before .before .before .before .before .before .before .before .before .before .before .before .before .before .before .before .before .before .before .before .before .before .before .before .reference2 .ensures) (c .before .before .before .before .before .before .before .before .before .before .before .pattern .last .1 .0) _ _ _ (made-head (a .items .now) (a .work .now) (a .literals) (a .node) (a .w) (a .k) (a .top) (c .before .before .before .before .before .before .before .before .before .before .before .before .before .before .before .before .before .before .before .before .before .before .before .before .before .before .before .before .before .before .before .before .before .before .before .before .before .pre .1 .1) (c .before .before .before .before .before .before .before .before .before .before .before .before .before .before .before .before .before .before .before .before .before .before .before .before .before .before .before .before .before .before .before .before .before .before .before .before .before .pre .1 .2) _ _ (sym (c .before .before .before .before .before .before .before .before .before .before .before .before .before .before .before .before .before .before .before .before .before .before .before .before .before .before .before .before .before .before .before .before .word .ensures) ∙ c .before .before .before .before .before .before .before .before .before .before .before .before .before .before .before .before .before .before .before .before .before .before .before .before .before .before .before .before .before .before .before .if1 .left) (c .before .before .before .before .before .before .before .before .before .before .before .before .before .before .before .before .before .before .before .before .before .before .before .before .before .before .before .before .before .reference .ensures) (c .before .before .before .before .before .before .before .before .before .before .before .before .before .before .before .before .before .before .before .before .before .before .before .before .before .before .before .reference2 .ensures) (c .before .before .before .before .before .before .before .before .before .before .before .pattern .last .1 .0) _ _ _ _ (c .before .before .before .before .before .a .given .1) (c .before .before .before .before .before .before .before .before .before .before .before .pattern .ensures)) _ (c .before .before .before .before .before .before .before .before .before .before .before .before .before .before .before .before .before .before .before .before .before .before .before .before .before .before .before .before .before .before .before .before .before .before .before .before .before .pre .1 .3) (sym (c .before .before .before .before .before .before .before .before .before .before .before .before .before .before .before .before .before .before .before .before .before .before .before .before .if2 .taken) ∙ c .before .before .before .before .before .before .before .before .before .before .before .before .before .before .before .before .before .before .before .before .before .before .before .before .before .dots-next .ensures (a .w)) (sym (c .before .before .before .before .before .before .before .before .before .before .before .before .before .before .before .before .before .before .before .before .before .if3 .taken) ∙ c .before .before .before .before .before .before .before .before .before .before .before .before .before .before .before .before .before .before .before .before .before .before .is-list-of .ensures (a .items .now) (a .w)) (c .before .before .before .before .before .before .before .before .before .before .before .before .before .before .before .before .leaf-count .ensures ∙ ap (leafCount (names (treeAt (a .items .now) (a .work .now) (a .literals) (a .w)))) (c .before .before .before .before .before .before .before .before .before .before .before .before .before .before .before .before .before .before .before .tail .ensures .means (a .items .now) (a .w))))
+    let a = c .before .before .before .before .before .before .before .before .before .before .before .before .before .before .before .before .before .before .before .before .before .before .before .before .before .before .before .before .before .before .before .before .before .before .before .before .before .args in omega (arith, small-ellipsis (a .items .now) (a .work .now) (a .literals) (a .node) (a .w) (a .k) (a .top) (c .before .before .before .before .before .before .before .before .before .before .before .before .before .before .before .before .before .before .before .before .before .before .before .before .before .before .before .before .before .before .before .before .before .before .before .before .before .pre .1 .1) (c .before .before .before .before .before .before .before .before .before .before .before .before .before .before .before .before .before .before .before .before .before .before .before .before .before .before .before .before .before .before .before .before .before .before .before .before .before .pre .1 .2) _ _ (sym (c .before .before .before .before .before .before .before .before .before .before .before .before .before .before .before .before .before .before .before .before .before .before .before .before .before .before .before .before .before .before .before .before .word .ensures) ∙ c .before .before .before .before .before .before .before .before .before .before .before .before .before .before .before .before .before .before .before .before .before .before .before .before .before .before .before .before .before .before .before .if1 .left) (c .before .before .before .before .before .before .before .before .before .before .before .before .before .before .before .before .before .before .before .before .before .before .before .before .before .before .before .before .before .reference .ensures) (c .before .before .before .before .before .before .before .before .before .before .before .before .before .before .before .before .before .before .before .before .before .before .before .before .before .before .before .reference2 .ensures) (c .before .before .before .before .before .before .before .before .before .before .before .pattern .last .1 .0) _ _ _ (made-head (a .items .now) (a .work .now) (a .literals) (a .node) (a .w) (a .k) (a .top) (c .before .before .before .before .before .before .before .before .before .before .before .before .before .before .before .before .before .before .before .before .before .before .before .before .before .before .before .before .before .before .before .before .before .before .before .before .before .pre .1 .1) (c .before .before .before .before .before .before .before .before .before .before .before .before .before .before .before .before .before .before .before .before .before .before .before .before .before .before .before .before .before .before .before .before .before .before .before .before .before .pre .1 .2) _ _ (sym (c .before .before .before .before .before .before .before .before .before .before .before .before .before .before .before .before .before .before .before .before .before .before .before .before .before .before .before .before .before .before .before .before .word .ensures) ∙ c .before .before .before .before .before .before .before .before .before .before .before .before .before .before .before .before .before .before .before .before .before .before .before .before .before .before .before .before .before .before .before .if1 .left) (c .before .before .before .before .before .before .before .before .before .before .before .before .before .before .before .before .before .before .before .before .before .before .before .before .before .before .before .before .before .reference .ensures) (c .before .before .before .before .before .before .before .before .before .before .before .before .before .before .before .before .before .before .before .before .before .before .before .before .before .before .before .reference2 .ensures) (c .before .before .before .before .before .before .before .before .before .before .before .pattern .last .1 .0) _ _ _ _ (c .before .before .before .before .before .a .given .1) (c .before .before .before .before .before .before .before .before .before .before .before .pattern .ensures)) _ (c .before .before .before .before .before .before .before .before .before .before .before .before .before .before .before .before .before .before .before .before .before .before .before .before .before .before .before .before .before .before .before .before .before .before .before .before .before .pre .1 .3) (sym (c .before .before .before .before .before .before .before .before .before .before .before .before .before .before .before .before .before .before .before .before .before .before .before .before .if2 .taken) ∙ c .before .before .before .before .before .before .before .before .before .before .before .before .before .before .before .before .before .before .before .before .before .before .before .before .before .dots-next .ensures (a .w)) (sym (c .before .before .before .before .before .before .before .before .before .before .before .before .before .before .before .before .before .before .before .before .before .if3 .taken) ∙ c .before .before .before .before .before .before .before .before .before .before .before .before .before .before .before .before .before .before .before .before .before .before .is-list-of .ensures (a .items .now) (a .w)) (c .before .before .before .before .before .before .before .before .before .before .before .before .before .before .before .before .leaf-count .ensures ∙ ap (leafCount (names (treeAt (a .items .now) (a .work .now) (a .literals) (a .w)))) (c .before .before .before .before .before .before .before .before .before .before .before .before .before .before .before .before .before .before .before .rest .ensures .is (a .items .now) (a .w))))
 
 pattern-same-length-5 : (t : ℕ) → pattern-lts.Need-same-length-5 (pattern-claims t) (pattern-at t) pattern.Post
 pattern-same-length-5 t c =
@@ -117,7 +117,7 @@ pattern-same-length-6 t c =
 
 pattern-returns-3 : (t : ℕ) → pattern-lts.Need-returns-3 (pattern-claims t) (pattern-at t) pattern.Post
 pattern-returns-3 t c =
-    let a = c .before .before .before .before .before .before .before .before .before .before .before .before .before .before .before .before .before .before .before .before .before .before .before .before .before .before .before .before .before .before .before .before .before .before .before .before .before .args in left-ellipsis (a .items .now) (a .work .now) (a .literals) (a .node) (a .w) (a .k) (a .top) (c .before .before .before .before .before .before .before .before .before .before .before .before .before .before .before .before .before .before .before .before .before .before .before .before .before .before .before .before .before .before .before .before .before .before .before .before .before .pre .1 .1) (c .before .before .before .before .before .before .before .before .before .before .before .before .before .before .before .before .before .before .before .before .before .before .before .before .before .before .before .before .before .before .before .before .before .before .before .before .before .pre .1 .2) _ _ (sym (c .before .before .before .before .before .before .before .before .before .before .before .before .before .before .before .before .before .before .before .before .before .before .before .before .before .before .before .before .before .before .before .before .word .ensures) ∙ c .before .before .before .before .before .before .before .before .before .before .before .before .before .before .before .before .before .before .before .before .before .before .before .before .before .before .before .before .before .before .before .if1 .left) (c .before .before .before .before .before .before .before .before .before .before .before .before .before .before .before .before .before .before .before .before .before .before .before .before .before .before .before .before .before .reference .ensures) (c .before .before .before .before .before .before .before .before .before .before .before .before .before .before .before .before .before .before .before .before .before .before .before .before .before .before .before .reference2 .ensures) (c .before .before .before .before .before .before .before .before .before .before .before .pattern .last .1 .0) _ _ _ (made-head (a .items .now) (a .work .now) (a .literals) (a .node) (a .w) (a .k) (a .top) (c .before .before .before .before .before .before .before .before .before .before .before .before .before .before .before .before .before .before .before .before .before .before .before .before .before .before .before .before .before .before .before .before .before .before .before .before .before .pre .1 .1) (c .before .before .before .before .before .before .before .before .before .before .before .before .before .before .before .before .before .before .before .before .before .before .before .before .before .before .before .before .before .before .before .before .before .before .before .before .before .pre .1 .2) _ _ (sym (c .before .before .before .before .before .before .before .before .before .before .before .before .before .before .before .before .before .before .before .before .before .before .before .before .before .before .before .before .before .before .before .before .word .ensures) ∙ c .before .before .before .before .before .before .before .before .before .before .before .before .before .before .before .before .before .before .before .before .before .before .before .before .before .before .before .before .before .before .before .if1 .left) (c .before .before .before .before .before .before .before .before .before .before .before .before .before .before .before .before .before .before .before .before .before .before .before .before .before .before .before .before .before .reference .ensures) (c .before .before .before .before .before .before .before .before .before .before .before .before .before .before .before .before .before .before .before .before .before .before .before .before .before .before .before .reference2 .ensures) (c .before .before .before .before .before .before .before .before .before .before .before .pattern .last .1 .0) _ _ _ _ (c .before .before .before .before .before .a .given .1) (c .before .before .before .before .before .before .before .before .before .before .before .pattern .ensures)) _ _ _ (sym (c .before .before .before .before .before .before .before .before .before .before .before .before .before .before .before .before .before .before .before .before .before .before .before .before .if2 .taken) ∙ c .before .before .before .before .before .before .before .before .before .before .before .before .before .before .before .before .before .before .before .before .before .before .before .before .before .dots-next .ensures (a .w)) (sym (c .before .before .before .before .before .before .before .before .before .before .before .before .before .before .before .before .before .before .before .before .before .if3 .taken) ∙ c .before .before .before .before .before .before .before .before .before .before .before .before .before .before .before .before .before .before .before .before .before .before .is-list-of .ensures (a .items .now) (a .w)) (c .before .before .before .before .before .before .before .before .before .before .before .before .before .before .before .before .leaf-count .ensures ∙ ap (leafCount (names (treeAt (a .items .now) (a .work .now) (a .literals) (a .w)))) (c .before .before .before .before .before .before .before .before .before .before .before .before .before .before .before .before .before .before .before .tail .ensures .means (a .items .now) (a .w))) (c .before .before .put-ellipsis .ensures)
+    let a = c .before .before .before .before .before .before .before .before .before .before .before .before .before .before .before .before .before .before .before .before .before .before .before .before .before .before .before .before .before .before .before .before .before .before .before .before .before .args in left-ellipsis (a .items .now) (a .work .now) (a .literals) (a .node) (a .w) (a .k) (a .top) (c .before .before .before .before .before .before .before .before .before .before .before .before .before .before .before .before .before .before .before .before .before .before .before .before .before .before .before .before .before .before .before .before .before .before .before .before .before .pre .1 .1) (c .before .before .before .before .before .before .before .before .before .before .before .before .before .before .before .before .before .before .before .before .before .before .before .before .before .before .before .before .before .before .before .before .before .before .before .before .before .pre .1 .2) _ _ (sym (c .before .before .before .before .before .before .before .before .before .before .before .before .before .before .before .before .before .before .before .before .before .before .before .before .before .before .before .before .before .before .before .before .word .ensures) ∙ c .before .before .before .before .before .before .before .before .before .before .before .before .before .before .before .before .before .before .before .before .before .before .before .before .before .before .before .before .before .before .before .if1 .left) (c .before .before .before .before .before .before .before .before .before .before .before .before .before .before .before .before .before .before .before .before .before .before .before .before .before .before .before .before .before .reference .ensures) (c .before .before .before .before .before .before .before .before .before .before .before .before .before .before .before .before .before .before .before .before .before .before .before .before .before .before .before .reference2 .ensures) (c .before .before .before .before .before .before .before .before .before .before .before .pattern .last .1 .0) _ _ _ (made-head (a .items .now) (a .work .now) (a .literals) (a .node) (a .w) (a .k) (a .top) (c .before .before .before .before .before .before .before .before .before .before .before .before .before .before .before .before .before .before .before .before .before .before .before .before .before .before .before .before .before .before .before .before .before .before .before .before .before .pre .1 .1) (c .before .before .before .before .before .before .before .before .before .before .before .before .before .before .before .before .before .before .before .before .before .before .before .before .before .before .before .before .before .before .before .before .before .before .before .before .before .pre .1 .2) _ _ (sym (c .before .before .before .before .before .before .before .before .before .before .before .before .before .before .before .before .before .before .before .before .before .before .before .before .before .before .before .before .before .before .before .before .word .ensures) ∙ c .before .before .before .before .before .before .before .before .before .before .before .before .before .before .before .before .before .before .before .before .before .before .before .before .before .before .before .before .before .before .before .if1 .left) (c .before .before .before .before .before .before .before .before .before .before .before .before .before .before .before .before .before .before .before .before .before .before .before .before .before .before .before .before .before .reference .ensures) (c .before .before .before .before .before .before .before .before .before .before .before .before .before .before .before .before .before .before .before .before .before .before .before .before .before .before .before .reference2 .ensures) (c .before .before .before .before .before .before .before .before .before .before .before .pattern .last .1 .0) _ _ _ _ (c .before .before .before .before .before .a .given .1) (c .before .before .before .before .before .before .before .before .before .before .before .pattern .ensures)) _ _ _ (sym (c .before .before .before .before .before .before .before .before .before .before .before .before .before .before .before .before .before .before .before .before .before .before .before .before .if2 .taken) ∙ c .before .before .before .before .before .before .before .before .before .before .before .before .before .before .before .before .before .before .before .before .before .before .before .before .before .dots-next .ensures (a .w)) (sym (c .before .before .before .before .before .before .before .before .before .before .before .before .before .before .before .before .before .before .before .before .before .if3 .taken) ∙ c .before .before .before .before .before .before .before .before .before .before .before .before .before .before .before .before .before .before .before .before .before .before .is-list-of .ensures (a .items .now) (a .w)) (c .before .before .before .before .before .before .before .before .before .before .before .before .before .before .before .before .leaf-count .ensures ∙ ap (leafCount (names (treeAt (a .items .now) (a .work .now) (a .literals) (a .w)))) (c .before .before .before .before .before .before .before .before .before .before .before .before .before .before .before .before .before .before .before .rest .ensures .is (a .items .now) (a .w))) (c .before .before .put-ellipsis .ensures)
 
 pattern-same-length-7 : (t : ℕ) → pattern-lts.Need-same-length-7 (pattern-claims t) (pattern-at t) pattern.Post
 pattern-same-length-7 t c = search needs
@@ -199,7 +199,7 @@ pub +pattern-spec : {M : Type 1} → statement M
     (pattern-reference-requires-2 t)
     (pattern-dots-next-requires t)
     (pattern-is-list-of-requires t)
-    (pattern-tail-requires t)
+    (pattern-rest-requires t)
     (pattern-leaf-count-requires t)
     (pattern-pattern-requires t)
     (pattern-enum-known-a t)

@@ -8,21 +8,21 @@ use mathlib.Core.Path.{sym, _∙_}
 rule-shape-requires : tie.Need-rule-shape-requires
 rule-shape-requires c κs = search needs
 
-head-requires : tie.Need-head-requires
-head-requires c κs = search needs
+first-requires : tie.Need-first-requires
+first-requires c κs = search needs
 
-tail-requires : tie.Need-tail-requires
-tail-requires c κs = search needs
+rest-requires : tie.Need-rest-requires
+rest-requires c κs = search needs
 
-tail-requires-2 : tie.Need-tail-requires-2
-tail-requires-2 c κs = search needs
+rest-requires-2 : tie.Need-rest-requires-2
+rest-requires-2 c κs = search needs
 
-head-requires-2 : tie.Need-head-requires-2
-head-requires-2 c κs = search needs
+first-requires-2 : tie.Need-first-requires-2
+first-requires-2 c κs = search needs
 
 rule-parts-requires : tie.Need-rule-parts-requires
 rule-parts-requires c κs =
-    let a = c .before .before .before .before .before .before .before .before .before .before .before .before .before .before .before .before .args in (c .before .before .before .before .before .before .before .before .before .before .before .before .before .before .before .before .pre .0, parts-ask (a .items .now) (a .work .now) (a .literals) (a .node) (a .w) (a .next) (a .top) (c .before .before .before .before .before .before .before .before .before .before .before .before .before .before .before .before .pre .1) (c .before .before .before .before .before .before .before .before .before .before .before .before .before .before .before .before .pre .2) (c .before .before .before .before .before .before .before .before .before .before .before .before .before .before .before .before .pre .3) _ _ _ _ (sym (c .before .before .before .before .before .before .before .before .before .before .if1 .taken) ∙ c .before .before .before .before .before .before .before .before .before .before .before .rule-shape .ensures (a .w)) (c .before .before .before .before .before .before .before .before .head .ensures) (c .before .before .before .before .before .before .tail .ensures) (c .before .before .before .before .tail2 .ensures) (c .before .before .head2 .ensures))
+    let a = c .before .before .before .before .before .before .before .before .before .before .before .before .before .before .before .before .args in (c .before .before .before .before .before .before .before .before .before .before .before .before .before .before .before .before .pre .0, parts-ask (a .items .now) (a .work .now) (a .literals) (a .node) (a .w) (a .next) (a .top) (c .before .before .before .before .before .before .before .before .before .before .before .before .before .before .before .before .pre .1) (c .before .before .before .before .before .before .before .before .before .before .before .before .before .before .before .before .pre .2) (c .before .before .before .before .before .before .before .before .before .before .before .before .before .before .before .before .pre .3) _ _ _ _ (sym (c .before .before .before .before .before .before .before .before .before .before .if1 .taken) ∙ c .before .before .before .before .before .before .before .before .before .before .before .rule-shape .ensures (a .w)) (c .before .before .before .before .before .before .before .before .first .ensures) (c .before .before .before .before .before .before .rest .ensures) (c .before .before .before .before .rest2 .ensures) (c .before .before .first2 .ensures))
 
 same-length : tie.Need-same-length
 same-length c =
@@ -34,7 +34,7 @@ same-length-2 c =
 
 returns : tie.Need-returns
 returns c =
-    let a = c .before .before .before .before .before .before .before .before .before .before .before .before .before .before .before .before .before .before .before .before .before .args in left-parts (a .items .now) (a .work .now) (a .literals) (a .node) (a .w) (a .next) (a .top) (c .before .before .before .before .before .before .before .before .before .before .before .before .before .before .before .before .before .before .before .before .before .pre .1) (c .before .before .before .before .before .before .before .before .before .before .before .before .before .before .before .before .before .before .before .before .before .pre .2) (c .before .before .before .before .before .before .before .before .before .before .before .before .before .before .before .before .before .before .before .before .before .pre .3) _ _ _ _ (sym (c .before .before .before .before .before .before .before .before .before .before .before .before .before .before .before .if1 .taken) ∙ c .before .before .before .before .before .before .before .before .before .before .before .before .before .before .before .before .rule-shape .ensures (a .w)) (c .before .before .before .before .before .before .before .before .before .before .before .before .before .head .ensures) (c .before .before .before .before .before .before .before .before .before .before .before .tail .ensures) (c .before .before .before .before .before .before .before .before .before .tail2 .ensures) (c .before .before .before .before .before .before .before .head2 .ensures) (c .before .before .before .before .rule-parts .last .1 .0) (c .before .before .before .before .rule-parts .result) (c .before .before .before .before .rule-parts .ensures)
+    let a = c .before .before .before .before .before .before .before .before .before .before .before .before .before .before .before .before .before .before .before .before .before .args in left-parts (a .items .now) (a .work .now) (a .literals) (a .node) (a .w) (a .next) (a .top) (c .before .before .before .before .before .before .before .before .before .before .before .before .before .before .before .before .before .before .before .before .before .pre .1) (c .before .before .before .before .before .before .before .before .before .before .before .before .before .before .before .before .before .before .before .before .before .pre .2) (c .before .before .before .before .before .before .before .before .before .before .before .before .before .before .before .before .before .before .before .before .before .pre .3) _ _ _ _ (sym (c .before .before .before .before .before .before .before .before .before .before .before .before .before .before .before .if1 .taken) ∙ c .before .before .before .before .before .before .before .before .before .before .before .before .before .before .before .before .rule-shape .ensures (a .w)) (c .before .before .before .before .before .before .before .before .before .before .before .before .before .first .ensures) (c .before .before .before .before .before .before .before .before .before .before .before .rest .ensures) (c .before .before .before .before .before .before .before .before .before .rest2 .ensures) (c .before .before .before .before .before .before .before .first2 .ensures) (c .before .before .before .before .rule-parts .last .1 .0) (c .before .before .before .before .rule-parts .result) (c .before .before .before .before .rule-parts .ensures)
 
 same-length-3 : tie.Need-same-length-3
 same-length-3 c = search needs
@@ -48,10 +48,10 @@ rule-spec =
     tie.close
     (tie.spec
     rule-shape-requires
-    head-requires
-    tail-requires
-    tail-requires-2
-    head-requires-2
+    first-requires
+    rest-requires
+    rest-requires-2
+    first-requires-2
     rule-parts-requires
     same-length
     same-length-2

@@ -8,29 +8,29 @@ use mathlib.Core.Path.{sym, _∙_}
 is-list-of-requires : tie.Need-is-list-of-requires
 is-list-of-requires c κs = search needs
 
-head-requires : tie.Need-head-requires
-head-requires c κs = search needs
+first-requires : tie.Need-first-requires
+first-requires c κs = search needs
 
-head-requires-2 : tie.Need-head-requires-2
-head-requires-2 c κs = search needs
+first-requires-2 : tie.Need-first-requires-2
+first-requires-2 c κs = search needs
 
 word-requires : tie.Need-word-requires
 word-requires c κs = search needs
 
 returns : tie.Need-returns
 returns c =
-    let a = c .before .before .before .before .before .before .before .before .args in λ w. shape-other (a .items .now) (a .work .now) (a .node) w _ _ (sym (c .before .before .before .before .if1 .taken) ∙ c .before .before .before .before .before .is-list-of .ensures (a .items .now) w) (c .before .before .before .head .ensures) (c .before .before .head2 .ensures) (λ z. c .if2 .taken (c .before .word .ensures ∙ z))
+    let a = c .before .before .before .before .before .before .before .before .args in λ w. shape-other (a .items .now) (a .work .now) (a .node) w _ _ (sym (c .before .before .before .before .if1 .taken) ∙ c .before .before .before .before .before .is-list-of .ensures (a .items .now) w) (c .before .before .before .first .ensures) (c .before .before .first2 .ensures) (λ z. c .if2 .taken (c .before .word .ensures ∙ z))
 
 number-of-requires : tie.Need-number-of-requires
 number-of-requires c κs = search needs
 
 returns-2 : tie.Need-returns-2
 returns-2 c =
-    let a = c .before .before .before .before .before .before .before .before .before .before .args in λ w. shape-dots (a .items .now) (a .work .now) (a .node) w _ _ (sym (c .before .before .before .before .before .before .if1 .taken) ∙ c .before .before .before .before .before .before .before .is-list-of .ensures (a .items .now) w) (c .before .before .before .before .before .head .ensures) (c .before .before .before .before .head2 .ensures) _ (sym (c .before .before .before .word .ensures) ∙ c .before .before .if2 .left) (c .before .number-of .ensures) (c .if3 .taken)
+    let a = c .before .before .before .before .before .before .before .before .before .before .args in λ w. shape-dots (a .items .now) (a .work .now) (a .node) w _ _ (sym (c .before .before .before .before .before .before .if1 .taken) ∙ c .before .before .before .before .before .before .before .is-list-of .ensures (a .items .now) w) (c .before .before .before .before .before .first .ensures) (c .before .before .before .before .first2 .ensures) _ (sym (c .before .before .before .word .ensures) ∙ c .before .before .if2 .left) (c .before .number-of .ensures) (c .if3 .taken)
 
 returns-3 : tie.Need-returns-3
 returns-3 c =
-    let a = c .before .before .before .before .before .before .before .before .before .before .args in λ w. shape-yes (a .items .now) (a .work .now) (a .node) w _ _ (sym (c .before .before .before .before .before .before .if1 .taken) ∙ c .before .before .before .before .before .before .before .is-list-of .ensures (a .items .now) w) (c .before .before .before .before .before .head .ensures) (c .before .before .before .before .head2 .ensures) _ (sym (c .before .before .before .word .ensures) ∙ c .before .before .if2 .left) (c .before .number-of .ensures) (c .if3 .left)
+    let a = c .before .before .before .before .before .before .before .before .before .before .args in λ w. shape-yes (a .items .now) (a .work .now) (a .node) w _ _ (sym (c .before .before .before .before .before .before .if1 .taken) ∙ c .before .before .before .before .before .before .before .is-list-of .ensures (a .items .now) w) (c .before .before .before .before .before .first .ensures) (c .before .before .before .before .first2 .ensures) _ (sym (c .before .before .before .word .ensures) ∙ c .before .before .if2 .left) (c .before .number-of .ensures) (c .if3 .left)
 
 returns-4 : tie.Need-returns-4
 returns-4 c =
@@ -41,8 +41,8 @@ rule-shape-spec =
     tie.close
     (tie.spec
     is-list-of-requires
-    head-requires
-    head-requires-2
+    first-requires
+    first-requires-2
     word-requires
     returns
     number-of-requires

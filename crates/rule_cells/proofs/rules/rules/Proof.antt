@@ -10,18 +10,18 @@ is-rules-form-requires : tie.Need-is-rules-form-requires
 is-rules-form-requires c κs =
     omega (arith, c .before .before .before .before .before .pre .0)
 
-tail-requires : tie.Need-tail-requires
-tail-requires c κs = search needs
+rest-requires : tie.Need-rest-requires
+rest-requires c κs = search needs
 
-head-requires : tie.Need-head-requires
-head-requires c κs = search needs
+first-requires : tie.Need-first-requires
+first-requires c κs = search needs
 
-tail-requires-2 : tie.Need-tail-requires-2
-tail-requires-2 c κs = search needs
+rest-requires-2 : tie.Need-rest-requires-2
+rest-requires-2 c κs = search needs
 
 rule-list-requires : tie.Need-rule-list-requires
 rule-list-requires c κs =
-    let a = c .before .before .before .before .before .before .before .before .before .before .before .before .before .before .before .before .before .args in (omega (arith, c .before .before .before .before .before .before .before .before .before .before .before .before .before .before .before .before .before .pre .0, c .before .before .before .before .before .before .before .before .before .before .before .is-rules-form .kept .1 .1 .0), asks-list (a .items .now) (a .work .now) (a .node) (a .w) (a .top) (c .before .before .before .before .before .before .before .before .before .before .before .before .before .before .before .before .before .pre .1) _ _ _ (c .before .before .before .before .before .before .tail .ensures) (c .before .before .before .before .head .ensures) (c .before .before .tail2 .ensures), literals-under (a .items .now) (a .work .now) (a .node) (a .w) (a .top) (c .before .before .before .before .before .before .before .before .before .before .before .before .before .before .before .before .before .pre .1) _ _ _ (c .before .before .before .before .before .before .tail .ensures) (c .before .before .before .before .head .ensures) (c .before .before .tail2 .ensures))
+    let a = c .before .before .before .before .before .before .before .before .before .before .before .before .before .before .before .before .before .args in (omega (arith, c .before .before .before .before .before .before .before .before .before .before .before .before .before .before .before .before .before .pre .0, c .before .before .before .before .before .before .before .before .before .before .before .is-rules-form .kept .1 .1 .0), asks-list (a .items .now) (a .work .now) (a .node) (a .w) (a .top) (c .before .before .before .before .before .before .before .before .before .before .before .before .before .before .before .before .before .pre .1) _ _ _ (c .before .before .before .before .before .before .rest .ensures) (c .before .before .before .before .first .ensures) (c .before .before .rest2 .ensures), literals-under (a .items .now) (a .work .now) (a .node) (a .w) (a .top) (c .before .before .before .before .before .before .before .before .before .before .before .before .before .before .before .before .before .pre .1) _ _ _ (c .before .before .before .before .before .before .rest .ensures) (c .before .before .before .before .first .ensures) (c .before .before .rest2 .ensures))
 
 same-length : tie.Need-same-length
 same-length c =
@@ -33,7 +33,7 @@ same-length-2 c =
 
 returns : tie.Need-returns
 returns c =
-    let a = c .before .before .before .before .before .before .before .before .before .before .before .before .before .before .before .before .before .before .before .before .before .before .args in left-form (a .items .now) (a .work .now) (a .node) (a .w) (a .top) (c .before .before .before .before .before .before .before .before .before .before .before .before .before .before .before .before .before .before .before .before .before .before .pre .1) _ _ _ (c .before .before .before .before .before .before .before .before .before .before .before .tail .ensures) (c .before .before .before .before .before .before .before .before .before .head .ensures) (c .before .before .before .before .before .before .before .tail2 .ensures) (c .before .before .before .before .rule-list .last .1 .0) (c .before .before .before .before .rule-list .result) (sym (c .before .before .before .before .before .before .before .before .before .before .before .before .before .if1 .taken) ∙ c .before .before .before .before .before .before .before .before .before .before .before .before .before .before .before .before .is-rules-form .ensures) (c .before .before .before .before .rule-list .ensures)
+    let a = c .before .before .before .before .before .before .before .before .before .before .before .before .before .before .before .before .before .before .before .before .before .before .args in left-form (a .items .now) (a .work .now) (a .node) (a .w) (a .top) (c .before .before .before .before .before .before .before .before .before .before .before .before .before .before .before .before .before .before .before .before .before .before .pre .1) _ _ _ (c .before .before .before .before .before .before .before .before .before .before .before .rest .ensures) (c .before .before .before .before .before .before .before .before .before .first .ensures) (c .before .before .before .before .before .before .before .rest2 .ensures) (c .before .before .before .before .rule-list .last .1 .0) (c .before .before .before .before .rule-list .result) (sym (c .before .before .before .before .before .before .before .before .before .before .before .before .before .if1 .taken) ∙ c .before .before .before .before .before .before .before .before .before .before .before .before .before .before .before .before .is-rules-form .ensures) (c .before .before .before .before .rule-list .ensures)
 
 same-length-3 : tie.Need-same-length-3
 same-length-3 c = search needs
@@ -50,9 +50,9 @@ rules-spec =
     tie.close
     (tie.spec
     is-rules-form-requires
-    tail-requires
-    head-requires
-    tail-requires-2
+    rest-requires
+    first-requires
+    rest-requires-2
     rule-list-requires
     same-length
     same-length-2

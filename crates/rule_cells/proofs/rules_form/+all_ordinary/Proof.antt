@@ -8,10 +8,10 @@ use Rattle.rule_cells.proofs.rules_form.all_ordinary.Kinds as all-ordin
 use Rattle.rule_cells.proofs.rules_form.+all_ordinary.Lts-all_ordinary as all-ordinary-lts
 use Rattle.arena.proofs.cells.reference.Reads as reference-reads
 use Rattle.arena.proofs.cells.word.Reads as word-reads
-use Rattle.rule_cells.proofs.rules_form.is_ordinary.Reads as is-ordinary-reads
+use Rattle.arena.proofs.names.is_ordinary.Reads as is-ordinary-reads
 use Rattle.rule_cells.proofs.rules_form.+all_ordinary.{statement}
 use Rattle.rule_cells.proofs.rules_form.+all_ordinary.Tie.{close}
-use Rattle.rule_cells.specs.TreeLaws.{pair-falls}
+use Rattle.arena.specs.ListLaws.{pair-falls}
 use Rattle.rule_cells.specs.Forms.{all-end, all-no, all-more}
 use mathlib.Core.Path.{sym, _∙_}
 use native.Mathlib.Omega.{arith}

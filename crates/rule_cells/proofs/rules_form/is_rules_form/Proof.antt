@@ -5,23 +5,23 @@ use Rattle.rule_cells.proofs.rules_form.is_rules_form.Tie as tie
 use Rattle.rule_cells.specs.Forms.{form-no, form-literals, form-none, form-some}
 use mathlib.Core.Path.{sym, _∙_}
 
-head-requires : tie.Need-head-requires
-head-requires c κs = search needs
+first-requires : tie.Need-first-requires
+first-requires c κs = search needs
 
 is-syntax-rules-requires : tie.Need-is-syntax-rules-requires
 is-syntax-rules-requires c κs = search needs
 
-tail-requires : tie.Need-tail-requires
-tail-requires c κs = search needs
+rest-requires : tie.Need-rest-requires
+rest-requires c κs = search needs
 
-head-requires-2 : tie.Need-head-requires-2
-head-requires-2 c κs = search needs
+first-requires-2 : tie.Need-first-requires-2
+first-requires-2 c κs = search needs
 
 literals-good-requires : tie.Need-literals-good-requires
 literals-good-requires c κs = search needs
 
-tail-requires-2 : tie.Need-tail-requires-2
-tail-requires-2 c κs = search needs
+rest-requires-2 : tie.Need-rest-requires-2
+rest-requires-2 c κs = search needs
 
 count-requires : tie.Need-count-requires
 count-requires c κs = search needs
@@ -32,7 +32,7 @@ same-length c =
 
 returns : tie.Need-returns
 returns c =
-    let a = c .before .before .before .before .before .before .before .before .before .before .before .before .before .before .before .before .args in form-none (a .items .now) (a .work .now) (a .node) (a .w) _ (c .before .before .before .before .before .before .before .before .before .before .before .before .head .ensures) (sym (c .before .before .before .before .before .before .before .if1 .taken) ∙ c .before .before .before .before .before .before .before .before .before .before .is-syntax-rules .ensures) _ _ (c .before .before .before .before .before .before .tail .ensures) (c .before .before .before .before .before .head2 .ensures) (λ w. sym (c .before .before .before .if2 .taken) ∙ c .before .before .before .before .literals-good .ensures w) _ _ (c .before .before .tail2 .ensures) (c .before .count .ensures) (c .if3 .taken)
+    let a = c .before .before .before .before .before .before .before .before .before .before .before .before .before .before .before .before .args in form-none (a .items .now) (a .work .now) (a .node) (a .w) _ (c .before .before .before .before .before .before .before .before .before .before .before .before .first .ensures) (sym (c .before .before .before .before .before .before .before .if1 .taken) ∙ c .before .before .before .before .before .before .before .before .before .before .is-syntax-rules .ensures) _ _ (c .before .before .before .before .before .before .rest .ensures) (c .before .before .before .before .before .first2 .ensures) (λ w. sym (c .before .before .before .if2 .taken) ∙ c .before .before .before .before .literals-good .ensures w) _ _ (c .before .before .rest2 .ensures) (c .before .count .ensures) (c .if3 .taken)
 
 same-length-2 : tie.Need-same-length-2
 same-length-2 c =
@@ -40,7 +40,7 @@ same-length-2 c =
 
 returns-2 : tie.Need-returns-2
 returns-2 c =
-    let a = c .before .before .before .before .before .before .before .before .before .before .before .before .before .before .before .before .args in form-some (a .items .now) (a .work .now) (a .node) (a .w) _ (c .before .before .before .before .before .before .before .before .before .before .before .before .head .ensures) (sym (c .before .before .before .before .before .before .before .if1 .taken) ∙ c .before .before .before .before .before .before .before .before .before .before .is-syntax-rules .ensures) _ _ (c .before .before .before .before .before .before .tail .ensures) (c .before .before .before .before .before .head2 .ensures) (λ w. sym (c .before .before .before .if2 .taken) ∙ c .before .before .before .before .literals-good .ensures w) _ _ (c .before .before .tail2 .ensures) (c .before .count .ensures) (c .if3 .left)
+    let a = c .before .before .before .before .before .before .before .before .before .before .before .before .before .before .before .before .args in form-some (a .items .now) (a .work .now) (a .node) (a .w) _ (c .before .before .before .before .before .before .before .before .before .before .before .before .first .ensures) (sym (c .before .before .before .before .before .before .before .if1 .taken) ∙ c .before .before .before .before .before .before .before .before .before .before .is-syntax-rules .ensures) _ _ (c .before .before .before .before .before .before .rest .ensures) (c .before .before .before .before .before .first2 .ensures) (λ w. sym (c .before .before .before .if2 .taken) ∙ c .before .before .before .before .literals-good .ensures w) _ _ (c .before .before .rest2 .ensures) (c .before .count .ensures) (c .if3 .left)
 
 same-length-3 : tie.Need-same-length-3
 same-length-3 c =
@@ -48,7 +48,7 @@ same-length-3 c =
 
 returns-3 : tie.Need-returns-3
 returns-3 c =
-    let a = c .before .before .before .before .before .before .before .before .before .before .before .before .before .args in form-literals (a .items .now) (a .work .now) (a .node) (a .w) _ (c .before .before .before .before .before .before .before .before .before .head .ensures) (sym (c .before .before .before .before .if1 .taken) ∙ c .before .before .before .before .before .before .before .is-syntax-rules .ensures) _ _ (c .before .before .before .tail .ensures) (c .before .before .head2 .ensures) (λ w. sym (c .if2 .left) ∙ c .before .literals-good .ensures w)
+    let a = c .before .before .before .before .before .before .before .before .before .before .before .before .before .args in form-literals (a .items .now) (a .work .now) (a .node) (a .w) _ (c .before .before .before .before .before .before .before .before .before .first .ensures) (sym (c .before .before .before .before .if1 .taken) ∙ c .before .before .before .before .before .before .before .is-syntax-rules .ensures) _ _ (c .before .before .before .rest .ensures) (c .before .before .first2 .ensures) (λ w. sym (c .if2 .left) ∙ c .before .literals-good .ensures w)
 
 same-length-4 : tie.Need-same-length-4
 same-length-4 c =
@@ -56,18 +56,18 @@ same-length-4 c =
 
 returns-4 : tie.Need-returns-4
 returns-4 c =
-    let a = c .before .before .before .before .before .before .before .before .before .args in form-no (a .items .now) (a .work .now) (a .node) (a .w) _ (c .before .before .before .before .before .head .ensures) (sym (c .if1 .left) ∙ c .before .before .before .is-syntax-rules .ensures)
+    let a = c .before .before .before .before .before .before .before .before .before .args in form-no (a .items .now) (a .work .now) (a .node) (a .w) _ (c .before .before .before .before .before .first .ensures) (sym (c .if1 .left) ∙ c .before .before .before .is-syntax-rules .ensures)
 
 pub is-rules-form-spec : {M : Type 1} → statement M
 is-rules-form-spec =
     tie.close
     (tie.spec
-    head-requires
+    first-requires
     is-syntax-rules-requires
-    tail-requires
-    head-requires-2
+    rest-requires
+    first-requires-2
     literals-good-requires
-    tail-requires-2
+    rest-requires-2
     count-requires
     same-length
     returns

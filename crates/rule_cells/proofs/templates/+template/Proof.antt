@@ -11,7 +11,7 @@ use Rattle.arena.proofs.cells.word.Reads as word-reads
 use Rattle.rule_cells.proofs.templates.accepted.Reads as accepted-reads
 use Rattle.rule_cells.proofs.templates.put_list.Reads as put-list-reads
 use Rattle.rule_cells.proofs.templates.template_leaf.Reads as template-leaf-reads
-use Rattle.rule_cells.proofs.trees.dots_next.Reads as dots-next-reads
+use Rattle.rule_cells.proofs.dots.dots_next.Reads as dots-next-reads
 use Rattle.rule_cells.proofs.variables.depth_before.Reads as depth-before-reads
 use Rattle.rule_cells.proofs.templates.+template.{statement}
 use Rattle.rule_cells.proofs.templates.+template.Tie.{close}

@@ -12,7 +12,7 @@ use Rattle.rule_cells.proofs.variables.depth_before.Reads as depth-befo
 use Rattle.rule_cells.proofs.variables.gather_name.Reads as gather-name-reads
 use Rattle.rule_cells.proofs.variables.+gather.{statement}
 use Rattle.rule_cells.proofs.variables.+gather.Tie.{close}
-use Rattle.rule_cells.specs.TreeLaws.{pair-falls}
+use Rattle.arena.specs.ListLaws.{pair-falls}
 use Rattle.rule_cells.specs.GatherLaws.{deeper-most, gathered-stored, gathered-name, gathered-other, gathered-bad, gathered-pair}
 use Rattle.recipe.specs.Tree.{names}
 use Rattle.arena.specs.Arena.{treeAt}

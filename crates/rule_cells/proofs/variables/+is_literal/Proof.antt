@@ -11,7 +11,7 @@ use Rattle.arena.proofs.cells.word.Reads as word-reads
 use Rattle.arena.proofs.names.same_names.Reads as same-names-reads
 use Rattle.rule_cells.proofs.variables.+is_literal.{statement}
 use Rattle.rule_cells.proofs.variables.+is_literal.Tie.{close}
-use Rattle.rule_cells.specs.TreeLaws.{pair-falls}
+use Rattle.arena.specs.ListLaws.{pair-falls}
 use Rattle.rule_cells.specs.VariableLaws.{any-name, any-head, any-rest, any-other}
 use Rattle.recipe.specs.Name.{same}
 use Rattle.arena.specs.Arena.{nameAt}

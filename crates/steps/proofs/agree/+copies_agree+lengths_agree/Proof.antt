@@ -15,7 +15,7 @@ use Rattle.steps.proofs.lengths.all_of.Reads as all-of-reads
 use Rattle.steps.proofs.lengths.copies.Reads as copies-reads
 use Rattle.steps.proofs.agree.+copies_agree+lengths_agree.{statement}
 use Rattle.steps.proofs.agree.+copies_agree+lengths_agree.Tie.{close}
-use Rattle.steps.specs.ListLaws.{not-true, not-false}
+use borrow.Author.Tests.{not-true, not-false}
 use Rattle.steps.specs.PartLaws.{tag-falls}
 use Rattle.steps.specs.Lengths.{CopiesAgree}
 use Rattle.steps.specs.AgreeLaws.{agree-leaf, agree-head-no, agree-tail, agree-differ, agree-copies-no, agree-rest, begun-copies, copies-no, copies-more}

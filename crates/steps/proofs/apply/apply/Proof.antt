@@ -2,7 +2,7 @@
 use borrow.Author.Needs.{needs}
 use Rattle.steps.proofs.apply.apply.Statement.{statement}
 use Rattle.steps.proofs.apply.apply.Tie as tie
-use Rattle.steps.specs.ListLaws.{not-true, not-false}
+use borrow.Author.Tests.{not-true, not-false}
 use Rattle.steps.specs.ApplyLaws.{apply-none, apply-differ, apply-costly, apply-buildable, apply-done}
 use native.Mathlib.Omega.{arith}
 

@@ -13,7 +13,7 @@ use Rattle.arena.proofs.cells.word.Reads as word-reads
 use Rattle.steps.proofs.build.copy_name.Reads as copy-name-reads
 use Rattle.steps.proofs.build.+copy_tree.{statement}
 use Rattle.steps.proofs.build.+copy_tree.Tie.{close}
-use Rattle.steps.specs.ListLaws.{kind-some}
+use Rattle.arena.specs.ListLaws.{kind-some}
 use Rattle.steps.specs.BuildLaws.{room-node, room-less, copied-empty, copied-name, copied-constant, waiting-tail, waiting-head, copied-room, copied-pair}
 use Rattle.arena.specs.ArenaLaws.{referenceAt-falls}
 use native.Mathlib.Omega.{arith}

@@ -9,7 +9,7 @@ use Rattle.arena.proofs.cells.reference.Reads as reference-reads
 use Rattle.arena.proofs.cells.word.Reads as word-reads
 use Rattle.steps.proofs.cost.+size.{statement}
 use Rattle.steps.proofs.cost.+size.Tie.{close}
-use Rattle.steps.specs.ListLaws.{kind-some}
+use Rattle.arena.specs.ListLaws.{kind-some}
 use Rattle.steps.specs.CostLaws.{sized-past, sized-leaf, sized-pair}
 use Rattle.arena.specs.ArenaLaws.{referenceAt-falls}
 use native.Mathlib.Omega.{arith}

@@ -15,7 +15,8 @@ use Rattle.steps.proofs.fits.literal_fits.Reads as literal-fits-reads
 use Rattle.steps.proofs.fits.+each_fits+fits.{statement}
 use Rattle.steps.proofs.fits.+each_fits+fits.Tie.{close}
 use Rattle.steps.specs.PartLaws.{tag-falls}
-use Rattle.steps.specs.ListLaws.{kind-some, not-true, not-false}
+use Rattle.arena.specs.ListLaws.{kind-some}
+use borrow.Author.Tests.{not-true, not-false}
 use Rattle.steps.specs.FitLaws.{fits-variable, fits-wildcard, fits-literal, fits-constant, fits-ellipsis, fits-no-pair, fits-head-no, fits-tail, fits-empty, Matched, each-ends, each-no, each-more}
 use Rattle.arena.specs.ArenaLaws.{referenceAt-falls}
 use native.Mathlib.Omega.{arith}

@@ -8,11 +8,11 @@ use Rattle.steps.proofs.lengths.+all_of.Lts-all_of as all-of-lts
 use Rattle.arena.proofs.cells.reference.Reads as reference-reads
 use Rattle.arena.proofs.cells.word.Reads as word-reads
 use Rattle.steps.proofs.lengths.deeper.Reads as deeper-reads
-use Rattle.steps.proofs.lists.count.Reads as count-reads
+use Rattle.arena.proofs.lists.count.Reads as count-reads
 use Rattle.steps.proofs.parts.taken.Reads as taken-reads
 use Rattle.steps.proofs.lengths.+all_of.{statement}
 use Rattle.steps.proofs.lengths.+all_of.Tie.{close}
-use Rattle.steps.specs.ListLaws.{not-true, not-false}
+use borrow.Author.Tests.{not-true, not-false}
 use Rattle.steps.specs.PartLaws.{tag-falls}
 use Rattle.steps.specs.LengthLaws.{deeper-most, all-none, all-few, all-one, all-no, all-rest}
 use Rattle.arena.specs.Arena.{referenceAt}

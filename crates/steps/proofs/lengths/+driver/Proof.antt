@@ -8,7 +8,7 @@ use Rattle.steps.proofs.lengths.+driver.Lts-driver as driver-lts
 use Rattle.arena.proofs.cells.reference.Reads as reference-reads
 use Rattle.arena.proofs.cells.word.Reads as word-reads
 use Rattle.steps.proofs.lengths.deeper.Reads as deeper-reads
-use Rattle.steps.proofs.lists.count.Reads as count-reads
+use Rattle.arena.proofs.lists.count.Reads as count-reads
 use Rattle.steps.proofs.parts.taken.Reads as taken-reads
 use Rattle.steps.proofs.lengths.+driver.{statement}
 use Rattle.steps.proofs.lengths.+driver.Tie.{close}

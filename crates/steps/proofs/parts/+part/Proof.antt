@@ -7,9 +7,9 @@ use Rattle.steps.proofs.parts.part.Kinds as part-kinds
 use Rattle.steps.proofs.parts.+part.Lts-part as part-lts
 use Rattle.arena.proofs.cells.reference.Reads as reference-reads
 use Rattle.arena.proofs.cells.word.Reads as word-reads
-use Rattle.steps.proofs.lists.element.Reads as element-reads
-use Rattle.steps.proofs.lists.first.Reads as first-reads
-use Rattle.steps.proofs.lists.rest.Reads as rest-reads
+use Rattle.arena.proofs.lists.element.Reads as element-reads
+use Rattle.arena.proofs.lists.first.Reads as first-reads
+use Rattle.arena.proofs.lists.rest.Reads as rest-reads
 use Rattle.steps.proofs.parts.holds.Reads as holds-reads
 use Rattle.steps.proofs.parts.+part.{statement}
 use Rattle.steps.proofs.parts.+part.Tie.{close}

@@ -1,0 +1,58 @@
+-- `lists::count`: k elements are counted, and the node's are left.
+use Rattle.arena.proofs.lists.count.Statement.{statement}
+use Rattle.arena.proofs.lists.count.Tie as tie
+use Rattle.arena.specs.Lists.{Counted}
+use Rattle.arena.specs.ListLaws.{kind-some, count-begins, count-more, count-none}
+use native.Mathlib.Omega.{arith}
+use Rattle.arena.specs.ArenaLaws.{referenceAt-falls}
+use borrow.Author.Needs.{needs}
+
+abbrev Inv-loop : tie.InvT-loop
+Inv-loop work list node₀ k₀ node k =
+    Counted work list node k
+
+abbrev μ-loop : tie.MeasureT-loop
+μ-loop work list node₀ k₀ node k =
+    node
+
+loop-holds : tie.Need-loop-holds Inv-loop μ-loop
+loop-holds c =
+    count-begins (c .before .args .work .now) (c .before .args .list)
+
+word-requires : tie.Need-word-requires Inv-loop μ-loop
+word-requires c κs =
+    search needs
+
+reference-requires : tie.Need-reference-requires Inv-loop μ-loop
+reference-requires c κs =
+    search needs
+
+add-k : tie.Need-add-k Inv-loop μ-loop
+add-k c =
+    let a = c .before .before .before .before .before .args in omega (arith, c .before .before .before .loop .inv .low, referenceAt-falls (a .work .now) (c .before .before .before .loop .node) 1 (kind-some (a .work .now) (c .before .before .before .loop .node) _ (c .before .before .word .ensures) (c .before .if1 .taken)))
+
+loop-less : tie.Need-loop-less Inv-loop μ-loop
+loop-less c =
+    let a = c .before .before .before .before .before .args in omega (arith, c .reference .ensures, referenceAt-falls (a .work .now) (c .before .before .before .loop .node) 1 (kind-some (a .work .now) (c .before .before .before .loop .node) _ (c .before .before .word .ensures) (c .before .if1 .taken)))
+
+loop-again : tie.Need-loop-again Inv-loop μ-loop
+loop-again c =
+    let a = c .before .before .before .before .before .args in count-more (a .work .now) (c .before .before .before .loop .node) _ (c .before .before .word .ensures) (a .list) (c .before .before .before .loop .k) _ (c .before .if1 .taken) (c .reference .ensures) (c .before .before .before .loop .inv)
+
+returns : tie.Need-returns Inv-loop μ-loop
+returns c =
+    let a = c .before .before .before .before .args in count-none (a .work .now) (c .before .before .loop .node) _ (c .before .word .ensures) (a .list) (c .before .before .loop .k) (c .if1 .left) (c .before .before .loop .inv)
+
+pub count-spec : {M : Type 1} → statement M
+count-spec =
+    tie.close
+    (tie.spec
+    Inv-loop
+    μ-loop
+    loop-holds
+    word-requires
+    reference-requires
+    add-k
+    loop-less
+    loop-again
+    returns)

@@ -1,0 +1,35 @@
+-- The name `...` among trees in the arena, and its laws, one for each way through the code.
+use mathlib.Core.Path.{_≡_, refl, sym}
+use mathlib.Core.Bool.{Bool, false}
+use mathlib.Core.List.{List}
+use Prim.Native.Nat.{ℕ}
+use lib.Dec.{eqb}
+use Rattle.recipe.specs.Name.{isEllipsis}
+use Rattle.recipe.specs.Tree.{Tree, onPair, onName}
+use Rattle.expansion.specs.Rules.{dotsNext}
+use Rattle.arena.specs.Arena.{wordAt, referenceAt}
+use Rattle.arena.specs.NodeLaws.{treeAt-name, treeAt-pair}
+use Rattle.arena.specs.Names.{numberOf}
+use Rattle.arena.specs.NameLaws.{nameAt-number}
+use Rattle.arena.specs.Lists.{TestsIn}
+use Rattle.arena.specs.ListLaws.{no-name, no-pair}
+
+unfoldable pub isDots : Tree → Bool
+isDots = onName isEllipsis false
+
+module _ (items work : List ℕ) (node : ℕ) where
+  pub dots-name : (n : ℕ) → wordAt work node 3 ≡ 3 → n ≡ numberOf items work node → TestsIn isDots items work node (eqb n 6)
+  unfolding isDots onName isEllipsis
+  dots-name n e f w = rw (treeAt-name items work node w e, nameAt-number items work node w, f)
+
+  pub dots-other : (wordAt work node 3 ≡ 3 → ⊥) → TestsIn isDots items work node false
+  unfolding isDots
+  dots-other n w = sym (no-name items work node w isEllipsis false n)
+
+  pub next-pair : (r : ℕ) (b : Bool) → wordAt work node 3 ≡ 4 → r ≡ referenceAt work node 2 → TestsIn isDots items work r b → TestsIn (dotsNext isEllipsis) items work node b
+  unfolding dotsNext onPair isDots
+  next-pair r b e f d w = rw (treeAt-pair items work node w e, ← f) (d w)
+
+  pub next-other : (wordAt work node 3 ≡ 4 → ⊥) → TestsIn (dotsNext isEllipsis) items work node false
+  unfolding dotsNext onPair
+  next-other n w = no-pair work node _ refl (λ t. false ≡ dotsNext isEllipsis t) refl (λ x. refl) (λ a. refl) n items w

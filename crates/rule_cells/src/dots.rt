@@ -1,0 +1,29 @@
+// The name `...` among trees in the arena, known by number alone, whatever waits on it.
+
+ghost use Rattle.recipe.specs.Name.{isEllipsis};
+ghost use Rattle.expansion.specs.Rules.{dotsNext};
+ghost use Rattle.arena.specs.Lists.{TestsIn};
+ghost use Rattle.rule_cells.specs.Dots.{isDots};
+use arena::cells;
+use arena::names;
+
+// Whether a tree is `...`.
+pub fn is_dots(items: &[u32], work: &[u32], node: u32) -> bool
+    ensures { λ r. ⌜ TestsIn isDots (now (items .entry)) (now (work .entry)) node r ⌝ }
+{
+    if cells::word(work, node, 3) != cells::NAME {
+        return false;
+    }
+    names::number_of(items, work, node) == names::ELLIPSIS
+}
+
+// Whether a list begins with `...`.
+pub fn dots_next(items: &[u32], work: &[u32], node: u32) -> bool
+    ensures { λ r. ⌜ TestsIn (dotsNext isEllipsis) (now (items .entry)) (now (work .entry)) node r ⌝ }
+{
+    if cells::word(work, node, 3) != cells::PAIR {
+        return false;
+    }
+    let first = cells::reference(work, node, 2);
+    is_dots(items, work, first)
+}

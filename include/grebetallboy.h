@@ -1,0 +1,45 @@
+/* The proved services for C. Link libgrebetallboy.a, which `rt staticlib grebetallboy` writes to target/staticlib.
+ *
+ * A call has no requirement but that each pointer has so many elements behind it as its count says, and that no two tables of a
+ * call overlap. It answers 0 where it accepts, else the number that README.md explains, and tells its numbers in `counts`, which
+ * has room for three (a shorter table is left alone). Document 01 says what each table holds afterwards.
+ *
+ * Stack: a call takes 200 KiB and at most 600 bytes for each level that lists are nested, in the item table and in what macros
+ * make of it, which is less than 8 MiB for every input.
+ */
+#ifndef GREBETALLBOY_H
+#define GREBETALLBOY_H
+
+#include <stddef.h>
+#include <stdint.h>
+
+#ifdef __cplusplus
+extern "C" {
+#endif
+
+/* What to lend for reading: words of the item table, bytes of the name table. */
+#define GREBETALLBOY_ITEM_WORDS 12288
+#define GREBETALLBOY_NAME_BYTES 65536
+
+/* What to lend for expanding so many items with so much fuel (at most 8,192): words of the work table and of the core table. */
+#define GREBETALLBOY_WORK_WORDS(items, fuel) (24 * ((size_t)(items) + (size_t)(fuel)))
+#define GREBETALLBOY_CORE_WORDS(items, fuel) (2 * ((size_t)(items) + (size_t)(fuel)))
+
+/* Reads a recipe text of at most 65,535 bytes. Accepted: counts has the items (three words each) and the names, then 0. */
+uint32_t grebetallboy_read(const uint8_t *text, size_t text_count, uint32_t *items, size_t items_count, uint8_t *names,
+                           size_t names_count, uint64_t *counts, size_t counts_count);
+
+/* Expands an item table. Accepted: counts has the steps, the sum of items and the words of the term, which begin the core table.
+ * Refused by 11 to 18: the steps and the sum so far, then 0. */
+uint32_t grebetallboy_expand(const uint32_t *items, size_t items_count, uint32_t fuel, uint32_t *work, size_t work_count,
+                             uint32_t *core, size_t core_count, uint64_t *counts, size_t counts_count);
+
+/* Writes the text of a core term, with so many operations (256 where none is known). Accepted: counts has its length, then 0, 0. */
+uint32_t grebetallboy_write(const uint32_t *words, size_t words_count, uint32_t operations, const uint8_t *names,
+                            size_t names_count, uint8_t *out, size_t out_count, uint64_t *counts, size_t counts_count);
+
+#ifdef __cplusplus
+}
+#endif
+
+#endif

@@ -1,0 +1,134 @@
+//! Microseconds for reading, expanding and writing, as the tables of docs/BENCHMARKS.md: `cargo run --release --bin bench`.
+
+use compare::filing::Tables;
+use std::io::Write;
+use std::process::{Command, Stdio};
+use std::time::Instant;
+
+const OR: &str = "(letrec-syntax ((or (syntax-rules () ((_) #f) ((_ e) e) ((_ e r ...) ((lambda (t) (if t t (or r ...))) e)))))";
+
+/// The best of several rounds, each long enough for the clock.
+fn time(mut run: impl FnMut()) -> f64 {
+    let start = Instant::now();
+    run();
+    let once = start.elapsed().as_secs_f64();
+    let count = (2e-3 / once.max(1e-9)).clamp(1.0, 1_000.0) as u32;
+    let round = |run: &mut dyn FnMut()| {
+        let start = Instant::now();
+        (0..count).for_each(|_| run());
+        start.elapsed().as_secs_f64() * 1e6 / f64::from(count)
+    };
+    (0..25).map(|_| round(&mut run)).fold(f64::MAX, f64::min)
+}
+
+/// Tables long enough for the largest recipe and fuel, or the filing program's.
+fn tables(fuel: u32) -> Tables {
+    if fuel == 512 {
+        return Tables::new(16_368, 2_046);
+    }
+    let (work, core) = grebetallboy::table_words(4_095, fuel);
+    Tables::new(work, core)
+}
+
+fn services(text: &str, fuel: u32) -> (f64, String) {
+    let mut tables = tables(fuel);
+    let answer = match tables.run(text.as_bytes(), fuel) {
+        Ok((steps, sum, _)) => format!("{steps} steps, {sum} items"),
+        Err(refused) => format!("refused {}", refused.ground),
+    };
+    let us = time(|| {
+        let _ = std::hint::black_box(tables.run(text.as_bytes(), fuel));
+    });
+    (us, answer)
+}
+
+fn second(text: &str, fuel: u32) -> f64 {
+    time(|| drop(std::hint::black_box(reference::file(text.as_bytes(), fuel))))
+}
+
+// ---- other expanders
+
+/// What an interpreter's script prints for the expression: microseconds, where the program is on the path.
+fn other(program: &str, arguments: &[&str], script: &str) -> Option<f64> {
+    let mut child = Command::new(program).args(arguments).stdin(Stdio::piped()).stdout(Stdio::piped()).stderr(Stdio::null()).spawn().ok()?;
+    child.stdin.take()?.write_all(script.as_bytes()).ok()?;
+    let out = child.wait_with_output().ok()?;
+    String::from_utf8_lossy(&out.stdout).split_whitespace().rev().find_map(|word| word.parse().ok())
+}
+
+/// The best of 20 rounds of 500 expansions; `now` is in microseconds.
+fn rounds(expand: &str, expression: &str) -> String {
+    format!(
+        "(define e '{expression})\n(define (round) (let ((s (now))) (do ((i 0 (+ i 1))) ((= i 500)) ({expand} e)) (/ (- (now) s) 500.0)))\n\
+         (define (best k b) (if (= k 0) b (best (- k 1) (min b (round)))))\n(display (best 20 1e9)) (newline)\n"
+    )
+}
+
+fn chez(expression: &str) -> Option<f64> {
+    let now = "(define (now) (let ((t (current-time 'time-monotonic))) (+ (* 1e6 (time-second t)) (/ (time-nanosecond t) 1e3))))\n";
+    let script = now.to_string() + &rounds("expand", expression);
+    ["scheme", "chezscheme"].iter().find_map(|program| other(program, &["-q"], &script))
+}
+
+fn guile(expression: &str) -> Option<f64> {
+    let now = "(define (now) (* 1e6 (/ (get-internal-real-time) internal-time-units-per-second 1.0)))\n";
+    other("guile", &["--no-auto-compile", "-q", "/dev/stdin"], &(now.to_string() + &rounds("macroexpand", expression)))
+}
+
+fn shown(us: Option<f64>, own: f64) -> String {
+    us.map_or("-".to_string(), |us| format!("{us:.1} ({:.1} ×)", us / own))
+}
+
+// ---- the tables
+
+fn recipes() {
+    let or2 = "(let-syntax ((or2 (syntax-rules () ((_ a b) ((lambda (t) (if t t b)) a))))) (lambda (t) (or2 (f t) t)))".to_string();
+    let or = format!("{OR} (lambda (t) (or 1 2 3 4 5 6 7 8 9 10 11 t)))");
+    let pairs = "(let-syntax ((each (syntax-rules () ((_ (a b) ...) (f (f b a) ...))))) (lambda (t) (each (1 2) (3 4) (5 6) (7 8) (9 10) (t t))))";
+    let mut tables = tables(512);
+    let floor = time(|| tables.zero());
+    println!("The floor, zeroing the tables that document 01 asks to be zeroed: {floor:.1} µs.\n");
+    println!("| recipe | | read + expand + write, µs | to the floor | second expander | Chez `expand` | Guile `macroexpand` |");
+    println!("|---|---|---|---|---|---|---|");
+    for (name, expression) in [("or2", or2), ("or of twelve", or), ("list of pairs", pairs.to_string())] {
+        let text = format!("(f) {expression}");
+        let (own, answer) = services(&text, 512);
+        let whole = format!("(lambda (f) {expression})");
+        println!(
+            "| {name} | {answer} | {own:.1} | {:.1} × | {} | {} | {} |",
+            own / floor,
+            shown(Some(second(&text, 512)), own),
+            shown(chez(&whole), own),
+            shown(guile(&whole), own)
+        );
+    }
+}
+
+fn growth(title: &str, sizes: &[usize], recipe: impl Fn(usize) -> String) {
+    println!("\n| {title} | | µs | µs for each |\n|---|---|---|---|");
+    for &n in sizes {
+        let (us, answer) = services(&recipe(n), 8_192);
+        println!("| {n} | {answer} | {us:.0} | {:.3} |", us / n as f64);
+    }
+}
+
+fn repeated(n: usize, each: impl Fn(usize) -> String) -> String {
+    (0..n).map(each).collect::<Vec<_>>().join(" ")
+}
+
+fn main() {
+    recipes();
+    let mut tables = tables(8_192);
+    println!("\nWith fuel 8,192 and tables for 4,095 items, of which the floor is {:.1} µs:", time(|| tables.zero()));
+    growth("nested lambdas", &[8, 16, 32, 60], |n| format!("() {}1{}", "(lambda (x) ".repeat(n), ")".repeat(n)));
+    growth("operands of a recursive or", &[10, 20, 40, 80], |n| format!("() {OR} (or {}))", repeated(n, |i| i.to_string())));
+    growth("rules of a macro, the last of which fits", &[2, 4, 8, 16], |n| {
+        let rules = repeated(n, |i| format!("((_ {i} x) (quote x))"));
+        format!("() (let-syntax ((m (syntax-rules () {rules}))) (m {} y))", n - 1)
+    });
+    growth("distinct names", &[125, 250, 500, 1_000], |n| format!("() (quote ({}))", repeated(n, |i| format!("x{i}"))));
+    growth("copies under an ellipsis", &[250, 500, 1_000, 2_000], |n| {
+        format!("(f) (let-syntax ((m (syntax-rules () ((_ x ...) (f x ...))))) (m {}))", repeated(n, |i| (i % 10).to_string()))
+    });
+    growth("operands", &[250, 500, 1_000, 2_000], |n| format!("(f) (f {})", repeated(n, |i| (i % 10).to_string())));
+}

@@ -1,0 +1,113 @@
+//! The deepest inputs: lists nested as deep as a table lets them be, and results nested as deep as fuel lets them be.
+
+/// An item table under construction: items refer to higher ones, so that a list is opened before what stands in it.
+#[derive(Default)]
+pub struct Table(Vec<u32>);
+
+impl Table {
+    fn put(&mut self, item: [u32; 3]) -> usize {
+        self.0.extend(item);
+        self.0.len() / 3 - 1
+    }
+
+    /// The next item's number is what a pair refers to.
+    fn refer(&mut self, pair: usize, place: usize) {
+        self.0[3 * pair + place] = (self.0.len() / 3) as u32;
+    }
+
+    pub fn name(&mut self, number: u32) {
+        self.put([3, number, 0]);
+    }
+
+    pub fn integer(&mut self, word: u32) {
+        self.put([1, word, 0]);
+    }
+
+    /// A list of so many elements, each put by its place.
+    pub fn list(&mut self, count: usize, element: &mut dyn FnMut(&mut Table, usize)) {
+        for place in 0..count {
+            let pair = self.put([4, 0, 0]);
+            self.refer(pair, 1);
+            element(self, place);
+            self.refer(pair, 2);
+        }
+        self.put([0, 0, 0]);
+    }
+
+    /// `(... ((inner)) ...)`, without recursion.
+    pub fn nest(&mut self, depth: usize, inner: &mut dyn FnMut(&mut Table)) {
+        let pairs: Vec<usize> = (0..depth)
+            .map(|_| {
+                let pair = self.put([4, 0, 0]);
+                self.refer(pair, 1);
+                pair
+            })
+            .collect();
+        inner(self);
+        for pair in pairs.into_iter().rev() {
+            self.refer(pair, 2);
+            self.put([0, 0, 0]);
+        }
+    }
+
+    pub fn words(self) -> Vec<u32> {
+        self.0
+    }
+}
+
+/// No operations, and an expression.
+fn recipe(expression: &mut dyn FnMut(&mut Table)) -> Vec<u32> {
+    let mut table = Table::default();
+    table.list(2, &mut |t, place| if place == 0 { t.list(0, &mut |_, _| ()) } else { expression(t) });
+    table.words()
+}
+
+/// `((( ... 1 ... )))`: each list is an application of the next.
+pub fn nested_lists(depth: usize) -> Vec<u32> {
+    recipe(&mut |t| t.nest(depth, &mut |t| t.integer(1)))
+}
+
+/// `(quote ((( ... ))))`.
+pub fn nested_quote(depth: usize) -> Vec<u32> {
+    recipe(&mut |t| t.list(2, &mut |t, place| if place == 0 { t.name(0) } else { t.nest(depth, &mut |t| t.integer(1)) }))
+}
+
+/// `(let-syntax ((m (syntax-rules () ((_ x) (((... x ...))))))) (m (m ... 1)))`: each use nests its operand so much deeper.
+pub fn nested_results(depth: usize, uses: usize) -> Vec<u32> {
+    let (m, x) = (8, 9);
+    let rule = move |t: &mut Table, place: usize| match place {
+        0 => t.list(2, &mut |t, place| t.name([7, x][place])),
+        _ => t.nest(depth, &mut |t| t.name(x)),
+    };
+    let rules = move |t: &mut Table, place: usize| match place {
+        0 => t.name(5),
+        1 => t.list(0, &mut |_, _| ()),
+        _ => t.list(2, &mut rule.clone()),
+    };
+    let entry = move |t: &mut Table, place: usize| if place == 0 { t.name(m) } else { t.list(3, &mut rules.clone()) };
+    recipe(&mut |t| {
+        t.list(3, &mut |t, place| match place {
+            0 => t.name(3),
+            1 => t.list(1, &mut |t, _| t.list(2, &mut entry.clone())),
+            _ => use_nested(t, m, uses),
+        })
+    })
+}
+
+fn use_nested(t: &mut Table, m: u32, uses: usize) {
+    if uses == 0 {
+        return t.integer(1);
+    }
+    t.list(2, &mut |t, place| if place == 0 { t.name(m) } else { use_nested(t, m, uses - 1) });
+}
+
+/// Each deepest input with its fuel, and how many levels its term or datum has.
+pub fn inputs() -> Vec<(&'static str, Vec<u32>, u32, usize)> {
+    vec![
+        ("lists nested in a table", nested_lists(2_044), 0, 2_044),
+        ("quoted lists nested in a table", nested_quote(2_042), 0, 2_042),
+        ("a result nested by one step", nested_results(2_020, 1), 8_192, 2_020),
+        ("results nested by two steps", nested_results(2_020, 2), 8_192, 4_040),
+        ("results nested by many steps", nested_results(100, 30), 8_192, 3_000),
+    ]
+}

@@ -1,0 +1,43 @@
+//! The three services one after another, as the filing program runs them.
+
+use grebetallboy::{expand, read, write, Refused};
+
+/// The tables that the filing program lends, with any fuel.
+pub struct Tables {
+    items: Vec<u32>,
+    names: Vec<u8>,
+    work: Vec<u32>,
+    core: Vec<u32>,
+    pub out: Vec<u8>,
+}
+
+impl Tables {
+    pub fn new(work: usize, core: usize) -> Tables {
+        Tables { items: vec![0; 12_288], names: vec![0; 65_536], work: vec![0; work], core: vec![0; core], out: vec![0; 40 * core] }
+    }
+
+    /// Reads, expands and writes; answers steps, sum and the text's length.
+    pub fn run(&mut self, text: &[u8], fuel: u32) -> Result<(u32, u32, usize), Refused> {
+        let recipe = read(text, &mut self.items, &mut self.names)?;
+        let term = expand(&self.items[..3 * recipe.items], fuel, &mut self.work, &mut self.core)?;
+        let length = write(&self.core[..term.length], 256, &self.names, &mut self.out)?;
+        Ok((term.steps, term.sum, length))
+    }
+
+    /// Zeroes what document 01 asks a call to zero: the least that the services can take.
+    pub fn zero(&mut self) {
+        for table in [&mut self.items, &mut self.work, &mut self.core] {
+            std::hint::black_box(table).fill(0);
+        }
+        std::hint::black_box(&mut self.names).fill(0);
+    }
+}
+
+/// What the filing program prints.
+pub fn file(text: &[u8], fuel: u32) -> String {
+    let mut tables = Tables::new(16_368, 2_046);
+    match tables.run(text, fuel) {
+        Ok((steps, sum, length)) => format!("accepted {steps} {sum}\n{}\n", String::from_utf8_lossy(&tables.out[..length])),
+        Err(Refused { ground, steps, sum }) => format!("refused {ground} {steps} {sum}\n"),
+    }
+}

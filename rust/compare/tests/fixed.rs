@@ -1,0 +1,84 @@
+//! Recipes with known answers, from the text to the output: those proved of the definition, those of document 01 that are not, and or,
+//! or2 and divide of document 002 as rules.
+
+use compare::filing::file;
+use compare::support::rows;
+use reference::text;
+
+#[test]
+fn proved_rows() {
+    for (recipe, fuel, output) in rows::outputs() {
+        assert_eq!(file(recipe.as_bytes(), fuel), output, "{recipe}");
+    }
+    for (recipe, fuel, (ground, steps, sum, words)) in rows::expansions() {
+        let items = text::read(recipe.as_bytes()).expect(&recipe).words();
+        let (mut work, mut core) = (vec![3; 16_368], vec![3; 2_046]);
+        match grebetallboy::expand(&items, fuel, &mut work, &mut core) {
+            Ok(run) => assert_eq!((0, run.steps, run.sum, &core[..run.length]), (ground, steps, sum, &words[..]), "{recipe}"),
+            Err(refused) => assert_eq!((refused.ground, refused.steps, refused.sum), (ground, steps, sum), "{recipe}"),
+        }
+    }
+}
+
+const LIST: &str = "(list) (let-syntax ((l (syntax-rules () ((_ (a b) ...) (list (list b a) ...)))))";
+const CASES: &str = "() (let-syntax ((c (syntax-rules (else) ((_ else) 1) ((_ x) 2))))";
+const OR: &str = "() (letrec-syntax ((or (syntax-rules () ((_) #f) ((_ e) e) ((_ e1 e2 e3 ...) ((lambda (t) (if t t (or e2 e3 ...))) e1)))))";
+
+#[test]
+fn of_the_papers() {
+    let rows = [
+        (format!("{LIST} (l (1 2) (3 4)))"), "accepted 1 19\n(o0 (o0 2 1) (o0 4 3))\n"),
+        (format!("{LIST} (l))"), "accepted 1 3\n(o0)\n"),
+        (format!("{CASES} (c else))"), "accepted 1 1\n1\n"),
+        (format!("{CASES} (lambda (else) (c else)))"), "accepted 1 1\n(lambda (v0) 2)\n"),
+        // or2 and or of document 002: a private t, and the curator's
+        (
+            "() (let-syntax ((or2 (syntax-rules () ((_ e1 e2) ((lambda (t) (if t t e2)) e1))))) (lambda (t) (or2 #f t)))".to_string(),
+            "accepted 1 21\n(lambda (v0) ((lambda (v1) (if v1 v1 v0)) #f))\n",
+        ),
+        (format!("{OR} (lambda (t) (or #f t)))"), "accepted 2 26\n(lambda (v0) ((lambda (v1) (if v1 v1 v0)) #f))\n"),
+        (
+            format!("{OR} (lambda (t) (or 1 2 t)))"),
+            "accepted 3 53\n(lambda (v0) ((lambda (v1) (if v1 v1 ((lambda (v2) (if v2 v2 v0)) 2))) 1))\n",
+        ),
+        // divide of document 002: the inserted name refers to the outer binding
+        (
+            "(+ *) ((lambda (over) (let-syntax ((divide (syntax-rules () ((_ a b) (over a b))))) ((lambda (over) (divide 6 3)) *))) +)"
+                .to_string(),
+            "accepted 1 7\n((lambda (v0) ((lambda (v1) (v0 6 3)) o1)) o0)\n",
+        ),
+    ];
+    for (recipe, output) in rows {
+        assert_eq!(reference::file(recipe.as_bytes(), 512), output, "{recipe}");
+        assert_eq!(file(recipe.as_bytes(), 512), output, "{recipe}");
+    }
+}
+
+/// The widest recipes that the filing program and reading take.
+#[test]
+fn limits() {
+    for (elements, ground) in [(84, 11), (85, 9)] {
+        let recipe = format!("() (f{})", " 1".repeat(elements - 3));
+        assert_eq!(file(recipe.as_bytes(), 512), format!("refused {ground} 0 0\n"));
+    }
+    for (elements, ground) in [(2_047, 9), (2_048, 6)] {
+        let recipe = format!("() (f{})", " 1".repeat(elements - 3));
+        assert_eq!(file(recipe.as_bytes(), 512), format!("refused {ground} 0 0\n"));
+    }
+}
+
+/// The recipes of examples/, each with what is printed for it.
+#[test]
+fn examples() {
+    let folder = std::path::Path::new(env!("CARGO_MANIFEST_DIR")).join("../../examples");
+    let mut count = 0;
+    for entry in folder.read_dir().unwrap() {
+        let path = entry.unwrap().path();
+        if path.extension().is_some_and(|e| e == "scm") {
+            let output = std::fs::read_to_string(path.with_extension("out")).unwrap();
+            assert_eq!(file(&std::fs::read(&path).unwrap(), 512), output, "{}", path.display());
+            count += 1;
+        }
+    }
+    assert!(count > 2, "{count} recipes");
+}

@@ -1,0 +1,69 @@
+//! Reading beside the second expander's: the answer and every word and byte of both tables, on recipes and damaged texts.
+
+use compare::support::{Random, Recipes};
+use compare::{dirty, setting};
+use reference::text;
+
+/// Ground, items and names of a call.
+fn read(source: &[u8], items: &mut [u32], names: &mut [u8]) -> (u32, u32, u32) {
+    match grebetallboy::read(source, items, names) {
+        Ok(read) => (0, read.items as u32, read.names as u32),
+        Err(refused) => (refused.ground, 0, 0),
+    }
+}
+
+/// A recipe, often damaged: bytes changed, dropped, doubled or cut off.
+fn damaged(random: &mut Random) -> Vec<u8> {
+    let mut bytes = Recipes::recipe(random).into_bytes();
+    for _ in 0..random.below(4) {
+        let at = random.below(bytes.len().max(1));
+        match random.below(6) {
+            0 => bytes.truncate(at),
+            1 if at < bytes.len() => drop(bytes.remove(at)),
+            2 if at < bytes.len() => bytes[at] = random.below(256) as u8,
+            3 => bytes.splice(at..at, *b" -2147483648 ").for_each(drop),
+            4 => bytes.splice(at..at, *b"99999999999").for_each(drop),
+            _ => bytes.splice(at..at, [b"()#tf.-1 \t"[random.below(10)]]).for_each(drop),
+        }
+    }
+    bytes
+}
+
+#[test]
+fn reading() {
+    let mut random = Random::new(setting("SEED", 1));
+    let mut grounds = [0u64; 7];
+    for _ in 0..setting("INPUTS", 4_000) {
+        let source = damaged(&mut random);
+        let lengths = [12_287, 12_288, 12_288, 12_300][random.below(4)];
+        let bytes = [65_535, 65_536, 65_536, 65_600][random.below(4)];
+        let (mut items, mut names) = (dirty(&mut random, lengths), vec![random.below(256) as u8; bytes]);
+        let (mut items2, mut names2) = (items.clone(), names.clone());
+        let answer = read(&source, &mut items, &mut names);
+        assert_eq!(answer, text::read_call(&source, &mut items2, &mut names2), "{}", String::from_utf8_lossy(&source));
+        assert!(items == items2 && names == names2, "{}", String::from_utf8_lossy(&source));
+        grounds[answer.0 as usize] += 1;
+    }
+    println!("grounds of reading: {grounds:?}");
+    assert!([0, 1, 3, 4, 5].iter().all(|&g| grounds[g] > 0), "{grounds:?}");
+}
+
+/// Limits of reading: elements, names, nesting, bytes.
+#[test]
+fn limits() {
+    let wide = |n: usize| format!("() ({})", " 1".repeat(n));
+    let named = |n: usize| format!("() ({})", (0..n).map(|i| format!(" x{i}")).collect::<String>());
+    let nested = |n: usize| format!("() {}{}", "(".repeat(n), ")".repeat(n));
+    let long = |n: usize| format!("() {}7", "0".repeat(n - 4));
+    let mut texts = vec![named(1_016), named(1_017), "a ".repeat(2), "() ".to_string() + &"a".repeat(63), "() ".to_string() + &"a".repeat(64)];
+    for n in [0, 1] {
+        texts.extend([wide(2_045 + n), nested(64 + n), long(65_535 + n)]);
+    }
+    for source in texts {
+        let (mut items, mut names) = (vec![7; 12_288], vec![7; 65_536]);
+        let (mut items2, mut names2) = (items.clone(), names.clone());
+        let answer = read(source.as_bytes(), &mut items, &mut names);
+        assert_eq!(answer, text::read_call(source.as_bytes(), &mut items2, &mut names2));
+        assert!(items == items2 && names == names2);
+    }
+}

@@ -1,0 +1,57 @@
+//! Writing beside the second expander's: the answer and every byte of the output, on terms and damaged words.
+
+use compare::setting;
+use compare::support::{Random, Recipes};
+use reference::{core, expand, text};
+
+/// Ground and length of a call.
+fn write(words: &[u32], operations: u32, names: &[u8], out: &mut [u8]) -> (u32, u32) {
+    match grebetallboy::write(words, operations, names, out) {
+        Ok(length) => (0, length as u32),
+        Err(refused) => (refused.ground, 0),
+    }
+}
+
+/// Words of an accepted recipe or made up, often damaged.
+fn words(random: &mut Random, recipe: &text::Recipe) -> Vec<u32> {
+    let mut words = expand::run(&recipe.words(), 300, 1 << 20, 1 << 20).core;
+    if words.is_empty() {
+        words = (0..random.below(12)).map(|_| random.below(10) as u32).collect();
+    }
+    for _ in 0..random.below(3) {
+        let at = random.below(words.len().max(1));
+        match random.below(5) {
+            0 => words.truncate(at),
+            1 if at < words.len() => words[at] = random.below(10) as u32,
+            2 if at < words.len() => words[at] = [u32::MAX, 1 << 31, 1_023, 1_024, 256][random.below(5)],
+            3 => words.insert(at.min(words.len()), random.below(9) as u32),
+            _ => {}
+        }
+    }
+    words
+}
+
+#[test]
+fn writing() {
+    let mut random = Random::new(setting("SEED", 1) + 1);
+    let mut grounds = [0u64; 21];
+    for _ in 0..setting("INPUTS", 4_000) * 5 {
+        let Ok(recipe) = text::read(Recipes::recipe(&mut random).as_bytes()) else { continue };
+        let words = words(&mut random, &recipe);
+        let mut names = recipe.name_table();
+        if random.chance(20) {
+            let at = random.below(names.len());
+            names[at] = random.below(256) as u8;
+        }
+        let operations = [0, 1, 2, 255, 256, 257][random.below(6)];
+        let length = core::text(&words, operations, &names).map_or(40, |t| t.len() + random.below(4)).saturating_sub(random.below(3));
+        let mut out = vec![random.below(256) as u8; length];
+        let mut out2 = out.clone();
+        let answer = write(&words, operations, &names, &mut out);
+        assert_eq!(answer, core::write_call(&words, operations, &names, &mut out2), "{words:?} {operations}");
+        assert!(out == out2, "{words:?}");
+        grounds[answer.0 as usize] += 1;
+    }
+    println!("grounds of writing: {} accepted, {} of 19, {} of 20", grounds[0], grounds[19], grounds[20]);
+    assert!([0, 19, 20].iter().all(|&g| grounds[g] > 0));
+}
