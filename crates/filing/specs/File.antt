@@ -4,7 +4,7 @@ use mathlib.Core.Bool.{true}
 use mathlib.Core.List.{List, [], _∷_, _++_}
 use mathlib.Core.Option.{some}
 use Prim.Native.Nat.{ℕ, _+_, _≤_, _<_}
-use lib.ListN.{length}
+use lib.ListN.{length, drop}
 use Rattle.words.specs.Limits.{operationsMost}
 use Rattle.datum.specs.NameTable.{hasName}
 use Rattle.core_term.specs.Check.{termOf}
@@ -29,3 +29,8 @@ pub record Accepted (words names : List ℕ) (steps sum : ℕ) : Type 0 where
 -- the output of a run
 unfoldable pub printedRun : List ℕ → Run → List ℕ
 printedRun names r = printed names (r .outcome) r
+
+-- what is to be printed stands at the beginning of the output, before what was there
+pub record Printed (x out out′ : List ℕ) (n : ℕ) : Type 0 where
+  pub size : n ≡ length x
+  pub bytes : out′ ≡ x ++ drop (length x) out

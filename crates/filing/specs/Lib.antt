@@ -3,3 +3,5 @@ pub mod Lines
 pub mod File
 pub mod FileLaws
 pub mod RunLaws
+pub mod TextRoom
+pub mod Room

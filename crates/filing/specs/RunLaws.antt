@@ -13,7 +13,7 @@ use Rattle.reading.specs.Elements.{Answer, got, back}
 use Rattle.reading.specs.Read as Read
 use Rattle.reading.specs.Read.{Recipe, read, itemWords, nameBytes, itemsAfter, namesAfter}
 use Rattle.reading_layout.specs.Items.{data-length}
-use Rattle.reading_layout.specs.Short.{read-slots}
+use Rattle.reading_layout.specs.Answers.{read-slots}
 use Rattle.reader.specs.declared.Reading.{Reading}
 use Rattle.reader.specs.declared.Reading.the-variants as R
 use Rattle.reader.specs.Served.{answerOf, Served}

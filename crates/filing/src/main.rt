@@ -1,4 +1,10 @@
 // The filing program: the recipe on standard input is read, expanded and written, with document 01's fuel and tables.
+ghost use Prim.Native.Nat.{_≤_};
+ghost use lib.ListN.{length};
+ghost use Rattle.words.specs.Limits.{filingFuel};
+ghost use Rattle.output.specs.Output.{output};
+ghost use Rattle.filing.specs.File.{Printed};
+
 mod file; // the whole output of a text, in lent tables
 mod lines; // the line that opens it
 
@@ -25,38 +31,39 @@ fn core_table() -> [u32; 2046] {
     [0; 2046]
 }
 
-fn output() -> [u8; 131072] {
-    [0; 131072]
+fn room() -> [u8; 73728] {
+    [0; 73728]
 }
 
-fn print(answer: Writing, out: &[u8]) {
-    let Writing::Written(length) = answer else {
-        return;
-    };
-    if length > out.len() {
-        return;
+// The output of a text, at the beginning of out; its length. Any output fits.
+fn output(text: &[u8], out: &mut [u8]) -> usize
+    requires { ⌜ 73728 ≤ length (now out) ⌝ }
+    ensures { λ r. ⌜ Printed (output (now (text .entry)) filingFuel) (now (out .entry)) (now (out .exit)) r ⌝ }
+{
+    let mut items = item_table();
+    let mut names = name_table();
+    let mut work = work_table();
+    let mut core = core_table();
+    match file(
+        text,
+        FUEL,
+        &mut items,
+        &mut names,
+        &mut work,
+        &mut core,
+        out,
+    ) {
+        Writing::Written(length) => length,
+        Writing::NoTerm => 0,
+        Writing::NoRoom => 0,
     }
-    let start = 0;
-    io::write_all(STDOUT_FILENO, &out[start..length]);
 }
 
 // A text of more than 65,535 bytes fills the buffer, and is refused by its length.
 fn main() {
     let mut text = io::large_buffer();
     let length = io::read_full(STDIN_FILENO, &mut text);
-    let mut items = item_table();
-    let mut names = name_table();
-    let mut work = work_table();
-    let mut core = core_table();
-    let mut out = output();
-    let answer = file(
-        &text[..length],
-        FUEL,
-        &mut items,
-        &mut names,
-        &mut work,
-        &mut core,
-        &mut out,
-    );
-    print(answer, &out);
+    let mut out = room();
+    let end = output(&text[..length], &mut out);
+    io::write_all(STDOUT_FILENO, &out[..end]);
 }

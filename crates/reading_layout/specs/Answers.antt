@@ -1,4 +1,4 @@
--- The names of an accepted text have at most 63 bytes, so their slots are 64 bytes each.
+-- The bounds of an answer: names of at most 63 bytes, so that their slots are 64 bytes each, and grounds of at most 6.
 use mathlib.Core.Path.{_≡_, refl, subst}
 use mathlib.Core.Bool.{Bool, true, false, _||_, not}
 use mathlib.Core.List.{List, [], _∷_, map}
@@ -18,17 +18,17 @@ use Rattle.reading.specs.Numbering.{baseNames, numberOf, withName}
 use Rattle.reading.specs.Elements.{Answer, got, back, then, Reading, start, isComplete, counted, put, named, opened, closed, isWithin, begin, takes, takesAll}
 use Rattle.reading.specs.Read.{Recipe, finished, recipeOver, recipeOf, read, nameBytes}
 
--- a name of a meaning, the names of a reading and of a recipe
+-- a name or ground of a meaning, the names or the ground of an answer
 abbrev Short : Meaning → Type 0
 Short (name cs) = isShort cs ≡ true
 Short begins = 0 ≤ 0
 Short ends = 0 ≤ 0
 Short (constant a) = 0 ≤ 0
-Short (refused g) = 0 ≤ 0
+Short (refused g) = g ≤ 6
 
 abbrev ShortAnswer : {A : Type 0} → (A → List (List ℕ)) → Answer A → Type 0
 ShortAnswer names (got a) = all isShort (names a) ≡ true
-ShortAnswer names (back g) = 0 ≤ 0
+ShortAnswer names (back g) = g ≤ 6
 
 abbrev ShortReading : Answer Reading → Type 0
 ShortReading = ShortAnswer (λ r. r .known)
@@ -89,7 +89,7 @@ takes-short begins r s h = begin-short r (opened (counted r)) h
 takes-short ends r s h = closed-short (r .around) r h
 takes-short (constant a) r s h = begin-short r (put (constantD a) (counted r)) h
 takes-short (name cs) r s h = begin-short r (named cs (counted r)) (with-short cs (r .known) s h)
-takes-short (refused g) r s h = omega arith
+takes-short (refused g) r s h = s
 
 then-short : (a : Answer Reading) (f : Reading → Answer Reading) → ShortReading a → ((r : Reading) → all isShort (r .known) ≡ true → ShortReading (f r)) → ShortReading (then a f)
 unfolding then
@@ -125,3 +125,6 @@ read-short text items names =
 pub read-slots : (text : List ℕ) (items names : ℕ) (r : Recipe) → read text items names ≡ got r → length (nameBytes r) ≡ 64 * length (r .names)
 unfolding nameBytes
 read-slots text items names r e = length-slots (r .names) (subst ShortRecipe e (read-short text items names))
+
+pub read-ground : (text : List ℕ) (items names : ℕ) (g : ℕ) → read text items names ≡ back g → g ≤ 6
+read-ground text items names g e = subst ShortRecipe e (read-short text items names)

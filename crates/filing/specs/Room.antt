@@ -1,0 +1,125 @@
+-- No output of the filing program passes the 73,728 bytes that it has, so it always prints what the definition says.
+use mathlib.Core.Path.{_≡_, refl, ap, subst}
+use mathlib.Core.List.{List, [], _∷_, _++_}
+use mathlib.Core.Option.{Option, none, some}
+use Prim.Native.Nat.{ℕ, _≤_, _<_}
+use native.Mathlib.Omega.{arith}
+use lib.ListN.{length, drop, length-append}
+use Rattle.words.specs.Limits.{itemWordsLeast, nameBytesLeast, operationsMost, filingFuel, filingWork, filingCore}
+use Rattle.datum.specs.NameTable.{nameAt, hasName}
+use Rattle.reading.specs.Elements.{Answer, got, back}
+use Rattle.reading.specs.Read.{Recipe, read, itemWords, nameBytes}
+use Rattle.reading_layout.specs.Answers.{read-ground}
+use Rattle.core_term.specs.Term.{Plain}
+use Rattle.core_term.specs.Decimal.{decimal}
+use Rattle.core_term.specs.Text.{spacedAfter, spaced, text}
+use Rattle.core_term.specs.Check.{termOf}
+use Rattle.core_term.specs.CheckLaws as C
+use Rattle.expansion.specs.Run.{Outcome, accepted, turnedBack, unfinished, Run, run}
+use Rattle.expansion.specs.Bounds.{run-sum, run-steps, run-core-fits}
+use Rattle.expansion.specs.Ways.Grounds.{TurnedBack, atOnce, later, run-ground}
+use Rattle.output.specs.Output.{line, refusal, header, acceptance, printed, outputOf, filed, output}
+use Rattle.writer.specs.declared.Writing.{Writing}
+use Rattle.writer.specs.declared.Writing.the-variants.{Written, NoTerm, NoRoom}
+use Rattle.writer.specs.Written.{Wrote, written-is, no-room-is, not-no-term}
+use Rattle.filing.specs.File.{Printed}
+use Rattle.filing.specs.RunLaws.{front}
+use Rattle.filing.specs.Lines.{countsText, refusal-laid, header-laid}
+use Rattle.filing.specs.TextRoom.{limit, number-room, text-room}
+
+-- ---- lines
+
+counts-room : (steps sum : ℕ) → steps < limit → sum < limit → length (countsText steps sum) ≤ 23
+unfolding countsText
+counts-room steps sum p q =
+    omega (
+      arith,
+      length-append (32 ∷ decimal steps) ((32 ∷ decimal sum) ++ (10 ∷ [])),
+      length-append (32 ∷ decimal sum) (10 ∷ []),
+      number-room steps p,
+      number-room sum q,
+    )
+
+refusal-room : (ground steps sum : ℕ) → ground < limit → steps < limit → sum < limit → length (refusal ground steps sum) ≤ 41
+refusal-room ground steps sum g p q =
+    omega (arith, ap length (refusal-laid ground steps sum), length-append (32 ∷ decimal ground) (countsText steps sum), number-room ground g, counts-room steps sum p q)
+
+header-room : (steps sum : ℕ) → steps < limit → sum < limit → length (header steps sum) ≤ 31
+header-room steps sum p q = omega (arith, ap length (header-laid steps sum), counts-room steps sum p q)
+
+-- ---- outputs
+
+module _ (fuel : ℕ) (small : fuel < limit) where
+  acceptance-room : (names ws : List ℕ) (steps sum : ℕ) → steps < limit → sum < limit → length ws ≤ 2046
+      → length (acceptance names steps sum (termOf operationsMost (hasName names) ws)) ≤ 73728
+  unfolding acceptance line spaced spacedAfter
+  acceptance-room names ws steps sum p q l = go (termOf operationsMost (hasName names) ws) refl
+    where
+      go : (o : Option Plain) → termOf operationsMost (hasName names) ws ≡ o → length (acceptance names steps sum o) ≤ 73728
+      go none e = omega (arith, refusal-room 19 0 0 (omega arith) (omega arith) (omega arith))
+      go (some t) e =
+          let x = text (nameAt names) t in
+          omega (
+            arith,
+            length-append (header steps sum) (x ++ (10 ∷ [])),
+            length-append x (10 ∷ []),
+            header-room steps sum p q,
+            text-room names ws t (C.accepted operationsMost (hasName names) ws t e) l,
+          )
+
+  module _ (names items : List ℕ) (work core : ℕ) (few : core ≤ 2046) where
+    abbrev it : Run
+    it = run items fuel work core
+
+    grounds-few : (g : ℕ) → TurnedBack g it → g ≤ 18
+    grounds-few g (atOnce l e) = omega arith
+    grounds-few g (later l) = omega arith
+
+    printed-room : (o : Outcome) → it .outcome ≡ o → length (printed names o it) ≤ 73728
+    unfolding printed
+    printed-room accepted e =
+        acceptance-room names (it .core) (it .steps) (it .sum) (omega (arith, run-steps items fuel work core, run-sum items fuel work core))
+        (omega (arith, run-sum items fuel work core)) (omega (arith, run-core-fits items fuel work core))
+    printed-room (turnedBack g) e =
+        omega (
+          arith,
+          refusal-room g (it .steps) (it .sum) (omega (arith, grounds-few g (run-ground items fuel work core g e)))
+              (omega (arith, run-steps items fuel work core, run-sum items fuel work core)) (omega (arith, run-sum items fuel work core)),
+        )
+    printed-room unfinished e = omega arith
+
+  -- so the filing program always prints
+  pub filed-room : (txt : List ℕ) (items names work core : ℕ) → core ≤ 2046 → length (filed txt fuel items names work core) ≤ 73728
+  unfolding filed outputOf
+  filed-room txt items names work core few = go (read txt items names) refl
+    where
+      go : (a : Answer Recipe) → read txt items names ≡ a → length (outputOf fuel work core a) ≤ 73728
+      go (got r) e = printed-room (nameBytes r) (itemWords r) work core few (run (itemWords r) fuel work core .outcome) refl
+      go (back g) e = omega (arith, refusal-room g 0 0 (omega (arith, read-ground txt items names g e)) (omega arith) (omega arith))
+
+-- ---- in the filing program's tables
+
+module _ (txt out out′ : List ℕ) (r : Writing) (items names work core : ℕ) (w : Wrote (some (filed txt filingFuel items names work core)) out out′ r)
+    (i : items ≡ itemWordsLeast) (n : names ≡ nameBytesLeast) (k : work ≡ filingWork) (c : core ≡ filingCore) (room : 73728 ≤ length out) where
+  abbrev whole : List ℕ
+  whole = output txt filingFuel
+
+  told : Wrote (some whole) out out′ r
+  unfolding output
+  told = subst (λ (x : List ℕ). Wrote (some x) out out′ r) (rw (i, n, k, c)) w
+
+  fits : length whole ≤ length out
+  unfolding output
+  fits = omega (arith, filed-room filingFuel (omega arith) txt itemWordsLeast nameBytesLeast filingWork filingCore (omega arith))
+
+  pub output-told : (to : ℕ) → r ≡ Written to → Printed whole out out′ to
+  output-told to e = let q = written-is whole out out′ to (subst (Wrote (some whole) out out′) e told) in record { size = q .0; bytes = q .2 }
+
+  pub output-known : r ≡ NoTerm → ⊥
+  output-known e = not-no-term whole out out′ (subst (Wrote (some whole) out out′) e told)
+
+  pub output-fits : r ≡ NoRoom → ⊥
+  output-fits e = omega (arith, fits, no-room-is whole out out′ (subst (Wrote (some whole) out out′) e told) .0)
+
+pub printed-within : {x out out′ : List ℕ} {n : ℕ} → Printed x out out′ n → n ≤ length out′
+printed-within {x} {out} {out′} {n} p = front x (drop (length x) out) out′ n (p .bytes) (p .size) .0
