@@ -1,4 +1,4 @@
-//! The second expander on the recipes whose answers are proved of the definition.
+//! The second expander on the recipes whose answers are proved of the definition, and on those of examples/.
 
 mod support;
 
@@ -22,5 +22,14 @@ fn outputs() {
     assert!(rows.len() > 12, "{} rows", rows.len());
     for (recipe, fuel, output) in rows {
         assert_eq!(file(recipe.as_bytes(), fuel), output, "{recipe}");
+    }
+}
+
+#[test]
+fn examples() {
+    let rows = rows::examples();
+    assert!(rows.len() > 2, "{} recipes", rows.len());
+    for (recipe, output) in rows {
+        assert_eq!(file(&recipe, 512), output, "{}", String::from_utf8_lossy(&recipe));
     }
 }

@@ -72,6 +72,10 @@ module _ (ρ : Renaming) (raw : Raw ρ) where
     goOn-agree f g (refusals q) h fine = refusals q
     goOn-agree f g starvations h fine = starvations
 
+    pub bind-agree : (m m′ : M A) (f g : A → M B) (s t : State) → Agree k R (m s) (m′ t) → ((a b : A) (u v : State) → R a b → StateRel ρ raw k u v → Agree k P (f a u) (g b v)) → Agree k P ((_>>=_ m f) s) ((_>>=_ m′ g) t)
+    unfolding _>>=_
+    bind-agree m m′ f g s t h j fine = goOn-agree f g (h (first-fine ρ f (m s) fine)) j fine
+
   module _ (k : ℕ) {B : Type 0} {P : B → B → Type 0} where
     pub give-agree : (a b : B) (s t : State) → P a b → StateRel ρ raw k s t → Agree k P (give a s) (give b t)
     unfolding give

@@ -1,5 +1,5 @@
-//! Recipes with known answers, from the text to the output: those proved of the definition, those of document 01 that are not, and or,
-//! or2 and divide of document 002 as rules.
+//! Recipes with known answers, from the text to the output: those proved of the definition, those of examples/, those of document 01 that
+//! are neither, and or, or2 and divide of document 002 as rules.
 
 use compare::filing::file;
 use compare::support::rows;
@@ -67,18 +67,9 @@ fn limits() {
     }
 }
 
-/// The recipes of examples/, each with what is printed for it.
 #[test]
 fn examples() {
-    let folder = std::path::Path::new(env!("CARGO_MANIFEST_DIR")).join("../../examples");
-    let mut count = 0;
-    for entry in folder.read_dir().unwrap() {
-        let path = entry.unwrap().path();
-        if path.extension().is_some_and(|e| e == "scm") {
-            let output = std::fs::read_to_string(path.with_extension("out")).unwrap();
-            assert_eq!(file(&std::fs::read(&path).unwrap(), 512), output, "{}", path.display());
-            count += 1;
-        }
+    for (recipe, output) in rows::examples() {
+        assert_eq!(file(&recipe, 512), output, "{}", String::from_utf8_lossy(&recipe));
     }
-    assert!(count > 2, "{count} recipes");
 }

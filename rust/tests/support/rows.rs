@@ -1,10 +1,15 @@
-//! The recipes whose answers are proved of the definition: the rows are read from the specs themselves.
+//! Recipes with right answers: those proved of the definition, whose rows are read from the specs themselves, and those of examples/.
 
-use std::path::Path;
+use std::path::{Path, PathBuf};
+
+/// The repository.
+fn top() -> PathBuf {
+    let mut above = Path::new(env!("CARGO_MANIFEST_DIR")).ancestors();
+    above.find(|folder| folder.join("crates.txt").exists()).expect("the repository").to_path_buf()
+}
 
 fn spec(path: &str) -> String {
-    let mut above = Path::new(env!("CARGO_MANIFEST_DIR")).ancestors();
-    let path = above.find(|folder| folder.join("crates.txt").exists()).expect("the repository").join("crates").join(path);
+    let path = top().join("crates").join(path);
     let lines = std::fs::read_to_string(&path).unwrap_or_else(|e| panic!("{}: {e}", path.display()));
     lines.lines().filter(|line| !line.trim_start().starts_with("--")).collect::<Vec<_>>().join("\n")
 }
@@ -61,4 +66,11 @@ pub fn outputs() -> Vec<(String, u32, String)> {
         rows.push((recipe, fuel, output));
     }
     rows
+}
+
+/// The text of each recipe of examples/, and what is printed for it.
+pub fn examples() -> Vec<(Vec<u8>, String)> {
+    let files = top().join("examples").read_dir().unwrap().map(|entry| entry.unwrap().path());
+    let recipes = files.filter(|path| path.extension().is_some_and(|e| e == "scm"));
+    recipes.map(|path| (std::fs::read(&path).unwrap(), std::fs::read_to_string(path.with_extension("out")).unwrap())).collect()
 }

@@ -69,6 +69,15 @@ each-element (constant a) h = noneOf
 each-element (name x) h = noneOf
 each-element (pair h t) f = also (f 0) (each-element t (λ j. f (suc j)))
 
+module _ {A : Type 0} {P Q R : A → Type 0} (f : (x : A) → P x → Q x → R x) where
+  each-both : {xs : List A} → Each P xs → Each Q xs → Each R xs
+  each-both noneOf noneOf = noneOf
+  each-both (also p ps) (also q qs) = also (f _ p q) (each-both ps qs)
+
+  given-each : {o : Option (List A)} → Given (Each P) o → Given (Each Q) o → Given (Each R) o
+  given-each missing missing = missing
+  given-each (given p) (given q) = given (each-both p q)
+
 -- ---- trees
 
 pub treeAll-onNames : {P Q : Name → Type 0} (f : Name → Name) → ((x : Name) → P x → Q (f x)) → {t : Tree} → TreeAll P t → TreeAll Q (onNames f t)
