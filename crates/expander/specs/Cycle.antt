@@ -8,11 +8,11 @@ use Rattle.core_term.specs.Term.{Term, Terms}
 use Rattle.core_term.specs.Words.{encode, encodeAll}
 use Rattle.expansion.specs.Forms.{expand, expandAll}
 use Rattle.arena.specs.Arena.{treeAt}
-use Rattle.expander.specs.declared.answers.Reached.{Reached}
-use Rattle.expander.specs.declared.answers.Ended.{Ended}
-use Rattle.expander.specs.Ends.{End, endOf}
-use Rattle.expander.specs.Memory.{Tables, stateAt, Placed, Kept}
-use Rattle.expander.specs.Turns.{operationsOf, Left}
+use Rattle.turns.specs.declared.answers.Reached.{Reached}
+use Rattle.turns.specs.declared.answers.Ended.{Ended}
+use Rattle.turns.specs.Ends.{End, endOf}
+use Rattle.turns.specs.Memory.{Tables, stateAt, Placed, Kept}
+use Rattle.turns.specs.Turns.{operationsOf, Left}
 
 module _ (items : List ℕ) (fuel : ℕ) where
   -- the definition's ends with so much gas

@@ -9,14 +9,14 @@ use Rattle.arena.specs.Arena.{treeAt, wordAt, referenceAt}
 use Rattle.arena.specs.ArenaLaws.{take-less, referenceAt-falls, referenceAt-below}
 use Rattle.arena.specs.NodeLaws.{treeAt-pair}
 use Rattle.arena.specs.ListLaws.{no-pair, kind-some}
-use Rattle.expander.specs.declared.answers.Reached.{Reached}
-use Rattle.expander.specs.declared.answers.Ended.{Ended}
-use Rattle.expander.specs.declared.answers.Ended.the-variants.{Done, Refused}
-use Rattle.expander.specs.declared.answers.Turn.{Turn}
-use Rattle.expander.specs.declared.answers.Turn.the-variants.{Again, Operands, Over}
-use Rattle.expander.specs.Memory.{Tables, coreNeed, Ready, Placed, Kept}
-use Rattle.expander.specs.MemoryLaws.{ready-after}
-use Rattle.expander.specs.Turns.{Lent, Turned, Follows, Spreads, Expands, ExpandsAll}
+use Rattle.turns.specs.declared.answers.Reached.{Reached}
+use Rattle.turns.specs.declared.answers.Ended.{Ended}
+use Rattle.turns.specs.declared.answers.Ended.the-variants.{Done, Refused}
+use Rattle.turns.specs.declared.answers.Turn.{Turn}
+use Rattle.turns.specs.declared.answers.Turn.the-variants.{Again, Operands, Over}
+use Rattle.turns.specs.Memory.{Tables, coreNeed, Ready, Placed, Kept}
+use Rattle.turns.specs.MemoryLaws.{ready-after}
+use Rattle.turns.specs.Turns.{Lent, Turned, Follows, Spreads, Expands, ExpandsAll}
 use Rattle.expander.specs.Cycle.{Going, Walking, leftOf}
 use Rattle.expander.specs.CycleLaws.{kept-part, going-on, going-over, going-spreads, walking-end, walking-refused, walking-on, first-placed, sizes}
 

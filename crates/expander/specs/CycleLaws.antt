@@ -15,15 +15,15 @@ use Rattle.expansion.specs.Computation.{State}
 use Rattle.expansion.specs.Forms.{expand}
 use Rattle.arena.specs.Arena.{treeAt}
 use Rattle.arena.specs.CellLaws.{tree-kept}
-use Rattle.expander.specs.declared.answers.Reached.{Reached}
-use Rattle.expander.specs.declared.answers.Ended.{Ended}
-use Rattle.expander.specs.declared.answers.Ended.the-variants.{Done, Refused}
-use Rattle.expander.specs.Ends.{End, finished, stopped, halted, then}
-use Rattle.expander.specs.EndLaws.{expandAll-pair}
-use Rattle.expander.specs.Memory.{Tables, stateAt, workNeed, coreNeed, variableNeed, macroNeed, Proper, Ready, Placed, Kept}
-use Rattle.expander.specs.MemoryLaws.{put-none, kept-both}
-use Rattle.expander.specs.Turns.{operationsOf, Left, KeptBy, turnOf, operandsOf, Ends, Follows, Spreads, Expands, ExpandsAll}
-use Rattle.expander.specs.SpreadLaws.{Prefixed, left-after, no-operands}
+use Rattle.turns.specs.declared.answers.Reached.{Reached}
+use Rattle.turns.specs.declared.answers.Ended.{Ended}
+use Rattle.turns.specs.declared.answers.Ended.the-variants.{Done, Refused}
+use Rattle.turns.specs.Ends.{End, finished, stopped, halted, then}
+use Rattle.turns.specs.EndLaws.{expandAll-pair}
+use Rattle.turns.specs.Memory.{Tables, stateAt, workNeed, coreNeed, variableNeed, macroNeed, Proper, Ready, Placed, Kept}
+use Rattle.turns.specs.MemoryLaws.{put-none, kept-both}
+use Rattle.turns.specs.Turns.{operationsOf, Left, KeptBy, turnOf, operandsOf, Ends, Follows, Spreads, Expands, ExpandsAll}
+use Rattle.turns.specs.SpreadLaws.{Prefixed, left-after, no-operands}
 use Rattle.expander.specs.Cycle.{expandBy, expandAllBy, Right, Going, Walking}
 
 -- ---- what is kept, of a part and of nothing

@@ -1,27 +1,4 @@
--- The expansion service: what its tables mean while it runs, and what a call answers and leaves.
-pub mod Ends
-pub mod EndLaws
-pub mod Memory
-pub mod MemoryLaws
-pub mod Turns
-pub mod Leaves
-pub mod LeafLaws
-pub mod SpreadLaws
-pub mod Scopes
-pub mod QuotedLaws
-pub mod LambdaLaws
-pub mod Uses
-pub mod UseLaws
-pub mod UseTurnLaws
-pub mod MacroRules
-pub mod MacroRuleLaws
-pub mod MacroTurns
-pub mod MacroTurnLaws
-pub mod MacroFollowLaws
-pub mod HeadLaws
-pub mod ReadyLaws
-pub mod Dispatch
-pub mod DispatchLaws
+-- The expansion service: the cycle of expressions and operands, and what a call answers and leaves.
 pub mod LentLaws
 pub mod Cycle
 pub mod CycleLaws

@@ -25,11 +25,11 @@ use Rattle.expansion.specs.Ways.{expand-keeps}
 use Rattle.layout.specs.Places.{Places}
 use Rattle.expander.specs.declared.Expansion.{Expansion}
 use Rattle.expander.specs.declared.Expansion.the-variants.{Accepted, Refused}
-use Rattle.expander.specs.declared.answers.Reached.{Reached}
-use Rattle.expander.specs.declared.answers.Ended.{Ended}
-use Rattle.expander.specs.declared.answers.Ended.the-variants.{Done}
-use Rattle.expander.specs.declared.answers.Ended.the-variants as ends
-use Rattle.expander.specs.Turns.{operationsOf}
+use Rattle.turns.specs.declared.answers.Reached.{Reached}
+use Rattle.turns.specs.declared.answers.Ended.{Ended}
+use Rattle.turns.specs.declared.answers.Ended.the-variants.{Done}
+use Rattle.turns.specs.declared.answers.Ended.the-variants as ends
+use Rattle.turns.specs.Turns.{operationsOf}
 use Rattle.expander.specs.Service.{Numbers, numbersOf, groundOf, runNumbers, filled, leftBy, coreAfter, workAfter, Served}
 use Rattle.expander.specs.Start.{Lends, endNumbers, Expanded, keptTo, Finished}
 

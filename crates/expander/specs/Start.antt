@@ -8,11 +8,11 @@ use Rattle.expansion.specs.Run.{Run}
 use Rattle.expansion.specs.RunLaws.{Begun}
 use Rattle.layout.specs.Places.{Places}
 use Rattle.expander.specs.declared.Expansion.{Expansion}
-use Rattle.expander.specs.declared.answers.Reached.{Reached}
-use Rattle.expander.specs.declared.answers.Ended.{Ended}
-use Rattle.expander.specs.declared.answers.Ended.the-variants.{Done, Refused}
+use Rattle.turns.specs.declared.answers.Reached.{Reached}
+use Rattle.turns.specs.declared.answers.Ended.{Ended}
+use Rattle.turns.specs.declared.answers.Ended.the-variants.{Done, Refused}
 use Rattle.expander.specs.Service.{Numbers, numbersOf, runNumbers}
-use Rattle.expander.specs.Turns.{operationsOf}
+use Rattle.turns.specs.Turns.{operationsOf}
 
 -- the tests are passed, and the operations have their places
 pub record Lends (items work core operations : List ℕ) (fuel : ℕ) : Type 0 where

@@ -27,12 +27,12 @@ use Rattle.expansion.specs.Run.{ended, operationNumbers, expandRecipe}
 use Rattle.arena.specs.Arena.{treeAt, markLimit}
 use Rattle.arena.specs.LayOut.{LaidOut}
 use Rattle.arena.specs.Lists.{Means}
-use Rattle.expander.specs.declared.answers.Reached.{Reached}
-use Rattle.expander.specs.declared.answers.Ended.{Ended}
-use Rattle.expander.specs.declared.answers.Ended.the-variants.{Done, Refused}
-use Rattle.expander.specs.Ends.{endOf}
-use Rattle.expander.specs.Memory.{macroItems, Tables, tables, macrosAt, stateAt, workNeed, coreNeed, variableNeed, macroNeed, Placed, Ready}
-use Rattle.expander.specs.Turns.{operationsOf, Lent, Left, Expands}
+use Rattle.turns.specs.declared.answers.Reached.{Reached}
+use Rattle.turns.specs.declared.answers.Ended.{Ended}
+use Rattle.turns.specs.declared.answers.Ended.the-variants.{Done, Refused}
+use Rattle.turns.specs.Ends.{endOf}
+use Rattle.turns.specs.Memory.{macroItems, Tables, tables, macrosAt, stateAt, workNeed, coreNeed, variableNeed, macroNeed, Placed, Ready}
+use Rattle.turns.specs.Turns.{operationsOf, Lent, Left, Expands}
 use Rattle.expander.specs.LentLaws.{places-lent}
 use Rattle.expander.specs.Service.{groundOf, runNumbers}
 use Rattle.expander.specs.Start.{Lends, atStart, endNumbers, Expanded}

@@ -3,13 +3,13 @@
 ghost use Prim.Native.Nat.{_-_};
 ghost use Rattle.recipe.specs.Tree.{size};
 ghost use Rattle.arena.specs.Arena.{treeAt};
-ghost use Rattle.expander.specs.Memory.{tables, Placed, Ready};
-ghost use Rattle.expander.specs.Turns.{Lent, Expands, ExpandsAll};
-use crate::answers::Ended;
-use crate::answers::Reached;
-use crate::answers::Turn;
-use crate::dispatch;
+ghost use Rattle.turns.specs.Memory.{tables, Placed, Ready};
+ghost use Rattle.turns.specs.Turns.{Lent, Expands, ExpandsAll};
 use arena::cells;
+use turns::answers::Ended;
+use turns::answers::Reached;
+use turns::answers::Turn;
+use turns::dispatch;
 
 pub fn expression(
     items: &[u32],
@@ -42,20 +42,12 @@ pub fn expression(
             wrap,
             reached,
         ) {
-            Turn::Again {
-                node: n,
-                wrap: w,
-                reached: q,
-            } => {
+            Turn::Again(n, w, q) => {
                 node = n;
                 wrap = w;
                 reached = q;
             }
-            Turn::Operands {
-                list: l,
-                wrap: w,
-                reached: q,
-            } => {
+            Turn::Operands(l, w, q) => {
                 return operands(items, work, core, known, operations, marks, fuel, l, w, q);
             }
             Turn::Over(e) => {

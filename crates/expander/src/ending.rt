@@ -4,7 +4,7 @@ ghost use Prim.Native.Nat.{_≤_};
 ghost use lib.ListN.{length};
 ghost use Rattle.expander.specs.Start.{endNumbers, Finished};
 use crate::Expansion;
-use crate::answers::Ended;
+use turns::answers::Ended;
 use words::tables::zero_words;
 
 // The answer for an expansion that ended so.

@@ -1,15 +1,8 @@
 // The expansion service. What its tables mean and what a call leaves stands in specs/.
 
-pub mod answers;
 pub mod cycle;
-pub mod dispatch;
 pub mod ending;
-pub mod leaf;
-pub mod macros;
-pub mod output;
 pub mod start;
-pub mod turns;
-pub mod uses;
 
 ghost use mathlib.Core.Path.{_≡_};
 ghost use Rattle.expander.specs.declared.Expansion.the-variants.{Refused};

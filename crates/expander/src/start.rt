@@ -3,10 +3,10 @@
 ghost use Rattle.recipe.specs.Table.{treeOf};
 ghost use Rattle.expansion.specs.Run.{ended, expandRecipe};
 ghost use Rattle.expander.specs.Start.{Lends, Expanded};
-use crate::answers::Ended;
-use crate::answers::Reached;
 use crate::cycle;
 use arena::lists;
+use turns::answers::Ended;
+use turns::answers::Reached;
 
 // A word for each macro, which takes at least six of at most 4,096 items and a fuel of 8,192; and three for each mark in hand.
 const MACRO_WORDS: usize = 2048;

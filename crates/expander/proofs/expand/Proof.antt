@@ -12,7 +12,7 @@ use borrow.Author.Tests.{not-true, not-false, leb-true}
 use Rattle.recipe.specs.Table.{itemCount, isLayout}
 use Rattle.recipe.specs.TableLaws.{isLayout-parts}
 use Rattle.layout.specs.Places.{places-none}
-use Rattle.expander.specs.Turns.{operationsOf}
+use Rattle.turns.specs.Turns.{operationsOf}
 use Rattle.expander.specs.ServiceLaws.{room, served-layout, served-fuel, served-tables, served-operations, lends, expanded-fits, served-expanded}
 
 -- the tests of grounds 7, 8 and 9 that are passed

@@ -11,7 +11,7 @@ use Rattle.expander.proofs.cycle.operands.Kinds as operands-kinds
 use Rattle.expander.proofs.cycle.+expression+operands.Lts-operands as operands-lts
 use Rattle.arena.proofs.cells.reference.Reads as reference-reads
 use Rattle.arena.proofs.cells.word.Reads as word-reads
-use Rattle.expander.proofs.dispatch.turn.Reads as turn-reads
+use Rattle.turns.proofs.dispatch.turn.Reads as turn-reads
 use Rattle.expander.proofs.cycle.+expression+operands.{statement}
 use Rattle.expander.proofs.cycle.+expression+operands.Tie.{close}
 use borrow.Author.Needs.{needs}
@@ -19,7 +19,7 @@ use native.Mathlib.Omega.{arith}
 use mathlib.Core.Path.{_≡_, refl, _∙_}
 use lib.ListN.{length}
 use Rattle.arena.specs.Arena.{treeAt}
-use Rattle.expander.specs.Memory.{tables}
+use Rattle.turns.specs.Memory.{tables}
 use Rattle.expander.specs.Cycle.{leftOf, Going, Walking}
 use Rattle.expander.specs.CycleLaws.{going-start, walking-start}
 use Rattle.expander.specs.CycleCallLaws.{lent-kept, going-ready, again-falls, again-going, spread-asks, spread-over, over-right, operands-end, operand-asks, operand-refused, next-falls, operand-walking}

@@ -1,0 +1,29 @@
+-- `dispatch::applied`: the header's words, and the whole list as operands.
+use borrow.Author.Needs.{needs}
+use Rattle.turns.proofs.dispatch.applied.Statement.{statement}
+use Rattle.turns.proofs.dispatch.applied.Tie as tie
+use Rattle.turns.specs.DispatchLaws.{applied-turned}
+
+-- src/dispatch.rt:104:9
+count-requires : tie.Need-count-requires
+count-requires c κs =
+    search needs
+
+-- src/dispatch.rt:108:18
+put-node-requires : tie.Need-put-node-requires
+put-node-requires c κs =
+    search needs
+
+-- src/dispatch.rt:93:1
+same-length : tie.Need-same-length
+same-length c =
+    search needs
+
+-- src/dispatch.rt:93:1
+returns : tie.Need-returns
+returns c =
+    let a = c .before .before .before .before .before .before .before .args in
+    λ items macros placed other fuel ready. applied-turned items (a .work .now) (a .core .now) macros fuel (a .node) (a .tail) (a .wrap) (a .reached) placed other ready _ _ _ (c .before .before .before .before .count .ensures) (c .before .before .put-node .ensures)
+
+pub applied-spec : {M : Type 1} → statement M
+applied-spec = tie.close (tie.spec count-requires put-node-requires same-length returns)

@@ -1,0 +1,29 @@
+-- `output::put_four`: one part after the other.
+use borrow.Author.Needs.{needs}
+use Rattle.turns.proofs.output.put_four.Statement.{statement}
+use Rattle.turns.proofs.output.put_four.Tie as tie
+use native.Mathlib.Omega.{arith}
+use Rattle.turns.specs.MemoryLaws.{put-after}
+
+-- src/output.rt:34:9
+put-two-requires : tie.Need-put-two-requires
+put-two-requires c κs =
+    search needs
+
+-- src/output.rt:35:5
+put-two-requires-2 : tie.Need-put-two-requires-2
+put-two-requires-2 c κs =
+    search needs
+
+-- src/output.rt:30:1
+same-length : tie.Need-same-length
+same-length c =
+    search needs
+
+-- src/output.rt:30:1
+returns : tie.Need-returns
+returns c =
+    put-after (c .before .before .before .before .before .before .put-two .ensures) (c .before .before .put-two2 .ensures) (omega (arith, c .before .before .before .before .before .before .before .before .before .pre .fits, c .before .before .before .before .before .before .put-two .ensures .until))
+
+pub put-four-spec : {M : Type 1} → statement M
+put-four-spec = tie.close (tie.spec put-two-requires put-two-requires-2 same-length returns)

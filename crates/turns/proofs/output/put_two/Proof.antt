@@ -1,0 +1,29 @@
+-- `output::put_two`: one part after the other.
+use borrow.Author.Needs.{needs}
+use Rattle.turns.proofs.output.put_two.Statement.{statement}
+use Rattle.turns.proofs.output.put_two.Tie as tie
+use native.Mathlib.Omega.{arith}
+use Rattle.turns.specs.MemoryLaws.{put-after}
+
+-- src/output.rt:18:9
+put-word-requires : tie.Need-put-word-requires
+put-word-requires c κs =
+    search needs
+
+-- src/output.rt:19:5
+put-word-requires-2 : tie.Need-put-word-requires-2
+put-word-requires-2 c κs =
+    search needs
+
+-- src/output.rt:14:1
+same-length : tie.Need-same-length
+same-length c =
+    search needs
+
+-- src/output.rt:14:1
+returns : tie.Need-returns
+returns c =
+    put-after (c .before .before .before .before .before .before .put-word .ensures) (c .before .before .put-word2 .ensures) (omega (arith, c .before .before .before .before .before .before .before .before .before .pre .fits, c .before .before .before .before .before .before .put-word .ensures .until))
+
+pub put-two-spec : {M : Type 1} → statement M
+put-two-spec = tie.close (tie.spec put-word-requires put-word-requires-2 same-length returns)

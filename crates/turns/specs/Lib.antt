@@ -1,0 +1,24 @@
+-- One turn of an expression: what the tables mean while an expansion runs, and what each kind of turn leaves.
+pub mod Ends
+pub mod EndLaws
+pub mod Memory
+pub mod MemoryLaws
+pub mod Turns
+pub mod Leaves
+pub mod LeafLaws
+pub mod SpreadLaws
+pub mod Scopes
+pub mod QuotedLaws
+pub mod LambdaLaws
+pub mod Uses
+pub mod UseLaws
+pub mod UseTurnLaws
+pub mod MacroRules
+pub mod MacroRuleLaws
+pub mod MacroTurns
+pub mod MacroTurnLaws
+pub mod MacroFollowLaws
+pub mod HeadLaws
+pub mod ReadyLaws
+pub mod Dispatch
+pub mod DispatchLaws

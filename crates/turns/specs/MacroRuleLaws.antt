@@ -1,0 +1,193 @@
+-- Laws of reading the rules of a form's macros, from the left.
+use mathlib.Core.Path.{_≡_, refl, ap, ap₂, sym, subst, _∙_}
+use mathlib.Core.List.{List, [], _∷_, _++_, append-assoc, append-nil, map}
+use mathlib.Core.Option.{Option, none}
+use Prim.Native.Nat.{ℕ, suc, _+_, _^_, _≤_, _<_}
+use native.Mathlib.Omega.{arith}
+use native.Mathlib.Numerals.{add-one}
+use lib.Dec.{ltb}
+use lib.ListN.{length, getD, take, set}
+use lib.Seq.{getD-set-same, getD-set-other, take-set-le}
+use borrow.Author.Tests.{ltb-true, ltb-false}
+use Rattle.words.specs.Options.{mapSome, mapBoth, traverse}
+use Rattle.recipe.specs.Tree.{Tree, size, elements, element}
+use Rattle.recipe.specs.TreeLaws.{element-size}
+use Rattle.expansion.specs.Rules.{Rule, rulesOf}
+use Rattle.arena.specs.Arena.{wordAt, referenceAt, treeAt}
+use Rattle.arena.specs.ArenaLaws.{cases, take-less}
+use Rattle.arena.specs.CellLaws.{tree-kept}
+use Rattle.rule_cells.specs.Cells.{rulesAt}
+use Rattle.rule_cells.specs.ParseLaws.{tree-is, size-is, head-below, rest-below}
+use Rattle.arena.specs.ListLaws.{no-elements}
+use Rattle.rule_cells.specs.RuleParse.{RulesMade, RulesLeft}
+use Rattle.rule_cells.specs.declared.templates.Built.{Built}
+use Rattle.rule_cells.specs.declared.templates.Built.the-variants as built
+use Rattle.arena.specs.Lists.{Means}
+use Rattle.turns.specs.declared.macros.Read.{Read}
+use Rattle.turns.specs.declared.macros.Read.the-variants.{Good, Bad}
+use Rattle.turns.specs.Memory.{macrosAt}
+use Rattle.turns.specs.MemoryLaws.{macrosAt-settled}
+use Rattle.turns.specs.MacroRules.{OneAsk, OneRead, OneLeft, formsIn, AllAsk, AllRead, AllLeft}
+
+-- ---- one macro
+
+module _ (items work macros marks : List ℕ) (form w count top : ℕ) (ask : OneAsk items work macros marks form w count top) where
+  abbrev tree : Tree
+  tree = treeAt items work form w
+
+  module _ (work′ : List ℕ) (b : Built) (left : RulesLeft (rulesOf tree) (size tree) items work work′ top b) where
+    pub one-bad : (macros′ : List ℕ) → b ≡ built.Bad → OneLeft tree items work work′ macros macros′ count top Bad
+    one-bad macros′ e =
+        let l : RulesLeft (rulesOf tree) (size tree) items work work′ top built.Bad = subst (λ (z : Built). RulesLeft (rulesOf tree) (size tree) items work work′ top z) e left in
+        l .0
+
+    pub one-good : (at upper : ℕ) → b ≡ built.Good at upper → OneLeft tree items work work′ macros (set macros count at) count top (Good upper)
+    unfolding macrosAt
+    one-good at upper e =
+        let m : RulesMade (rulesOf tree) (size tree) items work work′ top at upper = subst (λ (z : Built). RulesLeft (rulesOf tree) (size tree) items work work′ top z) e left in
+        let known : take count (set macros count at) ≡ take count macros = take-set-le count macros count at (omega arith) in
+        record {
+          rules = rulesAt items work′ at;
+          is = m .means;
+          means =
+              ap (macrosAt items work′ (set macros count at)) (add-one count)
+              ∙ ap₂ (λ (l : List (List Rule)) (k : ℕ). l ++ (rulesAt items work′ k ∷ []))
+              (macrosAt-settled items work work′ macros (set macros count at) top (m .kept) count known (ask .below))
+              (getD-set-same macros count at 0 (ask .slot));
+          below = λ k h.
+              cases (ltb k count)
+              (λ t.
+              let l : k < count = ltb-true k count t in
+              let g : getD (set macros count at) k 0 ≡ getD macros k 0 = getD-set-other macros count k at 0 (λ z. omega arith) in
+              omega (arith, ask .below k l, m .up))
+              (λ t.
+              let l : count ≤ k = ltb-false k count t in
+              let s : k ≡ count = omega arith in
+              let g : getD (set macros count at) count 0 ≡ at = getD-set-same macros count at 0 (ask .slot) in
+              rw s (omega (arith, m .at-most)));
+          up = m .up;
+          words = m .words;
+          kept = m .kept;
+          known = known;
+        }
+
+-- ---- a list of (name rules)
+
+module _ (items work macros marks : List ℕ) (list w count top : ℕ) (ask : AllAsk items work macros marks list w count top) where
+  abbrev whole : Tree
+  whole = treeAt items work list w
+
+  pub all-end : (wordAt work list 3 ≡ 4 → ⊥) → AllLeft whole items work work macros macros count top (Good top)
+  unfolding formsIn traverse
+  all-end n =
+      let none-are : formsIn whole ≡ [] = ap (map (element 1)) (no-elements items work list w n) in
+      let long : count + length (formsIn whole) ≡ count = omega (arith, ap length none-are) in
+      record {
+        rules = [];
+        is = ap (traverse rulesOf) none-are;
+        means = ap (macrosAt items work macros) long ∙ sym (append-nil (macrosAt items work macros count));
+        below = λ k h. ask .below k (omega arith);
+        up = omega arith;
+        words = omega arith;
+        kept = refl;
+        known = refl;
+      }
+
+  module _ (entry rest form : ℕ) (e : wordAt work list 3 ≡ 4) (f : entry ≡ referenceAt work list 2) (g : rest ≡ referenceAt work list 1) (form-is : Means work entry form (element 1)) where
+    abbrev first : Tree
+    first = treeAt items work form w
+
+    abbrev later : Tree
+    later = treeAt items work rest w
+
+    entry-low : entry < list
+    entry-low = head-below items work list w top (ask .asks) entry rest e f g
+
+    pub rest-low : rest < list
+    rest-low = rest-below items work list w top (ask .asks) entry rest e f g
+
+    forms-are : formsIn whole ≡ first ∷ formsIn later
+    unfolding formsIn elements
+    forms-are = ap formsIn (tree-is items work list w top (ask .asks) entry rest e f g) ∙ ap (λ (t : Tree). t ∷ formsIn later) (sym (form-is .is items w))
+
+    count-is : length (formsIn whole) ≡ suc (length (formsIn later))
+    count-is = ap length forms-are
+
+    sizes : suc (size first + size later) ≤ size whole
+    sizes =
+        let s : size first ≤ size (treeAt items work entry w) = rw (form-is .is items w) (element-size 1 (treeAt items work entry w)) in
+        omega (arith, size-is items work list w top (ask .asks) entry rest e f g)
+
+    form-below : form ≤ top
+    form-below = omega (arith, form-is .low, entry-low, ask .asks .node-below)
+
+    pub one-ask : OneAsk items work macros marks form w count top
+    one-ask =
+        record {
+          asks = record {
+            node-below = form-below;
+            wrap-below = ask .asks .wrap-below;
+            room = record { fits = omega (arith, ask .asks .room .fits, sizes); small = omega (arith, ask .asks .room .small, sizes) };
+          };
+          slot = omega (arith, ask .slots, count-is);
+          below = ask .below;
+          hands = ask .hands;
+        }
+
+    pub count-small : count + 1 < 2 ^ 32
+    count-small = omega (arith, ask .few, count-is)
+
+    pub all-bad : (mid macros′ new macros″ : List ℕ) (r : Read) → r ≡ Bad → OneLeft first items work mid macros macros′ count top r → AllLeft whole items work new macros macros″ count top Bad
+    unfolding traverse mapBoth mapSome
+    all-bad mid macros′ new macros″ r b p =
+        let q : rulesOf first ≡ none = subst (λ (z : Read). OneLeft first items work mid macros macros′ count top z) b p in
+        ap (traverse rulesOf) forms-are ∙ ap (λ (o : Option (List Rule)). mapBoth _∷_ o (traverse rulesOf (formsIn later))) q
+
+    -- after the first
+    module _ (mid macros′ marks′ : List ℕ) (r : Read) (upper : ℕ) (b : r ≡ Good upper) (left : OneLeft first items work mid macros macros′ count top r)
+        (long : length mid ≡ length work) (macros-long : length macros′ ≡ length macros) (marks-long : length marks′ ≡ length marks) where
+      one : OneRead first items work mid macros macros′ count top upper
+      one = subst (λ (z : Read). OneLeft first items work mid macros macros′ count top z) b left
+
+      later-is : treeAt items mid rest w ≡ later
+      later-is = tree-kept items work mid top rest w (omega (arith, rest-low, ask .asks .node-below)) (ask .asks .wrap-below) (one .kept)
+
+      pub ask-later : AllAsk items mid macros′ marks′ rest w (count + 1) upper
+      ask-later =
+          record {
+            asks = record {
+              node-below = omega (arith, rest-low, ask .asks .node-below, one .up);
+              wrap-below = omega (arith, ask .asks .wrap-below, one .up);
+              room = record {
+                fits = rw later-is (omega (arith, ask .asks .room .fits, sizes, one .words));
+                small = rw later-is (omega (arith, ask .asks .room .small, sizes, one .words));
+              };
+            };
+            slots = rw later-is (omega (arith, ask .slots, count-is));
+            few = rw later-is (omega (arith, ask .few, count-is));
+            below = one .below;
+            hands = omega (arith, ask .hands);
+          }
+
+      pub all-both : (new macros″ : List ℕ) (a : Read) → AllLeft (treeAt items mid rest w) items mid new macros′ macros″ (count + 1) upper a → AllLeft whole items work new macros macros″ count top a
+      unfolding traverse mapBoth mapSome
+      all-both new macros″ (Good higher) m =
+          let n : AllRead later items mid new macros′ macros″ (count + 1) upper higher = subst (λ (t : Tree). AllRead t items mid new macros′ macros″ (count + 1) upper higher) later-is m in
+          let far : count + length (formsIn whole) ≡ count + 1 + length (formsIn later) = omega (arith, count-is) in
+          record {
+            rules = one .rules ∷ n .rules;
+            is = ap (traverse rulesOf) forms-are ∙ ap₂ (mapBoth _∷_) (one .is) (n .is);
+            means =
+                ap (macrosAt items new macros″) far
+                ∙ n .means
+                ∙ ap (λ (l : List (List Rule)). l ++ n .rules) (one .means)
+                ∙ append-assoc (macrosAt items work macros count) (one .rules ∷ []) (n .rules);
+            below = λ k h. n .below k (omega (arith, far));
+            up = omega (arith, one .up, n .up);
+            words = omega (arith, one .words, n .words, sizes);
+            kept = take-less new mid top upper (one .up) (n .kept) ∙ one .kept;
+            known = take-less macros″ macros′ count (count + 1) (omega arith) (n .known) ∙ one .known;
+          }
+      all-both new macros″ Bad m =
+          let n : traverse rulesOf (formsIn later) ≡ none = subst (λ (t : Tree). traverse rulesOf (formsIn t) ≡ none) later-is m in
+          ap (traverse rulesOf) forms-are ∙ ap₂ (mapBoth _∷_) (one .is) n

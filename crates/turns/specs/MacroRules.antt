@@ -1,0 +1,67 @@
+-- What reading the rules of a form's macros asks and leaves: macro `count` and those after it, in the table of macros.
+use mathlib.Core.Path.{_≡_}
+use mathlib.Core.List.{List, [], _∷_, _++_, map}
+use mathlib.Core.Option.{none, some}
+use Prim.Native.Nat.{ℕ, _+_, _*_, _^_, _≤_, _<_}
+use lib.ListN.{length, getD, take}
+use Rattle.words.specs.Options.{traverse}
+use Rattle.recipe.specs.Tree.{Tree, size, elements, element}
+use Rattle.expansion.specs.Rules.{Rule, rulesOf}
+use Rattle.arena.specs.Arena.{treeAt, markLimit}
+use Rattle.rule_cells.specs.Parse.{Asks}
+use Rattle.turns.specs.declared.macros.Read.{Read}
+use Rattle.turns.specs.declared.macros.Read.the-variants.{Good, Bad}
+use Rattle.turns.specs.Memory.{macrosAt}
+
+-- the first macros' rules stand below the top
+abbrev pub Below : (macros : List ℕ) (count top : ℕ) → Type 0
+Below macros count top = (k : ℕ) → k < count → getD macros k 0 ≤ top
+
+-- ---- one macro
+
+pub record OneAsk (items work macros marks : List ℕ) (form w count top : ℕ) : Type 0 where
+  pub asks : Asks items work form w top
+  pub slot : count < length macros
+  pub below : Below macros count top
+  pub hands : 3 * markLimit < length marks
+
+pub record OneRead (form : Tree) (items work work′ macros macros′ : List ℕ) (count top upper : ℕ) : Type 0 where
+  pub rules : List Rule
+  pub is : rulesOf form ≡ some rules
+  pub means : macrosAt items work′ macros′ (count + 1) ≡ macrosAt items work macros count ++ (rules ∷ [])
+  pub below : Below macros′ (count + 1) upper
+  pub up : top ≤ upper
+  pub words : upper ≤ top + 5 * size form
+  pub kept : take top work′ ≡ take top work
+  pub known : take count macros′ ≡ take count macros
+
+abbrev pub OneLeft : (form : Tree) (items work work′ macros macros′ : List ℕ) (count top : ℕ) → Read → Type 0
+OneLeft form items work work′ macros macros′ count top (Good upper) = OneRead form items work work′ macros macros′ count top upper
+OneLeft form items work work′ macros macros′ count top Bad = rulesOf form ≡ none
+
+-- ---- a list of (name rules)
+
+unfoldable pub formsIn : Tree → List Tree
+formsIn t = map (element 1) (elements t)
+
+pub record AllAsk (items work macros marks : List ℕ) (list w count top : ℕ) : Type 0 where
+  pub asks : Asks items work list w top
+  pub slots : count + length (formsIn (treeAt items work list w)) ≤ length macros
+  pub few : count + length (formsIn (treeAt items work list w)) < 2 ^ 32
+  pub below : Below macros count top
+  pub hands : 3 * markLimit < length marks
+
+pub record AllRead (list : Tree) (items work work′ macros macros′ : List ℕ) (count top upper : ℕ) : Type 0 where
+  pub rules : List (List Rule)
+  pub is : traverse rulesOf (formsIn list) ≡ some rules
+  pub means : macrosAt items work′ macros′ (count + length (formsIn list)) ≡ macrosAt items work macros count ++ rules
+  pub below : Below macros′ (count + length (formsIn list)) upper
+  pub up : top ≤ upper
+  pub words : upper ≤ top + 5 * size list
+  pub kept : take top work′ ≡ take top work
+  pub known : take count macros′ ≡ take count macros
+
+-- bad exactly where the definition lacks the rules of one
+abbrev pub AllLeft : (list : Tree) (items work work′ macros macros′ : List ℕ) (count top : ℕ) → Read → Type 0
+AllLeft list items work work′ macros macros′ count top (Good upper) = AllRead list items work work′ macros macros′ count top upper
+AllLeft list items work work′ macros macros′ count top Bad = traverse rulesOf (formsIn list) ≡ none

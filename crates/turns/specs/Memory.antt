@@ -1,0 +1,144 @@
+-- The tables while an expression is expanded, and how they meet the definition. The work table holds the arena, up to `top`;
+-- the core table the words so far, up to `at`; a third, one word a macro, refers to each one's rules.
+use mathlib.Core.Path.{_≡_}
+use mathlib.Core.List.{List, [], _∷_, _++_}
+use Prim.Native.Nat.{ℕ, zero, suc, _+_, _*_, _-_, _^_, _≤_, _<_}
+use lib.ListN.{length, getD, take, drop}
+use Rattle.words.specs.Each.{Each}
+use Rattle.recipe.specs.Tree.{Tree, elements}
+use Rattle.recipe.specs.Tidy.{Tidy}
+use Rattle.recipe.specs.TableTidy.{IsConstant}
+use Rattle.expansion.specs.Rules.{Rule}
+use Rattle.expansion.specs.TidyRules.{TidyRules}
+use Rattle.expansion.specs.Computation.{State}
+use Rattle.arena.specs.Arena.{treeAt}
+use Rattle.rule_cells.specs.Cells.{rulesAt}
+use Rattle.steps.specs.Plain.{Plain}
+use Rattle.turns.specs.declared.answers.Reached.{Reached}
+
+pub record Tables : Type 0 where
+  pub work : List ℕ
+  pub core : List ℕ
+  pub macros : List ℕ
+
+abbrev pub tables : (work core macros : List ℕ) → Tables
+tables work core macros = record { work = work; core = core; macros = macros }
+
+-- ---- the definition's state
+
+-- the rules of the first n macros
+unfoldable pub macrosAt : (items work macros : List ℕ) → ℕ → List (List Rule)
+macrosAt items work macros zero = []
+macrosAt items work macros (suc n) = macrosAt items work macros n ++ (rulesAt items work (getD macros n 0) ∷ [])
+
+unfoldable pub stateAt : (items : List ℕ) → Tables → Reached → State
+stateAt items t r = record { steps = r .steps; sum = r .sum; variables = r .variables; macros = macrosAt items (t .work) (t .macros) (r .macros) }
+
+-- ---- core words
+
+pub record CoreRoom (core : List ℕ) (at n : ℕ) : Type 0 where
+  pub fits : at + n ≤ length core
+  pub small : at + n < 2 ^ 32
+
+-- words stand from `at` to r; the rest of the table is as it was
+pub record Put (words : List ℕ) (at : ℕ) (before after : List ℕ) (r : ℕ) : Type 0 where
+  pub until : r ≡ at + length words
+  pub table : after ≡ take at before ++ words ++ drop r before
+
+-- the same numbers, but for how far the core words reach
+unfoldable pub moved : ℕ → Reached → Reached
+moved n r = record { top = r .top; at = n; steps = r .steps; sum = r .sum; variables = r .variables; macros = r .macros }
+
+-- words are written from r .at, and nothing else is done
+pub record Moved (words : List ℕ) (r : Reached) (before after : List ℕ) (q : Reached) : Type 0 where
+  pub is : q ≡ moved (q .at) r
+  pub put : Put words (r .at) before after (q .at)
+
+-- an application's header and its named head, whatever waits on the list of operands
+abbrev pub HeaderMoved : (list code number : ℕ) (r : Reached) (work before after : List ℕ) (q : Reached) → Type 0
+HeaderMoved list code number r work before after q = (items : List ℕ) (w : ℕ) → Moved (8 ∷ length (elements (treeAt items work list w)) ∷ code ∷ number ∷ []) r before after q
+
+-- ---- the budget
+
+-- words of the work table for each item of the tree at hand and each unit of fuel left
+abbrev pub itemRate : ℕ
+itemRate = 9
+
+abbrev pub fuelRate : ℕ
+fuelRate = 16
+
+-- items that a form has for each of its macros, at the least
+abbrev pub macroItems : ℕ
+macroItems = 6
+
+-- the most that an expansion's numbers reach
+abbrev pub numberMost : ℕ
+numberMost = 400000
+
+-- what an expansion of a tree of n items may still take: of the work table, the core table, variables, macros
+unfoldable pub workNeed : (fuel n : ℕ) → Reached → ℕ
+workNeed fuel n r = r .top + itemRate * n + fuelRate * (fuel - r .sum)
+
+unfoldable pub coreNeed : (fuel n : ℕ) → Reached → ℕ
+coreNeed fuel n r = r .at + 2 * n + 2 * (fuel - r .sum)
+
+unfoldable pub variableNeed : (fuel n : ℕ) → Reached → ℕ
+variableNeed fuel n r = r .variables + n + (fuel - r .sum)
+
+unfoldable pub macroNeed : (fuel n : ℕ) → Reached → ℕ
+macroNeed fuel n r = macroItems * r .macros + n + (fuel - r .sum)
+
+-- ---- what an expansion relies on, and what it keeps
+
+-- trees whose tails are lists and whose constants are constants, as all that a run has at hand
+abbrev pub Proper : Tree → Type 0
+Proper = Tidy (λ x. Unit {0}) IsConstant
+
+-- the macros so far: their rules stand below the top, insert proper trees, and are plain
+pub record Macros (items : List ℕ) (r : Reached) (t : Tables) : Type 0 where
+  pub below : (k : ℕ) → k < r .macros → getD (t .macros) k 0 ≤ r .top
+  pub proper : Each (TidyRules (λ x. Unit {0}) IsConstant) (macrosAt items (t .work) (t .macros) (r .macros))
+  pub plain : Each (Each (λ x. Plain (x .template))) (macrosAt items (t .work) (t .macros) (r .macros))
+
+-- a tree of n items may be expanded from r
+pub record Ready (items : List ℕ) (fuel n : ℕ) (r : Reached) (t : Tables) : Type 0 where
+  pub fuelled : fuel ≤ 8192
+  pub spent : r .sum ≤ fuel
+  pub stepped : r .steps ≤ r .sum
+  pub items-below : length items ≤ r .top
+  pub room : workNeed fuel n r ≤ length (t .work)
+  pub core-room : coreNeed fuel n r ≤ length (t .core)
+  pub macro-room : macroNeed fuel n r ≤ macroItems * length (t .macros)
+  pub small : workNeed fuel n r ≤ numberMost
+  pub core-small : coreNeed fuel n r ≤ numberMost
+  pub few : variableNeed fuel n r ≤ numberMost
+  pub macros-few : macroNeed fuel n r ≤ numberMost
+  pub macros-are : Macros items r t
+
+-- the expression or list at hand
+pub record Placed (items work : List ℕ) (top node w : ℕ) : Type 0 where
+  pub node-below : node ≤ top
+  pub wrap-below : w ≤ top
+  pub proper : Proper (treeAt items work node w)
+
+-- from r to q, where m of n items are left to expand; in the difference form, so that siblings need nothing
+pub record Kept (items : List ℕ) (fuel n m : ℕ) (r q : Reached) (before after : Tables) : Type 0 where
+  pub work-long : length (after .work) ≡ length (before .work)
+  pub core-long : length (after .core) ≡ length (before .core)
+  pub macros-long : length (after .macros) ≡ length (before .macros)
+  pub arena : take (r .top) (after .work) ≡ take (r .top) (before .work)
+  pub known : take (r .macros) (after .macros) ≡ take (r .macros) (before .macros)
+  pub top-grows : r .top ≤ q .top
+  pub macros-grow : r .macros ≤ q .macros
+  pub sum-grows : r .sum ≤ q .sum
+  pub spent : q .sum ≤ fuel
+  pub stepped : q .steps ≤ q .sum
+  pub work-spent : workNeed fuel m q ≤ workNeed fuel n r
+  pub core-spent : coreNeed fuel m q ≤ coreNeed fuel n r
+  pub variables-spent : variableNeed fuel m q ≤ variableNeed fuel n r
+  pub macros-spent : macroNeed fuel m q ≤ macroNeed fuel n r
+  pub macros-are : Macros items q after
+
+-- the term's words follow those before r .at; the rest of the table is as it was
+abbrev pub Written : (r q : Reached) (words before after : List ℕ) → Type 0
+Written r q words before after = Put words (r .at) before after (q .at)

@@ -1,0 +1,55 @@
+-- Laws of a quote's turn: the words of its datum are the term's.
+use mathlib.Core.Path.{_≡_, refl, ap, sym, subst, _∙_}
+use mathlib.Core.Bool.{true, false}
+use mathlib.Core.List.{List}
+use Prim.Native.Nat.{ℕ, _+_, _*_, _^_, _≤_, _<_}
+use native.Mathlib.Omega.{arith}
+use lib.ListN.{length}
+use Rattle.recipe.specs.Tree.{Tree, size, strip, isListOf, element}
+use Rattle.recipe.specs.TreeLaws.{element-size}
+use Rattle.recipe.specs.Tidy.{tidy-element}
+use Rattle.core_term.specs.Term.{datumC}
+use Rattle.core_term.specs.Words.{datumWords, encode}
+use Rattle.arena.specs.Arena.{treeAt}
+use Rattle.arena.specs.Lists.{Means}
+use Rattle.forms.specs.Quotes as Q
+use Rattle.forms.specs.Quotes.{quotedAt, Quotable}
+use Rattle.forms.specs.QuoteLaws.{quoted-any, quoted-size}
+use Rattle.turns.specs.declared.answers.Reached.{Reached}
+use Rattle.turns.specs.declared.answers.Ended.{Ended}
+use Rattle.turns.specs.declared.answers.Ended.the-variants.{Done}
+use Rattle.turns.specs.Ends.{needs}
+use Rattle.turns.specs.Memory.{moved}
+use Rattle.turns.specs.Leaves.{Refuses}
+use Rattle.turns.specs.LeafLaws.{refused-leaf}
+use Rattle.turns.specs.Scopes.{QuoteRoom, quoteEnd, QuoteLeft}
+
+module _ (items work core : List ℕ) (node : ℕ) (r : Reached) where
+  pub quote-refused : (a : Ended) → ((w : ℕ) → isListOf 2 (treeAt items work node w) ≡ false) → Refuses 13 r a → QuoteLeft items work node r core core a
+  unfolding quoteEnd needs
+  quote-refused a shape e w = refused-leaf (quoteEnd (treeAt items work node w)) (2 * size (treeAt items work node w)) 13 r core a (λ s. rw (shape w)) e
+
+  module _ (datum : ℕ) (datum-is : Means work node datum (element 1)) where
+    words-most : (w : ℕ) → length (quotedAt items work datum) ≤ 2 * size (treeAt items work node w)
+    words-most w =
+        let e : datumWords (strip (treeAt items work datum w)) ≡ quotedAt items work datum = quoted-any items work datum w in
+        let s : size (treeAt items work datum w) ≤ size (treeAt items work node w) = rw (datum-is .is items w) (element-size 1 (treeAt items work node w)) in
+        omega (arith, ap length e, quoted-size (treeAt items work datum w))
+
+    pub quote-room : QuoteRoom items work core node r → (r .at + length (quotedAt items work datum) ≤ length core) × Quotable (treeAt items work datum 0)
+    quote-room room = (omega (arith, room .fits, words-most 0), rw (datum-is .is items 0) (tidy-element 1 (room .proper)))
+
+    pub quote-small : QuoteRoom items work core node r → (at : ℕ) → at ≡ r .at + length (quotedAt items work datum) → at < 2 ^ 32
+    quote-small room at e = omega (arith, room .small, words-most 0)
+
+    pub quote-made : (at : ℕ) (core′ : List ℕ) → ((w : ℕ) → isListOf 2 (treeAt items work node w) ≡ true) → Q.Written (quotedAt items work datum) core core′ (r .at) at → QuoteLeft items work node r core core′ (Done (moved at r))
+    unfolding quoteEnd needs moved encode
+    quote-made at core′ shape x w =
+        let e : quotedAt items work datum ≡ datumWords (strip (element 1 (treeAt items work node w))) =
+        sym (quoted-any items work datum w) ∙ ap (λ (t : Tree). datumWords (strip t)) (datum-is .is items w) in
+        record {
+          term = datumC (strip (element 1 (treeAt items work node w)));
+          is = λ s. rw (shape w);
+          short = subst (λ (l : List ℕ). length l ≤ 2 * size (treeAt items work node w)) e (words-most w);
+          moves = record { is = refl; put = rw (sym e) (record { until = x .end; table = x .words }) };
+        }

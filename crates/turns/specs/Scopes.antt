@@ -1,0 +1,85 @@
+-- What the turns of forms leave, by words alone: the law of each form makes a turn of it.
+use mathlib.Core.Path.{_≡_}
+use mathlib.Core.Bool.{true, false}
+use mathlib.Core.List.{List, [], _∷_}
+use Prim.Native.Nat.{ℕ, _+_, _*_, _≤_, _<_}
+use lib.ListN.{length, take}
+use Rattle.recipe.specs.Name.{variable, Name, distinct}
+use Rattle.recipe.specs.Tree.{Tree, size, strip, isListOf, element, bindAll}
+use Rattle.core_term.specs.Term.{Term, datumC}
+use Rattle.expansion.specs.Computation.{State}
+use Rattle.expansion.specs.Forms.{isLambda, formals}
+use Rattle.arena.specs.Arena.{treeAt, markLimit}
+use Rattle.turns.specs.declared.answers.Reached.{Reached}
+use Rattle.turns.specs.declared.answers.Ended.{Ended}
+use Rattle.turns.specs.declared.answers.Turn.{Turn}
+use Rattle.turns.specs.declared.answers.Turn.the-variants.{Again, Operands, Over}
+use Rattle.turns.specs.Ends.{End, finished, stopped, needs}
+use Rattle.turns.specs.Memory.{itemRate, numberMost, Put, Moved, Proper, Placed}
+use Rattle.turns.specs.Leaves.{Refuses, Leaf}
+
+-- what is at hand, and room for it
+pub record Roomy (items work core marks : List ℕ) (node w : ℕ) (r : Reached) : Type 0 where
+  pub placed : Placed items work (r .top) node w
+  pub fits : r .top + itemRate * size (treeAt items work node w) ≤ length work
+  pub small : r .top + itemRate * size (treeAt items work node w) ≤ numberMost
+  pub core-fits : r .at + 2 * size (treeAt items work node w) ≤ length core
+  pub core-small : r .at + 2 * size (treeAt items work node w) ≤ numberMost
+  pub few : r .variables + size (treeAt items work node w) ≤ numberMost
+  pub hands : 3 * markLimit < length marks
+
+-- ---- quote
+
+-- data without what waits on them, and room for their words
+pub record QuoteRoom (items work core : List ℕ) (node : ℕ) (r : Reached) : Type 0 where
+  pub proper : Proper (treeAt items work node 0)
+  pub fits : r .at + 2 * size (treeAt items work node 0) ≤ length core
+  pub small : r .at + 2 * size (treeAt items work node 0) ≤ numberMost
+
+unfoldable pub quoteEnd : Tree → State → End (Term Name)
+quoteEnd t s = needs 13 (isListOf 2 t) s (finished (datumC (strip (element 1 t))) s)
+
+abbrev pub QuoteLeft : (items work : List ℕ) (node : ℕ) (r : Reached) (core core′ : List ℕ) → Ended → Type 0
+QuoteLeft items work node r core core′ a = (w : ℕ) → Leaf (quoteEnd (treeAt items work node w)) (2 * size (treeAt items work node w)) r core core′ a
+
+-- ---- if
+
+abbrev pub IfLeft : (work : List ℕ) (node tail w : ℕ) (r : Reached) (core core′ : List ℕ) → Turn → Type 0
+IfLeft work node tail w r core core′ (Again n v q) = ⊥
+IfLeft work node tail w r core core′ (Operands l v q) = (l ≡ tail) × (v ≡ w) × ((items : List ℕ) (u : ℕ) → isListOf 4 (treeAt items work node u) ≡ true) × Moved (6 ∷ []) r core core′ q
+IfLeft work node tail w r core core′ (Over a) = ((items : List ℕ) (u : ℕ) → isListOf 4 (treeAt items work node u) ≡ false) × Refuses 13 r a
+
+-- ---- lambda
+
+-- n new variables, whose binders end at `top`, and words up to `at`
+unfoldable pub widened : (top at n : ℕ) → Reached → Reached
+widened top at n r = record { top = top; at = at; steps = r .steps; sum = r .sum; variables = r .variables + n; macros = r .macros }
+
+-- the lambda's names are bound in its body
+pub record Bound (tree : Tree) (items : List ℕ) (r : Reached) (work work′ core core′ : List ℕ) (node w : ℕ) (q : Reached) : Type 0 where
+  pub body-is : treeAt items work′ node w ≡ bindAll variable (r .variables) (formals tree) (element 2 tree)
+  pub body-below : node ≤ r .top
+  pub wrap-below : w ≤ q .top
+  pub numbers : q ≡ widened (r .top + itemRate * length (formals tree)) (q .at) (length (formals tree)) r
+  pub put : Put (7 ∷ r .variables ∷ length (formals tree) ∷ []) (r .at) core core′ (q .at)
+  pub kept : take (r .top) work′ ≡ take (r .top) work
+
+abbrev pub BoundLeft : (tree : Tree) (items : List ℕ) (r : Reached) (work work′ core core′ : List ℕ) → Turn → Type 0
+BoundLeft tree items r work work′ core core′ (Again n w q) = Bound tree items r work work′ core core′ n w q
+BoundLeft tree items r work work′ core core′ (Operands l w q) = ⊥
+BoundLeft tree items r work work′ core core′ (Over a) = ⊥
+
+pub record LambdaBound (tree : Tree) (items : List ℕ) (r : Reached) (work work′ core core′ : List ℕ) (node w : ℕ) (q : Reached) : Type 0 where
+  pub shape : isLambda tree ≡ true
+  pub apart : distinct (formals tree) ≡ true
+  pub bound : Bound tree items r work work′ core core′ node w q
+
+pub record LambdaRefused (tree : Tree) (r : Reached) (a : Ended) : Type 0 where
+  pub ground : ℕ
+  pub is : (e : End (Term Name)) (s : State) → needs 13 (isLambda tree) s (needs 14 (distinct (formals tree)) s e) ≡ stopped ground s
+  pub refuses : Refuses ground r a
+
+abbrev pub LambdaLeft : (tree : Tree) (items : List ℕ) (r : Reached) (work work′ core core′ : List ℕ) → Turn → Type 0
+LambdaLeft tree items r work work′ core core′ (Again n w q) = LambdaBound tree items r work work′ core core′ n w q
+LambdaLeft tree items r work work′ core core′ (Operands l w q) = ⊥
+LambdaLeft tree items r work work′ core core′ (Over a) = LambdaRefused tree r a

@@ -1,0 +1,109 @@
+// Turns of forms: quote, if and lambda. What they leave is said by words alone; the laws of specs/ make a turn of it.
+
+ghost use mathlib.Core.Path.{_≡_};
+ghost use mathlib.Core.Bool.{true};
+ghost use Rattle.expansion.specs.Forms.{isLambda};
+ghost use Rattle.arena.specs.Arena.{treeAt};
+ghost use Rattle.turns.specs.Memory.{CoreRoom};
+ghost use Rattle.turns.specs.Scopes.{Roomy, QuoteRoom, QuoteLeft, IfLeft, BoundLeft, LambdaLeft};
+use crate::answers::Ended;
+use crate::answers::Reached;
+use crate::answers::Turn;
+use crate::leaf;
+use crate::output;
+use arena::lists;
+use forms::binders;
+use forms::quotes;
+use forms::shapes;
+
+// (quote d): the words of d without marks and bindings.
+pub fn quoted(items: &[u32], work: &[u32], core: &mut [u32], node: u32, reached: Reached) -> Ended
+    requires { ⌜ QuoteRoom (now items) (now work) (now core) node reached ⌝ }
+    ensures { λ r. ⌜ QuoteLeft (now (items .entry)) (now (work .entry)) node reached (now (core .entry)) (now (core .exit)) r ⌝ }
+{
+    if !lists::is_list_of(work, node, 2) {
+        return leaf::refuse(13, reached);
+    }
+    let datum = lists::element(work, node, 1);
+    let at = quotes::quote(items, work, datum, core, reached.at as usize);
+    Ended::Done(Reached {
+        top: reached.top,
+        at: at as u32,
+        steps: reached.steps,
+        sum: reached.sum,
+        variables: reached.variables,
+        macros: reached.macros,
+    })
+}
+
+// (if a b c): its word, then three operands.
+pub fn condition(
+    work: &[u32],
+    core: &mut [u32],
+    node: u32,
+    tail: u32,
+    wrap: u32,
+    reached: Reached,
+) -> Turn
+    requires { ⌜ CoreRoom (now core) (reached .at) 1 ⌝ }
+    ensures { λ r. ⌜ IfLeft (now (work .entry)) node tail wrap reached (now (core .entry)) (now (core .exit)) r ⌝ }
+{
+    if !lists::is_list_of(work, node, 4) {
+        return Turn::Over(leaf::refuse(13, reached));
+    }
+    Turn::Operands(tail, wrap, output::put_if(core, reached))
+}
+
+// A lambda's binders and words, past its tests: its body stands for it.
+pub fn lambda_body(
+    items: &[u32],
+    work: &mut [u32],
+    core: &mut [u32],
+    marks: &mut [u32],
+    node: u32,
+    wrap: u32,
+    reached: Reached,
+) -> Turn
+    requires { ⌜ (Roomy (now items) (now work) (now core) (now marks) node wrap reached) × (isLambda (treeAt (now items) (now work) node wrap) ≡ true) ⌝ }
+    ensures { λ r. ⌜ BoundLeft (treeAt (now (items .entry)) (now (work .entry)) node wrap) (now (items .entry)) reached (now (work .entry)) (now (work .exit)) (now (core .entry)) (now (core .exit)) r ⌝ }
+{
+    let first = reached.variables;
+    let count = lists::count(work, lists::element(work, node, 1));
+    let body = lists::element(work, node, 2);
+    let scope = binders::bind_formals(items, work, marks, node, wrap, first, reached.top);
+    let at = output::put_three(core, reached.at, 7, first, count);
+    Turn::Again(
+        body,
+        scope.wrap,
+        Reached {
+            top: scope.top,
+            at: at,
+            steps: reached.steps,
+            sum: reached.sum,
+            variables: first + count,
+            macros: reached.macros,
+        },
+    )
+}
+
+// (lambda (name ...) body)
+pub fn lambda(
+    items: &[u32],
+    work: &mut [u32],
+    core: &mut [u32],
+    marks: &mut [u32],
+    node: u32,
+    wrap: u32,
+    reached: Reached,
+) -> Turn
+    requires { ⌜ Roomy (now items) (now work) (now core) (now marks) node wrap reached ⌝ }
+    ensures { λ r. ⌜ LambdaLeft (treeAt (now (items .entry)) (now (work .entry)) node wrap) (now (items .entry)) reached (now (work .entry)) (now (work .exit)) (now (core .entry)) (now (core .exit)) r ⌝ }
+{
+    if !shapes::is_lambda(items, work, node) {
+        return Turn::Over(leaf::refuse(13, reached));
+    }
+    if !binders::formals_distinct(items, work, marks, node, wrap) {
+        return Turn::Over(leaf::refuse(14, reached));
+    }
+    lambda_body(items, work, core, marks, node, wrap, reached)
+}

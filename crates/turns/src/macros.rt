@@ -1,0 +1,143 @@
+// The rules of a form's macros, parsed once, when the form is reached. Bad is ground 15.
+
+ghost use mathlib.Core.Path.{_≡_};
+ghost use mathlib.Core.Bool.{true, cond};
+ghost use Rattle.expansion.specs.Forms.{isMacros};
+ghost use Rattle.arena.specs.Arena.{treeAt};
+ghost use Rattle.turns.specs.MacroRules.{OneAsk, OneLeft, AllAsk, AllLeft};
+ghost use Rattle.turns.specs.MacroTurns.{MacroRoom, KnownLeft, MacrosLeft};
+use crate::answers::Reached;
+use crate::answers::Turn;
+use crate::leaf;
+use arena::cells;
+use arena::lists;
+use forms::binders;
+use forms::shapes;
+use rule_cells::rules;
+use rule_cells::templates::Built;
+
+// The most macros of one form.
+pub const MACROS_MOST: u32 = 16;
+
+// The new top, or rules that break their rules.
+pub enum Read {
+    Good(u32),
+    Bad,
+}
+
+// The rules of macro `count`.
+pub fn one_macro(
+    items: &[u32],
+    work: &mut [u32],
+    macros: &mut [u32],
+    marks: &mut [u32],
+    form: u32,
+    w: u32,
+    count: u32,
+    top: u32,
+) -> Read
+    requires { ⌜ OneAsk (now items) (now work) (now macros) (now marks) form w count top ⌝ }
+    ensures { λ r. ⌜ OneLeft (treeAt (now (items .entry)) (now (work .entry)) form w) (now (items .entry)) (now (work .entry)) (now (work .exit)) (now (macros .entry)) (now (macros .exit)) count top r ⌝ }
+{
+    let Built::Good(at, upper) = rules::rules(items, work, marks, form, w, top) else {
+        return Read::Bad;
+    };
+    macros[count as usize] = at;
+    Read::Good(upper)
+}
+
+// The rules of each (name rules) of a list, as macros from `count` on.
+pub fn all_macros(
+    items: &[u32],
+    work: &mut [u32],
+    macros: &mut [u32],
+    marks: &mut [u32],
+    list: u32,
+    w: u32,
+    count: u32,
+    top: u32,
+) -> Read
+    requires { ⌜ AllAsk (now items) (now work) (now macros) (now marks) list w count top ⌝ }
+    ensures { λ r. ⌜ AllLeft (treeAt (now (items .entry)) (now (work .entry)) list w) (now (items .entry)) (now (work .entry)) (now (work .exit)) (now (macros .entry)) (now (macros .exit)) count top r ⌝ }
+{
+    if cells::word(work, list, 3) != cells::PAIR {
+        return Read::Good(top);
+    }
+    let entry = cells::reference(work, list, 2);
+    let rest = cells::reference(work, list, 1);
+    let form = lists::element(work, entry, 1);
+    let Read::Good(upper) = one_macro(items, work, macros, marks, form, w, count, top) else {
+        return Read::Bad;
+    };
+    all_macros(items, work, macros, marks, rest, w, count + 1, upper)
+}
+
+// The wrap of a form's rules: that of its scope, or the one round the form.
+pub fn rules_wrap(inside: bool, scope: u32, outer: u32) -> u32
+    ensures { λ r. ⌜ r ≡ cond inside scope outer ⌝ }
+{
+    if inside {
+        return scope;
+    }
+    outer
+}
+
+// A form's macros, past its tests: its body stands for it.
+pub fn macros_body(
+    items: &[u32],
+    work: &mut [u32],
+    macros: &mut [u32],
+    marks: &mut [u32],
+    node: u32,
+    wrap: u32,
+    inside: bool,
+    reached: Reached,
+) -> Turn
+    requires { ⌜ (MacroRoom (now items) (now work) (now macros) (now marks) node wrap reached) × (isMacros 16 (treeAt (now items) (now work) node wrap) ≡ true) ⌝ }
+    ensures { λ r. ⌜ KnownLeft (treeAt (now (items .entry)) (now (work .entry)) node wrap) inside (now (items .entry)) reached (now (work .entry)) (now (work .exit)) (now (macros .entry)) (now (macros .exit)) r ⌝ }
+{
+    let first = reached.macros;
+    let list = lists::element(work, node, 1);
+    let count = lists::count(work, list);
+    let body = lists::element(work, node, 2);
+    let scope = binders::bind_macros(items, work, marks, node, wrap, first, reached.top);
+    let w = rules_wrap(inside, scope.wrap, wrap);
+    let Read::Good(top) = all_macros(items, work, macros, marks, list, w, first, scope.top) else {
+        return Turn::Over(leaf::refuse(15, reached));
+    };
+    Turn::Again(
+        body,
+        scope.wrap,
+        Reached {
+            top: top,
+            at: reached.at,
+            steps: reached.steps,
+            sum: reached.sum,
+            variables: reached.variables,
+            macros: first + count,
+        },
+    )
+}
+
+// (let-syntax ((name rules) ...) body), and letrec-syntax, whose rules stand inside the scope
+pub fn let_syntax(
+    items: &[u32],
+    work: &mut [u32],
+    macros: &mut [u32],
+    marks: &mut [u32],
+    node: u32,
+    wrap: u32,
+    inside: bool,
+    reached: Reached,
+) -> Turn
+    requires { ⌜ MacroRoom (now items) (now work) (now macros) (now marks) node wrap reached ⌝ }
+    ensures { λ r. ⌜ MacrosLeft (treeAt (now (items .entry)) (now (work .entry)) node wrap) inside (now (items .entry)) reached (now (work .entry)) (now (work .exit)) (now (macros .entry)) (now (macros .exit)) r ⌝ }
+{
+    if !shapes::is_macros(items, work, node, MACROS_MOST) {
+        return Turn::Over(leaf::refuse(13, reached));
+    }
+    if !binders::keywords_distinct(items, work, marks, node, wrap) {
+        return Turn::Over(leaf::refuse(14, reached));
+    }
+    macros_body(items, work, macros, marks, node, wrap, inside, reached)
+}

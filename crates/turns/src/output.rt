@@ -1,0 +1,95 @@
+// Core words, written one after another.
+
+ghost use mathlib.Core.List.{[], _∷_};
+ghost use Rattle.turns.specs.Memory.{CoreRoom, Put, Moved, HeaderMoved};
+use crate::answers::Reached;
+use arena::lists;
+
+pub fn put_word(core: &mut [u32], at: u32, a: u32) -> u32
+    requires { ⌜ CoreRoom (now core) at 1 ⌝ }
+    ensures { λ r. ⌜ Put (a ∷ []) at (now (core .entry)) (now (core .exit)) r ⌝ }
+{
+    core[at as usize] = a;
+    at + 1
+}
+
+pub fn put_two(core: &mut [u32], at: u32, a: u32, b: u32) -> u32
+    requires { ⌜ CoreRoom (now core) at 2 ⌝ }
+    ensures { λ r. ⌜ Put (a ∷ b ∷ []) at (now (core .entry)) (now (core .exit)) r ⌝ }
+{
+    let next = put_word(core, at, a);
+    put_word(core, next, b)
+}
+
+pub fn put_three(core: &mut [u32], at: u32, a: u32, b: u32, c: u32) -> u32
+    requires { ⌜ CoreRoom (now core) at 3 ⌝ }
+    ensures { λ r. ⌜ Put (a ∷ b ∷ c ∷ []) at (now (core .entry)) (now (core .exit)) r ⌝ }
+{
+    let next = put_word(core, at, a);
+    put_two(core, next, b, c)
+}
+
+pub fn put_four(core: &mut [u32], at: u32, a: u32, b: u32, c: u32, d: u32) -> u32
+    requires { ⌜ CoreRoom (now core) at 4 ⌝ }
+    ensures { λ r. ⌜ Put (a ∷ b ∷ c ∷ d ∷ []) at (now (core .entry)) (now (core .exit)) r ⌝ }
+{
+    let next = put_two(core, at, a, b);
+    put_two(core, next, c, d)
+}
+
+// A node's two words; the numbers are carried on.
+pub fn put_node(core: &mut [u32], reached: Reached, a: u32, b: u32) -> Reached
+    requires { ⌜ CoreRoom (now core) (reached .at) 2 ⌝ }
+    ensures { λ r. ⌜ Moved (a ∷ b ∷ []) reached (now (core .entry)) (now (core .exit)) r ⌝ }
+{
+    let at = put_two(core, reached.at, a, b);
+    Reached {
+        top: reached.top,
+        at: at,
+        steps: reached.steps,
+        sum: reached.sum,
+        variables: reached.variables,
+        macros: reached.macros,
+    }
+}
+
+// The header of an application with a named head, which is a variable (code 0) or an operation (code 1): how many operands,
+// and the head.
+pub fn put_application(
+    work: &[u32],
+    core: &mut [u32],
+    list: u32,
+    code: u32,
+    number: u32,
+    reached: Reached,
+) -> Reached
+    requires { ⌜ CoreRoom (now core) (reached .at) 4 ⌝ }
+    ensures { λ r. ⌜ HeaderMoved list code number reached (now (work .entry)) (now (core .entry)) (now (core .exit)) r ⌝ }
+{
+    let count = lists::count(work, list);
+    let at = put_four(core, reached.at, 8, count, code, number);
+    Reached {
+        top: reached.top,
+        at: at,
+        steps: reached.steps,
+        sum: reached.sum,
+        variables: reached.variables,
+        macros: reached.macros,
+    }
+}
+
+// The word of an if.
+pub fn put_if(core: &mut [u32], reached: Reached) -> Reached
+    requires { ⌜ CoreRoom (now core) (reached .at) 1 ⌝ }
+    ensures { λ r. ⌜ Moved (6 ∷ []) reached (now (core .entry)) (now (core .exit)) r ⌝ }
+{
+    let at = put_word(core, reached.at, 6);
+    Reached {
+        top: reached.top,
+        at: at,
+        steps: reached.steps,
+        sum: reached.sum,
+        variables: reached.variables,
+        macros: reached.macros,
+    }
+}
