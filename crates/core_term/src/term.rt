@@ -1,5 +1,4 @@
 // A term's words, node by node.
-ghost use mathlib.Core.Path.{_≡_};
 ghost use Rattle.core_term.specs.Window.{goodName, window};
 ghost use Rattle.core_term.specs.Shape.{Shaped, Kept, Clear};
 use crate::flags::mark;

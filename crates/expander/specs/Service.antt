@@ -2,10 +2,11 @@
 -- every item table, fuel and pair of lent tables.
 use mathlib.Core.Path.{_≡_}
 use mathlib.Core.Bool.{cond}
-use mathlib.Core.List.{List, [], _++_}
-use Prim.Native.Nat.{ℕ, _-_}
+use mathlib.Core.List.{List, []}
+use Prim.Native.Nat.{ℕ}
 use lib.Dec.{leb}
-use lib.ListN.{length, replicate}
+use lib.ListN.{length}
+use Rattle.words.specs.Tables.{filled}
 use Rattle.expansion.specs.Run.{Outcome, accepted, turnedBack, unfinished, Run, run}
 use Rattle.expander.specs.declared.Expansion.{Expansion}
 use Rattle.expander.specs.declared.Expansion.the-variants.{Accepted, Refused}
@@ -32,10 +33,6 @@ unfoldable pub runNumbers : Run → Numbers
 runNumbers r = record { ground = groundOf (r .outcome); steps = r .steps; sum = r .sum; length = length (r .core) }
 
 -- ---- the tables
-
--- words, then zeros to the end of a lent table
-unfoldable pub filled : List ℕ → List ℕ → List ℕ
-filled words table = words ++ replicate (length table - length words) 0
 
 -- grounds 7 to 10 change no memory; past them a table ends zeroed but for the words it is to hold
 unfoldable pub leftBy : Outcome → List ℕ → List ℕ → List ℕ

@@ -30,7 +30,8 @@ use Rattle.turns.specs.declared.answers.Ended.{Ended}
 use Rattle.turns.specs.declared.answers.Ended.the-variants.{Done}
 use Rattle.turns.specs.declared.answers.Ended.the-variants as ends
 use Rattle.turns.specs.Turns.{operationsOf}
-use Rattle.expander.specs.Service.{Numbers, numbersOf, groundOf, runNumbers, filled, leftBy, coreAfter, workAfter, Served}
+use Rattle.expander.specs.Service.{Numbers, numbersOf, groundOf, runNumbers, leftBy, coreAfter, workAfter, Served}
+use Rattle.words.specs.Tables.{filled}
 use Rattle.expander.specs.Start.{Lends, endNumbers, Expanded, keptTo, Finished}
 
 -- ---- turned back before it begins

@@ -1,6 +1,6 @@
 -- From the answers and tables of reading and expansion to the output that the definitions give.
 use mathlib.Core.Path.{_≡_, refl, sym, ap, subst, _∙_}
-use mathlib.Core.List.{List, [], _++_}
+use mathlib.Core.List.{List, _++_}
 use Prim.Native.Nat.{ℕ, _*_, _-_, _≤_}
 use native.Mathlib.Omega.{arith}
 use lib.ListN.{length, take, replicate, length-append}
@@ -28,7 +28,8 @@ use Rattle.expansion.specs.Bounds.Gas.{run-finished}
 use Rattle.expansion.specs.Ways.Grounds.{TurnedBack, atOnce, later, run-ground}
 use Rattle.expander.specs.declared.Expansion.{Expansion}
 use Rattle.expander.specs.declared.Expansion.the-variants.{Accepted, Refused}
-use Rattle.expander.specs.Service.{Numbers, numbersOf, groundOf, runNumbers, filled, leftBy, coreAfter}
+use Rattle.expander.specs.Service.{Numbers, numbersOf, groundOf, runNumbers, leftBy, coreAfter}
+use Rattle.words.specs.Tables.{filled}
 use Rattle.output.specs.Output.{refusal, acceptance, printed, outputOf, filed}
 use Rattle.filing.specs.File.{printedRun}
 

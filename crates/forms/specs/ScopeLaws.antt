@@ -4,7 +4,7 @@ use mathlib.Core.Path.{_≡_, refl, sym, ap, ap₂, subst, _∙_}
 use mathlib.Core.Bool.{Bool, true, false, _&&_}
 use mathlib.Core.List.{List, [], _∷_, _++_}
 use mathlib.Core.Option.{some}
-use Prim.Native.Nat.{ℕ, suc, _+_, _*_, _^_, _≤_, _<_}
+use Prim.Native.Nat.{ℕ, suc, _+_, _^_, _≤_, _<_}
 use native.Mathlib.Omega.{arith}
 use native.Mathlib.Numerals.{add-one}
 use lib.Dec.{leb}
@@ -27,16 +27,6 @@ use Rattle.arena.specs.CellLaws.{tree-kept, tree-after}
 use Rattle.forms.specs.Shapes.{ownName, bindsOne}
 use Rattle.forms.specs.Binders.{AllNames, ownNames, namesIn, Proper, bindsTo, bindNames, Opened, Space, Scoped}
 use Rattle.forms.specs.BinderLaws.{binds-ordinary}
-
--- ---- keys
-
-pub key-macro : (macros : Bool) (n : ℕ) → macros ≡ true → 2 * n + 2 ≡ bindingKey (some (bindsTo macros n))
-unfolding bindingKey bindsTo
-key-macro macros n e = rw e (omega arith)
-
-pub key-variable : (macros : Bool) (n : ℕ) → macros ≡ false → 2 * n + 1 ≡ bindingKey (some (bindsTo macros n))
-unfolding bindingKey bindsTo
-key-variable macros n e = rw e (omega arith)
 
 -- ---- no name
 

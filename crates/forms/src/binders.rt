@@ -90,9 +90,9 @@ pub fn key_of(macros: bool, n: u32) -> u32
     ensures { λ r. ⌜ r ≡ bindingKey (some (bindsTo macros n)) ⌝ }
 {
     if macros {
-        return 2 * n + 2;
+        return names::macro_key(n);
     }
-    2 * n + 1
+    names::variable_key(n)
 }
 
 // The wrap that binds, and the new top.

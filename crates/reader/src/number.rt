@@ -2,10 +2,10 @@
 ghost use mathlib.Core.Path.{_≡_};
 ghost use mathlib.Core.Bool.{true};
 ghost use Prim.Native.Nat.{_≤_, min};
-ghost use lib.ListN.{length, drop};
+ghost use lib.ListN.{length};
 ghost use Rattle.words.specs.Lists.{all};
 ghost use Rattle.reading.specs.Token.{isDigit};
-ghost use Rattle.reading.specs.Meaning.{isNegative, isNumeral, unsigned, valueFrom, signed, integerOf};
+ghost use Rattle.reading.specs.Meaning.{isNumeral, valueFrom, signed, integerOf};
 ghost use Rattle.reader.specs.Code.Answers.{integerMeaning};
 use crate::bytes::is_digit;
 

@@ -1,10 +1,11 @@
 -- The meaning of reading: for a text and the lengths of the lent tables the answer, and what both tables hold afterwards.
 -- The interface is recipeOf, read, and the functions of read's answer below it; contracts are equations with these.
 use mathlib.Core.Bool.{_||_, cond}
-use mathlib.Core.List.{List, _++_, map}
-use Prim.Native.Nat.{ℕ, _-_}
+use mathlib.Core.List.{List, map}
+use Prim.Native.Nat.{ℕ}
 use lib.Dec.{ltb, leb}
 use lib.ListN.{length, replicate}
+use Rattle.words.specs.Tables.{filled}
 use Rattle.words.specs.Limits.{itemWordsLeast, nameBytesLeast, textBytesMost}
 use Rattle.datum.specs.Datum.{Data, noneD, datumItems, dataItems}
 use Rattle.datum.specs.NameTable.{slots}
@@ -69,10 +70,6 @@ itemWords r = dataWords 0 (r .elements)
 unfoldable pub nameBytes : Recipe → List ℕ
 unfolding slots
 nameBytes r = slots (r .names)
-
--- words, then zeros to the end of a lent table
-unfoldable pub filled : List ℕ → List ℕ → List ℕ
-filled ws table = ws ++ replicate (length table - length ws) 0
 
 -- a refused call: grounds 1 and 2 change nothing, the others zero the table
 unfoldable pub cleared : ℕ → List ℕ → List ℕ

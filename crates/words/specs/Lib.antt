@@ -3,6 +3,7 @@ pub mod Limits
 pub mod ListLaws
 pub mod Lists
 pub mod Parts
+pub mod Tables
 pub mod Options
 pub mod SignedLaws
 pub mod Text

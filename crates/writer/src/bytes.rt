@@ -1,5 +1,4 @@
 // Bytes laid into the output from a place on. Without ink nothing is laid: the same walk then tells the length.
-ghost use mathlib.Core.Path.{_≡_};
 ghost use mathlib.Core.List.{[], _∷_};
 ghost use Prim.Native.Nat.{_≤_};
 ghost use lib.ListN.{length};

@@ -13,7 +13,8 @@ use Rattle.reader.specs.declared.place.Step.the-variants as SV
 use Rattle.reader.specs.declared.element.Move.{Move}
 use Rattle.reader.specs.declared.element.Move.the-variants.{On, Done, Refused}
 use Rattle.reading.specs.Elements.{Answer, got, back, then, Reading, takesAll}
-use Rattle.reading.specs.Read.{Recipe, finished, itemWords, nameBytes, filled}
+use Rattle.reading.specs.Read.{Recipe, finished, itemWords, nameBytes}
+use Rattle.words.specs.Tables.{filled}
 use Rattle.reader.specs.Code.Told.{meaningsFrom}
 use Rattle.reader.specs.Code.Placed.{Holds}
 

@@ -18,7 +18,8 @@ use Rattle.reader.specs.declared.element.Move.the-variants.{Refused}
 use Rattle.reading.specs.Meaning.{Meaning, constant, refused}
 use Rattle.reading.specs.Numbering.{datumWords, dataWords}
 use Rattle.reading.specs.Elements.{Answer, got, back, then, Reading, onto, noneOpen, isComplete, counted, put, takes, takesAll}
-use Rattle.reading.specs.Read.{finished, itemWords, nameBytes, filled}
+use Rattle.reading.specs.Read.{finished, itemWords, nameBytes}
+use Rattle.words.specs.Tables.{filled}
 use Rattle.reader.specs.Code.Told.{meaningsFrom, Took}
 use Rattle.reader.specs.Code.Placed.{Holds, Stepped, withToken, TokenPut, itemsOf, wordsOf, itemsAround, wordsAround, nextItem, placed}
 use Rattle.reader.specs.Code.PlacedLaws.{onto-items, onto-words, length-words, zeros, refill}

@@ -18,7 +18,7 @@ use Rattle.reader.specs.declared.place.Step.the-variants.{Refused}
 use Rattle.reading.specs.Meaning.{name}
 use Rattle.reading.specs.Numbering.{numberOf, withName, datumWords}
 use Rattle.reading.specs.Elements.{Reading, counted, named, takes}
-use Rattle.reading.specs.Read.{filled}
+use Rattle.words.specs.Tables.{filled}
 use Rattle.reading.specs.AcceptedLaws.{number-most}
 use Rattle.reader.specs.Code.Stored.{namesIn, stored}
 use Rattle.reader.specs.Code.StoredLaws.{names-in, length-names-in, short-more, stored-filled, stored-length}

@@ -17,7 +17,7 @@ use Rattle.reading.specs.Numbering.{datumWords}
 use Rattle.reading.specs.Meaning.{begins, ends, name}
 use Rattle.reading.specs.Elements.{Answer, got, back, Reading, noneOpen, begin, takes}
 use Rattle.reading.specs.Laws.Elements.{Within}
-use Rattle.reading.specs.Read.{filled}
+use Rattle.words.specs.Tables.{filled}
 
 -- ---- items
 

@@ -8,7 +8,7 @@ use lib.Seq.{set-at, getD-at}
 use Rattle.datum.specs.Datum.{Datum, Data, constantD, nameD, listD, noneD, moreD, datumItems, dataItems}
 use Rattle.reading.specs.Numbering.{datumWords, dataWords}
 use Rattle.reading.specs.Elements.{Reading, onto}
-use Rattle.reading.specs.Read.{filled}
+use Rattle.words.specs.Tables.{filled}
 use Rattle.reader.specs.Code.Placed.{put3, itemsOf, wordsOf, itemsAround, openPair, wordsAround, nextItem, placed}
 
 -- ---- three words an item

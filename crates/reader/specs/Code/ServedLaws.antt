@@ -26,13 +26,13 @@ use Rattle.reading.specs.Read.{
   groundOf,
   itemCount,
   nameCount,
-  filled,
   cleared,
   itemWords,
   nameBytes,
   itemsAfter,
   namesAfter,
 }
+use Rattle.words.specs.Tables.{filled}
 use Rattle.reader.specs.Code.Stored.{NameTable}
 use Rattle.reader.specs.Code.Told.{meaningsFrom}
 use Rattle.reader.specs.Code.Placed.{Holds, itemsOf, itemsAround, wordsOf, wordsAround, openPair, nextItem, placed}

@@ -33,7 +33,7 @@ use Rattle.reading.specs.Elements.{
   takes,
 }
 use Rattle.reading.specs.Laws.Elements.{Within, within-is, begin-is}
-use Rattle.reading.specs.Read.{filled}
+use Rattle.words.specs.Tables.{filled}
 use Rattle.reader.specs.Code.Placed.{
   put3,
   itemsOf,

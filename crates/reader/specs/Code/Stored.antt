@@ -9,7 +9,7 @@ use Rattle.words.specs.Limits.{nameBytesLeast}
 use Rattle.words.specs.Lists.{all}
 use Rattle.datum.specs.NameTable.{slots, nameAt}
 use Rattle.datum.specs.NameTableLaws.{isShort}
-use Rattle.reading.specs.Read.{filled}
+use Rattle.words.specs.Tables.{filled}
 
 -- what k slots from slot n on spell
 unfoldable pub namesIn : List ℕ → ℕ → ℕ → List (List ℕ)

@@ -12,7 +12,7 @@ use Rattle.words.specs.Lists.{equal, all}
 use Rattle.words.specs.ListLaws.{either, equal-true, all-append}
 use Rattle.datum.specs.NameTable.{slot, slots, lengthAt, nameAt}
 use Rattle.datum.specs.NameTableLaws.{isShort, length-slots, slots-append, name-at}
-use Rattle.reading.specs.Read.{filled}
+use Rattle.words.specs.Tables.{filled}
 use Rattle.reading.specs.Numbering.{numberOf}
 use Rattle.reader.specs.Code.Stored.{namesIn, stored, NameTable, FourStored}
 

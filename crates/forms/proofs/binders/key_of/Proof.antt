@@ -2,32 +2,33 @@
 use borrow.Author.Needs.{needs}
 use Rattle.forms.proofs.binders.key_of.Statement.{statement}
 use Rattle.forms.proofs.binders.key_of.Tie as tie
-use Rattle.forms.specs.ScopeLaws.{key-macro, key-variable}
+use Rattle.forms.proofs.binders.key_of.Reads as reads
+use Rattle.forms.proofs.binders.key_of.Lts as lts
+use Rattle.arena.proofs.names.macro_key.Reads as macro-key-reads
+use Rattle.arena.proofs.names.variable_key.Reads as variable-key-reads
+use Rattle.forms.specs.Binders.{bindsTo}
 
-mul-result : tie.Need-mul-result
-mul-result c =
+-- src/binders.rt:93:9
+macro-key-requires : tie.Need-macro-key-requires
+macro-key-requires c κs =
     search needs
 
-add-result : tie.Need-add-result
-add-result c =
-    search needs
-
+-- src/binders.rt:93:9
 returns : tie.Need-returns
+unfolding bindsTo
 returns c =
-    key-macro (c .before .args .macros) (c .before .args .n) (c .if1 .taken)
+    rw (c .before .if1 .taken) (c .macro-key .ensures)
 
-mul-result-2 : tie.Need-mul-result-2
-mul-result-2 c =
+-- src/binders.rt:95:5
+variable-key-requires : tie.Need-variable-key-requires
+variable-key-requires c κs =
     search needs
 
-add-result-2 : tie.Need-add-result-2
-add-result-2 c =
-    search needs
-
+-- src/binders.rt:88:1
 returns-2 : tie.Need-returns-2
+unfolding bindsTo
 returns-2 c =
-    key-variable (c .before .args .macros) (c .before .args .n) (c .if1 .left)
+    rw (c .before .if1 .left) (c .variable-key .ensures)
 
 pub key-of-spec : {M : Type 1} → statement M
-key-of-spec =
-    tie.close (tie.spec mul-result add-result returns mul-result-2 add-result-2 returns-2)
+key-of-spec = tie.close (tie.spec macro-key-requires returns variable-key-requires returns-2)
