@@ -3,9 +3,9 @@ use mathlib.Core.Path.{_≡_, refl, sym, ap, subst, _∙_}
 use mathlib.Core.Bool.{true}
 use mathlib.Core.List.{List, [], _∷_, _++_, append-nil}
 use mathlib.Core.Option.{some}
-use Prim.Native.Nat.{ℕ, _+_, _≤_}
+use Prim.Native.Nat.{ℕ, _+_}
 use native.Mathlib.Omega.{arith}
-use lib.ListN.{length, replicate, length-append}
+use lib.ListN.{length, replicate}
 use Rattle.core_term.specs.Node.{Got, got, missing}
 use Rattle.core_term.specs.Term.{Term, variableC, operationC, datumC, ifC, lambdaC, applicationC, noneC, moreC, Plain, Plains, forget, forgetAll}
 use Rattle.core_term.specs.Words.{encode}
@@ -65,21 +65,3 @@ encode-unique t u r s b c p q e =
     let y : termAt n (encode u ++ s) ≡ got u s = rw (forget-plain u) at (term-round u n c s q (omega arith)) in
     let z : got t r ≡ got u s = sym x ∙ ap (termAt n) e ∙ y in
     (cc, cc)
-
--- ---- gas
-
--- any gas from the count of the words on gives the same
-pub gas-any : (n m : ℕ) (ws : List ℕ) → length ws ≤ n → length ws ≤ m → termAt n ws ≡ termAt m ws
-gas-any n m ws h k = go (termAt n ws) (termAt m ws) refl refl
-  where
-    more : (n : ℕ) (t : Plain) (r : List ℕ) (m : ℕ) → length ws ≤ m → termAt n ws ≡ got t r → termAt m ws ≡ got t r
-    more n t r m l e =
-        let s = term-read n ws t r e in
-        let q : length (encode t) ≤ m = omega (arith, ap length (s .words) ∙ length-append (encode t) r) in
-        let b : termAt m (encode t ++ r) ≡ got t r = rw (forget-plain t) at (term-round t m 0 r (s .fine 0) q) in
-        ap (termAt m) (s .words) ∙ b
-
-    go : (a b : Got Plain) → termAt n ws ≡ a → termAt m ws ≡ b → termAt n ws ≡ termAt m ws
-    go (got t r) b e f = e ∙ sym (more n t r m k e)
-    go missing (got t r) e f = more m t r n h f ∙ sym f
-    go missing missing e f = e ∙ sym f

@@ -6,11 +6,10 @@ use Prim.Native.Nat.{ℕ, suc, _-_, _*_, _<_, _≤_}
 use native.Mathlib.Omega.{arith}
 use lib.Dec.{eqb, ltb}
 use lib.ListN.{length, drop}
-use borrow.Author.Tests.{eqb-true, eqb-false, ne-eqb, ltb-true}
+use borrow.Author.Tests.{eqb-true, eqb-false, ltb-true}
 use Rattle.words.specs.Limits.{namesMost, itemsLeast, itemsMost}
 use Rattle.words.specs.Lists.{within, all}
 use Rattle.words.specs.TestLaws.{and-left, and-right, within-least, within-most, all-head, all-drop}
-use Rattle.datum.specs.Constant.{isConstant}
 use Rattle.recipe.specs.Name.{plainName}
 use Rattle.recipe.specs.Tree.{empty, constant, name, pair, isList, isListOf, elements, element}
 use Rattle.recipe.specs.Table.{items, byKind, constantOf, kindAt, isPairItem, isItem, treeOf, itemCount, isLayout}
@@ -104,10 +103,6 @@ module _ (ws : List ℕ) (l : Layout ws) (i : ℕ) (h : i < itemCount ws) where
   pub layoutName : kindAt ws i ≡ 3 → headAt ws i < namesMost
   layoutName k = nameItem ws (itemCount ws) i (l .good i h) h k
 
-  pub layoutConstant : (kindAt ws i ≡ 0 → ⊥) → (kindAt ws i ≡ 3 → ⊥) → (kindAt ws i ≡ 4 → ⊥) → isConstant (constantOf (itemAt ws i)) ≡ true
-  unfolding isItem itemAt byKind kindAt
-  layoutConstant a b c = rw (ne-eqb (kindAt ws i) 0 a, ne-eqb (kindAt ws i) 3 b, ne-eqb (kindAt ws i) 4 c) at (l .good i h)
-
   pub emptyTree : kindAt ws i ≡ 0 → treeFrom ws i ≡ empty
   emptyTree k = from-empty ws (itemCount ws) i (l .long) h k
 
@@ -122,15 +117,13 @@ module _ (ws : List ℕ) (l : Layout ws) (i : ℕ) (h : i < itemCount ws) where
 
 -- ---- item 0 begins the list of the two elements
 
--- the items of the two elements
+-- the item of the first element, and the pair of the second
 pub record Root (ws : List ℕ) : Type 0 where
   pub kind : kindAt ws 0 ≡ 4
   pub kind2 : kindAt ws (tailAt ws 0) ≡ 4
   pub below : headAt ws 0 < itemCount ws
-  pub below2 : headAt ws (tailAt ws 0) < itemCount ws
   pub listKind : isListKind (kindAt ws (headAt ws 0)) ≡ true
   pub element0 : element 0 (treeOf ws) ≡ treeFrom ws (headAt ws 0)
-  pub element1 : element 1 (treeOf ws) ≡ treeFrom ws (headAt ws (tailAt ws 0))
 
 module _ (ws : List ℕ) (l : Layout ws) where
   -- item i begins at least one element
@@ -151,16 +144,11 @@ module _ (ws : List ℕ) (l : Layout ws) where
       let t : treeFrom ws 0 ≡ pair (treeFrom ws (headAt ws 0)) (treeFrom ws (tailAt ws 0)) = pairTree ws l 0 z k in
       let s2 : suc (length (elements (treeFrom ws (tailAt ws 0)))) ≡ 2 = rw t at s in
       let k2 : kindAt ws (tailAt ws 0) ≡ 4 = isPair (tailAt ws 0) 0 (p .tailBelow) (omega (arith, s2)) in
-      let p2 : PairItem ws (itemCount ws) (tailAt ws 0) = layoutPair ws l (tailAt ws 0) (p .tailBelow) k2 in
-      let t2 : treeFrom ws (tailAt ws 0) ≡ pair (treeFrom ws (headAt ws (tailAt ws 0))) (treeFrom ws (tailAt ws (tailAt ws 0))) = pairTree ws l (tailAt ws 0) (p .tailBelow) k2 in
       let e0 : element 0 (treeOf ws) ≡ treeFrom ws (headAt ws 0) = rw t in
-      let e1 : element 1 (treeOf ws) ≡ treeFrom ws (headAt ws (tailAt ws 0)) = rw (t, t2) in
       record {
         kind = k;
         kind2 = k2;
         below = p .headBelow;
-        below2 = p2 .headBelow;
         listKind = sym (ap isList e0 ∙ from-isList ws (itemCount ws) (headAt ws 0) (l .long) (p .headBelow)) ∙ l .first;
         element0 = e0;
-        element1 = e1;
       }
