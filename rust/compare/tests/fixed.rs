@@ -73,3 +73,25 @@ fn examples() {
         assert_eq!(file(&recipe, 512), output, "{}", String::from_utf8_lossy(&recipe));
     }
 }
+
+/// A name with hundreds of marks, more than a small table of marks in hand has room for, bound and referred to.
+#[test]
+fn many_marks() {
+    let counted = |i: usize| {
+        let rules: String = (0..15).map(|k| format!("((_ x {k} j) (m{i} x {} j))", k + 1)).collect();
+        let next = if i < 9 { format!("(m{} x 0 j)", i + 1) } else { "(n x j)".to_string() };
+        format!("(m{i} (syntax-rules () {rules} ((_ x 15 j) {next})))")
+    };
+    let macros: String = (0..10).map(counted).collect();
+    let rounds: String = (0..4).map(|j| format!("((_ x {j}) (m0 x 0 {}))", j + 1)).collect();
+    let n = format!("(n (syntax-rules () {rounds} ((_ x 4) (lambda (x) x))))");
+    let recipe = format!("() (letrec-syntax ({macros} {n}) (m0 y 0 0))");
+    let items = text::read(recipe.as_bytes()).expect(&recipe).words();
+    let (work, core) = grebetallboy::table_words(items.len() / 3, 8_192);
+    let run = reference::expand::run(&items, 8_192, work, core);
+    let (mut work, mut core) = (vec![3; work], vec![3; core]);
+    let own = grebetallboy::expand(&items, 8_192, &mut work, &mut core).expect("accepted");
+    assert_eq!((own.steps, own.sum, &core[..own.length]), (run.steps, run.sum, &run.core[..]));
+    assert_eq!(core[..own.length], [7, 0, 1, 0, 0], "(lambda (v0) v0)");
+    assert!(2 * own.steps > 3 * 512, "{} steps", own.steps);
+}
