@@ -137,14 +137,14 @@ module _ (text items items′ names names′ : List ℕ) (r : Reading) (s : Serv
     is-read = recipe-read i n h .1
 
     pub items-front : (3 * i ≤ length items′) × (take (3 * i) items′ ≡ itemWords recipe)
-    unfolding itemsAfter Read.filled itemWords
+    unfolding itemsAfter filled itemWords
     items-front =
         front (itemWords recipe) (replicate (length items - length (itemWords recipe)) 0) items′ (3 * i)
         (s .items ∙ ap (λ (a : Answer Recipe). itemsAfter a items) is-read)
         (omega (arith, data-length 0 (recipe .elements), recipe-read i n h .2))
 
     pub names-front : (slotSize * n ≤ length names′) × (take (slotSize * n) names′ ≡ nameBytes recipe)
-    unfolding namesAfter Read.filled
+    unfolding namesAfter filled
     names-front =
         front (nameBytes recipe) (replicate (length names - length (nameBytes recipe)) 0) names′ (slotSize * n)
         (s .names ∙ ap (λ (a : Answer Recipe). namesAfter a names) is-read)
