@@ -69,13 +69,26 @@ module _ (items work : List ℕ) (t tag head rest : ℕ) (tag-is : tag ≡ wordA
 
 -- ---- all of a template
 
+below-true : (f : ℕ → Bool) (c : ℕ) → ((k : ℕ) → true ≡ f k) → true ≡ allBelow f c
+unfolding allBelow
+below-true f zero h = refl
+below-true f (suc c) h = rw (← below-true f c h, ← h c) refl
+
 module _ (work : List ℕ) (p u n outer inner : ℕ) where
   module _ (t tag : ℕ) (tag-is : tag ≡ wordAt work t 1) where
-    pub agree-leaf : (tag ≡ 6 → ⊥) → (tag ≡ 7 → ⊥) → LengthsAgree work p u n outer inner t true
-    unfolding equalLengths
-    agree-leaf n6 n7 items w x =
-        leaf-cell (λ s. true ≡ equalLengths (patternAt items work p) (treeAt items work u w) (indices n outer inner) s)
-        (λ k d. refl) (λ y. refl) (λ a. refl) refl items work t tag tag-is n6 n7
+    -- nothing is looked for in a cell without parts
+    module _ (n6 : tag ≡ 6 → ⊥) (n7 : tag ≡ 7 → ⊥) where
+      leaf-agrees : (items : List ℕ) (w : ℕ) (is : List ℕ) → true ≡ equalLengths (patternAt items work p) (treeAt items work u w) is (templateAt items work t)
+      unfolding equalLengths
+      leaf-agrees items w is =
+          leaf-cell (λ s. true ≡ equalLengths (patternAt items work p) (treeAt items work u w) is s)
+          (λ k d. refl) (λ y. refl) (λ a. refl) refl items work t tag tag-is n6 n7
+
+      pub agree-leaf : LengthsAgree work p u n outer inner t true
+      agree-leaf items w x = leaf-agrees items w _
+
+      pub copies-leaf : (c : ℕ) → CopiesAgree work p u n outer inner t c true
+      copies-leaf c items w x = below-true _ c (λ k. leaf-agrees items w _)
 
     module _ (head rest : ℕ) (head-is : head ≡ referenceAt work t 3) (rest-is : rest ≡ referenceAt work t 2) where
       pub agree-head-no : (b : Bool) → tag ≡ 6 → LengthsAgree work p u n outer inner head b → b ≡ false → LengthsAgree work p u n outer inner t false

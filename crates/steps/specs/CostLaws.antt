@@ -5,19 +5,21 @@ use Prim.Native.Nat.{ℕ, zero, suc, _+_, _-_, _≤_, _<_}
 use native.Mathlib.Omega.{arith}
 use lib.Dec.{ltb}
 use borrow.Author.Tests.{lt-ltb, ltb-true, ltb-false}
-use Rattle.recipe.specs.Tree.{Tree, pair, size}
+use Rattle.recipe.specs.Tree.{Tree, pair, size, element, tail}
+use Rattle.recipe.specs.TreeLaws.{element-tail}
 use Rattle.expansion.specs.Transcribe.{copies, transcribe}
 use Rattle.arena.specs.Arena.{wordAt, referenceAt, treeAt}
 use Rattle.arena.specs.ArenaLaws.{cases}
 use Rattle.arena.specs.NodeLaws.{treeAt-pair}
-use Rattle.rule_cells.specs.Cells.{patternAt}
+use Rattle.rule_cells.specs.Cells.{patternAt, templateAt}
 use Rattle.rule_cells.specs.CellLaws.{templateAt-variable}
+use Rattle.arena.specs.Lists.{Means}
 use Rattle.arena.specs.ListLaws.{no-pair}
-use Rattle.steps.specs.Parts.{indices, Taken}
-use Rattle.steps.specs.Plain.{deepen, indices-more, transcribe-two}
+use Rattle.steps.specs.Parts.{indices, Taken, Listed}
+use Rattle.steps.specs.Plain.{Plain, deepen, indices-more, transcribe-two}
 use Rattle.steps.specs.Lengths.{Copies}
 use Rattle.steps.specs.AgreeLaws.{leaf-other, pair-is, ellipsis-is, pair-plain, ellipsis-plain}
-use Rattle.steps.specs.Cost.{capped, Below, copyOf, added, Sized, Costs, CopiesCost}
+use Rattle.steps.specs.Cost.{capped, Below, copyOf, added, Sized, Costs, CopiesCost, Ahead}
 
 -- ---- counting
 
@@ -116,20 +118,51 @@ module _ (work : List ℕ) (p u n outer inner e acc limit : ℕ) where
             (λ t. q ∙ rw (t, lt-ltb limit z (omega (arith, ltb-true limit y t))) refl)
             (λ t. let d : a ≡ y = q ∙ rw t refl in absurd (omega (arith, ltb-false limit y t)))
 
-    pub copies-next : (m r : ℕ) → m ≡ deepen n → Costs work p u m inner k e (a + 1) limit r → CopiesCost work p u n outer inner e (k + 1) acc limit r
-    unfolding added copyOf
-    copies-next m r m-is g =
+    -- one more, of which r is the count
+    copies-more : (r : ℕ) → ((items : List ℕ) (w : ℕ) → Plain (templateAt items work e) → r ≡ capped limit (a + 1 + size (copyOf items work p u w (k ∷ indices n outer inner) e))) → r ≤ limit + 1 → CopiesCost work p u n outer inner e (k + 1) acc limit r
+    unfolding added
+    copies-more r g h =
         record {
           is = λ items w x.
               let f : ℕ → Tree = λ i. copyOf items work p u w (i ∷ indices n outer inner) e in
               let s : k + 1 ≡ suc k = omega arith in
-              let t : size (copyOf items work p u w (indices m inner k) e) ≡ size (f k)
-              = ap size (sym (transcribe-two (patternAt items work p) (treeAt items work u w) _ _ x (indices-more n outer inner k ∙ rw (← m-is) refl))) in
               counted limit (acc + added f k) (1 + size (f k)) _ a r (inv .is items w x)
-              (g .is items w x ∙ ap (capped limit) (omega arith))
+              (g items w x ∙ ap (capped limit) (omega arith))
               (rw s (omega arith));
-          most = g .most;
+          most = h;
         }
+
+    pub copies-next : (m r : ℕ) → m ≡ deepen n → Costs work p u m inner k e (a + 1) limit r → CopiesCost work p u n outer inner e (k + 1) acc limit r
+    unfolding copyOf
+    copies-next m r m-is g =
+        copies-more r
+        (λ items w x.
+        g .is items w x
+        ∙ ap (λ (t : Tree). capped limit (a + 1 + size t)) (sym (transcribe-two (patternAt items work p) (treeAt items work u w) _ _ x (indices-more n outer inner k ∙ rw (← m-is) refl))))
+        (g .most)
+
+    pub copies-element : (node first r : ℕ) → (node ≡ 0 → ⊥) → Ahead work p u e k node → Means work node first (element 0) → Sized work first (a + 1) limit r → CopiesCost work p u n outer inner e (k + 1) acc limit r
+    copies-element node first r some h m g =
+        let s : k + 0 ≡ k = omega arith in
+        copies-more r
+        (λ items w x.
+        g .is items w
+        ∙ ap (λ (t : Tree). capped limit (a + 1 + size t)) (m .is items w ∙ sym (h some items w 0 (indices n outer inner)) ∙ rw s refl))
+        (g .most)
+
+-- the rest of the list whose elements are the copies
+module _ (work : List ℕ) (p u e : ℕ) where
+  pub ahead-begins : (list : ℕ) → Listed work p u e list → Ahead work p u e 0 list
+  unfolding copyOf
+  ahead-begins list l some items w i is = let z : 0 + i ≡ i = omega arith in rw z (l .is-copy some items w i is)
+
+  pub ahead-none : (k node : ℕ) → node ≡ 0 → Ahead work p u e k node
+  ahead-none k node z some = absurd (some z)
+
+  pub ahead-more : (k node rest : ℕ) → (node ≡ 0 → ⊥) → Ahead work p u e k node → Means work node rest tail → Ahead work p u e (k + 1) rest
+  ahead-more k node rest some h m also items w i is =
+      let s : k + 1 + i ≡ k + suc i = omega arith in
+      rw (s, m .is items w) (h some items w (suc i) is ∙ sym (element-tail i _))
 
 -- ---- templates
 

@@ -11,6 +11,7 @@ pub mod Cost
 pub mod CostLaws
 pub mod Build
 pub mod BuildLaws
+pub mod ElementLaws
 pub mod ResultLaws
 pub mod PlainRules
 pub mod Apply

@@ -45,7 +45,7 @@ pub fn lengths_agree(work: &[u32], p: u32, u: u32, n: u32, outer: u32, inner: u3
     lengths_agree(work, p, u, n, outer, inner, rest)
 }
 
-// Whether they are in each of c copies of an element.
+// Whether they are in each of c copies of an element. A cell without parts has no driving lists in it.
 pub fn copies_agree(
     work: &[u32],
     p: u32,
@@ -58,6 +58,13 @@ pub fn copies_agree(
 ) -> bool
     ensures { λ r. ⌜ CopiesAgree (now (work .entry)) p u n outer inner e c r ⌝ }
 {
+    let tag = cells::word(work, e, cells::TAG);
+    if tag < rule_cells::cells::PAIR {
+        return true;
+    }
+    if rule_cells::cells::ELLIPSIS < tag {
+        return true;
+    }
     let m = deepen(n);
     let mut k = 0;
     while k < c {

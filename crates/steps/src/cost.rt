@@ -6,6 +6,7 @@ use crate::agree;
 use crate::lengths;
 use crate::parts;
 use arena::cells;
+use arena::lists;
 
 // The items of a tree.
 pub fn size(work: &[u32], node: u32, acc: u32, limit: u32) -> u32
@@ -63,7 +64,7 @@ pub fn cost(
     cost(work, p, u, n, outer, inner, rest, sum, limit)
 }
 
-// The items of c copies of an element, each with its pair.
+// The items of c copies of an element, each with its pair. Where the copies are the elements of a list, `node` is the rest of it.
 pub fn copies_cost(
     work: &[u32],
     p: u32,
@@ -80,13 +81,19 @@ pub fn copies_cost(
     ensures { λ r. ⌜ CopiesCost (now (work .entry)) p u n outer inner e c acc limit r ⌝ }
 {
     let m = agree::deepen(n);
+    let mut node = parts::listed(work, p, u, e);
     let mut sum = acc;
     let mut k = 0;
     while k < c {
         if limit < sum {
             return sum;
         }
-        sum = cost(work, p, u, m, inner, k, e, sum + 1, limit);
+        if node == 0 {
+            sum = cost(work, p, u, m, inner, k, e, sum + 1, limit);
+        } else {
+            sum = size(work, lists::first(work, node), sum + 1, limit);
+            node = lists::rest(work, node);
+        }
         k += 1;
     }
     sum

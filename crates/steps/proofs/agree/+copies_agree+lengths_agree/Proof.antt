@@ -18,7 +18,7 @@ use Rattle.steps.proofs.agree.+copies_agree+lengths_agree.Tie.{close}
 use borrow.Author.Tests.{not-true, not-false}
 use Rattle.steps.specs.PartLaws.{tag-falls}
 use Rattle.steps.specs.Lengths.{CopiesAgree}
-use Rattle.steps.specs.AgreeLaws.{agree-leaf, agree-head-no, agree-tail, agree-differ, agree-copies-no, agree-rest, begun-copies, copies-no, copies-more}
+use Rattle.steps.specs.AgreeLaws.{agree-leaf, copies-leaf, agree-head-no, agree-tail, agree-differ, agree-copies-no, agree-rest, begun-copies, copies-no, copies-more}
 use native.Mathlib.Omega.{arith}
 use borrow.Author.Needs.{needs}
 use mathlib.Core.Path.{_≡_, subst}
@@ -57,15 +57,27 @@ lengths-agree-below t =
     lengths-agree.Pre
 
 abbrev copies-agree-Inv-loop : copies-agree-lts.InvT-loop
-copies-agree-Inv-loop work p u n outer inner e c m k₀ k =
+copies-agree-Inv-loop work p u n outer inner e c tag m k₀ k =
     (k ≤ c) × CopiesAgree work p u n outer inner e k true
 
 abbrev copies-agree-μ-loop : copies-agree-lts.MeasureT-loop
-copies-agree-μ-loop work p u n outer inner e c m k₀ k =
+copies-agree-μ-loop work p u n outer inner e c tag m k₀ k =
     c - k
 
 abbrev copies-agree-claims : ℕ → copies-agree-lts.Claims
-copies-agree-claims t = (deepen-reads.Asked, deepen-reads.Learnt, lengths-agree-below t, lengths-agree.Post)
+copies-agree-claims t = (word-reads.Asked, word-reads.Learnt, deepen-reads.Asked, deepen-reads.Learnt, lengths-agree-below t, lengths-agree.Post)
+
+copies-agree-word-requires : (t : ℕ) → copies-agree-lts.Need-word-requires (copies-agree-claims t) (copies-agree-at t) copies-agree.Post copies-agree-Inv-loop copies-agree-μ-loop
+copies-agree-word-requires t c κs =
+    search needs
+
+copies-agree-returns : (t : ℕ) → copies-agree-lts.Need-returns (copies-agree-claims t) (copies-agree-at t) copies-agree.Post copies-agree-Inv-loop copies-agree-μ-loop
+copies-agree-returns t c =
+    let a = c .before .before .before .args in copies-leaf (a .work .now) (a .p) (a .u) (a .n) (a .outer) (a .inner) (a .e) _ (c .before .word .ensures) (λ z. omega arith) (λ z. omega arith) (a .c)
+
+copies-agree-returns-2 : (t : ℕ) → copies-agree-lts.Need-returns-2 (copies-agree-claims t) (copies-agree-at t) copies-agree.Post copies-agree-Inv-loop copies-agree-μ-loop
+copies-agree-returns-2 t c =
+    let a = c .before .before .before .before .args in copies-leaf (a .work .now) (a .p) (a .u) (a .n) (a .outer) (a .inner) (a .e) _ (c .before .before .word .ensures) (λ z. omega arith) (λ z. omega arith) (a .c)
 
 copies-agree-deepen-requires : (t : ℕ) → copies-agree-lts.Need-deepen-requires (copies-agree-claims t) (copies-agree-at t) copies-agree.Post copies-agree-Inv-loop copies-agree-μ-loop
 copies-agree-deepen-requires t c κs =
@@ -73,15 +85,15 @@ copies-agree-deepen-requires t c κs =
 
 copies-agree-loop-holds : (t : ℕ) → copies-agree-lts.Need-loop-holds (copies-agree-claims t) (copies-agree-at t) copies-agree.Post copies-agree-Inv-loop copies-agree-μ-loop
 copies-agree-loop-holds t c =
-    let a = c .before .before .args in (omega arith, begun-copies (a .work .now) (a .p) (a .u) (a .n) (a .outer) (a .inner) (a .e))
+    let a = c .before .before .before .before .before .args in (omega arith, begun-copies (a .work .now) (a .p) (a .u) (a .n) (a .outer) (a .inner) (a .e))
 
 copies-agree-lengths-agree-requires : (t : ℕ) → copies-agree-lts.Need-lengths-agree-requires (copies-agree-claims t) (copies-agree-at t) copies-agree.Post copies-agree-Inv-loop copies-agree-μ-loop
 copies-agree-lengths-agree-requires t c κs =
-    omega (arith, c .before .before .before .before .pre .0)
+    omega (arith, c .before .before .before .before .before .before .before .pre .0)
 
-copies-agree-returns : (t : ℕ) → copies-agree-lts.Need-returns (copies-agree-claims t) (copies-agree-at t) copies-agree.Post copies-agree-Inv-loop copies-agree-μ-loop
-copies-agree-returns t c =
-    let a = c .before .before .before .before .before .before .args in copies-no (a .work .now) (a .p) (a .u) (a .n) (a .outer) (a .inner) (a .e) _ (c .before .before .before .loop .k) _ (c .before .before .before .before .deepen .ensures) (c .before .lengths-agree .ensures) (a .c) (omega arith) (not-true _ (c .if1 .taken))
+copies-agree-returns-3 : (t : ℕ) → copies-agree-lts.Need-returns-3 (copies-agree-claims t) (copies-agree-at t) copies-agree.Post copies-agree-Inv-loop copies-agree-μ-loop
+copies-agree-returns-3 t c =
+    let a = c .before .before .before .before .before .before .before .before .before .args in copies-no (a .work .now) (a .p) (a .u) (a .n) (a .outer) (a .inner) (a .e) _ (c .before .before .before .loop .k) _ (c .before .before .before .before .deepen .ensures) (c .before .lengths-agree .ensures) (a .c) (omega arith) (not-true _ (c .if3 .taken))
 
 copies-agree-add-k : (t : ℕ) → copies-agree-lts.Need-add-k (copies-agree-claims t) (copies-agree-at t) copies-agree.Post copies-agree-Inv-loop copies-agree-μ-loop
 copies-agree-add-k t c =
@@ -93,11 +105,11 @@ copies-agree-loop-less t c =
 
 copies-agree-loop-again : (t : ℕ) → copies-agree-lts.Need-loop-again (copies-agree-claims t) (copies-agree-at t) copies-agree.Post copies-agree-Inv-loop copies-agree-μ-loop
 copies-agree-loop-again t c =
-    let a = c .before .before .before .before .before .before .args in (omega arith, copies-more (a .work .now) (a .p) (a .u) (a .n) (a .outer) (a .inner) (a .e) _ (c .before .before .before .loop .k) _ (c .before .before .before .before .deepen .ensures) (c .before .lengths-agree .ensures) (not-false _ (c .if1 .left)) (c .before .before .before .loop .inv .1))
+    let a = c .before .before .before .before .before .before .before .before .before .args in (omega arith, copies-more (a .work .now) (a .p) (a .u) (a .n) (a .outer) (a .inner) (a .e) _ (c .before .before .before .loop .k) _ (c .before .before .before .before .deepen .ensures) (c .before .lengths-agree .ensures) (not-false _ (c .if3 .left)) (c .before .before .before .loop .inv .1))
 
-copies-agree-returns-2 : (t : ℕ) → copies-agree-lts.Need-returns-2 (copies-agree-claims t) (copies-agree-at t) copies-agree.Post copies-agree-Inv-loop copies-agree-μ-loop
-copies-agree-returns-2 t c =
-    let a = c .before .before .before .before .args in let e : c .before .loop .k ≡ a .c = omega arith in subst (λ (k : ℕ). CopiesAgree (a .work .now) (a .p) (a .u) (a .n) (a .outer) (a .inner) (a .e) k true) e (c .before .loop .inv .1)
+copies-agree-returns-4 : (t : ℕ) → copies-agree-lts.Need-returns-4 (copies-agree-claims t) (copies-agree-at t) copies-agree.Post copies-agree-Inv-loop copies-agree-μ-loop
+copies-agree-returns-4 t c =
+    let a = c .before .before .before .before .before .before .before .args in let e : c .before .loop .k ≡ a .c = omega arith in subst (λ (k : ℕ). CopiesAgree (a .work .now) (a .p) (a .u) (a .n) (a .outer) (a .inner) (a .e) k true) e (c .before .loop .inv .1)
 
 abbrev lengths-agree-claims : ℕ → lengths-agree-lts.Claims
 lengths-agree-claims t = (word-reads.Asked, word-reads.Learnt, reference-reads.Asked, reference-reads.Learnt, lengths-agree-below t, lengths-agree.Post, copies-reads.Asked, copies-reads.Learnt, all-of-reads.Asked, all-of-reads.Learnt, copies-agree-below t, copies-agree.Post)
@@ -168,38 +180,23 @@ lengths-agree-returns-7 t c =
 
 pub +copies-agree+lengths-agree-spec : {M : Type 1} → statement M
 +copies-agree+lengths-agree-spec =
-    close μ-copies-agree μ-lengths-agree (λ t. copies-agree-lts.spec (
-      deepen-reads.Asked,
-      deepen-reads.Learnt,
-      lengths-agree-below t,
-      lengths-agree.Post,
-    )
+    close μ-copies-agree μ-lengths-agree (λ t. copies-agree-lts.spec (copies-agree-claims t)
     (copies-agree-at t)
     copies-agree.Post
     copies-agree-Inv-loop
     copies-agree-μ-loop
+    (copies-agree-word-requires t)
+    (copies-agree-returns t)
+    (copies-agree-returns-2 t)
     (copies-agree-deepen-requires t)
     (copies-agree-loop-holds t)
     (copies-agree-lengths-agree-requires t)
-    (copies-agree-returns t)
+    (copies-agree-returns-3 t)
     (copies-agree-add-k t)
     (copies-agree-loop-less t)
     (copies-agree-loop-again t)
-    (copies-agree-returns-2 t))
-    λ t. lengths-agree-lts.spec (
-      word-reads.Asked,
-      word-reads.Learnt,
-      reference-reads.Asked,
-      reference-reads.Learnt,
-      lengths-agree-below t,
-      lengths-agree.Post,
-      copies-reads.Asked,
-      copies-reads.Learnt,
-      all-of-reads.Asked,
-      all-of-reads.Learnt,
-      copies-agree-below t,
-      copies-agree.Post,
-    )
+    (copies-agree-returns-4 t))
+    λ t. lengths-agree-lts.spec (lengths-agree-claims t)
     (lengths-agree-at t)
     lengths-agree.Post
     (lengths-agree-word-requires t)

@@ -13,12 +13,15 @@ use Rattle.arena.proofs.cells.reference.Reads as reference-reads
 use Rattle.arena.proofs.cells.word.Reads as word-reads
 use Rattle.steps.proofs.agree.deepen.Reads as deepen-reads
 use Rattle.steps.proofs.build.build_leaf.Reads as build-leaf-reads
+use Rattle.steps.proofs.build.copy_elements.Reads as copy-elements-reads
 use Rattle.steps.proofs.lengths.copies.Reads as copies-reads
+use Rattle.steps.proofs.parts.listed.Reads as listed-reads
 use Rattle.steps.proofs.build.+build+build_copies.{statement}
 use Rattle.steps.proofs.build.+build+build_copies.Tie.{close}
 use Rattle.steps.specs.PartLaws.{tag-falls}
 use Rattle.steps.specs.Build.{Behind}
 use Rattle.steps.specs.ResultLaws.{pair-tail, pair-head, made-room, made-pair, ellipsis-rest, ellipsis-copies, made-ellipsis, behind-begins, copy-buildable, copy-room, behind-more}
+use Rattle.steps.specs.ElementLaws.{elements-wait, behind-elements}
 use native.Mathlib.Omega.{arith}
 use borrow.Author.Needs.{needs}
 use mathlib.Core.Path.{_≡_, refl, subst, _∙_}
@@ -130,15 +133,31 @@ build-returns-4 t c =
     let a = c .before .before .before .before .before .before .before .before .before .before .before .before .before .before .before .before .before .before .before .before .args in made-ellipsis (a .work .now) (a .top) (a .p) (a .u) (a .w) (a .n) (a .outer) (a .inner) (a .t) _ (c .before .before .before .before .before .before .before .before .before .before .before .before .before .before .before .before .before .word .ensures) (c .before .before .before .before .before .before .before .before .before .before .before .before .before .before .before .before .before .before .before .before .pre .1) _ _ (c .before .before .before .before .before .before .before .before .before .before .before .before .before .reference .ensures) (c .before .before .before .before .before .before .before .before .before .before .before .reference2 .ensures) (omega arith) _ (c .before .before .before .before .before .before .before .before .copies .ensures) _ _ (c .before .before .before .before .before .before .build3 .ensures) _ _ (c .before .before .build-copies .ensures)
 
 abbrev build-copies-Inv-loop : build-copies-lts.InvT-loop
-build-copies-Inv-loop work₀ top p u w n outer inner e c m tail₀ k₀ work tail k =
+build-copies-Inv-loop work₀ top p u w n outer inner e c list m tail₀ k₀ work tail k =
     (length work ≡ length work₀) × Behind work₀ work top p u w n outer inner e c k tail
 
 abbrev build-copies-μ-loop : build-copies-lts.MeasureT-loop
-build-copies-μ-loop work₀ top p u w n outer inner e c m tail₀ k₀ work tail k =
+build-copies-μ-loop work₀ top p u w n outer inner e c list m tail₀ k₀ work tail k =
     k
 
 abbrev build-copies-claims : ℕ → build-copies-lts.Claims
-build-copies-claims t = (deepen-reads.Asked, deepen-reads.Learnt, build-below t, build.Post, put-pair-reads.Asked, put-pair-reads.Learnt)
+build-copies-claims t = (listed-reads.Asked, listed-reads.Learnt, copy-elements-reads.Asked, copy-elements-reads.Learnt, deepen-reads.Asked, deepen-reads.Learnt, build-below t, build.Post, put-pair-reads.Asked, put-pair-reads.Learnt)
+
+build-copies-listed-requires : (t : ℕ) → build-copies-lts.Need-listed-requires (build-copies-claims t) (build-copies-at t) build-copies.Post build-copies-Inv-loop build-copies-μ-loop
+build-copies-listed-requires t c κs =
+    search needs
+
+build-copies-copy-elements-requires : (t : ℕ) → build-copies-lts.Need-copy-elements-requires (build-copies-claims t) (build-copies-at t) build-copies.Post build-copies-Inv-loop build-copies-μ-loop
+build-copies-copy-elements-requires t c κs =
+    let a = c .before .before .before .before .before .args in elements-wait (a .work .now) (a .top) (a .p) (a .u) (a .w) (a .n) (a .outer) (a .inner) (a .e) (a .c) _ (c .before .before .listed .ensures) (c .before .if1 .taken) (c .before .before .before .before .before .pre .1)
+
+build-copies-same-length : (t : ℕ) → build-copies-lts.Need-same-length (build-copies-claims t) (build-copies-at t) build-copies.Post build-copies-Inv-loop build-copies-μ-loop
+build-copies-same-length t c =
+    c .before .before .copy-elements .kept .0
+
+build-copies-returns : (t : ℕ) → build-copies-lts.Need-returns (build-copies-claims t) (build-copies-at t) build-copies.Post build-copies-Inv-loop build-copies-μ-loop
+build-copies-returns t c =
+    let a = c .before .before .before .before .before .before .before .before .args in behind-elements (a .work .now) (a .top) (a .p) (a .u) (a .w) (a .n) (a .outer) (a .inner) (a .e) (a .c) _ (c .before .before .before .before .before .listed .ensures) (c .before .before .before .before .if1 .taken) (c .before .before .before .before .before .before .before .before .pre .1) _ _ (c .before .before .copy-elements .ensures)
 
 build-copies-deepen-requires : (t : ℕ) → build-copies-lts.Need-deepen-requires (build-copies-claims t) (build-copies-at t) build-copies.Post build-copies-Inv-loop build-copies-μ-loop
 build-copies-deepen-requires t c κs =
@@ -146,7 +165,7 @@ build-copies-deepen-requires t c κs =
 
 build-copies-loop-holds : (t : ℕ) → build-copies-lts.Need-loop-holds (build-copies-claims t) (build-copies-at t) build-copies.Post build-copies-Inv-loop build-copies-μ-loop
 build-copies-loop-holds t c =
-    let a = c .before .before .args in (refl, behind-begins (a .work .now) (a .top) (a .p) (a .u) (a .w) (a .n) (a .outer) (a .inner) (a .e) (a .c) (c .before .before .pre .1))
+    let a = c .before .before .before .before .before .args in (refl, behind-begins (a .work .now) (a .top) (a .p) (a .u) (a .w) (a .n) (a .outer) (a .inner) (a .e) (a .c) (c .before .before .before .before .before .pre .1))
 
 build-copies-sub-k : (t : ℕ) → build-copies-lts.Need-sub-k (build-copies-claims t) (build-copies-at t) build-copies.Post build-copies-Inv-loop build-copies-μ-loop
 build-copies-sub-k t c =
@@ -154,11 +173,11 @@ build-copies-sub-k t c =
 
 build-copies-build-requires : (t : ℕ) → build-copies-lts.Need-build-requires (build-copies-claims t) (build-copies-at t) build-copies.Post build-copies-Inv-loop build-copies-μ-loop
 build-copies-build-requires t c κs =
-    let a = c .before .before .before .before .before .args in (omega (arith, c .before .before .before .before .before .pre .0), copy-buildable (a .work .now) (a .top) (a .p) (a .u) (a .w) (a .n) (a .outer) (a .inner) (a .e) (a .c) (c .before .before .before .before .before .pre .1) _ (c .before .before .loop .k) (c .before .before .loop .tail) _ _ (omega arith) (c .before .before .before .deepen .ensures) (c .before .before .loop .inv .1) (c .before .before .loop .inv .0))
+    let a = c .before .before .before .before .before .before .before .before .args in (omega (arith, c .before .before .before .before .before .before .before .before .pre .0), copy-buildable (a .work .now) (a .top) (a .p) (a .u) (a .w) (a .n) (a .outer) (a .inner) (a .e) (a .c) (c .before .before .before .before .before .before .before .before .pre .1) _ (c .before .before .loop .k) (c .before .before .loop .tail) _ _ (omega arith) (c .before .before .before .deepen .ensures) (c .before .before .loop .inv .1) (c .before .before .loop .inv .0))
 
 build-copies-put-pair-requires : (t : ℕ) → build-copies-lts.Need-put-pair-requires (build-copies-claims t) (build-copies-at t) build-copies.Post build-copies-Inv-loop build-copies-μ-loop
 build-copies-put-pair-requires t c κs =
-    let a = c .before .before .before .before .before .before .before .before .before .args in (copy-room (a .work .now) (a .top) (a .p) (a .u) (a .w) (a .n) (a .outer) (a .inner) (a .e) (a .c) (c .before .before .before .before .before .before .before .before .before .pre .1) _ (c .before .before .before .before .before .before .loop .k) (c .before .before .before .before .before .before .loop .tail) _ _ (omega arith) (c .before .before .before .before .before .before .before .deepen .ensures) (c .before .before .before .before .before .before .loop .inv .1) (c .before .before .before .before .before .before .loop .inv .0) _ _ (c .before .before .before .build .ensures) (c .before .before .before .build .kept .0), omega arith, c .before .before .before .build .ensures .above)
+    let a = c .before .before .before .before .before .before .before .before .before .before .before .before .args in (copy-room (a .work .now) (a .top) (a .p) (a .u) (a .w) (a .n) (a .outer) (a .inner) (a .e) (a .c) (c .before .before .before .before .before .before .before .before .before .before .before .before .pre .1) _ (c .before .before .before .before .before .before .loop .k) (c .before .before .before .before .before .before .loop .tail) _ _ (omega arith) (c .before .before .before .before .before .before .before .deepen .ensures) (c .before .before .before .before .before .before .loop .inv .1) (c .before .before .before .before .before .before .loop .inv .0) _ _ (c .before .before .before .build .ensures) (c .before .before .before .build .kept .0), omega arith, c .before .before .before .build .ensures .above)
 
 build-copies-loop-less : (t : ℕ) → build-copies-lts.Need-loop-less (build-copies-claims t) (build-copies-at t) build-copies.Post build-copies-Inv-loop build-copies-μ-loop
 build-copies-loop-less t c =
@@ -166,18 +185,19 @@ build-copies-loop-less t c =
 
 build-copies-loop-again : (t : ℕ) → build-copies-lts.Need-loop-again (build-copies-claims t) (build-copies-at t) build-copies.Post build-copies-Inv-loop build-copies-μ-loop
 build-copies-loop-again t c =
-    let a = c .before .before .before .before .before .before .before .before .before .before .before .before .args in (c .before .before .put-pair .kept .0 ∙ c .before .before .before .before .before .before .build .kept .0 ∙ c .before .before .before .before .before .before .before .before .before .loop .inv .0, behind-more (a .work .now) (a .top) (a .p) (a .u) (a .w) (a .n) (a .outer) (a .inner) (a .e) (a .c) (c .before .before .before .before .before .before .before .before .before .before .before .before .pre .1) _ (c .before .before .before .before .before .before .before .before .before .loop .k) (c .before .before .before .before .before .before .before .before .before .loop .tail) _ _ (omega arith) (c .before .before .before .before .before .before .before .before .before .before .deepen .ensures) (c .before .before .before .before .before .before .before .before .before .loop .inv .1) (c .before .before .before .before .before .before .before .before .before .loop .inv .0) _ _ (c .before .before .before .before .before .before .build .ensures) _ _ (c .before .before .put-pair .ensures))
+    let a = c .before .before .before .before .before .before .before .before .before .before .before .before .before .before .before .args in (c .before .before .put-pair .kept .0 ∙ c .before .before .before .before .before .before .build .kept .0 ∙ c .before .before .before .before .before .before .before .before .before .loop .inv .0, behind-more (a .work .now) (a .top) (a .p) (a .u) (a .w) (a .n) (a .outer) (a .inner) (a .e) (a .c) (c .before .before .before .before .before .before .before .before .before .before .before .before .before .before .before .pre .1) _ (c .before .before .before .before .before .before .before .before .before .loop .k) (c .before .before .before .before .before .before .before .before .before .loop .tail) _ _ (omega arith) (c .before .before .before .before .before .before .before .before .before .before .deepen .ensures) (c .before .before .before .before .before .before .before .before .before .loop .inv .1) (c .before .before .before .before .before .before .before .before .before .loop .inv .0) _ _ (c .before .before .before .before .before .before .build .ensures) _ _ (c .before .before .put-pair .ensures))
 
-build-copies-same-length : (t : ℕ) → build-copies-lts.Need-same-length (build-copies-claims t) (build-copies-at t) build-copies.Post build-copies-Inv-loop build-copies-μ-loop
-build-copies-same-length t c =
+build-copies-same-length-2 : (t : ℕ) → build-copies-lts.Need-same-length-2 (build-copies-claims t) (build-copies-at t) build-copies.Post build-copies-Inv-loop build-copies-μ-loop
+build-copies-same-length-2 t c =
     c .before .loop .inv .0
 
-build-copies-returns : (t : ℕ) → build-copies-lts.Need-returns (build-copies-claims t) (build-copies-at t) build-copies.Post build-copies-Inv-loop build-copies-μ-loop
-build-copies-returns t c =
-    let a = c .before .before .before .before .args in let z : c .before .loop .k ≡ 0 = omega arith in subst (λ (k : ℕ). Behind (a .work .now) (c .before .loop .work) (a .top) (a .p) (a .u) (a .w) (a .n) (a .outer) (a .inner) (a .e) (a .c) k (c .before .loop .tail)) z (c .before .loop .inv .1)
+build-copies-returns-2 : (t : ℕ) → build-copies-lts.Need-returns-2 (build-copies-claims t) (build-copies-at t) build-copies.Post build-copies-Inv-loop build-copies-μ-loop
+build-copies-returns-2 t c =
+    let a = c .before .before .before .before .before .before .before .args in let z : c .before .loop .k ≡ 0 = omega arith in subst (λ (k : ℕ). Behind (a .work .now) (c .before .loop .work) (a .top) (a .p) (a .u) (a .w) (a .n) (a .outer) (a .inner) (a .e) (a .c) k (c .before .loop .tail)) z (c .before .loop .inv .1)
 
 pub +build+build-copies-spec : {M : Type 1} → statement M
-+build+build-copies-spec = close μ-build μ-build-copies (λ t. build-lts.spec (build-claims t) (build-at t)
++build+build-copies-spec = close μ-build μ-build-copies (λ t. build-lts.spec (build-claims t)
+    (build-at t)
     build.Post
     (build-word-requires t)
     (build-build-leaf-requires t)
@@ -198,18 +218,15 @@ pub +build+build-copies-spec : {M : Type 1} → statement M
     (build-build-copies-requires t)
     (build-same-length-4 t)
     (build-returns-4 t))
-    λ t. build-copies-lts.spec (
-      deepen-reads.Asked,
-      deepen-reads.Learnt,
-      build-below t,
-      build.Post,
-      put-pair-reads.Asked,
-      put-pair-reads.Learnt,
-    )
+    λ t. build-copies-lts.spec (build-copies-claims t)
     (build-copies-at t)
     build-copies.Post
     build-copies-Inv-loop
     build-copies-μ-loop
+    (build-copies-listed-requires t)
+    (build-copies-copy-elements-requires t)
+    (build-copies-same-length t)
+    (build-copies-returns t)
     (build-copies-deepen-requires t)
     (build-copies-loop-holds t)
     (build-copies-sub-k t)
@@ -217,5 +234,5 @@ pub +build+build-copies-spec : {M : Type 1} → statement M
     (build-copies-put-pair-requires t)
     (build-copies-loop-less t)
     (build-copies-loop-again t)
-    (build-copies-same-length t)
-    (build-copies-returns t)
+    (build-copies-same-length-2 t)
+    (build-copies-returns-2 t)
