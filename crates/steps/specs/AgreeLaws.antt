@@ -1,7 +1,7 @@
 -- Laws of ground 17 on cells, one for each way through the code.
 use mathlib.Core.Path.{_≡_, refl, sym, ap, subst, _∙_}
 use mathlib.Core.Bool.{Bool, true, false, _&&_}
-use mathlib.Core.List.{List, _∷_}
+use mathlib.Core.List.{List}
 use Prim.Native.Nat.{ℕ, zero, suc, _+_, _<_}
 use native.Mathlib.Omega.{arith}
 use lib.Dec.{eqb}
@@ -15,7 +15,7 @@ use Rattle.rule_cells.specs.Cells.{patternAt, templateAt}
 use Rattle.rule_cells.specs.CellLaws.{templateAt-variable, templateAt-insert, templateAt-constant, templateAt-pair, templateAt-ellipsis, templateAt-empty}
 use Rattle.steps.specs.Parts.{indices}
 use Rattle.steps.specs.Plain.{Plain, pairs, ellipsis, deepen, indices-more, equalLengths-two}
-use Rattle.steps.specs.Lengths.{AllOf, Copies, LengthsAgree, CopiesAgree}
+use Rattle.steps.specs.Lengths.{AllOf, Copies, LengthsAgree, CopyAgrees, CopiesAgree}
 use Rattle.steps.specs.LengthLaws.{copies-all}
 
 -- a template's cell without parts
@@ -69,26 +69,13 @@ module _ (items work : List ℕ) (t tag head rest : ℕ) (tag-is : tag ≡ wordA
 
 -- ---- all of a template
 
-below-true : (f : ℕ → Bool) (c : ℕ) → ((k : ℕ) → true ≡ f k) → true ≡ allBelow f c
-unfolding allBelow
-below-true f zero h = refl
-below-true f (suc c) h = rw (← below-true f c h, ← h c) refl
-
 module _ (work : List ℕ) (p u n outer inner : ℕ) where
   module _ (t tag : ℕ) (tag-is : tag ≡ wordAt work t 1) where
-    -- nothing is looked for in a cell without parts
-    module _ (n6 : tag ≡ 6 → ⊥) (n7 : tag ≡ 7 → ⊥) where
-      leaf-agrees : (items : List ℕ) (w : ℕ) (is : List ℕ) → true ≡ equalLengths (patternAt items work p) (treeAt items work u w) is (templateAt items work t)
-      unfolding equalLengths
-      leaf-agrees items w is =
-          leaf-cell (λ s. true ≡ equalLengths (patternAt items work p) (treeAt items work u w) is s)
-          (λ k d. refl) (λ y. refl) (λ a. refl) refl items work t tag tag-is n6 n7
-
-      pub agree-leaf : LengthsAgree work p u n outer inner t true
-      agree-leaf items w x = leaf-agrees items w _
-
-      pub copies-leaf : (c : ℕ) → CopiesAgree work p u n outer inner t c true
-      copies-leaf c items w x = below-true _ c (λ k. leaf-agrees items w _)
+    pub agree-leaf : (tag ≡ 6 → ⊥) → (tag ≡ 7 → ⊥) → LengthsAgree work p u n outer inner t true
+    unfolding equalLengths
+    agree-leaf n6 n7 items w x =
+        leaf-cell (λ s. true ≡ equalLengths (patternAt items work p) (treeAt items work u w) (indices n outer inner) s)
+        (λ k d. refl) (λ y. refl) (λ a. refl) refl items work t tag tag-is n6 n7
 
     module _ (head rest : ℕ) (head-is : head ≡ referenceAt work t 3) (rest-is : rest ≡ referenceAt work t 2) where
       pub agree-head-no : (b : Bool) → tag ≡ 6 → LengthsAgree work p u n outer inner head b → b ≡ false → LengthsAgree work p u n outer inner t false
@@ -153,10 +140,10 @@ module _ (work : List ℕ) (p u n outer inner e : ℕ) where
   unfolding allBelow
   begun-copies items w x = refl
 
-  module _ (m k : ℕ) (b : Bool) (m-is : m ≡ deepen n) (f : LengthsAgree work p u m inner k e b) where
-    copy-is : (items : List ℕ) (w : ℕ) → Plain (templateAt items work e) → equalLengths (patternAt items work p) (treeAt items work u w) (k ∷ indices n outer inner) (templateAt items work e) ≡ b
-    copy-is items w x = equalLengths-two (patternAt items work p) (treeAt items work u w) _ _ x (indices-more n outer inner k ∙ rw (← m-is) refl) ∙ sym (f items w x)
+  pub copy-at : (m k : ℕ) (b : Bool) → m ≡ deepen n → LengthsAgree work p u m inner k e b → CopyAgrees work p u n outer inner e k b
+  copy-at m k b m-is f items w x = equalLengths-two (patternAt items work p) (treeAt items work u w) _ _ x (indices-more n outer inner k ∙ rw (← m-is) refl) ∙ sym (f items w x)
 
+  module _ (k : ℕ) (b : Bool) (copy-is : CopyAgrees work p u n outer inner e k b) where
     pub copies-no : (c : ℕ) → k < c → b ≡ false → CopiesAgree work p u n outer inner e c false
     copies-no c h bad items w x = sym (below-false _ c k h (copy-is items w x ∙ bad))
 

@@ -1,12 +1,12 @@
 -- A step's result in the arena: fresh nodes above the old top, the root last, with every name produced.
 use mathlib.Core.Path.{_≡_}
-use mathlib.Core.List.{List, _∷_}
+use mathlib.Core.List.{List, [], _∷_}
 use Prim.Native.Nat.{ℕ, _+_, _*_, _^_, _≤_, _<_}
 use lib.ListN.{length, take}
 use Rattle.recipe.specs.Tree.{Tree, size, element, produce}
-use Rattle.expansion.specs.Transcribe.{copies}
+use Rattle.expansion.specs.Transcribe.{copies, transcribe}
 use Rattle.arena.specs.Arena.{treeAt}
-use Rattle.rule_cells.specs.Cells.{templateAt}
+use Rattle.rule_cells.specs.Cells.{patternAt, templateAt}
 use Rattle.steps.specs.Parts.{indices}
 use Rattle.steps.specs.Plain.{Plain}
 use Rattle.steps.specs.Cost.{copyOf, added}
@@ -32,24 +32,6 @@ pub record Waiting (work : List ℕ) (top node w : ℕ) : Type 0 where
   pub room : RoomFor (λ items. treeAt items work node w) work top
   pub node-below : node ≤ top
   pub wrap-below : w ≤ top
-
--- the elements of a list
-abbrev pub elementAt : (items work : List ℕ) (list w : ℕ) → ℕ → Tree
-elementAt items work list w = λ i. element i (treeAt items work list w)
-
--- a list and a wrap that stand below the top, with room for c elements
-pub record ElementsWaiting (work : List ℕ) (top list c w : ℕ) : Type 0 where
-  pub fits : (items : List ℕ) → top + nodeWords * added (elementAt items work list w) c ≤ length work
-  pub small : (items : List ℕ) → top + nodeWords * added (elementAt items work list w) c < 2 ^ 32
-  pub list-below : list ≤ top
-  pub wrap-below : w ≤ top
-
--- the first c elements of a list, before the list that ended at the old top
-pub record Before (old new : List ℕ) (top list c w r : ℕ) : Type 0 where
-  pub above : top ≤ r
-  pub most : (items : List ℕ) → r ≤ top + nodeWords * added (elementAt items old list w) c
-  pub kept : take top new ≡ take top old
-  pub means : (items : List ℕ) → length items ≤ top → treeAt items new r 0 ≡ copies (λ i. produce (elementAt items old list w i)) 0 c (treeAt items old top 0)
 
 -- a plain template, and what it needs, below the top
 pub record Ready (work : List ℕ) (top p u w t : ℕ) : Type 0 where
@@ -80,3 +62,20 @@ pub record Behind (old new : List ℕ) (top p u w n outer inner e c k r : ℕ) :
   pub kept : take top new ≡ take top old
   pub means : (items : List ℕ) → length items ≤ top → (m : ℕ) → k + m ≡ c
       → treeAt items new r 0 ≡ copies (λ i. produce (copyAt items old p u w n outer inner e i)) k m (treeAt items old top 0)
+
+-- what a template gives for each element of a list, by the element's pattern p
+abbrev pub elementAt : (items work : List ℕ) (p list w e : ℕ) → ℕ → Tree
+elementAt items work p list w e = λ i. transcribe (patternAt items work p) (element i (treeAt items work list w)) [] (templateAt items work e)
+
+-- with room for that of the first c
+pub record ElementsBuildable (work : List ℕ) (top p list w e c : ℕ) : Type 0 where
+  pub ready : Ready work top p list w e
+  pub fits : (items : List ℕ) → top + nodeWords * added (elementAt items work p list w e) c ≤ length work
+  pub small : (items : List ℕ) → top + nodeWords * added (elementAt items work p list w e) c < 2 ^ 32
+
+-- it, before the list that ended at the old top
+pub record Before (old new : List ℕ) (top p list w e c r : ℕ) : Type 0 where
+  pub above : top ≤ r
+  pub most : (items : List ℕ) → r ≤ top + nodeWords * added (elementAt items old p list w e) c
+  pub kept : take top new ≡ take top old
+  pub means : (items : List ℕ) → length items ≤ top → treeAt items new r 0 ≡ copies (λ i. produce (elementAt items old p list w e i)) 0 c (treeAt items old top 0)

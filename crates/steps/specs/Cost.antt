@@ -4,7 +4,7 @@ use mathlib.Core.Bool.{cond}
 use mathlib.Core.List.{List, _∷_}
 use Prim.Native.Nat.{ℕ, zero, suc, _+_, _^_, _≤_, _<_}
 use lib.Dec.{ltb}
-use Rattle.recipe.specs.Tree.{Tree, size, element}
+use Rattle.recipe.specs.Tree.{Tree, size}
 use Rattle.expansion.specs.Transcribe.{transcribe}
 use Rattle.arena.specs.Arena.{treeAt}
 use Rattle.rule_cells.specs.Cells.{patternAt, templateAt}
@@ -39,7 +39,3 @@ pub record Costs (work : List ℕ) (p u n outer inner t acc limit r : ℕ) : Typ
 pub record CopiesCost (work : List ℕ) (p u n outer inner e c acc limit r : ℕ) : Type 0 where
   pub is : (items : List ℕ) (w : ℕ) → Plain (templateAt items work e) → r ≡ capped limit (acc + added (λ k. copyOf items work p u w (k ∷ indices n outer inner) e) c)
   pub most : r ≤ limit + 1
-
--- where node is some node, it is a list, and its elements are the copies of e from copy k on
-abbrev pub Ahead : (work : List ℕ) (p u e k node : ℕ) → Type 0
-Ahead work p u e k node = (node ≡ 0 → ⊥) → (items : List ℕ) (w i : ℕ) (is : List ℕ) → copyOf items work p u w ((k + i) ∷ is) e ≡ element i (treeAt items work node w)

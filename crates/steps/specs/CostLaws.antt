@@ -1,12 +1,11 @@
 -- Laws of the cost of a step on cells, one for each way through the code.
 use mathlib.Core.Path.{_≡_, refl, sym, ap, ap₂, subst, _∙_}
-use mathlib.Core.List.{List, _∷_}
+use mathlib.Core.List.{List, [], _∷_}
 use Prim.Native.Nat.{ℕ, zero, suc, _+_, _-_, _≤_, _<_}
 use native.Mathlib.Omega.{arith}
 use lib.Dec.{ltb}
 use borrow.Author.Tests.{lt-ltb, ltb-true, ltb-false}
-use Rattle.recipe.specs.Tree.{Tree, pair, size, element, tail}
-use Rattle.recipe.specs.TreeLaws.{element-tail}
+use Rattle.recipe.specs.Tree.{Tree, pair, size, element}
 use Rattle.expansion.specs.Transcribe.{copies, transcribe}
 use Rattle.arena.specs.Arena.{wordAt, referenceAt, treeAt}
 use Rattle.arena.specs.ArenaLaws.{cases}
@@ -15,11 +14,13 @@ use Rattle.rule_cells.specs.Cells.{patternAt, templateAt}
 use Rattle.rule_cells.specs.CellLaws.{templateAt-variable}
 use Rattle.arena.specs.Lists.{Means}
 use Rattle.arena.specs.ListLaws.{no-pair}
-use Rattle.steps.specs.Parts.{indices, Taken, Listed}
+use Rattle.steps.specs.Parts.{indices, Taken}
 use Rattle.steps.specs.Plain.{Plain, deepen, indices-more, transcribe-two}
 use Rattle.steps.specs.Lengths.{Copies}
 use Rattle.steps.specs.AgreeLaws.{leaf-other, pair-is, ellipsis-is, pair-plain, ellipsis-plain}
-use Rattle.steps.specs.Cost.{capped, Below, copyOf, added, Sized, Costs, CopiesCost, Ahead}
+use Rattle.steps.specs.Cost.{capped, Below, copyOf, added, Sized, Costs, CopiesCost}
+use Rattle.steps.specs.Places.{Rooted, Ahead}
+use Rattle.steps.specs.PlaceLaws.{copy-transcribed, ahead-first}
 
 -- ---- counting
 
@@ -141,28 +142,16 @@ module _ (work : List ℕ) (p u n outer inner e acc limit : ℕ) where
         ∙ ap (λ (t : Tree). capped limit (a + 1 + size t)) (sym (transcribe-two (patternAt items work p) (treeAt items work u w) _ _ x (indices-more n outer inner k ∙ rw (← m-is) refl))))
         (g .most)
 
-    pub copies-element : (node first r : ℕ) → (node ≡ 0 → ⊥) → Ahead work p u e k node → Means work node first (element 0) → Sized work first (a + 1) limit r → CopiesCost work p u n outer inner e (k + 1) acc limit r
-    copies-element node first r some h m g =
-        let s : k + 0 ≡ k = omega arith in
+    pub copies-element : (q list node first r : ℕ) → Rooted work p u n e q list → (node ≡ 0 → ⊥) → Ahead work list k node → Means work node first (element 0) → Costs work q first 0 0 0 e (a + 1) limit r → CopiesCost work p u n outer inner e (k + 1) acc limit r
+    unfolding copyOf indices
+    copies-element q list node first r root some h m g =
         copies-more r
         (λ items w x.
-        g .is items w
-        ∙ ap (λ (t : Tree). capped limit (a + 1 + size t)) (m .is items w ∙ sym (h some items w 0 (indices n outer inner)) ∙ rw s refl))
+        g .is items w x
+        ∙ ap (λ (t : Tree). capped limit (a + 1 + size t))
+        (ap (λ (t : Tree). transcribe (patternAt items work q) t [] (templateAt items work e)) (sym (ahead-first work list k node some h first m items w))
+        ∙ sym (copy-transcribed work p u n outer inner e q list root (h some .0) items w k)))
         (g .most)
-
--- the rest of the list whose elements are the copies
-module _ (work : List ℕ) (p u e : ℕ) where
-  pub ahead-begins : (list : ℕ) → Listed work p u e list → Ahead work p u e 0 list
-  unfolding copyOf
-  ahead-begins list l some items w i is = let z : 0 + i ≡ i = omega arith in rw z (l .is-copy some items w i is)
-
-  pub ahead-none : (k node : ℕ) → node ≡ 0 → Ahead work p u e k node
-  ahead-none k node z some = absurd (some z)
-
-  pub ahead-more : (k node rest : ℕ) → (node ≡ 0 → ⊥) → Ahead work p u e k node → Means work node rest tail → Ahead work p u e (k + 1) rest
-  ahead-more k node rest some h m also items w i is =
-      let s : k + 1 + i ≡ k + suc i = omega arith in
-      rw (s, m .is items w) (h some items w (suc i) is ∙ sym (element-tail i _))
 
 -- ---- templates
 

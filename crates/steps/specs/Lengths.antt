@@ -51,6 +51,11 @@ abbrev pub LengthsAgree : (work : List ℕ) (p u n outer inner t : ℕ) → Bool
 LengthsAgree work p u n outer inner t r =
     (items : List ℕ) (w : ℕ) → Plain (templateAt items work t) → r ≡ equalLengths (patternAt items work p) (treeAt items work u w) (indices n outer inner) (templateAt items work t)
 
+-- in copy k of an element
+abbrev pub CopyAgrees : (work : List ℕ) (p u n outer inner e k : ℕ) → Bool → Type 0
+CopyAgrees work p u n outer inner e k r =
+    (items : List ℕ) (w : ℕ) → Plain (templateAt items work e) → equalLengths (patternAt items work p) (treeAt items work u w) (k ∷ indices n outer inner) (templateAt items work e) ≡ r
+
 -- in the first c copies of an element
 abbrev pub CopiesAgree : (work : List ℕ) (p u n outer inner e c : ℕ) → Bool → Type 0
 CopiesAgree work p u n outer inner e c r =

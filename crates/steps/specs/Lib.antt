@@ -7,12 +7,14 @@ pub mod Lengths
 pub mod LengthLaws
 pub mod Plain
 pub mod AgreeLaws
+pub mod Places
+pub mod PlaceLaws
 pub mod Cost
 pub mod CostLaws
 pub mod Build
 pub mod BuildLaws
-pub mod ElementLaws
 pub mod ResultLaws
+pub mod ElementLaws
 pub mod PlainRules
 pub mod Apply
 pub mod ApplyLaws

@@ -10,14 +10,14 @@ use borrow.Author.Tests.{eqb-true, eqb-false}
 use Rattle.recipe.specs.Tree.{Tree, empty, element, tail}
 use Rattle.expansion.specs.Rules.{Pattern}
 use Rattle.expansion.specs.Match.{holds, part}
-use Rattle.expansion.specs.Transcribe.{taken, transcribe}
+use Rattle.expansion.specs.Transcribe.{taken}
 use Rattle.arena.specs.Arena.{wordAt, referenceAt}
 use Rattle.arena.specs.ArenaLaws.{cases, wordAt-some, referenceAt-falls}
 use Rattle.rule_cells.specs.Cells.{patternAt}
-use Rattle.rule_cells.specs.CellLaws.{templateAt-variable, patternAt-variable, patternAt-literal, patternAt-wildcard, patternAt-constant, patternAt-pair, patternAt-ellipsis, patternAt-empty}
+use Rattle.rule_cells.specs.CellLaws.{patternAt-variable, patternAt-literal, patternAt-wildcard, patternAt-constant, patternAt-pair, patternAt-ellipsis, patternAt-empty}
 use Rattle.arena.specs.Lists.{Means}
 use Rattle.arena.specs.ListLaws.{treeAt-none}
-use Rattle.steps.specs.Parts.{Holds, indices, outward, Part, Taken, Repeated, Listed}
+use Rattle.steps.specs.Parts.{Holds, indices, outward, Part, Taken}
 
 -- a pattern that holds no variable
 abbrev Bare : Pattern → Type 0
@@ -155,47 +155,3 @@ module _ (work : List ℕ) (p u n outer inner k d r : ℕ) where
   pub taken-all : d ≤ n → Part work p k (outward d outer inner) u r → Taken work p u n outer inner k d r
   unfolding taken
   taken-all h c = record { is-taken = λ items w. c .is-part items w ∙ rw (indices-all n d outer inner h) refl; low = c .low }
-
--- ---- the elements of a list
-
-module _ (work : List ℕ) (p k u : ℕ) where
-  pub repeated-none : Repeated work p k u 0
-  repeated-none = record { is-element = λ some. absurd (some refl); low = omega arith }
-
-  module _ (tag : ℕ) (tag-is : tag ≡ wordAt work p 1) where
-    module _ (head : ℕ) (left : Bool) (pair : tag ≡ 6) (head-is : head ≡ referenceAt work p 3) (left-is : Holds work head k left) (v r : ℕ) where
-      pub repeated-head : left ≡ true → Means work u v (element 0) → Repeated work head k v r → Repeated work p k u r
-      unfolding part
-      repeated-head e m c =
-          record {
-            is-element = λ some items w i. rw (patternAt-pair items work p (sym tag-is ∙ pair), ← head-is, ← left-is items, e, ← m .is items w) (c .is-element some items w i);
-            low = omega (arith, c .low, m .low);
-          }
-
-      pub repeated-tail : (rest : ℕ) → left ≡ false → rest ≡ referenceAt work p 2 → Means work u v tail → Repeated work rest k v r → Repeated work p k u r
-      unfolding part
-      repeated-tail rest e h m c =
-          record {
-            is-element = λ some items w i. rw (patternAt-pair items work p (sym tag-is ∙ pair), ← head-is, ← left-is items, e, ← h, ← m .is items w) (c .is-element some items w i);
-            low = omega (arith, c .low, m .low);
-          }
-
-    pub repeated-list : (e kind : ℕ) → tag ≡ 7 → e ≡ referenceAt work p 2 → kind ≡ wordAt work e 1 → kind ≡ 1 → Repeated work p k u u
-    unfolding part
-    repeated-list e kind ellipsis e-is kind-is h =
-        record {
-          is-element = λ some items w i. rw (patternAt-ellipsis items work p (sym tag-is ∙ ellipsis), ← e-is, patternAt-variable items work e (sym kind-is ∙ h)) refl;
-          low = omega arith;
-        }
-
-module _ (work : List ℕ) (p u e : ℕ) where
-  pub listed-none : Listed work p u e 0
-  listed-none = record { is-copy = λ some. absurd (some refl); low = omega arith }
-
-  pub listed-variable : (tag d k r : ℕ) → tag ≡ wordAt work e 1 → tag ≡ 1 → d ≡ wordAt work e 2 → d ≡ 1 → k ≡ wordAt work e 3 → Repeated work p k u r → Listed work p u e r
-  unfolding transcribe taken
-  listed-variable tag d k r tag-is a d-is b k-is c =
-      record {
-        is-copy = λ some items w i is. rw (templateAt-variable items work e (sym tag-is ∙ a), ← k-is, ← d-is, b) (c .is-element some items w i);
-        low = c .low;
-      }

@@ -45,7 +45,7 @@ copies-cong f g k zero a b h e = e
 copies-cong f g k (suc n) a b h e = ap₂ pair (h k) (copies-cong f g (suc k) n a b h e)
 
 module _ (p : Pattern) (used : Tree) where
-  abbrev long : List ℕ → ℕ × ℕ → ℕ
+  abbrev pub long : List ℕ → ℕ × ℕ → ℕ
   long is v = length (elements (taken p used is (v .0) (v .1)))
 
   taken-two : (is js : List ℕ) (k d : ℕ) → d ≤ 2 → take 2 is ≡ take 2 js → taken p used is k d ≡ taken p used js k d

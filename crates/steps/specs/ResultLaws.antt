@@ -25,12 +25,12 @@ use Rattle.steps.specs.BuildLaws.{Whole, built-is, built-empty, built-co
 
 -- ---- what stands below the top
 
-copyOf-kept : (items old new : List ℕ) (top p u w t : ℕ) (is : List ℕ) → Ready old top p u w t → take top new ≡ take top old → copyOf items new p u w is t ≡ copyOf items old p u w is t
+pub copyOf-kept : (items old new : List ℕ) (top p u w t : ℕ) (is : List ℕ) → Ready old top p u w t → take top new ≡ take top old → copyOf items new p u w is t ≡ copyOf items old p u w is t
 unfolding copyOf
 copyOf-kept items old new top p u w t is r e =
     rw (patternAt-below items new old p (take-less new old p top (r .pattern-below) e), tree-kept items old new top u w (r .use-below) (r .wrap-below) e, templateAt-below items new old t (take-less new old t top (r .template-below) e)) refl
 
-ready-kept : (old new : List ℕ) (top end p u w t : ℕ) → Ready old top p u w t → take top new ≡ take top old → top ≤ end → Ready new end p u w t
+pub ready-kept : (old new : List ℕ) (top end p u w t : ℕ) → Ready old top p u w t → take top new ≡ take top old → top ≤ end → Ready new end p u w t
 ready-kept old new top end p u w t r e h =
     record {
       plain = λ items. rw (templateAt-below items new old t (take-less new old t top (r .template-below) e)) (r .plain items);

@@ -4,7 +4,9 @@ ghost use mathlib.Core.Path.{_≡_};
 ghost use Rattle.steps.specs.Plain.{deepen};
 ghost use Rattle.steps.specs.Lengths.{LengthsAgree, CopiesAgree};
 use crate::lengths;
+use crate::places;
 use arena::cells;
+use arena::lists;
 
 // How many indices are kept, with one more.
 pub fn deepen(n: u32) -> u32
@@ -45,7 +47,7 @@ pub fn lengths_agree(work: &[u32], p: u32, u: u32, n: u32, outer: u32, inner: u3
     lengths_agree(work, p, u, n, outer, inner, rest)
 }
 
-// Whether they are in each of c copies of an element. A cell without parts has no driving lists in it.
+// Whether they are in each of c copies of an element. Where its variables have one place, `node` is the rest of the list.
 pub fn copies_agree(
     work: &[u32],
     p: u32,
@@ -58,18 +60,21 @@ pub fn copies_agree(
 ) -> bool
     ensures { λ r. ⌜ CopiesAgree (now (work .entry)) p u n outer inner e c r ⌝ }
 {
-    let tag = cells::word(work, e, cells::TAG);
-    if tag < rule_cells::cells::PAIR {
-        return true;
-    }
-    if rule_cells::cells::ELLIPSIS < tag {
-        return true;
-    }
     let m = deepen(n);
+    let at = places::rooted(work, p, u, n, e);
+    let mut node = at.list;
     let mut k = 0;
     while k < c {
-        if !lengths_agree(work, p, u, m, inner, k, e) {
-            return false;
+        if node == 0 {
+            if !lengths_agree(work, p, u, m, inner, k, e) {
+                return false;
+            }
+        } else {
+            let first = lists::first(work, node);
+            if !lengths_agree(work, at.element, first, 0, 0, 0, e) {
+                return false;
+            }
+            node = lists::rest(work, node);
         }
         k += 1;
     }

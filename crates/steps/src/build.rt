@@ -6,11 +6,12 @@ ghost use Prim.Native.Nat.{_≤_};
 ghost use Rattle.recipe.specs.Tree.{name};
 ghost use Rattle.arena.specs.Arena.{wordAt, nameAt, treeAt};
 ghost use Rattle.arena.specs.Cells.{Room};
-ghost use Rattle.steps.specs.Build.{Waiting, Built, ElementsWaiting, Before, Buildable, CopiesBuildable, Behind};
+ghost use Rattle.steps.specs.Build.{Waiting, Built, Buildable, CopiesBuildable, Behind, ElementsBuildable, Before};
 ghost use Rattle.steps.specs.ResultLaws.{Made};
 use crate::agree;
 use crate::lengths;
 use crate::parts;
+use crate::places;
 use arena::cells;
 use arena::lists;
 
@@ -48,21 +49,6 @@ pub fn copy_tree(work: &mut [u32], top: u32, node: u32, w: u32) -> u32
     let first = cells::reference(work, node, cells::HEAD);
     let rest = cells::reference(work, node, cells::TAIL);
     let tail = copy_tree(work, top, rest, w);
-    let head = copy_tree(work, tail, first, w);
-    cells::put_pair(work, head, head, tail)
-}
-
-// Fresh copies of the first c elements of a list, before the list that ends at the top.
-pub fn copy_elements(work: &mut [u32], top: u32, list: u32, c: u32, w: u32) -> u32
-    requires { ⌜ ElementsWaiting (now work) top list c w ⌝ }
-    ensures { λ r. ⌜ Before (now (work .entry)) (now (work .exit)) top list c w r ⌝ }
-{
-    if c == 0 {
-        return top;
-    }
-    let first = lists::first(work, list);
-    let rest = lists::rest(work, list);
-    let tail = copy_elements(work, top, rest, c - 1, w);
     let head = copy_tree(work, tail, first, w);
     cells::put_pair(work, head, head, tail)
 }
@@ -153,9 +139,9 @@ pub fn build_copies(
     requires { ⌜ CopiesBuildable (now work) top p u w n outer inner e c ⌝ }
     ensures { λ r. ⌜ Behind (now (work .entry)) (now (work .exit)) top p u w n outer inner e c 0 r ⌝ }
 {
-    let list = parts::listed(work, p, u, e);
-    if list != 0 {
-        return copy_elements(work, top, list, c, w);
+    let at = places::rooted(work, p, u, n, e);
+    if at.list != 0 {
+        return build_elements(work, top, at.element, at.list, w, e, c);
     }
     let m = agree::deepen(n);
     let mut tail = top;
@@ -166,4 +152,19 @@ pub fn build_copies(
         tail = cells::put_pair(work, head, head, tail);
     }
     tail
+}
+
+// The copies that the first c elements of a list give by their pattern p, before the list that ends at the top.
+pub fn build_elements(work: &mut [u32], top: u32, p: u32, list: u32, w: u32, e: u32, c: u32) -> u32
+    requires { ⌜ ElementsBuildable (now work) top p list w e c ⌝ }
+    ensures { λ r. ⌜ Before (now (work .entry)) (now (work .exit)) top p list w e c r ⌝ }
+{
+    if c == 0 {
+        return top;
+    }
+    let first = lists::first(work, list);
+    let rest = lists::rest(work, list);
+    let tail = build_elements(work, top, p, rest, w, e, c - 1);
+    let head = build(work, tail, p, first, w, 0, 0, 0, e);
+    cells::put_pair(work, head, head, tail)
 }

@@ -5,6 +5,7 @@ ghost use Rattle.steps.specs.Cost.{Below, Sized, Costs, CopiesCost};
 use crate::agree;
 use crate::lengths;
 use crate::parts;
+use crate::places;
 use arena::cells;
 use arena::lists;
 
@@ -64,7 +65,7 @@ pub fn cost(
     cost(work, p, u, n, outer, inner, rest, sum, limit)
 }
 
-// The items of c copies of an element, each with its pair. Where the copies are the elements of a list, `node` is the rest of it.
+// The items of c copies of an element, each with its pair. Where its variables have one place, `node` is the rest of the list.
 pub fn copies_cost(
     work: &[u32],
     p: u32,
@@ -81,7 +82,8 @@ pub fn copies_cost(
     ensures { λ r. ⌜ CopiesCost (now (work .entry)) p u n outer inner e c acc limit r ⌝ }
 {
     let m = agree::deepen(n);
-    let mut node = parts::listed(work, p, u, e);
+    let at = places::rooted(work, p, u, n, e);
+    let mut node = at.list;
     let mut sum = acc;
     let mut k = 0;
     while k < c {
@@ -91,7 +93,8 @@ pub fn copies_cost(
         if node == 0 {
             sum = cost(work, p, u, m, inner, k, e, sum + 1, limit);
         } else {
-            sum = size(work, lists::first(work, node), sum + 1, limit);
+            let first = lists::first(work, node);
+            sum = cost(work, at.element, first, 0, 0, 0, e, sum + 1, limit);
             node = lists::rest(work, node);
         }
         k += 1;

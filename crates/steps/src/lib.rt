@@ -7,3 +7,4 @@ pub mod cost;
 pub mod fits;
 pub mod lengths;
 pub mod parts;
+pub mod places;

@@ -1,7 +1,7 @@
 // What a pattern's variable takes from a use, found by walking pattern and use together.
 // Of the indices of the copies round a place the innermost two are kept: a variable lies under no more than two ellipses.
 
-ghost use Rattle.steps.specs.Parts.{Holds, outward, Part, Taken, Repeated, Listed};
+ghost use Rattle.steps.specs.Parts.{Holds, outward, Part, Taken};
 use arena::cells;
 use arena::lists;
 
@@ -67,41 +67,4 @@ pub fn taken(work: &[u32], p: u32, u: u32, n: u32, outer: u32, inner: u32, k: u3
         return part(work, p, k, n, outer, inner, u);
     }
     part(work, p, k, d, outer, inner, u)
-}
-
-// The list that variable k takes, where it is itself the element of its ellipsis; 0 where it is not.
-pub fn repeated(work: &[u32], p: u32, k: u32, u: u32) -> u32
-    ensures { λ r. ⌜ Repeated (now (work .entry)) p k u r ⌝ }
-{
-    let tag = cells::word(work, p, cells::TAG);
-    if tag == rule_cells::cells::PAIR {
-        let head = cells::reference(work, p, 3);
-        if holds(work, head, k) {
-            return repeated(work, head, k, lists::first(work, u));
-        }
-        let tail = cells::reference(work, p, 2);
-        return repeated(work, tail, k, lists::rest(work, u));
-    }
-    if tag != rule_cells::cells::ELLIPSIS {
-        return 0;
-    }
-    let element = cells::reference(work, p, 2);
-    if cells::word(work, element, cells::TAG) != rule_cells::cells::VARIABLE {
-        return 0;
-    }
-    u
-}
-
-// The list whose elements are the copies of e, where e is a variable under one ellipsis and takes its elements; 0 where it is not.
-pub fn listed(work: &[u32], p: u32, u: u32, e: u32) -> u32
-    ensures { λ r. ⌜ Listed (now (work .entry)) p u e r ⌝ }
-{
-    if cells::word(work, e, cells::TAG) != rule_cells::cells::VARIABLE {
-        return 0;
-    }
-    if cells::word(work, e, 2) != 1 {
-        return 0;
-    }
-    let k = cells::word(work, e, 3);
-    repeated(work, p, k, u)
 }

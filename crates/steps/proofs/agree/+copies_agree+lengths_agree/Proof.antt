@@ -10,19 +10,25 @@ use Rattle.steps.proofs.agree.lengths_agree.Kinds as lengths-agree-kind
 use Rattle.steps.proofs.agree.+copies_agree+lengths_agree.Lts-lengths_agree as lengths-agree-lts
 use Rattle.arena.proofs.cells.reference.Reads as reference-reads
 use Rattle.arena.proofs.cells.word.Reads as word-reads
+use Rattle.arena.proofs.lists.first.Reads as first-reads
+use Rattle.arena.proofs.lists.rest.Reads as rest-reads
 use Rattle.steps.proofs.agree.deepen.Reads as deepen-reads
 use Rattle.steps.proofs.lengths.all_of.Reads as all-of-reads
 use Rattle.steps.proofs.lengths.copies.Reads as copies-reads
+use Rattle.steps.proofs.places.rooted.Reads as rooted-reads
 use Rattle.steps.proofs.agree.+copies_agree+lengths_agree.{statement}
 use Rattle.steps.proofs.agree.+copies_agree+lengths_agree.Tie.{close}
 use borrow.Author.Tests.{not-true, not-false}
 use Rattle.steps.specs.PartLaws.{tag-falls}
 use Rattle.steps.specs.Lengths.{CopiesAgree}
-use Rattle.steps.specs.AgreeLaws.{agree-leaf, copies-leaf, agree-head-no, agree-tail, agree-differ, agree-copies-no, agree-rest, begun-copies, copies-no, copies-more}
+use Rattle.steps.specs.Places.{Ahead}
+use Rattle.steps.specs.AgreeLaws.{agree-leaf, agree-head-no, agree-tail, agree-differ, agree-copies-no, agree-rest, begun-copies, copy-at, copies-no, copies-more}
+use Rattle.steps.specs.PlaceLaws.{copy-in, ahead-begins, ahead-none, ahead-more}
 use native.Mathlib.Omega.{arith}
 use borrow.Author.Needs.{needs}
 use mathlib.Core.Path.{_≡_, subst}
 use mathlib.Core.Bool.{true}
+use mathlib.Core.Logic.{⊎-elim}
 
 abbrev μ-copies-agree : Measures 1 copies-agree-kinds.ps ℕ
 μ-copies-agree κs a =
@@ -56,44 +62,74 @@ lengths-agree-below t =
     (falls 1 lengths-agree-kinds.ps _<_ μ-lengths-agree t)
     lengths-agree.Pre
 
+abbrev copies-agree-claims : ℕ → copies-agree-lts.Claims
+copies-agree-claims t = (deepen-reads.Asked, deepen-reads.Learnt, rooted-reads.Asked, rooted-reads.Learnt, lengths-agree-below t, lengths-agree.Post, first-reads.Asked, first-reads.Learnt, rest-reads.Asked, rest-reads.Learnt)
+
+abbrev lengths-agree-claims : ℕ → lengths-agree-lts.Claims
+lengths-agree-claims t = (word-reads.Asked, word-reads.Learnt, reference-reads.Asked, reference-reads.Learnt, lengths-agree-below t, lengths-agree.Post, copies-reads.Asked, copies-reads.Learnt, all-of-reads.Asked, all-of-reads.Learnt, copies-agree-below t, copies-agree.Post)
+
 abbrev copies-agree-Inv-loop : copies-agree-lts.InvT-loop
-copies-agree-Inv-loop work p u n outer inner e c tag m k₀ k =
-    (k ≤ c) × CopiesAgree work p u n outer inner e k true
+copies-agree-Inv-loop work p u n outer inner e c m at node₀ k₀ node k =
+    (k ≤ c) × CopiesAgree work p u n outer inner e k true × Ahead work (at .list) k node
 
 abbrev copies-agree-μ-loop : copies-agree-lts.MeasureT-loop
-copies-agree-μ-loop work p u n outer inner e c tag m k₀ k =
+copies-agree-μ-loop work p u n outer inner e c m at node₀ k₀ node k =
     c - k
-
-abbrev copies-agree-claims : ℕ → copies-agree-lts.Claims
-copies-agree-claims t = (word-reads.Asked, word-reads.Learnt, deepen-reads.Asked, deepen-reads.Learnt, lengths-agree-below t, lengths-agree.Post)
-
-copies-agree-word-requires : (t : ℕ) → copies-agree-lts.Need-word-requires (copies-agree-claims t) (copies-agree-at t) copies-agree.Post copies-agree-Inv-loop copies-agree-μ-loop
-copies-agree-word-requires t c κs =
-    search needs
-
-copies-agree-returns : (t : ℕ) → copies-agree-lts.Need-returns (copies-agree-claims t) (copies-agree-at t) copies-agree.Post copies-agree-Inv-loop copies-agree-μ-loop
-copies-agree-returns t c =
-    let a = c .before .before .before .args in copies-leaf (a .work .now) (a .p) (a .u) (a .n) (a .outer) (a .inner) (a .e) _ (c .before .word .ensures) (λ z. omega arith) (λ z. omega arith) (a .c)
-
-copies-agree-returns-2 : (t : ℕ) → copies-agree-lts.Need-returns-2 (copies-agree-claims t) (copies-agree-at t) copies-agree.Post copies-agree-Inv-loop copies-agree-μ-loop
-copies-agree-returns-2 t c =
-    let a = c .before .before .before .before .args in copies-leaf (a .work .now) (a .p) (a .u) (a .n) (a .outer) (a .inner) (a .e) _ (c .before .before .word .ensures) (λ z. omega arith) (λ z. omega arith) (a .c)
 
 copies-agree-deepen-requires : (t : ℕ) → copies-agree-lts.Need-deepen-requires (copies-agree-claims t) (copies-agree-at t) copies-agree.Post copies-agree-Inv-loop copies-agree-μ-loop
 copies-agree-deepen-requires t c κs =
     search needs
 
+copies-agree-rooted-requires : (t : ℕ) → copies-agree-lts.Need-rooted-requires (copies-agree-claims t) (copies-agree-at t) copies-agree.Post copies-agree-Inv-loop copies-agree-μ-loop
+copies-agree-rooted-requires t c κs =
+    search needs
+
 copies-agree-loop-holds : (t : ℕ) → copies-agree-lts.Need-loop-holds (copies-agree-claims t) (copies-agree-at t) copies-agree.Post copies-agree-Inv-loop copies-agree-μ-loop
 copies-agree-loop-holds t c =
-    let a = c .before .before .before .before .before .args in (omega arith, begun-copies (a .work .now) (a .p) (a .u) (a .n) (a .outer) (a .inner) (a .e))
+    let a = c .before .before .before .args in
+    (omega arith, begun-copies (a .work .now) (a .p) (a .u) (a .n) (a .outer) (a .inner) (a .e), ahead-begins (a .work .now) _)
 
 copies-agree-lengths-agree-requires : (t : ℕ) → copies-agree-lts.Need-lengths-agree-requires (copies-agree-claims t) (copies-agree-at t) copies-agree.Post copies-agree-Inv-loop copies-agree-μ-loop
 copies-agree-lengths-agree-requires t c κs =
-    omega (arith, c .before .before .before .before .before .before .before .pre .0)
+    let pre = c .before .before .before .before .before .before .pre in
+    omega (arith, pre .0)
 
-copies-agree-returns-3 : (t : ℕ) → copies-agree-lts.Need-returns-3 (copies-agree-claims t) (copies-agree-at t) copies-agree.Post copies-agree-Inv-loop copies-agree-μ-loop
-copies-agree-returns-3 t c =
-    let a = c .before .before .before .before .before .before .before .before .before .args in copies-no (a .work .now) (a .p) (a .u) (a .n) (a .outer) (a .inner) (a .e) _ (c .before .before .before .loop .k) _ (c .before .before .before .before .deepen .ensures) (c .before .lengths-agree .ensures) (a .c) (omega arith) (not-true _ (c .if3 .taken))
+copies-agree-returns : (t : ℕ) → copies-agree-lts.Need-returns (copies-agree-claims t) (copies-agree-at t) copies-agree.Post copies-agree-Inv-loop copies-agree-μ-loop
+copies-agree-returns t c =
+    let a = c .before .before .before .before .before .before .before .before .args in
+    let deepen = c .before .before .before .before .before .before .deepen in
+    let loop = c .before .before .before .before .loop in
+    let lengths-agree = c .before .lengths-agree in
+    let if2 = c .if2 in
+    copies-no (a .work .now) (a .p) (a .u) (a .n) (a .outer) (a .inner) (a .e) (loop .k) _
+    (copy-at (a .work .now) (a .p) (a .u) (a .n) (a .outer) (a .inner) (a .e) _ (loop .k) _ (deepen .ensures) (lengths-agree .ensures))
+    (a .c) (omega arith) (not-true _ (if2 .taken))
+
+copies-agree-first-requires : (t : ℕ) → copies-agree-lts.Need-first-requires (copies-agree-claims t) (copies-agree-at t) copies-agree.Post copies-agree-Inv-loop copies-agree-μ-loop
+copies-agree-first-requires t c κs =
+    search needs
+
+copies-agree-lengths-agree-requires-2 : (t : ℕ) → copies-agree-lts.Need-lengths-agree-requires-2 (copies-agree-claims t) (copies-agree-at t) copies-agree.Post copies-agree-Inv-loop copies-agree-μ-loop
+copies-agree-lengths-agree-requires-2 t c κs =
+    let pre = c .before .before .before .before .before .before .before .pre in
+    omega (arith, pre .0)
+
+copies-agree-returns-2 : (t : ℕ) → copies-agree-lts.Need-returns-2 (copies-agree-claims t) (copies-agree-at t) copies-agree.Post copies-agree-Inv-loop copies-agree-μ-loop
+copies-agree-returns-2 t c =
+    let a = c .before .before .before .before .before .before .before .before .before .args in
+    let rooted = c .before .before .before .before .before .before .rooted in
+    let loop = c .before .before .before .before .before .loop in
+    let if1 = c .before .before .before .if1 in
+    let first = c .before .before .first in
+    let lengths-agree2 = c .before .lengths-agree2 in
+    let if3 = c .if3 in
+    copies-no (a .work .now) (a .p) (a .u) (a .n) (a .outer) (a .inner) (a .e) (loop .k) _
+    (copy-in (a .work .now) (a .p) (a .u) (a .n) (a .outer) (a .inner) (a .e) _ _ (loop .k) _ _ _ (rooted .ensures) (if1 .left) (loop .inv .2) (first .ensures) (lengths-agree2 .ensures))
+    (a .c) (omega arith) (not-true _ (if3 .taken))
+
+copies-agree-rest-requires : (t : ℕ) → copies-agree-lts.Need-rest-requires (copies-agree-claims t) (copies-agree-at t) copies-agree.Post copies-agree-Inv-loop copies-agree-μ-loop
+copies-agree-rest-requires t c κs =
+    search needs
 
 copies-agree-add-k : (t : ℕ) → copies-agree-lts.Need-add-k (copies-agree-claims t) (copies-agree-at t) copies-agree.Post copies-agree-Inv-loop copies-agree-μ-loop
 copies-agree-add-k t c =
@@ -105,14 +141,33 @@ copies-agree-loop-less t c =
 
 copies-agree-loop-again : (t : ℕ) → copies-agree-lts.Need-loop-again (copies-agree-claims t) (copies-agree-at t) copies-agree.Post copies-agree-Inv-loop copies-agree-μ-loop
 copies-agree-loop-again t c =
-    let a = c .before .before .before .before .before .before .before .before .before .args in (omega arith, copies-more (a .work .now) (a .p) (a .u) (a .n) (a .outer) (a .inner) (a .e) _ (c .before .before .before .loop .k) _ (c .before .before .before .before .deepen .ensures) (c .before .lengths-agree .ensures) (not-false _ (c .if3 .left)) (c .before .before .before .loop .inv .1))
+    let a = c .before .before .before .before .before .before .args in
+    let deepen = c .before .before .before .before .deepen in
+    let rooted = c .before .before .before .rooted in
+    let loop = c .before .before .loop in
+    let if1 = c .if1 in (
+      omega arith,
+      ⊎-elim
+          (λ q.
+          copies-more (a .work .now) (a .p) (a .u) (a .n) (a .outer) (a .inner) (a .e) (loop .k) _
+          (copy-at (a .work .now) (a .p) (a .u) (a .n) (a .outer) (a .inner) (a .e) _ (loop .k) _ (deepen .ensures) (q .1 .ensures))
+          (not-false _ (q .2 .left)) (loop .inv .1))
+          (λ q.
+          copies-more (a .work .now) (a .p) (a .u) (a .n) (a .outer) (a .inner) (a .e) (loop .k) _
+          (copy-in (a .work .now) (a .p) (a .u) (a .n) (a .outer) (a .inner) (a .e) _ _ (loop .k) _ _ _ (rooted .ensures) (q .0 .left) (loop .inv .2) (q .1 .ensures) (q .2 .ensures))
+          (not-false _ (q .3 .left)) (loop .inv .1))
+          (if1 .came),
+      ⊎-elim
+          (λ q. rw (q .3) (ahead-none (a .work .now) _ _ _ (q .0 .taken)))
+          (λ q. rw (q .5) (ahead-more (a .work .now) _ (loop .k) (loop .node) (q .0 .left) (loop .inv .2) _ (q .4 .ensures)))
+          (if1 .came),
+    )
 
-copies-agree-returns-4 : (t : ℕ) → copies-agree-lts.Need-returns-4 (copies-agree-claims t) (copies-agree-at t) copies-agree.Post copies-agree-Inv-loop copies-agree-μ-loop
-copies-agree-returns-4 t c =
-    let a = c .before .before .before .before .before .before .before .args in let e : c .before .loop .k ≡ a .c = omega arith in subst (λ (k : ℕ). CopiesAgree (a .work .now) (a .p) (a .u) (a .n) (a .outer) (a .inner) (a .e) k true) e (c .before .loop .inv .1)
-
-abbrev lengths-agree-claims : ℕ → lengths-agree-lts.Claims
-lengths-agree-claims t = (word-reads.Asked, word-reads.Learnt, reference-reads.Asked, reference-reads.Learnt, lengths-agree-below t, lengths-agree.Post, copies-reads.Asked, copies-reads.Learnt, all-of-reads.Asked, all-of-reads.Learnt, copies-agree-below t, copies-agree.Post)
+copies-agree-returns-3 : (t : ℕ) → copies-agree-lts.Need-returns-3 (copies-agree-claims t) (copies-agree-at t) copies-agree.Post copies-agree-Inv-loop copies-agree-μ-loop
+copies-agree-returns-3 t c =
+    let a = c .before .before .before .before .before .args in
+    let loop = c .before .loop in
+    let e : loop .k ≡ a .c = omega arith in subst (λ (k : ℕ). CopiesAgree (a .work .now) (a .p) (a .u) (a .n) (a .outer) (a .inner) (a .e) k true) e (loop .inv .1)
 
 lengths-agree-word-requires : (t : ℕ) → lengths-agree-lts.Need-word-requires (lengths-agree-claims t) (lengths-agree-at t) lengths-agree.Post
 lengths-agree-word-requires t c κs =
@@ -185,17 +240,19 @@ pub +copies-agree+lengths-agree-spec : {M : Type 1} → statement M
     copies-agree.Post
     copies-agree-Inv-loop
     copies-agree-μ-loop
-    (copies-agree-word-requires t)
-    (copies-agree-returns t)
-    (copies-agree-returns-2 t)
     (copies-agree-deepen-requires t)
+    (copies-agree-rooted-requires t)
     (copies-agree-loop-holds t)
     (copies-agree-lengths-agree-requires t)
-    (copies-agree-returns-3 t)
+    (copies-agree-returns t)
+    (copies-agree-first-requires t)
+    (copies-agree-lengths-agree-requires-2 t)
+    (copies-agree-returns-2 t)
+    (copies-agree-rest-requires t)
     (copies-agree-add-k t)
     (copies-agree-loop-less t)
     (copies-agree-loop-again t)
-    (copies-agree-returns-4 t))
+    (copies-agree-returns-3 t))
     λ t. lengths-agree-lts.spec (lengths-agree-claims t)
     (lengths-agree-at t)
     lengths-agree.Post

@@ -15,13 +15,15 @@ use Rattle.arena.proofs.lists.rest.Reads as rest-reads
 use Rattle.steps.proofs.agree.deepen.Reads as deepen-reads
 use Rattle.steps.proofs.cost.size.Reads as size-reads
 use Rattle.steps.proofs.lengths.copies.Reads as copies-reads
-use Rattle.steps.proofs.parts.listed.Reads as listed-reads
 use Rattle.steps.proofs.parts.taken.Reads as taken-reads
+use Rattle.steps.proofs.places.rooted.Reads as rooted-reads
 use Rattle.steps.proofs.cost.+copies_cost+cost.{statement}
 use Rattle.steps.proofs.cost.+copies_cost+cost.Tie.{close}
 use Rattle.steps.specs.PartLaws.{tag-falls}
-use Rattle.steps.specs.Cost.{CopiesCost, Ahead}
-use Rattle.steps.specs.CostLaws.{copies-begin, copies-past, copies-next, copies-element, ahead-begins, ahead-none, ahead-more, cost-past, cost-variable, cost-leaf, cost-pair, cost-ellipsis}
+use Rattle.steps.specs.Cost.{CopiesCost}
+use Rattle.steps.specs.Places.{Ahead}
+use Rattle.steps.specs.PlaceLaws.{ahead-begins, ahead-none, ahead-more}
+use Rattle.steps.specs.CostLaws.{copies-begin, copies-past, copies-next, copies-element, cost-past, cost-variable, cost-leaf, cost-pair, cost-ellipsis}
 use native.Mathlib.Omega.{arith}
 use mathlib.Core.Logic.{⊎-elim}
 use borrow.Author.Needs.{needs}
@@ -49,52 +51,65 @@ cost-at t = and 1 cost-kinds.ps (is 1 cost-kinds.ps μ-cost t) cost.Pre
 abbrev cost-below : ℕ → In 1 cost-kinds.ps
 cost-below t = and 1 cost-kinds.ps (falls 1 cost-kinds.ps _<_ μ-cost t) cost.Pre
 
+abbrev copies-cost-claims : ℕ → copies-cost-lts.Claims
+copies-cost-claims t = (deepen-reads.Asked, deepen-reads.Learnt, rooted-reads.Asked, rooted-reads.Learnt, cost-below t, cost.Post, first-reads.Asked, first-reads.Learnt, rest-reads.Asked, rest-reads.Learnt)
+
+abbrev cost-claims : ℕ → cost-lts.Claims
+cost-claims t = (word-reads.Asked, word-reads.Learnt, reference-reads.Asked, reference-reads.Learnt, taken-reads.Asked, taken-reads.Learnt, size-reads.Asked, size-reads.Learnt, cost-below t, cost.Post, copies-reads.Asked, copies-reads.Learnt, copies-cost-below t, copies-cost.Post)
+
 abbrev copies-cost-Inv-loop : copies-cost-lts.InvT-loop
-copies-cost-Inv-loop work p u n outer inner e c acc limit m node₀ sum₀ k₀ node sum k =
-    (k ≤ c) × CopiesCost work p u n outer inner e k acc limit sum × Ahead work p u e k node
+copies-cost-Inv-loop work p u n outer inner e c acc limit m at node₀ sum₀ k₀ node sum k =
+    (k ≤ c) × CopiesCost work p u n outer inner e k acc limit sum × Ahead work (at .list) k node
 
 abbrev copies-cost-μ-loop : copies-cost-lts.MeasureT-loop
-copies-cost-μ-loop work p u n outer inner e c acc limit m node₀ sum₀ k₀ node sum k =
+copies-cost-μ-loop work p u n outer inner e c acc limit m at node₀ sum₀ k₀ node sum k =
     c - k
-
-abbrev copies-cost-claims : ℕ → copies-cost-lts.Claims
-copies-cost-claims t = (deepen-reads.Asked, deepen-reads.Learnt, listed-reads.Asked, listed-reads.Learnt, cost-below t, cost.Post, first-reads.Asked, first-reads.Learnt, size-reads.Asked, size-reads.Learnt, rest-reads.Asked, rest-reads.Learnt)
 
 copies-cost-deepen-requires : (t : ℕ) → copies-cost-lts.Need-deepen-requires (copies-cost-claims t) (copies-cost-at t) copies-cost.Post copies-cost-Inv-loop copies-cost-μ-loop
 copies-cost-deepen-requires t c κs =
     search needs
 
-copies-cost-listed-requires : (t : ℕ) → copies-cost-lts.Need-listed-requires (copies-cost-claims t) (copies-cost-at t) copies-cost.Post copies-cost-Inv-loop copies-cost-μ-loop
-copies-cost-listed-requires t c κs =
+copies-cost-rooted-requires : (t : ℕ) → copies-cost-lts.Need-rooted-requires (copies-cost-claims t) (copies-cost-at t) copies-cost.Post copies-cost-Inv-loop copies-cost-μ-loop
+copies-cost-rooted-requires t c κs =
     search needs
 
 copies-cost-loop-holds : (t : ℕ) → copies-cost-lts.Need-loop-holds (copies-cost-claims t) (copies-cost-at t) copies-cost.Post copies-cost-Inv-loop copies-cost-μ-loop
 copies-cost-loop-holds t c =
-    let a = c .before .before .before .args in (omega arith, copies-begin (a .work .now) (a .p) (a .u) (a .n) (a .outer) (a .inner) (a .e) (a .acc) (a .limit) (c .before .before .before .pre .1), ahead-begins (a .work .now) (a .p) (a .u) (a .e) _ (c .listed .ensures))
+    let entry = c .before .before .before in
+    let a = entry .args in
+    let pre = entry .pre in
+    (omega arith, copies-begin (a .work .now) (a .p) (a .u) (a .n) (a .outer) (a .inner) (a .e) (a .acc) (a .limit) (pre .1), ahead-begins (a .work .now) _)
 
 copies-cost-returns : (t : ℕ) → copies-cost-lts.Need-returns (copies-cost-claims t) (copies-cost-at t) copies-cost.Post copies-cost-Inv-loop copies-cost-μ-loop
 copies-cost-returns t c =
-    let a = c .before .before .before .before .before .before .args in copies-past (a .work .now) (a .p) (a .u) (a .n) (a .outer) (a .inner) (a .e) (a .acc) (a .limit) (c .before .before .loop .k) (c .before .before .loop .sum) (c .before .before .loop .inv .1) (a .c) (c .before .before .loop .inv .0) (c .if1 .taken)
+    let a = c .before .before .before .before .before .before .args in
+    let loop = c .before .before .loop in
+    let if1 = c .if1 in
+    copies-past (a .work .now) (a .p) (a .u) (a .n) (a .outer) (a .inner) (a .e) (a .acc) (a .limit) (loop .k) (loop .sum) (loop .inv .1) (a .c) (loop .inv .0) (if1 .taken)
 
 copies-cost-add-cost : (t : ℕ) → copies-cost-lts.Need-add-cost (copies-cost-claims t) (copies-cost-at t) copies-cost.Post copies-cost-Inv-loop copies-cost-μ-loop
 copies-cost-add-cost t c =
-    omega (arith, c .before .before .before .before .before .before .before .pre .1)
+    let pre = c .before .before .before .before .before .before .before .pre in
+    omega (arith, pre .1)
 
 copies-cost-cost-requires : (t : ℕ) → copies-cost-lts.Need-cost-requires (copies-cost-claims t) (copies-cost-at t) copies-cost.Post copies-cost-Inv-loop copies-cost-μ-loop
 copies-cost-cost-requires t c κs =
-    (omega (arith, c .before .before .before .before .before .before .before .pre .0), record { most = omega arith; small = c .before .before .before .before .before .before .before .pre .1 .small })
+    let pre = c .before .before .before .before .before .before .before .pre in
+    (omega (arith, pre .0), record { most = omega arith; small = pre .1 .small })
 
 copies-cost-first-requires : (t : ℕ) → copies-cost-lts.Need-first-requires (copies-cost-claims t) (copies-cost-at t) copies-cost.Post copies-cost-Inv-loop copies-cost-μ-loop
 copies-cost-first-requires t c κs =
     search needs
 
-copies-cost-add-size : (t : ℕ) → copies-cost-lts.Need-add-size (copies-cost-claims t) (copies-cost-at t) copies-cost.Post copies-cost-Inv-loop copies-cost-μ-loop
-copies-cost-add-size t c =
-    omega (arith, c .before .before .before .before .before .before .before .before .pre .1)
+copies-cost-add-cost-2 : (t : ℕ) → copies-cost-lts.Need-add-cost-2 (copies-cost-claims t) (copies-cost-at t) copies-cost.Post copies-cost-Inv-loop copies-cost-μ-loop
+copies-cost-add-cost-2 t c =
+    let pre = c .before .before .before .before .before .before .before .before .pre in
+    omega (arith, pre .1)
 
-copies-cost-size-requires : (t : ℕ) → copies-cost-lts.Need-size-requires (copies-cost-claims t) (copies-cost-at t) copies-cost.Post copies-cost-Inv-loop copies-cost-μ-loop
-copies-cost-size-requires t c κs =
-    record { most = omega arith; small = c .before .before .before .before .before .before .before .before .pre .1 .small }
+copies-cost-cost-requires-2 : (t : ℕ) → copies-cost-lts.Need-cost-requires-2 (copies-cost-claims t) (copies-cost-at t) copies-cost.Post copies-cost-Inv-loop copies-cost-μ-loop
+copies-cost-cost-requires-2 t c κs =
+    let pre = c .before .before .before .before .before .before .before .before .pre in
+    (omega (arith, pre .0), record { most = omega arith; small = pre .1 .small })
 
 copies-cost-rest-requires : (t : ℕ) → copies-cost-lts.Need-rest-requires (copies-cost-claims t) (copies-cost-at t) copies-cost.Post copies-cost-Inv-loop copies-cost-μ-loop
 copies-cost-rest-requires t c κs =
@@ -110,24 +125,27 @@ copies-cost-loop-less t c =
 
 copies-cost-loop-again : (t : ℕ) → copies-cost-lts.Need-loop-again (copies-cost-claims t) (copies-cost-at t) copies-cost.Post copies-cost-Inv-loop copies-cost-μ-loop
 copies-cost-loop-again t c =
-    let a = c .before .before .before .before .before .before .before .args in (
+    let a = c .before .before .before .before .before .before .before .args in
+    let deepen = c .before .before .before .before .before .deepen in
+    let rooted = c .before .before .before .before .rooted in
+    let loop = c .before .before .before .loop in
+    let if2 = c .if2 in (
       omega arith,
       ⊎-elim
-          (λ q. rw (q .3) (copies-next (a .work .now) (a .p) (a .u) (a .n) (a .outer) (a .inner) (a .e) (a .acc) (a .limit) (c .before .before .before .loop .k) (c .before .before .before .loop .sum) (c .before .before .before .loop .inv .1) _ _ (c .before .before .before .before .before .deepen .ensures) (q .1 .ensures)))
-          (λ q. rw (q .5) (copies-element (a .work .now) (a .p) (a .u) (a .n) (a .outer) (a .inner) (a .e) (a .acc) (a .limit) (c .before .before .before .loop .k) (c .before .before .before .loop .sum) (c .before .before .before .loop .inv .1) _ _ _ (q .0 .left) (c .before .before .before .loop .inv .2) (q .1 .ensures) (q .2 .ensures)))
-          (c .if2 .came),
+          (λ q. rw (q .3) (copies-next (a .work .now) (a .p) (a .u) (a .n) (a .outer) (a .inner) (a .e) (a .acc) (a .limit) (loop .k) (loop .sum) (loop .inv .1) _ _ (deepen .ensures) (q .1 .ensures)))
+          (λ q. rw (q .5) (copies-element (a .work .now) (a .p) (a .u) (a .n) (a .outer) (a .inner) (a .e) (a .acc) (a .limit) (loop .k) (loop .sum) (loop .inv .1) _ _ _ _ _ (rooted .ensures) (q .0 .left) (loop .inv .2) (q .1 .ensures) (q .2 .ensures)))
+          (if2 .came),
       ⊎-elim
-          (λ q. rw (q .2) (ahead-none (a .work .now) (a .p) (a .u) (a .e) _ _ (q .0 .taken)))
-          (λ q. rw (q .4) (ahead-more (a .work .now) (a .p) (a .u) (a .e) (c .before .before .before .loop .k) (c .before .before .before .loop .node) _ (q .0 .left) (c .before .before .before .loop .inv .2) (q .3 .ensures)))
-          (c .if2 .came),
+          (λ q. rw (q .2) (ahead-none (a .work .now) _ _ _ (q .0 .taken)))
+          (λ q. rw (q .4) (ahead-more (a .work .now) _ (loop .k) (loop .node) (q .0 .left) (loop .inv .2) _ (q .3 .ensures)))
+          (if2 .came),
     )
 
 copies-cost-returns-2 : (t : ℕ) → copies-cost-lts.Need-returns-2 (copies-cost-claims t) (copies-cost-at t) copies-cost.Post copies-cost-Inv-loop copies-cost-μ-loop
 copies-cost-returns-2 t c =
-    let a = c .before .before .before .before .before .args in let e : c .before .loop .k ≡ a .c = omega arith in subst (λ (k : ℕ). CopiesCost (a .work .now) (a .p) (a .u) (a .n) (a .outer) (a .inner) (a .e) k (a .acc) (a .limit) (c .before .loop .sum)) e (c .before .loop .inv .1)
-
-abbrev cost-claims : ℕ → cost-lts.Claims
-cost-claims t = (word-reads.Asked, word-reads.Learnt, reference-reads.Asked, reference-reads.Learnt, taken-reads.Asked, taken-reads.Learnt, size-reads.Asked, size-reads.Learnt, cost-below t, cost.Post, copies-reads.Asked, copies-reads.Learnt, copies-cost-below t, copies-cost.Post)
+    let a = c .before .before .before .before .before .args in
+    let loop = c .before .loop in
+    let e : loop .k ≡ a .c = omega arith in subst (λ (k : ℕ). CopiesCost (a .work .now) (a .p) (a .u) (a .n) (a .outer) (a .inner) (a .e) k (a .acc) (a .limit) (loop .sum)) e (loop .inv .1)
 
 cost-returns : (t : ℕ) → cost-lts.Need-returns (cost-claims t) (cost-at t) cost.Post
 cost-returns t c =
@@ -212,14 +230,14 @@ pub +copies-cost+cost-spec : {M : Type 1} → statement M
     copies-cost-Inv-loop
     copies-cost-μ-loop
     (copies-cost-deepen-requires t)
-    (copies-cost-listed-requires t)
+    (copies-cost-rooted-requires t)
     (copies-cost-loop-holds t)
     (copies-cost-returns t)
     (copies-cost-add-cost t)
     (copies-cost-cost-requires t)
     (copies-cost-first-requires t)
-    (copies-cost-add-size t)
-    (copies-cost-size-requires t)
+    (copies-cost-add-cost-2 t)
+    (copies-cost-cost-requires-2 t)
     (copies-cost-rest-requires t)
     (copies-cost-add-k t)
     (copies-cost-loop-less t)
