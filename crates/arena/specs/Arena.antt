@@ -37,11 +37,15 @@ unfoldable pub giveKey : ℕ → Name → Name
 giveKey k x = record { number = x .number; item = x .item; produced = x .produced; marks = x .marks; binding = bindingOf k }
 
 -- marks are numbers of steps, and steps are at most the fuel; a word past them marks nothing
+abbrev pub stepLimit : ℕ
+stepLimit = 8194
+
+-- for so many marks a lent table has room; a name with more is looked at in a table of its own, which takes time and nothing else
 abbrev pub markLimit : ℕ
-markLimit = 8194
+markLimit = 512
 
 unfoldable pub marked : ℕ → Name → Name
-marked m x = cond (ltb m markLimit) (markName m x) x
+marked m x = cond (ltb m stepLimit) (markName m x) x
 
 -- the newest of a name's marks
 unfoldable pub newest : List ℕ → ℕ

@@ -12,7 +12,7 @@ use lib.Seq.{getD-take, take-take}
 use borrow.Author.Tests.{lt-ltb, le-ltb, eq-eqb, ne-eqb, ltb-true, ltb-false, eqb-true, eqb-false}
 use Rattle.words.specs.Lists.{equal}
 use Rattle.recipe.specs.Name.{Binding, variable, macro, Name, plainName, bindingKey, markName, bindName, giveBinding, same, toggle}
-use Rattle.arena.specs.Arena.{wordAt, falling, referenceAt, bindingOf, giveKey, markLimit, marked, newest, byTag, markOn, joinOn, ownMarks, sameMarks, isOwn, rebound, binderOn, wrapStep, wrapFrom, wrapAt}
+use Rattle.arena.specs.Arena.{wordAt, falling, referenceAt, bindingOf, giveKey, stepLimit, marked, newest, byTag, markOn, joinOn, ownMarks, sameMarks, isOwn, rebound, binderOn, wrapStep, wrapFrom, wrapAt}
 
 -- ---- tests
 
@@ -207,11 +207,11 @@ rebound-marks work f w x = cases (isOwn work f w x) (λ t. rw t) (λ t. rw t)
 
 pub marked-marks : (m : ℕ) (x y : Name) → x .marks ≡ y .marks → marked m x .marks ≡ marked m y .marks
 unfolding marked markName
-marked-marks m x y e = cases (ltb m markLimit) (λ t. rw t (ap (toggle m) e)) (λ t. rw t e)
+marked-marks m x y e = cases (ltb m stepLimit) (λ t. rw t (ap (toggle m) e)) (λ t. rw t e)
 
 pub marked-number : (m : ℕ) (x : Name) → marked m x .number ≡ x .number
 unfolding marked markName
-marked-number m x = cases (ltb m markLimit) (λ t. rw t) (λ t. rw t)
+marked-number m x = cases (ltb m stepLimit) (λ t. rw t) (λ t. rw t)
 
 pub rebound-number : (work : List ℕ) (f : ℕ → Name → Name) (w : ℕ) (x : Name) → rebound work f w x .number ≡ x .number
 unfolding rebound giveKey
@@ -247,9 +247,9 @@ wrapAt-number work w x =
 
 -- ---- the definition's maps
 
-pub marked-is : (m : ℕ) (x : Name) → m < markLimit → marked m x ≡ markName m x
+pub marked-is : (m : ℕ) (x : Name) → m < stepLimit → marked m x ≡ markName m x
 unfolding marked
-marked-is m x h = rw (lt-ltb m markLimit h)
+marked-is m x h = rw (lt-ltb m stepLimit h)
 
 pub equal-true : (a b : List ℕ) → equal a b ≡ true → a ≡ b
 unfolding equal

@@ -1,6 +1,6 @@
 -- Laws of new cells.
 use mathlib.Core.Path.{_≡_, refl, sym, ap, ap₂, _∙_}
-use mathlib.Core.List.{List, []}
+use mathlib.Core.List.{List}
 use Prim.Native.Nat.{ℕ, _+_, _-_, _≤_, _<_}
 use native.Mathlib.Omega.{arith}
 use lib.Dec.{ltb}
@@ -10,7 +10,7 @@ use borrow.Author.Tests.{ltb-true, ltb-false}
 use Rattle.recipe.specs.Name.{Name, plainName, markName, bindName}
 use Rattle.recipe.specs.Tree.{empty, constant, name, pair, onNames, mark}
 use Rattle.recipe.specs.TreeLaws.{onNames-∘, onNames-cong}
-use Rattle.arena.specs.Arena.{wordAt, referenceAt, markLimit, marked, ownMarks, wrapAt, nodeName, nameAt, constantAt, treeAt}
+use Rattle.arena.specs.Arena.{wordAt, referenceAt, stepLimit, marked, ownMarks, wrapAt, nodeName, nameAt, constantAt, treeAt}
 use Rattle.arena.specs.ArenaLaws.{cases, wordAt-in, wordAt-out, wordAt-below, falling-is, take-less, wrapAt-below, wrapAt-mark, wrapAt-join, wrapAt-binder, marked-is, Own, rebound-is}
 use Rattle.arena.specs.NodeLaws.{treeAt-wrap, treeAt-below, treeAt-empty, treeAt-name, treeAt-pair, treeAt-constant}
 use Rattle.arena.specs.Cells.{itemName, Cell, Wrapped, Described, Bound, Grown}
@@ -65,7 +65,7 @@ wrap-kept old new top w h e x = wrapAt-below new old w (take-less new old w top 
 -- ---- wraps
 
 module _ (old new : List ℕ) (top r : ℕ) where
-  pub wrapped-mark : (m parent : ℕ) → m < markLimit → parent ≤ top → Cell m parent 1 old new top r → Wrapped (λ x. markName m (wrapAt old parent x)) 3 old new top r
+  pub wrapped-mark : (m parent : ℕ) → m < stepLimit → parent ≤ top → Cell m parent 1 old new top r → Wrapped (λ x. markName m (wrapAt old parent x)) 3 old new top r
   wrapped-mark m parent l h c =
       record {
         end = c .end;

@@ -1,7 +1,7 @@
 -- Laws of names in the arena, in the code's shape.
 use mathlib.Core.Path.{_≡_, refl, sym, ap, _∙_}
 use mathlib.Core.Bool.{Bool, true, false, _&&_}
-use mathlib.Core.List.{List, []}
+use mathlib.Core.List.{List}
 use mathlib.Core.Option.{Option, none, some}
 use Prim.Native.Nat.{ℕ, _+_, _-_, _/_, _%_, _≤_, _<_}
 use native.Mathlib.Omega.{arith}
@@ -11,22 +11,18 @@ use borrow.Author.Tests.{lt-ltb, le-ltb, eq-eqb, ne-eqb}
 use Rattle.words.specs.Lists.{equal}
 use Rattle.recipe.specs.Name.{Binding, variable, macro, Name, plainName, bindingKey, isBound, same}
 use Rattle.expansion.specs.Lookup.{orUnbound, agree}
-use Rattle.arena.specs.Arena.{referenceAt, markLimit, newest, bindingOf, wrapAt, nodeName, nameAt}
+use Rattle.arena.specs.Arena.{referenceAt, newest, bindingOf, wrapAt, nodeName, nameAt}
 use Rattle.arena.specs.ArenaLaws.{bindingOf-key, wrapAt-marks, wrapAt-number}
-use Rattle.arena.specs.Marks.{marksIn, Holds, NameHand, NameAfter}
-use Rattle.arena.specs.Marks as Marks
+use Rattle.arena.specs.Marks.{marksIn, Holds, NameAfter}
 use Rattle.arena.specs.MarkLaws.{marksIn-length, marksIn-below}
+use Rattle.arena.specs.HandLaws.{count-most}
 use Rattle.arena.specs.BinderLaws.{equal-lengths}
 use Rattle.arena.specs.Cells.{Described, Bound, Binds}
-use Rattle.arena.specs.Names.{numberOf, Resolved, meansOf, operationAt, unboundIn, lookupIn, Agrees}
+use Rattle.arena.specs.Names.{numberOf, Resolved, Summed, meansOf, operationAt, unboundIn, lookupIn, Agrees}
 use Rattle.arena.specs.declared.names.Meaning.{Meaning}
 use Rattle.arena.specs.declared.names.Meaning.the-variants.{Variable, Macro, Form, Operation, Nothing}
 
 -- ---- resolving
-
-pub name-none : (t : List ℕ) (s : ℕ) → s + markLimit + markLimit < length t → NameHand t s 0
-unfolding marksIn
-name-none t s h = record { descends = Marks.none; room = h }
 
 -- the own wrap, then the pending one
 pub resolved : (items work : List ℕ) (node w own number : ℕ) → own ≡ referenceAt work node 1 → number ≡ numberOf items work node → (old mid new : List ℕ) (s k c r d : ℕ) → NameAfter (wrapAt work own) old mid s number 0 0 k c → NameAfter (wrapAt work w) mid new s number k c r d → Resolved items work node w old new s r d
@@ -37,7 +33,7 @@ resolved items work node w own number p e old mid new s k c r d f g =
     let i : nameAt items work node w ≡ wrapAt work w (wrapAt work own (nodeName items work node)) = ap (λ (u : ℕ). wrapAt work w (wrapAt work u (nodeName items work node))) (sym p) in
     record {
       holds = rw i (record { number-is = h .number-is ∙ e; marks-are = h .marks-are; binding-is = h .binding-is });
-      descends = g .descends;
+      hand = g .hand;
       kept = g .kept ∙ f .kept;
     }
 
@@ -53,15 +49,24 @@ nameAt-number items work node w = wrapAt-number work w _ ∙ wrapAt-number work 
 
 -- ---- binders
 
--- a resolved name's words are those of the binder's own name
-pub described : (items work : List ℕ) (node w own number : ℕ) → own ≡ referenceAt work node 1 → number ≡ numberOf items work node → (old new : List ℕ) (count binding m : ℕ) → Resolved items work node w old new 0 count binding → m ≡ newest (marksIn new 0 count) → Described work (nameAt items work node w) number binding count m own w
-unfolding nameAt
-described items work node w own number p e old new count binding m h f =
+pub summed : (items work : List ℕ) (node w : ℕ) (old new : List ℕ) (count binding m : ℕ) → Resolved items work node w old new 0 count binding → m ≡ newest (marksIn new 0 count) → Summed (nameAt items work node w) binding count m
+summed items work node w old new count binding m h f =
     record {
-      number-is = e ∙ sym (h .holds .number-is);
       binding-is = sym (h .holds .binding-is);
       count-is = sym (ap length (h .holds .marks-are) ∙ marksIn-length new 0 count);
       newest-is = f ∙ sym (ap newest (h .holds .marks-are));
+      most = count-most new 0 count (h .hand .descends);
+    }
+
+-- a name's summary is that of the binder's own name
+pub described : (items work : List ℕ) (node w own number : ℕ) → own ≡ referenceAt work node 1 → number ≡ numberOf items work node → (binding count m : ℕ) → Summed (nameAt items work node w) binding count m → Described work (nameAt items work node w) number binding count m own w
+unfolding nameAt
+described items work node w own number p e binding count m h =
+    record {
+      number-is = e ∙ sym (nameAt-number items work node w);
+      binding-is = h .binding-is;
+      count-is = h .count-is;
+      newest-is = h .newest-is;
       marks-are = rw p (wrapAt-marks work w _ _ (wrapAt-marks work (referenceAt work node 1) (plainName 0 0) (nodeName items work node) (no-marks items work node)));
     }
 

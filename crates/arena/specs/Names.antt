@@ -2,14 +2,14 @@
 use mathlib.Core.Path.{_≡_}
 use mathlib.Core.Bool.{Bool, cond}
 use mathlib.Core.List.{List}
-use Prim.Native.Nat.{ℕ, _-_}
+use Prim.Native.Nat.{ℕ, _-_, _≤_}
 use lib.Dec.{eqb, ltb}
-use lib.ListN.{getD, take}
+use lib.ListN.{length, getD, take}
 use Rattle.words.specs.Limits.{baseNameCount}
 use Rattle.recipe.specs.Name.{variable, macro, Name, bindingKey}
 use Rattle.expansion.specs.Lookup.{Found, bound, form, operation, nothing, formOf, orUnbound, agree}
-use Rattle.arena.specs.Arena.{wordAt, markLimit, numberAt, nameAt}
-use Rattle.arena.specs.Marks.{marksIn, Descends, Holds}
+use Rattle.arena.specs.Arena.{wordAt, stepLimit, newest, numberAt, nameAt}
+use Rattle.arena.specs.Marks.{Hand, Holds}
 use Rattle.arena.specs.declared.names.Meaning.{Meaning}
 use Rattle.arena.specs.declared.names.Meaning.the-variants.{Variable, Macro, Form, Operation, Nothing}
 
@@ -20,8 +20,15 @@ numberOf items work node = numberAt items (wordAt work node 2)
 -- the name of a node under a wrap is in hand
 pub record Resolved (items work : List ℕ) (node w : ℕ) (old new : List ℕ) (start count binding : ℕ) : Type 0 where
   pub holds : Holds (nameAt items work node w) new start count (numberOf items work node) binding
-  pub descends : Descends markLimit (marksIn new start count)
+  pub hand : Hand new start count
   pub kept : take start new ≡ take start old
+
+-- a name as a binder keeps it
+pub record Summed (x : Name) (binding count mark : ℕ) : Type 0 where
+  pub binding-is : binding ≡ bindingKey (x .binding)
+  pub count-is : count ≡ length (x .marks)
+  pub newest-is : mark ≡ newest (x .marks)
+  pub most : count ≤ stepLimit
 
 -- ---- lookups
 

@@ -1,45 +1,35 @@
 -- Laws of the walk of a wrap by the name in hand, one for each way through the code.
 use mathlib.Core.Path.{_≡_, refl, ap, _∙_}
-use mathlib.Core.List.{List, []}
+use mathlib.Core.List.{List}
 use Prim.Native.Nat.{ℕ}
-use native.Mathlib.Omega.{arith}
 use lib.Dec.{ltb}
-use lib.ListN.{length}
 use Rattle.recipe.specs.Name.{Name, bindingKey, markName}
-use Rattle.arena.specs.Arena.{wordAt, referenceAt, markLimit, marked, rebound, wrapAt}
+use Rattle.arena.specs.Arena.{wordAt, referenceAt, stepLimit, marked, rebound, wrapAt}
 use Rattle.arena.specs.ArenaLaws.{cases, marked-number}
-use Rattle.arena.specs.Marks.{Hand, MarksAfter, NameHand, NameAfter}
+use Rattle.arena.specs.Marks.{Hand, MarksAfter, NameAfter}
 use Rattle.arena.specs.HandLaws.{wrap-mark, wrap-join, wrap-binder}
-
--- ---- room
-
-pub name-marks : {t : List ℕ} {s n : ℕ} → NameHand t s n → Hand t s n
-name-marks h = record { descends = h .descends; room = omega (arith, h .room) }
-
-pub name-hand : (f : Name → Name) (old new : List ℕ) (s number n b k c : ℕ) → NameHand old s n → length new ≡ length old → NameAfter f old new s number n b k c → NameHand new s k
-name-hand f old new s number n b k c h l p = record { descends = p .descends; room = omega (arith, h .room) }
 
 -- ---- one after another
 
-pub name-idle : (f : Name → Name) (old : List ℕ) (s number n b : ℕ) → NameHand old s n → ((x : Name) → f x ≡ x) → NameAfter f old old s number n b n b
-name-idle f old s number n b h e = record { holds = λ x o. rw (e x) o; descends = h .descends; kept = refl }
+pub name-idle : (f : Name → Name) (old : List ℕ) (s number n b : ℕ) → Hand old s n → ((x : Name) → f x ≡ x) → NameAfter f old old s number n b n b
+name-idle f old s number n b h e = record { holds = λ x o. rw (e x) o; hand = h; kept = refl }
 
 pub name-both : (f g : Name → Name) (old mid new : List ℕ) (s number n b k c r d : ℕ) → NameAfter f old mid s number n b k c → NameAfter g mid new s number k c r d → NameAfter (λ x. g (f x)) old new s number n b r d
-name-both f g old mid new s number n b k c r d p q = record { holds = λ x o. q .holds (f x) (p .holds x o); descends = q .descends; kept = q .kept ∙ p .kept }
+name-both f g old mid new s number n b k c r d p q = record { holds = λ x o. q .holds (f x) (p .holds x o); hand = q .hand; kept = q .kept ∙ p .kept }
 
 pub name-is : (f g : Name → Name) (old new : List ℕ) (s number n b r d : ℕ) → ((x : Name) → g x ≡ f x) → NameAfter f old new s number n b r d → NameAfter g old new s number n b r d
-name-is f g old new s number n b r d e p = record { holds = λ x o. rw (e x) (p .holds x o); descends = p .descends; kept = p .kept }
+name-is f g old new s number n b r d e p = record { holds = λ x o. rw (e x) (p .holds x o); hand = p .hand; kept = p .kept }
 
 marked-binding : (m : ℕ) (x : Name) → marked m x .binding ≡ x .binding
 unfolding marked markName
-marked-binding m x = cases (ltb m markLimit) (λ t. rw t) (λ t. rw t)
+marked-binding m x = cases (ltb m stepLimit) (λ t. rw t) (λ t. rw t)
 
 -- marks never change a binding
 name-marked : (m : ℕ) (old new : List ℕ) (s number n b r : ℕ) → MarksAfter (marked m) old new s n r → NameAfter (marked m) old new s number n b r b
 name-marked m old new s number n b r p =
     record {
       holds = λ x o. record { number-is = marked-number m x ∙ o .number-is; marks-are = p .marks-are x (o .marks-are); binding-is = ap bindingKey (marked-binding m x) ∙ o .binding-is };
-      descends = p .descends;
+      hand = p .hand;
       kept = p .kept;
     }
 
@@ -60,7 +50,7 @@ module _ (work : List ℕ) (w tag : ℕ) (tag-is : tag ≡ wordAt work w 1) (inn
         name-is _ _ old new s number n b r d (wrap-join work w tag tag-is inner inner-is outer t e)
         (name-both (wrapAt work inner) (wrapAt work outer) old mid new s number n b k c r d before p)
 
-    pub walk-binder : tag ≡ 3 → (new : List ℕ) (d : ℕ) → NameAfter (rebound work (wrapAt work) w) mid new s number k c k d → Walked new k d
-    walk-binder t new d p =
-        name-is _ _ old new s number n b k d (wrap-binder work w tag tag-is inner inner-is t)
-        (name-both (wrapAt work inner) (rebound work (wrapAt work) w) old mid new s number n b k c k d before p)
+    pub walk-binder : tag ≡ 3 → (new : List ℕ) (r d : ℕ) → NameAfter (rebound work (wrapAt work) w) mid new s number k c r d → Walked new r d
+    walk-binder t new r d p =
+        name-is _ _ old new s number n b r d (wrap-binder work w tag tag-is inner inner-is t)
+        (name-both (wrapAt work inner) (rebound work (wrapAt work) w) old mid new s number n b k c r d before p)

@@ -7,7 +7,7 @@ ghost use lib.Dec.{ltb};
 ghost use lib.ListN.{length};
 ghost use Rattle.recipe.specs.Name.{markName};
 ghost use Rattle.recipe.specs.Tree.{empty, constant, name, pair};
-ghost use Rattle.arena.specs.Arena.{wordAt, referenceAt, markLimit, wrapAt, treeAt};
+ghost use Rattle.arena.specs.Arena.{wordAt, referenceAt, stepLimit, wrapAt, treeAt};
 ghost use Rattle.arena.specs.Cells.{Room, Cell, Wrapped, Bound, itemName, Grown};
 
 // Kinds of nodes, as of items; every other is a constant's.
@@ -103,7 +103,7 @@ fn put(work: &mut [u32], top: u32, a: u32, b: u32, c: u32) -> u32
 
 // A mark after what `parent` means. The step is below the limit, since steps are at most the fuel.
 pub fn put_mark(work: &mut [u32], top: u32, step: u32, parent: u32) -> u32
-    requires { ⌜ (Room (now work) top 3) × (step < markLimit) × (parent ≤ top) ⌝ }
+    requires { ⌜ (Room (now work) top 3) × (step < stepLimit) × (parent ≤ top) ⌝ }
     ensures { λ r. ⌜ Wrapped (λ x. markName step (wrapAt (now (work .entry)) parent x)) 3 (now (work .entry)) (now (work .exit)) top r ⌝ }
 {
     put(work, top, step, parent, MARK)

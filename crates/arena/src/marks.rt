@@ -1,15 +1,23 @@
 // Marks in hand: the marks of a name that is being looked at, in a table lent for it. specs/Marks.antt says what they are.
-// `start` and `count` say where they stand: the oldest first, so that the newest come and go at the end.
+// `start` and `count` say where they stand: the oldest first, so that the newest come and go at the end. An answered count that
+// is past the table says that they do not fit in it.
 
 ghost use mathlib.Core.Path.{_≡_};
 ghost use Prim.Native.Nat.{_+_, _≤_, _<_};
 ghost use lib.ListN.{length};
 ghost use Rattle.words.specs.Lists.{equal};
-ghost use Rattle.arena.specs.Arena.{newest, marked};
-ghost use Rattle.arena.specs.Marks.{marksIn, Toggled, Hand, MarksAfter};
+ghost use Rattle.arena.specs.Arena.{newest, marked, stepLimit};
+ghost use Rattle.arena.specs.Marks.{marksIn, Toggled, Hand, MarksAfter, Fits};
 
 // Marks are numbers of steps, at most one more than the most fuel.
-pub const MARK_LIMIT: u32 = 8194;
+pub const STEP_LIMIT: u32 = 8194;
+
+// How two names compare, where a table has room for the marks of both.
+pub enum Compared {
+    Same,
+    Other,
+    Full,
+}
 
 // A mark met twice cancels; answers the new count.
 pub fn toggle(marks: &mut [u32], start: usize, count: usize, m: u32) -> usize
@@ -37,10 +45,13 @@ pub fn toggle(marks: &mut [u32], start: usize, count: usize, m: u32) -> usize
 // A mark on the name in hand; a word past the limit marks nothing. Answers the new count.
 pub fn mark(marks: &mut [u32], start: usize, count: usize, m: u32) -> usize
     requires { ⌜ Hand (now marks) start count ⌝ }
-    ensures { λ r. ⌜ MarksAfter (marked m) (now (marks .entry)) (now (marks .exit)) start count r ⌝ }
+    ensures { λ r. ⌜ Fits (now (marks .exit)) (start + stepLimit) r (MarksAfter (marked m) (now (marks .entry)) (now (marks .exit)) start count r) ⌝ }
 {
-    if MARK_LIMIT <= m {
+    if STEP_LIMIT <= m {
         return count;
+    }
+    if marks.len() <= start + count {
+        return marks.len() + 1;
     }
     toggle(marks, start, count, m)
 }

@@ -1,5 +1,6 @@
 // Names in the arena: resolved, compared, looked up. The definition's functions of names are in recipe/specs/Name.antt and
-// expansion/specs/Lookup.antt. `table` is lent for marks in hand; nothing is promised of what is left in it.
+// expansion/specs/Lookup.antt. `table` is lent for marks in hand; nothing is promised of what is left in it. A name with more
+// marks than it has room for is looked at again in a table of its own.
 
 ghost use mathlib.Core.Path.{_≡_};
 ghost use Prim.Native.Nat.{_+_, _*_, _≤_, _<_};
@@ -7,12 +8,14 @@ ghost use lib.ListN.{length};
 ghost use mathlib.Core.Option.{some};
 ghost use Rattle.recipe.specs.Name.{variable, macro, same, bindingKey};
 ghost use Rattle.recipe.specs.Tree.{isOrdinaryName};
-ghost use Rattle.arena.specs.Arena.{markLimit, nameAt};
+ghost use Rattle.arena.specs.Arena.{stepLimit, markLimit, nameAt};
 ghost use Rattle.arena.specs.Cells.{Room, Binds};
 ghost use Rattle.arena.specs.Lists.{TestsIn};
-ghost use Rattle.arena.specs.Names.{numberOf, Resolved, meansOf, lookupIn, unboundIn, Agrees};
+ghost use Rattle.arena.specs.Marks.{Fits, Tells};
+ghost use Rattle.arena.specs.Names.{numberOf, Resolved, Summed, meansOf, lookupIn, unboundIn, Agrees};
 use crate::cells;
 use crate::marks;
+use crate::marks::Compared;
 use crate::wraps;
 use crate::wraps::InHand;
 
@@ -20,6 +23,9 @@ use crate::wraps::InHand;
 pub const ELLIPSIS: u32 = 6;
 
 pub const WILDCARD: u32 = 7;
+
+// Room for the marks of two names, and for those of a binder's own name behind them, however many they are.
+const LARGE_WORDS: usize = 24583;
 
 // What a lookup finds: bound variable n, macro n, form k, the place of an operation, or nothing.
 pub enum Meaning {
@@ -66,13 +72,16 @@ pub fn resolve(
     node: u32,
     w: u32,
 ) -> InHand
-    requires { ⌜ start + markLimit + markLimit < length (now table) ⌝ }
-    ensures { λ r. ⌜ Resolved (now (items .entry)) (now (work .entry)) node w (now (table .entry)) (now (table .exit)) start (r .count) (r .binding) ⌝ }
+    requires { ⌜ start ≤ length (now table) ⌝ }
+    ensures { λ r. ⌜ Fits (now (table .exit)) (start + stepLimit + stepLimit) (r .count) (Resolved (now (items .entry)) (now (work .entry)) node w (now (table .entry)) (now (table .exit)) start (r .count) (r .binding)) ⌝ }
 {
     let number = number_of(items, work, node);
     let own = cells::reference(work, node, cells::OWN);
     let s = wraps::walk(work, table, start, 0, number, 0, own);
     let n = s.count;
+    if table.len() < n {
+        return s;
+    }
     let b = s.binding;
     wraps::walk(work, table, start, n, number, b, w)
 }
@@ -91,16 +100,126 @@ pub fn is_ordinary(items: &[u32], work: &[u32], node: u32) -> bool
     number != WILDCARD
 }
 
+// A name as a binder keeps it: its binding's key, how many marks it has, and the newest.
+pub struct Summary {
+    pub binding: u32,
+    pub count: usize,
+    pub newest: u32,
+}
+
+// A name's summary, where the table has room for its marks.
+pub fn summary_in(items: &[u32], work: &[u32], table: &mut [u32], node: u32, w: u32) -> Summary
+    ensures { λ r. ⌜ Fits (now (table .exit)) (2 * stepLimit) (r .count) (Summed (nameAt (now (items .entry)) (now (work .entry)) node w) (r .binding) (r .count) (r .newest)) ⌝ }
+{
+    let x = resolve(items, work, table, 0, node, w);
+    let count = x.count;
+    if table.len() < count {
+        return Summary {
+            binding: 0,
+            count: count,
+            newest: 0,
+        };
+    }
+    let newest = marks::newest_of(table, 0, count);
+    Summary {
+        binding: x.binding,
+        count: count,
+        newest: newest,
+    }
+}
+
+// A name's summary, in the table or, where its marks do not fit, in a larger one. It calls itself with that, and what calls
+// itself is not inlined: the large frame is taken only where it is needed.
+pub fn summary_grown(items: &[u32], work: &[u32], table: &mut [u32], node: u32, w: u32) -> Summary
+    ensures { λ r. ⌜ Summed (nameAt (now (items .entry)) (now (work .entry)) node w) (r .binding) (r .count) (r .newest) ⌝ }
+{
+    let s = summary_in(items, work, table, node, w);
+    if s.count <= table.len() {
+        return s;
+    }
+    let mut larger = [0u32; LARGE_WORDS];
+    summary_grown(items, work, &mut larger, node, w)
+}
+
+// A name's summary.
+pub fn summary_of(items: &[u32], work: &[u32], table: &mut [u32], node: u32, w: u32) -> Summary
+    ensures { λ r. ⌜ Summed (nameAt (now (items .entry)) (now (work .entry)) node w) (r .binding) (r .count) (r .newest) ⌝ }
+{
+    let s = summary_in(items, work, table, node, w);
+    if s.count <= table.len() {
+        return s;
+    }
+    summary_grown(items, work, table, node, w)
+}
+
 // The key of a name's binding.
 pub fn binding_of(items: &[u32], work: &[u32], table: &mut [u32], node: u32, w: u32) -> u32
     requires { ⌜ 2 * markLimit < length (now table) ⌝ }
     ensures { λ r. ⌜ r ≡ bindingKey (nameAt (now (items .entry)) (now (work .entry)) node w .binding) ⌝ }
 {
-    let x = resolve(items, work, table, 0, node, w);
-    x.binding
+    let s = summary_of(items, work, table, node, w);
+    s.binding
 }
 
-// Whether two names are the same: number, marks and binding together.
+// Whether two names are the same, where the table has room for the marks of both: number, marks and binding together.
+pub fn compare(
+    items: &[u32],
+    work: &[u32],
+    table: &mut [u32],
+    a: u32,
+    v: u32,
+    b: u32,
+    w: u32,
+) -> Compared
+    ensures { λ r. ⌜ Tells (now (table .exit)) (3 * stepLimit) (λ t. t ≡ same (nameAt (now (items .entry)) (now (work .entry)) a v) (nameAt (now (items .entry)) (now (work .entry)) b w)) r ⌝ }
+{
+    if number_of(items, work, a) != number_of(items, work, b) {
+        return Compared::Other;
+    }
+    let x = resolve(items, work, table, 0, a, v);
+    let count = x.count;
+    if table.len() < count {
+        return Compared::Full;
+    }
+    let y = resolve(items, work, table, count, b, w);
+    if table.len() < y.count {
+        return Compared::Full;
+    }
+    if x.binding != y.binding {
+        return Compared::Other;
+    }
+    if count != y.count {
+        return Compared::Other;
+    }
+    if marks::equal_marks(table, 0, count, count) {
+        return Compared::Same;
+    }
+    Compared::Other
+}
+
+// Whether two names are the same, in the table or, where their marks do not fit, in a larger one, as `summary_grown`.
+pub fn same_grown(
+    items: &[u32],
+    work: &[u32],
+    table: &mut [u32],
+    a: u32,
+    v: u32,
+    b: u32,
+    w: u32,
+) -> bool
+    ensures { λ r. ⌜ r ≡ same (nameAt (now (items .entry)) (now (work .entry)) a v) (nameAt (now (items .entry)) (now (work .entry)) b w) ⌝ }
+{
+    match compare(items, work, table, a, v, b, w) {
+        Compared::Same => true,
+        Compared::Other => false,
+        Compared::Full => {
+            let mut larger = [0u32; LARGE_WORDS];
+            same_grown(items, work, &mut larger, a, v, b, w)
+        }
+    }
+}
+
+// Whether two names are the same.
 pub fn same_names(
     items: &[u32],
     work: &[u32],
@@ -113,19 +232,11 @@ pub fn same_names(
     requires { ⌜ 3 * markLimit < length (now table) ⌝ }
     ensures { λ r. ⌜ r ≡ same (nameAt (now (items .entry)) (now (work .entry)) a v) (nameAt (now (items .entry)) (now (work .entry)) b w) ⌝ }
 {
-    if number_of(items, work, a) != number_of(items, work, b) {
-        return false;
+    match compare(items, work, table, a, v, b, w) {
+        Compared::Same => true,
+        Compared::Other => false,
+        Compared::Full => same_grown(items, work, table, a, v, b, w),
     }
-    let x = resolve(items, work, table, 0, a, v);
-    let count = x.count;
-    let y = resolve(items, work, table, count, b, w);
-    if x.binding != y.binding {
-        return false;
-    }
-    if count != y.count {
-        return false;
-    }
-    marks::equal_marks(table, 0, count, count)
 }
 
 // A binder of a name under wrap w, after what `parent` means: the binding with this key goes to every name that is the same.
@@ -143,17 +254,15 @@ pub fn bind(
     ensures { λ r. ⌜ Binds (now (items .entry)) node w key parent (now (work .entry)) (now (work .exit)) top r ⌝ }
 {
     let number = number_of(items, work, node);
-    let x = resolve(items, work, table, 0, node, w);
-    let count = x.count;
-    let newest = marks::newest_of(table, 0, count);
+    let s = summary_of(items, work, table, node, w);
     let own = cells::reference(work, node, cells::OWN);
     cells::put_binder(
         work,
         top,
         number,
-        x.binding,
-        count as u32,
-        newest,
+        s.binding,
+        s.count as u32,
+        s.newest,
         own,
         w,
         key,

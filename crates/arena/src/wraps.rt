@@ -1,17 +1,18 @@
 // Walking a wrap: what waits on a name, carried out on the name in hand, from the inside out.
 // The marks in hand are lent a table of their own, so that the arena is only read.
 
-ghost use Prim.Native.Nat.{_+_, _<_};
+ghost use Prim.Native.Nat.{_+_, _≤_};
 ghost use lib.ListN.{length};
-ghost use Rattle.arena.specs.Arena.{wrapAt, rebound, markLimit};
-ghost use Rattle.arena.specs.Marks.{Hand, MarksAfter, OwnMarks, NameHand, NameAfter};
+ghost use Rattle.arena.specs.Arena.{wrapAt, rebound, stepLimit};
+ghost use Rattle.arena.specs.Marks.{Hand, MarksAfter, OwnMarks, NameAfter, Fits, Tells, OwnIs};
 use crate::cells;
 use crate::marks;
+use crate::marks::Compared;
 
 // The marks of a name after wrap w; answers their count.
 pub fn marks_after(work: &[u32], table: &mut [u32], start: usize, count: usize, w: u32) -> usize
     requires { ⌜ Hand (now table) start count ⌝ }
-    ensures { λ r. ⌜ MarksAfter (wrapAt (now (work .entry)) w) (now (table .entry)) (now (table .exit)) start count r ⌝ }
+    ensures { λ r. ⌜ Fits (now (table .exit)) (start + stepLimit) r (MarksAfter (wrapAt (now (work .entry)) w) (now (table .entry)) (now (table .exit)) start count r) ⌝ }
 {
     let tag = cells::word(work, w, cells::TAG);
     if tag == 0 {
@@ -22,6 +23,9 @@ pub fn marks_after(work: &[u32], table: &mut [u32], start: usize, count: usize, 
     }
     let inner = cells::reference(work, w, cells::INNER);
     let n = marks_after(work, table, start, count, inner);
+    if table.len() < n {
+        return n;
+    }
     if tag == cells::MARK {
         let m = cells::word(work, w, cells::STEP);
         return marks::mark(table, start, n, m);
@@ -35,18 +39,69 @@ pub fn marks_after(work: &[u32], table: &mut [u32], start: usize, count: usize, 
 
 // The marks of a binder's own name, from `start`; answers their count.
 pub fn own_marks(work: &[u32], table: &mut [u32], start: usize, w: u32) -> usize
-    requires { ⌜ start + markLimit < length (now table) ⌝ }
-    ensures { λ r. ⌜ OwnMarks (now (work .entry)) w (now (table .entry)) (now (table .exit)) start r ⌝ }
+    requires { ⌜ start ≤ length (now table) ⌝ }
+    ensures { λ r. ⌜ Fits (now (table .exit)) (start + stepLimit) r (OwnMarks (now (work .entry)) w (now (table .entry)) (now (table .exit)) start r) ⌝ }
 {
     let own = cells::reference(work, w, cells::BOUND_OWN);
     let n = marks_after(work, table, start, 0, own);
+    if table.len() < n {
+        return n;
+    }
     let pending = cells::reference(work, w, cells::BOUND_PENDING);
     marks_after(work, table, start, n, pending)
 }
 
-// The binding of the name in hand after binder w: the new one where it is the same as the binder's own name, judged with
-// the marks of its time. Number, binding, count and newest mark tell most names apart, and settle it where there is at most
-// one mark; else the wraps of the binder's own name are walked.
+// Whether the name in hand is the same as the own name of binder w, judged with the marks of its time. Number, binding, count
+// and newest mark tell most names apart, and settle it where there is at most one mark; else the wraps of the binder's own
+// name are walked.
+pub fn is_own(
+    work: &[u32],
+    table: &mut [u32],
+    start: usize,
+    count: usize,
+    number: u32,
+    binding: u32,
+    w: u32,
+) -> Compared
+    requires { ⌜ Hand (now table) start count ⌝ }
+    ensures { λ r. ⌜ Tells (now (table .exit)) (start + stepLimit + stepLimit) (OwnIs (now (work .entry)) w (now (table .entry)) (now (table .exit)) start number count binding) r ⌝ }
+{
+    if cells::word(work, w, cells::BOUND_NUMBER) != number {
+        return Compared::Other;
+    }
+    if cells::word(work, w, cells::BOUND_KEY) != binding {
+        return Compared::Other;
+    }
+    if cells::word(work, w, cells::BOUND_COUNT) as usize != count {
+        return Compared::Other;
+    }
+    if cells::word(work, w, cells::BOUND_NEWEST) != marks::newest_of(table, start, count) {
+        return Compared::Other;
+    }
+    if count < 2 {
+        return Compared::Same;
+    }
+    let behind = start + count;
+    let own = own_marks(work, table, behind, w);
+    if table.len() < own {
+        return Compared::Full;
+    }
+    if own != count {
+        return Compared::Other;
+    }
+    if marks::equal_marks(table, behind, start, count) {
+        return Compared::Same;
+    }
+    Compared::Other
+}
+
+// The name in hand: how many marks it has, and its binding's key.
+pub struct InHand {
+    pub count: usize,
+    pub binding: u32,
+}
+
+// The name in hand after binder w: the binder's own name gets the new binding.
 pub fn rebind(
     work: &[u32],
     table: &mut [u32],
@@ -55,40 +110,27 @@ pub fn rebind(
     number: u32,
     binding: u32,
     w: u32,
-) -> u32
-    requires { ⌜ NameHand (now table) start count ⌝ }
-    ensures { λ r. ⌜ NameAfter (rebound (now (work .entry)) (wrapAt (now (work .entry))) w) (now (table .entry)) (now (table .exit)) start number count binding count r ⌝ }
+) -> InHand
+    requires { ⌜ Hand (now table) start count ⌝ }
+    ensures { λ r. ⌜ Fits (now (table .exit)) (start + stepLimit + stepLimit) (r .count) (NameAfter (rebound (now (work .entry)) (wrapAt (now (work .entry))) w) (now (table .entry)) (now (table .exit)) start number count binding (r .count) (r .binding)) ⌝ }
 {
-    if cells::word(work, w, cells::BOUND_NUMBER) != number {
-        return binding;
+    match is_own(work, table, start, count, number, binding, w) {
+        Compared::Same => {
+            let key = cells::word(work, w, cells::KEY);
+            InHand {
+                count: count,
+                binding: key,
+            }
+        }
+        Compared::Other => InHand {
+            count: count,
+            binding: binding,
+        },
+        Compared::Full => InHand {
+            count: table.len() + 1,
+            binding: binding,
+        },
     }
-    if cells::word(work, w, cells::BOUND_KEY) != binding {
-        return binding;
-    }
-    if cells::word(work, w, cells::BOUND_COUNT) as usize != count {
-        return binding;
-    }
-    if cells::word(work, w, cells::BOUND_NEWEST) != marks::newest_of(table, start, count) {
-        return binding;
-    }
-    if count < 2 {
-        return cells::word(work, w, cells::KEY);
-    }
-    let behind = start + count;
-    let own = own_marks(work, table, behind, w);
-    if own != count {
-        return binding;
-    }
-    if marks::equal_marks(table, behind, start, count) {
-        return cells::word(work, w, cells::KEY);
-    }
-    binding
-}
-
-// The name in hand: how many marks it has, and its binding's key.
-pub struct InHand {
-    pub count: usize,
-    pub binding: u32,
 }
 
 // The name in hand after wrap w: a mark toggles, a binder gives its binding to the same name, a join is one wrap after
@@ -102,8 +144,8 @@ pub fn walk(
     binding: u32,
     w: u32,
 ) -> InHand
-    requires { ⌜ NameHand (now table) start count ⌝ }
-    ensures { λ r. ⌜ NameAfter (wrapAt (now (work .entry)) w) (now (table .entry)) (now (table .exit)) start number count binding (r .count) (r .binding) ⌝ }
+    requires { ⌜ Hand (now table) start count ⌝ }
+    ensures { λ r. ⌜ Fits (now (table .exit)) (start + stepLimit + stepLimit) (r .count) (NameAfter (wrapAt (now (work .entry)) w) (now (table .entry)) (now (table .exit)) start number count binding (r .count) (r .binding)) ⌝ }
 {
     let tag = cells::word(work, w, cells::TAG);
     if tag == 0 {
@@ -121,6 +163,9 @@ pub fn walk(
     let inner = cells::reference(work, w, cells::INNER);
     let s = walk(work, table, start, count, number, binding, inner);
     let n = s.count;
+    if table.len() < n {
+        return s;
+    }
     let b = s.binding;
     if tag == cells::MARK {
         let m = cells::word(work, w, cells::STEP);
@@ -134,9 +179,5 @@ pub fn walk(
         let outer = cells::reference(work, w, cells::OUTER);
         return walk(work, table, start, n, number, b, outer);
     }
-    let c = rebind(work, table, start, n, number, b, w);
-    InHand {
-        count: n,
-        binding: c,
-    }
+    rebind(work, table, start, n, number, b, w)
 }

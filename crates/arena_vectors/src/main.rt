@@ -1,5 +1,6 @@
-// Names with hand-made wraps, looked up: what the steps of three recipes leave waiting on a name, and names with two marks.
-// Each line is a recipe and what its names find. Every cell is tested for room, so that no function asks anything of its caller.
+// Names with hand-made wraps, looked up: what the steps of three recipes leave waiting on a name, names with two marks, and names
+// with more marks than the table has room for. Each line is a recipe and what its names find. Every cell is tested for room, so that
+// no function asks anything of its caller.
 
 use arena::cells;
 use arena::names;
@@ -27,8 +28,8 @@ fn show(m: Meaning) {
 }
 
 // The name x, which every recipe here has as item 0.
-fn name(work: &mut [u32; 512], top: u32, own: u32) -> u32 {
-    if 500 <= top {
+fn name(work: &mut [u32; 6144], top: u32, own: u32) -> u32 {
+    if 6000 <= top {
         return 0;
     }
     if top < own {
@@ -37,11 +38,11 @@ fn name(work: &mut [u32; 512], top: u32, own: u32) -> u32 {
     cells::put_name(work, top, 0, own)
 }
 
-fn mark(work: &mut [u32; 512], top: u32, step: u32, parent: u32) -> u32 {
-    if 500 <= top {
+fn mark(work: &mut [u32; 6144], top: u32, step: u32, parent: u32) -> u32 {
+    if 6000 <= top {
         return 0;
     }
-    if 100 < step {
+    if 8193 < step {
         return 0;
     }
     if top < parent {
@@ -50,8 +51,20 @@ fn mark(work: &mut [u32; 512], top: u32, step: u32, parent: u32) -> u32 {
     cells::put_mark(work, top, step, parent)
 }
 
-fn join(work: &mut [u32; 512], top: u32, outer: u32, inner: u32) -> u32 {
-    if 500 <= top {
+// So many marks more, of steps that follow one another.
+fn more_marks(work: &mut [u32; 6144], top: u32, step: u32, left: u32) -> u32 {
+    if left == 0 {
+        return top;
+    }
+    if 8193 < step {
+        return 0;
+    }
+    let next = mark(work, top, step, top);
+    more_marks(work, next, step + 1, left - 1)
+}
+
+fn join(work: &mut [u32; 6144], top: u32, outer: u32, inner: u32) -> u32 {
+    if 6000 <= top {
         return 0;
     }
     if top < outer {
@@ -65,15 +78,15 @@ fn join(work: &mut [u32; 512], top: u32, outer: u32, inner: u32) -> u32 {
 
 // x at `node` under wrap w is bound to variable n, after what `parent` means.
 fn bind(
-    work: &mut [u32; 512],
-    table: &mut [u32; 16400],
+    work: &mut [u32; 6144],
+    table: &mut [u32; 1537],
     top: u32,
     node: u32,
     w: u32,
     n: u32,
     parent: u32,
 ) -> u32 {
-    if 500 <= top {
+    if 6000 <= top {
         return 0;
     }
     if top < node {
@@ -94,7 +107,7 @@ fn bind(
 }
 
 // What x at `node` under wrap w finds, where there is a node; x is operation 0 where it has no binding.
-fn look(work: &[u32; 512], table: &mut [u32; 16400], node: u32, w: u32) {
+fn look(work: &[u32; 6144], table: &mut [u32; 1537], node: u32, w: u32) {
     if node == 0 {
         return;
     }
@@ -106,8 +119,8 @@ fn look(work: &[u32; 512], table: &mut [u32; 16400], node: u32, w: u32) {
 // A line: up to four nodes under one wrap.
 fn line(
     label: &[u8],
-    work: &[u32; 512],
-    table: &mut [u32; 16400],
+    work: &[u32; 6144],
+    table: &mut [u32; 1537],
     w: u32,
     a: u32,
     b: u32,
@@ -123,7 +136,7 @@ fn line(
 }
 
 // E25: x is bound, then marked: the binder is judged with the marks of its time.
-fn e25(work: &mut [u32; 512], table: &mut [u32; 16400]) {
+fn e25(work: &mut [u32; 6144], table: &mut [u32; 1537]) {
     let formal = name(work, 0, 0);
     let bound = bind(work, table, formal, formal, 0, 0, 0);
     let inserted = name(work, bound, bound);
@@ -132,7 +145,7 @@ fn e25(work: &mut [u32; 512], table: &mut [u32; 16400]) {
 }
 
 // E26: mark, bind, mark on one name.
-fn e26(work: &mut [u32; 512], table: &mut [u32; 16400]) {
+fn e26(work: &mut [u32; 6144], table: &mut [u32; 1537]) {
     let first = mark(work, 0, 1, 0);
     let outer = name(work, first, 0);
     let v0 = bind(work, table, outer, outer, first, 0, first);
@@ -145,7 +158,7 @@ fn e26(work: &mut [u32; 512], table: &mut [u32; 16400]) {
 }
 
 // E27: x with marks {}, {1}, {2}, each bound; steps 2 and 3 join the wraps of what they copy.
-fn e27(work: &mut [u32; 512], table: &mut [u32; 16400]) {
+fn e27(work: &mut [u32; 6144], table: &mut [u32; 1537]) {
     let x = name(work, 0, 0);
     let v0 = bind(work, table, x, x, 0, 0, 0);
     let use1 = mark(work, v0, 1, v0);
@@ -165,27 +178,46 @@ fn e27(work: &mut [u32; 512], table: &mut [u32; 16400]) {
     line(b"E27", work, table, result3, a, b, c, x);
 }
 
-// A binder of x with marks {1, 3}, met by x with {1, 3}, with {2, 3}, and with {1, 3} after a mark that came and went.
-fn two_marks(work: &mut [u32; 512], table: &mut [u32; 16400]) {
+fn tell(same: bool) {
+    if same {
+        io::write_all(1, b" same");
+    } else {
+        io::write_all(1, b" other");
+    }
+}
+
+// A line: whether x at a is the same as at b and at c, before any binder.
+fn alike(label: &[u8], work: &[u32; 6144], table: &mut [u32; 1537], a: u32, b: u32, c: u32) {
+    let items = [3, 8, 0];
+    io::write_all(1, label);
+    tell(names::same_names(&items, work, table, a, 0, b, 0));
+    tell(names::same_names(&items, work, table, a, 0, c, 0));
+    io::write_all(1, b"\n");
+}
+
+// A binder of x with marks {1, 3, ..}, met by x with these, with {2, 3, ..}, and with these after a mark that came and went.
+fn many_marks(label: &[u8], work: &mut [u32; 6144], table: &mut [u32; 1537], left: u32) {
     let x = name(work, 0, 0);
     let one = mark(work, x, 1, 0);
-    let same = mark(work, one, 3, one);
+    let same = more_marks(work, one, 3, left);
     let two = mark(work, same, 2, 0);
-    let other = mark(work, two, 3, two);
+    let other = more_marks(work, two, 3, left);
     let came = mark(work, other, 2, same);
     let went = mark(work, came, 2, came);
     let bound = bind(work, table, went, x, same, 0, 0);
     let a = name(work, bound, same);
     let b = name(work, a, other);
     let c = name(work, b, went);
-    line(b"two marks", work, table, bound, a, b, c, 0);
+    line(label, work, table, bound, a, b, c, 0);
+    alike(label, work, table, a, b, c);
 }
 
 fn main() {
-    let mut work = [0u32; 512];
-    let mut table = [0u32; 16400];
+    let mut work = [0u32; 6144];
+    let mut table = [0u32; 1537];
     e25(&mut work, &mut table);
     e26(&mut work, &mut table);
     e27(&mut work, &mut table);
-    two_marks(&mut work, &mut table);
+    many_marks(b"two marks", &mut work, &mut table, 1);
+    many_marks(b"900 marks", &mut work, &mut table, 899);
 }

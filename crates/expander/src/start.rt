@@ -8,10 +8,11 @@ use arena::lists;
 use turns::answers::Ended;
 use turns::answers::Reached;
 
-// A word for each macro, which takes at least six of at most 4,096 items and a fuel of 8,192; and three for each mark in hand.
+// A word for each macro, which takes at least six of at most 4,096 items and a fuel of 8,192; and three for each of 512 marks in
+// hand, since names with more are looked at in a table of their own.
 const MACRO_WORDS: usize = 2048;
 
-const MARK_WORDS: usize = 24583;
+const MARK_WORDS: usize = 1537;
 
 // Past the tests of grounds 7 to 10: the run of the recipe, its term's words from the core table's start.
 pub fn expand_recipe(

@@ -11,7 +11,7 @@ use Rattle.recipe.specs.TreeLaws.{element-size}
 use Rattle.recipe.specs.Table.{treeOf, itemCount}
 use Rattle.recipe.specs.TableWeight.{treeOf-size}
 use Rattle.expansion.specs.Rules.{rulesOf}
-use Rattle.arena.specs.Arena.{markLimit, treeAt}
+use Rattle.arena.specs.Arena.{stepLimit, markLimit, treeAt}
 use Rattle.arena.specs.ArenaLaws.{take-less}
 use Rattle.arena.specs.Cells.{Room, Wrapped}
 use Rattle.arena.specs.LayOut.{whole, most}
@@ -56,7 +56,7 @@ module _ (items work marks : List ℕ) (root fuel : ℕ) (b : Begun items work m
     top-low : top ≤ 32768
     top-low = omega (arith, m .words, form-size, root-low, most items (b .layout))
 
-    pub mark-asks : Room new top 3 × (1 < markLimit) × (0 ≤ top)
+    pub mark-asks : Room new top 3 × (1 < stepLimit) × (0 ≤ top)
     mark-asks = (record { fits = omega (arith, top-low, long, b .room); small = omega (arith, top-low) }, omega arith, omega arith)
 
     module _ (last hands : List ℕ) (same : length last ≡ length new) (as-long : length hands ≡ length marks) (f : Name → Name) (marked : ℕ) (k : Wrapped f 3 new last top marked) (whole-use used : ℕ)

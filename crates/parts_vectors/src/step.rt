@@ -43,7 +43,7 @@ pub fn attempt(items: &[u32], work: &mut [u32], marks: &mut [u32], fuel: u32) ->
     if work.len() < 65536 {
         return Tried::Unfit;
     }
-    if marks.len() < 24600 {
+    if marks.len() < 1537 {
         return Tried::Unfit;
     }
     if 4096 < fuel {

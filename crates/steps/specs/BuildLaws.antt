@@ -10,7 +10,7 @@ use borrow.Author.Tests.{lt-ltb}
 use Rattle.recipe.specs.Name.{Name, markName, produceName}
 use Rattle.recipe.specs.Tree.{Tree, empty, constant, name, pair, size, onNames, produce}
 use Rattle.recipe.specs.TreeLaws.{size-positive}
-use Rattle.arena.specs.Arena.{wordAt, referenceAt, markLimit, marked, giveKey, isOwn, rebound, wrapAt, nodeName, nameAt, constantAt, treeAt}
+use Rattle.arena.specs.Arena.{wordAt, referenceAt, stepLimit, marked, giveKey, isOwn, rebound, wrapAt, nodeName, nameAt, constantAt, treeAt}
 use Rattle.arena.specs.ArenaLaws.{cases, take-less, referenceAt-most, wrapAt-none, wrapAt-keeps}
 use Rattle.arena.specs.NodeLaws.{treeAt-empty, treeAt-name, treeAt-pair, treeAt-constant}
 use Rattle.arena.specs.Cells.{Room, Wrapped, itemName, Grown}
@@ -21,7 +21,7 @@ use Rattle.steps.specs.Build.{RoomFor, Built, Waiting}
 
 marked-produce : (m : ℕ) (x y : Name) → x ≡ produceName y → marked m x ≡ produceName (marked m y)
 unfolding marked markName produceName
-marked-produce m x y e = rw e (cases (ltb m markLimit) (λ t. rw t refl) (λ t. rw t refl))
+marked-produce m x y e = rw e (cases (ltb m stepLimit) (λ t. rw t refl) (λ t. rw t refl))
 
 rebound-produce : (work : List ℕ) (f : ℕ → Name → Name) (w : ℕ) (x y : Name) → x ≡ produceName y → rebound work f w x ≡ produceName (rebound work f w y)
 unfolding rebound isOwn giveKey produceName

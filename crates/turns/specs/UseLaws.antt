@@ -14,7 +14,7 @@ use Rattle.recipe.specs.Tree.{Tree, empty, constant, name, pair, size, tail, on
 use Rattle.recipe.specs.TreeLaws.{onNames-∘}
 use Rattle.expansion.specs.Rules.{Rule}
 use Rattle.expansion.specs.Match.{firstFit}
-use Rattle.arena.specs.Arena.{treeAt, wrapAt, markLimit}
+use Rattle.arena.specs.Arena.{treeAt, wrapAt, stepLimit}
 use Rattle.arena.specs.ArenaLaws.{cases, take-less}
 use Rattle.arena.specs.Cells.{Room, Wrapped}
 use Rattle.arena.specs.CellLaws.{tree-mark}
@@ -121,7 +121,7 @@ module _ (items work macros marks : List ℕ) (fuel node w n : ℕ) (r : Reached
   abbrev outcome : Outcome
   outcome = outcomeOf (macrosAt items work macros (r .macros)) n fuel tree r
 
-  pub use-marks : (Room work (r .top) 3) × (r .steps + 1 < markLimit) × (w ≤ r .top)
+  pub use-marks : (Room work (r .top) 3) × (r .steps + 1 < stepLimit) × (w ≤ r .top)
   use-marks = (record { fits = omega (arith, room .fits); small = omega (arith, room .small) }, omega (arith, room .stepped, room .spent, room .fuelled), room .placed .wrap-below)
 
   module _ (rules operands used : ℕ) (mid : List ℕ) (rules-are : rules ≡ rulesWord macros (r .macros) n) (operands-are : Means work node operands tail)
@@ -189,7 +189,7 @@ module _ (items work macros marks : List ℕ) (fuel node w n : ℕ) (r : Reached
         pub use-paid : r .sum + cost < 2 ^ 32
         use-paid = omega (arith, affordable, made .cost-is, room .spent, room .fuelled)
 
-        pub use-marks-again : (Room last root 3) × (r .steps + 1 < markLimit) × (0 ≤ root)
+        pub use-marks-again : (Room last root 3) × (r .steps + 1 < stepLimit) × (0 ≤ root)
         use-marks-again = (
           record { fits = omega (arith, affordable, made .cost-is, made .most, wrapped .end, room .fits); small = omega (arith, affordable, made .cost-is, made .most, wrapped .end, room .small) },
           omega (arith, room .stepped, room .spent, room .fuelled),

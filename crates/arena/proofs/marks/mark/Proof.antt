@@ -1,36 +1,47 @@
--- `marks::mark`: a mark below the limit is toggled.
+-- `marks::mark`: a mark below the limit is toggled, where there is room for one more.
+use borrow.Author.Needs.{needs}
 use Rattle.arena.proofs.marks.mark.Statement.{statement}
 use Rattle.arena.proofs.marks.mark.Tie as tie
-use Rattle.arena.specs.Arena.{markLimit}
-use Rattle.arena.specs.HandLaws.{hand-room, after-marked, after-unmarked}
+use Prim.Native.Nat.{_+_, _<_}
 use native.Mathlib.Omega.{arith}
-use Prim.Native.Nat.{_<_}
+use lib.ListN.{length}
+use Rattle.arena.specs.Arena.{stepLimit}
+use Rattle.arena.specs.HandLaws.{fits-within, fits-not, count-most, after-marked, after-unmarked}
 
+-- src/marks.rt:51:9
 returns : tie.Need-returns
 returns c =
-    let a = c .before .before .args in
-    let pre = c .before .before .pre in
-    after-unmarked (a .marks .now) (a .start) (a .count) (a .m) pre (c .if1 .taken)
+    fits-within (c .before .before .args .marks .now) (c .before .before .args .start + stepLimit) (c .before .before .args .count) (omega (arith, (c .before .before .pre) .room)) (after-unmarked (c .before .before .args .marks .now) (c .before .before .args .start) (c .before .before .args .count) (c .before .before .args .m) (c .before .before .pre) (c .if1 .taken))
 
-toggle-requires : tie.Need-toggle-requires
-toggle-requires c κs =
-    let entry = c .before .before .before in
-    let a = entry .args in
-    let pre = entry .pre in
-    hand-room (a .marks .now) (a .start) (a .count) (pre)
+-- src/marks.rt:53:23
+add-if2 : tie.Need-add-if2
+add-if2 c = search needs
 
-same-length : tie.Need-same-length
-same-length c =
-    let toggle = c .before .before .toggle in
-    toggle .kept .0
+-- src/marks.rt:54:16
+add-result : tie.Need-add-result
+add-result c = search needs
 
+-- src/marks.rt:54:9
 returns-2 : tie.Need-returns-2
 returns-2 c =
-    let entry = c .before .before .before .before .before .before in
-    let a = entry .args in
-    let pre = entry .pre in
-    let toggle = c .before .before .toggle in
-    let l : a .m < markLimit = omega arith in after-marked (a .marks .now) (a .start) (a .count) (a .m) pre l _ _ (toggle .ensures)
+    fits-not (c .before .before .before .args .marks .now) (c .before .before .before .args .start + stepLimit) (length (c .before .before .before .args .marks .now) + 1) (omega arith) (omega (arith, count-most (c .before .before .before .args .marks .now) (c .before .before .before .args .start) (c .before .before .before .args .count) (c .before .before .before .pre .descends)))
+
+-- src/marks.rt:56:5
+toggle-requires : tie.Need-toggle-requires
+toggle-requires c κs = search needs
+
+-- src/marks.rt:46:1
+same-length : tie.Need-same-length
+same-length c =
+    c .before .before .toggle .kept .0
+
+-- src/marks.rt:46:1
+returns-3 : tie.Need-returns-3
+returns-3 c =
+    let l : c .before .before .before .before .before .before .before .args .m < stepLimit = omega arith in
+    fits-within (c .before .before .toggle .last .0) (c .before .before .before .before .before .before .before .args .start + stepLimit) (c .before .before .toggle .result) (omega (arith, c .before .before .toggle .ensures .room, c .before .before .toggle .kept .0))
+    (after-marked (c .before .before .before .before .before .before .before .args .marks .now) (c .before .before .before .before .before .before .before .args .start) (c .before .before .before .before .before .before .before .args .count) (c .before .before .before .before .before .before .before .args .m) (c .before .before .before .before .before .before .before .pre) l (c .before .before .before .before .if2 .left) _ _ (c .before .before .toggle .kept .0) (c .before .before .toggle .ensures))
 
 pub mark-spec : {M : Type 1} → statement M
-mark-spec = tie.close (tie.spec returns toggle-requires same-length returns-2)
+mark-spec =
+    tie.close (tie.spec returns add-if2 add-result returns-2 toggle-requires same-length returns-3)

@@ -1,10 +1,9 @@
--- `names::resolve`: the own wrap, then the pending one, on the plain name of the node.
+-- `names::resolve`: the node's own wrap, then the pending one.
 use borrow.Author.Needs.{needs}
 use Rattle.arena.proofs.names.resolve.Statement.{statement}
 use Rattle.arena.proofs.names.resolve.Tie as tie
-use Rattle.arena.specs.WalkLaws.{name-hand}
-use Rattle.arena.specs.NameLaws.{name-none, resolved}
-use mathlib.Core.Path.{_∙_}
+use Rattle.arena.specs.HandLaws.{fits-on, fits-then, hand-none}
+use Rattle.arena.specs.NameLaws.{resolved}
 
 number-of-requires : tie.Need-number-of-requires
 number-of-requires c κs = search needs
@@ -17,30 +16,34 @@ walk-requires c κs =
     let entry = c .before .before .before .before .before .before in
     let a = entry .args in
     let pre = entry .pre in
-    name-none (a .table .now) (a .start) (pre)
-
-walk-requires-2 : tie.Need-walk-requires-2
-walk-requires-2 c κs =
-    let entry = c .before .before .before .before .before .before .before .before .before .before in
-    let a = entry .args in
-    let pre = entry .pre in
-    let walk = c .before .before .before .walk in
-    name-hand _ (a .table .now) _ (a .start) _ 0 0 _ _ (name-none (a .table .now) (a .start) pre) (walk .kept .1 .0) (walk .ensures)
+    hand-none (a .table .now) (a .start) pre
 
 same-length : tie.Need-same-length
-same-length c =
-    let walk2 = c .before .before .walk2 in
-    let walk = c .before .before .before .before .before .before .walk in
-    walk2 .kept .1 .0 ∙ walk .kept .1 .0
+same-length c = search needs
 
 returns : tie.Need-returns
 returns c =
-    let a = c .before .before .before .before .before .before .before .before .before .before .before .before .before .args in
-    let reference = c .before .before .before .before .before .before .before .before .reference in
-    let number-of = c .before .before .before .before .before .before .before .before .before .number-of in
-    let walk = c .before .before .before .before .before .before .walk in
+    let walk = c .before .before .before .walk in
+    fits-on (c .if1 .taken) (walk .ensures)
+
+walk-requires-2 : tie.Need-walk-requires-2
+walk-requires-2 c κs =
+    let walk = c .before .before .before .before .walk in
+    let if1 = c .before .if1 in
+    walk .ensures .within (if1 .left) .hand
+
+same-length-2 : tie.Need-same-length-2
+same-length-2 c = search needs
+
+returns-2 : tie.Need-returns-2
+returns-2 c =
+    let a = c .before .before .before .before .before .before .before .before .before .before .before .before .before .before .args in
+    let number-of = c .before .before .before .before .before .before .before .before .before .before .number-of in
+    let reference = c .before .before .before .before .before .before .before .before .before .reference in
+    let walk = c .before .before .before .before .before .before .before .walk in
+    let if1 = c .before .before .before .before .if1 in
     let walk2 = c .before .before .walk2 in
-    resolved (a .items .now) (a .work .now) (a .node) (a .w) _ _ (reference .ensures) (number-of .ensures) (a .table .now) _ _ (a .start) _ _ _ _ (walk .ensures) (walk2 .ensures)
+    fits-then (walk2 .ensures) (resolved (a .items .now) (a .work .now) (a .node) (a .w) _ _ (reference .ensures) (number-of .ensures) (a .table .now) _ _ (a .start) _ _ _ _ (walk .ensures .within (if1 .left)))
 
 pub resolve-spec : {M : Type 1} → statement M
 resolve-spec =
@@ -49,6 +52,8 @@ resolve-spec =
     number-of-requires
     reference-requires
     walk-requires
-    walk-requires-2
     same-length
-    returns)
+    returns
+    walk-requires-2
+    same-length-2
+    returns-2)

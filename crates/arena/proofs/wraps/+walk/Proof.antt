@@ -1,5 +1,5 @@
 -- The proof of the cycle {walk}. The measure is the wrap's reference.
-use Prim.Native.Nat.{ℕ, _<_}
+use Prim.Native.Nat.{ℕ, _<_, _+_}
 use borrow.Fn.Kinds.{In}
 use borrow.Fn.PlainCycle.{Measures, is, falls, and}
 use Rattle.arena.proofs.wraps.walk.Reads as walk
@@ -11,11 +11,11 @@ use Rattle.arena.proofs.marks.mark.Reads as mark-reads
 use Rattle.arena.proofs.wraps.rebind.Reads as rebind-reads
 use Rattle.arena.proofs.wraps.+walk.{statement}
 use Rattle.arena.proofs.wraps.+walk.Tie.{close}
-use Rattle.arena.specs.HandLaws.{wrap-idle, wrap-falls}
-use Rattle.arena.specs.WalkLaws.{name-marks, name-hand, name-idle, walk-mark, walk-join, walk-binder}
+use Rattle.arena.specs.Arena.{stepLimit}
+use Rattle.arena.specs.HandLaws.{fits-within, fits-on, fits-then, fits-wider, wrap-idle, wrap-falls}
+use Rattle.arena.specs.WalkLaws.{name-idle, walk-mark, walk-join, walk-binder}
 use borrow.Author.Needs.{needs}
 use native.Mathlib.Omega.{arith}
-use mathlib.Core.Path.{_∙_}
 
 abbrev μ-walk : Measures 2 walk-kinds.ps ℕ
 μ-walk κs a =
@@ -39,7 +39,7 @@ walk-returns t c =
     let a = entry .args in
     let pre = entry .pre in
     let word = c .before .word in
-    name-idle _ (a .table .now) (a .start) (a .number) (a .count) (a .binding) (pre .1) (wrap-idle (a .work .now) (a .w) _ (word .ensures) (λ z. omega arith) (λ z. omega arith) (λ z. omega arith))
+    fits-within (a .table .now) (a .start + stepLimit + stepLimit) (a .count) (omega (arith, pre .1 .room)) (name-idle _ (a .table .now) (a .start) (a .number) (a .count) (a .binding) (pre .1) (wrap-idle (a .work .now) (a .w) _ (word .ensures) (λ z. omega arith) (λ z. omega arith) (λ z. omega arith)))
 
 walk-returns-2 : (t : ℕ) → walk-lts.Need-returns-2 (walk-claims t) (walk-at t) walk.Post
 walk-returns-2 t c =
@@ -47,7 +47,7 @@ walk-returns-2 t c =
     let a = entry .args in
     let pre = entry .pre in
     let word = c .before .before .word in
-    name-idle _ (a .table .now) (a .start) (a .number) (a .count) (a .binding) (pre .1) (wrap-idle (a .work .now) (a .w) _ (word .ensures) (λ z. omega arith) (λ z. omega arith) (λ z. omega arith))
+    fits-within (a .table .now) (a .start + stepLimit + stepLimit) (a .count) (omega (arith, pre .1 .room)) (name-idle _ (a .table .now) (a .start) (a .number) (a .count) (a .binding) (pre .1) (wrap-idle (a .work .now) (a .w) _ (word .ensures) (λ z. omega arith) (λ z. omega arith) (λ z. omega arith)))
 
 walk-reference-requires : (t : ℕ) → walk-lts.Need-reference-requires (walk-claims t) (walk-at t) walk.Post
 walk-reference-requires t c κs = search needs
@@ -56,59 +56,31 @@ walk-walk-requires : (t : ℕ) → walk-lts.Need-walk-requires (walk-claims t) (
 walk-walk-requires t c κs =
     let entry = c .before .before .before .before .before .before .before in
     let a = entry .args in
+    let pre = entry .pre in
     let word = c .before .before .before .before .word in
     let if1 = c .before .before .before .if1 in
     let reference = c .before .reference in
-    let pre = entry .pre in
     (omega (arith, wrap-falls (a .work .now) (a .w) _ (word .ensures) 2 _ (if1 .left) (reference .ensures)), pre .1)
+
+walk-same-length : (t : ℕ) → walk-lts.Need-same-length (walk-claims t) (walk-at t) walk.Post
+walk-same-length t c = search needs
+
+walk-returns-3 : (t : ℕ) → walk-lts.Need-returns-3 (walk-claims t) (walk-at t) walk.Post
+walk-returns-3 t c =
+    let walk = c .before .before .before .walk in
+    fits-on (c .if3 .taken) (walk .ensures)
 
 walk-word-requires-2 : (t : ℕ) → walk-lts.Need-word-requires-2 (walk-claims t) (walk-at t) walk.Post
 walk-word-requires-2 t c κs = search needs
 
 walk-mark-requires : (t : ℕ) → walk-lts.Need-mark-requires (walk-claims t) (walk-at t) walk.Post
 walk-mark-requires t c κs =
-    let entry = c .before .before .before .before .before .before .before .before .before .before .before .before .before in
-    let a = entry .args in
-    let pre = entry .pre in
-    let walk = c .before .before .before .before .before .walk in
-    name-marks (name-hand _ (a .table .now) _ (a .start) (a .number) (a .count) (a .binding) _ _ (pre .1) (walk .kept .1 .0) (walk .ensures))
-
-walk-same-length : (t : ℕ) → walk-lts.Need-same-length (walk-claims t) (walk-at t) walk.Post
-walk-same-length t c =
-    let mark = c .before .before .mark in
-    let walk = c .before .before .before .before .before .before .before .before .walk in
-    mark .kept .0 ∙ walk .kept .1 .0
-
-walk-returns-3 : (t : ℕ) → walk-lts.Need-returns-3 (walk-claims t) (walk-at t) walk.Post
-walk-returns-3 t c =
-    let a = c .before .before .before .before .before .before .before .before .before .before .before .before .before .before .before .before .args in
-    let word = c .before .before .before .before .before .before .before .before .before .before .before .before .before .word in
-    let reference = c .before .before .before .before .before .before .before .before .before .before .reference in
-    let walk = c .before .before .before .before .before .before .before .before .walk in
-    let if3 = c .before .before .before .before .before .if3 in
-    let word2 = c .before .before .before .before .word2 in
-    let mark = c .before .before .mark in
-    walk-mark (a .work .now) (a .w) _ (word .ensures) _ (reference .ensures) (a .table .now) _ (a .start) (a .number) (a .count) (a .binding) _ _ (walk .ensures) _ (if3 .taken) (word2 .ensures) _ _ (mark .ensures)
-
-walk-reference-requires-2 : (t : ℕ) → walk-lts.Need-reference-requires-2 (walk-claims t) (walk-at t) walk.Post
-walk-reference-requires-2 t c κs = search needs
-
-walk-walk-requires-2 : (t : ℕ) → walk-lts.Need-walk-requires-2 (walk-claims t) (walk-at t) walk.Post
-walk-walk-requires-2 t c κs =
-    let entry = c .before .before .before .before .before .before .before .before .before .before .before .before .before .before in
-    let a = entry .args in
-    let word = c .before .before .before .before .before .before .before .before .before .before .before .word in
-    let if1 = c .before .before .before .before .before .before .before .before .before .before .if1 in
-    let reference2 = c .before .reference2 in
-    let pre = entry .pre in
     let walk = c .before .before .before .before .before .before .walk in
-    (omega (arith, wrap-falls (a .work .now) (a .w) _ (word .ensures) 3 _ (if1 .left) (reference2 .ensures)), name-hand _ (a .table .now) _ (a .start) (a .number) (a .count) (a .binding) _ _ (pre .1) (walk .kept .1 .0) (walk .ensures))
+    let if3 = c .before .before .before .if3 in
+    walk .ensures .within (if3 .left) .hand
 
 walk-same-length-2 : (t : ℕ) → walk-lts.Need-same-length-2 (walk-claims t) (walk-at t) walk.Post
-walk-same-length-2 t c =
-    let walk2 = c .before .before .walk2 in
-    let walk = c .before .before .before .before .before .before .before .before .before .walk in
-    walk2 .kept .1 .0 ∙ walk .kept .1 .0
+walk-same-length-2 t c = search needs
 
 walk-returns-4 : (t : ℕ) → walk-lts.Need-returns-4 (walk-claims t) (walk-at t) walk.Post
 walk-returns-4 t c =
@@ -116,33 +88,64 @@ walk-returns-4 t c =
     let word = c .before .before .before .before .before .before .before .before .before .before .before .before .before .before .word in
     let reference = c .before .before .before .before .before .before .before .before .before .before .before .reference in
     let walk = c .before .before .before .before .before .before .before .before .before .walk in
+    let if3 = c .before .before .before .before .before .before .if3 in
     let if4 = c .before .before .before .before .before .if4 in
-    let reference2 = c .before .before .before .before .reference2 in
-    let walk2 = c .before .before .walk2 in
-    walk-join (a .work .now) (a .w) _ (word .ensures) _ (reference .ensures) (a .table .now) _ (a .start) (a .number) (a .count) (a .binding) _ _ (walk .ensures) _ (if4 .taken) (reference2 .ensures) _ _ _ (walk2 .ensures)
+    let word2 = c .before .before .before .before .word2 in
+    let mark = c .before .before .mark in
+    fits-wider (mark .last .0) (a .start + stepLimit) (a .start + stepLimit + stepLimit) (mark .result) (omega arith) (fits-then (mark .ensures) (walk-mark (a .work .now) (a .w) _ (word .ensures) _ (reference .ensures) (a .table .now) _ (a .start) (a .number) (a .count) (a .binding) _ _ (walk .ensures .within (if3 .left)) _ (if4 .taken) (word2 .ensures) _ _))
 
-walk-rebind-requires : (t : ℕ) → walk-lts.Need-rebind-requires (walk-claims t) (walk-at t) walk.Post
-walk-rebind-requires t c κs =
-    let entry = c .before .before .before .before .before .before .before .before .before .before .before .before .before in
+walk-reference-requires-2 : (t : ℕ) → walk-lts.Need-reference-requires-2 (walk-claims t) (walk-at t) walk.Post
+walk-reference-requires-2 t c κs = search needs
+
+walk-walk-requires-2 : (t : ℕ) → walk-lts.Need-walk-requires-2 (walk-claims t) (walk-at t) walk.Post
+walk-walk-requires-2 t c κs =
+    let entry = c .before .before .before .before .before .before .before .before .before .before .before .before .before .before .before in
     let a = entry .args in
     let pre = entry .pre in
-    let walk = c .before .before .before .before .before .walk in
-    name-hand _ (a .table .now) _ (a .start) (a .number) (a .count) (a .binding) _ _ (pre .1) (walk .kept .1 .0) (walk .ensures)
+    let word = c .before .before .before .before .before .before .before .before .before .before .before .before .word in
+    let if1 = c .before .before .before .before .before .before .before .before .before .before .before .if1 in
+    let walk = c .before .before .before .before .before .before .before .walk in
+    let if3 = c .before .before .before .before .if3 in
+    let reference2 = c .before .reference2 in
+    (omega (arith, wrap-falls (a .work .now) (a .w) _ (word .ensures) 3 _ (if1 .left) (reference2 .ensures), pre .0), walk .ensures .within (if3 .left) .hand)
 
 walk-same-length-3 : (t : ℕ) → walk-lts.Need-same-length-3 (walk-claims t) (walk-at t) walk.Post
-walk-same-length-3 t c =
-    let rebind = c .before .before .rebind in
-    let walk = c .before .before .before .before .before .before .before .before .walk in
-    rebind .kept .1 .0 ∙ walk .kept .1 .0
+walk-same-length-3 t c = search needs
 
 walk-returns-5 : (t : ℕ) → walk-lts.Need-returns-5 (walk-claims t) (walk-at t) walk.Post
 walk-returns-5 t c =
-    let a = c .before .before .before .before .before .before .before .before .before .before .before .before .before .before .before .before .args in
-    let word = c .before .before .before .before .before .before .before .before .before .before .before .before .before .word in
-    let reference = c .before .before .before .before .before .before .before .before .before .before .reference in
-    let walk = c .before .before .before .before .before .before .before .before .walk in
+    let a = c .before .before .before .before .before .before .before .before .before .before .before .before .before .before .before .before .before .before .args in
+    let word = c .before .before .before .before .before .before .before .before .before .before .before .before .before .before .before .word in
+    let reference = c .before .before .before .before .before .before .before .before .before .before .before .before .reference in
+    let walk = c .before .before .before .before .before .before .before .before .before .before .walk in
+    let if3 = c .before .before .before .before .before .before .before .if3 in
+    let if5 = c .before .before .before .before .before .if5 in
+    let reference2 = c .before .before .before .before .reference2 in
+    let walk2 = c .before .before .walk2 in
+    fits-then (walk2 .ensures) (walk-join (a .work .now) (a .w) _ (word .ensures) _ (reference .ensures) (a .table .now) _ (a .start) (a .number) (a .count) (a .binding) _ _ (walk .ensures .within (if3 .left)) _ (if5 .taken) (reference2 .ensures) _ _ _)
+
+walk-rebind-requires : (t : ℕ) → walk-lts.Need-rebind-requires (walk-claims t) (walk-at t) walk.Post
+walk-rebind-requires t c κs =
+    let walk = c .before .before .before .before .before .before .walk in
+    let if3 = c .before .before .before .if3 in
+    walk .ensures .within (if3 .left) .hand
+
+walk-same-length-4 : (t : ℕ) → walk-lts.Need-same-length-4 (walk-claims t) (walk-at t) walk.Post
+walk-same-length-4 t c = search needs
+
+walk-returns-6 : (t : ℕ) → walk-lts.Need-returns-6 (walk-claims t) (walk-at t) walk.Post
+walk-returns-6 t c =
+    let a = c .before .before .before .before .before .before .before .before .before .before .before .before .before .before .before .before .before .args in
+    let word = c .before .before .before .before .before .before .before .before .before .before .before .before .before .before .word in
+    let if1 = c .before .before .before .before .before .before .before .before .before .before .before .before .before .if1 in
+    let if2 = c .before .before .before .before .before .before .before .before .before .before .before .before .if2 in
+    let reference = c .before .before .before .before .before .before .before .before .before .before .before .reference in
+    let walk = c .before .before .before .before .before .before .before .before .before .walk in
+    let if3 = c .before .before .before .before .before .before .if3 in
+    let if4 = c .before .before .before .before .before .if4 in
+    let if5 = c .before .before .before .before .if5 in
     let rebind = c .before .before .rebind in
-    walk-binder (a .work .now) (a .w) _ (word .ensures) _ (reference .ensures) (a .table .now) _ (a .start) (a .number) (a .count) (a .binding) _ _ (walk .ensures) (omega arith) _ _ (rebind .ensures)
+    fits-then (rebind .ensures) (walk-binder (a .work .now) (a .w) _ (word .ensures) _ (reference .ensures) (a .table .now) _ (a .start) (a .number) (a .count) (a .binding) _ _ (walk .ensures .within (if3 .left)) (omega (arith, if1 .left, if2 .left, if4 .left, if5 .left)) _ _ _)
 
 pub +walk-spec : {M : Type 1} → statement M
 +walk-spec = close μ-walk λ t. walk-lts.spec (
@@ -164,14 +167,16 @@ pub +walk-spec : {M : Type 1} → statement M
     (walk-returns-2 t)
     (walk-reference-requires t)
     (walk-walk-requires t)
-    (walk-word-requires-2 t)
-    (walk-mark-requires t)
     (walk-same-length t)
     (walk-returns-3 t)
-    (walk-reference-requires-2 t)
-    (walk-walk-requires-2 t)
+    (walk-word-requires-2 t)
+    (walk-mark-requires t)
     (walk-same-length-2 t)
     (walk-returns-4 t)
-    (walk-rebind-requires t)
+    (walk-reference-requires-2 t)
+    (walk-walk-requires-2 t)
     (walk-same-length-3 t)
     (walk-returns-5 t)
+    (walk-rebind-requires t)
+    (walk-same-length-4 t)
+    (walk-returns-6 t)
