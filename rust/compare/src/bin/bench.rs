@@ -130,5 +130,11 @@ fn main() {
     growth("copies under an ellipsis", &[250, 500, 1_000, 2_000], |n| {
         format!("(f) (let-syntax ((m (syntax-rules () ((_ x ...) (f x ...))))) (m {}))", repeated(n, |i| (i % 10).to_string()))
     });
+    growth("copies of parts of pairs", &[80, 160, 320, 640], |n| {
+        format!("(f) (let-syntax ((m (syntax-rules () ((_ (a b) ...) (f (f b a) ...))))) (m {}))", repeated(n, |i| format!("(1 {})", i % 10)))
+    });
+    growth("copies with a variable from outside", &[125, 250, 500, 1_000], |n| {
+        format!("(f) (let-syntax ((m (syntax-rules () ((_ y x ...) (f (f y x) ...))))) (m 0 {}))", repeated(n, |i| (i % 10).to_string()))
+    });
     growth("operands", &[250, 500, 1_000, 2_000], |n| format!("(f) (f {})", repeated(n, |i| (i % 10).to_string())));
 }
