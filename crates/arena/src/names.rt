@@ -79,10 +79,13 @@ pub fn resolve(
     let own = cells::reference(work, node, cells::OWN);
     let s = wraps::walk(work, table, start, 0, number, 0, own);
     let n = s.count;
-    if table.len() < n {
-        return s;
-    }
     let b = s.binding;
+    if table.len() < n {
+        return InHand {
+            count: n,
+            binding: b,
+        };
+    }
     wraps::walk(work, table, start, n, number, b, w)
 }
 
@@ -157,7 +160,11 @@ pub fn binding_of(items: &[u32], work: &[u32], table: &mut [u32], node: u32, w: 
     requires { ⌜ 2 * markLimit < length (now table) ⌝ }
     ensures { λ r. ⌜ r ≡ bindingKey (nameAt (now (items .entry)) (now (work .entry)) node w .binding) ⌝ }
 {
-    let s = summary_of(items, work, table, node, w);
+    let x = resolve(items, work, table, 0, node, w);
+    if x.count <= table.len() {
+        return x.binding;
+    }
+    let s = summary_grown(items, work, table, node, w);
     s.binding
 }
 

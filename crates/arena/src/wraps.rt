@@ -163,10 +163,13 @@ pub fn walk(
     let inner = cells::reference(work, w, cells::INNER);
     let s = walk(work, table, start, count, number, binding, inner);
     let n = s.count;
-    if table.len() < n {
-        return s;
-    }
     let b = s.binding;
+    if table.len() < n {
+        return InHand {
+            count: n,
+            binding: b,
+        };
+    }
     if tag == cells::MARK {
         let m = cells::word(work, w, cells::STEP);
         let k = marks::mark(table, start, n, m);
