@@ -15,7 +15,7 @@ use Rattle.rule_cells.specs.Cells.{patternAt, templateAt}
 use Rattle.rule_cells.specs.CellLaws.{templateAt-variable, templateAt-insert, templateAt-constant, templateAt-pair, templateAt-ellipsis, templateAt-empty}
 use Rattle.steps.specs.Parts.{indices}
 use Rattle.steps.specs.Plain.{Plain, pairs, ellipsis, deepen, indices-more, equalLengths-two}
-use Rattle.steps.specs.Lengths.{AllOf, Copies, LengthsAgree, CopyAgrees, CopiesAgree}
+use Rattle.steps.specs.Lengths.{AllOf, Copies, Flat, LengthsAgree, CopyAgrees, CopiesAgree}
 use Rattle.steps.specs.LengthLaws.{copies-all}
 
 -- a template's cell without parts
@@ -67,15 +67,34 @@ module _ (items work : List ℕ) (t tag head rest : ℕ) (tag-is : tag ≡ wordA
   pub ellipsis-plain : tag ≡ 7 → Plain (templateAt items work t) → Plain (templateAt items work head) × Plain (templateAt items work rest)
   ellipsis-plain e x = let y : Plain (ellipsisT (templateAt items work head) (templateAt items work rest)) = subst Plain (ellipsis-is e) x in (plain-element _ _ y, plain-rest _ _ y)
 
+-- ---- templates without an ellipsis
+
+pub false-true : false ≡ true → ⊥
+false-true e = let z : _≡_ {A = ℕ} 0 1 = cc in omega arith
+
+module _ (work : List ℕ) (t tag : ℕ) (tag-is : tag ≡ wordAt work t 1) where
+  pub flat-leaf : (tag ≡ 6 → ⊥) → (tag ≡ 7 → ⊥) → Flat work t
+  unfolding equalLengths
+  flat-leaf n6 n7 items p used is = leaf-cell (λ s. true ≡ equalLengths p used is s) (λ k d. refl) (λ y. refl) (λ a. refl) refl items work t tag tag-is n6 n7
+
+  pub flat-pair : (head rest : ℕ) → tag ≡ 6 → head ≡ referenceAt work t 3 → rest ≡ referenceAt work t 2 → Flat work head → Flat work rest → Flat work t
+  unfolding equalLengths
+  flat-pair head rest e head-is rest-is f g items p used is = rw (pair-is items work t tag head rest tag-is head-is rest-is e, ← f items p used is, ← g items p used is) refl
+
+below-true : (f : ℕ → Bool) (c : ℕ) → ((k : ℕ) → true ≡ f k) → true ≡ allBelow f c
+unfolding allBelow
+below-true f zero h = refl
+below-true f (suc c) h = rw (← below-true f c h, ← h c) refl
+
+pub copies-flat : (work : List ℕ) (p u n outer inner e c : ℕ) → Flat work e → CopiesAgree work p u n outer inner e c true
+copies-flat work p u n outer inner e c f items w x = below-true _ c (λ k. f items _ _ _)
+
 -- ---- all of a template
 
 module _ (work : List ℕ) (p u n outer inner : ℕ) where
   module _ (t tag : ℕ) (tag-is : tag ≡ wordAt work t 1) where
     pub agree-leaf : (tag ≡ 6 → ⊥) → (tag ≡ 7 → ⊥) → LengthsAgree work p u n outer inner t true
-    unfolding equalLengths
-    agree-leaf n6 n7 items w x =
-        leaf-cell (λ s. true ≡ equalLengths (patternAt items work p) (treeAt items work u w) (indices n outer inner) s)
-        (λ k d. refl) (λ y. refl) (λ a. refl) refl items work t tag tag-is n6 n7
+    agree-leaf n6 n7 items w x = flat-leaf work t tag tag-is n6 n7 items _ _ _
 
     module _ (head rest : ℕ) (head-is : head ≡ referenceAt work t 3) (rest-is : rest ≡ referenceAt work t 2) where
       pub agree-head-no : (b : Bool) → tag ≡ 6 → LengthsAgree work p u n outer inner head b → b ≡ false → LengthsAgree work p u n outer inner t false

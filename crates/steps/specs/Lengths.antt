@@ -1,13 +1,13 @@
 -- Driving lists on cells: their lengths, the number of copies, and whether they are of one length (ground 17).
 use mathlib.Core.Path.{_≡_}
-use mathlib.Core.Bool.{Bool, cond}
+use mathlib.Core.Bool.{Bool, true, cond}
 use mathlib.Core.List.{List, [], _∷_, map}
 use Prim.Native.Nat.{ℕ, suc}
 use lib.Dec.{eqb}
 use lib.ListN.{length}
 use Rattle.words.specs.Lists.{all}
-use Rattle.recipe.specs.Tree.{elements}
-use Rattle.expansion.specs.Rules.{drivers}
+use Rattle.recipe.specs.Tree.{Tree, elements}
+use Rattle.expansion.specs.Rules.{Pattern, drivers}
 use Rattle.expansion.specs.Transcribe.{allBelow, taken, copyCount, equalLengths}
 use Rattle.arena.specs.Arena.{treeAt}
 use Rattle.rule_cells.specs.Cells.{patternAt, templateAt}
@@ -45,6 +45,10 @@ unfoldable pub deeper : ℕ → ℕ → ℕ
 deeper tag j = cond (eqb tag 7) (suc j) j
 
 -- ---- ground 17
+
+-- nothing is compared in a template without an ellipsis
+abbrev pub Flat : (work : List ℕ) (t : ℕ) → Type 0
+Flat work t = (items : List ℕ) (p : Pattern) (used : Tree) (is : List ℕ) → true ≡ equalLengths p used is (templateAt items work t)
 
 -- driving lists are of one length in all of a template
 abbrev pub LengthsAgree : (work : List ℕ) (p u n outer inner t : ℕ) → Bool → Type 0

@@ -124,9 +124,6 @@ module _ (work : List ℕ) (p k u : ℕ) where
 
 -- ---- the variables of an element
 
-pub driven-no : (work : List ℕ) (p u j t q list : ℕ) → false ≡ true → (list ≡ 0 → ⊥) → DrivenBy work p u j t q list
-driven-no work p u j t q list z some = let y : _≡_ {A = ℕ} 0 1 = cc in absurd (omega arith)
-
 module _ (work : List ℕ) (p u j t q list tag : ℕ) (tag-is : tag ≡ wordAt work t 1) where
   pub driven-variable : (d k r s : ℕ) → tag ≡ 1 → d ≡ wordAt work t 2 → j < d → k ≡ wordAt work t 3 → Placed work p k u r s → s ≡ list → r ≡ q → (list ≡ 0 → ⊥) → DrivenBy work p u j t q list
   driven-variable d k r s e d-is h k-is c a b some items w =

@@ -2,7 +2,8 @@
 
 ghost use mathlib.Core.Path.{_≡_};
 ghost use Rattle.steps.specs.Plain.{deepen};
-ghost use Rattle.steps.specs.Lengths.{LengthsAgree, CopiesAgree};
+ghost use mathlib.Core.Bool.{true};
+ghost use Rattle.steps.specs.Lengths.{Flat, LengthsAgree, CopiesAgree};
 use crate::lengths;
 use crate::places;
 use arena::cells;
@@ -16,6 +17,25 @@ pub fn deepen(n: u32) -> u32
         return 1;
     }
     2
+}
+
+// Whether a template has no ellipsis in it, and so no driving lists to compare.
+pub fn flat(work: &[u32], t: u32) -> bool
+    ensures { λ r. ⌜ (r ≡ true → Flat (now (work .entry)) t) ⌝ }
+{
+    let tag = cells::word(work, t, cells::TAG);
+    if tag == rule_cells::cells::ELLIPSIS {
+        return false;
+    }
+    if tag != rule_cells::cells::PAIR {
+        return true;
+    }
+    let head = cells::reference(work, t, 3);
+    if !flat(work, head) {
+        return false;
+    }
+    let rest = cells::reference(work, t, 2);
+    flat(work, rest)
 }
 
 // Whether driving lists are of one length in all of a template.
@@ -60,6 +80,9 @@ pub fn copies_agree(
 ) -> bool
     ensures { λ r. ⌜ CopiesAgree (now (work .entry)) p u n outer inner e c r ⌝ }
 {
+    if flat(work, e) {
+        return true;
+    }
     let m = deepen(n);
     let at = places::rooted(work, p, u, n, e);
     let mut node = at.list;

@@ -45,14 +45,14 @@ pub fn cost(
         return acc;
     }
     let tag = cells::word(work, t, cells::TAG);
-    let rest = cells::reference(work, t, 2);
-    let head = cells::reference(work, t, 3);
     if tag == rule_cells::cells::VARIABLE {
         let k = cells::word(work, t, 3);
         let d = cells::word(work, t, 2);
         let node = parts::taken(work, p, u, n, outer, inner, k, d);
         return size(work, node, acc, limit);
     }
+    let rest = cells::reference(work, t, 2);
+    let head = cells::reference(work, t, 3);
     if tag == rule_cells::cells::PAIR {
         let sum = cost(work, p, u, n, outer, inner, head, acc + 1, limit);
         return cost(work, p, u, n, outer, inner, rest, sum, limit);

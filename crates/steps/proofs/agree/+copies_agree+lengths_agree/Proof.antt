@@ -13,6 +13,7 @@ use Rattle.arena.proofs.cells.word.Reads as word-reads
 use Rattle.arena.proofs.lists.first.Reads as first-reads
 use Rattle.arena.proofs.lists.rest.Reads as rest-reads
 use Rattle.steps.proofs.agree.deepen.Reads as deepen-reads
+use Rattle.steps.proofs.agree.flat.Reads as flat-reads
 use Rattle.steps.proofs.lengths.all_of.Reads as all-of-reads
 use Rattle.steps.proofs.lengths.copies.Reads as copies-reads
 use Rattle.steps.proofs.places.rooted.Reads as rooted-reads
@@ -22,7 +23,7 @@ use borrow.Author.Tests.{not-true, not-false}
 use Rattle.steps.specs.PartLaws.{tag-falls}
 use Rattle.steps.specs.Lengths.{CopiesAgree}
 use Rattle.steps.specs.Places.{Ahead}
-use Rattle.steps.specs.AgreeLaws.{agree-leaf, agree-head-no, agree-tail, agree-differ, agree-copies-no, agree-rest, begun-copies, copy-at, copies-no, copies-more}
+use Rattle.steps.specs.AgreeLaws.{agree-leaf, copies-flat, agree-head-no, agree-tail, agree-differ, agree-copies-no, agree-rest, begun-copies, copy-at, copies-no, copies-more}
 use Rattle.steps.specs.PlaceLaws.{copy-in, ahead-begins, ahead-none, ahead-more}
 use native.Mathlib.Omega.{arith}
 use borrow.Author.Needs.{needs}
@@ -63,7 +64,7 @@ lengths-agree-below t =
     lengths-agree.Pre
 
 abbrev copies-agree-claims : ℕ → copies-agree-lts.Claims
-copies-agree-claims t = (deepen-reads.Asked, deepen-reads.Learnt, rooted-reads.Asked, rooted-reads.Learnt, lengths-agree-below t, lengths-agree.Post, first-reads.Asked, first-reads.Learnt, rest-reads.Asked, rest-reads.Learnt)
+copies-agree-claims t = (flat-reads.Asked, flat-reads.Learnt, deepen-reads.Asked, deepen-reads.Learnt, rooted-reads.Asked, rooted-reads.Learnt, lengths-agree-below t, lengths-agree.Post, first-reads.Asked, first-reads.Learnt, rest-reads.Asked, rest-reads.Learnt)
 
 abbrev lengths-agree-claims : ℕ → lengths-agree-lts.Claims
 lengths-agree-claims t = (word-reads.Asked, word-reads.Learnt, reference-reads.Asked, reference-reads.Learnt, lengths-agree-below t, lengths-agree.Post, copies-reads.Asked, copies-reads.Learnt, all-of-reads.Asked, all-of-reads.Learnt, copies-agree-below t, copies-agree.Post)
@@ -76,6 +77,17 @@ abbrev copies-agree-μ-loop : copies-agree-lts.MeasureT-loop
 copies-agree-μ-loop work p u n outer inner e c m at node₀ k₀ node k =
     c - k
 
+copies-agree-flat-requires : (t : ℕ) → copies-agree-lts.Need-flat-requires (copies-agree-claims t) (copies-agree-at t) copies-agree.Post copies-agree-Inv-loop copies-agree-μ-loop
+copies-agree-flat-requires t c κs =
+    search needs
+
+copies-agree-returns : (t : ℕ) → copies-agree-lts.Need-returns (copies-agree-claims t) (copies-agree-at t) copies-agree.Post copies-agree-Inv-loop copies-agree-μ-loop
+copies-agree-returns t c =
+    let a = c .before .before .before .args in
+    let flat = c .before .flat in
+    let if1 = c .if1 in
+    copies-flat (a .work .now) (a .p) (a .u) (a .n) (a .outer) (a .inner) (a .e) (a .c) (flat .ensures (if1 .taken))
+
 copies-agree-deepen-requires : (t : ℕ) → copies-agree-lts.Need-deepen-requires (copies-agree-claims t) (copies-agree-at t) copies-agree.Post copies-agree-Inv-loop copies-agree-μ-loop
 copies-agree-deepen-requires t c κs =
     search needs
@@ -86,24 +98,24 @@ copies-agree-rooted-requires t c κs =
 
 copies-agree-loop-holds : (t : ℕ) → copies-agree-lts.Need-loop-holds (copies-agree-claims t) (copies-agree-at t) copies-agree.Post copies-agree-Inv-loop copies-agree-μ-loop
 copies-agree-loop-holds t c =
-    let a = c .before .before .before .args in
+    let a = c .before .before .before .before .before .args in
     (omega arith, begun-copies (a .work .now) (a .p) (a .u) (a .n) (a .outer) (a .inner) (a .e), ahead-begins (a .work .now) _)
 
 copies-agree-lengths-agree-requires : (t : ℕ) → copies-agree-lts.Need-lengths-agree-requires (copies-agree-claims t) (copies-agree-at t) copies-agree.Post copies-agree-Inv-loop copies-agree-μ-loop
 copies-agree-lengths-agree-requires t c κs =
-    let pre = c .before .before .before .before .before .before .pre in
+    let pre = c .before .before .before .before .before .before .before .before .pre in
     omega (arith, pre .0)
 
-copies-agree-returns : (t : ℕ) → copies-agree-lts.Need-returns (copies-agree-claims t) (copies-agree-at t) copies-agree.Post copies-agree-Inv-loop copies-agree-μ-loop
-copies-agree-returns t c =
-    let a = c .before .before .before .before .before .before .before .before .args in
+copies-agree-returns-2 : (t : ℕ) → copies-agree-lts.Need-returns-2 (copies-agree-claims t) (copies-agree-at t) copies-agree.Post copies-agree-Inv-loop copies-agree-μ-loop
+copies-agree-returns-2 t c =
+    let a = c .before .before .before .before .before .before .before .before .before .before .args in
     let deepen = c .before .before .before .before .before .before .deepen in
     let loop = c .before .before .before .before .loop in
     let lengths-agree = c .before .lengths-agree in
-    let if2 = c .if2 in
+    let if3 = c .if3 in
     copies-no (a .work .now) (a .p) (a .u) (a .n) (a .outer) (a .inner) (a .e) (loop .k) _
     (copy-at (a .work .now) (a .p) (a .u) (a .n) (a .outer) (a .inner) (a .e) _ (loop .k) _ (deepen .ensures) (lengths-agree .ensures))
-    (a .c) (omega arith) (not-true _ (if2 .taken))
+    (a .c) (omega arith) (not-true _ (if3 .taken))
 
 copies-agree-first-requires : (t : ℕ) → copies-agree-lts.Need-first-requires (copies-agree-claims t) (copies-agree-at t) copies-agree.Post copies-agree-Inv-loop copies-agree-μ-loop
 copies-agree-first-requires t c κs =
@@ -111,21 +123,21 @@ copies-agree-first-requires t c κs =
 
 copies-agree-lengths-agree-requires-2 : (t : ℕ) → copies-agree-lts.Need-lengths-agree-requires-2 (copies-agree-claims t) (copies-agree-at t) copies-agree.Post copies-agree-Inv-loop copies-agree-μ-loop
 copies-agree-lengths-agree-requires-2 t c κs =
-    let pre = c .before .before .before .before .before .before .before .pre in
+    let pre = c .before .before .before .before .before .before .before .before .before .pre in
     omega (arith, pre .0)
 
-copies-agree-returns-2 : (t : ℕ) → copies-agree-lts.Need-returns-2 (copies-agree-claims t) (copies-agree-at t) copies-agree.Post copies-agree-Inv-loop copies-agree-μ-loop
-copies-agree-returns-2 t c =
-    let a = c .before .before .before .before .before .before .before .before .before .args in
+copies-agree-returns-3 : (t : ℕ) → copies-agree-lts.Need-returns-3 (copies-agree-claims t) (copies-agree-at t) copies-agree.Post copies-agree-Inv-loop copies-agree-μ-loop
+copies-agree-returns-3 t c =
+    let a = c .before .before .before .before .before .before .before .before .before .before .before .args in
     let rooted = c .before .before .before .before .before .before .rooted in
     let loop = c .before .before .before .before .before .loop in
-    let if1 = c .before .before .before .if1 in
+    let if2 = c .before .before .before .if2 in
     let first = c .before .before .first in
     let lengths-agree2 = c .before .lengths-agree2 in
-    let if3 = c .if3 in
+    let if4 = c .if4 in
     copies-no (a .work .now) (a .p) (a .u) (a .n) (a .outer) (a .inner) (a .e) (loop .k) _
-    (copy-in (a .work .now) (a .p) (a .u) (a .n) (a .outer) (a .inner) (a .e) _ _ (loop .k) _ _ _ (rooted .ensures) (if1 .left) (loop .inv .2) (first .ensures) (lengths-agree2 .ensures))
-    (a .c) (omega arith) (not-true _ (if3 .taken))
+    (copy-in (a .work .now) (a .p) (a .u) (a .n) (a .outer) (a .inner) (a .e) _ _ (loop .k) _ _ _ (rooted .ensures) (if2 .left) (loop .inv .2) (first .ensures) (lengths-agree2 .ensures))
+    (a .c) (omega arith) (not-true _ (if4 .taken))
 
 copies-agree-rest-requires : (t : ℕ) → copies-agree-lts.Need-rest-requires (copies-agree-claims t) (copies-agree-at t) copies-agree.Post copies-agree-Inv-loop copies-agree-μ-loop
 copies-agree-rest-requires t c κs =
@@ -141,11 +153,11 @@ copies-agree-loop-less t c =
 
 copies-agree-loop-again : (t : ℕ) → copies-agree-lts.Need-loop-again (copies-agree-claims t) (copies-agree-at t) copies-agree.Post copies-agree-Inv-loop copies-agree-μ-loop
 copies-agree-loop-again t c =
-    let a = c .before .before .before .before .before .before .args in
+    let a = c .before .before .before .before .before .before .before .before .args in
     let deepen = c .before .before .before .before .deepen in
     let rooted = c .before .before .before .rooted in
     let loop = c .before .before .loop in
-    let if1 = c .if1 in (
+    let if2 = c .if2 in (
       omega arith,
       ⊎-elim
           (λ q.
@@ -156,16 +168,16 @@ copies-agree-loop-again t c =
           copies-more (a .work .now) (a .p) (a .u) (a .n) (a .outer) (a .inner) (a .e) (loop .k) _
           (copy-in (a .work .now) (a .p) (a .u) (a .n) (a .outer) (a .inner) (a .e) _ _ (loop .k) _ _ _ (rooted .ensures) (q .0 .left) (loop .inv .2) (q .1 .ensures) (q .2 .ensures))
           (not-false _ (q .3 .left)) (loop .inv .1))
-          (if1 .came),
+          (if2 .came),
       ⊎-elim
           (λ q. rw (q .3) (ahead-none (a .work .now) _ _ _ (q .0 .taken)))
           (λ q. rw (q .5) (ahead-more (a .work .now) _ (loop .k) (loop .node) (q .0 .left) (loop .inv .2) _ (q .4 .ensures)))
-          (if1 .came),
+          (if2 .came),
     )
 
-copies-agree-returns-3 : (t : ℕ) → copies-agree-lts.Need-returns-3 (copies-agree-claims t) (copies-agree-at t) copies-agree.Post copies-agree-Inv-loop copies-agree-μ-loop
-copies-agree-returns-3 t c =
-    let a = c .before .before .before .before .before .args in
+copies-agree-returns-4 : (t : ℕ) → copies-agree-lts.Need-returns-4 (copies-agree-claims t) (copies-agree-at t) copies-agree.Post copies-agree-Inv-loop copies-agree-μ-loop
+copies-agree-returns-4 t c =
+    let a = c .before .before .before .before .before .before .before .args in
     let loop = c .before .loop in
     let e : loop .k ≡ a .c = omega arith in subst (λ (k : ℕ). CopiesAgree (a .work .now) (a .p) (a .u) (a .n) (a .outer) (a .inner) (a .e) k true) e (loop .inv .1)
 
@@ -175,11 +187,15 @@ lengths-agree-word-requires t c κs =
 
 lengths-agree-returns : (t : ℕ) → lengths-agree-lts.Need-returns (lengths-agree-claims t) (lengths-agree-at t) lengths-agree.Post
 lengths-agree-returns t c =
-    let a = c .before .before .before .args in agree-leaf (a .work .now) (a .p) (a .u) (a .n) (a .outer) (a .inner) (a .t) _ (c .before .word .ensures) (λ z. omega arith) (λ z. omega arith)
+    let a = c .before .before .before .args in
+    let word = c .before .word in
+    agree-leaf (a .work .now) (a .p) (a .u) (a .n) (a .outer) (a .inner) (a .t) _ (word .ensures) (λ z. omega arith) (λ z. omega arith)
 
 lengths-agree-returns-2 : (t : ℕ) → lengths-agree-lts.Need-returns-2 (lengths-agree-claims t) (lengths-agree-at t) lengths-agree.Post
 lengths-agree-returns-2 t c =
-    let a = c .before .before .before .before .args in agree-leaf (a .work .now) (a .p) (a .u) (a .n) (a .outer) (a .inner) (a .t) _ (c .before .before .word .ensures) (λ z. omega arith) (λ z. omega arith)
+    let a = c .before .before .before .before .args in
+    let word = c .before .before .word in
+    agree-leaf (a .work .now) (a .p) (a .u) (a .n) (a .outer) (a .inner) (a .t) _ (word .ensures) (λ z. omega arith) (λ z. omega arith)
 
 lengths-agree-reference-requires : (t : ℕ) → lengths-agree-lts.Need-reference-requires (lengths-agree-claims t) (lengths-agree-at t) lengths-agree.Post
 lengths-agree-reference-requires t c κs =
@@ -191,19 +207,44 @@ lengths-agree-reference-requires-2 t c κs =
 
 lengths-agree-lengths-agree-requires : (t : ℕ) → lengths-agree-lts.Need-lengths-agree-requires (lengths-agree-claims t) (lengths-agree-at t) lengths-agree.Post
 lengths-agree-lengths-agree-requires t c κs =
-    let a = c .before .before .before .before .before .before .before .args in let l = tag-falls (a .work .now) (a .t) _ (c .before .before .before .before .before .word .ensures) 3 _ (λ z. omega arith) (c .before .before .reference .ensures) in omega (arith, l, c .before .before .before .before .before .before .before .pre .0)
+    let entry = c .before .before .before .before .before .before .before in
+    let a = entry .args in
+    let pre = entry .pre in
+    let word = c .before .before .before .before .before .word in
+    let reference = c .before .before .reference in
+    let l = tag-falls (a .work .now) (a .t) _ (word .ensures) 3 _ (λ z. omega arith) (reference .ensures) in omega (arith, l, pre .0)
 
 lengths-agree-returns-3 : (t : ℕ) → lengths-agree-lts.Need-returns-3 (lengths-agree-claims t) (lengths-agree-at t) lengths-agree.Post
 lengths-agree-returns-3 t c =
-    let a = c .before .before .before .before .before .before .before .before .before .args in agree-head-no (a .work .now) (a .p) (a .u) (a .n) (a .outer) (a .inner) (a .t) _ (c .before .before .before .before .before .before .before .word .ensures) _ _ (c .before .before .before .before .reference .ensures) (c .before .before .before .reference2 .ensures) _ (c .before .before .if3 .taken) (c .before .lengths-agree .ensures) (not-true _ (c .if4 .taken))
+    let a = c .before .before .before .before .before .before .before .before .before .args in
+    let word = c .before .before .before .before .before .before .before .word in
+    let reference = c .before .before .before .before .reference in
+    let reference2 = c .before .before .before .reference2 in
+    let if3 = c .before .before .if3 in
+    let lengths-agree = c .before .lengths-agree in
+    let if4 = c .if4 in
+    agree-head-no (a .work .now) (a .p) (a .u) (a .n) (a .outer) (a .inner) (a .t) _ (word .ensures) _ _ (reference .ensures) (reference2 .ensures) _ (if3 .taken) (lengths-agree .ensures) (not-true _ (if4 .taken))
 
 lengths-agree-lengths-agree-requires-2 : (t : ℕ) → lengths-agree-lts.Need-lengths-agree-requires-2 (lengths-agree-claims t) (lengths-agree-at t) lengths-agree.Post
 lengths-agree-lengths-agree-requires-2 t c κs =
-    let a = c .before .before .before .before .before .before .before .before .before .args in let l = tag-falls (a .work .now) (a .t) _ (c .before .before .before .before .before .before .before .word .ensures) 2 _ (λ z. omega arith) (c .before .before .before .reference2 .ensures) in omega (arith, l, c .before .before .before .before .before .before .before .before .before .pre .0)
+    let entry = c .before .before .before .before .before .before .before .before .before in
+    let a = entry .args in
+    let pre = entry .pre in
+    let word = c .before .before .before .before .before .before .before .word in
+    let reference2 = c .before .before .before .reference2 in
+    let l = tag-falls (a .work .now) (a .t) _ (word .ensures) 2 _ (λ z. omega arith) (reference2 .ensures) in omega (arith, l, pre .0)
 
 lengths-agree-returns-4 : (t : ℕ) → lengths-agree-lts.Need-returns-4 (lengths-agree-claims t) (lengths-agree-at t) lengths-agree.Post
 lengths-agree-returns-4 t c =
-    let a = c .before .before .before .before .before .before .before .before .before .before .args in agree-tail (a .work .now) (a .p) (a .u) (a .n) (a .outer) (a .inner) (a .t) _ (c .before .before .before .before .before .before .before .before .word .ensures) _ _ (c .before .before .before .before .before .reference .ensures) (c .before .before .before .before .reference2 .ensures) _ _ (c .before .before .before .if3 .taken) (c .before .before .lengths-agree .ensures) (not-false _ (c .before .if4 .left)) (c .lengths-agree2 .ensures)
+    let a = c .before .before .before .before .before .before .before .before .before .before .args in
+    let word = c .before .before .before .before .before .before .before .before .word in
+    let reference = c .before .before .before .before .before .reference in
+    let reference2 = c .before .before .before .before .reference2 in
+    let if3 = c .before .before .before .if3 in
+    let lengths-agree = c .before .before .lengths-agree in
+    let if4 = c .before .if4 in
+    let lengths-agree2 = c .lengths-agree2 in
+    agree-tail (a .work .now) (a .p) (a .u) (a .n) (a .outer) (a .inner) (a .t) _ (word .ensures) _ _ (reference .ensures) (reference2 .ensures) _ _ (if3 .taken) (lengths-agree .ensures) (not-false _ (if4 .left)) (lengths-agree2 .ensures)
 
 lengths-agree-copies-requires : (t : ℕ) → lengths-agree-lts.Need-copies-requires (lengths-agree-claims t) (lengths-agree-at t) lengths-agree.Post
 lengths-agree-copies-requires t c κs =
@@ -215,23 +256,68 @@ lengths-agree-all-of-requires t c κs =
 
 lengths-agree-returns-5 : (t : ℕ) → lengths-agree-lts.Need-returns-5 (lengths-agree-claims t) (lengths-agree-at t) lengths-agree.Post
 lengths-agree-returns-5 t c =
-    let a = c .before .before .before .before .before .before .before .before .before .before .args in agree-differ (a .work .now) (a .p) (a .u) (a .n) (a .outer) (a .inner) (a .t) _ (c .before .before .before .before .before .before .before .before .word .ensures) _ _ (c .before .before .before .before .before .reference .ensures) (c .before .before .before .before .reference2 .ensures) (omega arith) _ (c .before .before .copies .ensures) _ (c .before .all-of .ensures) (not-true _ (c .if5 .taken))
+    let a = c .before .before .before .before .before .before .before .before .before .before .args in
+    let word = c .before .before .before .before .before .before .before .before .word in
+    let if1 = c .before .before .before .before .before .before .before .if1 in
+    let if2 = c .before .before .before .before .before .before .if2 in
+    let reference = c .before .before .before .before .before .reference in
+    let reference2 = c .before .before .before .before .reference2 in
+    let if3 = c .before .before .before .if3 in
+    let copies = c .before .before .copies in
+    let all-of = c .before .all-of in
+    let if5 = c .if5 in
+    agree-differ (a .work .now) (a .p) (a .u) (a .n) (a .outer) (a .inner) (a .t) _ (word .ensures) _ _ (reference .ensures) (reference2 .ensures) (omega (arith, if1 .left, if2 .left, if3 .left)) _ (copies .ensures) _ (all-of .ensures) (not-true _ (if5 .taken))
 
 lengths-agree-copies-agree-requires : (t : ℕ) → lengths-agree-lts.Need-copies-agree-requires (lengths-agree-claims t) (lengths-agree-at t) lengths-agree.Post
 lengths-agree-copies-agree-requires t c κs =
-    let a = c .before .before .before .before .before .before .before .before .before .before .args in let l = tag-falls (a .work .now) (a .t) _ (c .before .before .before .before .before .before .before .before .word .ensures) 3 _ (λ z. omega arith) (c .before .before .before .before .before .reference .ensures) in omega (arith, l, c .before .before .before .before .before .before .before .before .before .before .pre .0)
+    let entry = c .before .before .before .before .before .before .before .before .before .before in
+    let a = entry .args in
+    let pre = entry .pre in
+    let word = c .before .before .before .before .before .before .before .before .word in
+    let reference = c .before .before .before .before .before .reference in
+    let l = tag-falls (a .work .now) (a .t) _ (word .ensures) 3 _ (λ z. omega arith) (reference .ensures) in omega (arith, l, pre .0)
 
 lengths-agree-returns-6 : (t : ℕ) → lengths-agree-lts.Need-returns-6 (lengths-agree-claims t) (lengths-agree-at t) lengths-agree.Post
 lengths-agree-returns-6 t c =
-    let a = c .before .before .before .before .before .before .before .before .before .before .before .before .args in agree-copies-no (a .work .now) (a .p) (a .u) (a .n) (a .outer) (a .inner) (a .t) _ (c .before .before .before .before .before .before .before .before .before .before .word .ensures) _ _ (c .before .before .before .before .before .before .before .reference .ensures) (c .before .before .before .before .before .before .reference2 .ensures) (omega arith) _ (c .before .before .before .before .copies .ensures) _ (c .before .before .before .all-of .ensures) (not-false _ (c .before .before .if5 .left)) _ (c .before .copies-agree .ensures) (not-true _ (c .if6 .taken))
+    let a = c .before .before .before .before .before .before .before .before .before .before .before .before .args in
+    let word = c .before .before .before .before .before .before .before .before .before .before .word in
+    let if1 = c .before .before .before .before .before .before .before .before .before .if1 in
+    let if2 = c .before .before .before .before .before .before .before .before .if2 in
+    let reference = c .before .before .before .before .before .before .before .reference in
+    let reference2 = c .before .before .before .before .before .before .reference2 in
+    let if3 = c .before .before .before .before .before .if3 in
+    let copies = c .before .before .before .before .copies in
+    let all-of = c .before .before .before .all-of in
+    let if5 = c .before .before .if5 in
+    let copies-agree = c .before .copies-agree in
+    let if6 = c .if6 in
+    agree-copies-no (a .work .now) (a .p) (a .u) (a .n) (a .outer) (a .inner) (a .t) _ (word .ensures) _ _ (reference .ensures) (reference2 .ensures) (omega (arith, if1 .left, if2 .left, if3 .left)) _ (copies .ensures) _ (all-of .ensures) (not-false _ (if5 .left)) _ (copies-agree .ensures) (not-true _ (if6 .taken))
 
 lengths-agree-lengths-agree-requires-3 : (t : ℕ) → lengths-agree-lts.Need-lengths-agree-requires-3 (lengths-agree-claims t) (lengths-agree-at t) lengths-agree.Post
 lengths-agree-lengths-agree-requires-3 t c κs =
-    let a = c .before .before .before .before .before .before .before .before .before .before .before .before .args in let l = tag-falls (a .work .now) (a .t) _ (c .before .before .before .before .before .before .before .before .before .before .word .ensures) 2 _ (λ z. omega arith) (c .before .before .before .before .before .before .reference2 .ensures) in omega (arith, l, c .before .before .before .before .before .before .before .before .before .before .before .before .pre .0)
+    let entry = c .before .before .before .before .before .before .before .before .before .before .before .before in
+    let a = entry .args in
+    let pre = entry .pre in
+    let word = c .before .before .before .before .before .before .before .before .before .before .word in
+    let reference2 = c .before .before .before .before .before .before .reference2 in
+    let l = tag-falls (a .work .now) (a .t) _ (word .ensures) 2 _ (λ z. omega arith) (reference2 .ensures) in omega (arith, l, pre .0)
 
 lengths-agree-returns-7 : (t : ℕ) → lengths-agree-lts.Need-returns-7 (lengths-agree-claims t) (lengths-agree-at t) lengths-agree.Post
 lengths-agree-returns-7 t c =
-    let a = c .before .before .before .before .before .before .before .before .before .before .before .before .before .args in agree-rest (a .work .now) (a .p) (a .u) (a .n) (a .outer) (a .inner) (a .t) _ (c .before .before .before .before .before .before .before .before .before .before .before .word .ensures) _ _ (c .before .before .before .before .before .before .before .before .reference .ensures) (c .before .before .before .before .before .before .before .reference2 .ensures) (omega arith) _ (c .before .before .before .before .before .copies .ensures) _ (c .before .before .before .before .all-of .ensures) (not-false _ (c .before .before .before .if5 .left)) _ (c .before .before .copies-agree .ensures) _ (not-false _ (c .before .if6 .left)) (c .lengths-agree3 .ensures)
+    let a = c .before .before .before .before .before .before .before .before .before .before .before .before .before .args in
+    let word = c .before .before .before .before .before .before .before .before .before .before .before .word in
+    let if1 = c .before .before .before .before .before .before .before .before .before .before .if1 in
+    let if2 = c .before .before .before .before .before .before .before .before .before .if2 in
+    let reference = c .before .before .before .before .before .before .before .before .reference in
+    let reference2 = c .before .before .before .before .before .before .before .reference2 in
+    let if3 = c .before .before .before .before .before .before .if3 in
+    let copies = c .before .before .before .before .before .copies in
+    let all-of = c .before .before .before .before .all-of in
+    let if5 = c .before .before .before .if5 in
+    let copies-agree = c .before .before .copies-agree in
+    let if6 = c .before .if6 in
+    let lengths-agree3 = c .lengths-agree3 in
+    agree-rest (a .work .now) (a .p) (a .u) (a .n) (a .outer) (a .inner) (a .t) _ (word .ensures) _ _ (reference .ensures) (reference2 .ensures) (omega (arith, if1 .left, if2 .left, if3 .left)) _ (copies .ensures) _ (all-of .ensures) (not-false _ (if5 .left)) _ (copies-agree .ensures) _ (not-false _ (if6 .left)) (lengths-agree3 .ensures)
 
 pub +copies-agree+lengths-agree-spec : {M : Type 1} → statement M
 +copies-agree+lengths-agree-spec =
@@ -240,19 +326,21 @@ pub +copies-agree+lengths-agree-spec : {M : Type 1} → statement M
     copies-agree.Post
     copies-agree-Inv-loop
     copies-agree-μ-loop
+    (copies-agree-flat-requires t)
+    (copies-agree-returns t)
     (copies-agree-deepen-requires t)
     (copies-agree-rooted-requires t)
     (copies-agree-loop-holds t)
     (copies-agree-lengths-agree-requires t)
-    (copies-agree-returns t)
+    (copies-agree-returns-2 t)
     (copies-agree-first-requires t)
     (copies-agree-lengths-agree-requires-2 t)
-    (copies-agree-returns-2 t)
+    (copies-agree-returns-3 t)
     (copies-agree-rest-requires t)
     (copies-agree-add-k t)
     (copies-agree-loop-less t)
     (copies-agree-loop-again t)
-    (copies-agree-returns-3 t))
+    (copies-agree-returns-4 t))
     λ t. lengths-agree-lts.spec (lengths-agree-claims t)
     (lengths-agree-at t)
     lengths-agree.Post

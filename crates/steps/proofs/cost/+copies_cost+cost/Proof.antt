@@ -55,7 +55,7 @@ abbrev copies-cost-claims : ℕ → copies-cost-lts.Claims
 copies-cost-claims t = (deepen-reads.Asked, deepen-reads.Learnt, rooted-reads.Asked, rooted-reads.Learnt, cost-below t, cost.Post, first-reads.Asked, first-reads.Learnt, rest-reads.Asked, rest-reads.Learnt)
 
 abbrev cost-claims : ℕ → cost-lts.Claims
-cost-claims t = (word-reads.Asked, word-reads.Learnt, reference-reads.Asked, reference-reads.Learnt, taken-reads.Asked, taken-reads.Learnt, size-reads.Asked, size-reads.Learnt, cost-below t, cost.Post, copies-reads.Asked, copies-reads.Learnt, copies-cost-below t, copies-cost.Post)
+cost-claims t = (word-reads.Asked, word-reads.Learnt, taken-reads.Asked, taken-reads.Learnt, size-reads.Asked, size-reads.Learnt, reference-reads.Asked, reference-reads.Learnt, cost-below t, cost.Post, copies-reads.Asked, copies-reads.Learnt, copies-cost-below t, copies-cost.Post)
 
 abbrev copies-cost-Inv-loop : copies-cost-lts.InvT-loop
 copies-cost-Inv-loop work p u n outer inner e c acc limit m at node₀ sum₀ k₀ node sum k =
@@ -149,18 +149,14 @@ copies-cost-returns-2 t c =
 
 cost-returns : (t : ℕ) → cost-lts.Need-returns (cost-claims t) (cost-at t) cost.Post
 cost-returns t c =
-    let a = c .before .before .args in cost-past (a .work .now) (a .p) (a .u) (a .n) (a .outer) (a .inner) (a .t) (a .acc) (a .limit) (c .if1 .taken) (c .before .before .pre .1)
+    let entry = c .before .before in
+    let a = entry .args in
+    let pre = entry .pre in
+    let if1 = c .if1 in
+    cost-past (a .work .now) (a .p) (a .u) (a .n) (a .outer) (a .inner) (a .t) (a .acc) (a .limit) (if1 .taken) (pre .1)
 
 cost-word-requires : (t : ℕ) → cost-lts.Need-word-requires (cost-claims t) (cost-at t) cost.Post
 cost-word-requires t c κs =
-    search needs
-
-cost-reference-requires : (t : ℕ) → cost-lts.Need-reference-requires (cost-claims t) (cost-at t) cost.Post
-cost-reference-requires t c κs =
-    search needs
-
-cost-reference-requires-2 : (t : ℕ) → cost-lts.Need-reference-requires-2 (cost-claims t) (cost-at t) cost.Post
-cost-reference-requires-2 t c κs =
     search needs
 
 cost-word-requires-2 : (t : ℕ) → cost-lts.Need-word-requires-2 (cost-claims t) (cost-at t) cost.Post
@@ -177,35 +173,77 @@ cost-taken-requires t c κs =
 
 cost-size-requires : (t : ℕ) → cost-lts.Need-size-requires (cost-claims t) (cost-at t) cost.Post
 cost-size-requires t c κs =
-    c .before .before .before .before .before .before .before .before .before .pre .1
+    let pre = c .before .before .before .before .before .before .before .pre in
+    pre .1
 
 cost-returns-2 : (t : ℕ) → cost-lts.Need-returns-2 (cost-claims t) (cost-at t) cost.Post
 cost-returns-2 t c =
-    let a = c .before .before .before .before .before .before .before .before .before .before .args in cost-variable (a .work .now) (a .p) (a .u) (a .n) (a .outer) (a .inner) (a .t) (a .acc) (a .limit) _ (c .before .before .before .before .before .before .before .word .ensures) _ _ _ _ (c .before .before .before .before .if2 .taken) (c .before .before .before .word2 .ensures) (c .before .before .word3 .ensures) (c .before .taken .ensures) (c .size .ensures)
+    let a = c .before .before .before .before .before .before .before .before .args in
+    let word = c .before .before .before .before .before .word in
+    let if2 = c .before .before .before .before .if2 in
+    let word2 = c .before .before .before .word2 in
+    let word3 = c .before .before .word3 in
+    let taken = c .before .taken in
+    let size = c .size in
+    cost-variable (a .work .now) (a .p) (a .u) (a .n) (a .outer) (a .inner) (a .t) (a .acc) (a .limit) _ (word .ensures) _ _ _ _ (if2 .taken) (word2 .ensures) (word3 .ensures) (taken .ensures) (size .ensures)
+
+cost-reference-requires : (t : ℕ) → cost-lts.Need-reference-requires (cost-claims t) (cost-at t) cost.Post
+cost-reference-requires t c κs =
+    search needs
+
+cost-reference-requires-2 : (t : ℕ) → cost-lts.Need-reference-requires-2 (cost-claims t) (cost-at t) cost.Post
+cost-reference-requires-2 t c κs =
+    search needs
 
 cost-add-cost : (t : ℕ) → cost-lts.Need-add-cost (cost-claims t) (cost-at t) cost.Post
 cost-add-cost t c =
-    omega (arith, c .before .before .before .before .before .before .before .pre .1)
+    let pre = c .before .before .before .before .before .before .before .pre in
+    omega (arith, pre .1)
 
 cost-cost-requires : (t : ℕ) → cost-lts.Need-cost-requires (cost-claims t) (cost-at t) cost.Post
 cost-cost-requires t c κs =
-    let a = c .before .before .before .before .before .before .before .args in let l = tag-falls (a .work .now) (a .t) _ (c .before .before .before .before .word .ensures) 3 _ (λ z. omega arith) (c .before .before .reference2 .ensures) in (omega (arith, l, c .before .before .before .before .before .before .before .pre .0), record { most = omega arith; small = c .before .before .before .before .before .before .before .pre .1 .small })
+    let entry = c .before .before .before .before .before .before .before in
+    let a = entry .args in
+    let pre = entry .pre in
+    let word = c .before .before .before .before .word in
+    let reference2 = c .before .reference2 in
+    let l = tag-falls (a .work .now) (a .t) _ (word .ensures) 3 _ (λ z. omega arith) (reference2 .ensures) in (omega (arith, l, pre .0), record { most = omega arith; small = pre .1 .small })
 
 cost-cost-requires-2 : (t : ℕ) → cost-lts.Need-cost-requires-2 (cost-claims t) (cost-at t) cost.Post
 cost-cost-requires-2 t c κs =
-    let a = c .before .before .before .before .before .before .before .before .args in let l = tag-falls (a .work .now) (a .t) _ (c .before .before .before .before .before .word .ensures) 2 _ (λ z. omega arith) (c .before .before .before .before .reference .ensures) in (omega (arith, l, c .before .before .before .before .before .before .before .before .pre .0), record { most = c .cost .ensures .most; small = c .before .before .before .before .before .before .before .before .pre .1 .small })
+    let entry = c .before .before .before .before .before .before .before .before in
+    let a = entry .args in
+    let pre = entry .pre in
+    let word = c .before .before .before .before .before .word in
+    let reference = c .before .before .before .reference in
+    let cost = c .cost in
+    let l = tag-falls (a .work .now) (a .t) _ (word .ensures) 2 _ (λ z. omega arith) (reference .ensures) in (omega (arith, l, pre .0), record { most = cost .ensures .most; small = pre .1 .small })
 
 cost-returns-3 : (t : ℕ) → cost-lts.Need-returns-3 (cost-claims t) (cost-at t) cost.Post
 cost-returns-3 t c =
-    let a = c .before .before .before .before .before .before .before .before .before .args in cost-pair (a .work .now) (a .p) (a .u) (a .n) (a .outer) (a .inner) (a .t) (a .acc) (a .limit) _ (c .before .before .before .before .before .before .word .ensures) _ _ (c .before .before .before .before .reference2 .ensures) (c .before .before .before .before .before .reference .ensures) _ _ (c .before .before .if3 .taken) (c .before .cost .ensures) (c .cost2 .ensures)
+    let a = c .before .before .before .before .before .before .before .before .before .args in
+    let word = c .before .before .before .before .before .before .word in
+    let reference = c .before .before .before .before .reference in
+    let reference2 = c .before .before .before .reference2 in
+    let if3 = c .before .before .if3 in
+    let cost = c .before .cost in
+    let cost2 = c .cost2 in
+    cost-pair (a .work .now) (a .p) (a .u) (a .n) (a .outer) (a .inner) (a .t) (a .acc) (a .limit) _ (word .ensures) _ _ (reference2 .ensures) (reference .ensures) _ _ (if3 .taken) (cost .ensures) (cost2 .ensures)
 
 cost-add-result : (t : ℕ) → cost-lts.Need-add-result (cost-claims t) (cost-at t) cost.Post
 cost-add-result t c =
-    omega (arith, c .before .before .before .before .before .before .before .before .pre .1)
+    let pre = c .before .before .before .before .before .before .before .before .pre in
+    omega (arith, pre .1)
 
 cost-returns-4 : (t : ℕ) → cost-lts.Need-returns-4 (cost-claims t) (cost-at t) cost.Post
 cost-returns-4 t c =
-    let a = c .before .before .before .before .before .before .before .before .args in cost-leaf (a .work .now) (a .p) (a .u) (a .n) (a .outer) (a .inner) (a .t) (a .acc) (a .limit) _ (c .before .before .before .before .before .word .ensures) (c .before .before .if2 .left) (c .before .if3 .left) (c .if4 .taken) (c .before .before .before .before .before .before .if1 .left)
+    let a = c .before .before .before .before .before .before .before .before .args in
+    let if1 = c .before .before .before .before .before .before .if1 in
+    let word = c .before .before .before .before .before .word in
+    let if2 = c .before .before .before .before .if2 in
+    let if3 = c .before .if3 in
+    let if4 = c .if4 in
+    cost-leaf (a .work .now) (a .p) (a .u) (a .n) (a .outer) (a .inner) (a .t) (a .acc) (a .limit) _ (word .ensures) (if2 .left) (if3 .left) (if4 .taken) (if1 .left)
 
 cost-copies-requires : (t : ℕ) → cost-lts.Need-copies-requires (cost-claims t) (cost-at t) cost.Post
 cost-copies-requires t c κs =
@@ -213,15 +251,34 @@ cost-copies-requires t c κs =
 
 cost-copies-cost-requires : (t : ℕ) → cost-lts.Need-copies-cost-requires (cost-claims t) (cost-at t) cost.Post
 cost-copies-cost-requires t c κs =
-    let a = c .before .before .before .before .before .before .before .before .before .args in let l = tag-falls (a .work .now) (a .t) _ (c .before .before .before .before .before .before .word .ensures) 3 _ (λ z. omega arith) (c .before .before .before .before .reference2 .ensures) in (omega (arith, l, c .before .before .before .before .before .before .before .before .before .pre .0), c .before .before .before .before .before .before .before .before .before .pre .1)
+    let entry = c .before .before .before .before .before .before .before .before .before in
+    let a = entry .args in
+    let pre = entry .pre in
+    let word = c .before .before .before .before .before .before .word in
+    let reference2 = c .before .before .before .reference2 in
+    let l = tag-falls (a .work .now) (a .t) _ (word .ensures) 3 _ (λ z. omega arith) (reference2 .ensures) in (omega (arith, l, pre .0), pre .1)
 
 cost-cost-requires-3 : (t : ℕ) → cost-lts.Need-cost-requires-3 (cost-claims t) (cost-at t) cost.Post
 cost-cost-requires-3 t c κs =
-    let a = c .before .before .before .before .before .before .before .before .before .before .args in let l = tag-falls (a .work .now) (a .t) _ (c .before .before .before .before .before .before .before .word .ensures) 2 _ (λ z. omega arith) (c .before .before .before .before .before .before .reference .ensures) in (omega (arith, l, c .before .before .before .before .before .before .before .before .before .before .pre .0), record { most = c .copies-cost .ensures .most; small = c .before .before .before .before .before .before .before .before .before .before .pre .1 .small })
+    let entry = c .before .before .before .before .before .before .before .before .before .before in
+    let a = entry .args in
+    let pre = entry .pre in
+    let word = c .before .before .before .before .before .before .before .word in
+    let reference = c .before .before .before .before .before .reference in
+    let copies-cost = c .copies-cost in
+    let l = tag-falls (a .work .now) (a .t) _ (word .ensures) 2 _ (λ z. omega arith) (reference .ensures) in (omega (arith, l, pre .0), record { most = copies-cost .ensures .most; small = pre .1 .small })
 
 cost-returns-5 : (t : ℕ) → cost-lts.Need-returns-5 (cost-claims t) (cost-at t) cost.Post
 cost-returns-5 t c =
-    let a = c .before .before .before .before .before .before .before .before .before .before .before .args in cost-ellipsis (a .work .now) (a .p) (a .u) (a .n) (a .outer) (a .inner) (a .t) (a .acc) (a .limit) _ (c .before .before .before .before .before .before .before .before .word .ensures) _ _ (c .before .before .before .before .before .before .reference2 .ensures) (c .before .before .before .before .before .before .before .reference .ensures) _ _ _ (c .before .before .before .if4 .left) (c .before .before .copies .ensures) (c .before .copies-cost .ensures) (c .cost3 .ensures)
+    let a = c .before .before .before .before .before .before .before .before .before .before .before .args in
+    let word = c .before .before .before .before .before .before .before .before .word in
+    let reference = c .before .before .before .before .before .before .reference in
+    let reference2 = c .before .before .before .before .before .reference2 in
+    let if4 = c .before .before .before .if4 in
+    let copies = c .before .before .copies in
+    let copies-cost = c .before .copies-cost in
+    let cost3 = c .cost3 in
+    cost-ellipsis (a .work .now) (a .p) (a .u) (a .n) (a .outer) (a .inner) (a .t) (a .acc) (a .limit) _ (word .ensures) _ _ (reference2 .ensures) (reference .ensures) _ _ _ (if4 .left) (copies .ensures) (copies-cost .ensures) (cost3 .ensures)
 
 pub +copies-cost+cost-spec : {M : Type 1} → statement M
 +copies-cost+cost-spec = close μ-copies-cost μ-cost (λ t. copies-cost-lts.spec (copies-cost-claims t)
@@ -248,13 +305,13 @@ pub +copies-cost+cost-spec : {M : Type 1} → statement M
     cost.Post
     (cost-returns t)
     (cost-word-requires t)
-    (cost-reference-requires t)
-    (cost-reference-requires-2 t)
     (cost-word-requires-2 t)
     (cost-word-requires-3 t)
     (cost-taken-requires t)
     (cost-size-requires t)
     (cost-returns-2 t)
+    (cost-reference-requires t)
+    (cost-reference-requires-2 t)
     (cost-add-cost t)
     (cost-cost-requires t)
     (cost-cost-requires-2 t)

@@ -14,7 +14,8 @@ use Rattle.steps.proofs.places.+driven_by.Tie.{close}
 use borrow.Author.Tests.{not-false, eqb-true}
 use Rattle.steps.specs.PartLaws.{tag-falls}
 use Rattle.steps.specs.LengthLaws.{deeper-most}
-use Rattle.steps.specs.PlaceLaws.{driven-no, driven-variable, driven-leaf, driven-parts}
+use Rattle.steps.specs.AgreeLaws.{false-true}
+use Rattle.steps.specs.PlaceLaws.{driven-variable, driven-leaf, driven-parts}
 use native.Mathlib.Omega.{arith}
 use borrow.Author.Needs.{needs}
 
@@ -42,8 +43,7 @@ driven-by-word-requires-2 t c κs =
 
 driven-by-returns : (t : ℕ) → driven-by-lts.Need-returns (driven-by-claims t) (driven-by-at t) driven-by.Post
 driven-by-returns t c =
-    let a = c .before .before .before .before .before .args in
-    driven-no (a .work .now) (a .p) (a .u) (a .j) (a .t) (a .element) (a .list)
+    λ z. absurd (false-true z)
 
 driven-by-word-requires-3 : (t : ℕ) → driven-by-lts.Need-word-requires-3 (driven-by-claims t) (driven-by-at t) driven-by.Post
 driven-by-word-requires-3 t c κs =
@@ -55,8 +55,7 @@ driven-by-place-of-requires t c κs =
 
 driven-by-returns-2 : (t : ℕ) → driven-by-lts.Need-returns-2 (driven-by-claims t) (driven-by-at t) driven-by.Post
 driven-by-returns-2 t c =
-    let a = c .before .before .before .before .before .before .before .before .before .args in
-    driven-no (a .work .now) (a .p) (a .u) (a .j) (a .t) (a .element) (a .list)
+    λ z. absurd (false-true z)
 
 driven-by-returns-3 : (t : ℕ) → driven-by-lts.Need-returns-3 (driven-by-claims t) (driven-by-at t) driven-by.Post
 driven-by-returns-3 t c =
@@ -109,8 +108,7 @@ driven-by-driven-by-requires t c κs =
 
 driven-by-returns-6 : (t : ℕ) → driven-by-lts.Need-returns-6 (driven-by-claims t) (driven-by-at t) driven-by.Post
 driven-by-returns-6 t c =
-    let a = c .before .before .before .before .before .before .before .before .before .args in
-    driven-no (a .work .now) (a .p) (a .u) (a .j) (a .t) (a .element) (a .list)
+    λ z. absurd (false-true z)
 
 driven-by-reference-requires-2 : (t : ℕ) → driven-by-lts.Need-reference-requires-2 (driven-by-claims t) (driven-by-at t) driven-by.Post
 driven-by-reference-requires-2 t c κs =
@@ -138,18 +136,7 @@ driven-by-returns-7 t c =
     λ z some. driven-parts (a .work .now) (a .p) (a .u) (a .j) (a .t) (a .element) (a .list) _ (word .ensures) _ _ _ (omega arith) (omega arith) (deeper .ensures) (reference .ensures) (reference2 .ensures) (driven-by .ensures (not-false _ (if6 .left)) some) (driven-by2 .ensures z some)
 
 pub +driven-by-spec : {M : Type 1} → statement M
-+driven-by-spec = close μ-driven-by λ t. driven-by-lts.spec (
-  word-reads.Asked,
-  word-reads.Learnt,
-  place-of-reads.Asked,
-  place-of-reads.Learnt,
-  reference-reads.Asked,
-  reference-reads.Learnt,
-  deeper-reads.Asked,
-  deeper-reads.Learnt,
-  driven-by-below t,
-  driven-by.Post,
-)
++driven-by-spec = close μ-driven-by λ t. driven-by-lts.spec (driven-by-claims t)
     (driven-by-at t)
     driven-by.Post
     (driven-by-word-requires t)
