@@ -72,36 +72,54 @@ pub fn nested_quote(depth: usize) -> Vec<u32> {
     recipe(&mut |t| t.list(2, &mut |t, place| if place == 0 { t.name(0) } else { t.nest(depth, &mut |t| t.integer(1)) }))
 }
 
-/// `(let-syntax ((m (syntax-rules () ((_ x) (((... x ...))))))) (m (m ... 1)))`: each use nests its operand so much deeper.
-pub fn nested_results(depth: usize, uses: usize) -> Vec<u32> {
-    let (m, x) = (8, 9);
-    let rule = move |t: &mut Table, place: usize| match place {
-        0 => t.list(2, &mut |t, place| t.name([7, x][place])),
-        _ => t.nest(depth, &mut |t| t.name(x)),
-    };
-    let rules = move |t: &mut Table, place: usize| match place {
+/// `(let-syntax ((m (syntax-rules () rule))) body)`, the rule put by its two places.
+fn with_macro(rule: &dyn Fn(&mut Table, usize), body: &dyn Fn(&mut Table)) -> Vec<u32> {
+    let rules = |t: &mut Table, place: usize| match place {
         0 => t.name(5),
         1 => t.list(0, &mut |_, _| ()),
-        _ => t.list(2, &mut rule.clone()),
+        _ => t.list(2, &mut |t, place| rule(t, place)),
     };
-    let entry = move |t: &mut Table, place: usize| if place == 0 { t.name(m) } else { t.list(3, &mut rules.clone()) };
+    let entry = |t: &mut Table, place: usize| if place == 0 { t.name(M) } else { t.list(3, &mut |t, place| rules(t, place)) };
     recipe(&mut |t| {
         t.list(3, &mut |t, place| match place {
             0 => t.name(3),
-            1 => t.list(1, &mut |t, _| t.list(2, &mut entry.clone())),
-            _ => use_nested(t, m, uses),
+            1 => t.list(1, &mut |t, _| t.list(2, &mut |t, place| entry(t, place))),
+            _ => body(t),
         })
     })
 }
 
-fn use_nested(t: &mut Table, m: u32, uses: usize) {
+const ELLIPSIS: u32 = 6;
+const WILDCARD: u32 = 7;
+const M: u32 = 8;
+const X: u32 = 9;
+
+/// `((_ x) (((... x ...))))` and `(m (m ... 1))`: each use nests its operand so much deeper.
+pub fn nested_results(depth: usize, uses: usize) -> Vec<u32> {
+    let rule = |t: &mut Table, place: usize| match place {
+        0 => t.list(2, &mut |t, place| t.name([WILDCARD, X][place])),
+        _ => t.nest(depth, &mut |t| t.name(X)),
+    };
+    with_macro(&rule, &|t| use_nested(t, uses))
+}
+
+/// `((_ x ...) (1 x ...))` and `(m 1 ... 1)`: so many copies along one list.
+pub fn copied_list(count: usize) -> Vec<u32> {
+    let rule = |t: &mut Table, place: usize| match place {
+        0 => t.list(3, &mut |t, place| t.name([WILDCARD, X, ELLIPSIS][place])),
+        _ => t.list(3, &mut |t, place| if place == 0 { t.integer(1) } else { t.name([X, ELLIPSIS][place - 1]) }),
+    };
+    with_macro(&rule, &|t| t.list(count + 1, &mut |t, place| if place == 0 { t.name(M) } else { t.integer(1) }))
+}
+
+fn use_nested(t: &mut Table, uses: usize) {
     if uses == 0 {
         return t.integer(1);
     }
-    t.list(2, &mut |t, place| if place == 0 { t.name(m) } else { use_nested(t, m, uses - 1) });
+    t.list(2, &mut |t, place| if place == 0 { t.name(M) } else { use_nested(t, uses - 1) });
 }
 
-/// Each deepest input with its fuel, and how many levels its term or datum has.
+/// Each deepest input with its fuel, and how many levels its term or datum has, or how many copies.
 pub fn inputs() -> Vec<(&'static str, Vec<u32>, u32, usize)> {
     vec![
         ("lists nested in a table", nested_lists(2_044), 0, 2_044),
@@ -109,5 +127,6 @@ pub fn inputs() -> Vec<(&'static str, Vec<u32>, u32, usize)> {
         ("a result nested by one step", nested_results(2_020, 1), 8_192, 2_020),
         ("results nested by two steps", nested_results(2_020, 2), 8_192, 4_040),
         ("results nested by many steps", nested_results(100, 30), 8_192, 3_000),
+        ("copies along one list", copied_list(2_020), 8_192, 2_020),
     ]
 }

@@ -18,7 +18,7 @@ fn time(mut run: impl FnMut()) -> f64 {
         (0..count).for_each(|_| run());
         start.elapsed().as_secs_f64() * 1e6 / f64::from(count)
     };
-    (0..25).map(|_| round(&mut run)).fold(f64::MAX, f64::min)
+    (0..100).map(|_| round(&mut run)).fold(f64::MAX, f64::min)
 }
 
 /// Tables long enough for the largest recipe and fuel, or the filing program's.
