@@ -4,6 +4,7 @@ pub mod ListLaws
 pub mod Lists
 pub mod Parts
 pub mod Tables
+pub mod TableLaws
 pub mod Options
 pub mod SignedLaws
 pub mod Text

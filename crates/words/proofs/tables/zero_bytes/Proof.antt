@@ -2,17 +2,14 @@
 use Rattle.words.proofs.tables.zero_bytes.Statement.{statement}
 use Rattle.words.proofs.tables.zero_bytes.Tie as tie
 use native.Mathlib.Omega.{arith}
-use mathlib.Core.Path.{_≡_, refl, ap, _∙_}
-use mathlib.Core.List.{_++_, append-nil}
-use Prim.Native.Nat.{_≤_, _<_, _-_}
-use lib.ListN.{length, drop, replicate, set, length-set}
-use lib.Seq.{drop-length}
-use borrow.Author.Fill.{fill-more}
+use Prim.Native.Nat.{_-_}
 use borrow.Author.Needs.{needs}
+use Rattle.words.specs.Tables.{Zeroed}
+use Rattle.words.specs.TableLaws.{zeroed-none, zeroed-part, zeroed-rest, zeroed-all}
 
 abbrev Inv-loop : tie.InvT-loop
 Inv-loop bytes₀ end i₀ bytes i =
-    (length bytes ≡ length bytes₀) × (i ≤ length bytes₀) × (bytes ≡ replicate i 0 ++ drop i bytes₀)
+    Zeroed i bytes₀ bytes
 
 abbrev μ-loop : tie.MeasureT-loop
 μ-loop bytes₀ end i₀ bytes i =
@@ -20,10 +17,30 @@ abbrev μ-loop : tie.MeasureT-loop
 
 loop-holds : tie.Need-loop-holds Inv-loop μ-loop
 loop-holds c =
-    (refl, omega arith, refl)
+    zeroed-none _
 
-slice-write-bytes : tie.Need-slice-write-bytes Inv-loop μ-loop
-slice-write-bytes c =
+sub-loop : tie.Need-sub-loop Inv-loop μ-loop
+sub-loop c =
+    search needs
+
+add-zero-byte-chunk : tie.Need-add-zero-byte-chunk Inv-loop μ-loop
+add-zero-byte-chunk c =
+    search needs
+
+sub-zero-byte-chunk : tie.Need-sub-zero-byte-chunk Inv-loop μ-loop
+sub-zero-byte-chunk c =
+    search needs
+
+part-zero-byte-chunk-start : tie.Need-part-zero-byte-chunk-start Inv-loop μ-loop
+part-zero-byte-chunk-start c =
+    search needs
+
+part-zero-byte-chunk-end : tie.Need-part-zero-byte-chunk-end Inv-loop μ-loop
+part-zero-byte-chunk-end c =
+    search needs
+
+zero-byte-chunk-requires : tie.Need-zero-byte-chunk-requires Inv-loop μ-loop
+zero-byte-chunk-requires c κs =
     search needs
 
 add-i : tie.Need-add-i Inv-loop μ-loop
@@ -36,14 +53,23 @@ loop-less c =
 
 loop-again : tie.Need-loop-again Inv-loop μ-loop
 loop-again c =
-    let loop = c .before .loop in
-    let args = c .before .before .args in
-    let h : loop .i < length (args .bytes .now) = omega arith in (
-      simp length-set (omega arith),
-      omega arith,
-      ap (λ l. set l (loop .i) 0) (loop .inv .2) ∙ fill-more (loop .i) 0
-          (args .bytes .now) h,
-    )
+    zeroed-part (c .before .before .before .before .before .loop .inv) _ _ (omega arith) (omega arith) (c .before .before .zero-byte-chunk .ensures)
+
+sub-clear-bytes : tie.Need-sub-clear-bytes Inv-loop μ-loop
+sub-clear-bytes c =
+    search needs
+
+part-clear-bytes-start : tie.Need-part-clear-bytes-start Inv-loop μ-loop
+part-clear-bytes-start c =
+    search needs
+
+part-clear-bytes-end : tie.Need-part-clear-bytes-end Inv-loop μ-loop
+part-clear-bytes-end c =
+    search needs
+
+clear-bytes-requires : tie.Need-clear-bytes-requires Inv-loop μ-loop
+clear-bytes-requires c κs =
+    search needs
 
 same-length : tie.Need-same-length Inv-loop μ-loop
 same-length c =
@@ -51,9 +77,7 @@ same-length c =
 
 returns : tie.Need-returns Inv-loop μ-loop
 returns c =
-    let loop = c .before .loop in
-    let args = c .before .before .args in
-    let e : loop .i ≡ length (args .bytes .now) = omega arith in loop .inv .2 ∙ rw (e, drop-length, append-nil)
+    zeroed-all (zeroed-rest (c .before .before .before .before .before .loop .inv) _ (c .before .before .clear-bytes .ensures)) (omega arith)
 
 pub zero-bytes-spec : {M : Type 1} → statement M
 zero-bytes-spec =
@@ -62,9 +86,18 @@ zero-bytes-spec =
     Inv-loop
     μ-loop
     loop-holds
-    slice-write-bytes
+    sub-loop
+    add-zero-byte-chunk
+    sub-zero-byte-chunk
+    part-zero-byte-chunk-start
+    part-zero-byte-chunk-end
+    zero-byte-chunk-requires
     add-i
     loop-less
     loop-again
+    sub-clear-bytes
+    part-clear-bytes-start
+    part-clear-bytes-end
+    clear-bytes-requires
     same-length
     returns)

@@ -2,17 +2,14 @@
 use Rattle.words.proofs.tables.zero_words.Statement.{statement}
 use Rattle.words.proofs.tables.zero_words.Tie as tie
 use native.Mathlib.Omega.{arith}
-use mathlib.Core.Path.{_≡_, refl, ap, _∙_}
-use mathlib.Core.List.{_++_, append-nil}
-use Prim.Native.Nat.{_≤_, _<_, _-_}
-use lib.ListN.{length, drop, replicate, set, length-set}
-use lib.Seq.{drop-length}
-use borrow.Author.Fill.{fill-more}
+use Prim.Native.Nat.{_-_}
 use borrow.Author.Needs.{needs}
+use Rattle.words.specs.Tables.{Zeroed}
+use Rattle.words.specs.TableLaws.{zeroed-none, zeroed-part, zeroed-rest, zeroed-all}
 
 abbrev Inv-loop : tie.InvT-loop
 Inv-loop words₀ end i₀ words i =
-    (length words ≡ length words₀) × (i ≤ length words₀) × (words ≡ replicate i 0 ++ drop i words₀)
+    Zeroed i words₀ words
 
 abbrev μ-loop : tie.MeasureT-loop
 μ-loop words₀ end i₀ words i =
@@ -20,14 +17,34 @@ abbrev μ-loop : tie.MeasureT-loop
 
 loop-holds : tie.Need-loop-holds Inv-loop μ-loop
 loop-holds c =
-    (refl, omega arith, refl)
+    zeroed-none _
 
-mul-words : tie.Need-mul-words Inv-loop μ-loop
-mul-words c =
+sub-loop : tie.Need-sub-loop Inv-loop μ-loop
+sub-loop c =
     search needs
 
-slice-write-words : tie.Need-slice-write-words Inv-loop μ-loop
-slice-write-words c =
+add-zero-word-chunk : tie.Need-add-zero-word-chunk Inv-loop μ-loop
+add-zero-word-chunk c =
+    search needs
+
+mul-zero-word-chunk : tie.Need-mul-zero-word-chunk Inv-loop μ-loop
+mul-zero-word-chunk c =
+    search needs
+
+sub-zero-word-chunk : tie.Need-sub-zero-word-chunk Inv-loop μ-loop
+sub-zero-word-chunk c =
+    search needs
+
+part-zero-word-chunk-start : tie.Need-part-zero-word-chunk-start Inv-loop μ-loop
+part-zero-word-chunk-start c =
+    search needs
+
+part-zero-word-chunk-end : tie.Need-part-zero-word-chunk-end Inv-loop μ-loop
+part-zero-word-chunk-end c =
+    search needs
+
+zero-word-chunk-requires : tie.Need-zero-word-chunk-requires Inv-loop μ-loop
+zero-word-chunk-requires c κs =
     search needs
 
 add-i : tie.Need-add-i Inv-loop μ-loop
@@ -40,14 +57,27 @@ loop-less c =
 
 loop-again : tie.Need-loop-again Inv-loop μ-loop
 loop-again c =
-    let loop = c .before .loop in
-    let args = c .before .before .args in
-    let h : loop .i < length (args .words .now) = omega arith in (
-      simp length-set (omega arith),
-      omega arith,
-      ap (λ l. set l (loop .i) 0) (loop .inv .2) ∙ fill-more (loop .i) 0
-          (args .words .now) h,
-    )
+    zeroed-part (c .before .before .before .before .before .loop .inv) _ _ (omega arith) (omega arith) (c .before .before .zero-word-chunk .ensures)
+
+mul-clear-words : tie.Need-mul-clear-words Inv-loop μ-loop
+mul-clear-words c =
+    search needs
+
+sub-clear-words : tie.Need-sub-clear-words Inv-loop μ-loop
+sub-clear-words c =
+    search needs
+
+part-clear-words-start : tie.Need-part-clear-words-start Inv-loop μ-loop
+part-clear-words-start c =
+    search needs
+
+part-clear-words-end : tie.Need-part-clear-words-end Inv-loop μ-loop
+part-clear-words-end c =
+    search needs
+
+clear-words-requires : tie.Need-clear-words-requires Inv-loop μ-loop
+clear-words-requires c κs =
+    search needs
 
 same-length : tie.Need-same-length Inv-loop μ-loop
 same-length c =
@@ -55,9 +85,7 @@ same-length c =
 
 returns : tie.Need-returns Inv-loop μ-loop
 returns c =
-    let loop = c .before .loop in
-    let args = c .before .before .args in
-    let e : loop .i ≡ length (args .words .now) = omega arith in loop .inv .2 ∙ rw (e, drop-length, append-nil)
+    zeroed-all (zeroed-rest (c .before .before .before .before .before .loop .inv) _ (c .before .before .clear-words .ensures)) (omega arith)
 
 pub zero-words-spec : {M : Type 1} → statement M
 zero-words-spec =
@@ -66,10 +94,20 @@ zero-words-spec =
     Inv-loop
     μ-loop
     loop-holds
-    mul-words
-    slice-write-words
+    sub-loop
+    add-zero-word-chunk
+    mul-zero-word-chunk
+    sub-zero-word-chunk
+    part-zero-word-chunk-start
+    part-zero-word-chunk-end
+    zero-word-chunk-requires
     add-i
     loop-less
     loop-again
+    mul-clear-words
+    sub-clear-words
+    part-clear-words-start
+    part-clear-words-end
+    clear-words-requires
     same-length
     returns)
