@@ -24,4 +24,5 @@ pub mod ForgetLaws
 pub mod Decimal
 pub mod DecimalLaws
 pub mod Text
+pub mod TextRoom
 pub mod Rows

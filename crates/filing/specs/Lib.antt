@@ -3,5 +3,4 @@ pub mod Lines
 pub mod File
 pub mod FileLaws
 pub mod RunLaws
-pub mod TextRoom
 pub mod Room

@@ -15,6 +15,7 @@ use Rattle.core_term.specs.Decimal.{decimal}
 use Rattle.core_term.specs.Text.{spacedAfter, spaced, text}
 use Rattle.core_term.specs.Check.{termOf}
 use Rattle.core_term.specs.CheckLaws as C
+use Rattle.core_term.specs.TextRoom.{limit, number-room, text-room}
 use Rattle.expansion.specs.Run.{Outcome, accepted, turnedBack, unfinished, Run, run}
 use Rattle.expansion.specs.Bounds.{run-sum, run-steps, run-core-fits}
 use Rattle.expansion.specs.Ways.Grounds.{TurnedBack, atOnce, later, run-ground}
@@ -25,7 +26,6 @@ use Rattle.writer.specs.Written.{Wrote, written-is, no-room-is, not-no-term}
 use Rattle.filing.specs.File.{Printed}
 use Rattle.filing.specs.RunLaws.{front}
 use Rattle.filing.specs.Lines.{countsText, refusal-laid, header-laid}
-use Rattle.filing.specs.TextRoom.{limit, number-room, text-room}
 
 -- ---- lines
 
@@ -64,7 +64,7 @@ module _ (fuel : ℕ) (small : fuel < limit) where
             length-append (header steps sum) (x ++ (10 ∷ [])),
             length-append x (10 ∷ []),
             header-room steps sum p q,
-            text-room names ws t (C.accepted operationsMost (hasName names) ws t e) l,
+            text-room operationsMost names ws t (C.accepted operationsMost (hasName names) ws t e) (omega arith),
           )
 
   module _ (names items : List ℕ) (work core : ℕ) (few : core ≤ 2046) where

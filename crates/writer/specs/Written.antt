@@ -1,13 +1,14 @@
 -- What a call of writing answers and leaves, as its promise says it, and the laws that show it.
 use mathlib.Core.Path.{_≡_, refl, sym, ap, subst, _∙_}
-use mathlib.Core.Bool.{Bool, true, false, true≢false, false≢true, cond}
+use mathlib.Core.Bool.{Bool, true, false, true≢false, false≢true, cond, _&&_}
 use mathlib.Core.List.{List, [], _++_, append-nil}
 use mathlib.Core.Option.{Option, none, some}
-use Prim.Native.Nat.{ℕ, _+_, _≤_, _<_}
+use Prim.Native.Nat.{ℕ, _*_, _≤_, _<_}
 use native.Mathlib.Omega.{arith}
 use lib.Dec.{leb}
 use lib.ListN.{length, drop}
 use borrow.Author.Tests.{leb-true, leb-false, le-leb, lt-leb}
+use Rattle.words.specs.TestLaws.{and-parts}
 use Rattle.datum.specs.NameTable.{nameAt, hasName}
 use Rattle.core_term.specs.Node.{Node, isNode, variableN, operationN, constantN, nameN, listN, ifN, lambdaN, applicationN}
 use Rattle.core_term.specs.Term.{Plain, variables}
@@ -16,13 +17,15 @@ use Rattle.core_term.specs.Every.{Asked, every, proper, wellFormed}
 use Rattle.core_term.specs.EveryLaws.{every-from}
 use Rattle.core_term.specs.Check.{Scope, outside, known, asked, allKnown, termOf, isTerm, isSome}
 use Rattle.core_term.specs.CheckLaws.{Accepted, accepted, isTerm-some}
+use Rattle.core_term.specs.Text.{text}
+use Rattle.core_term.specs.TextRoom.{textRate, textWordsMost, text-room}
 use Rattle.writer.specs.declared.bytes.Put.{Put}
 use Rattle.writer.specs.declared.bytes.Put.the-variants.{Done, Full}
 use Rattle.writer.specs.declared.term.Step.{Step}
 use Rattle.writer.specs.declared.term.Step.the-variants as S
 use Rattle.writer.specs.declared.Writing.{Writing}
 use Rattle.writer.specs.declared.Writing.the-variants.{Written, NoTerm, NoRoom}
-use Rattle.writer.specs.Laid.{laid, Left}
+use Rattle.writer.specs.Laid.{Left}
 use Rattle.writer.specs.LaidLaws.{laid-dry, laid-first, done-is, full-is, left-done}
 use Rattle.writer.specs.Pieces.{textIn}
 use Rattle.writer.specs.Opened.{named}
@@ -35,6 +38,15 @@ pub record Wrote (x : Option (List ℕ)) (out out′ : List ℕ) (r : Writing) :
   pub number : groundOf r ≡ ground out x
   pub value : lengthOf r ≡ size out x
   pub left : out′ ≡ after out x
+
+-- bytes that hold the text of any term of so many words
+unfoldable pub hasRoom : ℕ → ℕ → Bool
+hasRoom words bytes = leb words textWordsMost && leb (textRate * words) bytes
+
+-- whether a text fits, told with the output left as it was
+pub record Measured (x out out′ : List ℕ) (fits : Bool) : Type 0 where
+  pub told : fits ≡ leb (length x) (length out)
+  pub left : out′ ≡ out
 
 -- ---- no term
 
@@ -94,7 +106,16 @@ module _ (x out out′ : List ℕ) where
       go true g = omega arith
       go false g = omega arith
 
--- ---- a text that is measured, then laid, from the beginning
+-- ---- a text that fits, laid from the beginning
+
+module _ (x out : List ℕ) (fits : length x ≤ length out) (f : List ℕ) (s : Put) (wet : Left true x 0 out f s) where
+  fitting-never-full : s ≡ Full → Wrote (some x) out f NoRoom
+  fitting-never-full g = let k = full-is (subst (Left true x 0 out f) g wet) in absurd (omega arith)
+
+  fitting-wrote : (to : ℕ) → s ≡ Done to → Wrote (some x) out f (Written to)
+  fitting-wrote to g = let k = done-is (left-done wet to g) in wrote-all x out fits to f (omega arith) (k .2 ∙ laid-first x out)
+
+-- ---- a text that is measured, then laid
 
 module _ (x out e : List ℕ) (r : Put) (dry : Left false x 0 out e r) where
   pub measured-full : r ≡ Full → Wrote (some x) out e NoRoom
@@ -106,15 +127,14 @@ module _ (x out e : List ℕ) (r : Put) (dry : Left false x 0 out e r) where
     measured-is = let k = done-is (left-done dry n h) in (omega arith, omega arith, k .2 ∙ laid-dry false x 0 out refl)
 
     module _ (f : List ℕ) (s : Put) (wet : Left true x 0 e f s) where
-      -- what has been measured fits
+      abbrev wet-out : Left true x 0 out f s
+      wet-out = subst (λ (d : List ℕ). Left true x 0 d f s) (measured-is .2) wet
+
       pub laid-never-full : s ≡ Full → Wrote (some x) out f NoRoom
-      laid-never-full g = let k = full-is (subst (Left true x 0 e f) g wet) in let m = measured-is in absurd (omega (arith, ap length (m .2)))
+      laid-never-full g = fitting-never-full x out (measured-is .1) f s wet-out g
 
       pub laid-wrote : (to : ℕ) → s ≡ Done to → Wrote (some x) out f (Written to)
-      laid-wrote to g =
-          let k = done-is (left-done wet to g) in
-          let m = measured-is in
-          wrote-all x out (m .1) to f (omega arith) (k .2 ∙ ap (laid true x 0) (m .2) ∙ laid-first x out)
+      laid-wrote to g = fitting-wrote x out (measured-is .1) f s wet-out to g
 
 -- ---- the term
 
@@ -152,52 +172,98 @@ module _ (ws : List ℕ) (operations : ℕ) (names : List ℕ) where
           (λ f g c x r l k. k tt) (λ f g c x r k. tt) (λ f g c n r. tt) t (λ i. tt) outside 0 tt (omega arith) (λ i. a .formed)
       all false = a .known′
 
+  -- what a walk of the words promises
+  abbrev Walk : Bool → List ℕ → List ℕ → Step → Type 0
+  Walk ink d e s = (t : Plain) (r : List ℕ) → Fits names false t → ws ≡ encode t ++ r → Walked ink (textIn (nameAt names) false t) (length (encode t)) 0 d e s
+
+  -- ---- one that passes
+
+  module _ (t : Plain) (k : termOf operations (hasName names) ws ≡ some t) where
+    passes : Accepted operations (hasName names) ws t
+    passes = accepted operations (hasName names) ws t k
+
+    fitting : Fits names false t
+    fitting = record { before = 0; fine = spelled-fine t passes; datum = λ k. absurd (false≢true k) }
+
+    all-words : ws ≡ encode t ++ []
+    all-words = sym (passes .words) ∙ sym (append-nil (encode t))
+
+    abbrev Text : List ℕ
+    Text = text (nameAt names) t
+
+    text-is : some Text ≡ textOf ws operations names
+    unfolding textOf textFor
+    text-is = sym (ap (textFor names) k)
+
+    pub room-measured : (out : List ℕ) → hasRoom (length ws) (length out) ≡ true → Measured Text out out true
+    unfolding hasRoom
+    room-measured out room =
+        let p = and-parts (leb (length ws) textWordsMost) (leb (textRate * length ws) (length out)) room in
+        let few = leb-true (length ws) textWordsMost (p .0) in
+        let enough = leb-true (textRate * length ws) (length out) (p .1) in
+        let h : length Text ≤ length out = omega (arith, text-room operations names ws t passes few) in
+        record { told = sym (le-leb (length Text) (length out) h); left = refl }
+
+    module _ {ink : Bool} {d e : List ℕ} {s : Step} (c : Walk ink d e s) where
+      walk : Walked ink Text (length (encode t)) 0 d e s
+      unfolding textIn
+      walk = c t [] fitting all-words
+
+      walk-done : (used to : ℕ) → s ≡ S.Done used to → Left ink Text 0 d e (Done to)
+      walk-done used to q = walked-by walk used to q .1
+
+      walk-full : s ≡ S.Full → Left ink Text 0 d e Full
+      walk-full q = stopped-by walk q
+
+  -- the walk that measures
+  module _ {out e : List ℕ} {s : Step} (c : Walk false out e s) where
+    pub walk-short : s ≡ S.Full → (t : Plain) → termOf operations (hasName names) ws ≡ some t → Measured (text (nameAt names) t) out e false
+    walk-short q t k =
+        let l = full-is (walk-full t k c q) in
+        let x = text (nameAt names) t in
+        record { told = sym (lt-leb (length x) (length out) (omega arith)); left = l .1 refl }
+
+    pub walk-fits : (used n : ℕ) → s ≡ S.Done used n → (t : Plain) → termOf operations (hasName names) ws ≡ some t → Measured (text (nameAt names) t) out e true
+    walk-fits used n q t k =
+        let x = text (nameAt names) t in
+        let l = measured-is x out e (Done n) (walk-done t k c used n q) n refl in
+        record { told = sym (le-leb (length x) (length out) (l .1)); left = l .2 }
+
   module _ (h : isTerm operations (hasName names) ws ≡ true) where
     abbrev it : Plain
     it = isTerm-some operations (hasName names) ws h .0
 
-    it-passes : Accepted operations (hasName names) ws it
-    it-passes = accepted operations (hasName names) ws it (isTerm-some operations (hasName names) ws h .1)
-
-    it-fits : Fits names false it
-    it-fits = record { before = 0; fine = spelled-fine it it-passes; datum = λ k. absurd (false≢true k) }
-
-    it-words : ws ≡ encode it ++ []
-    it-words = sym (it-passes .words) ∙ sym (append-nil (encode it))
+    it-is : termOf operations (hasName names) ws ≡ some it
+    it-is = isTerm-some operations (hasName names) ws h .1
 
     -- the words begin with it
     pub term-begins : Begins names false ws
-    term-begins = record { term = it; rest = []; fits = it-fits; words = it-words }
+    term-begins = record { term = it; rest = []; fits = fitting it it-is; words = all-words it it-is }
 
-    abbrev Text : List ℕ
-    Text = textIn (nameAt names) false it
+    module _ {out e : List ℕ} {fits : Bool} (m : (operations : ℕ) (t : Plain) → termOf operations (hasName names) ws ≡ some t → Measured (text (nameAt names) t) out e fits) where
+      abbrev measure : Measured (Text it it-is) out e fits
+      measure = m operations it it-is
 
-    text-is : some Text ≡ textOf ws operations names
-    unfolding textIn textOf textFor
-    text-is = sym (ap (textFor names) (isTerm-some operations (hasName names) ws h .1))
+      pub no-room : fits ≡ false → Wrote (textOf ws operations names) out e NoRoom
+      no-room k =
+          let x = Text it it-is in
+          subst (λ (o : Option (List ℕ)). Wrote o out e NoRoom) (text-is it it-is)
+          (wrote-none x out (leb-false (length x) (length out) (sym (measure .told) ∙ k)) e (measure .left))
 
-    -- the measuring walk, then the laying one
-    module _ (out e : List ℕ) (s : Step)
-        (c : (t : Plain) (r : List ℕ) → Fits names false t → ws ≡ encode t ++ r → Walked false (textIn (nameAt names) false t) (length (encode t)) 0 out e s) where
-      first : Walked false Text (length (encode it)) 0 out e s
-      first = c it [] it-fits it-words
+      -- the walk that lays the bytes
+      module _ (k : fits ≡ true) {f : List ℕ} {u : Step} (d : Walk true e f u) where
+        room : length (Text it it-is) ≤ length out
+        room = leb-true (length (Text it it-is)) (length out) (sym (measure .told) ∙ k)
 
-      pub no-room : s ≡ S.Full → Wrote (textOf ws operations names) out e NoRoom
-      no-room k = subst (λ (z : Option (List ℕ)). Wrote z out e NoRoom) text-is (measured-full Text out e Full (stopped-by first k) refl)
+        on-out : {p : Put} → Left true (Text it it-is) 0 e f p → Left true (Text it it-is) 0 out f p
+        on-out {p} l = subst (λ (z : List ℕ). Left true (Text it it-is) 0 z f p) (measure .left) l
 
-      module _ (used n : ℕ) (k : s ≡ S.Done used n) where
-        abbrev dry : Left false Text 0 out e (Done n)
-        dry = walked-by first used n k .1
+        pub no-second : u ≡ S.Full → Wrote (textOf ws operations names) out f NoRoom
+        no-second q =
+            subst (λ (o : Option (List ℕ)). Wrote o out f NoRoom) (text-is it it-is)
+            (fitting-never-full (Text it it-is) out room f Full (on-out (walk-full it it-is d q)) refl)
 
-        module _ (f : List ℕ) (u : Step)
-            (d : (t : Plain) (r : List ℕ) → Fits names false t → ws ≡ encode t ++ r → Walked true (textIn (nameAt names) false t) (length (encode t)) 0 e f u) where
-          second : Walked true Text (length (encode it)) 0 e f u
-          second = d it [] it-fits it-words
-
-          pub no-second : u ≡ S.Full → Wrote (textOf ws operations names) out f NoRoom
-          no-second q = subst (λ (o : Option (List ℕ)). Wrote o out f NoRoom) text-is (laid-never-full Text out e (Done n) dry n refl f Full (stopped-by second q) refl)
-
-          pub wrote-text : (again end : ℕ) → u ≡ S.Done again end → Wrote (textOf ws operations names) out f (Written end)
-          wrote-text again end q =
-              subst (λ (o : Option (List ℕ)). Wrote o out f (Written end)) text-is
-              (laid-wrote Text out e (Done n) dry n refl f (Done end) (walked-by second again end q .1) end refl)
+        pub wrote-text : (used end : ℕ) → u ≡ S.Done used end → Wrote (textOf ws operations names) out f (Written end)
+        wrote-text used end q =
+            subst (λ (o : Option (List ℕ)). Wrote o out f (Written end)) (text-is it it-is)
+            (fitting-wrote (Text it it-is) out room f (Done end) (on-out (walk-done it it-is d used end q)) end refl)

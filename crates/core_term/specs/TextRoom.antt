@@ -7,23 +7,30 @@ use native.Mathlib.Omega.{arith}
 use lib.Dec.{eqb, ltb, leb}
 use lib.ListN.{length, drop, length-append, length-take}
 use borrow.Author.Tests.{ltb-true, ltb-false, leb-true, eqb-true, lt-ltb}
-use Rattle.words.specs.Limits.{operationsMost}
 use Rattle.words.specs.ListLaws.{either, within-high}
 use Rattle.words.specs.TestLaws.{and-parts, and-both}
 use Rattle.words.specs.Text.{bytes}
 use Rattle.datum.specs.Constant.{Constant, constantWords}
 use Rattle.datum.specs.Datum.{Datum, constantD, nameD, listD, Data, noneD, moreD}
 use Rattle.datum.specs.NameTable.{lengthAt, nameAt, hasName}
 use Rattle.core_term.specs.Node.{Node, nodeWords, binds, isNode, variableN, operationN, constantN, nameN, listN, ifN, lambdaN, applicationN}
 use Rattle.core_term.specs.Term.{variableC, operationC, datumC, ifC, lambdaC, applicationC, noneC, moreC, Plain, Plains, variables, variablesAll}
 use Rattle.core_term.specs.Words.{datumWords, dataWords, encode, encodeAll}
 use Rattle.core_term.specs.Decimal.{decimal, signed, integerText}
 use Rattle.core_term.specs.DecimalLaws.{decimal-count, decimal-word, integer-plain}
 use Rattle.core_term.specs.Text.{spacedAfter, spaced, parenthesized, variableText, operationText, formalTexts, constantText, bare, bares, outermost, text, texts}
 use Rattle.core_term.specs.Every.{Asked, everyDatum, everyData, every, everyTerm, proper, wellFormed}
 use Rattle.core_term.specs.EveryLaws.{every-from}
 use Rattle.core_term.specs.Check.{Scope, outside, inside, variableInside, firstNumber, known, asked, scoped, numbered, allKnown}
-use Rattle.core_term.specs.CheckLaws as C
+use Rattle.core_term.specs.CheckLaws.{Accepted}
+
+-- bytes of text for each word
+abbrev pub textRate : ℕ
+textRate = 36
+
+-- no variable of a term of so many words has more than ten digits
+abbrev pub textWordsMost : ℕ
+textWordsMost = 1000000000
 
 -- ten digits
 abbrev pub limit : ℕ
@@ -101,18 +108,18 @@ module _ (names : List ℕ) where
   mutual
     unfolding bare bares datumWords dataWords nodeWords constantWords everyDatum everyData narrow narrowNode widths
 
-    datum-room : (d : Datum) (b : ℕ) → everyDatum narrow tt b d ≡ true → suc (length (bare spell d)) ≤ 36 * length (datumWords d)
+    datum-room : (d : Datum) (b : ℕ) → everyDatum narrow tt b d ≡ true → suc (length (bare spell d)) ≤ textRate * length (datumWords d)
     datum-room (constantD a) b h = omega (arith, constant-room a)
     datum-room (nameD n) b h = omega (arith, name-room names n h)
     datum-room (listD ds) b h = omega (arith, any-room (bares spell ds), data-room ds b h)
 
-    data-room : (ds : Data) (b : ℕ) → everyData narrow tt b ds ≡ true → widths (bares spell ds) ≤ 36 * length (dataWords ds)
+    data-room : (ds : Data) (b : ℕ) → everyData narrow tt b ds ≡ true → widths (bares spell ds) ≤ textRate * length (dataWords ds)
     data-room noneD b h = omega arith
     data-room (moreD d ds) b h =
         let p = and-parts (everyDatum narrow tt b d) _ h in
         omega (arith, datum-room d b (p .0), data-room ds b (p .1), length-append (datumWords d) (dataWords ds))
 
-  quoted-room : (d : Datum) (b : ℕ) → everyDatum narrow tt b d ≡ true → suc (length (outermost spell d)) ≤ 36 * length (datumWords d)
+  quoted-room : (d : Datum) (b : ℕ) → everyDatum narrow tt b d ≡ true → suc (length (outermost spell d)) ≤ textRate * length (datumWords d)
   unfolding outermost bare datumWords nodeWords everyDatum narrow narrowNode widths bytes
   quoted-room (constantD a) b h = datum-room (constantD a) b h
   quoted-room (nameD n) b h = omega (arith, list-room (bytes "quote") (nameAt names n ∷ []), name-room names n h)
@@ -122,7 +129,7 @@ module _ (names : List ℕ) where
   mutual
     unfolding text texts encode encodeAll nodeWords every everyTerm narrow narrowNode widths variableText operationText bytes
 
-    term-room : (t : Plain) (b : ℕ) → every narrow tt b t ≡ true → suc (length (text spell t)) ≤ 36 * length (encode t)
+    term-room : (t : Plain) (b : ℕ) → every narrow tt b t ≡ true → suc (length (text spell t)) ≤ textRate * length (encode t)
     term-room (variableC n) b h = omega (arith, number-room n (ltb-true n limit h))
     term-room (operationC n) b h = omega (arith, number-room n (ltb-true n limit h))
     term-room (datumC d) b h = quoted-room d b h
@@ -161,7 +168,7 @@ module _ (names : List ℕ) where
           length-append (encode g) (encodeAll ts),
         )
 
-    terms-room : (ts : Plains) (b : ℕ) → everyTerm narrow tt b ts ≡ true → widths (texts spell ts) ≤ 36 * length (encodeAll ts)
+    terms-room : (ts : Plains) (b : ℕ) → everyTerm narrow tt b ts ≡ true → widths (texts spell ts) ≤ textRate * length (encodeAll ts)
     terms-room noneC b h = omega arith
     terms-room (moreC t ts) b h =
         let p = and-parts (every narrow tt b t) _ h in
@@ -205,12 +212,12 @@ mutual
 data Tested : Type 0 where
   shape scope number good : Tested
 
-module _ (names ws : List ℕ) (t : Plain) (a : C.Accepted operationsMost (hasName names) ws t) (few : length ws ≤ 2046) where
+module _ (operations : ℕ) (names ws : List ℕ) (t : Plain) (a : Accepted operations (hasName names) ws t) (few : length ws ≤ textWordsMost) where
   asks : Tested → Asked Scope
   asks shape = asked (λ s b x. isNode x)
   asks scope = asked variableInside
   asks number = asked firstNumber
-  asks good = asked (known operationsMost (hasName names))
+  asks good = asked (known operations (hasName names))
 
   all-pass : (i : Tested) → every (asks i) outside 0 t ≡ true
   unfolding asks scoped numbered allKnown wellFormed proper asked
@@ -225,14 +232,14 @@ module _ (names ws : List ℕ) (t : Plain) (a : C.Accepted operationsMost (hasNa
   abbrev Before : (Tested → Scope) → Unit {0} → ℕ → Type 0
   Before e f b = (k : ℕ) → e scope k ≡ true → k < b
 
-  low-enough : variables t ≤ 16368
+  low-enough : variables t ≤ 8 * textWordsMost
   unfolding wellFormed
   low-enough = omega (arith, variables-few t 0 (a .formed), ap length (a .words))
 
   node-narrow : (e : Tested → Scope) (f : Unit {0}) (b : ℕ) (x : Node) → Before e f b → b ≤ variables t → ((i : Tested) → asks i .test (e i) b x ≡ true) → narrowNode names x ≡ true
   unfolding asks asked narrowNode isNode variableInside firstNumber known
   node-narrow e f b (variableN n) r l h = lt-ltb n limit (omega (arith, low-enough, r n (h scope)))
-  node-narrow e f b (operationN n) r l h = lt-ltb n limit (omega (arith, ltb-true n 256 (h good)))
+  node-narrow e f b (operationN n) r l h = lt-ltb n limit (omega (arith, a .few, ltb-true n operations (h good)))
   node-narrow e f b (constantN a) r l h = refl
   node-narrow e f b (nameN n) r l h = h good
   node-narrow e f b (listN n) r l h = refl
@@ -264,5 +271,5 @@ module _ (names ws : List ℕ) (t : Plain) (a : C.Accepted operationsMost (hasNa
       every-from asks (narrow names) (variables t) Before node-narrow entered (λ e f b n r k q. omega (arith, r k q)) t
       (λ i. outside) tt 0 (λ k q. absurd (false≢true q)) (omega arith) all-pass
 
-  pub text-room : length (text (nameAt names) t) < 73656
+  pub text-room : length (text (nameAt names) t) < textRate * length ws
   text-room = omega (arith, term-room names t 0 all-narrow, ap length (a .words))

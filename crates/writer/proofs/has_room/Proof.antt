@@ -1,0 +1,24 @@
+-- Each test decides the definition's.
+use borrow.Author.Needs.{needs}
+use Rattle.writer.proofs.has_room.Statement.{statement}
+use Rattle.writer.proofs.has_room.Tie as tie
+use borrow.Author.Tests.{le-leb, lt-leb}
+use Rattle.writer.specs.Written.{hasRoom}
+
+returns : tie.Need-returns
+unfolding hasRoom
+returns c =
+    rw (lt-leb _ _ (c .if1 .taken))
+
+mul-result : tie.Need-mul-result
+mul-result c =
+    search needs
+
+returns-2 : tie.Need-returns-2
+unfolding hasRoom
+returns-2 c =
+    rw (le-leb _ _ (c .if1 .left))
+
+pub has-room-spec : {M : Type 1} → statement M
+has-room-spec =
+    tie.close (tie.spec returns mul-result returns-2)
