@@ -104,7 +104,7 @@ module _ (items work core operations : List ℕ) (fuel : ℕ) (l : Lends items w
           core-small = omega arith;
           few = omega arith;
           macros-few = omega arith;
-          macros-are = record { below = λ k b. absurd (omega arith); proper = noneOf; plain = noneOf };
+          macros-are = record { below = λ k b. absurd (omega arith); proper = noneOf; sound = noneOf };
         }
 
     pub start-expanded : (macros : List ℕ) (last : Tables) (e : Ended) → Expands items fuel (treeAt items work′ body 0) (atStart top) (tables work′ core macros) last e

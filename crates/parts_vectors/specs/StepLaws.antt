@@ -10,6 +10,8 @@ use Rattle.recipe.specs.Tree.{size, element, tail}
 use Rattle.recipe.specs.TreeLaws.{element-size}
 use Rattle.recipe.specs.Table.{treeOf, itemCount}
 use Rattle.recipe.specs.TableWeight.{treeOf-size}
+use Rattle.recipe.specs.Tidy.{Tidy, tidy-element}
+use Rattle.recipe.specs.TableTidy.{PlainName, IsConstant, treeOf-tidy}
 use Rattle.expansion.specs.Rules.{rulesOf}
 use Rattle.arena.specs.Arena.{stepLimit, markLimit, treeAt}
 use Rattle.arena.specs.ArenaLaws.{take-less}
@@ -22,17 +24,19 @@ use Rattle.rule_cells.specs.RuleParse.{RulesMade, RulesLeft}
 use Rattle.rule_cells.specs.declared.templates.Built.{Built}
 use Rattle.rule_cells.specs.declared.templates.Built.the-variants.{Good}
 use Rattle.arena.specs.Lists.{Means}
-use Rattle.steps.specs.Plain.{Plain}
-use Rattle.steps.specs.PlainRules.{treeAt-solid, rulesOf-plain}
+use Rattle.steps.specs.Sound.{SoundRule}
+use Rattle.steps.specs.SoundRules.{rulesOf-sound}
 use Rattle.steps.specs.Apply.{Stepping}
 use Rattle.parts_vectors.specs.Steps.{Begun}
 
 module _ (items work marks : List ℕ) (root fuel : ℕ) (b : Begun items work marks root fuel) (both form : ℕ)
     (i : Means work root both (element 1)) (j : Means work both form (element 0)) where
+  form-is : treeAt items work form 0 ≡ element 0 (element 1 (treeOf items))
+  form-is = j .is items 0 ∙ ap (element 0) (i .is items 0 ∙ ap (element 1) (b .laid .means))
+
   form-size : size (treeAt items work form 0) ≤ itemCount items
   form-size =
-      let e : treeAt items work form 0 ≡ element 0 (element 1 (treeOf items)) = j .is items 0 ∙ ap (element 0) (i .is items 0 ∙ ap (element 1) (b .laid .means)) in
-      let f : size (treeAt items work form 0) ≡ size (element 0 (element 1 (treeOf items))) = ap size e in
+      let f : size (treeAt items work form 0) ≡ size (element 0 (element 1 (treeOf items))) = ap size form-is in
       omega (arith, f, element-size 0 (element 1 (treeOf items)), element-size 1 (treeOf items), treeOf-size items (b .layout))
 
   root-low : root ≤ 12288
@@ -61,14 +65,17 @@ module _ (items work marks : List ℕ) (root fuel : ℕ) (b : Begun items work m
 
     module _ (last hands : List ℕ) (same : length last ≡ length new) (as-long : length hands ≡ length marks) (f : Name → Name) (marked : ℕ) (k : Wrapped f 3 new last top marked) (whole-use used : ℕ)
         (u : Means work both whole-use (element 1)) (v : Means work whole-use used tail) where
-      rules-plain : Each (λ x. Plain (x .template)) (rulesAt items last at)
-      rules-plain =
-          subst (Each (λ x. Plain (x .template))) (rulesAt-below items new last at (take-less new last at top (m .at-most) (sym (k .kept))))
-          (given-at (rulesOf-plain (treeAt-solid items work form 0)) (m .means))
+      form-tidy : Tidy PlainName IsConstant (treeAt items work form 0)
+      form-tidy = rw form-is (tidy-element 0 (tidy-element 1 (treeOf-tidy items (b .layout))))
+
+      rules-sound : Each SoundRule (rulesAt items last at)
+      rules-sound =
+          subst (Each SoundRule) (rulesAt-below items new last at (take-less new last at top (m .at-most) (sym (k .kept))))
+          (given-at (rulesOf-sound form-tidy) (m .means))
 
       pub step-asks : Stepping items last hands marked at used marked fuel
       step-asks = record {
-        plain = rules-plain;
+        sound = rules-sound;
         rules-below = omega (arith, m .at-most, k .end);
         use-below = omega (arith, i .low, u .low, v .low, m .up, k .end);
         wrap-below = omega arith;

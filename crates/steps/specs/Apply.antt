@@ -13,8 +13,10 @@ use Rattle.expansion.specs.Match.{firstFit}
 use Rattle.expansion.specs.Transcribe.{equalLengths, transcribe}
 use Rattle.arena.specs.Arena.{markLimit, treeAt}
 use Rattle.arena.specs.Cells.{Room}
-use Rattle.rule_cells.specs.Cells.{rulesAt}
-use Rattle.steps.specs.Plain.{Plain}
+use Rattle.rule_cells.specs.Cells.{templateAt, rulesAt}
+use Rattle.steps.specs.Sound.{Plain, SoundRule}
+use Rattle.steps.specs.Environment.{agreeBy, resultBy}
+use Rattle.steps.specs.Entries.{environmentAt, Under}
 use Rattle.steps.specs.Build.{nodeWords}
 use Rattle.steps.specs.declared.apply.Applied.{Applied}
 use Rattle.steps.specs.declared.apply.Applied.the-variants.{NoRule, Differ, Costly, Done}
@@ -46,13 +48,31 @@ Answers items new top (result t) Costly = ⊥
 Answers items new top (result t) (Done root cost) =
     (cost ≡ size t) × (treeAt items new root 0 ≡ produce t) × (top ≤ root) × (root ≤ top + nodeWords * cost)
 
+-- a template in an environment, with so much fuel left
+unfoldable pub outcomeAt : (items work env : List ℕ) (w t limit : ℕ) → Outcome
+outcomeAt items work env w t limit =
+    let v = environmentAt items work env w in
+    let r = resultBy v (templateAt items work t) in
+    cond (agreeBy v (templateAt items work t)) (cond (leb (size r) limit) (result r) (refused 18)) (refused 17)
+
+pub record Transcribed (old new : List ℕ) (top : ℕ) (env : List ℕ) (w t limit : ℕ) (r : Applied) : Type 0 where
+  pub is : (items : List ℕ) → length items ≤ top → Answers items new top (outcomeAt items old env w t limit) r
+  pub kept : take top new ≡ take top old
+
+pub record Transcribing (work : List ℕ) (top : ℕ) (env : List ℕ) (w t limit : ℕ) : Type 0 where
+  pub plain : (items : List ℕ) → Plain (templateAt items work t)
+  pub under : Under env top
+  pub wrap-below : w ≤ top
+  pub template-below : t ≤ top
+  pub room : Room work top (nodeWords * limit)
+
 pub record Stepped (items old new : List ℕ) (top rules u w limit : ℕ) (r : Applied) : Type 0 where
   pub is : Answers items new top (stepOf limit (treeAt items old u w) (firstFit (rulesAt items old rules) (treeAt items old u w) .1)) r
   pub kept : take top new ≡ take top old
 
--- plain rules and a use below the top, with room for as many items as there is fuel
+-- sound rules and a use below the top, with room for as many items as there is fuel
 pub record Stepping (items work marks : List ℕ) (top rules u w limit : ℕ) : Type 0 where
-  pub plain : Each (λ x. Plain (x .template)) (rulesAt items work rules)
+  pub sound : Each SoundRule (rulesAt items work rules)
   pub rules-below : rules ≤ top
   pub use-below : u ≤ top
   pub wrap-below : w ≤ top

@@ -1,8 +1,8 @@
--- Laws of building, one for each way through the code.
-use mathlib.Core.Path.{_≡_, refl, sym, ap, ap₂, _∙_}
+-- Laws of building, one for each way through the code: fresh nodes, and trees whose items are paid for one by one.
+use mathlib.Core.Path.{_≡_, refl, sym, ap, ap₂, subst, _∙_}
 use mathlib.Core.Bool.{Bool, true}
-use mathlib.Core.List.{List, []}
-use Prim.Native.Nat.{ℕ, suc, _+_, _≤_}
+use mathlib.Core.List.{List}
+use Prim.Native.Nat.{ℕ, suc, _+_, _*_, _-_, _≤_}
 use native.Mathlib.Omega.{arith}
 use lib.Dec.{ltb}
 use lib.ListN.{length, take}
@@ -15,7 +15,9 @@ use Rattle.arena.specs.ArenaLaws.{cases, take-less, referenceAt-most, wrapAt-no
 use Rattle.arena.specs.NodeLaws.{treeAt-empty, treeAt-name, treeAt-pair, treeAt-constant}
 use Rattle.arena.specs.Cells.{Room, Wrapped, itemName, Grown}
 use Rattle.arena.specs.CellLaws.{tree-kept}
-use Rattle.steps.specs.Build.{RoomFor, Built, Waiting}
+use Rattle.steps.specs.declared.build.Built.{Built}
+use Rattle.steps.specs.declared.build.Built.the-variants.{At, Costly}
+use Rattle.steps.specs.Build.{nodeWords, Fresh, Paid, Unpaid, Pays, Waiting}
 
 -- ---- names are produced before or after what waits on them
 
@@ -35,51 +37,24 @@ fresh-name : (items work : List ℕ) (node item : ℕ) → item ≡ wordAt work 
 unfolding produceName nodeName itemName
 fresh-name items work node item e = rw e refl
 
--- ---- what is built
+-- ---- nodes of one item
 
-module _ (A B : List ℕ → Tree) (old new : List ℕ) (top r : ℕ) where
-  pub built-is : ((items : List ℕ) → A items ≡ B items) → Built A old new top r → Built B old new top r
-  built-is e b =
-      record {
-        above = b .above;
-        most = λ items. rw (← e items) (b .most items);
-        kept = b .kept;
-        means = λ items l. b .means items l ∙ ap produce (e items);
-      }
+fresh-one : (A : List ℕ → Tree) (old new : List ℕ) (top r : ℕ) → r ≡ top + 3 → take top new ≡ take top old → ((items : List ℕ) → length items ≤ top → treeAt items new r 0 ≡ produce (A items)) → Fresh A old new top r
+fresh-one A old new top r e k m = record { above = omega arith; most = omega arith; kept = k; means = m }
 
--- one node
-built-one : (A : List ℕ → Tree) (old new : List ℕ) (top r : ℕ) → r ≡ top + 3 → take top new ≡ take top old → ((items : List ℕ) → length items ≤ top → treeAt items new r 0 ≡ produce (A items)) → Built A old new top r
-built-one A old new top r e k m =
-    record { above = omega arith; most = λ items. omega (arith, size-positive (A items)); kept = k; means = m }
-
-pub built-empty : (old new : List ℕ) (top r : ℕ) → Grown (λ items w. empty) old new top r → Built (λ items. empty) old new top r
+pub fresh-empty : (old new : List ℕ) (top r : ℕ) → Grown (λ items w. empty) old new top r → Fresh (λ items. empty) old new top r
 unfolding produce onNames
-built-empty old new top r g = built-one _ old new top r (g .end) (g .kept) (λ items l. g .means items 0 (omega arith))
+fresh-empty old new top r g = fresh-one _ old new top r (g .end) (g .kept) (λ items l. g .means items 0 (omega arith))
 
-pub built-constant : (old new : List ℕ) (top r k a b : ℕ) → Grown (λ items w. constant (record { kind = k; first = a; second = b })) old new top r → Built (λ items. constant (record { kind = k; first = a; second = b })) old new top r
+pub fresh-constant : (old new : List ℕ) (top r k a b : ℕ) → Grown (λ items w. constant (record { kind = k; first = a; second = b })) old new top r → Fresh (λ items. constant (record { kind = k; first = a; second = b })) old new top r
 unfolding produce onNames
-built-constant old new top r k a b g = built-one _ old new top r (g .end) (g .kept) (λ items l. g .means items 0 (omega arith))
-
--- the tail is built before the head
-pub built-pair : (A B : List ℕ → Tree) (old one two new : List ℕ) (top t h r : ℕ) → Built B old one top t → Built A one two t h → Grown (λ items w. pair (treeAt items two h w) (treeAt items two t w)) two new h r → Built (λ items. pair (A items) (B items)) old new top r
-unfolding produce onNames size
-built-pair A B old one two new top t h r b a g =
-    record {
-      above = omega (arith, a .above, b .above, g .end);
-      most = λ items. omega (arith, a .most items, b .most items, g .end);
-      kept = take-less new one top t (b .above) (take-less new two t h (a .above) (g .kept) ∙ a .kept) ∙ b .kept;
-      means = λ items l.
-          g .means items 0 (omega arith)
-          ∙ ap₂ pair (a .means items (omega (arith, b .above))) (tree-kept items one two t t 0 (omega arith) (omega arith) (a .kept) ∙ b .means items l);
-    }
-
--- ---- names
+fresh-constant old new top r k a b g = fresh-one _ old new top r (g .end) (g .kept) (λ items l. g .means items 0 (omega arith))
 
 module _ (old : List ℕ) (top node w item own : ℕ) (item-is : item ≡ wordAt old node 2) (own-is : own ≡ referenceAt old node 1) where
-  pub built-bare : (new : List ℕ) (r : ℕ) → own ≡ 0 → Grown (λ items v. name (wrapAt old v (wrapAt old w (itemName items item (ltb (length items) (top + 3)))))) old new top r → Built (λ items. name (nameAt items old node w)) old new top r
+  pub fresh-bare : (new : List ℕ) (r : ℕ) → own ≡ 0 → Grown (λ items v. name (wrapAt old v (wrapAt old w (itemName items item (ltb (length items) (top + 3)))))) old new top r → Fresh (λ items. name (nameAt items old node w)) old new top r
   unfolding produce onNames nameAt
-  built-bare new r e g =
-      built-one _ old new top r (g .end) (g .kept)
+  fresh-bare new r e g =
+      fresh-one _ old new top r (g .end) (g .kept)
       (λ items l.
       g .means items 0 (omega arith)
       ∙ ap name
@@ -89,12 +64,12 @@ module _ (old : List ℕ) (top node w item own : ℕ) (item-is : item ≡ wordAt
       ∙ wrapAt-produce old w _
       ∙ ap (λ (x : Name). produceName (wrapAt old w x)) (sym (rw (← own-is, e) (wrapAt-none old _)))))
 
-  pub built-joined : (one new : List ℕ) (j r : ℕ) → Wrapped (λ x. wrapAt old w (wrapAt old own x)) 3 old one top j → Grown (λ items v. name (wrapAt one v (wrapAt one j (itemName items item (ltb (length items) (j + 3)))))) one new j r → Built (λ items. name (nameAt items old node w)) old new top r
-  unfolding produce onNames nameAt size
-  built-joined one new j r f g =
+  pub fresh-joined : (one new : List ℕ) (j r : ℕ) → Wrapped (λ x. wrapAt old w (wrapAt old own x)) 3 old one top j → Grown (λ items v. name (wrapAt one v (wrapAt one j (itemName items item (ltb (length items) (j + 3)))))) one new j r → Fresh (λ items. name (nameAt items old node w)) old new top r
+  unfolding produce onNames nameAt
+  fresh-joined one new j r f g =
       record {
         above = omega (arith, f .end, g .end);
-        most = λ items. omega (arith, f .end, g .end);
+        most = omega (arith, f .end, g .end);
         kept = take-less new one top j (omega (arith, f .end)) (g .kept) ∙ f .kept;
         means = λ items l.
             g .means items 0 (omega arith)
@@ -110,91 +85,141 @@ module _ (old : List ℕ) (top node w item own : ℕ) (item-is : item ≡ wordAt
 
 -- ---- room
 
-abbrev pub Whole : (work : List ℕ) (node w : ℕ) → List ℕ → Tree
-Whole work node w = λ items. treeAt items work node w
-
-pub room-is : (A B : List ℕ → Tree) (work : List ℕ) (top : ℕ) → ((items : List ℕ) → A items ≡ B items) → RoomFor B work top → RoomFor A work top
-room-is A B work top e r = record { fits = λ items. rw (e items) (r .fits items); small = λ items. rw (e items) (r .small items) }
-
--- every tree has a node
-pub room-node : (A : List ℕ → Tree) (work : List ℕ) (top : ℕ) → RoomFor A work top → Room work top 6
-room-node A work top r = record { fits = omega (arith, r .fits [], size-positive (A [])); small = omega (arith, r .small [], size-positive (A [])) }
-
 pub room-less : (work : List ℕ) (top : ℕ) → Room work top 6 → Room work top 3
 room-less work top r = record { fits = omega (arith, r .fits); small = omega (arith, r .small) }
 
--- a pair's parts, the tail first, then its own node
-module _ (A B P : List ℕ → Tree) (old : List ℕ) (top : ℕ) (is : (items : List ℕ) → P items ≡ pair (A items) (B items)) (room : RoomFor P old top) where
-  size-is : (items : List ℕ) → size (P items) ≡ suc (size (A items) + size (B items))
+-- fuel for an item is room for its node
+pub room-node : (work : List ℕ) (top fuel : ℕ) → (fuel ≡ 0 → ⊥) → Room work top (nodeWords * fuel) → Room work top 6
+room-node work top fuel h r = record { fits = omega (arith, r .fits); small = omega (arith, r .small) }
+
+-- what is left has the room that is left
+pub room-left : (old new : List ℕ) (top fuel r left n : ℕ) → length new ≡ length old → r + n ≤ top + nodeWords * fuel → Room old top (nodeWords * fuel) → Room new r n
+room-left old new top fuel r left n long h room = record { fits = omega (arith, room .fits); small = omega (arith, room .small) }
+
+-- ---- trees whose items are paid for
+
+module _ (A B : List ℕ → Tree) (old new : List ℕ) (top fuel : ℕ) (e : (items : List ℕ) → A items ≡ B items) where
+  pub pays-is : (r : Built) → Pays A old new top fuel r → Pays B old new top fuel r
+  pays-is (At root left) p =
+      record {
+        spent = λ items. rw (← e items) (p .spent items);
+        above = p .above;
+        most = p .most;
+        kept = p .kept;
+        means = λ items l. p .means items l ∙ ap produce (e items);
+      }
+  pays-is Costly p = record { over = λ items. rw (← e items) (p .over items); kept = p .kept }
+
+-- what an answer says
+pub paid-at : (A : List ℕ → Tree) (old new : List ℕ) (top fuel : ℕ) (r : Built) (root left : ℕ) → r ≡ At root left → Pays A old new top fuel r → Paid A old new top fuel root left
+paid-at A old new top fuel r root left e p = subst (Pays A old new top fuel) e p
+
+pub unpaid-at : (A : List ℕ → Tree) (old new : List ℕ) (top fuel : ℕ) (r : Built) → r ≡ Costly → Pays A old new top fuel r → Unpaid A old new top fuel
+unpaid-at A old new top fuel r e p = subst (Pays A old new top fuel) e p
+
+-- every tree has an item
+pub unpaid-none : (A : List ℕ → Tree) (old : List ℕ) (top fuel : ℕ) → fuel ≡ 0 → Unpaid A old old top fuel
+unpaid-none A old top fuel e = record { over = λ items. omega (arith, size-positive (A items)); kept = refl }
+
+pub paid-one : (A : List ℕ → Tree) (old new : List ℕ) (top fuel r left : ℕ) → (fuel ≡ 0 → ⊥) → left ≡ fuel - 1 → ((items : List ℕ) → size (A items) ≡ 1) → Fresh A old new top r → Paid A old new top fuel r left
+paid-one A old new top fuel r left h e one f =
+    record { spent = λ items. omega (arith, one items); above = f .above; most = omega (arith, f .most); kept = f .kept; means = f .means }
+
+-- a pair: its own item first, then the tail, then the head
+module _ (A B : List ℕ → Tree) (old one : List ℕ) (top fuel left : ℕ) (some-fuel : fuel ≡ 0 → ⊥) (left-is : left ≡ fuel - 1) where
+  pub unpaid-tail : Unpaid B old one top left → Unpaid (λ items. pair (A items) (B items)) old one top fuel
   unfolding size
-  size-is items = ap size (is items)
+  unpaid-tail b = record { over = λ items. omega (arith, b .over items); kept = b .kept }
 
-  pub room-tail : RoomFor B old top
-  room-tail = record { fits = λ items. omega (arith, room .fits items, size-is items); small = λ items. omega (arith, room .small items, size-is items) }
+  module _ (t f : ℕ) (b : Paid B old one top left t f) (two : List ℕ) where
+    pub unpaid-head : Unpaid A one two t f → Unpaid (λ items. pair (A items) (B items)) old two top fuel
+    unfolding size
+    unpaid-head a = record { over = λ items. omega (arith, a .over items, b .spent items); kept = take-less two one top t (b .above) (a .kept) ∙ b .kept }
 
-  module _ (one : List ℕ) (t : ℕ) (tail : Built B old one top t) (long : length one ≡ length old) where
-    pub room-head : RoomFor A one t
-    room-head =
-        record {
-          fits = λ items. omega (arith, room .fits items, size-is items, tail .most items);
-          small = λ items. omega (arith, room .small items, size-is items, tail .most items);
-        }
+    module _ (h g : ℕ) (a : Paid A one two t f h g) where
+      pub pair-most : h + 3 + nodeWords * g ≤ top + nodeWords * fuel
+      pair-most = omega (arith, a .most, b .most)
 
-    pub room-pair : (two : List ℕ) (h : ℕ) → Built A one two t h → length two ≡ length one → Room two h 3
-    room-pair two h head far =
-        record {
-          fits = omega (arith, room .fits [], size-is [], tail .most [], head .most []);
-          small = omega (arith, room .small [], size-is [], tail .most [], head .most []);
-        }
+      pub paid-pair : (new : List ℕ) (r : ℕ) → Grown (λ items w. pair (treeAt items two h w) (treeAt items two t w)) two new h r → Paid (λ items. pair (A items) (B items)) old new top fuel r g
+      unfolding produce onNames size
+      paid-pair new r p =
+          record {
+            spent = λ items. omega (arith, a .spent items, b .spent items);
+            above = omega (arith, a .above, b .above, p .end);
+            most = omega (arith, pair-most, p .end);
+            kept = take-less new one top t (b .above) (take-less new two t h (a .above) (p .kept) ∙ a .kept) ∙ b .kept;
+            means = λ items l.
+                p .means items 0 (omega arith)
+                ∙ ap₂ pair (a .means items (omega (arith, b .above))) (tree-kept items one two t t 0 (omega arith) (omega arith) (a .kept) ∙ b .means items l);
+          }
 
 -- ---- copies of a tree
 
-module _ (old : List ℕ) (top node w kind : ℕ) (kind-is : kind ≡ wordAt old node 3) where
-  pub copied-empty : (new : List ℕ) (r : ℕ) → kind ≡ 0 → Grown (λ items v. empty) old new top r → Built (Whole old node w) old new top r
-  copied-empty new r e g = built-is _ _ old new top r (λ items. sym (treeAt-empty items old node w (sym kind-is ∙ e))) (built-empty old new top r g)
+abbrev pub Whole : (work : List ℕ) (node w : ℕ) → List ℕ → Tree
+Whole work node w = λ items. treeAt items work node w
 
-  pub copied-name : (new : List ℕ) (r : ℕ) → kind ≡ 3 → Built (λ items. name (nameAt items old node w)) old new top r → Built (Whole old node w) old new top r
-  copied-name new r e b = built-is _ _ old new top r (λ items. sym (treeAt-name items old node w (sym kind-is ∙ e))) b
+module _ (old : List ℕ) (top fuel node w left : ℕ) (some-fuel : fuel ≡ 0 → ⊥) (left-is : left ≡ fuel - 1) (kind : ℕ) (kind-is : kind ≡ wordAt old node 3) where
+  pub copied-empty : (new : List ℕ) (r : ℕ) → kind ≡ 0 → Grown (λ items v. empty) old new top r → Pays (Whole old node w) old new top fuel (At r left)
+  unfolding size
+  copied-empty new r e g =
+      pays-is (λ items. empty) _ old new top fuel (λ items. sym (treeAt-empty items old node w (sym kind-is ∙ e))) (At r left)
+      (paid-one (λ items. empty) old new top fuel r left some-fuel left-is (λ items. refl) (fresh-empty old new top r g))
 
-  pub copied-constant : (new : List ℕ) (r a b : ℕ) → (kind ≡ 0 → ⊥) → (kind ≡ 3 → ⊥) → (kind ≡ 4 → ⊥) → a ≡ wordAt old node 2 → b ≡ wordAt old node 1 → Grown (λ items v. constant (record { kind = kind; first = a; second = b })) old new top r → Built (Whole old node w) old new top r
-  unfolding constantAt
+  pub copied-name : (new : List ℕ) (r : ℕ) → kind ≡ 3 → Fresh (λ items. name (nameAt items old node w)) old new top r → Pays (Whole old node w) old new top fuel (At r left)
+  unfolding size
+  copied-name new r e f =
+      pays-is (λ items. name (nameAt items old node w)) _ old new top fuel (λ items. sym (treeAt-name items old node w (sym kind-is ∙ e))) (At r left)
+      (paid-one (λ items. name (nameAt items old node w)) old new top fuel r left some-fuel left-is (λ items. refl) f)
+
+  pub copied-constant : (new : List ℕ) (r a b : ℕ) → (kind ≡ 0 → ⊥) → (kind ≡ 3 → ⊥) → (kind ≡ 4 → ⊥) → a ≡ wordAt old node 2 → b ≡ wordAt old node 1 → Grown (λ items v. constant (record { kind = kind; first = a; second = b })) old new top r → Pays (Whole old node w) old new top fuel (At r left)
+  unfolding constantAt size
   copied-constant new r a b n0 n3 n4 a-is b-is g =
-      built-is _ _ old new top r
-      (λ items. rw (kind-is, a-is, b-is) (sym (treeAt-constant items old node w (λ z. n0 (kind-is ∙ z)) (λ z. n3 (kind-is ∙ z)) (λ z. n4 (kind-is ∙ z)))))
-      (built-constant old new top r kind a b g)
+      pays-is (λ items. constant (record { kind = kind; first = a; second = b })) _ old new top fuel
+      (λ items. rw (kind-is, a-is, b-is) (sym (treeAt-constant items old node w (λ z. n0 (kind-is ∙ z)) (λ z. n3 (kind-is ∙ z)) (λ z. n4 (kind-is ∙ z))))) (At r left)
+      (paid-one _ old new top fuel r left some-fuel left-is (λ items. refl) (fresh-constant old new top r kind a b g))
 
-  module _ (head tail : ℕ) (e : kind ≡ 4) (head-is : head ≡ referenceAt old node 2) (tail-is : tail ≡ referenceAt old node 1) (waits : Waiting old top node w) where
-    whole-pair : (items : List ℕ) → Whole old node w items ≡ pair (Whole old head w items) (Whole old tail w items)
-    whole-pair items = treeAt-pair items old node w (sym kind-is ∙ e) ∙ rw (head-is, tail-is) refl
+  module _ (head tail : ℕ) (e : kind ≡ 4) (head-is : head ≡ referenceAt old node 2) (tail-is : tail ≡ referenceAt old node 1) (waits : Waiting old top fuel node w) where
+    whole-pair : (items : List ℕ) → pair (Whole old head w items) (Whole old tail w items) ≡ Whole old node w items
+    whole-pair items = sym (treeAt-pair items old node w (sym kind-is ∙ e) ∙ rw (head-is, tail-is) refl)
 
-    pub waiting-tail : Waiting old top tail w
+    pub waiting-tail : Waiting old top left tail w
     waiting-tail =
         record {
-          room = room-tail (Whole old head w) (Whole old tail w) (Whole old node w) old top whole-pair (waits .room);
+          room = room-left old old top fuel top left (nodeWords * left) refl (omega arith) (waits .room);
           node-below = omega (arith, waits .node-below, referenceAt-most old node 1);
           wrap-below = waits .wrap-below;
         }
 
-    module _ (one : List ℕ) (t : ℕ) (b : Built (Whole old tail w) old one top t) (long : length one ≡ length old) where
+    pub copied-tail-costly : (one : List ℕ) → Unpaid (Whole old tail w) old one top left → Pays (Whole old node w) old one top fuel Costly
+    copied-tail-costly one b = pays-is _ _ old one top fuel whole-pair Costly (unpaid-tail (Whole old head w) (Whole old tail w) old one top fuel left some-fuel left-is b)
+
+    module _ (one : List ℕ) (t f : ℕ) (b : Paid (Whole old tail w) old one top left t f) (long : length one ≡ length old) where
       head-same : (items : List ℕ) → Whole one head w items ≡ Whole old head w items
       head-same items = tree-kept items old one top head w (omega (arith, waits .node-below, referenceAt-most old node 2)) (waits .wrap-below) (b .kept)
 
-      pub waiting-head : Waiting one t head w
+      pub waiting-head : Waiting one t f head w
       waiting-head =
           record {
-            room = room-is _ _ one t head-same (room-head (Whole old head w) (Whole old tail w) (Whole old node w) old top whole-pair (waits .room) one t b long);
+            room = room-left old one top fuel t f (nodeWords * f) long (omega (arith, b .most)) (waits .room);
             node-below = omega (arith, waits .node-below, referenceAt-most old node 2, b .above);
             wrap-below = omega (arith, waits .wrap-below, b .above);
           }
 
-      module _ (two : List ℕ) (h : ℕ) (a : Built (Whole one head w) one two t h) where
-        head-built : Built (Whole old head w) one two t h
-        head-built = built-is _ _ one two t h head-same a
+      pub copied-head-costly : (two : List ℕ) → Unpaid (Whole one head w) one two t f → Pays (Whole old node w) old two top fuel Costly
+      copied-head-costly two a =
+          pays-is _ _ old two top fuel whole-pair Costly
+          (unpaid-head (Whole old head w) (Whole old tail w) old one top fuel left some-fuel left-is t f b two (pays-is _ _ one two t f head-same Costly a))
+
+      module _ (two : List ℕ) (h g : ℕ) (a : Paid (Whole one head w) one two t f h g) where
+        head-paid : Paid (Whole old head w) one two t f h g
+        head-paid = pays-is _ _ one two t f head-same (At h g) a
 
         pub copied-room : length two ≡ length one → Room two h 3
-        copied-room far = room-pair (Whole old head w) (Whole old tail w) (Whole old node w) old top whole-pair (waits .room) one t b long two h head-built far
+        copied-room far =
+            room-left old two top fuel h g 3 (far ∙ long)
+            (omega (arith, pair-most (Whole old head w) (Whole old tail w) old one top fuel left some-fuel left-is t f b two h g head-paid)) (waits .room)
 
-        pub copied-pair : (new : List ℕ) (r : ℕ) → Grown (λ items v. pair (treeAt items two h v) (treeAt items two t v)) two new h r → Built (Whole old node w) old new top r
-        copied-pair new r g =
-            built-is _ _ old new top r (λ items. sym (whole-pair items))
-            (built-pair (Whole old head w) (Whole old tail w) old one two new top t h r b head-built g)
+        pub copied-pair : (new : List ℕ) (r : ℕ) → Grown (λ items v. pair (treeAt items two h v) (treeAt items two t v)) two new h r → Pays (Whole old node w) old new top fuel (At r g)
+        copied-pair new r p =
+            pays-is _ _ old new top fuel whole-pair (At r g)
+            (paid-pair (Whole old head w) (Whole old tail w) old one top fuel left some-fuel left-is t f b two h g head-paid new r p)

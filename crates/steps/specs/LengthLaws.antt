@@ -2,7 +2,7 @@
 use mathlib.Core.Path.{_≡_, refl, sym, ap, _∙_}
 use mathlib.Core.Bool.{Bool, true, false, _&&_}
 use mathlib.Core.List.{List, [], _∷_, _++_, map, map-append}
-use Prim.Native.Nat.{ℕ, suc, _+_, _-_, _≤_, _<_}
+use Prim.Native.Nat.{ℕ, zero, suc, _+_, _-_, _≤_, _<_}
 use native.Mathlib.Omega.{arith}
 use lib.Dec.{eqb}
 use lib.ListN.{length, getD}
@@ -10,13 +10,13 @@ use borrow.Author.Tests.{eqb-true, eqb-false, lt-ltb, le-ltb}
 use Rattle.words.specs.Lists.{all}
 use Rattle.recipe.specs.Tree.{Tree, elements}
 use Rattle.expansion.specs.Rules.{drivers}
-use Rattle.expansion.specs.Transcribe.{taken, lengths, copyCount}
 use Rattle.arena.specs.Arena.{wordAt, referenceAt, treeAt}
 use Rattle.arena.specs.ArenaLaws.{cases}
-use Rattle.rule_cells.specs.Cells.{patternAt, templateAt}
+use Rattle.rule_cells.specs.Cells.{templateAt}
 use Rattle.rule_cells.specs.CellLaws.{templateAt-variable, templateAt-insert, templateAt-constant, templateAt-pair, templateAt-ellipsis, templateAt-empty}
 use Rattle.arena.specs.Lists.{Counts}
-use Rattle.steps.specs.Parts.{indices, Taken}
+use Rattle.steps.specs.Environment.{takes, lengthsBy, countBy}
+use Rattle.steps.specs.Entries.{entryAt, takingOf, environmentAt, level, takenIn}
 use Rattle.steps.specs.Lengths.{driving, heading, lengthOr, Drives, AllOf, Copies, deeper}
 use Rattle.steps.specs.declared.lengths.Driving.{Driving}
 use Rattle.steps.specs.declared.lengths.Driving.the-variants.{None, Length}
@@ -87,75 +87,78 @@ all-both f (x ∷ xs) b = ap (λ (y : Bool). f x && y) (all-both f xs b) ∙ and
 
 -- ---- driving lists
 
-module _ (work : List ℕ) (p u n outer inner : ℕ) where
+-- what a variable takes is the node of its entry
+pub taken-is : (items work env : List ℕ) (w k d : ℕ) → takes d (environmentAt items work env w k) ≡ treeAt items work (takenIn env k d) w
+unfolding takes environmentAt takingOf entryAt takenIn level
+taken-is items work env w k zero = refl
+taken-is items work env w k (suc zero) = refl
+taken-is items work env w k (suc (suc d)) = refl
+
+module _ (work env : List ℕ) where
   module _ (t tag : ℕ) (tag-is : tag ≡ wordAt work t 1) (j : ℕ) where
-    driving-nothing : (items : List ℕ) (w : ℕ) → drivers j (templateAt items work t) ≡ [] → driving items work p u w n outer inner j t ≡ []
-    unfolding driving
+    driving-nothing : (items : List ℕ) (w : ℕ) → drivers j (templateAt items work t) ≡ [] → driving items work env w j t ≡ []
+    unfolding driving lengthsBy
     driving-nothing items w e = rw e refl
 
-    driving-one : (items : List ℕ) (w d k list c : ℕ) → tag ≡ 1 → d ≡ wordAt work t 2 → k ≡ wordAt work t 3 → j < d → Taken work p u n outer inner k (d - j - 1) list → Counts work list c → driving items work p u w n outer inner j t ≡ c ∷ []
-    unfolding driving
+    driving-one : (items : List ℕ) (w d k list c : ℕ) → tag ≡ 1 → d ≡ wordAt work t 2 → k ≡ wordAt work t 3 → j < d → list ≡ takenIn env k (d - j - 1) → Counts work list c → driving items work env w j t ≡ c ∷ []
+    unfolding driving lengthsBy
     driving-one items w d k list c e d-is k-is h g l =
-        rw (drivers-one items work t tag tag-is j d k e d-is k-is h) (ap (λ (x : ℕ). x ∷ []) (ap (λ (x : Tree). length (elements x)) (sym (g .is-taken items w)) ∙ sym (l .is items w)))
+        rw (drivers-one items work t tag tag-is j d k e d-is k-is h) (ap (λ (x : ℕ). x ∷ []) (ap (λ (x : Tree). length (elements x)) (taken-is items work env w k (d - j - 1) ∙ rw g refl) ∙ sym (l .is items w)))
 
-    pub drives-none : (tag ≡ 1 → ⊥) → (tag ≡ 6 → ⊥) → (tag ≡ 7 → ⊥) → Drives work p u n outer inner j t None
+    pub drives-none : (tag ≡ 1 → ⊥) → (tag ≡ 6 → ⊥) → (tag ≡ 7 → ⊥) → Drives work env j t None
     unfolding heading
     drives-none a b c items w = rw (driving-nothing items w (drivers-none items work t tag tag-is j a b c)) refl
 
-    pub drives-few : (d : ℕ) → tag ≡ 1 → d ≡ wordAt work t 2 → d ≤ j → Drives work p u n outer inner j t None
+    pub drives-few : (d : ℕ) → tag ≡ 1 → d ≡ wordAt work t 2 → d ≤ j → Drives work env j t None
     unfolding heading
     drives-few d e d-is h items w = rw (driving-nothing items w (drivers-few items work t tag tag-is j d e d-is h)) refl
 
-    pub drives-one : (d k list c : ℕ) → tag ≡ 1 → d ≡ wordAt work t 2 → k ≡ wordAt work t 3 → j < d → Taken work p u n outer inner k (d - j - 1) list → Counts work list c → Drives work p u n outer inner j t (Length c)
+    pub drives-one : (d k list c : ℕ) → tag ≡ 1 → d ≡ wordAt work t 2 → k ≡ wordAt work t 3 → j < d → list ≡ takenIn env k (d - j - 1) → Counts work list c → Drives work env j t (Length c)
     unfolding heading
     drives-one d k list c e d-is k-is h g l items w = rw (driving-one items w d k list c e d-is k-is h g l) refl
 
     module _ (c : ℕ) where
-      pub all-none : (tag ≡ 1 → ⊥) → (tag ≡ 6 → ⊥) → (tag ≡ 7 → ⊥) → AllOf work p u n outer inner j t c true
+      pub all-none : (tag ≡ 1 → ⊥) → (tag ≡ 6 → ⊥) → (tag ≡ 7 → ⊥) → AllOf work env j t c true
       unfolding all
       all-none x y z items w = rw (driving-nothing items w (drivers-none items work t tag tag-is j x y z)) refl
 
-      pub all-few : (d : ℕ) → tag ≡ 1 → d ≡ wordAt work t 2 → d ≤ j → AllOf work p u n outer inner j t c true
+      pub all-few : (d : ℕ) → tag ≡ 1 → d ≡ wordAt work t 2 → d ≤ j → AllOf work env j t c true
       unfolding all
       all-few d e d-is h items w = rw (driving-nothing items w (drivers-few items work t tag tag-is j d e d-is h)) refl
 
-      pub all-one : (d k list l : ℕ) → tag ≡ 1 → d ≡ wordAt work t 2 → k ≡ wordAt work t 3 → j < d → Taken work p u n outer inner k (d - j - 1) list → Counts work list l → AllOf work p u n outer inner j t c (eqb c l)
+      pub all-one : (d k list l : ℕ) → tag ≡ 1 → d ≡ wordAt work t 2 → k ≡ wordAt work t 3 → j < d → list ≡ takenIn env k (d - j - 1) → Counts work list l → AllOf work env j t c (eqb c l)
       unfolding all
       all-one d k list l e d-is k-is h g s items w = rw (driving-one items w d k list l e d-is k-is h g s) (sym (and-true (eqb c l)))
 
     module _ (i head rest : ℕ) (low : 6 ≤ tag) (high : tag ≤ 7) (i-is : i ≡ deeper tag j) (head-is : head ≡ referenceAt work t 3) (rest-is : rest ≡ referenceAt work t 2) where
-      driving-both : (items : List ℕ) (w : ℕ) → driving items work p u w n outer inner j t ≡ driving items work p u w n outer inner i head ++ driving items work p u w n outer inner j rest
-      unfolding driving
+      driving-both : (items : List ℕ) (w : ℕ) → driving items work env w j t ≡ driving items work env w i head ++ driving items work env w j rest
+      unfolding driving lengthsBy
       driving-both items w =
-          let f : (ℕ × ℕ) → ℕ = λ v. length (elements (taken (patternAt items work p) (treeAt items work u w) (indices n outer inner) (v .0) (v .1))) in
+          let f : (ℕ × ℕ) → ℕ = λ v. length (elements (takes (v .1) (environmentAt items work env w (v .0)))) in
           ap (map f) (drivers-both items work t tag tag-is j i head rest low high i-is head-is rest-is) ∙ map-append f (drivers i (templateAt items work head)) (drivers j (templateAt items work rest))
 
-      pub drives-first : (c : ℕ) → Drives work p u n outer inner i head (Length c) → Drives work p u n outer inner j t (Length c)
+      pub drives-first : (c : ℕ) → Drives work env i head (Length c) → Drives work env j t (Length c)
       drives-first c f items w = rw (driving-both items w) (heading-first _ _ c (f items w))
 
-      pub drives-rest : (r : Driving) → Drives work p u n outer inner i head None → Drives work p u n outer inner j rest r → Drives work p u n outer inner j t r
+      pub drives-rest : (r : Driving) → Drives work env i head None → Drives work env j rest r → Drives work env j t r
       drives-rest r f g items w = g items w ∙ rw (driving-both items w) (heading-rest _ _ (f items w))
 
-      pub all-no : (c : ℕ) (b : Bool) → AllOf work p u n outer inner i head c b → b ≡ false → AllOf work p u n outer inner j t c false
+      pub all-no : (c : ℕ) (b : Bool) → AllOf work env i head c b → b ≡ false → AllOf work env j t c false
       all-no c b f e items w = rw (driving-both items w, all-both (eqb c), ← f items w, e) refl
 
-      pub all-rest : (c : ℕ) (b r : Bool) → AllOf work p u n outer inner i head c b → b ≡ true → AllOf work p u n outer inner j rest c r → AllOf work p u n outer inner j t c r
+      pub all-rest : (c : ℕ) (b r : Bool) → AllOf work env i head c b → b ≡ true → AllOf work env j rest c r → AllOf work env j t c r
       all-rest c b r f e g items w = rw (driving-both items w, all-both (eqb c), ← f items w, e) (g items w)
 
   -- ---- the number of copies
 
-  copies-of : (e : ℕ) (r : Driving) → Drives work p u n outer inner 0 e r → Copies work p u n outer inner e (lengthOr r)
-  unfolding copyCount lengths driving
+  copies-of : (e : ℕ) (r : Driving) → Drives work env 0 e r → Copies work env e (lengthOr r)
+  unfolding countBy driving
   copies-of e r f items w = sym (heading-count _ r (f items w))
 
-  pub copies-some : (e c : ℕ) (r : Driving) → r ≡ Length c → Drives work p u n outer inner 0 e r → Copies work p u n outer inner e c
+  pub copies-some : (e c : ℕ) (r : Driving) → r ≡ Length c → Drives work env 0 e r → Copies work env e c
   unfolding lengthOr
   copies-some e c r i f items w = sym (ap lengthOr i) ∙ copies-of e r f items w
 
-  pub copies-none : (e : ℕ) (r : Driving) → r ≡ None → Drives work p u n outer inner 0 e r → Copies work p u n outer inner e 0
+  pub copies-none : (e : ℕ) (r : Driving) → r ≡ None → Drives work env 0 e r → Copies work env e 0
   unfolding lengthOr
   copies-none e r i f items w = sym (ap lengthOr i) ∙ copies-of e r f items w
-
-  pub copies-all : (e c : ℕ) (r : Bool) → AllOf work p u n outer inner 0 e c r → (items : List ℕ) (w : ℕ) → r ≡ all (eqb c) (lengths (patternAt items work p) (treeAt items work u w) (indices n outer inner) (templateAt items work e))
-  unfolding lengths driving
-  copies-all e c r f items w = f items w

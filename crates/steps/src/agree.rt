@@ -1,23 +1,11 @@
 // Ground 17: driving lists are of one length, anywhere in a template. An element that gets no copies is not looked into.
 
 ghost use mathlib.Core.Path.{_≡_};
-ghost use Rattle.steps.specs.Plain.{deepen};
 ghost use mathlib.Core.Bool.{true};
 ghost use Rattle.steps.specs.Lengths.{Flat, LengthsAgree, CopiesAgree};
+use crate::environment;
 use crate::lengths;
-use crate::places;
 use arena::cells;
-use arena::lists;
-
-// How many indices are kept, with one more.
-pub fn deepen(n: u32) -> u32
-    ensures { λ r. ⌜ r ≡ deepen n ⌝ }
-{
-    if n == 0 {
-        return 1;
-    }
-    2
-}
 
 // Whether a template has no ellipsis in it, and so no driving lists to compare.
 pub fn flat(work: &[u32], t: u32) -> bool
@@ -39,8 +27,8 @@ pub fn flat(work: &[u32], t: u32) -> bool
 }
 
 // Whether driving lists are of one length in all of a template.
-pub fn lengths_agree(work: &[u32], p: u32, u: u32, n: u32, outer: u32, inner: u32, t: u32) -> bool
-    ensures { λ r. ⌜ LengthsAgree (now (work .entry)) p u n outer inner t r ⌝ }
+pub fn lengths_agree(work: &[u32], env: &[u32; environment::WORDS], t: u32) -> bool
+    ensures { λ r. ⌜ LengthsAgree (now (work .entry)) (now (env .entry)) t r ⌝ }
 {
     let tag = cells::word(work, t, cells::TAG);
     if tag < rule_cells::cells::PAIR {
@@ -52,52 +40,35 @@ pub fn lengths_agree(work: &[u32], p: u32, u: u32, n: u32, outer: u32, inner: u3
     let head = cells::reference(work, t, 3);
     let rest = cells::reference(work, t, 2);
     if tag == rule_cells::cells::PAIR {
-        if !lengths_agree(work, p, u, n, outer, inner, head) {
+        if !lengths_agree(work, env, head) {
             return false;
         }
-        return lengths_agree(work, p, u, n, outer, inner, rest);
+        return lengths_agree(work, env, rest);
     }
-    let c = lengths::copies(work, p, u, n, outer, inner, head);
-    if !lengths::all_of(work, p, u, n, outer, inner, 0, head, c) {
+    let c = lengths::copies(work, env, head);
+    if !lengths::all_of(work, env, 0, head, c) {
         return false;
     }
-    if !copies_agree(work, p, u, n, outer, inner, head, c) {
+    if !copies_agree(work, env, head, c) {
         return false;
     }
-    lengths_agree(work, p, u, n, outer, inner, rest)
+    lengths_agree(work, env, rest)
 }
 
-// Whether they are in each of c copies of an element. Where its variables have one place, `node` is the rest of the list.
-pub fn copies_agree(
-    work: &[u32],
-    p: u32,
-    u: u32,
-    n: u32,
-    outer: u32,
-    inner: u32,
-    e: u32,
-    c: u32,
-) -> bool
-    ensures { λ r. ⌜ CopiesAgree (now (work .entry)) p u n outer inner e c r ⌝ }
+// Whether they are in each of c copies of an element.
+pub fn copies_agree(work: &[u32], env: &[u32; environment::WORDS], e: u32, c: u32) -> bool
+    ensures { λ r. ⌜ CopiesAgree (now (work .entry)) (now (env .entry)) e c r ⌝ }
 {
     if flat(work, e) {
         return true;
     }
-    let m = deepen(n);
-    let at = places::rooted(work, p, u, n, e);
-    let mut node = at.list;
+    let mut table = [0u32; environment::WORDS];
+    environment::begin(env, &mut table);
     let mut k = 0;
     while k < c {
-        if node == 0 {
-            if !lengths_agree(work, p, u, m, inner, k, e) {
-                return false;
-            }
-        } else {
-            let first = lists::first(work, node);
-            if !lengths_agree(work, at.element, first, 0, 0, 0, e) {
-                return false;
-            }
-            node = lists::rest(work, node);
+        environment::enter(work, &mut table);
+        if !lengths_agree(work, &table, e) {
+            return false;
         }
         k += 1;
     }

@@ -1,9 +1,11 @@
-// One macro step: the first rule that fits, then the lengths of driving lists, the cost, and the result.
+// One macro step: the first rule that fits, then the lengths of driving lists, and the result while there is fuel for it.
 
-ghost use Rattle.steps.specs.Apply.{Stepping, Stepped};
+ghost use Rattle.steps.specs.Apply.{Transcribing, Transcribed, Stepping, Stepped};
 use crate::agree;
+use crate::bind;
 use crate::build;
-use crate::cost;
+use crate::build::Built;
+use crate::environment;
 use crate::fits;
 use arena::cells;
 
@@ -13,6 +15,27 @@ pub enum Applied {
     Differ,
     Costly,
     Done(u32, u32),
+}
+
+// A template in an environment; `limit` is the fuel left.
+fn transcribe(
+    work: &mut [u32],
+    top: u32,
+    env: &[u32; environment::WORDS],
+    w: u32,
+    t: u32,
+    limit: u32,
+) -> Applied
+    requires { ⌜ Transcribing (now work) top (now env) w t limit ⌝ }
+    ensures { λ r. ⌜ Transcribed (now (work .entry)) (now (work .exit)) top (now (env .entry)) w t limit r ⌝ }
+{
+    if !agree::lengths_agree(work, env, t) {
+        return Applied::Differ;
+    }
+    let Built::At(root, left) = build::build(work, top, limit, env, w, t) else {
+        return Applied::Costly;
+    };
+    Applied::Done(root, limit - left)
 }
 
 // The rules at a use, which waits under w with the step's mark; `limit` is the fuel left.
@@ -35,13 +58,7 @@ pub fn apply(
     }
     let p = cells::reference(work, rule, 3);
     let t = cells::reference(work, rule, 2);
-    if !agree::lengths_agree(work, p, u, 0, 0, 0, t) {
-        return Applied::Differ;
-    }
-    let n = cost::cost(work, p, u, 0, 0, 0, t, 0, limit);
-    if limit < n {
-        return Applied::Costly;
-    }
-    let root = build::build(work, top, p, u, w, 0, 0, 0, t);
-    Applied::Done(root, n)
+    let mut env = [0u32; environment::WORDS];
+    bind::bind(work, &mut env, p, u);
+    transcribe(work, top, &env, w, t, limit)
 }

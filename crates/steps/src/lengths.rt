@@ -3,7 +3,7 @@
 ghost use mathlib.Core.Path.{_≡_};
 ghost use Prim.Native.Nat.{_+_, _^_, _<_};
 ghost use Rattle.steps.specs.Lengths.{deeper, Drives, AllOf, Copies};
-use crate::parts;
+use crate::environment;
 use arena::cells;
 use arena::lists;
 
@@ -25,18 +25,9 @@ pub fn deeper(tag: u32, j: u32) -> u32
 }
 
 // The first list that drives the copies of an element; t is the part of it under j ellipses.
-pub fn driver(
-    work: &[u32],
-    p: u32,
-    u: u32,
-    n: u32,
-    outer: u32,
-    inner: u32,
-    j: u32,
-    t: u32,
-) -> Driving
+pub fn driver(work: &[u32], env: &[u32; environment::WORDS], j: u32, t: u32) -> Driving
     requires { ⌜ j + t < 2 ^ 32 ⌝ }
-    ensures { λ r. ⌜ Drives (now (work .entry)) p u n outer inner j t r ⌝ }
+    ensures { λ r. ⌜ Drives (now (work .entry)) (now (env .entry)) j t r ⌝ }
 {
     let tag = cells::word(work, t, cells::TAG);
     if tag == rule_cells::cells::VARIABLE {
@@ -45,7 +36,7 @@ pub fn driver(
             return Driving::None;
         }
         let k = cells::word(work, t, 3);
-        let list = parts::taken(work, p, u, n, outer, inner, k, d - j - 1);
+        let list = environment::taken(env, k, d - j - 1);
         return Driving::Length(lists::count(work, list));
     }
     if tag < rule_cells::cells::PAIR {
@@ -56,40 +47,30 @@ pub fn driver(
     }
     let head = cells::reference(work, t, 3);
     let i = deeper(tag, j);
-    match driver(work, p, u, n, outer, inner, i, head) {
+    match driver(work, env, i, head) {
         Driving::Length(c) => {
             return Driving::Length(c);
         }
         Driving::None => {}
     }
     let rest = cells::reference(work, t, 2);
-    driver(work, p, u, n, outer, inner, j, rest)
+    driver(work, env, j, rest)
 }
 
 // How many copies an element gets: as many as its first driving list has elements.
-pub fn copies(work: &[u32], p: u32, u: u32, n: u32, outer: u32, inner: u32, e: u32) -> u32
-    ensures { λ r. ⌜ Copies (now (work .entry)) p u n outer inner e r ⌝ }
+pub fn copies(work: &[u32], env: &[u32; environment::WORDS], e: u32) -> u32
+    ensures { λ r. ⌜ Copies (now (work .entry)) (now (env .entry)) e r ⌝ }
 {
-    match driver(work, p, u, n, outer, inner, 0, e) {
+    match driver(work, env, 0, e) {
         Driving::Length(c) => c,
         Driving::None => 0,
     }
 }
 
 // Whether all the lists that drive an element have c elements; t is the part of it under j ellipses.
-pub fn all_of(
-    work: &[u32],
-    p: u32,
-    u: u32,
-    n: u32,
-    outer: u32,
-    inner: u32,
-    j: u32,
-    t: u32,
-    c: u32,
-) -> bool
+pub fn all_of(work: &[u32], env: &[u32; environment::WORDS], j: u32, t: u32, c: u32) -> bool
     requires { ⌜ j + t < 2 ^ 32 ⌝ }
-    ensures { λ r. ⌜ AllOf (now (work .entry)) p u n outer inner j t c r ⌝ }
+    ensures { λ r. ⌜ AllOf (now (work .entry)) (now (env .entry)) j t c r ⌝ }
 {
     let tag = cells::word(work, t, cells::TAG);
     if tag == rule_cells::cells::VARIABLE {
@@ -98,7 +79,7 @@ pub fn all_of(
             return true;
         }
         let k = cells::word(work, t, 3);
-        let list = parts::taken(work, p, u, n, outer, inner, k, d - j - 1);
+        let list = environment::taken(env, k, d - j - 1);
         return c == lists::count(work, list);
     }
     if tag < rule_cells::cells::PAIR {
@@ -109,9 +90,9 @@ pub fn all_of(
     }
     let head = cells::reference(work, t, 3);
     let i = deeper(tag, j);
-    if !all_of(work, p, u, n, outer, inner, i, head, c) {
+    if !all_of(work, env, i, head, c) {
         return false;
     }
     let rest = cells::reference(work, t, 2);
-    all_of(work, p, u, n, outer, inner, j, rest, c)
+    all_of(work, env, j, rest, c)
 }

@@ -9,11 +9,10 @@ use lib.ListN.{length}
 use Rattle.words.specs.Limits.{macrosMost}
 use Rattle.words.specs.Each.{Each, each-append, each-map, each-weaken, given-at, given-traverse}
 use Rattle.words.specs.Options.{traverse}
-use Rattle.datum.specs.Constant.{isConstant}
 use Rattle.recipe.specs.Name.{macro, Name, distinct}
 use Rattle.recipe.specs.Tree.{Tree, size, element, bindAll}
 use Rattle.recipe.specs.TreeLaws.{bindAll-size}
-use Rattle.recipe.specs.Tidy.{tidyEmpty, tidyConstant, tidyName, tidyPair, tidy-elements, tidy-element, tidy-bindAll}
+use Rattle.recipe.specs.Tidy.{tidy-elements, tidy-element, tidy-bindAll}
 use Rattle.recipe.specs.TableTidy.{IsConstant}
 use Rattle.core_term.specs.Term.{Term}
 use Rattle.core_term.specs.Words.{encode}
@@ -22,8 +21,8 @@ use Rattle.expansion.specs.TidyRules.{TidyRules, rulesOf-tidy}
 use Rattle.expansion.specs.Computation.{State, M}
 use Rattle.expansion.specs.Forms.{isMacros, keywords, rulesForms, expandMacros}
 use Rattle.arena.specs.Arena.{treeAt}
-use Rattle.steps.specs.Plain.{Plain}
-use Rattle.steps.specs.PlainRules.{Solid, no-element, solid-constant, solid-name, solid-pair, rulesOf-plain}
+use Rattle.steps.specs.Sound.{SoundRule}
+use Rattle.steps.specs.SoundRules.{rulesOf-sound}
 use Rattle.turns.specs.declared.answers.Reached.{Reached}
 use Rattle.turns.specs.declared.answers.Ended.{Ended}
 use Rattle.turns.specs.declared.answers.Ended.the-variants.{Refused}
@@ -36,18 +35,7 @@ use Rattle.turns.specs.UseTurnLaws.{left-same}
 use Rattle.turns.specs.MacroTurns.{formsOf, grown, Known, MacrosKnown, MacrosRefused}
 use Rattle.turns.specs.MacroTurnLaws.{macros-rate, macros-sizes}
 
--- ---- the rules are proper and plain
-
-solid-proper : {t : Tree} → Proper t → Solid t
-unfolding isConstant
-solid-proper tidyEmpty = no-element
-solid-proper (tidyConstant {a} c) =
-    solid-constant {a = a} (λ z. let y : false ≡ true = rw z at c in absurd (no y)) (λ z. let y : false ≡ true = rw z at c in absurd (no y)) (λ z. let y : false ≡ true = rw z at c in absurd (no y))
-  where
-    no : false ≡ true → ⊥
-    no e = subst (λ (b : Bool). cond b ⊥ (Unit {0})) e tt
-solid-proper (tidyName x) = solid-name
-solid-proper (tidyPair p q l) = solid-pair (solid-proper p) (solid-proper q)
+-- ---- the rules are proper and sound
 
 forms-proper : (inside : Bool) (t : Tree) (k : ℕ) → Proper t → Each Proper (formsOf inside t k)
 unfolding formsOf rulesForms
@@ -61,8 +49,8 @@ forms-proper inside t k good =
 rules-proper : (inside : Bool) (t : Tree) (k : ℕ) (rules : List (List Rule)) → Proper t → traverse rulesOf (formsOf inside t k) ≡ some rules → Each (TidyRules (λ x. Unit {0}) IsConstant) rules
 rules-proper inside t k rules good e = given-at (given-traverse (each-weaken (λ x p. rulesOf-tidy p) (forms-proper inside t k good))) e
 
-rules-plain : (inside : Bool) (t : Tree) (k : ℕ) (rules : List (List Rule)) → Proper t → traverse rulesOf (formsOf inside t k) ≡ some rules → Each (Each (λ x. Plain (x .template))) rules
-rules-plain inside t k rules good e = given-at (given-traverse (each-weaken (λ x p. rulesOf-plain (solid-proper p)) (forms-proper inside t k good))) e
+rules-sound : (inside : Bool) (t : Tree) (k : ℕ) (rules : List (List Rule)) → Proper t → traverse rulesOf (formsOf inside t k) ≡ some rules → Each (Each SoundRule) rules
+rules-sound inside t k rules good e = given-at (given-traverse (each-weaken (λ x p. rulesOf-sound p) (forms-proper inside t k good))) e
 
 -- ---- the turn
 
@@ -111,7 +99,7 @@ module _ (items : List ℕ) (fuel : ℕ) (t : Tree) (inside : Bool) (head : Name
         record {
           below = x .below;
           proper = rw (x .means) (each-append (ready .macros-are .proper) (rules-proper inside t (r .macros) (x .rules) good (x .is)));
-          plain = rw (x .means) (each-append (ready .macros-are .plain) (rules-plain inside t (r .macros) (x .rules) good (x .is)));
+          sound = rw (x .means) (each-append (ready .macros-are .sound) (rules-sound inside t (r .macros) (x .rules) good (x .is)));
         }
 
     known-kept : Kept items fuel (size t) (size (treeAt items work′ node w)) r q (tables work core macros) (tables work′ core macros′)

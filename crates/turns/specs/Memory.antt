@@ -13,7 +13,7 @@ use Rattle.expansion.specs.TidyRules.{TidyRules}
 use Rattle.expansion.specs.Computation.{State}
 use Rattle.arena.specs.Arena.{treeAt}
 use Rattle.rule_cells.specs.Cells.{rulesAt}
-use Rattle.steps.specs.Plain.{Plain}
+use Rattle.steps.specs.Sound.{SoundRule}
 use Rattle.turns.specs.declared.answers.Reached.{Reached}
 
 pub record Tables : Type 0 where
@@ -94,11 +94,11 @@ macroNeed fuel n r = macroItems * r .macros + n + (fuel - r .sum)
 abbrev pub Proper : Tree → Type 0
 Proper = Tidy (λ x. Unit {0}) IsConstant
 
--- the macros so far: their rules stand below the top, insert proper trees, and are plain
+-- the macros so far: their rules stand below the top, insert proper trees, and are sound
 pub record Macros (items : List ℕ) (r : Reached) (t : Tables) : Type 0 where
   pub below : (k : ℕ) → k < r .macros → getD (t .macros) k 0 ≤ r .top
   pub proper : Each (TidyRules (λ x. Unit {0}) IsConstant) (macrosAt items (t .work) (t .macros) (r .macros))
-  pub plain : Each (Each (λ x. Plain (x .template))) (macrosAt items (t .work) (t .macros) (r .macros))
+  pub sound : Each (Each SoundRule) (macrosAt items (t .work) (t .macros) (r .macros))
 
 -- a tree of n items may be expanded from r
 pub record Ready (items : List ℕ) (fuel n : ℕ) (r : Reached) (t : Tables) : Type 0 where

@@ -67,7 +67,7 @@ macros-kept items r q a b m h e arena same =
     record {
       below = λ k l. let g : getD (a .macros) k 0 ≤ r .top = m .below k (omega arith) in rw same (omega arith);
       proper = rw (e, same) (rw (macrosAt-settled items (a .work) (b .work) (a .macros) (a .macros) (r .top) arena (r .macros) refl (m .below)) (m .proper));
-      plain = rw (e, same) (rw (macrosAt-settled items (a .work) (b .work) (a .macros) (a .macros) (r .top) arena (r .macros) refl (m .below)) (m .plain));
+      sound = rw (e, same) (rw (macrosAt-settled items (a .work) (b .work) (a .macros) (a .macros) (r .top) arena (r .macros) refl (m .below)) (m .sound));
     }
 
 -- ---- one part of an expansion after another

@@ -58,7 +58,7 @@ module _ (items work core macros marks : List ℕ) (fuel node w : ℕ) (r : Reac
           fits = omega (arith, ready .room);
           small = omega (arith, ready .small);
           counted = omega (arith, ready .macro-room);
-          macros-are = record { below = ready .macros-are .below; proper = ready .macros-are .proper; plain = ready .macros-are .plain };
+          macros-are = record { below = ready .macros-are .below; proper = ready .macros-are .proper; sound = ready .macros-are .sound };
           hands = hands;
         }
 

@@ -147,7 +147,7 @@ module _ (items work macros marks : List ℕ) (fuel node w n : ℕ) (r : Reached
     pub use-stepping : (marks′ : List ℕ) → length marks′ ≡ length marks → Stepping items mid marks′ used rules operands used (fuel - r .sum)
     use-stepping marks′ e =
         record {
-          plain = rw rules-same (each-getD n [] (room .macros-are .plain) noneOf);
+          sound = rw rules-same (each-getD n [] (room .macros-are .sound) noneOf);
           rules-below = omega (arith, rules-low, wrapped .end);
           use-below = omega (arith, operands-low, wrapped .end);
           wrap-below = omega arith;

@@ -10,71 +10,67 @@ use Rattle.steps.proofs.agree.lengths_agree.Kinds as lengths-agree-kind
 use Rattle.steps.proofs.agree.+copies_agree+lengths_agree.Lts-lengths_agree as lengths-agree-lts
 use Rattle.arena.proofs.cells.reference.Reads as reference-reads
 use Rattle.arena.proofs.cells.word.Reads as word-reads
-use Rattle.arena.proofs.lists.first.Reads as first-reads
-use Rattle.arena.proofs.lists.rest.Reads as rest-reads
-use Rattle.steps.proofs.agree.deepen.Reads as deepen-reads
 use Rattle.steps.proofs.agree.flat.Reads as flat-reads
+use Rattle.steps.proofs.environment.begin.Reads as begin-reads
+use Rattle.steps.proofs.environment.enter.Reads as enter-reads
 use Rattle.steps.proofs.lengths.all_of.Reads as all-of-reads
 use Rattle.steps.proofs.lengths.copies.Reads as copies-reads
-use Rattle.steps.proofs.places.rooted.Reads as rooted-reads
 use Rattle.steps.proofs.agree.+copies_agree+lengths_agree.{statement}
 use Rattle.steps.proofs.agree.+copies_agree+lengths_agree.Tie.{close}
 use borrow.Author.Tests.{not-true, not-false}
 use Rattle.steps.specs.PartLaws.{tag-falls}
 use Rattle.steps.specs.Lengths.{CopiesAgree}
-use Rattle.steps.specs.Places.{Ahead}
-use Rattle.steps.specs.AgreeLaws.{agree-leaf, copies-flat, agree-head-no, agree-tail, agree-differ, agree-copies-no, agree-rest, begun-copies, copy-at, copies-no, copies-more}
-use Rattle.steps.specs.PlaceLaws.{copy-in, ahead-begins, ahead-none, ahead-more}
+use Rattle.steps.specs.Entries.{AlongAll}
+use Rattle.steps.specs.AgreeLaws.{agree-leaf, copies-flat, agree-head-no, agree-tail, agree-differ, agree-copies-no, agree-rest, begun-copies, copies-no, copies-more}
 use native.Mathlib.Omega.{arith}
 use borrow.Author.Needs.{needs}
 use mathlib.Core.Path.{_≡_, subst}
 use mathlib.Core.Bool.{true}
-use mathlib.Core.Logic.{⊎-elim}
 
-abbrev μ-copies-agree : Measures 1 copies-agree-kinds.ps ℕ
+abbrev μ-copies-agree : Measures 2 copies-agree-kinds.ps ℕ
 μ-copies-agree κs a =
-    2 * a .1 .1 .1 .1 .1 .1 .0 + 1
+    2 * a .1 .1 .0 + 1
 
-abbrev μ-lengths-agree : Measures 1 lengths-agree-kinds.ps ℕ
+abbrev μ-lengths-agree : Measures 2 lengths-agree-kinds.ps ℕ
 μ-lengths-agree κs a =
-    2 * a .1 .1 .1 .1 .1 .1 .0
+    2 * a .1 .1 .0
 
-abbrev copies-agree-at : ℕ → In 1 copies-agree-kinds.ps
+abbrev copies-agree-at : ℕ → In 2 copies-agree-kinds.ps
 copies-agree-at t =
-    and 1 copies-agree-kinds.ps (is 1 copies-agree-kinds.ps μ-copies-agree t) copies-agree.Pre
+    and 2 copies-agree-kinds.ps (is 2 copies-agree-kinds.ps μ-copies-agree t) copies-agree.Pre
 
-abbrev copies-agree-below : ℕ → In 1 copies-agree-kinds.ps
+abbrev copies-agree-below : ℕ → In 2 copies-agree-kinds.ps
 copies-agree-below t =
     and
-    1
+    2
     copies-agree-kinds.ps
-    (falls 1 copies-agree-kinds.ps _<_ μ-copies-agree t)
+    (falls 2 copies-agree-kinds.ps _<_ μ-copies-agree t)
     copies-agree.Pre
 
-abbrev lengths-agree-at : ℕ → In 1 lengths-agree-kinds.ps
+abbrev lengths-agree-at : ℕ → In 2 lengths-agree-kinds.ps
 lengths-agree-at t =
-    and 1 lengths-agree-kinds.ps (is 1 lengths-agree-kinds.ps μ-lengths-agree t) lengths-agree.Pre
+    and 2 lengths-agree-kinds.ps (is 2 lengths-agree-kinds.ps μ-lengths-agree t) lengths-agree.Pre
 
-abbrev lengths-agree-below : ℕ → In 1 lengths-agree-kinds.ps
+abbrev lengths-agree-below : ℕ → In 2 lengths-agree-kinds.ps
 lengths-agree-below t =
     and
-    1
+    2
     lengths-agree-kinds.ps
-    (falls 1 lengths-agree-kinds.ps _<_ μ-lengths-agree t)
+    (falls 2 lengths-agree-kinds.ps _<_ μ-lengths-agree t)
     lengths-agree.Pre
 
 abbrev copies-agree-claims : ℕ → copies-agree-lts.Claims
-copies-agree-claims t = (flat-reads.Asked, flat-reads.Learnt, deepen-reads.Asked, deepen-reads.Learnt, rooted-reads.Asked, rooted-reads.Learnt, lengths-agree-below t, lengths-agree.Post, first-reads.Asked, first-reads.Learnt, rest-reads.Asked, rest-reads.Learnt)
+copies-agree-claims t = (flat-reads.Asked, flat-reads.Learnt, begin-reads.Asked, begin-reads.Learnt, enter-reads.Asked, enter-reads.Learnt, lengths-agree-below t, lengths-agree.Post)
 
 abbrev lengths-agree-claims : ℕ → lengths-agree-lts.Claims
 lengths-agree-claims t = (word-reads.Asked, word-reads.Learnt, reference-reads.Asked, reference-reads.Learnt, lengths-agree-below t, lengths-agree.Post, copies-reads.Asked, copies-reads.Learnt, all-of-reads.Asked, all-of-reads.Learnt, copies-agree-below t, copies-agree.Post)
 
 abbrev copies-agree-Inv-loop : copies-agree-lts.InvT-loop
-copies-agree-Inv-loop work p u n outer inner e c m at node₀ k₀ node k =
-    (k ≤ c) × CopiesAgree work p u n outer inner e k true × Ahead work (at .list) k node
+copies-agree-Inv-loop work env e c table₀ k₀ table k =
+    (k ≤ c) × CopiesAgree work env e k true × AlongAll work env k table
 
 abbrev copies-agree-μ-loop : copies-agree-lts.MeasureT-loop
-copies-agree-μ-loop work p u n outer inner e c m at node₀ k₀ node k =
+copies-agree-μ-loop work env e c table₀ k₀ table k =
     c - k
 
 copies-agree-flat-requires : (t : ℕ) → copies-agree-lts.Need-flat-requires (copies-agree-claims t) (copies-agree-at t) copies-agree.Post copies-agree-Inv-loop copies-agree-μ-loop
@@ -86,62 +82,35 @@ copies-agree-returns t c =
     let a = c .before .before .before .args in
     let flat = c .before .flat in
     let if1 = c .if1 in
-    copies-flat (a .work .now) (a .p) (a .u) (a .n) (a .outer) (a .inner) (a .e) (a .c) (flat .ensures (if1 .taken))
+    copies-flat (a .work .now) (a .env .now) (a .e) (a .c) (flat .ensures (if1 .taken))
 
-copies-agree-deepen-requires : (t : ℕ) → copies-agree-lts.Need-deepen-requires (copies-agree-claims t) (copies-agree-at t) copies-agree.Post copies-agree-Inv-loop copies-agree-μ-loop
-copies-agree-deepen-requires t c κs =
-    search needs
-
-copies-agree-rooted-requires : (t : ℕ) → copies-agree-lts.Need-rooted-requires (copies-agree-claims t) (copies-agree-at t) copies-agree.Post copies-agree-Inv-loop copies-agree-μ-loop
-copies-agree-rooted-requires t c κs =
+copies-agree-begin-requires : (t : ℕ) → copies-agree-lts.Need-begin-requires (copies-agree-claims t) (copies-agree-at t) copies-agree.Post copies-agree-Inv-loop copies-agree-μ-loop
+copies-agree-begin-requires t c κs =
     search needs
 
 copies-agree-loop-holds : (t : ℕ) → copies-agree-lts.Need-loop-holds (copies-agree-claims t) (copies-agree-at t) copies-agree.Post copies-agree-Inv-loop copies-agree-μ-loop
 copies-agree-loop-holds t c =
     let a = c .before .before .before .before .before .args in
-    (omega arith, begun-copies (a .work .now) (a .p) (a .u) (a .n) (a .outer) (a .inner) (a .e), ahead-begins (a .work .now) _)
+    let begin = c .begin in
+    (omega arith, begun-copies (a .work .now) (a .env .now) (a .e), begin .ensures .0 (a .work .now))
+
+copies-agree-enter-requires : (t : ℕ) → copies-agree-lts.Need-enter-requires (copies-agree-claims t) (copies-agree-at t) copies-agree.Post copies-agree-Inv-loop copies-agree-μ-loop
+copies-agree-enter-requires t c κs =
+    search needs
 
 copies-agree-lengths-agree-requires : (t : ℕ) → copies-agree-lts.Need-lengths-agree-requires (copies-agree-claims t) (copies-agree-at t) copies-agree.Post copies-agree-Inv-loop copies-agree-μ-loop
 copies-agree-lengths-agree-requires t c κs =
-    let pre = c .before .before .before .before .before .before .before .before .pre in
+    let pre = c .before .before .before .before .before .before .before .before .before .before .pre in
     omega (arith, pre .0)
 
 copies-agree-returns-2 : (t : ℕ) → copies-agree-lts.Need-returns-2 (copies-agree-claims t) (copies-agree-at t) copies-agree.Post copies-agree-Inv-loop copies-agree-μ-loop
 copies-agree-returns-2 t c =
-    let a = c .before .before .before .before .before .before .before .before .before .before .args in
-    let deepen = c .before .before .before .before .before .before .deepen in
-    let loop = c .before .before .before .before .loop in
+    let a = c .before .before .before .before .before .before .before .before .before .before .before .before .args in
+    let loop = c .before .before .before .before .before .before .loop in
+    let enter = c .before .before .before .enter in
     let lengths-agree = c .before .lengths-agree in
-    let if3 = c .if3 in
-    copies-no (a .work .now) (a .p) (a .u) (a .n) (a .outer) (a .inner) (a .e) (loop .k) _
-    (copy-at (a .work .now) (a .p) (a .u) (a .n) (a .outer) (a .inner) (a .e) _ (loop .k) _ (deepen .ensures) (lengths-agree .ensures))
-    (a .c) (omega arith) (not-true _ (if3 .taken))
-
-copies-agree-first-requires : (t : ℕ) → copies-agree-lts.Need-first-requires (copies-agree-claims t) (copies-agree-at t) copies-agree.Post copies-agree-Inv-loop copies-agree-μ-loop
-copies-agree-first-requires t c κs =
-    search needs
-
-copies-agree-lengths-agree-requires-2 : (t : ℕ) → copies-agree-lts.Need-lengths-agree-requires-2 (copies-agree-claims t) (copies-agree-at t) copies-agree.Post copies-agree-Inv-loop copies-agree-μ-loop
-copies-agree-lengths-agree-requires-2 t c κs =
-    let pre = c .before .before .before .before .before .before .before .before .before .pre in
-    omega (arith, pre .0)
-
-copies-agree-returns-3 : (t : ℕ) → copies-agree-lts.Need-returns-3 (copies-agree-claims t) (copies-agree-at t) copies-agree.Post copies-agree-Inv-loop copies-agree-μ-loop
-copies-agree-returns-3 t c =
-    let a = c .before .before .before .before .before .before .before .before .before .before .before .args in
-    let rooted = c .before .before .before .before .before .before .rooted in
-    let loop = c .before .before .before .before .before .loop in
-    let if2 = c .before .before .before .if2 in
-    let first = c .before .before .first in
-    let lengths-agree2 = c .before .lengths-agree2 in
-    let if4 = c .if4 in
-    copies-no (a .work .now) (a .p) (a .u) (a .n) (a .outer) (a .inner) (a .e) (loop .k) _
-    (copy-in (a .work .now) (a .p) (a .u) (a .n) (a .outer) (a .inner) (a .e) _ _ (loop .k) _ _ _ (rooted .ensures) (if2 .left) (loop .inv .2) (first .ensures) (lengths-agree2 .ensures))
-    (a .c) (omega arith) (not-true _ (if4 .taken))
-
-copies-agree-rest-requires : (t : ℕ) → copies-agree-lts.Need-rest-requires (copies-agree-claims t) (copies-agree-at t) copies-agree.Post copies-agree-Inv-loop copies-agree-μ-loop
-copies-agree-rest-requires t c κs =
-    search needs
+    let if2 = c .if2 in
+    copies-no (a .work .now) (a .env .now) (a .e) (loop .k) _ _ _ (loop .inv .2) (enter .ensures) (lengths-agree .ensures) (a .c) (omega arith) (not-true _ (if2 .taken))
 
 copies-agree-add-k : (t : ℕ) → copies-agree-lts.Need-add-k (copies-agree-claims t) (copies-agree-at t) copies-agree.Post copies-agree-Inv-loop copies-agree-μ-loop
 copies-agree-add-k t c =
@@ -153,33 +122,21 @@ copies-agree-loop-less t c =
 
 copies-agree-loop-again : (t : ℕ) → copies-agree-lts.Need-loop-again (copies-agree-claims t) (copies-agree-at t) copies-agree.Post copies-agree-Inv-loop copies-agree-μ-loop
 copies-agree-loop-again t c =
-    let a = c .before .before .before .before .before .before .before .before .args in
-    let deepen = c .before .before .before .before .deepen in
-    let rooted = c .before .before .before .rooted in
-    let loop = c .before .before .loop in
+    let a = c .before .before .before .before .before .before .before .before .before .before .before .before .args in
+    let loop = c .before .before .before .before .before .before .loop in
+    let enter = c .before .before .before .enter in
+    let lengths-agree = c .before .lengths-agree in
     let if2 = c .if2 in (
       omega arith,
-      ⊎-elim
-          (λ q.
-          copies-more (a .work .now) (a .p) (a .u) (a .n) (a .outer) (a .inner) (a .e) (loop .k) _
-          (copy-at (a .work .now) (a .p) (a .u) (a .n) (a .outer) (a .inner) (a .e) _ (loop .k) _ (deepen .ensures) (q .1 .ensures))
-          (not-false _ (q .2 .left)) (loop .inv .1))
-          (λ q.
-          copies-more (a .work .now) (a .p) (a .u) (a .n) (a .outer) (a .inner) (a .e) (loop .k) _
-          (copy-in (a .work .now) (a .p) (a .u) (a .n) (a .outer) (a .inner) (a .e) _ _ (loop .k) _ _ _ (rooted .ensures) (q .0 .left) (loop .inv .2) (q .1 .ensures) (q .2 .ensures))
-          (not-false _ (q .3 .left)) (loop .inv .1))
-          (if2 .came),
-      ⊎-elim
-          (λ q. rw (q .3) (ahead-none (a .work .now) _ _ _ (q .0 .taken)))
-          (λ q. rw (q .5) (ahead-more (a .work .now) _ (loop .k) (loop .node) (q .0 .left) (loop .inv .2) _ (q .4 .ensures)))
-          (if2 .came),
+      copies-more (a .work .now) (a .env .now) (a .e) (loop .k) _ _ _ (loop .inv .2) (enter .ensures) (lengths-agree .ensures) (not-false _ (if2 .left)) (loop .inv .1),
+      enter .ensures .goes (a .env .now) (loop .k) (loop .inv .2) .0,
     )
 
-copies-agree-returns-4 : (t : ℕ) → copies-agree-lts.Need-returns-4 (copies-agree-claims t) (copies-agree-at t) copies-agree.Post copies-agree-Inv-loop copies-agree-μ-loop
-copies-agree-returns-4 t c =
+copies-agree-returns-3 : (t : ℕ) → copies-agree-lts.Need-returns-3 (copies-agree-claims t) (copies-agree-at t) copies-agree.Post copies-agree-Inv-loop copies-agree-μ-loop
+copies-agree-returns-3 t c =
     let a = c .before .before .before .before .before .before .before .args in
     let loop = c .before .loop in
-    let e : loop .k ≡ a .c = omega arith in subst (λ (k : ℕ). CopiesAgree (a .work .now) (a .p) (a .u) (a .n) (a .outer) (a .inner) (a .e) k true) e (loop .inv .1)
+    let e : loop .k ≡ a .c = omega arith in subst (λ (k : ℕ). CopiesAgree (a .work .now) (a .env .now) (a .e) k true) e (loop .inv .1)
 
 lengths-agree-word-requires : (t : ℕ) → lengths-agree-lts.Need-word-requires (lengths-agree-claims t) (lengths-agree-at t) lengths-agree.Post
 lengths-agree-word-requires t c κs =
@@ -189,13 +146,13 @@ lengths-agree-returns : (t : ℕ) → lengths-agree-lts.Need-returns (lengths-ag
 lengths-agree-returns t c =
     let a = c .before .before .before .args in
     let word = c .before .word in
-    agree-leaf (a .work .now) (a .p) (a .u) (a .n) (a .outer) (a .inner) (a .t) _ (word .ensures) (λ z. omega arith) (λ z. omega arith)
+    agree-leaf (a .work .now) (a .env .now) (a .t) _ (word .ensures) (λ z. omega arith) (λ z. omega arith)
 
 lengths-agree-returns-2 : (t : ℕ) → lengths-agree-lts.Need-returns-2 (lengths-agree-claims t) (lengths-agree-at t) lengths-agree.Post
 lengths-agree-returns-2 t c =
     let a = c .before .before .before .before .args in
     let word = c .before .before .word in
-    agree-leaf (a .work .now) (a .p) (a .u) (a .n) (a .outer) (a .inner) (a .t) _ (word .ensures) (λ z. omega arith) (λ z. omega arith)
+    agree-leaf (a .work .now) (a .env .now) (a .t) _ (word .ensures) (λ z. omega arith) (λ z. omega arith)
 
 lengths-agree-reference-requires : (t : ℕ) → lengths-agree-lts.Need-reference-requires (lengths-agree-claims t) (lengths-agree-at t) lengths-agree.Post
 lengths-agree-reference-requires t c κs =
@@ -223,7 +180,7 @@ lengths-agree-returns-3 t c =
     let if3 = c .before .before .if3 in
     let lengths-agree = c .before .lengths-agree in
     let if4 = c .if4 in
-    agree-head-no (a .work .now) (a .p) (a .u) (a .n) (a .outer) (a .inner) (a .t) _ (word .ensures) _ _ (reference .ensures) (reference2 .ensures) _ (if3 .taken) (lengths-agree .ensures) (not-true _ (if4 .taken))
+    agree-head-no (a .work .now) (a .env .now) (a .t) _ (word .ensures) _ _ (reference .ensures) (reference2 .ensures) _ (if3 .taken) (lengths-agree .ensures) (not-true _ (if4 .taken))
 
 lengths-agree-lengths-agree-requires-2 : (t : ℕ) → lengths-agree-lts.Need-lengths-agree-requires-2 (lengths-agree-claims t) (lengths-agree-at t) lengths-agree.Post
 lengths-agree-lengths-agree-requires-2 t c κs =
@@ -244,7 +201,7 @@ lengths-agree-returns-4 t c =
     let lengths-agree = c .before .before .lengths-agree in
     let if4 = c .before .if4 in
     let lengths-agree2 = c .lengths-agree2 in
-    agree-tail (a .work .now) (a .p) (a .u) (a .n) (a .outer) (a .inner) (a .t) _ (word .ensures) _ _ (reference .ensures) (reference2 .ensures) _ _ (if3 .taken) (lengths-agree .ensures) (not-false _ (if4 .left)) (lengths-agree2 .ensures)
+    agree-tail (a .work .now) (a .env .now) (a .t) _ (word .ensures) _ _ (reference .ensures) (reference2 .ensures) _ _ (if3 .taken) (lengths-agree .ensures) (not-false _ (if4 .left)) (lengths-agree2 .ensures)
 
 lengths-agree-copies-requires : (t : ℕ) → lengths-agree-lts.Need-copies-requires (lengths-agree-claims t) (lengths-agree-at t) lengths-agree.Post
 lengths-agree-copies-requires t c κs =
@@ -266,7 +223,7 @@ lengths-agree-returns-5 t c =
     let copies = c .before .before .copies in
     let all-of = c .before .all-of in
     let if5 = c .if5 in
-    agree-differ (a .work .now) (a .p) (a .u) (a .n) (a .outer) (a .inner) (a .t) _ (word .ensures) _ _ (reference .ensures) (reference2 .ensures) (omega (arith, if1 .left, if2 .left, if3 .left)) _ (copies .ensures) _ (all-of .ensures) (not-true _ (if5 .taken))
+    agree-differ (a .work .now) (a .env .now) (a .t) _ (word .ensures) _ _ (reference .ensures) (reference2 .ensures) (omega (arith, if1 .left, if2 .left, if3 .left)) _ (copies .ensures) _ (all-of .ensures) (not-true _ (if5 .taken))
 
 lengths-agree-copies-agree-requires : (t : ℕ) → lengths-agree-lts.Need-copies-agree-requires (lengths-agree-claims t) (lengths-agree-at t) lengths-agree.Post
 lengths-agree-copies-agree-requires t c κs =
@@ -291,7 +248,7 @@ lengths-agree-returns-6 t c =
     let if5 = c .before .before .if5 in
     let copies-agree = c .before .copies-agree in
     let if6 = c .if6 in
-    agree-copies-no (a .work .now) (a .p) (a .u) (a .n) (a .outer) (a .inner) (a .t) _ (word .ensures) _ _ (reference .ensures) (reference2 .ensures) (omega (arith, if1 .left, if2 .left, if3 .left)) _ (copies .ensures) _ (all-of .ensures) (not-false _ (if5 .left)) _ (copies-agree .ensures) (not-true _ (if6 .taken))
+    agree-copies-no (a .work .now) (a .env .now) (a .t) _ (word .ensures) _ _ (reference .ensures) (reference2 .ensures) (omega (arith, if1 .left, if2 .left, if3 .left)) _ (copies .ensures) _ (all-of .ensures) (not-false _ (if5 .left)) _ (copies-agree .ensures) (not-true _ (if6 .taken))
 
 lengths-agree-lengths-agree-requires-3 : (t : ℕ) → lengths-agree-lts.Need-lengths-agree-requires-3 (lengths-agree-claims t) (lengths-agree-at t) lengths-agree.Post
 lengths-agree-lengths-agree-requires-3 t c κs =
@@ -317,7 +274,7 @@ lengths-agree-returns-7 t c =
     let copies-agree = c .before .before .copies-agree in
     let if6 = c .before .if6 in
     let lengths-agree3 = c .lengths-agree3 in
-    agree-rest (a .work .now) (a .p) (a .u) (a .n) (a .outer) (a .inner) (a .t) _ (word .ensures) _ _ (reference .ensures) (reference2 .ensures) (omega (arith, if1 .left, if2 .left, if3 .left)) _ (copies .ensures) _ (all-of .ensures) (not-false _ (if5 .left)) _ (copies-agree .ensures) _ (not-false _ (if6 .left)) (lengths-agree3 .ensures)
+    agree-rest (a .work .now) (a .env .now) (a .t) _ (word .ensures) _ _ (reference .ensures) (reference2 .ensures) (omega (arith, if1 .left, if2 .left, if3 .left)) _ (copies .ensures) _ (all-of .ensures) (not-false _ (if5 .left)) _ (copies-agree .ensures) _ (not-false _ (if6 .left)) (lengths-agree3 .ensures)
 
 pub +copies-agree+lengths-agree-spec : {M : Type 1} → statement M
 +copies-agree+lengths-agree-spec =
@@ -328,19 +285,15 @@ pub +copies-agree+lengths-agree-spec : {M : Type 1} → statement M
     copies-agree-μ-loop
     (copies-agree-flat-requires t)
     (copies-agree-returns t)
-    (copies-agree-deepen-requires t)
-    (copies-agree-rooted-requires t)
+    (copies-agree-begin-requires t)
     (copies-agree-loop-holds t)
+    (copies-agree-enter-requires t)
     (copies-agree-lengths-agree-requires t)
     (copies-agree-returns-2 t)
-    (copies-agree-first-requires t)
-    (copies-agree-lengths-agree-requires-2 t)
-    (copies-agree-returns-3 t)
-    (copies-agree-rest-requires t)
     (copies-agree-add-k t)
     (copies-agree-loop-less t)
     (copies-agree-loop-again t)
-    (copies-agree-returns-4 t))
+    (copies-agree-returns-3 t))
     λ t. lengths-agree-lts.spec (lengths-agree-claims t)
     (lengths-agree-at t)
     lengths-agree.Post

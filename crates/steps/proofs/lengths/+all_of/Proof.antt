@@ -9,7 +9,7 @@ use Rattle.arena.proofs.cells.reference.Reads as reference-reads
 use Rattle.arena.proofs.cells.word.Reads as word-reads
 use Rattle.steps.proofs.lengths.deeper.Reads as deeper-reads
 use Rattle.arena.proofs.lists.count.Reads as count-reads
-use Rattle.steps.proofs.parts.taken.Reads as taken-reads
+use Rattle.steps.proofs.environment.taken.Reads as taken-reads
 use Rattle.steps.proofs.lengths.+all_of.{statement}
 use Rattle.steps.proofs.lengths.+all_of.Tie.{close}
 use borrow.Author.Tests.{not-true, not-false}
@@ -20,15 +20,15 @@ use native.Mathlib.Omega.{arith}
 use borrow.Author.Needs.{needs}
 use mathlib.Core.Path.{refl}
 
-abbrev μ-all-of : Measures 1 all-of-kinds.ps ℕ
+abbrev μ-all-of : Measures 2 all-of-kinds.ps ℕ
 μ-all-of κs a =
-    a .1 .1 .1 .1 .1 .1 .1 .0
+    a .1 .1 .1 .0
 
-abbrev all-of-at : ℕ → In 1 all-of-kinds.ps
-all-of-at t = and 1 all-of-kinds.ps (is 1 all-of-kinds.ps μ-all-of t) all-of.Pre
+abbrev all-of-at : ℕ → In 2 all-of-kinds.ps
+all-of-at t = and 2 all-of-kinds.ps (is 2 all-of-kinds.ps μ-all-of t) all-of.Pre
 
-abbrev all-of-below : ℕ → In 1 all-of-kinds.ps
-all-of-below t = and 1 all-of-kinds.ps (falls 1 all-of-kinds.ps _<_ μ-all-of t) all-of.Pre
+abbrev all-of-below : ℕ → In 2 all-of-kinds.ps
+all-of-below t = and 2 all-of-kinds.ps (falls 2 all-of-kinds.ps _<_ μ-all-of t) all-of.Pre
 
 abbrev all-of-claims : ℕ → all-of-lts.Claims
 all-of-claims t = (word-reads.Asked, word-reads.Learnt, taken-reads.Asked, taken-reads.Learnt, count-reads.Asked, count-reads.Learnt, reference-reads.Asked, reference-reads.Learnt, deeper-reads.Asked, deeper-reads.Learnt, all-of-below t, all-of.Post)
@@ -43,7 +43,7 @@ all-of-word-requires-2 t c κs =
 
 all-of-returns : (t : ℕ) → all-of-lts.Need-returns (all-of-claims t) (all-of-at t) all-of.Post
 all-of-returns t c =
-    let a = c .before .before .before .before .before .args in all-few (a .work .now) (a .p) (a .u) (a .n) (a .outer) (a .inner) (a .t) _ (c .before .before .before .word .ensures) (a .j) (a .c) _ (c .before .before .if1 .taken) (c .before .word2 .ensures) (c .if2 .taken)
+    let a = c .before .before .before .before .before .args in all-few (a .work .now) (a .env .now) (a .t) _ (c .before .before .before .word .ensures) (a .j) (a .c) _ (c .before .before .if1 .taken) (c .before .word2 .ensures) (c .if2 .taken)
 
 all-of-word-requires-3 : (t : ℕ) → all-of-lts.Need-word-requires-3 (all-of-claims t) (all-of-at t) all-of.Post
 all-of-word-requires-3 t c κs =
@@ -67,15 +67,15 @@ all-of-count-requires t c κs =
 
 all-of-returns-2 : (t : ℕ) → all-of-lts.Need-returns-2 (all-of-claims t) (all-of-at t) all-of.Post
 all-of-returns-2 t c =
-    let a = c .before .before .before .before .before .before .before .before .args in all-one (a .work .now) (a .p) (a .u) (a .n) (a .outer) (a .inner) (a .t) _ (c .before .before .before .before .before .before .word .ensures) (a .j) (a .c) _ _ _ _ (c .before .before .before .before .before .if1 .taken) (c .before .before .before .before .word2 .ensures) (c .before .before .word3 .ensures) (omega arith) (c .before .taken .ensures) (c .count .ensures)
+    let a = c .before .before .before .before .before .before .before .before .args in all-one (a .work .now) (a .env .now) (a .t) _ (c .before .before .before .before .before .before .word .ensures) (a .j) (a .c) _ _ _ _ (c .before .before .before .before .before .if1 .taken) (c .before .before .before .before .word2 .ensures) (c .before .before .word3 .ensures) (omega arith) (c .before .taken .ensures) (c .count .ensures)
 
 all-of-returns-3 : (t : ℕ) → all-of-lts.Need-returns-3 (all-of-claims t) (all-of-at t) all-of.Post
 all-of-returns-3 t c =
-    let a = c .before .before .before .before .args in all-none (a .work .now) (a .p) (a .u) (a .n) (a .outer) (a .inner) (a .t) _ (c .before .before .word .ensures) (a .j) (a .c) (c .before .if1 .left) (λ z. omega arith) (λ z. omega arith)
+    let a = c .before .before .before .before .args in all-none (a .work .now) (a .env .now) (a .t) _ (c .before .before .word .ensures) (a .j) (a .c) (c .before .if1 .left) (λ z. omega arith) (λ z. omega arith)
 
 all-of-returns-4 : (t : ℕ) → all-of-lts.Need-returns-4 (all-of-claims t) (all-of-at t) all-of.Post
 all-of-returns-4 t c =
-    let a = c .before .before .before .before .before .args in all-none (a .work .now) (a .p) (a .u) (a .n) (a .outer) (a .inner) (a .t) _ (c .before .before .before .word .ensures) (a .j) (a .c) (c .before .before .if1 .left) (λ z. omega arith) (λ z. omega arith)
+    let a = c .before .before .before .before .before .args in all-none (a .work .now) (a .env .now) (a .t) _ (c .before .before .before .word .ensures) (a .j) (a .c) (c .before .before .if1 .left) (λ z. omega arith) (λ z. omega arith)
 
 all-of-reference-requires : (t : ℕ) → all-of-lts.Need-reference-requires (all-of-claims t) (all-of-at t) all-of.Post
 all-of-reference-requires t c κs =
@@ -91,7 +91,7 @@ all-of-all-of-requires t c κs =
 
 all-of-returns-5 : (t : ℕ) → all-of-lts.Need-returns-5 (all-of-claims t) (all-of-at t) all-of.Post
 all-of-returns-5 t c =
-    let a = c .before .before .before .before .before .before .before .before .before .args in all-no (a .work .now) (a .p) (a .u) (a .n) (a .outer) (a .inner) (a .t) _ (c .before .before .before .before .before .before .before .word .ensures) (a .j) _ _ (referenceAt (a .work .now) (a .t) 2) (omega arith) (omega arith) (c .before .before .deeper .ensures) (c .before .before .before .reference .ensures) refl (a .c) _ (c .before .all-of .ensures) (not-true _ (c .if5 .taken))
+    let a = c .before .before .before .before .before .before .before .before .before .args in all-no (a .work .now) (a .env .now) (a .t) _ (c .before .before .before .before .before .before .before .word .ensures) (a .j) _ _ (referenceAt (a .work .now) (a .t) 2) (omega arith) (omega arith) (c .before .before .deeper .ensures) (c .before .before .before .reference .ensures) refl (a .c) _ (c .before .all-of .ensures) (not-true _ (c .if5 .taken))
 
 all-of-reference-requires-2 : (t : ℕ) → all-of-lts.Need-reference-requires-2 (all-of-claims t) (all-of-at t) all-of.Post
 all-of-reference-requires-2 t c κs =
@@ -103,7 +103,7 @@ all-of-all-of-requires-2 t c κs =
 
 all-of-returns-6 : (t : ℕ) → all-of-lts.Need-returns-6 (all-of-claims t) (all-of-at t) all-of.Post
 all-of-returns-6 t c =
-    let a = c .before .before .before .before .before .before .before .before .before .before .before .args in all-rest (a .work .now) (a .p) (a .u) (a .n) (a .outer) (a .inner) (a .t) _ (c .before .before .before .before .before .before .before .before .before .word .ensures) (a .j) _ _ _ (omega arith) (omega arith) (c .before .before .before .before .deeper .ensures) (c .before .before .before .before .before .reference .ensures) (c .before .reference2 .ensures) (a .c) _ _ (c .before .before .before .all-of .ensures) (not-false _ (c .before .before .if5 .left)) (c .all-of2 .ensures)
+    let a = c .before .before .before .before .before .before .before .before .before .before .before .args in all-rest (a .work .now) (a .env .now) (a .t) _ (c .before .before .before .before .before .before .before .before .before .word .ensures) (a .j) _ _ _ (omega arith) (omega arith) (c .before .before .before .before .deeper .ensures) (c .before .before .before .before .before .reference .ensures) (c .before .reference2 .ensures) (a .c) _ _ (c .before .before .before .all-of .ensures) (not-false _ (c .before .before .if5 .left)) (c .all-of2 .ensures)
 
 pub +all-of-spec : {M : Type 1} → statement M
 +all-of-spec = close μ-all-of λ t. all-of-lts.spec (all-of-claims t) (all-of-at t)

@@ -9,26 +9,26 @@ use Rattle.arena.proofs.cells.reference.Reads as reference-reads
 use Rattle.arena.proofs.cells.word.Reads as word-reads
 use Rattle.steps.proofs.lengths.deeper.Reads as deeper-reads
 use Rattle.arena.proofs.lists.count.Reads as count-reads
-use Rattle.steps.proofs.parts.taken.Reads as taken-reads
+use Rattle.steps.proofs.environment.taken.Reads as taken-reads
 use Rattle.steps.proofs.lengths.+driver.{statement}
 use Rattle.steps.proofs.lengths.+driver.Tie.{close}
 use Rattle.steps.specs.PartLaws.{tag-falls}
-use Rattle.steps.specs.Lengths.{deeper, Drives}
+use Rattle.steps.specs.Lengths.{Drives}
 use Rattle.steps.specs.LengthLaws.{deeper-most, drives-none, drives-few, drives-one, drives-first, drives-rest}
 use Rattle.arena.specs.Arena.{referenceAt}
 use native.Mathlib.Omega.{arith}
 use borrow.Author.Needs.{needs}
 use mathlib.Core.Path.{refl, subst}
 
-abbrev μ-driver : Measures 1 driver-kinds.ps ℕ
+abbrev μ-driver : Measures 2 driver-kinds.ps ℕ
 μ-driver κs a =
-    a .1 .1 .1 .1 .1 .1 .1 .0
+    a .1 .1 .1 .0
 
-abbrev driver-at : ℕ → In 1 driver-kinds.ps
-driver-at t = and 1 driver-kinds.ps (is 1 driver-kinds.ps μ-driver t) driver.Pre
+abbrev driver-at : ℕ → In 2 driver-kinds.ps
+driver-at t = and 2 driver-kinds.ps (is 2 driver-kinds.ps μ-driver t) driver.Pre
 
-abbrev driver-below : ℕ → In 1 driver-kinds.ps
-driver-below t = and 1 driver-kinds.ps (falls 1 driver-kinds.ps _<_ μ-driver t) driver.Pre
+abbrev driver-below : ℕ → In 2 driver-kinds.ps
+driver-below t = and 2 driver-kinds.ps (falls 2 driver-kinds.ps _<_ μ-driver t) driver.Pre
 
 abbrev driver-claims : ℕ → driver-lts.Claims
 driver-claims t = (word-reads.Asked, word-reads.Learnt, taken-reads.Asked, taken-reads.Learnt, count-reads.Asked, count-reads.Learnt, reference-reads.Asked, reference-reads.Learnt, deeper-reads.Asked, deeper-reads.Learnt, driver-below t, driver.Post)
@@ -43,7 +43,7 @@ driver-word-requires-2 t c κs =
 
 driver-returns : (t : ℕ) → driver-lts.Need-returns (driver-claims t) (driver-at t) driver.Post
 driver-returns t c =
-    let a = c .before .before .before .before .before .args in drives-few (a .work .now) (a .p) (a .u) (a .n) (a .outer) (a .inner) (a .t) _ (c .before .before .before .word .ensures) (a .j) _ (c .before .before .if1 .taken) (c .before .word2 .ensures) (c .if2 .taken)
+    let a = c .before .before .before .before .before .args in drives-few (a .work .now) (a .env .now) (a .t) _ (c .before .before .before .word .ensures) (a .j) _ (c .before .before .if1 .taken) (c .before .word2 .ensures) (c .if2 .taken)
 
 driver-word-requires-3 : (t : ℕ) → driver-lts.Need-word-requires-3 (driver-claims t) (driver-at t) driver.Post
 driver-word-requires-3 t c κs =
@@ -67,15 +67,15 @@ driver-count-requires t c κs =
 
 driver-returns-2 : (t : ℕ) → driver-lts.Need-returns-2 (driver-claims t) (driver-at t) driver.Post
 driver-returns-2 t c =
-    let a = c .before .before .before .before .before .before .before .before .args in drives-one (a .work .now) (a .p) (a .u) (a .n) (a .outer) (a .inner) (a .t) _ (c .before .before .before .before .before .before .word .ensures) (a .j) _ _ _ _ (c .before .before .before .before .before .if1 .taken) (c .before .before .before .before .word2 .ensures) (c .before .before .word3 .ensures) (omega arith) (c .before .taken .ensures) (c .count .ensures)
+    let a = c .before .before .before .before .before .before .before .before .args in drives-one (a .work .now) (a .env .now) (a .t) _ (c .before .before .before .before .before .before .word .ensures) (a .j) _ _ _ _ (c .before .before .before .before .before .if1 .taken) (c .before .before .before .before .word2 .ensures) (c .before .before .word3 .ensures) (omega arith) (c .before .taken .ensures) (c .count .ensures)
 
 driver-returns-3 : (t : ℕ) → driver-lts.Need-returns-3 (driver-claims t) (driver-at t) driver.Post
 driver-returns-3 t c =
-    let a = c .before .before .before .before .args in drives-none (a .work .now) (a .p) (a .u) (a .n) (a .outer) (a .inner) (a .t) _ (c .before .before .word .ensures) (a .j) (c .before .if1 .left) (λ z. omega arith) (λ z. omega arith)
+    let a = c .before .before .before .before .args in drives-none (a .work .now) (a .env .now) (a .t) _ (c .before .before .word .ensures) (a .j) (c .before .if1 .left) (λ z. omega arith) (λ z. omega arith)
 
 driver-returns-4 : (t : ℕ) → driver-lts.Need-returns-4 (driver-claims t) (driver-at t) driver.Post
 driver-returns-4 t c =
-    let a = c .before .before .before .before .before .args in drives-none (a .work .now) (a .p) (a .u) (a .n) (a .outer) (a .inner) (a .t) _ (c .before .before .before .word .ensures) (a .j) (c .before .before .if1 .left) (λ z. omega arith) (λ z. omega arith)
+    let a = c .before .before .before .before .before .args in drives-none (a .work .now) (a .env .now) (a .t) _ (c .before .before .before .word .ensures) (a .j) (c .before .before .if1 .left) (λ z. omega arith) (λ z. omega arith)
 
 driver-reference-requires : (t : ℕ) → driver-lts.Need-reference-requires (driver-claims t) (driver-at t) driver.Post
 driver-reference-requires t c κs =
@@ -95,7 +95,7 @@ driver-enum-known-c t c =
 
 driver-returns-5 : (t : ℕ) → driver-lts.Need-returns-5 (driver-claims t) (driver-at t) driver.Post
 driver-returns-5 t c =
-    let a = c .before .before .before .before .before .before .before .before .before .before .before .args in drives-first (a .work .now) (a .p) (a .u) (a .n) (a .outer) (a .inner) (a .t) _ (c .before .before .before .before .before .before .before .before .before .word .ensures) (a .j) _ _ (referenceAt (a .work .now) (a .t) 2) (omega arith) (omega arith) (c .before .before .before .before .deeper .ensures) (c .before .before .before .before .before .reference .ensures) refl _ (subst (λ r. Drives (a .work .now) (a .p) (a .u) (a .n) (a .outer) (a .inner) (c .before .before .before .before .deeper .result) (c .before .before .before .before .before .reference .result) r) (c .before .c .given .1) (c .before .before .before .driver .ensures))
+    let a = c .before .before .before .before .before .before .before .before .before .before .before .args in drives-first (a .work .now) (a .env .now) (a .t) _ (c .before .before .before .before .before .before .before .before .before .word .ensures) (a .j) _ _ (referenceAt (a .work .now) (a .t) 2) (omega arith) (omega arith) (c .before .before .before .before .deeper .ensures) (c .before .before .before .before .before .reference .ensures) refl _ (subst (λ r. Drives (a .work .now) (a .env .now) (c .before .before .before .before .deeper .result) (c .before .before .before .before .before .reference .result) r) (c .before .c .given .1) (c .before .before .before .driver .ensures))
 
 driver-enum-told : (t : ℕ) → driver-lts.Need-enum-told (driver-claims t) (driver-at t) driver.Post
 driver-enum-told t c =
@@ -111,7 +111,7 @@ driver-driver-requires-2 t c κs =
 
 driver-returns-6 : (t : ℕ) → driver-lts.Need-returns-6 (driver-claims t) (driver-at t) driver.Post
 driver-returns-6 t c =
-    let a = c .before .before .before .before .before .before .before .before .before .before .before .before .args in drives-rest (a .work .now) (a .p) (a .u) (a .n) (a .outer) (a .inner) (a .t) _ (c .before .before .before .before .before .before .before .before .before .before .word .ensures) (a .j) _ _ _ (omega arith) (omega arith) (c .before .before .before .before .before .deeper .ensures) (c .before .before .before .before .before .before .reference .ensures) (c .before .reference2 .ensures) _ (subst (λ r. Drives (a .work .now) (a .p) (a .u) (a .n) (a .outer) (a .inner) (c .before .before .before .before .before .deeper .result) (c .before .before .before .before .before .before .reference .result) r) (c .before .before .enum-told .given .1) (c .before .before .before .before .driver .ensures)) (c .driver2 .ensures)
+    let a = c .before .before .before .before .before .before .before .before .before .before .before .before .args in drives-rest (a .work .now) (a .env .now) (a .t) _ (c .before .before .before .before .before .before .before .before .before .before .word .ensures) (a .j) _ _ _ (omega arith) (omega arith) (c .before .before .before .before .before .deeper .ensures) (c .before .before .before .before .before .before .reference .ensures) (c .before .reference2 .ensures) _ (subst (λ r. Drives (a .work .now) (a .env .now) (c .before .before .before .before .before .deeper .result) (c .before .before .before .before .before .before .reference .result) r) (c .before .before .enum-told .given .1) (c .before .before .before .before .driver .ensures)) (c .driver2 .ensures)
 
 pub +driver-spec : {M : Type 1} → statement M
 +driver-spec = close μ-driver λ t. driver-lts.spec (driver-claims t) (driver-at t)

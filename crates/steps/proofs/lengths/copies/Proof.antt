@@ -18,11 +18,11 @@ enum-told c =
 
 returns : tie.Need-returns
 returns c =
-    let a = c .before .before .before .before .before .args in copies-some (a .work .now) (a .p) (a .u) (a .n) (a .outer) (a .inner) (a .e) _ _ (c .before .c .given .1) (c .before .before .before .driver .ensures)
+    let a = c .before .before .before .before .before .args in copies-some (a .work .now) (a .env .now) (a .e) _ _ (c .before .c .given .1) (c .before .before .before .driver .ensures)
 
 returns-2 : tie.Need-returns-2
 returns-2 c =
-    let a = c .before .before .before .before .args in copies-none (a .work .now) (a .p) (a .u) (a .n) (a .outer) (a .inner) (a .e) _ (c .enum-told .given .1) (c .before .before .driver .ensures)
+    let a = c .before .before .before .before .args in copies-none (a .work .now) (a .env .now) (a .e) _ (c .enum-told .given .1) (c .before .before .driver .ensures)
 
 pub copies-spec : {M : Type 1} → statement M
 copies-spec = tie.close (tie.spec driver-requires enum-known-c enum-told returns returns-2)
