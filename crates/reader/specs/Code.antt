@@ -5,6 +5,8 @@ pub mod Told
 pub mod ToldLaws
 pub mod Answered
 pub mod AnsweredLaws
+pub mod Index
+pub mod IndexLaws
 pub mod Stored
 pub mod StoredLaws
 pub mod Placed

@@ -5,8 +5,9 @@ ghost use lib.ListN.{length};
 ghost use Rattle.words.specs.Limits.{itemsMost, nameLengthMost};
 ghost use Rattle.reader.specs.Code.Placed.{Sound, NamesSound, NamePut};
 ghost use Rattle.reader.specs.Code.Moved.{movedBy, finishOf, Advanced};
+use crate::names::bucket_of;
+use crate::names::enter;
 use crate::names::find;
-use crate::names::store;
 use crate::place::Place;
 use crate::place::Step;
 use crate::place::close_list;
@@ -27,20 +28,27 @@ pub enum Move {
 }
 
 // A name, by the number it has or the next one.
-pub fn put_name(items: &mut [u32], names: &mut [u8], place: Place, word: &[u8]) -> Step
+pub fn put_name(
+    items: &mut [u32],
+    names: &mut [u8],
+    index: &mut [u16],
+    place: Place,
+    word: &[u8],
+) -> Step
     requires { ⌜ Sound place (length (now items)) ⌝ }
-    requires { ⌜ NamesSound place (now names) ⌝ }
+    requires { ⌜ NamesSound place (now names) (now index) ⌝ }
     requires { ⌜ length (now word) ≤ nameLengthMost ⌝ }
-    ensures { λ s. ⌜ NamePut place (now (word .entry)) (now (items .entry)) (now (items .exit)) (now (names .entry)) (now (names .exit)) s ⌝ }
+    ensures { λ s. ⌜ NamePut place (now (word .entry)) (now (items .entry)) (now (items .exit)) (now (names .entry)) (now (names .exit)) (now (index .exit)) s ⌝ }
 {
-    let number = find(names, place.known, word);
+    let bucket = bucket_of(word);
+    let number = find(names, index, place.known, word, bucket);
     if number < place.known {
         return put_token(items, place, 3, number as u32, place.known);
     }
     if number == words::NAMES {
         return Step::Refused(ground_at(place, number + 1, place.depth));
     }
-    store(names, number, word);
+    enter(names, index, number, word, bucket);
     put_token(items, place, 3, number as u32, number + 1)
 }
 
@@ -72,11 +80,12 @@ pub fn advance(
     place: Place,
     items: &mut [u32],
     names: &mut [u8],
+    index: &mut [u16],
 ) -> Move
     requires { ⌜ cursor .at ≤ length (now text) ⌝ }
     requires { ⌜ Sound place (length (now items)) ⌝ }
-    requires { ⌜ NamesSound place (now names) ⌝ }
-    ensures { λ m. ⌜ Advanced (now (text .entry)) (cursor .at) place (now (items .entry)) (now (items .exit)) (now (names .entry)) (now (names .exit)) m ⌝ }
+    requires { ⌜ NamesSound place (now names) (now index) ⌝ }
+    ensures { λ m. ⌜ Advanced (now (text .entry)) (cursor .at) place (now (items .entry)) (now (items .exit)) (now (names .entry)) (now (names .exit)) (now (index .entry)) (now (index .exit)) m ⌝ }
 {
     match token_at(text, cursor) {
         Token::End => finish(place),
@@ -87,7 +96,7 @@ pub fn advance(
         Token::Integer(z, next) => moved(put_token(items, place, 1, to_word(z), place.known), next),
         Token::Name(from, next) => {
             let to = next.at;
-            moved(put_name(items, names, place, &text[from..to]), next)
+            moved(put_name(items, names, index, place, &text[from..to]), next)
         }
     }
 }

@@ -4,12 +4,14 @@ ghost use Prim.Native.Nat.{_≤_};
 ghost use lib.ListN.{length, replicate};
 ghost use Rattle.words.specs.Limits.{itemWordsLeast, nameBytesLeast};
 ghost use Rattle.reading.specs.Numbering.{baseNames};
+ghost use Rattle.reader.specs.Code.Index.{indexSize};
 ghost use Rattle.reader.specs.Code.Stored.{NameTable};
 ghost use Rattle.reader.specs.Code.Reached.{Ended};
 ghost use Rattle.reader.specs.Served.{Served};
 use crate::element::Move;
 use crate::element::advance;
-use crate::names::store_base;
+use crate::names::ENTRIES;
+use crate::names::enter_base;
 use crate::place::Place;
 use crate::token::Cursor;
 use words::tables::zero_bytes;
@@ -29,10 +31,10 @@ pub enum Reading {
     Refused(u32),
 }
 
-// All tokens, into items that are zero and names that are the eight.
-fn read_text(text: &[u8], items: &mut [u32], names: &mut [u8]) -> Reading
+// All tokens, into items that are zero and names that are the eight, with their index.
+fn read_text(text: &[u8], items: &mut [u32], names: &mut [u8], index: &mut [u16]) -> Reading
     requires { ⌜ (itemWordsLeast ≤ length (now items)) × (now items ≡ replicate (length (now items)) 0) ⌝ }
-    requires { ⌜ NameTable baseNames (now names) ⌝ }
+    requires { ⌜ NameTable baseNames (now names) (now index) ⌝ }
     ensures { λ r. ⌜ Ended (now (text .entry)) (now (items .exit)) (now (names .exit)) r ⌝ }
 {
     let mut cursor = Cursor { at: 0 };
@@ -45,7 +47,7 @@ fn read_text(text: &[u8], items: &mut [u32], names: &mut [u8]) -> Reading
         known: 8,
     };
     loop {
-        match advance(text, cursor, place, items, names) {
+        match advance(text, cursor, place, items, names, index) {
             Move::On(p, c) => {
                 place = p;
                 cursor = c;
@@ -68,13 +70,13 @@ fn clear(items: &mut [u32], names: &mut [u8])
     zero_bytes(names);
 }
 
-// Both tables before the first token: zeros, and names 0 to 7.
-fn begin(items: &mut [u32], names: &mut [u8])
-    requires { ⌜ nameBytesLeast ≤ length (now names) ⌝ }
-    ensures { λ _. ⌜ (now (items .exit) ≡ replicate (length (now (items .exit))) 0) × NameTable baseNames (now (names .exit)) ⌝ }
+// Both tables before the first token, and the index of names: zeros, and names 0 to 7.
+fn begin(items: &mut [u32], names: &mut [u8], index: &mut [u16])
+    requires { ⌜ (nameBytesLeast ≤ length (now names)) × (now index ≡ replicate indexSize 0) ⌝ }
+    ensures { λ _. ⌜ (now (items .exit) ≡ replicate (length (now (items .exit))) 0) × NameTable baseNames (now (names .exit)) (now (index .exit)) ⌝ }
 {
     clear(items, names);
-    store_base(names);
+    enter_base(names, index);
 }
 
 // Reads a text into an item table and a name table.
@@ -90,8 +92,9 @@ pub fn read(text: &[u8], items: &mut [u32], names: &mut [u8]) -> Reading
     if words::TEXT_BYTES < text.len() {
         return Reading::Refused(2);
     }
-    begin(items, names);
-    match read_text(text, items, names) {
+    let mut index = [0u16; ENTRIES];
+    begin(items, names, &mut index);
+    match read_text(text, items, names, &mut index) {
         Reading::Read { items: i, names: n } => Reading::Read { items: i, names: n },
         Reading::Refused(ground) => {
             clear(items, names);

@@ -1,13 +1,20 @@
-// The name table: names found and stored.
+// The name table and its index: names found and entered.
 ghost use mathlib.Core.Path.{_≡_};
 ghost use mathlib.Core.List.{[]};
 ghost use Prim.Native.Nat.{ℕ, _+_, _*_, _≤_, _<_};
-ghost use lib.ListN.{length};
-ghost use Rattle.words.specs.Limits.{nameBytesLeast, nameLengthMost, slotSize, baseNameCount};
+ghost use lib.ListN.{length, getD, take};
+ghost use Rattle.words.specs.Limits.{nameBytesLeast, nameLengthMost, namesMost, slotSize};
 ghost use Rattle.words.specs.Lists.{equal};
 ghost use Rattle.datum.specs.NameTable.{lengthAt, nameAt};
 ghost use Rattle.reading.specs.Numbering.{numberOf, baseNames};
-ghost use Rattle.reader.specs.Code.Stored.{stored, namesIn, NameTable, FourStored};
+ghost use Rattle.reader.specs.Code.Index.{bucketCount, indexSize, bucketOf, Indexed, linked};
+ghost use Rattle.reader.specs.Code.Stored.{stored, namesIn, NameTable, Entered};
+
+// Buckets of the index.
+const BUCKETS: usize = 256;
+
+// Entries of the index, one for each bucket and each name.
+pub const ENTRIES: usize = BUCKETS + words::NAMES;
 
 fn wide(b: u8) -> usize
     ensures { λ r. ⌜ r ≡ b ⌝ }
@@ -34,19 +41,42 @@ pub fn spells(names: &[u8], number: usize, word: &[u8]) -> bool
     true
 }
 
-// The number of the word among the first names, or the next number.
-pub fn find(names: &[u8], known: usize, word: &[u8]) -> usize
+// The bucket of a word.
+pub fn bucket_of(word: &[u8]) -> usize
+    ensures { λ r. ⌜ r ≡ bucketOf (now (word .entry)) ⌝ }
+{
+    let mut bucket = 0;
+    let mut i = 0;
+    while i < word.len() {
+        bucket = (9 * bucket + wide(word[i])) % BUCKETS;
+        i += 1;
+    }
+    bucket
+}
+
+fn entry_at(index: &[u16], at: usize) -> usize
+    requires { ⌜ at < length (now index) ⌝ }
+    ensures { λ r. ⌜ r ≡ getD (now (index .entry)) at 0 ⌝ }
+{
+    index[at] as usize
+}
+
+// The number of the word among the first names, or the next number: along its bucket, from the latest name.
+pub fn find(names: &[u8], index: &[u16], known: usize, word: &[u8], bucket: usize) -> usize
     requires { ⌜ (slotSize * known ≤ length (now names)) × ((n : ℕ) → n < known → lengthAt (now names) n ≤ nameLengthMost) ⌝ }
+    requires { ⌜ Indexed (namesIn (now names) 0 known) (now index) × (known ≤ namesMost) ⌝ }
+    requires { ⌜ bucket ≡ bucketOf (now word) ⌝ }
     ensures { λ r. ⌜ r ≡ numberOf (now (word .entry)) (namesIn (now (names .entry)) 0 known) ⌝ }
 {
-    let mut n = 0;
-    while n < known {
+    let mut entry = entry_at(index, bucket);
+    while entry != 0 {
+        let n = entry - 1;
         if spells(names, n, word) {
             return n;
         }
-        n += 1;
+        entry = entry_at(index, BUCKETS + n);
     }
-    n
+    known
 }
 
 // The word in a slot, over zeros.
@@ -63,23 +93,52 @@ pub fn store(names: &mut [u8], number: usize, word: &[u8])
     }
 }
 
-// Four words in the slots from a number on.
-fn store_four(names: &mut [u8], number: usize, a: &[u8], b: &[u8], c: &[u8], d: &[u8])
-    requires { ⌜ (number < baseNameCount) × (nameBytesLeast ≤ length (now names)) ⌝ }
-    requires { ⌜ (length (now a) ≤ nameLengthMost) × (length (now b) ≤ nameLengthMost) × (length (now c) ≤ nameLengthMost) × (length (now d) ≤ nameLengthMost) ⌝ }
-    ensures { λ _. ⌜ FourStored (now (names .entry)) (now (names .exit)) number (now (a .entry)) (now (b .entry)) (now (c .entry)) (now (d .entry)) ⌝ }
+// A name more: its word in its slot, and its number in the index.
+pub fn enter(names: &mut [u8], index: &mut [u16], number: usize, word: &[u8], bucket: usize)
+    requires { ⌜ (slotSize * number + slotSize ≤ length (now names)) × (length (now word) ≤ nameLengthMost) ⌝ }
+    requires { ⌜ (length (now index) ≡ indexSize) × (number < namesMost) × (bucket < bucketCount) ⌝ }
+    ensures { λ _. ⌜ (now (names .exit) ≡ stored (now (names .entry)) number (now (word .entry))) × (now (index .exit) ≡ linked (now (index .entry)) number bucket) ⌝ }
 {
-    store(names, number, a);
-    store(names, number + 1, b);
-    store(names, number + 2, c);
-    store(names, number + 3, d);
+    store(names, number, word);
+    index[BUCKETS + number] = index[bucket];
+    index[bucket] = (number + 1) as u16;
 }
 
-// Names 0 to 7, in a table of zeros.
-pub fn store_base(names: &mut [u8])
-    requires { ⌜ NameTable [] (now names) ⌝ }
-    ensures { λ _. ⌜ NameTable baseNames (now (names .exit)) ⌝ }
+// A fixed name more.
+fn enter_fixed(names: &mut [u8], index: &mut [u16], number: usize, word: &[u8])
+    requires { ⌜ (number < namesMost) × (nameBytesLeast ≤ length (now names)) × (length (now index) ≡ indexSize) × (length (now word) ≤ nameLengthMost) ⌝ }
+    ensures { λ _. ⌜ Entered (now (names .entry)) (now (names .exit)) (now (index .entry)) (now (index .exit)) number (now (word .entry)) ⌝ }
 {
-    store_four(names, 0, b"quote", b"if", b"lambda", b"let-syntax");
-    store_four(names, 4, b"letrec-syntax", b"syntax-rules", b"...", b"_");
+    enter(names, index, number, word, bucket_of(word));
+}
+
+// Names 0 to 3, in tables of zeros.
+fn enter_first(names: &mut [u8], index: &mut [u16])
+    requires { ⌜ NameTable [] (now names) (now index) ⌝ }
+    ensures { λ _. ⌜ NameTable (take 4 baseNames) (now (names .exit)) (now (index .exit)) ⌝ }
+{
+    enter_fixed(names, index, 0, b"quote");
+    enter_fixed(names, index, 1, b"if");
+    enter_fixed(names, index, 2, b"lambda");
+    enter_fixed(names, index, 3, b"let-syntax");
+}
+
+// Names 4 to 7, after those.
+fn enter_others(names: &mut [u8], index: &mut [u16])
+    requires { ⌜ NameTable (take 4 baseNames) (now names) (now index) ⌝ }
+    ensures { λ _. ⌜ NameTable baseNames (now (names .exit)) (now (index .exit)) ⌝ }
+{
+    enter_fixed(names, index, 4, b"letrec-syntax");
+    enter_fixed(names, index, 5, b"syntax-rules");
+    enter_fixed(names, index, 6, b"...");
+    enter_fixed(names, index, 7, b"_");
+}
+
+// Names 0 to 7, in tables of zeros.
+pub fn enter_base(names: &mut [u8], index: &mut [u16])
+    requires { ⌜ NameTable [] (now names) (now index) ⌝ }
+    ensures { λ _. ⌜ NameTable baseNames (now (names .exit)) (now (index .exit)) ⌝ }
+{
+    enter_first(names, index);
+    enter_others(names, index);
 }

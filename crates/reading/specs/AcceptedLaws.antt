@@ -77,7 +77,7 @@ module _ (cs : List ℕ) where
       either (equal cs x) (λ e. absurd (omega (arith, rw e at h)))
       (λ e. let k : length xs ≤ numberOf cs xs = omega (arith, rw e at h) in rw e (ap suc (number-new xs k)))
 
-own-more : (cs : List ℕ) (names : List (List ℕ)) → Own names → length names ≤ numberOf cs names → Own (names ++ (cs ∷ []))
+pub own-more : (cs : List ℕ) (names : List (List ℕ)) → Own names → length names ≤ numberOf cs names → Own (names ++ (cs ∷ []))
 unfolding Own
 own-more cs names o h n l =
     either (ltb n (length names))

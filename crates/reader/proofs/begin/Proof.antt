@@ -7,12 +7,12 @@ clear-requires : tie.Need-clear-requires
 clear-requires c κs =
     search needs
 
-store-base-requires : tie.Need-store-base-requires
-store-base-requires c κs =
-    let args = c .before .before .before .before .before .before .before .before .before .before .args in
-    let clear = c .before .before .before .before .before .clear in
-    let pre = c .before .before .before .before .before .before .before .before .before .before .pre in
-    zeroed-names (args .names .now) (clear .last .1 .0) (pre) (clear .kept .1 .0) (clear .ensures .1)
+enter-base-requires : tie.Need-enter-base-requires
+enter-base-requires c κs =
+    let args = c .before .before .before .before .before .before .before .before .before .before .before .before .args in
+    let clear = c .before .before .before .before .before .before .clear in
+    let pre = c .before .before .before .before .before .before .before .before .before .before .before .before .pre in
+    zeroed-names (args .names .now) (clear .last .1 .0) (args .index .now) (pre .0) (clear .kept .1 .0) (clear .ensures .1) (pre .1)
 
 same-length : tie.Need-same-length
 same-length c =
@@ -22,13 +22,18 @@ same-length-2 : tie.Need-same-length-2
 same-length-2 c =
     search needs
 
+same-length-3 : tie.Need-same-length-3
+same-length-3 c =
+    search needs
+
 returns : tie.Need-returns
 returns c =
-    let args = c .before .before .before .before .before .before .before .before .before .before .before .before .before .args in
-    let clear = c .before .before .before .before .before .before .before .before .clear in
-    let store-base = c .before .before .store-base in
-    (zeroed (args .items .now) (clear .last .0) (clear .kept .0) (clear .ensures .0), store-base .ensures)
+    let args = c .before .before .before .before .before .before .before .before .before .before .before .before .before .before .before .before .before .args in
+    let clear = c .before .before .before .before .before .before .before .before .before .before .before .clear in
+    let enter-base = c .before .before .before .before .enter-base in
+    (zeroed (args .items .now) (clear .last .0) (clear .kept .0) (clear .ensures .0), enter-base .ensures)
 
 pub begin-spec : {M : Type 1} → statement M
 begin-spec =
-    tie.close (tie.spec clear-requires store-base-requires same-length same-length-2 returns)
+    tie.close
+    (tie.spec clear-requires enter-base-requires same-length same-length-2 same-length-3 returns)

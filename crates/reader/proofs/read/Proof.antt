@@ -23,8 +23,16 @@ returns-3 c =
     let if1 = c .before .before .if1 in
     served-long (args .text .now) (args .items .now) (args .names .now) (if1 .left) (c .before .if2 .left) (c .if3 .taken)
 
+slice-aggregate-begin : tie.Need-slice-aggregate-begin
+slice-aggregate-begin c =
+    search needs
+
 begin-requires : tie.Need-begin-requires
 begin-requires c κs =
+    search needs
+
+slice-aggregate-read-text : tie.Need-slice-aggregate-read-text
+slice-aggregate-read-text c =
     search needs
 
 read-text-requires : tie.Need-read-text-requires
@@ -53,13 +61,13 @@ same-length-2 c =
 
 returns-4 : tie.Need-returns-4
 returns-4 c =
-    let args = c .before .before .before .before .before .before .before .before .before .before .before .before .before .before .before .before .before .before .before .before .before .before .before .args in
-    let if1 = c .before .before .before .before .before .before .before .before .before .before .before .before .before .before .before .before .before .before .before .if1 in
-    let if2 = c .before .before .before .before .before .before .before .before .before .before .before .before .before .before .before .before .before .before .if2 in
-    let if3 = c .before .before .before .before .before .before .before .before .before .before .before .before .before .before .before .before .before .if3 in
-    let read-text = c .before .before .before .before .before .before .before .read-text in
+    let args = c .before .before .before .before .before .before .before .before .before .before .before .before .before .before .before .before .before .before .before .before .before .before .before .before .before .before .before .args in
+    let if1 = c .before .before .before .before .before .before .before .before .before .before .before .before .before .before .before .before .before .before .before .before .before .before .before .if1 in
+    let if2 = c .before .before .before .before .before .before .before .before .before .before .before .before .before .before .before .before .before .before .before .before .before .before .if2 in
+    let if3 = c .before .before .before .before .before .before .before .before .before .before .before .before .before .before .before .before .before .before .before .before .before .if3 in
+    let read-text = c .before .before .before .before .before .before .before .before .read-text in
     let i = c .before .i in
-    let begin = c .before .before .before .before .before .before .before .before .before .before .before .before .before .before .begin in
+    let begin = c .before .before .before .before .before .before .before .before .before .before .before .before .before .before .before .before .before .begin in
     served-read (args .text .now) (args .items .now) (args .names .now) (if1 .left) (if2 .left) (if3 .left)
     (read-text .last .1 .0) (read-text .last .1 .1 .0) (i .given .0 .0) (i .given .0 .1 .0)
     (subst (Ended (args .text .now) (read-text .last .1 .0) (read-text .last .1 .1 .0)) (i .given .1) (read-text .ensures))
@@ -75,14 +83,14 @@ same-length-4 c =
 
 returns-5 : tie.Need-returns-5
 returns-5 c =
-    let args = c .before .before .before .before .before .before .before .before .before .before .before .before .before .before .before .before .before .before .before .before .before .before .before .before .before .before .before .before .before .before .args in
-    let if1 = c .before .before .before .before .before .before .before .before .before .before .before .before .before .before .before .before .before .before .before .before .before .before .before .before .before .before .if1 in
-    let if2 = c .before .before .before .before .before .before .before .before .before .before .before .before .before .before .before .before .before .before .before .before .before .before .before .before .before .if2 in
-    let if3 = c .before .before .before .before .before .before .before .before .before .before .before .before .before .before .before .before .before .before .before .before .before .before .before .before .if3 in
+    let args = c .before .before .before .before .before .before .before .before .before .before .before .before .before .before .before .before .before .before .before .before .before .before .before .before .before .before .before .before .before .before .before .before .before .before .args in
+    let if1 = c .before .before .before .before .before .before .before .before .before .before .before .before .before .before .before .before .before .before .before .before .before .before .before .before .before .before .before .before .before .before .if1 in
+    let if2 = c .before .before .before .before .before .before .before .before .before .before .before .before .before .before .before .before .before .before .before .before .before .before .before .before .before .before .before .before .before .if2 in
+    let if3 = c .before .before .before .before .before .before .before .before .before .before .before .before .before .before .before .before .before .before .before .before .before .before .before .before .before .before .before .before .if3 in
     let clear = c .before .before .before .before .clear in
     let ground = c .before .before .before .before .before .before .before .before .ground in
-    let read-text = c .before .before .before .before .before .before .before .before .before .before .before .before .before .before .read-text in
-    let begin = c .before .before .before .before .before .before .before .before .before .before .before .before .before .before .before .before .before .before .before .before .before .begin in
+    let read-text = c .before .before .before .before .before .before .before .before .before .before .before .before .before .before .before .read-text in
+    let begin = c .before .before .before .before .before .before .before .before .before .before .before .before .before .before .before .before .before .before .before .before .before .before .before .before .begin in
     served-refused (args .text .now) (args .items .now) (args .names .now) (if1 .left) (if2 .left) (if3 .left) (clear .last .0)
     (clear .last .1 .0) (ground .given .0 .0)
     (subst (Ended (args .text .now) (read-text .last .1 .0) (read-text .last .1 .1 .0)) (ground .given .1) (read-text .ensures))
@@ -96,7 +104,9 @@ read-spec =
     returns
     returns-2
     returns-3
+    slice-aggregate-begin
     begin-requires
+    slice-aggregate-read-text
     read-text-requires
     enum-known-i
     enum-known-ground

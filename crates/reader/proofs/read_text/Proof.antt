@@ -12,28 +12,28 @@ use Rattle.reader.specs.Code.ServedLaws.{reached-first, reached-on, reac
 use borrow.Author.Needs.{needs}
 
 abbrev Inv-loop : tie.InvT-loop
-Inv-loop text items₀ names₀ cursor₀ place₀ items names cursor place =
-    (length items ≡ length items₀) × (length names ≡ length names₀) × Reached text items names place cursor
+Inv-loop text items₀ names₀ index₀ cursor₀ place₀ items names index cursor place =
+    (length items ≡ length items₀) × (length names ≡ length names₀) × (length index ≡ length index₀) × Reached text items names index place cursor
 
 abbrev μ-loop : tie.MeasureT-loop
-μ-loop text items₀ names₀ cursor₀ place₀ items names cursor place =
+μ-loop text items₀ names₀ index₀ cursor₀ place₀ items names index cursor place =
     length text - cursor .at
 
 loop-holds : tie.Need-loop-holds Inv-loop μ-loop
 loop-holds c =
-    let args = c .before .before .before .args in
-    let pre = c .before .before .before .pre in
-    (refl, refl, reached-first (args .text .now) (args .items .now) (args .names .now) (pre .0 .0) (pre .0 .1) (pre .1))
+    let args = c .before .before .before .before .args in
+    let pre = c .before .before .before .before .pre in
+    (refl, refl, refl, reached-first (args .text .now) (args .items .now) (args .names .now) (args .index .now) (pre .0 .0) (pre .0 .1) (pre .1))
 
 advance-requires : tie.Need-advance-requires Inv-loop μ-loop
 advance-requires c κs =
-    let loop = c .before .before .loop in
-    let r = loop .inv .2 in (
+    let loop = c .before .before .before .loop in
+    let r = loop .inv .3 in (
       r .high,
       (
         holds-sound (r .reading) (loop .place) (loop .items) (loop .names) (r .holds),
         holds-names (r .reading)
-            (loop .place) (loop .items) (loop .names) (r .holds),
+            (loop .place) (loop .items) (loop .names) (r .holds) (loop .index) (r .indexed),
       ),
     )
 
@@ -43,25 +43,26 @@ enum-known-p c =
 
 loop-less : tie.Need-loop-less Inv-loop μ-loop
 loop-less c =
-    let args = c .before .before .before .before .before .before .before .before .before .before .before .before .before .before .args in
-    let loop = c .before .before .before .before .before .before .before .before .before .before .loop in
-    let advance = c .before .before .before .before .before .before .before .advance in
+    let args = c .before .before .before .before .before .before .before .before .before .before .before .before .before .before .before .before .before .before .args in
+    let loop = c .before .before .before .before .before .before .before .before .before .before .before .before .before .loop in
+    let advance = c .before .before .before .before .before .before .before .before .before .advance in
     let p = c .before .p in
-    let l = reached-later (args .text .now) (loop .items) (loop .names) (loop .place) (loop .cursor) (loop .inv .2)
-    (advance .last .1 .1 .1 .0) (advance .last .1 .1 .1 .1 .0) (advance .result) (advance .ensures) (p .given .0 .0)
+    let l = reached-later (args .text .now) (loop .items) (loop .names) (loop .index) (loop .place) (loop .cursor) (loop .inv .3)
+    (advance .last .1 .1 .1 .0) (advance .last .1 .1 .1 .1 .0) (advance .last .1 .1 .1 .1 .1 .0) (advance .result) (advance .ensures) (p .given .0 .0)
     (p .given .0 .1 .0) (p .given .1) in omega (arith, l .0, l .1)
 
 loop-again : tie.Need-loop-again Inv-loop μ-loop
 loop-again c =
-    let advance = c .before .before .before .before .before .before .before .advance in
-    let loop = c .before .before .before .before .before .before .before .before .before .before .loop in
-    let args = c .before .before .before .before .before .before .before .before .before .before .before .before .before .before .args in
+    let advance = c .before .before .before .before .before .before .before .before .before .advance in
+    let loop = c .before .before .before .before .before .before .before .before .before .before .before .before .before .loop in
+    let args = c .before .before .before .before .before .before .before .before .before .before .before .before .before .before .before .before .before .before .args in
     let p = c .before .p in (
       advance .kept .1 .1 .1 .0 ∙ loop .inv .0,
       advance .kept .1 .1 .1 .1 .0 ∙ loop .inv .1,
+      advance .kept .1 .1 .1 .1 .1 .0 ∙ loop .inv .2,
       reached-on (args .text .now)
-          (loop .items) (loop .names) (loop .place) (loop .cursor) (loop .inv .2) (advance .last .1 .1 .1 .0)
-          (advance .last .1 .1 .1 .1 .0) (advance .result) (advance .ensures) (p .given .0 .0) (p .given .0 .1 .0) (p .given .1),
+          (loop .items) (loop .names) (loop .index) (loop .place) (loop .cursor) (loop .inv .3) (advance .last .1 .1 .1 .0)
+          (advance .last .1 .1 .1 .1 .0) (advance .last .1 .1 .1 .1 .1 .0) (advance .result) (advance .ensures) (p .given .0 .0) (p .given .0 .1 .0) (p .given .1),
     )
 
 enum-known-i : tie.Need-enum-known-i Inv-loop μ-loop
@@ -70,50 +71,62 @@ enum-known-i c =
 
 same-length : tie.Need-same-length Inv-loop μ-loop
 same-length c =
-    let advance = c .before .before .before .before .before .before .before .advance in
-    let loop = c .before .before .before .before .before .before .before .before .before .before .loop in
+    let advance = c .before .before .before .before .before .before .before .before .before .advance in
+    let loop = c .before .before .before .before .before .before .before .before .before .before .before .before .before .loop in
     advance .kept .1 .1 .1 .0 ∙ loop .inv .0
 
 same-length-2 : tie.Need-same-length-2 Inv-loop μ-loop
 same-length-2 c =
-    let advance = c .before .before .before .before .before .before .before .advance in
-    let loop = c .before .before .before .before .before .before .before .before .before .before .loop in
+    let advance = c .before .before .before .before .before .before .before .before .before .advance in
+    let loop = c .before .before .before .before .before .before .before .before .before .before .before .before .before .loop in
     advance .kept .1 .1 .1 .1 .0 ∙ loop .inv .1
+
+same-length-3 : tie.Need-same-length-3 Inv-loop μ-loop
+same-length-3 c =
+    let advance = c .before .before .before .before .before .before .before .before .before .advance in
+    let loop = c .before .before .before .before .before .before .before .before .before .before .before .before .before .loop in
+    advance .kept .1 .1 .1 .1 .1 .0 ∙ loop .inv .2
 
 returns : tie.Need-returns Inv-loop μ-loop
 returns c =
-    let args = c .before .before .before .before .before .before .before .before .before .before .before .before .before .before .args in
-    let loop = c .before .before .before .before .before .before .before .before .before .before .loop in
-    let advance = c .before .before .before .before .before .before .before .advance in
+    let args = c .before .before .before .before .before .before .before .before .before .before .before .before .before .before .before .before .before .before .args in
+    let loop = c .before .before .before .before .before .before .before .before .before .before .before .before .before .loop in
+    let advance = c .before .before .before .before .before .before .before .before .before .advance in
     let i = c .before .i in
-    reached-done (args .text .now) (loop .items) (loop .names) (loop .place) (loop .cursor) (loop .inv .2)
-    (advance .last .1 .1 .1 .0) (advance .last .1 .1 .1 .1 .0) (advance .result) (advance .ensures) (i .given .0 .0)
+    reached-done (args .text .now) (loop .items) (loop .names) (loop .index) (loop .place) (loop .cursor) (loop .inv .3)
+    (advance .last .1 .1 .1 .0) (advance .last .1 .1 .1 .1 .0) (advance .last .1 .1 .1 .1 .1 .0) (advance .result) (advance .ensures) (i .given .0 .0)
     (i .given .0 .1 .0) (i .given .1)
 
 enum-known-ground : tie.Need-enum-known-ground Inv-loop μ-loop
 enum-known-ground c =
     search needs
 
-same-length-3 : tie.Need-same-length-3 Inv-loop μ-loop
-same-length-3 c =
-    let advance = c .before .before .before .before .before .before .before .advance in
-    let loop = c .before .before .before .before .before .before .before .before .before .before .loop in
-    advance .kept .1 .1 .1 .0 ∙ loop .inv .0
-
 same-length-4 : tie.Need-same-length-4 Inv-loop μ-loop
 same-length-4 c =
-    let advance = c .before .before .before .before .before .before .before .advance in
-    let loop = c .before .before .before .before .before .before .before .before .before .before .loop in
+    let advance = c .before .before .before .before .before .before .before .before .before .advance in
+    let loop = c .before .before .before .before .before .before .before .before .before .before .before .before .before .loop in
+    advance .kept .1 .1 .1 .0 ∙ loop .inv .0
+
+same-length-5 : tie.Need-same-length-5 Inv-loop μ-loop
+same-length-5 c =
+    let advance = c .before .before .before .before .before .before .before .before .before .advance in
+    let loop = c .before .before .before .before .before .before .before .before .before .before .before .before .before .loop in
     advance .kept .1 .1 .1 .1 .0 ∙ loop .inv .1
+
+same-length-6 : tie.Need-same-length-6 Inv-loop μ-loop
+same-length-6 c =
+    let advance = c .before .before .before .before .before .before .before .before .before .advance in
+    let loop = c .before .before .before .before .before .before .before .before .before .before .before .before .before .loop in
+    advance .kept .1 .1 .1 .1 .1 .0 ∙ loop .inv .2
 
 returns-2 : tie.Need-returns-2 Inv-loop μ-loop
 returns-2 c =
-    let args = c .before .before .before .before .before .before .before .before .before .before .before .before .before .before .args in
-    let loop = c .before .before .before .before .before .before .before .before .before .before .loop in
-    let advance = c .before .before .before .before .before .before .before .advance in
+    let args = c .before .before .before .before .before .before .before .before .before .before .before .before .before .before .before .before .before .before .args in
+    let loop = c .before .before .before .before .before .before .before .before .before .before .before .before .before .loop in
+    let advance = c .before .before .before .before .before .before .before .before .before .advance in
     let ground = c .before .ground in
-    reached-refused (args .text .now) (loop .items) (loop .names) (loop .place) (loop .cursor) (loop .inv .2)
-    (advance .last .1 .1 .1 .0) (advance .last .1 .1 .1 .1 .0) (advance .result) (advance .ensures) (ground .given .0 .0)
+    reached-refused (args .text .now) (loop .items) (loop .names) (loop .index) (loop .place) (loop .cursor) (loop .inv .3)
+    (advance .last .1 .1 .1 .0) (advance .last .1 .1 .1 .1 .0) (advance .last .1 .1 .1 .1 .1 .0) (advance .result) (advance .ensures) (ground .given .0 .0)
     (ground .given .1)
 
 pub read-text-spec : {M : Type 1} → statement M
@@ -130,8 +143,10 @@ read-text-spec =
     enum-known-i
     same-length
     same-length-2
+    same-length-3
     returns
     enum-known-ground
-    same-length-3
     same-length-4
+    same-length-5
+    same-length-6
     returns-2)

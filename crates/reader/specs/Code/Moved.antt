@@ -16,6 +16,7 @@ use Rattle.reading.specs.Elements.{Answer, got, back, then, Reading, takesAll}
 use Rattle.reading.specs.Read.{Recipe, finished, itemWords, nameBytes}
 use Rattle.words.specs.Tables.{filled}
 use Rattle.reader.specs.Code.Told.{meaningsFrom}
+use Rattle.reader.specs.Code.Index.{Indexed}
 use Rattle.reader.specs.Code.Placed.{Holds}
 
 -- a step, with the cursor past its token
@@ -32,9 +33,10 @@ unfoldable pub outcomeFrom : List ℕ → ℕ → Reading → Answer Recipe
 outcomeFrom text at r = then (takesAll (meaningsFrom text at) r) finished
 
 -- it goes on, with another reading and the same outcome
-pub record Onward (text : List ℕ) (at : ℕ) (r : Reading) (p : Place) (c : Cursor) (words bytes : List ℕ) : Type 0 where
+pub record Onward (text : List ℕ) (at : ℕ) (r : Reading) (p : Place) (c : Cursor) (words bytes index : List ℕ) : Type 0 where
   pub next : Reading
   pub holds : Holds next p words bytes
+  pub indexed : Indexed (next .known) index
   pub low : at < c .at
   pub high : c .at ≤ length text
   pub same : outcomeFrom text at r ≡ outcomeFrom text (c .at) next
@@ -49,11 +51,12 @@ pub record Whole (outcome : Answer Recipe) (i n : ℕ) (words bytes : List ℕ) 
   pub names : bytes ≡ filled (nameBytes recipe) bytes
 
 -- what a move says of a reading r at a place in the text
-abbrev pub Moved : List ℕ → ℕ → Reading → List ℕ → List ℕ → Move → Type 0
-Moved text at r words bytes (On p c) = Onward text at r p c words bytes
-Moved text at r words bytes (Done i n) = Whole (outcomeFrom text at r) i n words bytes
-Moved text at r words bytes (Refused g) = outcomeFrom text at r ≡ back g
+abbrev pub Moved : List ℕ → ℕ → Reading → List ℕ → List ℕ → List ℕ → Move → Type 0
+Moved text at r words bytes index (On p c) = Onward text at r p c words bytes index
+Moved text at r words bytes index (Done i n) = Whole (outcomeFrom text at r) i n words bytes
+Moved text at r words bytes index (Refused g) = outcomeFrom text at r ≡ back g
 
 -- what one call promises, for every reading that the code may hold
-abbrev pub Advanced : List ℕ → ℕ → Place → List ℕ → List ℕ → List ℕ → List ℕ → Move → Type 0
-Advanced text at p words words′ bytes bytes′ m = (r : Reading) → Holds r p words bytes → Moved text at r words′ bytes′ m
+abbrev pub Advanced : List ℕ → ℕ → Place → List ℕ → List ℕ → List ℕ → List ℕ → List ℕ → List ℕ → Move → Type 0
+Advanced text at p words words′ bytes bytes′ index index′ m =
+    (r : Reading) → Holds r p words bytes → Indexed (r .known) index → Moved text at r words′ bytes′ index′ m

@@ -15,25 +15,29 @@ use Rattle.reader.specs.declared.place.Step as S
 use Rattle.reader.specs.declared.place.Step.the-variants as SV
 use Rattle.reader.specs.declared.element.Move.{Move}
 use Rattle.reader.specs.declared.element.Move.the-variants.{Refused}
-use Rattle.reading.specs.Meaning.{Meaning, constant, refused}
+use Rattle.reading.specs.Meaning.{Meaning, begins, ends, constant, refused}
 use Rattle.reading.specs.Numbering.{datumWords, dataWords}
-use Rattle.reading.specs.Elements.{Answer, got, back, then, Reading, onto, noneOpen, isComplete, counted, put, takes, takesAll}
+use Rattle.reading.specs.Elements.{Answer, got, back, then, Reading, onto, noneOpen, isComplete, counted, put, opened, closed, takes, takesAll}
+use Rattle.reading.specs.Laws.Elements.{got-only, never-got, begin-got}
 use Rattle.reading.specs.Read.{finished, itemWords, nameBytes}
 use Rattle.words.specs.Tables.{filled}
 use Rattle.reader.specs.Code.Told.{meaningsFrom, Took}
-use Rattle.reader.specs.Code.Placed.{Holds, Stepped, withToken, TokenPut, itemsOf, wordsOf, itemsAround, wordsAround, nextItem, placed}
+use Rattle.reader.specs.Code.Index.{Indexed}
+use Rattle.reader.specs.Code.Placed.{Holds, Stepped, IndexedAfter, withToken, TokenPut, itemsOf, wordsOf, itemsAround, wordsAround, nextItem, placed}
 use Rattle.reader.specs.Code.PlacedLaws.{onto-items, onto-words, length-words, zeros, refill}
 use Rattle.reader.specs.Code.StepLaws.{complete-is}
 use Rattle.reader.specs.Code.Moved.{movedBy, finishOf, outcomeFrom, Whole, Moved}
 
 -- ---- a token that is taken
 
-module _ (text : List ℕ) (at : ℕ) (r : Reading) (words bytes : List ℕ) (m : Meaning) (c : Cursor) (t : Took text at m (c .at)) where
-  onward : (a : Answer Reading) → takes m r ≡ a → (s : S.Step) → Stepped a words bytes s → Moved text at r words bytes (movedBy s c)
+module _ (text : List ℕ) (at : ℕ) (r : Reading) (words bytes index : List ℕ) (m : Meaning) (c : Cursor) (t : Took text at m (c .at))
+    (i : IndexedAfter m r index) where
+  onward : (a : Answer Reading) → takes m r ≡ a → (s : S.Step) → Stepped a words bytes s → Moved text at r words bytes index (movedBy s c)
   unfolding outcomeFrom takesAll then
   onward (got q) e (SV.Went p) h = record {
     next = q;
     holds = h;
+    indexed = i q e;
     low = t .low;
     high = t .high;
     same = rw (t .means, e);
@@ -42,8 +46,27 @@ module _ (text : List ℕ) (at : ℕ) (r : Reading) (words bytes : List ℕ) (m 
   onward (back g) e (SV.Went p) h = absurd h
   onward (back g) e (SV.Refused k) h = rw (t .means, e, h)
 
-  pub stepped-moved : (s : S.Step) (v : Move) → v ≡ movedBy s c → Stepped (takes m r) words bytes s → Moved text at r words bytes v
-  stepped-moved s v e h = subst (Moved text at r words bytes) (sym e) (onward (takes m r) refl s h)
+  pub stepped-moved : (s : S.Step) (v : Move) → v ≡ movedBy s c → Stepped (takes m r) words bytes s → Moved text at r words bytes index v
+  stepped-moved s v e h = subst (Moved text at r words bytes index) (sym e) (onward (takes m r) refl s h)
+
+-- the names, and with them the index, stay the same at other tokens than names
+module _ (r : Reading) (index : List ℕ) (i : Indexed (r .known) index) where
+  pub begins-indexed : IndexedAfter begins r index
+  unfolding takes opened counted
+  begins-indexed q e = rw (begin-got r (opened (counted r)) q e .same) i
+
+  pub constant-indexed : (a : Constant) → IndexedAfter (constant a) r index
+  unfolding takes put counted
+  constant-indexed a q e = rw (begin-got r (put (constantD a) (counted r)) q e .same) i
+
+  closed-known : (ls : List (List Datum)) (q : Reading) → closed ls r ≡ got q → q .known ≡ r .known
+  unfolding closed
+  closed-known [] q e = never-got e
+  closed-known (l ∷ ls) q e = ap (λ (x : Reading). x .known) (sym (got-only e))
+
+  pub ends-indexed : IndexedAfter ends r index
+  unfolding takes
+  ends-indexed q e = rw (closed-known (r .around) q e) i
 
 -- an element that is a constant
 pub constant-stepped : (r : Reading) (p : Place) (words words′ bytes : List ℕ) (a : Constant) (value : ℕ) (s : S.Step) → Holds r p words bytes
@@ -60,7 +83,7 @@ refused-moved text at r g next t = rw (t .means)
 
 -- ---- the end
 
-module _ (text : List ℕ) (at : ℕ) (r : Reading) (p : Place) (words bytes : List ℕ) (h : Holds r p words bytes) (e : meaningsFrom text at ≡ []) where
+module _ (text : List ℕ) (at : ℕ) (r : Reading) (p : Place) (words bytes index : List ℕ) (h : Holds r p words bytes) (e : meaningsFrom text at ≡ []) where
   at-end : outcomeFrom text at r ≡ finished r
   unfolding outcomeFrom takesAll then
   at-end = rw e
@@ -112,11 +135,11 @@ module _ (text : List ℕ) (at : ℕ) (r : Reading) (p : Place) (words bytes : L
       names = h .names;
     }
 
-  finish-moved : Moved text at r words bytes (finishOf p)
+  finish-moved : Moved text at r words bytes index (finishOf p)
   unfolding finishOf
   finish-moved =
       let k = complete-is r p words bytes h in
       either (isComplete r) (λ c. rw (sym k ∙ c) (end-done c)) (λ c. rw (sym k ∙ c) (end-refused c))
 
-  pub end-moved : (v : Move) → v ≡ finishOf p → Moved text at r words bytes v
-  end-moved v f = subst (Moved text at r words bytes) (sym f) finish-moved
+  pub end-moved : (v : Move) → v ≡ finishOf p → Moved text at r words bytes index v
+  end-moved v f = subst (Moved text at r words bytes index) (sym f) finish-moved

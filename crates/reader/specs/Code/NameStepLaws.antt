@@ -1,5 +1,5 @@
 -- What the code holds after a name: found among the names so far, new, or one too many.
-use mathlib.Core.Path.{_≡_, refl, sym, ap, ap₂, _∙_}
+use mathlib.Core.Path.{_≡_, refl, sym, ap, ap₂, subst, _∙_}
 use mathlib.Core.Bool.{_&&_}
 use mathlib.Core.List.{List, [], _∷_, _++_}
 use Prim.Native.Nat.{ℕ, suc, _+_, _*_, _-_, _≤_, _<_}
@@ -17,12 +17,15 @@ use Rattle.reader.specs.declared.place.Step.{Step}
 use Rattle.reader.specs.declared.place.Step.the-variants.{Refused}
 use Rattle.reading.specs.Meaning.{name}
 use Rattle.reading.specs.Numbering.{numberOf, withName, datumWords}
-use Rattle.reading.specs.Elements.{Reading, counted, named, takes}
+use Rattle.reading.specs.Elements.{got, Reading, counted, named, takes}
+use Rattle.reading.specs.Laws.Elements.{begin-got}
 use Rattle.words.specs.Tables.{filled}
 use Rattle.reading.specs.AcceptedLaws.{number-most}
+use Rattle.reader.specs.Code.Index.{bucketOf, Indexed, linked}
+use Rattle.reader.specs.Code.IndexLaws.{indexed-more}
 use Rattle.reader.specs.Code.Stored.{namesIn, stored}
 use Rattle.reader.specs.Code.StoredLaws.{names-in, length-names-in, short-more, stored-filled, stored-length}
-use Rattle.reader.specs.Code.Placed.{Holds, Stepped, groundAt, IsToken, withToken, TokenPut, NamesSound}
+use Rattle.reader.specs.Code.Placed.{Holds, Stepped, groundAt, IndexedAfter, IsToken, withToken, TokenPut, NamesSound}
 use Rattle.reader.specs.Code.PlacedLaws.{filled-same}
 use Rattle.reader.specs.Code.StepLaws.{token-refused}
 
@@ -50,25 +53,34 @@ module _ (r : Reading) (p : Place) (words bytes : List ℕ) (h : Holds r p words
       ap₂ (λ t k. namesIn t 0 k) (h .names) (h .known)
       ∙ names-in (r .known) (replicate (length bytes - length (slots (r .known))) 0) (h .short)
 
-  pub holds-names : NamesSound p bytes
+  pub holds-names : (index : List ℕ) → Indexed (r .known) index → NamesSound p bytes index
   unfolding filled
-  holds-names = record {
+  holds-names index i = record {
     room = h .enoughNames;
     short = λ n l. rw (h .names) (length-at (r .known) (replicate (length bytes - length (slots (r .known))) 0) n (h .short) (omega (arith, h .known)));
+    indexed = rw spelled i;
   }
 
-  module _ (word : List ℕ) (number : ℕ) (e : number ≡ numberOf word (namesIn bytes 0 (p .known))) where
+  module _ (word : List ℕ) (number : ℕ) (e : number ≡ numberOf word (namesIn bytes 0 (p .known)))
+      (index : List ℕ) (i : Indexed (namesIn bytes 0 (p .known)) index) where
     number-is : number ≡ numberOf word (r .known)
     number-is = e ∙ ap (numberOf word) spelled
 
+    indexed : Indexed (r .known) index
+    indexed = rw spelled at i
+
+    names-after : (q : Reading) → takes (name word) r ≡ got q → q .known ≡ withName word (r .known)
+    unfolding takes named counted
+    names-after q t = ap (λ (x : Reading). x .known) (begin-got r (named word (counted r)) q t .same)
+
     -- a name known before
     pub name-known : (words′ : List ℕ) (s : Step) → number < p .known → TokenPut p 3 number (p .known) words words′ s
-        → Stepped (takes (name word) r) words′ bytes s
+        → Stepped (takes (name word) r) words′ bytes s × IndexedAfter (name word) r index
     unfolding takes named counted withToken withName
     name-known words′ s l t =
         let k : numberOf word (r .known) < length (r .known) = omega (arith, number-is, h .known) in
         let u = t r (nameD number) (r .known) bytes bytes h (name-token number) (h .known) (h .short) (h .names) (h .enoughNames) in
-        rw (lt-ltb _ _ k, ← number-is) u
+        (rw (lt-ltb _ _ k, ← number-is) u, λ q t′. rw (names-after q t′, lt-ltb _ _ k) indexed)
 
     module _ (l : p .known ≤ number) (w : length word ≤ 63) where
       new : length (r .known) ≤ numberOf word (r .known)
@@ -77,11 +89,12 @@ module _ (r : Reading) (p : Place) (words bytes : List ℕ) (h : Holds r p words
       number-next : number ≡ length (r .known)
       number-next = omega (arith, number-is, h .known, number-most word (r .known))
 
-      -- a new one, stored
-      pub name-new : (words′ : List ℕ) (s : Step) → 64 * number + 64 ≤ length bytes → TokenPut p 3 number (number + 1) words words′ s
-          → Stepped (takes (name word) r) words′ (stored bytes number word) s
+      -- a new one, entered
+      pub name-new : (words′ : List ℕ) (s : Step) → number < namesMost → TokenPut p 3 number (number + 1) words words′ s
+          → Stepped (takes (name word) r) words′ (stored bytes number word) s × IndexedAfter (name word) r (linked index number (bucketOf word))
       unfolding takes named counted withToken withName
-      name-new words′ s room t =
+      name-new words′ s few t =
+          let room : 64 * number + 64 ≤ length bytes = omega (arith, h .enoughNames) in
           let table = stored bytes number word in
           let more = r .known ++ (word ∷ []) in
           let k : number + 1 ≡ length more = omega (arith, number-next, length-append (r .known) (word ∷ [])) in
@@ -89,15 +102,17 @@ module _ (r : Reading) (p : Place) (words bytes : List ℕ) (h : Holds r p words
           let f : table ≡ filled (slots more) table =
           stored-filled (r .known) word bytes number number-next (h .short) w (h .names) room ∙ filled-same (slots more) bytes table (sym same) in
           let u = t r (nameD number) more bytes table h (name-token number) k (short-more (r .known) word bytes number number-next (h .short) w (h .names) room) f (omega (arith, same, h .enoughNames)) in
-          rw (le-ltb _ _ new, ← number-is) u
+          let x = indexed-more (r .known) word index indexed number number-next few new in
+          (rw (le-ltb _ _ new, ← number-is) u, λ q t′. rw (names-after q t′, le-ltb _ _ new) x)
 
       -- one that no number is left for
       pub name-full : (words′ bytes′ : List ℕ) (g : ℕ) → number ≡ namesMost → g ≡ groundAt p (number + 1) (p .depth)
-          → Stepped (takes (name word) r) words′ bytes′ (Refused g)
+          → Stepped (takes (name word) r) words′ bytes′ (Refused g) × IndexedAfter (name word) r index
       unfolding takes named counted withToken withName
       name-full words′ bytes′ g f e′ =
           let more = r .known ++ (word ∷ []) in
           let k : number + 1 ≡ length more = omega (arith, number-next, length-append (r .known) (word ∷ [])) in
           let z : namesMost < number + 1 = omega arith in
           let u = token-refused r p words bytes h (nameD number) 3 number (name-token number) more (number + 1) k words′ bytes′ g e′ (λ y. names-full p (number + 1) (p .depth) z (sym e′ ∙ y)) in
-          rw (le-ltb _ _ new, ← number-is) u
+          let s : Stepped (takes (name word) r) words′ bytes′ (Refused g) = rw (le-ltb _ _ new, ← number-is) u in
+          (s, λ q t. absurd (subst (λ a. Stepped a words′ bytes′ (Refused g)) t s))

@@ -14,10 +14,12 @@ use Rattle.reader.specs.declared.place.Place.{Place}
 use Rattle.reader.specs.declared.place.Step.{Step}
 use Rattle.reader.specs.declared.place.Step.the-variants.{Went, Refused}
 use Rattle.reading.specs.Numbering.{datumWords}
-use Rattle.reading.specs.Meaning.{begins, ends, name}
+use Rattle.reading.specs.Meaning.{Meaning, begins, ends, name}
 use Rattle.reading.specs.Elements.{Answer, got, back, Reading, noneOpen, begin, takes}
 use Rattle.reading.specs.Laws.Elements.{Within}
 use Rattle.words.specs.Tables.{filled}
+use Rattle.reader.specs.Code.Index.{Indexed}
+use Rattle.reader.specs.Code.Stored.{namesIn}
 
 -- ---- items
 
@@ -96,10 +98,11 @@ pub record Sound (p : Place) (words : ℕ) : Type 0 where
   pub pair : 0 < p .depth → p .pair < p .next
   pub room : itemWordsLeast ≤ words
 
--- and the name table
-pub record NamesSound (p : Place) (bytes : List ℕ) : Type 0 where
+-- and the name table, with its index
+pub record NamesSound (p : Place) (bytes index : List ℕ) : Type 0 where
   pub room : nameBytesLeast ≤ length bytes
   pub short : (n : ℕ) → n < p .known → lengthAt bytes n ≤ nameLengthMost
+  pub indexed : Indexed (namesIn bytes 0 (p .known)) index
 
 -- grounds 5 and 6 at a token that begins an element, with the names and open lists that it makes; 0 where it is taken
 unfoldable pub groundAt : Place → ℕ → ℕ → ℕ
@@ -139,6 +142,11 @@ ListOpened p words words′ s = (r : Reading) (bytes : List ℕ) → Holds r p w
 abbrev pub ListClosed : Place → List ℕ → List ℕ → Step → Type 0
 ListClosed p words words′ s = (r : Reading) (bytes : List ℕ) → Holds r p words bytes → Stepped (takes ends r) words′ bytes s
 
+-- the index is that of the names after a token
+abbrev pub IndexedAfter : Meaning → Reading → List ℕ → Type 0
+IndexedAfter m r index = (q : Reading) → takes m r ≡ got q → Indexed (q .known) index
+
 -- a name is taken
-abbrev pub NamePut : Place → List ℕ → List ℕ → List ℕ → List ℕ → List ℕ → Step → Type 0
-NamePut p word words words′ bytes bytes′ s = (r : Reading) → Holds r p words bytes → Stepped (takes (name word) r) words′ bytes′ s
+abbrev pub NamePut : Place → List ℕ → List ℕ → List ℕ → List ℕ → List ℕ → List ℕ → Step → Type 0
+NamePut p word words words′ bytes bytes′ index′ s =
+    (r : Reading) → Holds r p words bytes → Stepped (takes (name word) r) words′ bytes′ s × IndexedAfter (name word) r index′

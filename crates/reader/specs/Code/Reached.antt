@@ -10,6 +10,7 @@ use Rattle.reader.specs.declared.token.Cursor.{Cursor}
 use Rattle.reading.specs.Elements as E
 use Rattle.reading.specs.Elements.{back}
 use Rattle.reading.specs.Read.{recipeOf}
+use Rattle.reader.specs.Code.Index.{Indexed}
 use Rattle.reader.specs.Code.Placed.{Holds}
 use Rattle.reader.specs.Code.Moved.{outcomeFrom, Whole}
 
@@ -19,8 +20,9 @@ Ended text words bytes (Read i n) = Whole (recipeOf text) i n words bytes
 Ended text words bytes (Refused g) = recipeOf text ≡ back g
 
 -- a place from which the rest of the text has the outcome of the whole
-pub record Reached (text words bytes : List ℕ) (p : Place) (c : Cursor) : Type 0 where
+pub record Reached (text words bytes index : List ℕ) (p : Place) (c : Cursor) : Type 0 where
   pub reading : E.Reading
   pub holds : Holds reading p words bytes
+  pub indexed : Indexed (reading .known) index
   pub high : c .at ≤ length text
   pub same : outcomeFrom text (c .at) reading ≡ recipeOf text

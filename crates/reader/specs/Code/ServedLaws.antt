@@ -33,6 +33,8 @@ use Rattle.reading.specs.Read.{
   namesAfter,
 }
 use Rattle.words.specs.Tables.{filled}
+use Rattle.reader.specs.Code.Index.{indexSize}
+use Rattle.reader.specs.Code.IndexLaws.{indexed-none}
 use Rattle.reader.specs.Code.Stored.{NameTable}
 use Rattle.reader.specs.Code.Told.{meaningsFrom}
 use Rattle.reader.specs.Code.Placed.{Holds, itemsOf, itemsAround, wordsOf, wordsAround, openPair, nextItem, placed}
@@ -64,11 +66,11 @@ names-are (back g) = refl
 abbrev firstPlace : Place
 firstPlace = record { next = 0; pair = 0; depth = 0; count = 0; missing = 2; known = 8 }
 
-module _ (text words bytes : List ℕ) where
+module _ (text words bytes index : List ℕ) where
   zeros-all : replicate {A = ℕ} (length words) 0 ≡ replicate (length words - 0) 0
   zeros-all = let e : length words - 0 ≡ length words = omega arith in rw e
 
-  first-holds : itemWordsLeast ≤ length words → words ≡ replicate (length words) 0 → NameTable baseNames bytes
+  first-holds : itemWordsLeast ≤ length words → words ≡ replicate (length words) 0 → NameTable baseNames bytes index
       → Holds (start baseNames 2) firstPlace words bytes
   unfolding start nextItem placed itemsOf itemsAround wordsOf wordsAround openPair filled baseNames
   first-holds l z b = record {
@@ -87,20 +89,20 @@ module _ (text words bytes : List ℕ) where
     enoughNames = b .room;
   }
 
-  pub reached-first : itemWordsLeast ≤ length words → words ≡ replicate (length words) 0 → NameTable baseNames bytes
-      → Reached text words bytes firstPlace (record { at = 0 })
+  pub reached-first : itemWordsLeast ≤ length words → words ≡ replicate (length words) 0 → NameTable baseNames bytes index
+      → Reached text words bytes index firstPlace (record { at = 0 })
   unfolding start outcomeFrom meaningsFrom recipeOf recipeOver tokens
-  reached-first l z b = record { reading = start baseNames 2; holds = first-holds l z b; high = omega arith; same = refl }
+  reached-first l z b = record { reading = start baseNames 2; holds = first-holds l z b; indexed = b .indexed; high = omega arith; same = refl }
 
-  module _ (p : Place) (c : Cursor) (r : Reached text words bytes p c) (words′ bytes′ : List ℕ) (m : M.Move)
-      (a : Advanced text (c .at) p words words′ bytes bytes′ m) where
-    here : (v : M.Move) → m ≡ v → Moved text (c .at) (r .reading) words′ bytes′ v
-    here v e = subst (Moved text (c .at) (r .reading) words′ bytes′) e (a (r .reading) (r .holds))
+  module _ (p : Place) (c : Cursor) (r : Reached text words bytes index p c) (words′ bytes′ index′ : List ℕ) (m : M.Move)
+      (a : Advanced text (c .at) p words words′ bytes bytes′ index index′ m) where
+    here : (v : M.Move) → m ≡ v → Moved text (c .at) (r .reading) words′ bytes′ index′ v
+    here v e = subst (Moved text (c .at) (r .reading) words′ bytes′ index′) e (a (r .reading) (r .holds) (r .indexed))
 
-    pub reached-on : (q : Place) (d : Cursor) → m ≡ MV.On q d → Reached text words′ bytes′ q d
+    pub reached-on : (q : Place) (d : Cursor) → m ≡ MV.On q d → Reached text words′ bytes′ index′ q d
     reached-on q d e =
         let o = here (MV.On q d) e in
-        record { reading = o .next; holds = o .holds; high = o .high; same = sym (o .same) ∙ r .same }
+        record { reading = o .next; holds = o .holds; indexed = o .indexed; high = o .high; same = sym (o .same) ∙ r .same }
 
     pub reached-later : (q : Place) (d : Cursor) → m ≡ MV.On q d → (c .at < d .at) × (d .at ≤ length text)
     reached-later q d e = let o = here (MV.On q d) e in (o .low, o .high)
@@ -161,8 +163,9 @@ pub zeroed : (t u : List ℕ) → length u ≡ length t → u ≡ replicate (len
 zeroed t u l e = e ∙ rw l
 
 -- and hold no name
-pub zeroed-names : (t u : List ℕ) → nameBytesLeast ≤ length t → length u ≡ length t → u ≡ replicate (length t) 0 → NameTable [] u
+pub zeroed-names : (t u index : List ℕ) → nameBytesLeast ≤ length t → length u ≡ length t → u ≡ replicate (length t) 0
+    → index ≡ replicate indexSize 0 → NameTable [] u index
 unfolding all slots filled
-zeroed-names t u h l e =
+zeroed-names t u index h l e z =
     let m : length u - 0 ≡ length t = omega arith in
-    record { short = refl; bytes = e ∙ rw m; room = omega arith }
+    record { short = refl; bytes = e ∙ rw m; room = omega arith; indexed = indexed-none index z }

@@ -1,4 +1,4 @@
--- The name table's bytes as the code finds and leaves them.
+-- The name table's bytes and its index as the code finds and leaves them.
 use mathlib.Core.Path.{_≡_}
 use mathlib.Core.Bool.{true}
 use mathlib.Core.List.{List, [], _∷_, _++_}
@@ -10,6 +10,8 @@ use Rattle.words.specs.Lists.{all}
 use Rattle.datum.specs.NameTable.{slots, nameAt}
 use Rattle.datum.specs.NameTableLaws.{isShort}
 use Rattle.words.specs.Tables.{filled}
+use Rattle.reading.specs.Numbering.{numberOf}
+use Rattle.reader.specs.Code.Index.{Indexed}
 
 -- what k slots from slot n on spell
 unfoldable pub namesIn : List ℕ → ℕ → ℕ → List (List ℕ)
@@ -20,14 +22,15 @@ namesIn table n (suc k) = nameAt table n ∷ namesIn table (suc n) k
 abbrev pub stored : List ℕ → ℕ → List ℕ → List ℕ
 stored table n word = paste (set table (64 * n) (length word)) (64 * n + 1) word (length word)
 
--- the table holds these names, and zeros after them
-pub record NameTable (names : List (List ℕ)) (table : List ℕ) : Type 0 where
+-- the table holds these names, and zeros after them, and the index is theirs
+pub record NameTable (names : List (List ℕ)) (table index : List ℕ) : Type 0 where
   pub short : all isShort names ≡ true
   pub bytes : table ≡ filled (slots names) table
   pub room : nameBytesLeast ≤ length table
+  pub indexed : Indexed names index
 
--- four names more
-abbrev pub FourStored : List ℕ → List ℕ → ℕ → List ℕ → List ℕ → List ℕ → List ℕ → Type 0
-FourStored table table′ n a b c d =
-    (names : List (List ℕ)) → NameTable names table → n ≡ length names
-    → NameTable (names ++ (a ∷ []) ++ (b ∷ []) ++ (c ∷ []) ++ (d ∷ [])) table′
+-- a name more, where it is new
+abbrev pub Entered : List ℕ → List ℕ → List ℕ → List ℕ → ℕ → List ℕ → Type 0
+Entered table table′ index index′ n word =
+    (names : List (List ℕ)) → NameTable names table index → n ≡ length names → length names ≤ numberOf word names
+    → NameTable (names ++ (word ∷ [])) table′ index′

@@ -1,6 +1,6 @@
 -- Laws of finding and storing names, in the shape of the code's loops.
 use mathlib.Core.Path.{_≡_, refl, sym, ap, ap₂, subst, _∙_}
-use mathlib.Core.Bool.{true, false}
+use mathlib.Core.Bool.{Bool, true, false}
 use mathlib.Core.List.{List, [], _∷_, _++_, append-assoc, append-nil}
 use Prim.Native.Nat.{ℕ, zero, suc, _+_, _*_, _-_, _≤_, _<_}
 use native.Mathlib.Omega.{arith}
@@ -14,7 +14,9 @@ use Rattle.datum.specs.NameTable.{slot, slots, lengthAt, nameAt}
 use Rattle.datum.specs.NameTableLaws.{isShort, length-slots, slots-append, name-at}
 use Rattle.words.specs.Tables.{filled}
 use Rattle.reading.specs.Numbering.{numberOf}
-use Rattle.reader.specs.Code.Stored.{namesIn, stored, NameTable, FourStored}
+use Rattle.reader.specs.Code.Index.{bucketCount, bucketOf, Indexed, linked, Walked}
+use Rattle.reader.specs.Code.IndexLaws.{walked-on, walked-all, walked-found, link-falls, indexed-more}
+use Rattle.reader.specs.Code.Stored.{namesIn, stored, NameTable, Entered}
 
 -- ---- comparing
 
@@ -54,25 +56,55 @@ module _ (table : List ℕ) (n : ℕ) (room : 64 * n + 64 ≤ length table) (sho
 
 -- ---- finding
 
-module _ (word table : List ℕ) (n known : ℕ) (h : n < known) where
-  m : known - n ≡ suc (known - (n + 1))
-  m = omega arith
+pub length-names-in : (table : List ℕ) (n k : ℕ) → length (namesIn table n k) ≡ k
+unfolding namesIn
+length-names-in table n zero = refl
+length-names-in table n (suc k) = ap suc (length-names-in table (suc n) k)
 
-  pub find-step : equal word (nameAt table n) ≡ false
-      → n + numberOf word (namesIn table n (known - n)) ≡ n + 1 + numberOf word (namesIn table (n + 1) (known - (n + 1)))
-  unfolding namesIn numberOf
-  find-step e = rw (m, e, add-one) (omega arith)
+-- what a slot spells, among the names
+name-in : (table : List ℕ) (from known n : ℕ) → n < known → getD (namesIn table from known) n [] ≡ nameAt table (from + n)
+unfolding namesIn
+name-in table from zero n h = absurd (omega arith)
+name-in table from (suc k) zero h = let e : from + 0 ≡ from = omega arith in rw e
+name-in table from (suc k) (suc n) h =
+    let e : from + suc n ≡ suc from + n = omega arith in
+    name-in table (suc from) k n (omega arith) ∙ ap (nameAt table) (sym e)
 
-  pub find-here : equal word (nameAt table n) ≡ true → n + numberOf word (namesIn table n (known - n)) ≡ n
-  unfolding namesIn numberOf
-  find-here e = rw (m, e) (omega arith)
+-- a walk along the word's bucket comes to an entry
+module _ (word table index : List ℕ) (known : ℕ) (i : Indexed (namesIn table 0 known) index) where
+  abbrev names : List (List ℕ)
+  names = namesIn table 0 known
 
-pub find-start : (word table : List ℕ) (known : ℕ) → numberOf word (namesIn table 0 known) ≡ 0 + numberOf word (namesIn table 0 (known - 0))
-find-start word table known = let z : known - 0 ≡ known = omega arith in rw z (omega arith)
+  -- it ends
+  pub find-end : Walked names word 0 → known ≡ numberOf word names
+  find-end w = sym (length-names-in table 0 known) ∙ walked-all names word w
 
-pub find-end : (word table : List ℕ) (n known : ℕ) → n ≡ known → n + numberOf word (namesIn table n (known - n)) ≡ n
-unfolding namesIn numberOf
-find-end word table n known e = let z : known - n ≡ 0 = omega arith in rw z (omega arith)
+  -- or the entry is a name's
+  module _ (entry : ℕ) (w : Walked names word entry) (some : entry ≡ 0 → ⊥) where
+    abbrev number : ℕ
+    number = entry - 1
+
+    pub entry-known : number < known
+    entry-known = omega (arith, w .high, length-names-in table 0 known)
+
+    among : number < length names
+    among = omega (arith, w .high)
+
+    -- which is compared with the word in its slot
+    module _ (r t : Bool) (e : r ≡ equal word (nameAt table number)) (f : r ≡ t) where
+      compared : equal word (getD names number []) ≡ t
+      compared =
+          let z : 0 + number ≡ number = omega arith in
+          ap (equal word) (name-in table 0 known number entry-known ∙ ap (nameAt table) z) ∙ sym e ∙ f
+
+    pub find-here : (r : Bool) → r ≡ equal word (nameAt table number) → r ≡ true → number ≡ numberOf word names
+    find-here r e f = walked-found names word number (i .own) among (compared r true e f)
+
+    pub find-on : (r : Bool) → r ≡ equal word (nameAt table number) → r ≡ false → Walked names word (getD index (bucketCount + number) 0)
+    find-on r e f = walked-on names word index i entry number (omega arith) w (compared r false e f)
+
+    pub find-falls : getD index (bucketCount + number) 0 < entry
+    find-falls = omega (arith, link-falls names word index i number among)
 
 -- the slots of names spell them
 names-in-from : (more names : List (List ℕ)) (rest : List ℕ) → all isShort (names ++ more) ≡ true
@@ -90,11 +122,6 @@ names-in-from (cs ∷ more) names rest h =
 
 pub names-in : (names : List (List ℕ)) (rest : List ℕ) → all isShort names ≡ true → namesIn (slots names ++ rest) 0 (length names) ≡ names
 names-in names rest h = names-in-from names [] rest h
-
-pub length-names-in : (table : List ℕ) (n k : ℕ) → length (namesIn table n k) ≡ k
-unfolding namesIn
-length-names-in table n zero = refl
-length-names-in table n (suc k) = ap suc (length-names-in table (suc n) k)
 
 -- ---- storing
 
@@ -160,28 +187,17 @@ module _ (names : List (List ℕ)) (word t : List ℕ) (n : ℕ) (at : n ≡ len
       let h : 64 * n + 1 + length word ≤ length u = omega (arith, l) in
       length-paste u (64 * n + 1) word (length word) h (omega arith) ∙ l
 
--- a table of names with one more
-pub table-more : (names : List (List ℕ)) (word t u : List ℕ) (n : ℕ) → NameTable names t → n ≡ length names → length word ≤ 63 → n < 1024
-    → u ≡ stored t n word → NameTable (names ++ (word ∷ [])) u
+-- a name more, in the table and in its index
+pub table-more : (word t u index index′ : List ℕ) (n b : ℕ) → length word ≤ 63 → n < 1024 → b ≡ bucketOf word
+    → (u ≡ stored t n word) × (index′ ≡ linked index n b) → Entered t u index index′ n word
 unfolding filled
-table-more names word t u n h e w l s =
+table-more word t u index index′ n b w l k s names h e new =
     let room : 64 * n + 64 ≤ length t = omega (arith, h .room) in
-    let same : length u ≡ length t = ap length s ∙ stored-length names word t n e (h .short) w (h .bytes) room in
+    let same : length u ≡ length t = ap length (s .0) ∙ stored-length names word t n e (h .short) w (h .bytes) room in
     let f = stored-filled names word t n e (h .short) w (h .bytes) room in
     record {
       short = short-more names word t n e (h .short) w (h .bytes) room;
-      bytes = s ∙ f ∙ rw same;
+      bytes = s .0 ∙ f ∙ rw same;
       room = omega (arith, same, h .room);
+      indexed = rw (s .1, k) (indexed-more names word index (h .indexed) n e l new);
     }
-
--- four of them, one after another
-pub four-more : (t t1 t2 t3 t4 : List ℕ) (n : ℕ) (a b c d : List ℕ) → n < 8 → length a ≤ 63 → length b ≤ 63 → length c ≤ 63 → length d ≤ 63
-    → t1 ≡ stored t n a → t2 ≡ stored t1 (n + 1) b → t3 ≡ stored t2 (n + 2) c → t4 ≡ stored t3 (n + 3) d → FourStored t t4 n a b c d
-four-more t t1 t2 t3 t4 n a b c d h la lb lc ld e1 e2 e3 e4 names w k =
-    let w1 = table-more names a t t1 n w k la (omega arith) e1 in
-    let k1 : n + 1 ≡ length (names ++ (a ∷ [])) = omega (arith, length-append names (a ∷ [])) in
-    let w2 = table-more (names ++ (a ∷ [])) b t1 t2 (n + 1) w1 k1 lb (omega arith) e2 in
-    let k2 : n + 2 ≡ length (names ++ (a ∷ []) ++ (b ∷ [])) = omega (arith, length-append (names ++ (a ∷ [])) (b ∷ []), k1) in
-    let w3 = table-more (names ++ (a ∷ []) ++ (b ∷ [])) c t2 t3 (n + 2) w2 k2 lc (omega arith) e3 in
-    let k3 : n + 3 ≡ length (names ++ (a ∷ []) ++ (b ∷ []) ++ (c ∷ [])) = omega (arith, length-append (names ++ (a ∷ []) ++ (b ∷ [])) (c ∷ []), k2) in
-    table-more (names ++ (a ∷ []) ++ (b ∷ []) ++ (c ∷ [])) d t3 t4 (n + 3) w3 k3 ld (omega arith) e4

@@ -10,7 +10,15 @@ use Rattle.words.specs.Parts.{part}
 use Rattle.datum.specs.Constant.{integer, boolean}
 use Rattle.reading.specs.Meaning.{begins, ends, constant, name}
 use Rattle.reader.specs.Code.Told.{Told}
-use Rattle.reader.specs.Code.MovedLaws.{stepped-moved, constant-stepped, refused-moved, end-moved}
+use Rattle.reader.specs.Code.MovedLaws.{
+  stepped-moved,
+  begins-indexed,
+  constant-indexed,
+  ends-indexed,
+  constant-stepped,
+  refused-moved,
+  end-moved,
+}
 
 token-at-requires : tie.Need-token-at-requires
 token-at-requires c κs =
@@ -86,31 +94,31 @@ enum-known-from c =
 
 sub-put-name : tie.Need-sub-put-name
 sub-put-name c =
-    let args = c .before .before .before .before .before .before .before .before .before .args in
-    let from = c .before .before .before .from in
-    let token-at = c .before .before .before .before .before .token-at in
+    let args = c .before .before .before .before .before .before .before .before .before .before .before .args in
+    let from = c .before .before .before .before .from in
+    let token-at = c .before .before .before .before .before .before .token-at in
     let n = subst (Told (args .text .now) (args .cursor .at)) (from .given .1) (token-at .ensures) in omega (arith, n .1)
 
 part-put-name-start : tie.Need-part-put-name-start
 part-put-name-start c =
-    let args = c .before .before .before .before .before .before .before .before .before .args in
-    let from = c .before .before .before .from in
-    let token-at = c .before .before .before .before .before .token-at in
+    let args = c .before .before .before .before .before .before .before .before .before .before .before .args in
+    let from = c .before .before .before .before .from in
+    let token-at = c .before .before .before .before .before .before .token-at in
     let n = subst (Told (args .text .now) (args .cursor .at)) (from .given .1) (token-at .ensures) in omega (arith, n .1)
 
 part-put-name-end : tie.Need-part-put-name-end
 part-put-name-end c =
-    let args = c .before .before .before .before .before .before .before .before .before .args in
-    let from = c .before .before .before .from in
-    let token-at = c .before .before .before .before .before .token-at in
+    let args = c .before .before .before .before .before .before .before .before .before .before .before .args in
+    let from = c .before .before .before .before .from in
+    let token-at = c .before .before .before .before .before .before .token-at in
     let n = subst (Told (args .text .now) (args .cursor .at)) (from .given .1) (token-at .ensures) in omega (arith, n .3 .high)
 
 put-name-requires : tie.Need-put-name-requires
 put-name-requires c κs =
-    let args = c .before .before .before .before .before .before .before .before .before .before .args in
-    let from = c .before .before .before .before .from in
-    let token-at = c .before .before .before .before .before .before .token-at in
-    let pre = c .before .before .before .before .before .before .before .before .before .before .pre in
+    let args = c .before .before .before .before .before .before .before .before .before .before .before .before .args in
+    let from = c .before .before .before .before .before .from in
+    let token-at = c .before .before .before .before .before .before .before .token-at in
+    let pre = c .before .before .before .before .before .before .before .before .before .before .before .before .pre in
     let n = subst (Told (args .text .now) (args .cursor .at)) (from .given .1) (token-at .ensures) in
     (pre .1 .0, (pre .1 .1, n .2))
 
@@ -120,17 +128,17 @@ moved-requires-5 c κs =
 
 returns : tie.Need-returns
 returns c =
-    λ r h.
-    let args = c .before .before .before .before .before .before .before .args in
+    λ r h i.
+    let args = c .before .before .before .before .before .before .before .before .args in
     let token-at = c .before .before .before .token-at in
-    end-moved (args .text .now) (args .cursor .at) r (args .place) (args .items .now) (args .names .now) h
+    end-moved (args .text .now) (args .cursor .at) r (args .place) (args .items .now) (args .names .now) (args .index .now) h
     (subst (Told (args .text .now) (args .cursor .at)) (c .before .enum-told .given .1) (token-at .ensures)) (c .finish .result)
     (c .finish .ensures)
 
 returns-2 : tie.Need-returns-2
 returns-2 c =
-    λ r h.
-    let args = c .before .before .before .before .before .before .before .args in
+    λ r h i.
+    let args = c .before .before .before .before .before .before .before .before .args in
     let ground = c .before .ground in
     let token-at = c .before .before .before .token-at in
     refused-moved (args .text .now) (args .cursor .at) r (ground .given .0 .0) (ground .given .0 .1 .0 .at)
@@ -142,13 +150,13 @@ same-length c =
 
 returns-3 : tie.Need-returns-3
 returns-3 c =
-    λ r h.
-    let args = c .before .before .before .before .before .before .before .before .before .before .before .before .args in
+    λ r h i.
+    let args = c .before .before .before .before .before .before .before .before .before .before .before .before .before .args in
     let open-list = c .before .before .before .open-list in
     let next = c .before .before .before .before .before .before .next in
     let token-at = c .before .before .before .before .before .before .before .before .token-at in
-    stepped-moved (args .text .now) (args .cursor .at) r (open-list .last .0) (args .names .now) begins (next .given .0 .0)
-    (subst (Told (args .text .now) (args .cursor .at)) (next .given .1) (token-at .ensures)) (open-list .result)
+    stepped-moved (args .text .now) (args .cursor .at) r (open-list .last .0) (args .names .now) (args .index .now) begins (next .given .0 .0)
+    (subst (Told (args .text .now) (args .cursor .at)) (next .given .1) (token-at .ensures)) (begins-indexed r (args .index .now) i) (open-list .result)
     (c .moved .result) (c .moved .ensures) (open-list .ensures r (args .names .now) h)
 
 same-length-2 : tie.Need-same-length-2
@@ -157,13 +165,13 @@ same-length-2 c =
 
 returns-4 : tie.Need-returns-4
 returns-4 c =
-    λ r h.
-    let args = c .before .before .before .before .before .before .before .before .before .before .before .before .args in
+    λ r h i.
+    let args = c .before .before .before .before .before .before .before .before .before .before .before .before .before .args in
     let close-list = c .before .before .before .close-list in
     let next2 = c .before .before .before .before .before .before .next2 in
     let token-at = c .before .before .before .before .before .before .before .before .token-at in
-    stepped-moved (args .text .now) (args .cursor .at) r (close-list .last .0) (args .names .now) ends (next2 .given .0 .0)
-    (subst (Told (args .text .now) (args .cursor .at)) (next2 .given .1) (token-at .ensures)) (close-list .result)
+    stepped-moved (args .text .now) (args .cursor .at) r (close-list .last .0) (args .names .now) (args .index .now) ends (next2 .given .0 .0)
+    (subst (Told (args .text .now) (args .cursor .at)) (next2 .given .1) (token-at .ensures)) (ends-indexed r (args .index .now) i) (close-list .result)
     (c .moved2 .result) (c .moved2 .ensures) (close-list .ensures r (args .names .now) h)
 
 same-length-3 : tie.Need-same-length-3
@@ -173,14 +181,15 @@ same-length-3 c =
 returns-5 : tie.Need-returns-5
 unfolding boolean
 returns-5 c =
-    λ r h.
-    let args = c .before .before .before .before .before .before .before .before .before .before .before .before .args in
+    λ r h i.
+    let args = c .before .before .before .before .before .before .before .before .before .before .before .before .before .args in
     let put-token = c .before .before .before .put-token in
     let b = c .before .before .before .before .before .before .b in
     let token-at = c .before .before .before .before .before .before .before .before .token-at in
-    stepped-moved (args .text .now) (args .cursor .at) r (put-token .last .0) (args .names .now)
+    stepped-moved (args .text .now) (args .cursor .at) r (put-token .last .0) (args .names .now) (args .index .now)
     (constant (boolean (b .given .0 .0))) (b .given .0 .1 .0)
-    (subst (Told (args .text .now) (args .cursor .at)) (b .given .1) (token-at .ensures)) (put-token .result) (c .moved3 .result)
+    (subst (Told (args .text .now) (args .cursor .at)) (b .given .1) (token-at .ensures))
+    (constant-indexed r (args .index .now) i (boolean (b .given .0 .0))) (put-token .result) (c .moved3 .result)
     (c .moved3 .ensures)
     (constant-stepped r (args .place) (args .items .now) (put-token .last .0) (args .names .now) (boolean (b .given .0 .0))
     (b .given .0 .0) (put-token .result) h refl refl (put-token .ensures))
@@ -192,16 +201,17 @@ same-length-4 c =
 returns-6 : tie.Need-returns-6
 unfolding integer
 returns-6 c =
-    λ r h.
-    let args = c .before .before .before .before .before .before .before .before .before .before .before .before .before .args in
+    λ r h i.
+    let args = c .before .before .before .before .before .before .before .before .before .before .before .before .before .before .args in
     let put-token2 = c .before .before .before .put-token2 in
     let z′ = c .before .before .before .before .before .before .before .z in
     let token-at = c .before .before .before .before .before .before .before .before .before .token-at in
     let to-word = c .before .before .before .before .to-word in
     let known-told5 = c .before .before .before .before .before .before .known-told5 in
-    stepped-moved (args .text .now) (args .cursor .at) r (put-token2 .last .0) (args .names .now)
+    stepped-moved (args .text .now) (args .cursor .at) r (put-token2 .last .0) (args .names .now) (args .index .now)
     (constant (integer (ofZ w32 (z′ .given .0 .0)))) (z′ .given .0 .1 .0)
-    (subst (Told (args .text .now) (args .cursor .at)) (z′ .given .1) (token-at .ensures)) (put-token2 .result)
+    (subst (Told (args .text .now) (args .cursor .at)) (z′ .given .1) (token-at .ensures))
+    (constant-indexed r (args .index .now) i (integer (ofZ w32 (z′ .given .0 .0)))) (put-token2 .result)
     (c .moved4 .result) (c .moved4 .ensures)
     (constant-stepped r (args .place) (args .items .now) (put-token2 .last .0) (args .names .now)
     (integer (ofZ w32 (z′ .given .0 .0))) (to-word .result) (put-token2 .result) h refl
@@ -216,17 +226,22 @@ same-length-6 : tie.Need-same-length-6
 same-length-6 c =
     search needs
 
+same-length-7 : tie.Need-same-length-7
+same-length-7 c =
+    search needs
+
 returns-7 : tie.Need-returns-7
 returns-7 c =
-    λ r h.
-    let args = c .before .before .before .before .before .before .before .before .before .before .before .before .before .before .before .before .args in
-    let from = c .before .before .before .before .before .before .before .before .before .before .from in
-    let token-at = c .before .before .before .before .before .before .before .before .before .before .before .before .token-at in
-    let put-name = c .before .before .before .before .before .put-name in
+    λ r h i.
+    let args = c .before .before .before .before .before .before .before .before .before .before .before .before .before .before .before .before .before .before .before .before .args in
+    let from = c .before .before .before .before .before .before .before .before .before .before .before .before .before .from in
+    let token-at = c .before .before .before .before .before .before .before .before .before .before .before .before .before .before .before .token-at in
+    let put-name = c .before .before .before .before .before .before .before .put-name in
     let n = subst (Told (args .text .now) (args .cursor .at)) (from .given .1) (token-at .ensures) in
-    stepped-moved (args .text .now) (args .cursor .at) r (put-name .last .0) (put-name .last .1 .0)
+    let t = put-name .ensures r h in
+    stepped-moved (args .text .now) (args .cursor .at) r (put-name .last .0) (put-name .last .1 .0) (put-name .last .1 .1 .0)
     (name (part (from .given .0 .0) (from .given .0 .1 .0 .at) (args .text .now))) (from .given .0 .1 .0)
-    (n .3) (put-name .result) (c .moved5 .result) (c .moved5 .ensures) (put-name .ensures r h)
+    (n .3) (t .1) (put-name .result) (c .moved5 .result) (c .moved5 .ensures) (t .0)
 
 pub advance-spec : {M : Type 1} → statement M
 advance-spec =
@@ -267,4 +282,5 @@ advance-spec =
     returns-6
     same-length-5
     same-length-6
+    same-length-7
     returns-7)

@@ -1,64 +1,108 @@
--- The loop's invariant: the number is as many as were passed and the number among those that are left.
+-- The loop's invariant: no name from the entry on is the word.
 use Rattle.reader.proofs.names.find.Statement.{statement}
 use Rattle.reader.proofs.names.find.Tie as tie
 use native.Mathlib.Omega.{arith}
-use mathlib.Core.Path.{_≡_, sym, _∙_}
-use Prim.Native.Nat.{_≤_, _-_, _+_}
-use Rattle.reading.specs.Numbering.{numberOf}
-use Rattle.reader.specs.Code.Stored.{namesIn}
-use Rattle.reader.specs.Code.StoredLaws.{find-start, find-step, find-here, find-end}
 use borrow.Author.Needs.{needs}
+use mathlib.Core.Path.{subst}
+use Prim.Native.Nat.{_-_}
+use Rattle.reader.specs.Code.Index.{Walked}
+use Rattle.reader.specs.Code.IndexLaws.{bucket-below, walked-first}
+use Rattle.reader.specs.Code.Stored.{namesIn}
+use Rattle.reader.specs.Code.StoredLaws.{entry-known, find-here, find-on, find-falls, find-end}
 
 abbrev Inv-loop : tie.InvT-loop
-Inv-loop names known word n₀ n =
-    (n ≤ known) × (numberOf word (namesIn names 0 known) ≡ n + numberOf word (namesIn names n (known - n)))
+Inv-loop names index known word bucket entry₀ entry =
+    Walked (namesIn names 0 known) word entry
 
 abbrev μ-loop : tie.MeasureT-loop
-μ-loop names known word n₀ n =
-    known - n
+μ-loop names index known word bucket entry₀ entry =
+    entry
+
+entry-at-requires : tie.Need-entry-at-requires Inv-loop μ-loop
+entry-at-requires c κs =
+    let args = c .before .before .before .args in
+    let pre = c .before .before .before .pre in
+    omega (arith, pre .1 .0 .0 .size, pre .1 .1, bucket-below (args .word .now))
 
 loop-holds : tie.Need-loop-holds Inv-loop μ-loop
 loop-holds c =
-    let args = c .before .before .args in
-    (omega arith, find-start (args .word .now) (args .names .now) (args .known))
+    let args = c .before .before .before .before .args in
+    let pre = c .before .before .before .before .pre in
+    rw (c .entry-at .ensures, pre .1 .1)
+    (walked-first (namesIn (args .names .now) 0 (args .known)) (args .word .now) (args .index .now) (pre .1 .0 .0))
+
+sub-n : tie.Need-sub-n Inv-loop μ-loop
+sub-n c =
+    search needs
 
 spells-requires : tie.Need-spells-requires Inv-loop μ-loop
 spells-requires c κs =
-    let pre = c .before .before .before .before .pre in
-    (omega (arith, pre .0, c .loop-test .taken), pre .1 (c .before .loop .n) (c .loop-test .taken))
+    let args = c .before .before .before .before .before .before .args in
+    let pre = c .before .before .before .before .before .before .pre in
+    let loop = c .before .loop in
+    let l = entry-known (args .word .now) (args .names .now) (args .index .now) (args .known) (pre .1 .0 .0) (loop .entry) (loop .inv)
+    (c .loop-test .taken) in
+    (omega (arith, pre .0 .0, l), pre .0 .1 (loop .entry - 1) l)
 
 returns : tie.Need-returns Inv-loop μ-loop
 returns c =
+    let args = c .before .before .before .before .before .before .before .before .args in
+    let pre = c .before .before .before .before .before .before .before .before .pre in
     let loop = c .before .before .before .loop in
-    let args = c .before .before .before .before .before .before .args in
     let loop-test = c .before .before .loop-test in
-    sym (loop .inv .1 ∙ find-here (args .word .now) (args .names .now) (loop .n) (args .known) (loop-test .taken)
-    (sym (c .before .spells .ensures) ∙ c .if1 .taken))
+    let spells = c .before .spells in
+    find-here (args .word .now) (args .names .now) (args .index .now) (args .known) (pre .1 .0 .0) (loop .entry) (loop .inv)
+    (loop-test .taken) (spells .result) (spells .ensures) (c .if1 .taken)
 
-add-n : tie.Need-add-n Inv-loop μ-loop
-add-n c =
-    search needs
+add-entry-at : tie.Need-add-entry-at Inv-loop μ-loop
+add-entry-at c =
+    let args = c .before .before .before .before .before .before .before .before .args in
+    let pre = c .before .before .before .before .before .before .before .before .pre in
+    let loop = c .before .before .before .loop in
+    let loop-test = c .before .before .loop-test in
+    let l = entry-known (args .word .now) (args .names .now) (args .index .now) (args .known) (pre .1 .0 .0) (loop .entry) (loop .inv)
+    (loop-test .taken) in
+    omega (arith, l, pre .1 .0 .1)
+
+entry-at-requires-2 : tie.Need-entry-at-requires-2 Inv-loop μ-loop
+entry-at-requires-2 c κs =
+    let args = c .before .before .before .before .before .before .before .before .args in
+    let pre = c .before .before .before .before .before .before .before .before .pre in
+    let loop = c .before .before .before .loop in
+    let loop-test = c .before .before .loop-test in
+    let l = entry-known (args .word .now) (args .names .now) (args .index .now) (args .known) (pre .1 .0 .0) (loop .entry) (loop .inv)
+    (loop-test .taken) in
+    omega (arith, l, pre .1 .0 .0 .size, pre .1 .0 .1)
 
 loop-less : tie.Need-loop-less Inv-loop μ-loop
 loop-less c =
-    search needs
+    let args = c .before .before .before .before .before .before .before .before .before .args in
+    let pre = c .before .before .before .before .before .before .before .before .before .pre in
+    let loop = c .before .before .before .before .loop in
+    let loop-test = c .before .before .before .loop-test in
+    rw (c .entry-at2 .ensures)
+    (find-falls (args .word .now) (args .names .now) (args .index .now) (args .known) (pre .1 .0 .0) (loop .entry) (loop .inv)
+    (loop-test .taken))
 
 loop-again : tie.Need-loop-again Inv-loop μ-loop
 loop-again c =
-    let loop = c .before .before .before .loop in
-    let args = c .before .before .before .before .before .before .args in
-    let loop-test = c .before .before .loop-test in (
-      omega arith,
-      loop .inv .1 ∙ find-step (args .word .now) (args .names .now) (loop .n) (args .known) (loop-test .taken)
-          (sym (c .before .spells .ensures) ∙ c .if1 .left),
-    )
+    let args = c .before .before .before .before .before .before .before .before .before .args in
+    let pre = c .before .before .before .before .before .before .before .before .before .pre in
+    let loop = c .before .before .before .before .loop in
+    let loop-test = c .before .before .before .loop-test in
+    let spells = c .before .before .spells in
+    let if1 = c .before .if1 in
+    rw (c .entry-at2 .ensures)
+    (find-on (args .word .now) (args .names .now) (args .index .now) (args .known) (pre .1 .0 .0) (loop .entry) (loop .inv)
+    (loop-test .taken) (spells .result) (spells .ensures) (if1 .left))
 
 returns-2 : tie.Need-returns-2 Inv-loop μ-loop
 returns-2 c =
+    let args = c .before .before .before .before .before .before .args in
+    let pre = c .before .before .before .before .before .before .pre in
     let loop = c .before .loop in
-    let args = c .before .before .before .before .args in
-    let e : loop .n ≡ args .known = omega arith in
-    sym (loop .inv .1 ∙ find-end (args .word .now) (args .names .now) (loop .n) (args .known) e)
+    let w = subst (Walked (namesIn (args .names .now) 0 (args .known)) (args .word .now)) (c .loop-test .left) (loop .inv) in
+    find-end (args .word .now) (args .names .now) (args .index .now) (args .known) (pre .1 .0 .0) w
 
 pub find-spec : {M : Type 1} → statement M
 find-spec =
@@ -66,10 +110,13 @@ find-spec =
     (tie.spec
     Inv-loop
     μ-loop
+    entry-at-requires
     loop-holds
+    sub-n
     spells-requires
     returns
-    add-n
+    add-entry-at
+    entry-at-requires-2
     loop-less
     loop-again
     returns-2)
