@@ -4,8 +4,9 @@
  * call overlap. It answers 0 where it accepts, else the number that README.md explains, and tells its numbers in `counts`, which
  * has room for three (a shorter table is left alone). Document 01 says what each table holds afterwards.
  *
- * Stack: a call takes 200 KiB, at most 600 bytes for each level that lists are nested, in the item table and in what macros make
- * of it, and at most 200 for each element of a list that a macro copies, which is less than 8 MiB for every input.
+ * Stack: a call takes 200 KiB, at most 1,000 bytes for each level that lists are nested, in the item table and in what macros
+ * make of it, at most 800 for each element of a template's list, and at most 200 for each element of a list that a macro copies,
+ * which is less than 8 MiB for every input.
  */
 #ifndef GREBETALLBOY_H
 #define GREBETALLBOY_H

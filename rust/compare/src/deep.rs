@@ -112,6 +112,15 @@ pub fn copied_list(count: usize) -> Vec<u32> {
     with_macro(&rule, &|t| t.list(count + 1, &mut |t, place| if place == 0 { t.name(M) } else { t.integer(1) }))
 }
 
+/// `((_) (1 ... 1))` and `(m)`: a template of so many elements.
+pub fn long_template(count: usize) -> Vec<u32> {
+    let rule = |t: &mut Table, place: usize| match place {
+        0 => t.list(1, &mut |t, _| t.name(WILDCARD)),
+        _ => t.list(count, &mut |t, _| t.integer(1)),
+    };
+    with_macro(&rule, &|t| t.list(1, &mut |t, _| t.name(M)))
+}
+
 fn use_nested(t: &mut Table, uses: usize) {
     if uses == 0 {
         return t.integer(1);
@@ -119,7 +128,7 @@ fn use_nested(t: &mut Table, uses: usize) {
     t.list(2, &mut |t, place| if place == 0 { t.name(M) } else { use_nested(t, uses - 1) });
 }
 
-/// Each deepest input with its fuel, and how many levels its term or datum has, or how many copies.
+/// Each deepest input with its fuel, and how many levels its term or datum has, or how many copies or elements.
 pub fn inputs() -> Vec<(&'static str, Vec<u32>, u32, usize)> {
     vec![
         ("lists nested in a table", nested_lists(2_044), 0, 2_044),
@@ -128,5 +137,6 @@ pub fn inputs() -> Vec<(&'static str, Vec<u32>, u32, usize)> {
         ("results nested by two steps", nested_results(2_020, 2), 8_192, 4_040),
         ("results nested by many steps", nested_results(100, 30), 8_192, 3_000),
         ("copies along one list", copied_list(2_020), 8_192, 2_020),
+        ("a template of one long list", long_template(2_020), 8_192, 2_020),
     ]
 }

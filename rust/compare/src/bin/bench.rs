@@ -136,5 +136,9 @@ fn main() {
     growth("copies with a variable from outside", &[125, 250, 500, 1_000], |n| {
         format!("(f) (let-syntax ((m (syntax-rules () ((_ y x ...) (f (f y x) ...))))) (m 0 {}))", repeated(n, |i| (i % 10).to_string()))
     });
+    growth("copies of two lists", &[125, 250, 500, 1_000], |n| {
+        let list = repeated(n, |i| (i % 10).to_string());
+        format!("(f) (let-syntax ((m (syntax-rules () ((_ (x ...) (y ...)) (f (f x y) ...))))) (m ({list}) ({list})))")
+    });
     growth("operands", &[250, 500, 1_000, 2_000], |n| format!("(f) (f {})", repeated(n, |i| (i % 10).to_string())));
 }
