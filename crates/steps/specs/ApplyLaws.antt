@@ -1,33 +1,30 @@
 -- Laws of one macro step, one for each way through the code.
 use mathlib.Core.Path.{_≡_, refl, sym, ap, subst, _∙_}
-use mathlib.Core.Bool.{Bool, true, false, cond}
-use mathlib.Core.List.{List, []}
+use mathlib.Core.Bool.{Bool, true, false}
+use mathlib.Core.List.{List}
 use mathlib.Core.Option.{Option, some}
-use Prim.Native.Nat.{ℕ, zero, suc, _+_, _-_, _≤_, _<_}
+use Prim.Native.Nat.{ℕ, zero, suc, _-_}
 use native.Mathlib.Omega.{arith}
-use lib.Dec.{leb}
-use lib.ListN.{length, getD, replicate}
+use lib.ListN.{replicate}
 use borrow.Author.Tests.{ne-eqb, le-leb, lt-leb}
 use Rattle.words.specs.Each.{Each, noneOf, also, Given, missing, given, given-at}
 use Rattle.recipe.specs.Name.{Name}
 use Rattle.recipe.specs.Tree.{Tree, size}
 use Rattle.expansion.specs.Rules.{Rule}
 use Rattle.expansion.specs.Match.{orNext, firstFit}
-use Rattle.expansion.specs.Transcribe.{equalLengths, transcribe}
 use Rattle.arena.specs.Arena.{referenceAt, treeAt}
 use Rattle.arena.specs.ArenaLaws.{referenceAt-most}
 use Rattle.rule_cells.specs.Cells.{patternAt, templateAt, ruleAt, rulesAt}
-use Rattle.steps.specs.Sound.{Plain, Sound, SoundRule, sound-plain}
+use Rattle.steps.specs.Sound.{Sound, sound-plain}
 use Rattle.steps.specs.SoundRules.{plain-any}
-use Rattle.steps.specs.Environment.{agreeBy, resultBy}
 use Rattle.steps.specs.EnvironmentLaws.{Agrees, result-is, agree-is}
-use Rattle.steps.specs.Entries.{environmentAt, Under}
+use Rattle.steps.specs.Entries.{tableWords, environmentAt, Under}
 use Rattle.steps.specs.Bind.{Binds}
 use Rattle.steps.specs.Fits.{ruleOr, FirstFit}
 use Rattle.steps.specs.Lengths.{LengthsAgree}
 use Rattle.steps.specs.Build.{resultAt, Buildable, Made}
 use Rattle.steps.specs.declared.build.Built.the-variants.{At, Costly}
-use Rattle.steps.specs.Apply.{refused, result, applied, stepOf, Answers, outcomeAt, Transcribing, Transcribed, Stepping, Stepped}
+use Rattle.steps.specs.Apply.{applied, stepOf, Answers, outcomeAt, Transcribing, Transcribed, Stepping, Stepped}
 use Rattle.steps.specs.declared.apply.Applied.{Applied}
 use Rattle.steps.specs.declared.apply.Applied.the-variants as A
 
@@ -83,7 +80,7 @@ module _ (items old marks : List ℕ) (top rules u w limit : ℕ) (ok : Stepping
   unfolding ruleOr stepOf Answers
   apply-none e = record { is = subst (λ o. Answers items old top (stepOf limit Used o) A.NoRule) (found .is) (rw e refl); kept = refl }
 
-  module _ (some-rule : rule ≡ 0 → ⊥) (p t : ℕ) (p-is : p ≡ referenceAt old rule 3) (t-is : t ≡ referenceAt old rule 2) (env : List ℕ) (binds : Binds old p u (replicate 112 0) env) where
+  module _ (some-rule : rule ≡ 0 → ⊥) (p t : ℕ) (p-is : p ≡ referenceAt old rule 3) (t-is : t ≡ referenceAt old rule 2) (env : List ℕ) (binds : Binds old p u (replicate tableWords 0) env) where
     rule-is : firstFit (rulesAt items old rules) Used .1 ≡ some (ruleAt items old rule)
     unfolding ruleOr
     rule-is = sym (found .is) ∙ rw (ne-eqb rule 0 some-rule) refl
@@ -100,7 +97,7 @@ module _ (items old marks : List ℕ) (top rules u w limit : ℕ) (ok : Stepping
     apply-asks =
         record {
           plain = λ i. plain-any items i old t (sound-plain sound-here);
-          under = binds .low top (omega (arith, referenceAt-most old rule 3, found .low, ok .rules-below)) (ok .use-below) (zeros-under 112 top);
+          under = binds .low top (omega (arith, referenceAt-most old rule 3, found .low, ok .rules-below)) (ok .use-below) (zeros-under tableWords top);
           wrap-below = ok .wrap-below;
           template-below = omega (arith, referenceAt-most old rule 2, found .low, ok .rules-below);
           room = ok .room;

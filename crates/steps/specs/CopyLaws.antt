@@ -15,7 +15,7 @@ use Rattle.arena.specs.CellLaws.{tree-kept}
 use Rattle.arena.specs.Lists.{Means}
 use Rattle.steps.specs.declared.build.Built.the-variants.{At, Costly}
 use Rattle.steps.specs.Entries.{entryAt, Under, Low, Ahead, Along, AlongAll, Enters}
-use Rattle.steps.specs.Build.{nodeWords, resultAt, copyAt, Buildable, Made, added, CopiesUnpaid, Turned, Reversed, Copied}
+use Rattle.steps.specs.Build.{resultAt, copyAt, Buildable, Made, added, CopiesUnpaid, Turned, Reversed, Copied}
 use Rattle.steps.specs.EntryLaws.{entry-low}
 use Rattle.steps.specs.BuildLaws.{room-left}
 use Rattle.steps.specs.ResultLaws.{copy-kept, buildable-left}

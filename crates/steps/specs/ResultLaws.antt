@@ -11,7 +11,7 @@ use Rattle.arena.specs.Arena.{wordAt, referenceAt, nameAt, treeAt}
 use Rattle.arena.specs.ArenaLaws.{take-less, referenceAt-most}
 use Rattle.arena.specs.Cells.{Room, Grown}
 use Rattle.arena.specs.CellLaws.{tree-kept}
-use Rattle.rule_cells.specs.Cells.{constantBefore, patternAt, templateAt}
+use Rattle.rule_cells.specs.Cells.{constantBefore, templateAt}
 use Rattle.rule_cells.specs.CellLaws.{patternAt-below, templateAt-below, templateAt-variable, templateAt-insert, templateAt-constant, templateAt-empty}
 use Rattle.steps.specs.declared.environment.Entry.{Entry}
 use Rattle.steps.specs.declared.build.Built.{Built}

@@ -16,7 +16,7 @@ use Rattle.words.specs.Tables.{filled}
 use Rattle.reading.specs.Numbering.{numberOf}
 use Rattle.reader.specs.Code.Index.{bucketCount, bucketOf, Indexed, linked, Walked}
 use Rattle.reader.specs.Code.IndexLaws.{walked-on, walked-all, walked-found, link-falls, indexed-more}
-use Rattle.reader.specs.Code.Stored.{namesIn, stored, NameTable, Entered}
+use Rattle.reader.specs.Code.Stored.{namesIn, stored, Entered}
 
 -- ---- comparing
 

@@ -2,14 +2,7 @@
 use borrow.Author.Needs.{needs}
 use Rattle.steps.proofs.apply.apply.Statement.{statement}
 use Rattle.steps.proofs.apply.apply.Tie as tie
-use Rattle.steps.proofs.apply.apply.Reads as reads
-use Rattle.steps.proofs.apply.apply.Lts as lts
-use Rattle.arena.proofs.cells.reference.Reads as reference-reads
-use Rattle.steps.proofs.apply.transcribe.Reads as transcribe-reads
-use Rattle.steps.proofs.bind.bind.Reads as bind-reads
-use Rattle.steps.proofs.fits.first_fit.Reads as first-fit-reads
 use Rattle.steps.specs.ApplyLaws.{apply-none, apply-asks, apply-stepped}
-use native.Mathlib.Omega.{arith}
 use borrow.Author.Needs.{needs}
 
 first-fit-requires : tie.Need-first-fit-requires

@@ -2,10 +2,6 @@
 use borrow.Author.Needs.{needs}
 use Rattle.steps.proofs.apply.transcribe.Statement.{statement}
 use Rattle.steps.proofs.apply.transcribe.Tie as tie
-use Rattle.steps.proofs.apply.transcribe.Reads as reads
-use Rattle.steps.proofs.apply.transcribe.Lts as lts
-use Rattle.steps.proofs.agree.lengths_agree.Reads as lengths-agree-reads
-use Rattle.steps.proofs.build.build.Reads as build-reads
 use Rattle.steps.specs.Build.{resultAt}
 use Rattle.steps.specs.BuildLaws.{paid-at, unpaid-at}
 use Rattle.steps.specs.ApplyLaws.{transcribed-differ, transcribe-buildable, transcribed-costly, transcribed-done}

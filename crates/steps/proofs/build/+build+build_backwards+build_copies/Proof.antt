@@ -23,7 +23,6 @@ use Rattle.steps.proofs.build.+build+build_backwards+build_copies.{stat
 use Rattle.steps.proofs.build.+build+build_backwards+build_copies.Tie.{close}
 use Rattle.steps.specs.PartLaws.{tag-falls}
 use Rattle.steps.specs.Build.{resultAt, Backwards}
-use Rattle.steps.specs.declared.build.Built.the-variants.{At, Costly}
 use Rattle.steps.specs.BuildLaws.{paid-at, unpaid-at}
 use Rattle.steps.specs.ResultLaws.{made-none, pair-tail, pair-tail-costly, pair-head, pair-head-costly, pair-room, made-pair}
 use Rattle.steps.specs.CopyLaws.{Turning, turning-begins, copies-none, copy-buildable, copy-costly, copy-room, turning-more, turning-ends, reversed-asks, copied}

@@ -15,7 +15,6 @@ use Rattle.steps.proofs.build.+copy_tree.{statement}
 use Rattle.steps.proofs.build.+copy_tree.Tie.{close}
 use Rattle.arena.specs.ArenaLaws.{referenceAt-falls}
 use Rattle.arena.specs.ListLaws.{kind-some}
-use Rattle.steps.specs.declared.build.Built.the-variants.{At, Costly}
 use Rattle.steps.specs.BuildLaws.{Whole, paid-at, unpaid-at, room-less, room-node, unpaid-none, copied-empty, copied-name, copied-constant, waiting-tail, waiting-head, copied-tail-costly, copied-head-costly, copied-room, copied-pair}
 use native.Mathlib.Omega.{arith}
 use borrow.Author.Needs.{needs}

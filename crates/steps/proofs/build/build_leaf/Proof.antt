@@ -2,15 +2,6 @@
 use borrow.Author.Needs.{needs}
 use Rattle.steps.proofs.build.build_leaf.Statement.{statement}
 use Rattle.steps.proofs.build.build_leaf.Tie as tie
-use Rattle.steps.proofs.build.build_leaf.Reads as reads
-use Rattle.steps.proofs.build.build_leaf.Lts as lts
-use Rattle.arena.proofs.cells.put_constant.Reads as put-constant-reads
-use Rattle.arena.proofs.cells.put_empty.Reads as put-empty-reads
-use Rattle.arena.proofs.cells.reference.Reads as reference-reads
-use Rattle.arena.proofs.cells.word.Reads as word-reads
-use Rattle.steps.proofs.build.copy_name.Reads as copy-name-reads
-use Rattle.steps.proofs.build.copy_tree.Reads as copy-tree-reads
-use Rattle.steps.proofs.environment.taken.Reads as taken-reads
 use Rattle.arena.specs.ArenaLaws.{referenceAt-most}
 use Rattle.steps.specs.BuildLaws.{room-less, room-node}
 use Rattle.steps.specs.ResultLaws.{variable-waits, made-variable, made-none, made-insert, kind-plain, made-constant, made-empty}

@@ -2,12 +2,6 @@
 use borrow.Author.Needs.{needs}
 use Rattle.steps.proofs.build.copy_name.Statement.{statement}
 use Rattle.steps.proofs.build.copy_name.Tie as tie
-use Rattle.steps.proofs.build.copy_name.Reads as reads
-use Rattle.steps.proofs.build.copy_name.Lts as lts
-use Rattle.arena.proofs.cells.put_join.Reads as put-join-reads
-use Rattle.arena.proofs.cells.put_name.Reads as put-name-reads
-use Rattle.arena.proofs.cells.reference.Reads as reference-reads
-use Rattle.arena.proofs.cells.word.Reads as word-reads
 use Rattle.arena.specs.ArenaLaws.{referenceAt-most}
 use Rattle.steps.specs.BuildLaws.{room-less, fresh-bare, fresh-joined}
 use native.Mathlib.Omega.{arith}

@@ -1,11 +1,6 @@
 -- The loop's invariant: what was passed stands before the tail, the last first.
 use Rattle.steps.proofs.build.put_reversed.Statement.{statement}
 use Rattle.steps.proofs.build.put_reversed.Tie as tie
-use Rattle.steps.proofs.build.put_reversed.Reads as reads
-use Rattle.steps.proofs.build.put_reversed.Lts as lts
-use Rattle.arena.proofs.cells.put_pair.Reads as put-pair-reads
-use Rattle.arena.proofs.lists.first.Reads as first-reads
-use Rattle.arena.proofs.lists.rest.Reads as rest-reads
 use Prim.Native.Nat.{_-_}
 use Rattle.steps.specs.CopyLaws.{Reversing, reversing-begins, reversing-asks, reversing-more, reversing-ends}
 use native.Mathlib.Omega.{arith}
