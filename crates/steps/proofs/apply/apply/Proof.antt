@@ -7,7 +7,7 @@ use borrow.Author.Needs.{needs}
 
 first-fit-requires : tie.Need-first-fit-requires
 first-fit-requires c κs =
-    (c .before .before .before .before .before .pre) .marks-room
+    c .before .before .before .before .before .pre .marks-room
 
 same-length : tie.Need-same-length
 same-length c =
@@ -19,7 +19,7 @@ same-length-2 c =
 
 returns : tie.Need-returns
 returns c =
-    let a = (c .before .before .before .before .before .before .before .before .before .args) in apply-none (a .items .now) (a .work .now) (a .marks .now) (a .top) (a .rules) (a .u) (a .w) (a .limit) (c .before .before .before .before .before .before .before .before .before .pre) _ ((c .before .before .before .first-fit) .ensures) ((c .if1) .taken)
+    let a = c .before .before .before .before .before .before .before .before .before .args in apply-none (a .items .now) (a .work .now) (a .marks .now) (a .top) (a .rules) (a .u) (a .w) (a .limit) (c .before .before .before .before .before .before .before .before .before .pre) _ (c .before .before .before .first-fit .ensures) (c .if1 .taken)
 
 reference-requires : tie.Need-reference-requires
 reference-requires c κs =
@@ -35,11 +35,11 @@ bind-requires c κs =
 
 transcribe-requires : tie.Need-transcribe-requires
 transcribe-requires c κs =
-    let a = (c .before .before .before .before .before .before .before .before .before .before .before .before .before .before .before .before .before .before .args) in apply-asks (a .items .now) (a .work .now) (a .marks .now) (a .top) (a .rules) (a .u) (a .w) (a .limit) (c .before .before .before .before .before .before .before .before .before .before .before .before .before .before .before .before .before .before .pre) _ ((c .before .before .before .before .before .before .before .before .before .before .before .before .first-fit) .ensures) ((c .before .before .before .before .before .before .before .before .before .if1) .left) _ _ ((c .before .before .before .before .before .before .before .reference) .ensures) ((c .before .before .before .before .before .reference2) .ensures) _ ((c .before .before .bind) .ensures)
+    let a = c .before .before .before .before .before .before .before .before .before .before .before .before .before .before .before .before .before .before .args in apply-asks (a .items .now) (a .work .now) (a .marks .now) (a .top) (a .rules) (a .u) (a .w) (a .limit) (c .before .before .before .before .before .before .before .before .before .before .before .before .before .before .before .before .before .before .pre) _ (c .before .before .before .before .before .before .before .before .before .before .before .before .first-fit .ensures) (c .before .before .before .before .before .before .before .before .before .if1 .left) _ _ (c .before .before .before .before .before .before .before .reference .ensures) (c .before .before .before .before .before .reference2 .ensures) _ (c .before .before .bind .ensures)
 
 same-length-3 : tie.Need-same-length-3
 same-length-3 c =
-    (c .before .before .transcribe) .kept .0
+    c .before .before .transcribe .kept .0
 
 same-length-4 : tie.Need-same-length-4
 same-length-4 c =
@@ -47,7 +47,7 @@ same-length-4 c =
 
 returns-2 : tie.Need-returns-2
 returns-2 c =
-    let a = (c .before .before .before .before .before .before .before .before .before .before .before .before .before .before .before .before .before .before .before .before .before .args) in apply-stepped (a .items .now) (a .work .now) (a .marks .now) (a .top) (a .rules) (a .u) (a .w) (a .limit) (c .before .before .before .before .before .before .before .before .before .before .before .before .before .before .before .before .before .before .before .before .before .pre) _ ((c .before .before .before .before .before .before .before .before .before .before .before .before .before .before .before .first-fit) .ensures) ((c .before .before .before .before .before .before .before .before .before .before .before .before .if1) .left) _ _ ((c .before .before .before .before .before .before .before .before .before .before .reference) .ensures) ((c .before .before .before .before .before .before .before .before .reference2) .ensures) _ ((c .before .before .before .before .before .bind) .ensures) _ _ ((c .before .before .transcribe) .ensures)
+    let a = c .before .before .before .before .before .before .before .before .before .before .before .before .before .before .before .before .before .before .before .before .before .args in apply-stepped (a .items .now) (a .work .now) (a .marks .now) (a .top) (a .rules) (a .u) (a .w) (a .limit) (c .before .before .before .before .before .before .before .before .before .before .before .before .before .before .before .before .before .before .before .before .before .pre) _ (c .before .before .before .before .before .before .before .before .before .before .before .before .before .before .before .first-fit .ensures) (c .before .before .before .before .before .before .before .before .before .before .before .before .if1 .left) _ _ (c .before .before .before .before .before .before .before .before .before .before .reference .ensures) (c .before .before .before .before .before .before .before .before .reference2 .ensures) _ (c .before .before .before .before .before .bind .ensures) _ _ (c .before .before .transcribe .ensures)
 
 pub apply-spec : {M : Type 1} → statement M
 apply-spec =

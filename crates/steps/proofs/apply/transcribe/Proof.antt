@@ -20,11 +20,11 @@ same-length c =
 
 returns : tie.Need-returns
 returns c =
-    let a = (c .before .before .before .before .args) in transcribed-differ (a .work .now) (a .top) (a .env .now) (a .w) (a .t) (a .limit) (c .before .before .before .before .pre) _ ((c .before .lengths-agree) .ensures) (not-true _ ((c .if1) .taken))
+    let a = c .before .before .before .before .args in transcribed-differ (a .work .now) (a .top) (a .env .now) (a .w) (a .t) (a .limit) (c .before .before .before .before .pre) _ (c .before .lengths-agree .ensures) (not-true _ (c .if1 .taken))
 
 build-requires : tie.Need-build-requires
 build-requires c κs =
-    let a = (c .before .before .before .before .before .args) in transcribe-buildable (a .work .now) (a .top) (a .env .now) (a .w) (a .t) (a .limit) (c .before .before .before .before .before .pre) _ ((c .before .before .lengths-agree) .ensures)
+    let a = c .before .before .before .before .before .args in transcribe-buildable (a .work .now) (a .top) (a .env .now) (a .w) (a .t) (a .limit) (c .before .before .before .before .before .pre) _ (c .before .before .lengths-agree .ensures)
 
 enum-known-root : tie.Need-enum-known-root
 enum-known-root c =
@@ -36,23 +36,23 @@ enum-told c =
 
 same-length-2 : tie.Need-same-length-2
 same-length-2 c =
-    (c .before .before .before .before .build) .kept .0
+    c .before .before .before .before .build .kept .0
 
 returns-2 : tie.Need-returns-2
 returns-2 c =
-    let a = (c .before .before .before .before .before .before .before .before .before .before .args) in transcribed-costly (a .work .now) (a .top) (a .env .now) (a .w) (a .t) (a .limit) (c .before .before .before .before .before .before .before .before .before .before .pre) _ ((c .before .before .before .before .before .before .before .lengths-agree) .ensures) (not-false _ ((c .before .before .before .before .before .before .if1) .left)) _ (unpaid-at (λ items. resultAt items (a .work .now) (a .env .now) (a .w) (a .t)) (a .work .now) ((c .before .before .before .before .build) .last .0) (a .top) (a .limit) _ ((c .enum-told) .given .1) ((c .before .before .before .before .build) .ensures))
+    let a = c .before .before .before .before .before .before .before .before .before .before .args in transcribed-costly (a .work .now) (a .top) (a .env .now) (a .w) (a .t) (a .limit) (c .before .before .before .before .before .before .before .before .before .before .pre) _ (c .before .before .before .before .before .before .before .lengths-agree .ensures) (not-false _ (c .before .before .before .before .before .before .if1 .left)) _ (unpaid-at (λ items. resultAt items (a .work .now) (a .env .now) (a .w) (a .t)) (a .work .now) (c .before .before .before .before .build .last .0) (a .top) (a .limit) _ (c .enum-told .given .1) (c .before .before .before .before .build .ensures))
 
 sub-t16 : tie.Need-sub-t16
 sub-t16 c =
-    let a = (c .before .before .before .before .before .before .before .before .before .before .before .args) in let b = paid-at (λ items. resultAt items (a .work .now) (a .env .now) (a .w) (a .t)) (a .work .now) ((c .before .before .before .before .before .build) .last .0) (a .top) (a .limit) _ _ _ ((c .before .root) .given .1) ((c .before .before .before .before .before .build) .ensures) in omega (arith, b .spent [])
+    let a = c .before .before .before .before .before .before .before .before .before .before .before .args in let b = paid-at (λ items. resultAt items (a .work .now) (a .env .now) (a .w) (a .t)) (a .work .now) (c .before .before .before .before .before .build .last .0) (a .top) (a .limit) _ _ _ (c .before .root .given .1) (c .before .before .before .before .before .build .ensures) in omega (arith, b .spent [])
 
 same-length-3 : tie.Need-same-length-3
 same-length-3 c =
-    (c .before .before .before .before .before .build) .kept .0
+    c .before .before .before .before .before .build .kept .0
 
 returns-3 : tie.Need-returns-3
 returns-3 c =
-    let a = (c .before .before .before .before .before .before .before .before .before .before .before .args) in transcribed-done (a .work .now) (a .top) (a .env .now) (a .w) (a .t) (a .limit) (c .before .before .before .before .before .before .before .before .before .before .before .pre) _ ((c .before .before .before .before .before .before .before .before .lengths-agree) .ensures) (not-false _ ((c .before .before .before .before .before .before .before .if1) .left)) _ _ _ (paid-at (λ items. resultAt items (a .work .now) (a .env .now) (a .w) (a .t)) (a .work .now) ((c .before .before .before .before .before .build) .last .0) (a .top) (a .limit) _ _ _ ((c .before .root) .given .1) ((c .before .before .before .before .before .build) .ensures))
+    let a = c .before .before .before .before .before .before .before .before .before .before .before .args in transcribed-done (a .work .now) (a .top) (a .env .now) (a .w) (a .t) (a .limit) (c .before .before .before .before .before .before .before .before .before .before .before .pre) _ (c .before .before .before .before .before .before .before .before .lengths-agree .ensures) (not-false _ (c .before .before .before .before .before .before .before .if1 .left)) _ _ _ (paid-at (λ items. resultAt items (a .work .now) (a .env .now) (a .w) (a .t)) (a .work .now) (c .before .before .before .before .before .build .last .0) (a .top) (a .limit) _ _ _ (c .before .root .given .1) (c .before .before .before .before .before .build .ensures))
 
 pub transcribe-spec : {M : Type 1} → statement M
 transcribe-spec =

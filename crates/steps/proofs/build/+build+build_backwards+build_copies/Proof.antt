@@ -92,27 +92,27 @@ build-word-requires t c κs =
 
 build-build-leaf-requires : (t : ℕ) → build-lts.Need-build-leaf-requires (build-claims t) (build-at t) build.Post
 build-build-leaf-requires t c κs =
-    ((c .before .before .before .before .before .pre) .1, λ z. omega (arith, (c .before .before .word) .ensures, z), λ z. omega (arith, (c .before .before .word) .ensures, z))
+    (c .before .before .before .before .before .pre .1, λ z. omega (arith, c .before .before .word .ensures, z), λ z. omega (arith, c .before .before .word .ensures, z))
 
 build-same-length : (t : ℕ) → build-lts.Need-same-length (build-claims t) (build-at t) build.Post
 build-same-length t c =
-    (c .before .before .build-leaf) .kept .0
+    c .before .before .build-leaf .kept .0
 
 build-returns : (t : ℕ) → build-lts.Need-returns (build-claims t) (build-at t) build.Post
 build-returns t c =
-    (c .before .before .build-leaf) .ensures
+    c .before .before .build-leaf .ensures
 
 build-build-leaf-requires-2 : (t : ℕ) → build-lts.Need-build-leaf-requires-2 (build-claims t) (build-at t) build.Post
 build-build-leaf-requires-2 t c κs =
-    ((c .before .before .before .before .before .before .pre) .1, λ z. omega (arith, (c .before .before .before .word) .ensures, z), λ z. omega (arith, (c .before .before .before .word) .ensures, z))
+    (c .before .before .before .before .before .before .pre .1, λ z. omega (arith, c .before .before .before .word .ensures, z), λ z. omega (arith, c .before .before .before .word .ensures, z))
 
 build-same-length-2 : (t : ℕ) → build-lts.Need-same-length-2 (build-claims t) (build-at t) build.Post
 build-same-length-2 t c =
-    (c .before .before .build-leaf2) .kept .0
+    c .before .before .build-leaf2 .kept .0
 
 build-returns-2 : (t : ℕ) → build-lts.Need-returns-2 (build-claims t) (build-at t) build.Post
 build-returns-2 t c =
-    (c .before .before .build-leaf2) .ensures
+    c .before .before .build-leaf2 .ensures
 
 build-reference-requires : (t : ℕ) → build-lts.Need-reference-requires (build-claims t) (build-at t) build.Post
 build-reference-requires t c κs =
@@ -128,7 +128,7 @@ build-same-length-3 t c =
 
 build-returns-3 : (t : ℕ) → build-lts.Need-returns-3 (build-claims t) (build-at t) build.Post
 build-returns-3 t c =
-    let a = (c .before .before .before .before .before .before .before .before .before .before .before .args) in made-none (a .work .now) (a .top) (a .fuel) (a .env .now) (a .w) (a .t) _ ((c .before .before .before .before .before .before .before .before .word) .ensures) ((c .before .before .before .before .before .before .before .before .before .before .before .pre) .1) ((c .if4) .taken)
+    let a = c .before .before .before .before .before .before .before .before .before .before .before .args in made-none (a .work .now) (a .top) (a .fuel) (a .env .now) (a .w) (a .t) _ (c .before .before .before .before .before .before .before .before .word .ensures) (c .before .before .before .before .before .before .before .before .before .before .before .pre .1) (c .if4 .taken)
 
 build-sub-build : (t : ℕ) → build-lts.Need-sub-build (build-claims t) (build-at t) build.Post
 build-sub-build t c =
@@ -136,7 +136,7 @@ build-sub-build t c =
 
 build-build-requires : (t : ℕ) → build-lts.Need-build-requires (build-claims t) (build-at t) build.Post
 build-build-requires t c κs =
-    let a = (c .before .before .before .before .before .before .before .before .before .before .before .before .args) in let l = tag-falls (a .work .now) (a .t) _ ((c .before .before .before .before .before .before .before .before .before .word) .ensures) 2 _ (λ z. omega arith) ((c .before .before .before .reference2) .ensures) in (omega (arith, l, (c .before .before .before .before .before .before .before .before .before .before .before .before .pre) .0), pair-tail (a .work .now) (a .top) (a .fuel) (a .env .now) (a .w) (a .t) _ ((c .before .before .before .before .before .before .before .before .before .word) .ensures) ((c .before .before .before .before .before .before .before .before .before .before .before .before .pre) .1) _ _ ((c .before .before .before .before .before .reference) .ensures) ((c .before .before .before .reference2) .ensures) ((c .before .before .if3) .taken) _ ((c .before .if4) .left) refl)
+    let a = c .before .before .before .before .before .before .before .before .before .before .before .before .args in let l = tag-falls (a .work .now) (a .t) _ (c .before .before .before .before .before .before .before .before .before .word .ensures) 2 _ (λ z. omega arith) (c .before .before .before .reference2 .ensures) in (omega (arith, l, c .before .before .before .before .before .before .before .before .before .before .before .before .pre .0), pair-tail (a .work .now) (a .top) (a .fuel) (a .env .now) (a .w) (a .t) _ (c .before .before .before .before .before .before .before .before .before .word .ensures) (c .before .before .before .before .before .before .before .before .before .before .before .before .pre .1) _ _ (c .before .before .before .before .before .reference .ensures) (c .before .before .before .reference2 .ensures) (c .before .before .if3 .taken) _ (c .before .if4 .left) refl)
 
 build-enum-known-tail : (t : ℕ) → build-lts.Need-enum-known-tail (build-claims t) (build-at t) build.Post
 build-enum-known-tail t c =
@@ -148,15 +148,15 @@ build-enum-told t c =
 
 build-same-length-4 : (t : ℕ) → build-lts.Need-same-length-4 (build-claims t) (build-at t) build.Post
 build-same-length-4 t c =
-    (c .before .before .before .before .build) .kept .0
+    c .before .before .before .before .build .kept .0
 
 build-returns-4 : (t : ℕ) → build-lts.Need-returns-4 (build-claims t) (build-at t) build.Post
 build-returns-4 t c =
-    let a = (c .before .before .before .before .before .before .before .before .before .before .before .before .before .before .before .before .before .args) in pair-tail-costly (a .work .now) (a .top) (a .fuel) (a .env .now) (a .w) (a .t) _ ((c .before .before .before .before .before .before .before .before .before .before .before .before .before .before .word) .ensures) ((c .before .before .before .before .before .before .before .before .before .before .before .before .before .before .before .before .before .pre) .1) _ _ ((c .before .before .before .before .before .before .before .before .before .before .reference) .ensures) ((c .before .before .before .before .before .before .before .before .reference2) .ensures) ((c .before .before .before .before .before .before .before .if3) .taken) _ ((c .before .before .before .before .before .before .if4) .left) refl _ (unpaid-at (λ items. resultAt items (a .work .now) (a .env .now) (a .w) ((c .before .before .before .before .before .before .before .before .reference2) .result)) (a .work .now) ((c .before .before .before .before .build) .last .0) (a .top) (a .fuel - 1) _ ((c .enum-told) .given .1) ((c .before .before .before .before .build) .ensures))
+    let a = c .before .before .before .before .before .before .before .before .before .before .before .before .before .before .before .before .before .args in pair-tail-costly (a .work .now) (a .top) (a .fuel) (a .env .now) (a .w) (a .t) _ (c .before .before .before .before .before .before .before .before .before .before .before .before .before .before .word .ensures) (c .before .before .before .before .before .before .before .before .before .before .before .before .before .before .before .before .before .pre .1) _ _ (c .before .before .before .before .before .before .before .before .before .before .reference .ensures) (c .before .before .before .before .before .before .before .before .reference2 .ensures) (c .before .before .before .before .before .before .before .if3 .taken) _ (c .before .before .before .before .before .before .if4 .left) refl _ (unpaid-at (λ items. resultAt items (a .work .now) (a .env .now) (a .w) (c .before .before .before .before .before .before .before .before .reference2 .result)) (a .work .now) (c .before .before .before .before .build .last .0) (a .top) (a .fuel - 1) _ (c .enum-told .given .1) (c .before .before .before .before .build .ensures))
 
 build-build-requires-2 : (t : ℕ) → build-lts.Need-build-requires-2 (build-claims t) (build-at t) build.Post
 build-build-requires-2 t c κs =
-    let a = (c .before .before .before .before .before .before .before .before .before .before .before .before .before .before .before .before .before .before .before .args) in let l = tag-falls (a .work .now) (a .t) _ ((c .before .before .before .before .before .before .before .before .before .before .before .before .before .before .before .before .word) .ensures) 3 _ (λ z. omega arith) ((c .before .before .before .before .before .before .before .before .before .before .before .before .reference) .ensures) in let b = paid-at (λ items. resultAt items (a .work .now) (a .env .now) (a .w) ((c .before .before .before .before .before .before .before .before .before .before .reference2) .result)) (a .work .now) ((c .before .before .before .before .before .before .build) .last .0) (a .top) (a .fuel - 1) _ _ _ ((c .before .before .tail) .given .1) ((c .before .before .before .before .before .before .build) .ensures) in (omega (arith, l, (c .before .before .before .before .before .before .before .before .before .before .before .before .before .before .before .before .before .before .before .pre) .0), pair-head (a .work .now) (a .top) (a .fuel) (a .env .now) (a .w) (a .t) _ ((c .before .before .before .before .before .before .before .before .before .before .before .before .before .before .before .before .word) .ensures) ((c .before .before .before .before .before .before .before .before .before .before .before .before .before .before .before .before .before .before .before .pre) .1) _ _ ((c .before .before .before .before .before .before .before .before .before .before .before .before .reference) .ensures) ((c .before .before .before .before .before .before .before .before .before .before .reference2) .ensures) ((c .before .before .before .before .before .before .before .before .before .if3) .taken) _ ((c .before .before .before .before .before .before .before .before .if4) .left) refl _ _ _ b ((c .before .before .before .before .before .before .build) .kept .0))
+    let a = c .before .before .before .before .before .before .before .before .before .before .before .before .before .before .before .before .before .before .before .args in let l = tag-falls (a .work .now) (a .t) _ (c .before .before .before .before .before .before .before .before .before .before .before .before .before .before .before .before .word .ensures) 3 _ (λ z. omega arith) (c .before .before .before .before .before .before .before .before .before .before .before .before .reference .ensures) in let b = paid-at (λ items. resultAt items (a .work .now) (a .env .now) (a .w) (c .before .before .before .before .before .before .before .before .before .before .reference2 .result)) (a .work .now) (c .before .before .before .before .before .before .build .last .0) (a .top) (a .fuel - 1) _ _ _ (c .before .before .tail .given .1) (c .before .before .before .before .before .before .build .ensures) in (omega (arith, l, c .before .before .before .before .before .before .before .before .before .before .before .before .before .before .before .before .before .before .before .pre .0), pair-head (a .work .now) (a .top) (a .fuel) (a .env .now) (a .w) (a .t) _ (c .before .before .before .before .before .before .before .before .before .before .before .before .before .before .before .before .word .ensures) (c .before .before .before .before .before .before .before .before .before .before .before .before .before .before .before .before .before .before .before .pre .1) _ _ (c .before .before .before .before .before .before .before .before .before .before .before .before .reference .ensures) (c .before .before .before .before .before .before .before .before .before .before .reference2 .ensures) (c .before .before .before .before .before .before .before .before .before .if3 .taken) _ (c .before .before .before .before .before .before .before .before .if4 .left) refl _ _ _ b (c .before .before .before .before .before .before .build .kept .0))
 
 build-enum-known-head : (t : ℕ) → build-lts.Need-enum-known-head (build-claims t) (build-at t) build.Post
 build-enum-known-head t c =
@@ -168,23 +168,23 @@ build-enum-told-2 t c =
 
 build-same-length-5 : (t : ℕ) → build-lts.Need-same-length-5 (build-claims t) (build-at t) build.Post
 build-same-length-5 t c =
-    (c .before .before .before .before .build2) .kept .0 ∙ (c .before .before .before .before .before .before .before .before .before .before .before .build) .kept .0
+    c .before .before .before .before .build2 .kept .0 ∙ c .before .before .before .before .before .before .before .before .before .before .before .build .kept .0
 
 build-returns-5 : (t : ℕ) → build-lts.Need-returns-5 (build-claims t) (build-at t) build.Post
 build-returns-5 t c =
-    let a = (c .before .before .before .before .before .before .before .before .before .before .before .before .before .before .before .before .before .before .before .before .before .before .before .before .args) in let b = paid-at (λ items. resultAt items (a .work .now) (a .env .now) (a .w) ((c .before .before .before .before .before .before .before .before .before .before .before .before .before .before .before .reference2) .result)) (a .work .now) ((c .before .before .before .before .before .before .before .before .before .before .before .build) .last .0) (a .top) (a .fuel - 1) _ _ _ ((c .before .before .before .before .before .before .before .tail) .given .1) ((c .before .before .before .before .before .before .before .before .before .before .before .build) .ensures) in pair-head-costly (a .work .now) (a .top) (a .fuel) (a .env .now) (a .w) (a .t) _ ((c .before .before .before .before .before .before .before .before .before .before .before .before .before .before .before .before .before .before .before .before .before .word) .ensures) ((c .before .before .before .before .before .before .before .before .before .before .before .before .before .before .before .before .before .before .before .before .before .before .before .before .pre) .1) _ _ ((c .before .before .before .before .before .before .before .before .before .before .before .before .before .before .before .before .before .reference) .ensures) ((c .before .before .before .before .before .before .before .before .before .before .before .before .before .before .before .reference2) .ensures) ((c .before .before .before .before .before .before .before .before .before .before .before .before .before .before .if3) .taken) _ ((c .before .before .before .before .before .before .before .before .before .before .before .before .before .if4) .left) refl _ _ _ b ((c .before .before .before .before .before .before .before .before .before .before .before .build) .kept .0) _ (unpaid-at (λ items. resultAt items ((c .before .before .before .before .before .before .before .before .before .before .before .build) .last .0) (a .env .now) (a .w) ((c .before .before .before .before .before .before .before .before .before .before .before .before .before .before .before .before .before .reference) .result)) ((c .before .before .before .before .before .before .before .before .before .before .before .build) .last .0) ((c .before .before .before .before .build2) .last .0) _ _ _ ((c .enum-told2) .given .1) ((c .before .before .before .before .build2) .ensures))
+    let a = c .before .before .before .before .before .before .before .before .before .before .before .before .before .before .before .before .before .before .before .before .before .before .before .before .args in let b = paid-at (λ items. resultAt items (a .work .now) (a .env .now) (a .w) (c .before .before .before .before .before .before .before .before .before .before .before .before .before .before .before .reference2 .result)) (a .work .now) (c .before .before .before .before .before .before .before .before .before .before .before .build .last .0) (a .top) (a .fuel - 1) _ _ _ (c .before .before .before .before .before .before .before .tail .given .1) (c .before .before .before .before .before .before .before .before .before .before .before .build .ensures) in pair-head-costly (a .work .now) (a .top) (a .fuel) (a .env .now) (a .w) (a .t) _ (c .before .before .before .before .before .before .before .before .before .before .before .before .before .before .before .before .before .before .before .before .before .word .ensures) (c .before .before .before .before .before .before .before .before .before .before .before .before .before .before .before .before .before .before .before .before .before .before .before .before .pre .1) _ _ (c .before .before .before .before .before .before .before .before .before .before .before .before .before .before .before .before .before .reference .ensures) (c .before .before .before .before .before .before .before .before .before .before .before .before .before .before .before .reference2 .ensures) (c .before .before .before .before .before .before .before .before .before .before .before .before .before .before .if3 .taken) _ (c .before .before .before .before .before .before .before .before .before .before .before .before .before .if4 .left) refl _ _ _ b (c .before .before .before .before .before .before .before .before .before .before .before .build .kept .0) _ (unpaid-at (λ items. resultAt items (c .before .before .before .before .before .before .before .before .before .before .before .build .last .0) (a .env .now) (a .w) (c .before .before .before .before .before .before .before .before .before .before .before .before .before .before .before .before .before .reference .result)) (c .before .before .before .before .before .before .before .before .before .before .before .build .last .0) (c .before .before .before .before .build2 .last .0) _ _ _ (c .enum-told2 .given .1) (c .before .before .before .before .build2 .ensures))
 
 build-put-pair-requires : (t : ℕ) → build-lts.Need-put-pair-requires (build-claims t) (build-at t) build.Post
 build-put-pair-requires t c κs =
-    let a = (c .before .before .before .before .before .before .before .before .before .before .before .before .before .before .before .before .before .before .before .before .before .before .before .before .before .before .args) in let b = paid-at (λ items. resultAt items (a .work .now) (a .env .now) (a .w) ((c .before .before .before .before .before .before .before .before .before .before .before .before .before .before .before .before .before .reference2) .result)) (a .work .now) ((c .before .before .before .before .before .before .before .before .before .before .before .before .before .build) .last .0) (a .top) (a .fuel - 1) _ _ _ ((c .before .before .before .before .before .before .before .before .before .tail) .given .1) ((c .before .before .before .before .before .before .before .before .before .before .before .before .before .build) .ensures) in let h = paid-at (λ items. resultAt items ((c .before .before .before .before .before .before .before .before .before .before .before .before .before .build) .last .0) (a .env .now) (a .w) ((c .before .before .before .before .before .before .before .before .before .before .before .before .before .before .before .before .before .before .before .reference) .result)) ((c .before .before .before .before .before .before .before .before .before .before .before .before .before .build) .last .0) ((c .before .before .before .before .before .before .build2) .last .0) _ _ _ _ _ ((c .before .before .head) .given .1) ((c .before .before .before .before .before .before .build2) .ensures) in (pair-room (a .work .now) (a .top) (a .fuel) (a .env .now) (a .w) (a .t) _ ((c .before .before .before .before .before .before .before .before .before .before .before .before .before .before .before .before .before .before .before .before .before .before .before .word) .ensures) ((c .before .before .before .before .before .before .before .before .before .before .before .before .before .before .before .before .before .before .before .before .before .before .before .before .before .before .pre) .1) _ _ ((c .before .before .before .before .before .before .before .before .before .before .before .before .before .before .before .before .before .before .before .reference) .ensures) ((c .before .before .before .before .before .before .before .before .before .before .before .before .before .before .before .before .before .reference2) .ensures) ((c .before .before .before .before .before .before .before .before .before .before .before .before .before .before .before .before .if3) .taken) _ ((c .before .before .before .before .before .before .before .before .before .before .before .before .before .before .before .if4) .left) refl _ _ _ b ((c .before .before .before .before .before .before .before .before .before .before .before .before .before .build) .kept .0) _ _ _ h ((c .before .before .before .before .before .before .build2) .kept .0), omega arith, h .above)
+    let a = c .before .before .before .before .before .before .before .before .before .before .before .before .before .before .before .before .before .before .before .before .before .before .before .before .before .before .args in let b = paid-at (λ items. resultAt items (a .work .now) (a .env .now) (a .w) (c .before .before .before .before .before .before .before .before .before .before .before .before .before .before .before .before .before .reference2 .result)) (a .work .now) (c .before .before .before .before .before .before .before .before .before .before .before .before .before .build .last .0) (a .top) (a .fuel - 1) _ _ _ (c .before .before .before .before .before .before .before .before .before .tail .given .1) (c .before .before .before .before .before .before .before .before .before .before .before .before .before .build .ensures) in let h = paid-at (λ items. resultAt items (c .before .before .before .before .before .before .before .before .before .before .before .before .before .build .last .0) (a .env .now) (a .w) (c .before .before .before .before .before .before .before .before .before .before .before .before .before .before .before .before .before .before .before .reference .result)) (c .before .before .before .before .before .before .before .before .before .before .before .before .before .build .last .0) (c .before .before .before .before .before .before .build2 .last .0) _ _ _ _ _ (c .before .before .head .given .1) (c .before .before .before .before .before .before .build2 .ensures) in (pair-room (a .work .now) (a .top) (a .fuel) (a .env .now) (a .w) (a .t) _ (c .before .before .before .before .before .before .before .before .before .before .before .before .before .before .before .before .before .before .before .before .before .before .before .word .ensures) (c .before .before .before .before .before .before .before .before .before .before .before .before .before .before .before .before .before .before .before .before .before .before .before .before .before .before .pre .1) _ _ (c .before .before .before .before .before .before .before .before .before .before .before .before .before .before .before .before .before .before .before .reference .ensures) (c .before .before .before .before .before .before .before .before .before .before .before .before .before .before .before .before .before .reference2 .ensures) (c .before .before .before .before .before .before .before .before .before .before .before .before .before .before .before .before .if3 .taken) _ (c .before .before .before .before .before .before .before .before .before .before .before .before .before .before .before .if4 .left) refl _ _ _ b (c .before .before .before .before .before .before .before .before .before .before .before .before .before .build .kept .0) _ _ _ h (c .before .before .before .before .before .before .build2 .kept .0), omega arith, h .above)
 
 build-same-length-6 : (t : ℕ) → build-lts.Need-same-length-6 (build-claims t) (build-at t) build.Post
 build-same-length-6 t c =
-    (c .before .before .put-pair) .kept .0 ∙ (c .before .before .before .before .before .before .before .before .before .build2) .kept .0 ∙ (c .before .before .before .before .before .before .before .before .before .before .before .before .before .before .before .before .build) .kept .0
+    c .before .before .put-pair .kept .0 ∙ c .before .before .before .before .before .before .before .before .before .build2 .kept .0 ∙ c .before .before .before .before .before .before .before .before .before .before .before .before .before .before .before .before .build .kept .0
 
 build-returns-6 : (t : ℕ) → build-lts.Need-returns-6 (build-claims t) (build-at t) build.Post
 build-returns-6 t c =
-    let a = (c .before .before .before .before .before .before .before .before .before .before .before .before .before .before .before .before .before .before .before .before .before .before .before .before .before .before .before .before .before .args) in let b = paid-at (λ items. resultAt items (a .work .now) (a .env .now) (a .w) ((c .before .before .before .before .before .before .before .before .before .before .before .before .before .before .before .before .before .before .before .before .reference2) .result)) (a .work .now) ((c .before .before .before .before .before .before .before .before .before .before .before .before .before .before .before .before .build) .last .0) (a .top) (a .fuel - 1) _ _ _ ((c .before .before .before .before .before .before .before .before .before .before .before .before .tail) .given .1) ((c .before .before .before .before .before .before .before .before .before .before .before .before .before .before .before .before .build) .ensures) in let h = paid-at (λ items. resultAt items ((c .before .before .before .before .before .before .before .before .before .before .before .before .before .before .before .before .build) .last .0) (a .env .now) (a .w) ((c .before .before .before .before .before .before .before .before .before .before .before .before .before .before .before .before .before .before .before .before .before .before .reference) .result)) ((c .before .before .before .before .before .before .before .before .before .before .before .before .before .before .before .before .build) .last .0) ((c .before .before .before .before .before .before .before .before .before .build2) .last .0) _ _ _ _ _ ((c .before .before .before .before .before .head) .given .1) ((c .before .before .before .before .before .before .before .before .before .build2) .ensures) in made-pair (a .work .now) (a .top) (a .fuel) (a .env .now) (a .w) (a .t) _ ((c .before .before .before .before .before .before .before .before .before .before .before .before .before .before .before .before .before .before .before .before .before .before .before .before .before .before .word) .ensures) ((c .before .before .before .before .before .before .before .before .before .before .before .before .before .before .before .before .before .before .before .before .before .before .before .before .before .before .before .before .before .pre) .1) _ _ ((c .before .before .before .before .before .before .before .before .before .before .before .before .before .before .before .before .before .before .before .before .before .before .reference) .ensures) ((c .before .before .before .before .before .before .before .before .before .before .before .before .before .before .before .before .before .before .before .before .reference2) .ensures) ((c .before .before .before .before .before .before .before .before .before .before .before .before .before .before .before .before .before .before .before .if3) .taken) _ ((c .before .before .before .before .before .before .before .before .before .before .before .before .before .before .before .before .before .before .if4) .left) refl _ _ _ b ((c .before .before .before .before .before .before .before .before .before .before .before .before .before .before .before .before .build) .kept .0) _ _ _ h _ _ ((c .before .before .put-pair) .ensures)
+    let a = c .before .before .before .before .before .before .before .before .before .before .before .before .before .before .before .before .before .before .before .before .before .before .before .before .before .before .before .before .before .args in let b = paid-at (λ items. resultAt items (a .work .now) (a .env .now) (a .w) (c .before .before .before .before .before .before .before .before .before .before .before .before .before .before .before .before .before .before .before .before .reference2 .result)) (a .work .now) (c .before .before .before .before .before .before .before .before .before .before .before .before .before .before .before .before .build .last .0) (a .top) (a .fuel - 1) _ _ _ (c .before .before .before .before .before .before .before .before .before .before .before .before .tail .given .1) (c .before .before .before .before .before .before .before .before .before .before .before .before .before .before .before .before .build .ensures) in let h = paid-at (λ items. resultAt items (c .before .before .before .before .before .before .before .before .before .before .before .before .before .before .before .before .build .last .0) (a .env .now) (a .w) (c .before .before .before .before .before .before .before .before .before .before .before .before .before .before .before .before .before .before .before .before .before .before .reference .result)) (c .before .before .before .before .before .before .before .before .before .before .before .before .before .before .before .before .build .last .0) (c .before .before .before .before .before .before .before .before .before .build2 .last .0) _ _ _ _ _ (c .before .before .before .before .before .head .given .1) (c .before .before .before .before .before .before .before .before .before .build2 .ensures) in made-pair (a .work .now) (a .top) (a .fuel) (a .env .now) (a .w) (a .t) _ (c .before .before .before .before .before .before .before .before .before .before .before .before .before .before .before .before .before .before .before .before .before .before .before .before .before .before .word .ensures) (c .before .before .before .before .before .before .before .before .before .before .before .before .before .before .before .before .before .before .before .before .before .before .before .before .before .before .before .before .before .pre .1) _ _ (c .before .before .before .before .before .before .before .before .before .before .before .before .before .before .before .before .before .before .before .before .before .before .reference .ensures) (c .before .before .before .before .before .before .before .before .before .before .before .before .before .before .before .before .before .before .before .before .reference2 .ensures) (c .before .before .before .before .before .before .before .before .before .before .before .before .before .before .before .before .before .before .before .if3 .taken) _ (c .before .before .before .before .before .before .before .before .before .before .before .before .before .before .before .before .before .before .if4 .left) refl _ _ _ b (c .before .before .before .before .before .before .before .before .before .before .before .before .before .before .before .before .build .kept .0) _ _ _ h _ _ (c .before .before .put-pair .ensures)
 
 build-copies-requires : (t : ℕ) → build-lts.Need-copies-requires (build-claims t) (build-at t) build.Post
 build-copies-requires t c κs =
@@ -192,7 +192,7 @@ build-copies-requires t c κs =
 
 build-build-requires-3 : (t : ℕ) → build-lts.Need-build-requires-3 (build-claims t) (build-at t) build.Post
 build-build-requires-3 t c κs =
-    let a = (c .before .before .before .before .before .before .before .before .before .before .before .before .before .args) in let l = tag-falls (a .work .now) (a .t) _ ((c .before .before .before .before .before .before .before .before .before .before .word) .ensures) 2 _ (λ z. omega arith) ((c .before .before .before .before .reference2) .ensures) in (omega (arith, l, (c .before .before .before .before .before .before .before .before .before .before .before .before .before .pre) .0), ellipsis-rest (a .work .now) (a .top) (a .fuel) (a .env .now) (a .w) (a .t) _ ((c .before .before .before .before .before .before .before .before .before .before .word) .ensures) ((c .before .before .before .before .before .before .before .before .before .before .before .before .before .pre) .1) _ _ ((c .before .before .before .before .before .before .reference) .ensures) ((c .before .before .before .before .reference2) .ensures) (omega (arith, (c .before .before .before .before .before .before .before .before .before .if1) .left, (c .before .before .before .before .before .before .before .before .if2) .left, (c .before .before .before .if3) .left)) _ ((c .before .copies) .ensures))
+    let a = c .before .before .before .before .before .before .before .before .before .before .before .before .before .args in let l = tag-falls (a .work .now) (a .t) _ (c .before .before .before .before .before .before .before .before .before .before .word .ensures) 2 _ (λ z. omega arith) (c .before .before .before .before .reference2 .ensures) in (omega (arith, l, c .before .before .before .before .before .before .before .before .before .before .before .before .before .pre .0), ellipsis-rest (a .work .now) (a .top) (a .fuel) (a .env .now) (a .w) (a .t) _ (c .before .before .before .before .before .before .before .before .before .before .word .ensures) (c .before .before .before .before .before .before .before .before .before .before .before .before .before .pre .1) _ _ (c .before .before .before .before .before .before .reference .ensures) (c .before .before .before .before .reference2 .ensures) (omega (arith, c .before .before .before .before .before .before .before .before .before .if1 .left, c .before .before .before .before .before .before .before .before .if2 .left, c .before .before .before .if3 .left)) _ (c .before .copies .ensures))
 
 build-enum-known-tail-2 : (t : ℕ) → build-lts.Need-enum-known-tail-2 (build-claims t) (build-at t) build.Post
 build-enum-known-tail-2 t c =
@@ -204,23 +204,23 @@ build-enum-told-3 t c =
 
 build-same-length-7 : (t : ℕ) → build-lts.Need-same-length-7 (build-claims t) (build-at t) build.Post
 build-same-length-7 t c =
-    (c .before .before .before .before .build3) .kept .0
+    c .before .before .before .before .build3 .kept .0
 
 build-returns-7 : (t : ℕ) → build-lts.Need-returns-7 (build-claims t) (build-at t) build.Post
 build-returns-7 t c =
-    let a = (c .before .before .before .before .before .before .before .before .before .before .before .before .before .before .before .before .before .before .args) in ellipsis-rest-costly (a .work .now) (a .top) (a .fuel) (a .env .now) (a .w) (a .t) _ ((c .before .before .before .before .before .before .before .before .before .before .before .before .before .before .before .word) .ensures) ((c .before .before .before .before .before .before .before .before .before .before .before .before .before .before .before .before .before .before .pre) .1) _ _ ((c .before .before .before .before .before .before .before .before .before .before .before .reference) .ensures) ((c .before .before .before .before .before .before .before .before .before .reference2) .ensures) (omega (arith, (c .before .before .before .before .before .before .before .before .before .before .before .before .before .before .if1) .left, (c .before .before .before .before .before .before .before .before .before .before .before .before .before .if2) .left, (c .before .before .before .before .before .before .before .before .if3) .left)) _ ((c .before .before .before .before .before .before .copies) .ensures) _ (unpaid-at (λ items. resultAt items (a .work .now) (a .env .now) (a .w) ((c .before .before .before .before .before .before .before .before .before .reference2) .result)) (a .work .now) ((c .before .before .before .before .build3) .last .0) (a .top) (a .fuel) _ ((c .enum-told3) .given .1) ((c .before .before .before .before .build3) .ensures))
+    let a = c .before .before .before .before .before .before .before .before .before .before .before .before .before .before .before .before .before .before .args in ellipsis-rest-costly (a .work .now) (a .top) (a .fuel) (a .env .now) (a .w) (a .t) _ (c .before .before .before .before .before .before .before .before .before .before .before .before .before .before .before .word .ensures) (c .before .before .before .before .before .before .before .before .before .before .before .before .before .before .before .before .before .before .pre .1) _ _ (c .before .before .before .before .before .before .before .before .before .before .before .reference .ensures) (c .before .before .before .before .before .before .before .before .before .reference2 .ensures) (omega (arith, c .before .before .before .before .before .before .before .before .before .before .before .before .before .before .if1 .left, c .before .before .before .before .before .before .before .before .before .before .before .before .before .if2 .left, c .before .before .before .before .before .before .before .before .if3 .left)) _ (c .before .before .before .before .before .before .copies .ensures) _ (unpaid-at (λ items. resultAt items (a .work .now) (a .env .now) (a .w) (c .before .before .before .before .before .before .before .before .before .reference2 .result)) (a .work .now) (c .before .before .before .before .build3 .last .0) (a .top) (a .fuel) _ (c .enum-told3 .given .1) (c .before .before .before .before .build3 .ensures))
 
 build-build-copies-requires : (t : ℕ) → build-lts.Need-build-copies-requires (build-claims t) (build-at t) build.Post
 build-build-copies-requires t c κs =
-    let a = (c .before .before .before .before .before .before .before .before .before .before .before .before .before .before .before .before .before .before .before .before .args) in let l = tag-falls (a .work .now) (a .t) _ ((c .before .before .before .before .before .before .before .before .before .before .before .before .before .before .before .before .before .word) .ensures) 3 _ (λ z. omega arith) ((c .before .before .before .before .before .before .before .before .before .before .before .before .before .reference) .ensures) in let b = paid-at (λ items. resultAt items (a .work .now) (a .env .now) (a .w) ((c .before .before .before .before .before .before .before .before .before .before .before .reference2) .result)) (a .work .now) ((c .before .before .before .before .before .before .build3) .last .0) (a .top) (a .fuel) _ _ _ ((c .before .before .tail2) .given .1) ((c .before .before .before .before .before .before .build3) .ensures) in (omega (arith, l, (c .before .before .before .before .before .before .before .before .before .before .before .before .before .before .before .before .before .before .before .before .pre) .0), ellipsis-copies (a .work .now) (a .top) (a .fuel) (a .env .now) (a .w) (a .t) _ ((c .before .before .before .before .before .before .before .before .before .before .before .before .before .before .before .before .before .word) .ensures) ((c .before .before .before .before .before .before .before .before .before .before .before .before .before .before .before .before .before .before .before .before .pre) .1) _ _ ((c .before .before .before .before .before .before .before .before .before .before .before .before .before .reference) .ensures) ((c .before .before .before .before .before .before .before .before .before .before .before .reference2) .ensures) (omega (arith, (c .before .before .before .before .before .before .before .before .before .before .before .before .before .before .before .before .if1) .left, (c .before .before .before .before .before .before .before .before .before .before .before .before .before .before .before .if2) .left, (c .before .before .before .before .before .before .before .before .before .before .if3) .left)) _ ((c .before .before .before .before .before .before .before .before .copies) .ensures) _ _ _ b ((c .before .before .before .before .before .before .build3) .kept .0))
+    let a = c .before .before .before .before .before .before .before .before .before .before .before .before .before .before .before .before .before .before .before .before .args in let l = tag-falls (a .work .now) (a .t) _ (c .before .before .before .before .before .before .before .before .before .before .before .before .before .before .before .before .before .word .ensures) 3 _ (λ z. omega arith) (c .before .before .before .before .before .before .before .before .before .before .before .before .before .reference .ensures) in let b = paid-at (λ items. resultAt items (a .work .now) (a .env .now) (a .w) (c .before .before .before .before .before .before .before .before .before .before .before .reference2 .result)) (a .work .now) (c .before .before .before .before .before .before .build3 .last .0) (a .top) (a .fuel) _ _ _ (c .before .before .tail2 .given .1) (c .before .before .before .before .before .before .build3 .ensures) in (omega (arith, l, c .before .before .before .before .before .before .before .before .before .before .before .before .before .before .before .before .before .before .before .before .pre .0), ellipsis-copies (a .work .now) (a .top) (a .fuel) (a .env .now) (a .w) (a .t) _ (c .before .before .before .before .before .before .before .before .before .before .before .before .before .before .before .before .before .word .ensures) (c .before .before .before .before .before .before .before .before .before .before .before .before .before .before .before .before .before .before .before .before .pre .1) _ _ (c .before .before .before .before .before .before .before .before .before .before .before .before .before .reference .ensures) (c .before .before .before .before .before .before .before .before .before .before .before .reference2 .ensures) (omega (arith, c .before .before .before .before .before .before .before .before .before .before .before .before .before .before .before .before .if1 .left, c .before .before .before .before .before .before .before .before .before .before .before .before .before .before .before .if2 .left, c .before .before .before .before .before .before .before .before .before .before .if3 .left)) _ (c .before .before .before .before .before .before .before .before .copies .ensures) _ _ _ b (c .before .before .before .before .before .before .build3 .kept .0))
 
 build-same-length-8 : (t : ℕ) → build-lts.Need-same-length-8 (build-claims t) (build-at t) build.Post
 build-same-length-8 t c =
-    (c .before .before .build-copies) .kept .0 ∙ (c .before .before .before .before .before .before .before .before .before .build3) .kept .0
+    c .before .before .build-copies .kept .0 ∙ c .before .before .before .before .before .before .before .before .before .build3 .kept .0
 
 build-returns-8 : (t : ℕ) → build-lts.Need-returns-8 (build-claims t) (build-at t) build.Post
 build-returns-8 t c =
-    let a = (c .before .before .before .before .before .before .before .before .before .before .before .before .before .before .before .before .before .before .before .before .before .before .before .args) in let b = paid-at (λ items. resultAt items (a .work .now) (a .env .now) (a .w) ((c .before .before .before .before .before .before .before .before .before .before .before .before .before .before .reference2) .result)) (a .work .now) ((c .before .before .before .before .before .before .before .before .before .build3) .last .0) (a .top) (a .fuel) _ _ _ ((c .before .before .before .before .before .tail2) .given .1) ((c .before .before .before .before .before .before .before .before .before .build3) .ensures) in made-copies (a .work .now) (a .top) (a .fuel) (a .env .now) (a .w) (a .t) _ ((c .before .before .before .before .before .before .before .before .before .before .before .before .before .before .before .before .before .before .before .before .word) .ensures) ((c .before .before .before .before .before .before .before .before .before .before .before .before .before .before .before .before .before .before .before .before .before .before .before .pre) .1) _ _ ((c .before .before .before .before .before .before .before .before .before .before .before .before .before .before .before .before .reference) .ensures) ((c .before .before .before .before .before .before .before .before .before .before .before .before .before .before .reference2) .ensures) (omega (arith, (c .before .before .before .before .before .before .before .before .before .before .before .before .before .before .before .before .before .before .before .if1) .left, (c .before .before .before .before .before .before .before .before .before .before .before .before .before .before .before .before .before .before .if2) .left, (c .before .before .before .before .before .before .before .before .before .before .before .before .before .if3) .left)) _ ((c .before .before .before .before .before .before .before .before .before .before .before .copies) .ensures) _ _ _ b ((c .before .before .before .before .before .before .before .before .before .build3) .kept .0) ((c .before .before .build-copies) .last .0) ((c .before .before .build-copies) .result) ((c .before .before .build-copies) .ensures)
+    let a = c .before .before .before .before .before .before .before .before .before .before .before .before .before .before .before .before .before .before .before .before .before .before .before .args in let b = paid-at (λ items. resultAt items (a .work .now) (a .env .now) (a .w) (c .before .before .before .before .before .before .before .before .before .before .before .before .before .before .reference2 .result)) (a .work .now) (c .before .before .before .before .before .before .before .before .before .build3 .last .0) (a .top) (a .fuel) _ _ _ (c .before .before .before .before .before .tail2 .given .1) (c .before .before .before .before .before .before .before .before .before .build3 .ensures) in made-copies (a .work .now) (a .top) (a .fuel) (a .env .now) (a .w) (a .t) _ (c .before .before .before .before .before .before .before .before .before .before .before .before .before .before .before .before .before .before .before .before .word .ensures) (c .before .before .before .before .before .before .before .before .before .before .before .before .before .before .before .before .before .before .before .before .before .before .before .pre .1) _ _ (c .before .before .before .before .before .before .before .before .before .before .before .before .before .before .before .before .reference .ensures) (c .before .before .before .before .before .before .before .before .before .before .before .before .before .before .reference2 .ensures) (omega (arith, c .before .before .before .before .before .before .before .before .before .before .before .before .before .before .before .before .before .before .before .if1 .left, c .before .before .before .before .before .before .before .before .before .before .before .before .before .before .before .before .before .before .if2 .left, c .before .before .before .before .before .before .before .before .before .before .before .before .before .if3 .left)) _ (c .before .before .before .before .before .before .before .before .before .before .before .copies .ensures) _ _ _ b (c .before .before .before .before .before .before .before .before .before .build3 .kept .0) (c .before .before .build-copies .last .0) (c .before .before .build-copies .result) (c .before .before .build-copies .ensures)
 
 abbrev build-backwards-Inv-loop : build-backwards-lts.InvT-loop
 build-backwards-Inv-loop work₀ top fuel env w e c table₀ list₀ left₀ k₀ work table list left k =
@@ -236,15 +236,15 @@ build-backwards-begin-requires t c κs =
 
 build-backwards-loop-holds : (t : ℕ) → build-backwards-lts.Need-loop-holds (build-backwards-claims t) (build-backwards-at t) build-backwards.Post build-backwards-Inv-loop build-backwards-μ-loop
 build-backwards-loop-holds t c =
-    let a = (c .before .before .before .args) in turning-begins (a .work .now) (a .top) (a .fuel) (a .env .now) (a .w) (a .e) (a .c) ((c .before .before .before .pre) .1) _ ((c .begin) .ensures .0 (a .work .now)) ((c .begin) .ensures .1)
+    let a = c .before .before .before .args in turning-begins (a .work .now) (a .top) (a .fuel) (a .env .now) (a .w) (a .e) (a .c) (c .before .before .before .pre .1) _ (c .begin .ensures .0 (a .work .now)) (c .begin .ensures .1)
 
 build-backwards-same-length : (t : ℕ) → build-backwards-lts.Need-same-length (build-backwards-claims t) (build-backwards-at t) build-backwards.Post build-backwards-Inv-loop build-backwards-μ-loop
 build-backwards-same-length t c =
-    (c .before .before .loop) .inv .long
+    c .before .before .loop .inv .long
 
 build-backwards-returns : (t : ℕ) → build-backwards-lts.Need-returns (build-backwards-claims t) (build-backwards-at t) build-backwards.Post build-backwards-Inv-loop build-backwards-μ-loop
 build-backwards-returns t c =
-    let a = (c .before .before .before .before .before .before .args) in copies-none (a .work .now) (a .top) (a .fuel) (a .env .now) (a .w) (a .e) (a .c) ((c .before .before .before .before .before .before .pre) .1) _ _ _ _ _ ((c .before .before .loop) .inv) ((c .before .loop-test) .taken) ((c .if1) .taken)
+    let a = c .before .before .before .before .before .before .args in copies-none (a .work .now) (a .top) (a .fuel) (a .env .now) (a .w) (a .e) (a .c) (c .before .before .before .before .before .before .pre .1) _ _ _ _ _ (c .before .before .loop .inv) (c .before .loop-test .taken) (c .if1 .taken)
 
 build-backwards-enter-requires : (t : ℕ) → build-backwards-lts.Need-enter-requires (build-backwards-claims t) (build-backwards-at t) build-backwards.Post build-backwards-Inv-loop build-backwards-μ-loop
 build-backwards-enter-requires t c κs =
@@ -256,7 +256,7 @@ build-backwards-sub-build t c =
 
 build-backwards-build-requires : (t : ℕ) → build-backwards-lts.Need-build-requires (build-backwards-claims t) (build-backwards-at t) build-backwards.Post build-backwards-Inv-loop build-backwards-μ-loop
 build-backwards-build-requires t c κs =
-    let a = (c .before .before .before .before .before .before .before .before .before .before .before .args) in (omega (arith, (c .before .before .before .before .before .before .before .before .before .before .before .pre) .0), copy-buildable (a .work .now) (a .top) (a .fuel) (a .env .now) (a .w) (a .e) (a .c) ((c .before .before .before .before .before .before .before .before .before .before .before .pre) .1) _ _ _ _ _ ((c .before .before .before .before .before .before .before .loop) .inv) ((c .before .before .before .before .before .before .loop-test) .taken) ((c .before .before .before .before .before .if1) .left) _ ((c .before .before .enter) .ensures))
+    let a = c .before .before .before .before .before .before .before .before .before .before .before .args in (omega (arith, c .before .before .before .before .before .before .before .before .before .before .before .pre .0), copy-buildable (a .work .now) (a .top) (a .fuel) (a .env .now) (a .w) (a .e) (a .c) (c .before .before .before .before .before .before .before .before .before .before .before .pre .1) _ _ _ _ _ (c .before .before .before .before .before .before .before .loop .inv) (c .before .before .before .before .before .before .loop-test .taken) (c .before .before .before .before .before .if1 .left) _ (c .before .before .enter .ensures))
 
 build-backwards-enum-known-head : (t : ℕ) → build-backwards-lts.Need-enum-known-head (build-backwards-claims t) (build-backwards-at t) build-backwards.Post build-backwards-Inv-loop build-backwards-μ-loop
 build-backwards-enum-known-head t c =
@@ -268,15 +268,15 @@ build-backwards-enum-told t c =
 
 build-backwards-same-length-2 : (t : ℕ) → build-backwards-lts.Need-same-length-2 (build-backwards-claims t) (build-backwards-at t) build-backwards.Post build-backwards-Inv-loop build-backwards-μ-loop
 build-backwards-same-length-2 t c =
-    (c .before .before .before .before .build) .kept .0 ∙ (c .before .before .before .before .before .before .before .before .before .before .before .before .loop) .inv .long
+    c .before .before .before .before .build .kept .0 ∙ c .before .before .before .before .before .before .before .before .before .before .before .before .loop .inv .long
 
 build-backwards-returns-2 : (t : ℕ) → build-backwards-lts.Need-returns-2 (build-backwards-claims t) (build-backwards-at t) build-backwards.Post build-backwards-Inv-loop build-backwards-μ-loop
 build-backwards-returns-2 t c =
-    let a = (c .before .before .before .before .before .before .before .before .before .before .before .before .before .before .before .before .args) in copy-costly (a .work .now) (a .top) (a .fuel) (a .env .now) (a .w) (a .e) (a .c) ((c .before .before .before .before .before .before .before .before .before .before .before .before .before .before .before .before .pre) .1) _ _ _ _ _ ((c .before .before .before .before .before .before .before .before .before .before .before .before .loop) .inv) ((c .before .before .before .before .before .before .before .before .before .before .before .loop-test) .taken) ((c .before .before .before .before .before .before .before .before .before .before .if1) .left) _ ((c .before .before .before .before .before .before .before .enter) .ensures) _ (unpaid-at (λ items. resultAt items ((c .before .before .before .before .before .before .before .before .before .before .before .before .loop) .work) ((c .before .before .before .before .before .before .before .enter) .last .1 .0) (a .w) (a .e)) ((c .before .before .before .before .before .before .before .before .before .before .before .before .loop) .work) ((c .before .before .before .before .build) .last .0) ((c .before .before .before .before .before .before .before .before .before .before .before .before .loop) .list) ((c .before .before .before .before .before .before .before .before .before .before .before .before .loop) .left - 1) _ ((c .enum-told) .given .1) ((c .before .before .before .before .build) .ensures))
+    let a = c .before .before .before .before .before .before .before .before .before .before .before .before .before .before .before .before .args in copy-costly (a .work .now) (a .top) (a .fuel) (a .env .now) (a .w) (a .e) (a .c) (c .before .before .before .before .before .before .before .before .before .before .before .before .before .before .before .before .pre .1) _ _ _ _ _ (c .before .before .before .before .before .before .before .before .before .before .before .before .loop .inv) (c .before .before .before .before .before .before .before .before .before .before .before .loop-test .taken) (c .before .before .before .before .before .before .before .before .before .before .if1 .left) _ (c .before .before .before .before .before .before .before .enter .ensures) _ (unpaid-at (λ items. resultAt items (c .before .before .before .before .before .before .before .before .before .before .before .before .loop .work) (c .before .before .before .before .before .before .before .enter .last .1 .0) (a .w) (a .e)) (c .before .before .before .before .before .before .before .before .before .before .before .before .loop .work) (c .before .before .before .before .build .last .0) (c .before .before .before .before .before .before .before .before .before .before .before .before .loop .list) (c .before .before .before .before .before .before .before .before .before .before .before .before .loop .left - 1) _ (c .enum-told .given .1) (c .before .before .before .before .build .ensures))
 
 build-backwards-put-pair-requires : (t : ℕ) → build-backwards-lts.Need-put-pair-requires (build-backwards-claims t) (build-backwards-at t) build-backwards.Post build-backwards-Inv-loop build-backwards-μ-loop
 build-backwards-put-pair-requires t c κs =
-    let a = (c .before .before .before .before .before .before .before .before .before .before .before .before .before .before .before .before .before .before .args) in let b = paid-at (λ items. resultAt items ((c .before .before .before .before .before .before .before .before .before .before .before .before .before .before .loop) .work) ((c .before .before .before .before .before .before .before .before .before .enter) .last .1 .0) (a .w) (a .e)) ((c .before .before .before .before .before .before .before .before .before .before .before .before .before .before .loop) .work) ((c .before .before .before .before .before .before .build) .last .0) ((c .before .before .before .before .before .before .before .before .before .before .before .before .before .before .loop) .list) ((c .before .before .before .before .before .before .before .before .before .before .before .before .before .before .loop) .left - 1) _ _ _ ((c .before .before .head) .given .1) ((c .before .before .before .before .before .before .build) .ensures) in (copy-room (a .work .now) (a .top) (a .fuel) (a .env .now) (a .w) (a .e) (a .c) ((c .before .before .before .before .before .before .before .before .before .before .before .before .before .before .before .before .before .before .pre) .1) _ _ _ _ _ ((c .before .before .before .before .before .before .before .before .before .before .before .before .before .before .loop) .inv) ((c .before .before .before .before .before .before .before .before .before .before .before .before .before .loop-test) .taken) ((c .before .before .before .before .before .before .before .before .before .before .before .before .if1) .left) _ ((c .before .before .before .before .before .before .before .before .before .enter) .ensures) _ _ _ b ((c .before .before .before .before .before .before .build) .kept .0), omega arith, b .above)
+    let a = c .before .before .before .before .before .before .before .before .before .before .before .before .before .before .before .before .before .before .args in let b = paid-at (λ items. resultAt items (c .before .before .before .before .before .before .before .before .before .before .before .before .before .before .loop .work) (c .before .before .before .before .before .before .before .before .before .enter .last .1 .0) (a .w) (a .e)) (c .before .before .before .before .before .before .before .before .before .before .before .before .before .before .loop .work) (c .before .before .before .before .before .before .build .last .0) (c .before .before .before .before .before .before .before .before .before .before .before .before .before .before .loop .list) (c .before .before .before .before .before .before .before .before .before .before .before .before .before .before .loop .left - 1) _ _ _ (c .before .before .head .given .1) (c .before .before .before .before .before .before .build .ensures) in (copy-room (a .work .now) (a .top) (a .fuel) (a .env .now) (a .w) (a .e) (a .c) (c .before .before .before .before .before .before .before .before .before .before .before .before .before .before .before .before .before .before .pre .1) _ _ _ _ _ (c .before .before .before .before .before .before .before .before .before .before .before .before .before .before .loop .inv) (c .before .before .before .before .before .before .before .before .before .before .before .before .before .loop-test .taken) (c .before .before .before .before .before .before .before .before .before .before .before .before .if1 .left) _ (c .before .before .before .before .before .before .before .before .before .enter .ensures) _ _ _ b (c .before .before .before .before .before .before .build .kept .0), omega arith, b .above)
 
 build-backwards-add-k : (t : ℕ) → build-backwards-lts.Need-add-k (build-backwards-claims t) (build-backwards-at t) build-backwards.Post build-backwards-Inv-loop build-backwards-μ-loop
 build-backwards-add-k t c =
@@ -284,23 +284,23 @@ build-backwards-add-k t c =
 
 build-backwards-loop-less : (t : ℕ) → build-backwards-lts.Need-loop-less (build-backwards-claims t) (build-backwards-at t) build-backwards.Post build-backwards-Inv-loop build-backwards-μ-loop
 build-backwards-loop-less t c =
-    omega (arith, (c .before .before .before .before .before .before .before .before .before .before .before .before .before .before .before .before .loop-test) .taken)
+    omega (arith, c .before .before .before .before .before .before .before .before .before .before .before .before .before .before .before .before .loop-test .taken)
 
 build-backwards-loop-again : (t : ℕ) → build-backwards-lts.Need-loop-again (build-backwards-claims t) (build-backwards-at t) build-backwards.Post build-backwards-Inv-loop build-backwards-μ-loop
 build-backwards-loop-again t c =
-    let a = (c .before .before .before .before .before .before .before .before .before .before .before .before .before .before .before .before .before .before .before .before .before .args) in let b = paid-at (λ items. resultAt items ((c .before .before .before .before .before .before .before .before .before .before .before .before .before .before .before .before .before .loop) .work) ((c .before .before .before .before .before .before .before .before .before .before .before .before .enter) .last .1 .0) (a .w) (a .e)) ((c .before .before .before .before .before .before .before .before .before .before .before .before .before .before .before .before .before .loop) .work) ((c .before .before .before .before .before .before .before .before .before .build) .last .0) ((c .before .before .before .before .before .before .before .before .before .before .before .before .before .before .before .before .before .loop) .list) ((c .before .before .before .before .before .before .before .before .before .before .before .before .before .before .before .before .before .loop) .left - 1) _ _ _ ((c .before .before .before .before .before .head) .given .1) ((c .before .before .before .before .before .before .before .before .before .build) .ensures) in turning-more (a .work .now) (a .top) (a .fuel) (a .env .now) (a .w) (a .e) (a .c) ((c .before .before .before .before .before .before .before .before .before .before .before .before .before .before .before .before .before .before .before .before .before .pre) .1) _ _ _ _ _ ((c .before .before .before .before .before .before .before .before .before .before .before .before .before .before .before .before .before .loop) .inv) ((c .before .before .before .before .before .before .before .before .before .before .before .before .before .before .before .before .loop-test) .taken) ((c .before .before .before .before .before .before .before .before .before .before .before .before .before .before .before .if1) .left) _ ((c .before .before .before .before .before .before .before .before .before .before .before .before .enter) .ensures) _ _ _ b ((c .before .before .before .before .before .before .before .before .before .build) .kept .0) _ _ ((c .before .before .put-pair) .ensures) ((c .before .before .put-pair) .kept .0)
+    let a = c .before .before .before .before .before .before .before .before .before .before .before .before .before .before .before .before .before .before .before .before .before .args in let b = paid-at (λ items. resultAt items (c .before .before .before .before .before .before .before .before .before .before .before .before .before .before .before .before .before .loop .work) (c .before .before .before .before .before .before .before .before .before .before .before .before .enter .last .1 .0) (a .w) (a .e)) (c .before .before .before .before .before .before .before .before .before .before .before .before .before .before .before .before .before .loop .work) (c .before .before .before .before .before .before .before .before .before .build .last .0) (c .before .before .before .before .before .before .before .before .before .before .before .before .before .before .before .before .before .loop .list) (c .before .before .before .before .before .before .before .before .before .before .before .before .before .before .before .before .before .loop .left - 1) _ _ _ (c .before .before .before .before .before .head .given .1) (c .before .before .before .before .before .before .before .before .before .build .ensures) in turning-more (a .work .now) (a .top) (a .fuel) (a .env .now) (a .w) (a .e) (a .c) (c .before .before .before .before .before .before .before .before .before .before .before .before .before .before .before .before .before .before .before .before .before .pre .1) _ _ _ _ _ (c .before .before .before .before .before .before .before .before .before .before .before .before .before .before .before .before .before .loop .inv) (c .before .before .before .before .before .before .before .before .before .before .before .before .before .before .before .before .loop-test .taken) (c .before .before .before .before .before .before .before .before .before .before .before .before .before .before .before .if1 .left) _ (c .before .before .before .before .before .before .before .before .before .before .before .before .enter .ensures) _ _ _ b (c .before .before .before .before .before .before .before .before .before .build .kept .0) _ _ (c .before .before .put-pair .ensures) (c .before .before .put-pair .kept .0)
 
 build-backwards-same-length-3 : (t : ℕ) → build-backwards-lts.Need-same-length-3 (build-backwards-claims t) (build-backwards-at t) build-backwards.Post build-backwards-Inv-loop build-backwards-μ-loop
 build-backwards-same-length-3 t c =
-    (c .before .loop) .inv .long
+    c .before .loop .inv .long
 
 build-backwards-returns-3 : (t : ℕ) → build-backwards-lts.Need-returns-3 (build-backwards-claims t) (build-backwards-at t) build-backwards.Post build-backwards-Inv-loop build-backwards-μ-loop
 build-backwards-returns-3 t c =
-    let a = (c .before .before .before .before .before .args) in turning-ends (a .work .now) (a .top) (a .fuel) (a .env .now) (a .w) (a .e) (a .c) ((c .before .before .before .before .before .pre) .1) _ _ _ _ _ ((c .before .loop) .inv) (omega (arith, (c .loop-test) .left))
+    let a = c .before .before .before .before .before .args in turning-ends (a .work .now) (a .top) (a .fuel) (a .env .now) (a .w) (a .e) (a .c) (c .before .before .before .before .before .pre .1) _ _ _ _ _ (c .before .loop .inv) (omega (arith, c .loop-test .left))
 
 build-copies-build-backwards-requires : (t : ℕ) → build-copies-lts.Need-build-backwards-requires (build-copies-claims t) (build-copies-at t) build-copies.Post
 build-copies-build-backwards-requires t c κs =
-    (omega (arith, (c .before .before .pre) .0), (c .before .before .pre) .1)
+    (omega (arith, c .before .before .pre .0), c .before .before .pre .1)
 
 build-copies-enum-known-list : (t : ℕ) → build-copies-lts.Need-enum-known-list (build-copies-claims t) (build-copies-at t) build-copies.Post
 build-copies-enum-known-list t c =
@@ -312,23 +312,23 @@ build-copies-enum-told t c =
 
 build-copies-same-length : (t : ℕ) → build-copies-lts.Need-same-length (build-copies-claims t) (build-copies-at t) build-copies.Post
 build-copies-same-length t c =
-    (c .before .before .before .before .build-backwards) .kept .0
+    c .before .before .before .before .build-backwards .kept .0
 
 build-copies-returns : (t : ℕ) → build-copies-lts.Need-returns (build-copies-claims t) (build-copies-at t) build-copies.Post
 build-copies-returns t c =
-    let a = (c .before .before .before .before .before .before .before .args) in subst (Backwards (a .work .now) ((c .before .before .before .before .build-backwards) .last .0) (a .top) (a .fuel) (a .env .now) (a .w) (a .e) (a .c)) ((c .enum-told) .given .1) ((c .before .before .before .before .build-backwards) .ensures)
+    let a = c .before .before .before .before .before .before .before .args in subst (Backwards (a .work .now) (c .before .before .before .before .build-backwards .last .0) (a .top) (a .fuel) (a .env .now) (a .w) (a .e) (a .c)) (c .enum-told .given .1) (c .before .before .before .before .build-backwards .ensures)
 
 build-copies-put-reversed-requires : (t : ℕ) → build-copies-lts.Need-put-reversed-requires (build-copies-claims t) (build-copies-at t) build-copies.Post
 build-copies-put-reversed-requires t c κs =
-    let a = (c .before .before .before .before .before .before .before .before .before .args) in reversed-asks (a .work .now) (a .top) (a .fuel) (a .env .now) (a .w) (a .e) (a .c) ((c .before .before .before .before .before .before .before .before .before .pre) .1) _ _ _ (subst (Backwards (a .work .now) ((c .before .before .before .before .before .before .build-backwards) .last .0) (a .top) (a .fuel) (a .env .now) (a .w) (a .e) (a .c)) ((c .before .before .list) .given .1) ((c .before .before .before .before .before .before .build-backwards) .ensures)) ((c .before .before .before .before .before .before .build-backwards) .kept .0)
+    let a = c .before .before .before .before .before .before .before .before .before .args in reversed-asks (a .work .now) (a .top) (a .fuel) (a .env .now) (a .w) (a .e) (a .c) (c .before .before .before .before .before .before .before .before .before .pre .1) _ _ _ (subst (Backwards (a .work .now) (c .before .before .before .before .before .before .build-backwards .last .0) (a .top) (a .fuel) (a .env .now) (a .w) (a .e) (a .c)) (c .before .before .list .given .1) (c .before .before .before .before .before .before .build-backwards .ensures)) (c .before .before .before .before .before .before .build-backwards .kept .0)
 
 build-copies-same-length-2 : (t : ℕ) → build-copies-lts.Need-same-length-2 (build-copies-claims t) (build-copies-at t) build-copies.Post
 build-copies-same-length-2 t c =
-    (c .before .before .put-reversed) .kept .0 ∙ (c .before .before .before .before .before .before .before .before .before .build-backwards) .kept .0
+    c .before .before .put-reversed .kept .0 ∙ c .before .before .before .before .before .before .before .before .before .build-backwards .kept .0
 
 build-copies-returns-2 : (t : ℕ) → build-copies-lts.Need-returns-2 (build-copies-claims t) (build-copies-at t) build-copies.Post
 build-copies-returns-2 t c =
-    let a = (c .before .before .before .before .before .before .before .before .before .before .before .before .args) in copied (a .work .now) (a .top) (a .fuel) (a .env .now) (a .w) (a .e) (a .c) ((c .before .before .before .before .before .before .before .before .before .before .before .before .pre) .1) _ _ _ (subst (Backwards (a .work .now) ((c .before .before .before .before .before .before .before .before .before .build-backwards) .last .0) (a .top) (a .fuel) (a .env .now) (a .w) (a .e) (a .c)) ((c .before .before .before .before .before .list) .given .1) ((c .before .before .before .before .before .before .before .before .before .build-backwards) .ensures)) ((c .before .before .before .before .before .before .before .before .before .build-backwards) .kept .0) _ _ ((c .before .before .put-reversed) .ensures)
+    let a = c .before .before .before .before .before .before .before .before .before .before .before .before .args in copied (a .work .now) (a .top) (a .fuel) (a .env .now) (a .w) (a .e) (a .c) (c .before .before .before .before .before .before .before .before .before .before .before .before .pre .1) _ _ _ (subst (Backwards (a .work .now) (c .before .before .before .before .before .before .before .before .before .build-backwards .last .0) (a .top) (a .fuel) (a .env .now) (a .w) (a .e) (a .c)) (c .before .before .before .before .before .list .given .1) (c .before .before .before .before .before .before .before .before .before .build-backwards .ensures)) (c .before .before .before .before .before .before .before .before .before .build-backwards .kept .0) _ _ (c .before .before .put-reversed .ensures)
 
 pub +build+build-backwards+build-copies-spec : {M : Type 1} → statement M
 +build+build-backwards+build-copies-spec =

@@ -36,7 +36,7 @@ copy-tree-claims t = (word-reads.Asked, word-reads.Learnt, put-empty-reads.Asked
 
 copy-tree-returns : (t : ℕ) → copy-tree-lts.Need-returns (copy-tree-claims t) (copy-tree-at t) copy-tree.Post
 copy-tree-returns t c =
-    let a = (c .before .before .args) in unpaid-none (Whole (a .work .now) (a .node) (a .w)) (a .work .now) (a .top) (a .fuel) ((c .if1) .taken)
+    let a = c .before .before .args in unpaid-none (Whole (a .work .now) (a .node) (a .w)) (a .work .now) (a .top) (a .fuel) (c .if1 .taken)
 
 copy-tree-sub-left : (t : ℕ) → copy-tree-lts.Need-sub-left (copy-tree-claims t) (copy-tree-at t) copy-tree.Post
 copy-tree-sub-left t c =
@@ -48,27 +48,27 @@ copy-tree-word-requires t c κs =
 
 copy-tree-put-empty-requires : (t : ℕ) → copy-tree-lts.Need-put-empty-requires (copy-tree-claims t) (copy-tree-at t) copy-tree.Post
 copy-tree-put-empty-requires t c κs =
-    let a = (c .before .before .before .before .before .before .args) in room-less _ _ (room-node (a .work .now) (a .top) (a .fuel) ((c .before .before .before .before .if1) .left) ((c .before .before .before .before .before .before .pre) .1 .room))
+    let a = c .before .before .before .before .before .before .args in room-less _ _ (room-node (a .work .now) (a .top) (a .fuel) (c .before .before .before .before .if1 .left) (c .before .before .before .before .before .before .pre .1 .room))
 
 copy-tree-same-length : (t : ℕ) → copy-tree-lts.Need-same-length (copy-tree-claims t) (copy-tree-at t) copy-tree.Post
 copy-tree-same-length t c =
-    (c .before .before .put-empty) .kept .0
+    c .before .before .put-empty .kept .0
 
 copy-tree-returns-2 : (t : ℕ) → copy-tree-lts.Need-returns-2 (copy-tree-claims t) (copy-tree-at t) copy-tree.Post
 copy-tree-returns-2 t c =
-    let a = (c .before .before .before .before .before .before .before .before .before .args) in copied-empty (a .work .now) (a .top) (a .fuel) (a .node) (a .w) _ ((c .before .before .before .before .before .before .before .if1) .left) refl _ ((c .before .before .before .before .before .word) .ensures) _ _ ((c .before .before .before .before .if2) .taken) ((c .before .before .put-empty) .ensures)
+    let a = c .before .before .before .before .before .before .before .before .before .args in copied-empty (a .work .now) (a .top) (a .fuel) (a .node) (a .w) _ (c .before .before .before .before .before .before .before .if1 .left) refl _ (c .before .before .before .before .before .word .ensures) _ _ (c .before .before .before .before .if2 .taken) (c .before .before .put-empty .ensures)
 
 copy-tree-copy-name-requires : (t : ℕ) → copy-tree-lts.Need-copy-name-requires (copy-tree-claims t) (copy-tree-at t) copy-tree.Post
 copy-tree-copy-name-requires t c κs =
-    let a = (c .before .before .before .before .before .before .before .args) in (room-node (a .work .now) (a .top) (a .fuel) ((c .before .before .before .before .before .if1) .left) ((c .before .before .before .before .before .before .before .pre) .1 .room), (c .before .before .before .before .before .before .before .pre) .1 .node-below, (c .before .before .before .before .before .before .before .pre) .1 .wrap-below)
+    let a = c .before .before .before .before .before .before .before .args in (room-node (a .work .now) (a .top) (a .fuel) (c .before .before .before .before .before .if1 .left) (c .before .before .before .before .before .before .before .pre .1 .room), c .before .before .before .before .before .before .before .pre .1 .node-below, c .before .before .before .before .before .before .before .pre .1 .wrap-below)
 
 copy-tree-same-length-2 : (t : ℕ) → copy-tree-lts.Need-same-length-2 (copy-tree-claims t) (copy-tree-at t) copy-tree.Post
 copy-tree-same-length-2 t c =
-    (c .before .before .copy-name) .kept .0
+    c .before .before .copy-name .kept .0
 
 copy-tree-returns-3 : (t : ℕ) → copy-tree-lts.Need-returns-3 (copy-tree-claims t) (copy-tree-at t) copy-tree.Post
 copy-tree-returns-3 t c =
-    let a = (c .before .before .before .before .before .before .before .before .before .before .args) in copied-name (a .work .now) (a .top) (a .fuel) (a .node) (a .w) _ ((c .before .before .before .before .before .before .before .before .if1) .left) refl _ ((c .before .before .before .before .before .before .word) .ensures) _ _ ((c .before .before .before .before .if3) .taken) ((c .before .before .copy-name) .ensures)
+    let a = c .before .before .before .before .before .before .before .before .before .before .args in copied-name (a .work .now) (a .top) (a .fuel) (a .node) (a .w) _ (c .before .before .before .before .before .before .before .before .if1 .left) refl _ (c .before .before .before .before .before .before .word .ensures) _ _ (c .before .before .before .before .if3 .taken) (c .before .before .copy-name .ensures)
 
 copy-tree-word-requires-2 : (t : ℕ) → copy-tree-lts.Need-word-requires-2 (copy-tree-claims t) (copy-tree-at t) copy-tree.Post
 copy-tree-word-requires-2 t c κs =
@@ -80,15 +80,15 @@ copy-tree-word-requires-3 t c κs =
 
 copy-tree-put-constant-requires : (t : ℕ) → copy-tree-lts.Need-put-constant-requires (copy-tree-claims t) (copy-tree-at t) copy-tree.Post
 copy-tree-put-constant-requires t c κs =
-    let a = (c .before .before .before .before .before .before .before .before .before .before .before .before .args) in (room-less _ _ (room-node (a .work .now) (a .top) (a .fuel) ((c .before .before .before .before .before .before .before .before .before .before .if1) .left) ((c .before .before .before .before .before .before .before .before .before .before .before .before .pre) .1 .room)), (c .before .before .before .before .before .before .before .if2) .left, (c .before .before .before .before .before .before .if3) .left, (c .before .if4) .taken)
+    let a = c .before .before .before .before .before .before .before .before .before .before .before .before .args in (room-less _ _ (room-node (a .work .now) (a .top) (a .fuel) (c .before .before .before .before .before .before .before .before .before .before .if1 .left) (c .before .before .before .before .before .before .before .before .before .before .before .before .pre .1 .room)), c .before .before .before .before .before .before .before .if2 .left, c .before .before .before .before .before .before .if3 .left, c .before .if4 .taken)
 
 copy-tree-same-length-3 : (t : ℕ) → copy-tree-lts.Need-same-length-3 (copy-tree-claims t) (copy-tree-at t) copy-tree.Post
 copy-tree-same-length-3 t c =
-    (c .before .before .put-constant) .kept .0
+    c .before .before .put-constant .kept .0
 
 copy-tree-returns-4 : (t : ℕ) → copy-tree-lts.Need-returns-4 (copy-tree-claims t) (copy-tree-at t) copy-tree.Post
 copy-tree-returns-4 t c =
-    let a = (c .before .before .before .before .before .before .before .before .before .before .before .before .before .before .before .args) in copied-constant (a .work .now) (a .top) (a .fuel) (a .node) (a .w) _ ((c .before .before .before .before .before .before .before .before .before .before .before .before .before .if1) .left) refl _ ((c .before .before .before .before .before .before .before .before .before .before .before .word) .ensures) _ _ _ _ ((c .before .before .before .before .before .before .before .before .before .before .if2) .left) ((c .before .before .before .before .before .before .before .before .before .if3) .left) ((c .before .before .before .before .if4) .taken) ((c .before .before .before .before .before .before .before .word2) .ensures) ((c .before .before .before .before .before .word3) .ensures) ((c .before .before .put-constant) .ensures)
+    let a = c .before .before .before .before .before .before .before .before .before .before .before .before .before .before .before .args in copied-constant (a .work .now) (a .top) (a .fuel) (a .node) (a .w) _ (c .before .before .before .before .before .before .before .before .before .before .before .before .before .if1 .left) refl _ (c .before .before .before .before .before .before .before .before .before .before .before .word .ensures) _ _ _ _ (c .before .before .before .before .before .before .before .before .before .before .if2 .left) (c .before .before .before .before .before .before .before .before .before .if3 .left) (c .before .before .before .before .if4 .taken) (c .before .before .before .before .before .before .before .word2 .ensures) (c .before .before .before .before .before .word3 .ensures) (c .before .before .put-constant .ensures)
 
 copy-tree-reference-requires : (t : ℕ) → copy-tree-lts.Need-reference-requires (copy-tree-claims t) (copy-tree-at t) copy-tree.Post
 copy-tree-reference-requires t c κs =
@@ -100,7 +100,7 @@ copy-tree-reference-requires-2 t c κs =
 
 copy-tree-copy-tree-requires : (t : ℕ) → copy-tree-lts.Need-copy-tree-requires (copy-tree-claims t) (copy-tree-at t) copy-tree.Post
 copy-tree-copy-tree-requires t c κs =
-    let a = (c .before .before .before .before .before .before .before .before .before .before .before .before .before .before .before .before .args) in (omega (arith, (c .before .before .before .before .before .before .before .before .before .before .before .before .before .before .before .before .pre) .0, (c .before .reference2) .ensures, referenceAt-falls (a .work .now) (a .node) 1 (kind-some (a .work .now) (a .node) _ ((c .before .before .before .before .before .before .before .before .before .before .before .before .word) .ensures) ((c .before .before .before .before .before .if4) .left))), waiting-tail (a .work .now) (a .top) (a .fuel) (a .node) (a .w) _ ((c .before .before .before .before .before .before .before .before .before .before .before .before .before .before .if1) .left) refl _ ((c .before .before .before .before .before .before .before .before .before .before .before .before .word) .ensures) _ _ ((c .before .before .before .before .before .if4) .left) ((c .before .before .before .reference) .ensures) ((c .before .reference2) .ensures) ((c .before .before .before .before .before .before .before .before .before .before .before .before .before .before .before .before .pre) .1))
+    let a = c .before .before .before .before .before .before .before .before .before .before .before .before .before .before .before .before .args in (omega (arith, c .before .before .before .before .before .before .before .before .before .before .before .before .before .before .before .before .pre .0, c .before .reference2 .ensures, referenceAt-falls (a .work .now) (a .node) 1 (kind-some (a .work .now) (a .node) _ (c .before .before .before .before .before .before .before .before .before .before .before .before .word .ensures) (c .before .before .before .before .before .if4 .left))), waiting-tail (a .work .now) (a .top) (a .fuel) (a .node) (a .w) _ (c .before .before .before .before .before .before .before .before .before .before .before .before .before .before .if1 .left) refl _ (c .before .before .before .before .before .before .before .before .before .before .before .before .word .ensures) _ _ (c .before .before .before .before .before .if4 .left) (c .before .before .before .reference .ensures) (c .before .reference2 .ensures) (c .before .before .before .before .before .before .before .before .before .before .before .before .before .before .before .before .pre .1))
 
 copy-tree-enum-known-tail : (t : ℕ) → copy-tree-lts.Need-enum-known-tail (copy-tree-claims t) (copy-tree-at t) copy-tree.Post
 copy-tree-enum-known-tail t c =
@@ -112,15 +112,15 @@ copy-tree-enum-told t c =
 
 copy-tree-same-length-4 : (t : ℕ) → copy-tree-lts.Need-same-length-4 (copy-tree-claims t) (copy-tree-at t) copy-tree.Post
 copy-tree-same-length-4 t c =
-    (c .before .before .before .before .copy-tree) .kept .0
+    c .before .before .before .before .copy-tree .kept .0
 
 copy-tree-returns-5 : (t : ℕ) → copy-tree-lts.Need-returns-5 (copy-tree-claims t) (copy-tree-at t) copy-tree.Post
 copy-tree-returns-5 t c =
-    let a = (c .before .before .before .before .before .before .before .before .before .before .before .before .before .before .before .before .before .before .before .before .before .args) in copied-tail-costly (a .work .now) (a .top) (a .fuel) (a .node) (a .w) _ ((c .before .before .before .before .before .before .before .before .before .before .before .before .before .before .before .before .before .before .before .if1) .left) refl _ ((c .before .before .before .before .before .before .before .before .before .before .before .before .before .before .before .before .before .word) .ensures) _ _ ((c .before .before .before .before .before .before .before .before .before .before .if4) .left) ((c .before .before .before .before .before .before .before .before .reference) .ensures) ((c .before .before .before .before .before .before .reference2) .ensures) ((c .before .before .before .before .before .before .before .before .before .before .before .before .before .before .before .before .before .before .before .before .before .pre) .1) _ (unpaid-at (Whole (a .work .now) ((c .before .before .before .before .before .before .reference2) .result) (a .w)) (a .work .now) ((c .before .before .before .before .copy-tree) .last .0) (a .top) (a .fuel - 1) _ ((c .enum-told) .given .1) ((c .before .before .before .before .copy-tree) .ensures))
+    let a = c .before .before .before .before .before .before .before .before .before .before .before .before .before .before .before .before .before .before .before .before .before .args in copied-tail-costly (a .work .now) (a .top) (a .fuel) (a .node) (a .w) _ (c .before .before .before .before .before .before .before .before .before .before .before .before .before .before .before .before .before .before .before .if1 .left) refl _ (c .before .before .before .before .before .before .before .before .before .before .before .before .before .before .before .before .before .word .ensures) _ _ (c .before .before .before .before .before .before .before .before .before .before .if4 .left) (c .before .before .before .before .before .before .before .before .reference .ensures) (c .before .before .before .before .before .before .reference2 .ensures) (c .before .before .before .before .before .before .before .before .before .before .before .before .before .before .before .before .before .before .before .before .before .pre .1) _ (unpaid-at (Whole (a .work .now) (c .before .before .before .before .before .before .reference2 .result) (a .w)) (a .work .now) (c .before .before .before .before .copy-tree .last .0) (a .top) (a .fuel - 1) _ (c .enum-told .given .1) (c .before .before .before .before .copy-tree .ensures))
 
 copy-tree-copy-tree-requires-2 : (t : ℕ) → copy-tree-lts.Need-copy-tree-requires-2 (copy-tree-claims t) (copy-tree-at t) copy-tree.Post
 copy-tree-copy-tree-requires-2 t c κs =
-    let a = (c .before .before .before .before .before .before .before .before .before .before .before .before .before .before .before .before .before .before .before .before .before .before .before .args) in let b = paid-at (Whole (a .work .now) ((c .before .before .before .before .before .before .before .before .reference2) .result) (a .w)) (a .work .now) ((c .before .before .before .before .before .before .copy-tree) .last .0) (a .top) (a .fuel - 1) _ _ _ ((c .before .before .tail) .given .1) ((c .before .before .before .before .before .before .copy-tree) .ensures) in (omega (arith, (c .before .before .before .before .before .before .before .before .before .before .before .before .before .before .before .before .before .before .before .before .before .before .before .pre) .0, (c .before .before .before .before .before .before .before .before .before .before .reference) .ensures, referenceAt-falls (a .work .now) (a .node) 2 (kind-some (a .work .now) (a .node) _ ((c .before .before .before .before .before .before .before .before .before .before .before .before .before .before .before .before .before .before .before .word) .ensures) ((c .before .before .before .before .before .before .before .before .before .before .before .before .if4) .left))), waiting-head (a .work .now) (a .top) (a .fuel) (a .node) (a .w) _ ((c .before .before .before .before .before .before .before .before .before .before .before .before .before .before .before .before .before .before .before .before .before .if1) .left) refl _ ((c .before .before .before .before .before .before .before .before .before .before .before .before .before .before .before .before .before .before .before .word) .ensures) _ _ ((c .before .before .before .before .before .before .before .before .before .before .before .before .if4) .left) ((c .before .before .before .before .before .before .before .before .before .before .reference) .ensures) ((c .before .before .before .before .before .before .before .before .reference2) .ensures) ((c .before .before .before .before .before .before .before .before .before .before .before .before .before .before .before .before .before .before .before .before .before .before .before .pre) .1) _ _ _ b ((c .before .before .before .before .before .before .copy-tree) .kept .0))
+    let a = c .before .before .before .before .before .before .before .before .before .before .before .before .before .before .before .before .before .before .before .before .before .before .before .args in let b = paid-at (Whole (a .work .now) (c .before .before .before .before .before .before .before .before .reference2 .result) (a .w)) (a .work .now) (c .before .before .before .before .before .before .copy-tree .last .0) (a .top) (a .fuel - 1) _ _ _ (c .before .before .tail .given .1) (c .before .before .before .before .before .before .copy-tree .ensures) in (omega (arith, c .before .before .before .before .before .before .before .before .before .before .before .before .before .before .before .before .before .before .before .before .before .before .before .pre .0, c .before .before .before .before .before .before .before .before .before .before .reference .ensures, referenceAt-falls (a .work .now) (a .node) 2 (kind-some (a .work .now) (a .node) _ (c .before .before .before .before .before .before .before .before .before .before .before .before .before .before .before .before .before .before .before .word .ensures) (c .before .before .before .before .before .before .before .before .before .before .before .before .if4 .left))), waiting-head (a .work .now) (a .top) (a .fuel) (a .node) (a .w) _ (c .before .before .before .before .before .before .before .before .before .before .before .before .before .before .before .before .before .before .before .before .before .if1 .left) refl _ (c .before .before .before .before .before .before .before .before .before .before .before .before .before .before .before .before .before .before .before .word .ensures) _ _ (c .before .before .before .before .before .before .before .before .before .before .before .before .if4 .left) (c .before .before .before .before .before .before .before .before .before .before .reference .ensures) (c .before .before .before .before .before .before .before .before .reference2 .ensures) (c .before .before .before .before .before .before .before .before .before .before .before .before .before .before .before .before .before .before .before .before .before .before .before .pre .1) _ _ _ b (c .before .before .before .before .before .before .copy-tree .kept .0))
 
 copy-tree-enum-known-head : (t : ℕ) → copy-tree-lts.Need-enum-known-head (copy-tree-claims t) (copy-tree-at t) copy-tree.Post
 copy-tree-enum-known-head t c =
@@ -132,23 +132,23 @@ copy-tree-enum-told-2 t c =
 
 copy-tree-same-length-5 : (t : ℕ) → copy-tree-lts.Need-same-length-5 (copy-tree-claims t) (copy-tree-at t) copy-tree.Post
 copy-tree-same-length-5 t c =
-    (c .before .before .before .before .copy-tree2) .kept .0 ∙ (c .before .before .before .before .before .before .before .before .before .before .before .copy-tree) .kept .0
+    c .before .before .before .before .copy-tree2 .kept .0 ∙ c .before .before .before .before .before .before .before .before .before .before .before .copy-tree .kept .0
 
 copy-tree-returns-6 : (t : ℕ) → copy-tree-lts.Need-returns-6 (copy-tree-claims t) (copy-tree-at t) copy-tree.Post
 copy-tree-returns-6 t c =
-    let a = (c .before .before .before .before .before .before .before .before .before .before .before .before .before .before .before .before .before .before .before .before .before .before .before .before .before .before .before .before .args) in let b = paid-at (Whole (a .work .now) ((c .before .before .before .before .before .before .before .before .before .before .before .before .before .reference2) .result) (a .w)) (a .work .now) ((c .before .before .before .before .before .before .before .before .before .before .before .copy-tree) .last .0) (a .top) (a .fuel - 1) _ _ _ ((c .before .before .before .before .before .before .before .tail) .given .1) ((c .before .before .before .before .before .before .before .before .before .before .before .copy-tree) .ensures) in copied-head-costly (a .work .now) (a .top) (a .fuel) (a .node) (a .w) _ ((c .before .before .before .before .before .before .before .before .before .before .before .before .before .before .before .before .before .before .before .before .before .before .before .before .before .before .if1) .left) refl _ ((c .before .before .before .before .before .before .before .before .before .before .before .before .before .before .before .before .before .before .before .before .before .before .before .before .word) .ensures) _ _ ((c .before .before .before .before .before .before .before .before .before .before .before .before .before .before .before .before .before .if4) .left) ((c .before .before .before .before .before .before .before .before .before .before .before .before .before .before .before .reference) .ensures) ((c .before .before .before .before .before .before .before .before .before .before .before .before .before .reference2) .ensures) ((c .before .before .before .before .before .before .before .before .before .before .before .before .before .before .before .before .before .before .before .before .before .before .before .before .before .before .before .before .pre) .1) _ _ _ b ((c .before .before .before .before .before .before .before .before .before .before .before .copy-tree) .kept .0) _ (unpaid-at (Whole ((c .before .before .before .before .before .before .before .before .before .before .before .copy-tree) .last .0) ((c .before .before .before .before .before .before .before .before .before .before .before .before .before .before .before .reference) .result) (a .w)) ((c .before .before .before .before .before .before .before .before .before .before .before .copy-tree) .last .0) ((c .before .before .before .before .copy-tree2) .last .0) _ _ _ ((c .enum-told2) .given .1) ((c .before .before .before .before .copy-tree2) .ensures))
+    let a = c .before .before .before .before .before .before .before .before .before .before .before .before .before .before .before .before .before .before .before .before .before .before .before .before .before .before .before .before .args in let b = paid-at (Whole (a .work .now) (c .before .before .before .before .before .before .before .before .before .before .before .before .before .reference2 .result) (a .w)) (a .work .now) (c .before .before .before .before .before .before .before .before .before .before .before .copy-tree .last .0) (a .top) (a .fuel - 1) _ _ _ (c .before .before .before .before .before .before .before .tail .given .1) (c .before .before .before .before .before .before .before .before .before .before .before .copy-tree .ensures) in copied-head-costly (a .work .now) (a .top) (a .fuel) (a .node) (a .w) _ (c .before .before .before .before .before .before .before .before .before .before .before .before .before .before .before .before .before .before .before .before .before .before .before .before .before .before .if1 .left) refl _ (c .before .before .before .before .before .before .before .before .before .before .before .before .before .before .before .before .before .before .before .before .before .before .before .before .word .ensures) _ _ (c .before .before .before .before .before .before .before .before .before .before .before .before .before .before .before .before .before .if4 .left) (c .before .before .before .before .before .before .before .before .before .before .before .before .before .before .before .reference .ensures) (c .before .before .before .before .before .before .before .before .before .before .before .before .before .reference2 .ensures) (c .before .before .before .before .before .before .before .before .before .before .before .before .before .before .before .before .before .before .before .before .before .before .before .before .before .before .before .before .pre .1) _ _ _ b (c .before .before .before .before .before .before .before .before .before .before .before .copy-tree .kept .0) _ (unpaid-at (Whole (c .before .before .before .before .before .before .before .before .before .before .before .copy-tree .last .0) (c .before .before .before .before .before .before .before .before .before .before .before .before .before .before .before .reference .result) (a .w)) (c .before .before .before .before .before .before .before .before .before .before .before .copy-tree .last .0) (c .before .before .before .before .copy-tree2 .last .0) _ _ _ (c .enum-told2 .given .1) (c .before .before .before .before .copy-tree2 .ensures))
 
 copy-tree-put-pair-requires : (t : ℕ) → copy-tree-lts.Need-put-pair-requires (copy-tree-claims t) (copy-tree-at t) copy-tree.Post
 copy-tree-put-pair-requires t c κs =
-    let a = (c .before .before .before .before .before .before .before .before .before .before .before .before .before .before .before .before .before .before .before .before .before .before .before .before .before .before .before .before .before .before .args) in let b = paid-at (Whole (a .work .now) ((c .before .before .before .before .before .before .before .before .before .before .before .before .before .before .before .reference2) .result) (a .w)) (a .work .now) ((c .before .before .before .before .before .before .before .before .before .before .before .before .before .copy-tree) .last .0) (a .top) (a .fuel - 1) _ _ _ ((c .before .before .before .before .before .before .before .before .before .tail) .given .1) ((c .before .before .before .before .before .before .before .before .before .before .before .before .before .copy-tree) .ensures) in let h = paid-at (Whole ((c .before .before .before .before .before .before .before .before .before .before .before .before .before .copy-tree) .last .0) ((c .before .before .before .before .before .before .before .before .before .before .before .before .before .before .before .before .before .reference) .result) (a .w)) ((c .before .before .before .before .before .before .before .before .before .before .before .before .before .copy-tree) .last .0) ((c .before .before .before .before .before .before .copy-tree2) .last .0) _ _ _ _ _ ((c .before .before .head) .given .1) ((c .before .before .before .before .before .before .copy-tree2) .ensures) in (copied-room (a .work .now) (a .top) (a .fuel) (a .node) (a .w) _ ((c .before .before .before .before .before .before .before .before .before .before .before .before .before .before .before .before .before .before .before .before .before .before .before .before .before .before .before .before .if1) .left) refl _ ((c .before .before .before .before .before .before .before .before .before .before .before .before .before .before .before .before .before .before .before .before .before .before .before .before .before .before .word) .ensures) _ _ ((c .before .before .before .before .before .before .before .before .before .before .before .before .before .before .before .before .before .before .before .if4) .left) ((c .before .before .before .before .before .before .before .before .before .before .before .before .before .before .before .before .before .reference) .ensures) ((c .before .before .before .before .before .before .before .before .before .before .before .before .before .before .before .reference2) .ensures) ((c .before .before .before .before .before .before .before .before .before .before .before .before .before .before .before .before .before .before .before .before .before .before .before .before .before .before .before .before .before .before .pre) .1) _ _ _ b ((c .before .before .before .before .before .before .before .before .before .before .before .before .before .copy-tree) .kept .0) _ _ _ h ((c .before .before .before .before .before .before .copy-tree2) .kept .0), omega arith, h .above)
+    let a = c .before .before .before .before .before .before .before .before .before .before .before .before .before .before .before .before .before .before .before .before .before .before .before .before .before .before .before .before .before .before .args in let b = paid-at (Whole (a .work .now) (c .before .before .before .before .before .before .before .before .before .before .before .before .before .before .before .reference2 .result) (a .w)) (a .work .now) (c .before .before .before .before .before .before .before .before .before .before .before .before .before .copy-tree .last .0) (a .top) (a .fuel - 1) _ _ _ (c .before .before .before .before .before .before .before .before .before .tail .given .1) (c .before .before .before .before .before .before .before .before .before .before .before .before .before .copy-tree .ensures) in let h = paid-at (Whole (c .before .before .before .before .before .before .before .before .before .before .before .before .before .copy-tree .last .0) (c .before .before .before .before .before .before .before .before .before .before .before .before .before .before .before .before .before .reference .result) (a .w)) (c .before .before .before .before .before .before .before .before .before .before .before .before .before .copy-tree .last .0) (c .before .before .before .before .before .before .copy-tree2 .last .0) _ _ _ _ _ (c .before .before .head .given .1) (c .before .before .before .before .before .before .copy-tree2 .ensures) in (copied-room (a .work .now) (a .top) (a .fuel) (a .node) (a .w) _ (c .before .before .before .before .before .before .before .before .before .before .before .before .before .before .before .before .before .before .before .before .before .before .before .before .before .before .before .before .if1 .left) refl _ (c .before .before .before .before .before .before .before .before .before .before .before .before .before .before .before .before .before .before .before .before .before .before .before .before .before .before .word .ensures) _ _ (c .before .before .before .before .before .before .before .before .before .before .before .before .before .before .before .before .before .before .before .if4 .left) (c .before .before .before .before .before .before .before .before .before .before .before .before .before .before .before .before .before .reference .ensures) (c .before .before .before .before .before .before .before .before .before .before .before .before .before .before .before .reference2 .ensures) (c .before .before .before .before .before .before .before .before .before .before .before .before .before .before .before .before .before .before .before .before .before .before .before .before .before .before .before .before .before .before .pre .1) _ _ _ b (c .before .before .before .before .before .before .before .before .before .before .before .before .before .copy-tree .kept .0) _ _ _ h (c .before .before .before .before .before .before .copy-tree2 .kept .0), omega arith, h .above)
 
 copy-tree-same-length-6 : (t : ℕ) → copy-tree-lts.Need-same-length-6 (copy-tree-claims t) (copy-tree-at t) copy-tree.Post
 copy-tree-same-length-6 t c =
-    (c .before .before .put-pair) .kept .0 ∙ (c .before .before .before .before .before .before .before .before .before .copy-tree2) .kept .0 ∙ (c .before .before .before .before .before .before .before .before .before .before .before .before .before .before .before .before .copy-tree) .kept .0
+    c .before .before .put-pair .kept .0 ∙ c .before .before .before .before .before .before .before .before .before .copy-tree2 .kept .0 ∙ c .before .before .before .before .before .before .before .before .before .before .before .before .before .before .before .before .copy-tree .kept .0
 
 copy-tree-returns-7 : (t : ℕ) → copy-tree-lts.Need-returns-7 (copy-tree-claims t) (copy-tree-at t) copy-tree.Post
 copy-tree-returns-7 t c =
-    let a = (c .before .before .before .before .before .before .before .before .before .before .before .before .before .before .before .before .before .before .before .before .before .before .before .before .before .before .before .before .before .before .before .before .before .args) in let b = paid-at (Whole (a .work .now) ((c .before .before .before .before .before .before .before .before .before .before .before .before .before .before .before .before .before .before .reference2) .result) (a .w)) (a .work .now) ((c .before .before .before .before .before .before .before .before .before .before .before .before .before .before .before .before .copy-tree) .last .0) (a .top) (a .fuel - 1) _ _ _ ((c .before .before .before .before .before .before .before .before .before .before .before .before .tail) .given .1) ((c .before .before .before .before .before .before .before .before .before .before .before .before .before .before .before .before .copy-tree) .ensures) in let h = paid-at (Whole ((c .before .before .before .before .before .before .before .before .before .before .before .before .before .before .before .before .copy-tree) .last .0) ((c .before .before .before .before .before .before .before .before .before .before .before .before .before .before .before .before .before .before .before .before .reference) .result) (a .w)) ((c .before .before .before .before .before .before .before .before .before .before .before .before .before .before .before .before .copy-tree) .last .0) ((c .before .before .before .before .before .before .before .before .before .copy-tree2) .last .0) _ _ _ _ _ ((c .before .before .before .before .before .head) .given .1) ((c .before .before .before .before .before .before .before .before .before .copy-tree2) .ensures) in copied-pair (a .work .now) (a .top) (a .fuel) (a .node) (a .w) _ ((c .before .before .before .before .before .before .before .before .before .before .before .before .before .before .before .before .before .before .before .before .before .before .before .before .before .before .before .before .before .before .before .if1) .left) refl _ ((c .before .before .before .before .before .before .before .before .before .before .before .before .before .before .before .before .before .before .before .before .before .before .before .before .before .before .before .before .before .word) .ensures) _ _ ((c .before .before .before .before .before .before .before .before .before .before .before .before .before .before .before .before .before .before .before .before .before .before .if4) .left) ((c .before .before .before .before .before .before .before .before .before .before .before .before .before .before .before .before .before .before .before .before .reference) .ensures) ((c .before .before .before .before .before .before .before .before .before .before .before .before .before .before .before .before .before .before .reference2) .ensures) ((c .before .before .before .before .before .before .before .before .before .before .before .before .before .before .before .before .before .before .before .before .before .before .before .before .before .before .before .before .before .before .before .before .before .pre) .1) _ _ _ b ((c .before .before .before .before .before .before .before .before .before .before .before .before .before .before .before .before .copy-tree) .kept .0) _ _ _ h _ _ ((c .before .before .put-pair) .ensures)
+    let a = c .before .before .before .before .before .before .before .before .before .before .before .before .before .before .before .before .before .before .before .before .before .before .before .before .before .before .before .before .before .before .before .before .before .args in let b = paid-at (Whole (a .work .now) (c .before .before .before .before .before .before .before .before .before .before .before .before .before .before .before .before .before .before .reference2 .result) (a .w)) (a .work .now) (c .before .before .before .before .before .before .before .before .before .before .before .before .before .before .before .before .copy-tree .last .0) (a .top) (a .fuel - 1) _ _ _ (c .before .before .before .before .before .before .before .before .before .before .before .before .tail .given .1) (c .before .before .before .before .before .before .before .before .before .before .before .before .before .before .before .before .copy-tree .ensures) in let h = paid-at (Whole (c .before .before .before .before .before .before .before .before .before .before .before .before .before .before .before .before .copy-tree .last .0) (c .before .before .before .before .before .before .before .before .before .before .before .before .before .before .before .before .before .before .before .before .reference .result) (a .w)) (c .before .before .before .before .before .before .before .before .before .before .before .before .before .before .before .before .copy-tree .last .0) (c .before .before .before .before .before .before .before .before .before .copy-tree2 .last .0) _ _ _ _ _ (c .before .before .before .before .before .head .given .1) (c .before .before .before .before .before .before .before .before .before .copy-tree2 .ensures) in copied-pair (a .work .now) (a .top) (a .fuel) (a .node) (a .w) _ (c .before .before .before .before .before .before .before .before .before .before .before .before .before .before .before .before .before .before .before .before .before .before .before .before .before .before .before .before .before .before .before .if1 .left) refl _ (c .before .before .before .before .before .before .before .before .before .before .before .before .before .before .before .before .before .before .before .before .before .before .before .before .before .before .before .before .before .word .ensures) _ _ (c .before .before .before .before .before .before .before .before .before .before .before .before .before .before .before .before .before .before .before .before .before .before .if4 .left) (c .before .before .before .before .before .before .before .before .before .before .before .before .before .before .before .before .before .before .before .before .reference .ensures) (c .before .before .before .before .before .before .before .before .before .before .before .before .before .before .before .before .before .before .reference2 .ensures) (c .before .before .before .before .before .before .before .before .before .before .before .before .before .before .before .before .before .before .before .before .before .before .before .before .before .before .before .before .before .before .before .before .before .pre .1) _ _ _ b (c .before .before .before .before .before .before .before .before .before .before .before .before .before .before .before .before .copy-tree .kept .0) _ _ _ h _ _ (c .before .before .put-pair .ensures)
 
 pub +copy-tree-spec : {M : Type 1} → statement M
 +copy-tree-spec = close μ-copy-tree λ t. copy-tree-lts.spec (copy-tree-claims t)

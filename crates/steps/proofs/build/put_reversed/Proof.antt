@@ -16,7 +16,7 @@ abbrev μ-loop : tie.MeasureT-loop
 
 loop-holds : tie.Need-loop-holds Inv-loop μ-loop
 loop-holds c =
-    let a = (c .before .args) in reversing-begins (a .work .now) (a .top) (a .list) (a .tail) (a .c) ((c .before .pre) .0) ((c .before .pre) .1) ((c .before .pre) .2)
+    let a = c .before .args in reversing-begins (a .work .now) (a .top) (a .list) (a .tail) (a .c) (c .before .pre .0) (c .before .pre .1) (c .before .pre .2)
 
 first-requires : tie.Need-first-requires Inv-loop μ-loop
 first-requires c κs =
@@ -24,7 +24,7 @@ first-requires c κs =
 
 put-pair-requires : tie.Need-put-pair-requires Inv-loop μ-loop
 put-pair-requires c κs =
-    let a = (c .before .before .before .before .before .before .args) in reversing-asks (a .work .now) (a .top) (a .list) (a .tail) (a .c) ((c .before .before .before .before .before .before .pre) .0) ((c .before .before .before .before .before .before .pre) .1) ((c .before .before .before .before .before .before .pre) .2) _ _ _ _ _ ((c .before .before .before .before .loop) .inv) ((c .before .before .before .loop-test) .taken) _ ((c .before .first) .ensures)
+    let a = c .before .before .before .before .before .before .args in reversing-asks (a .work .now) (a .top) (a .list) (a .tail) (a .c) (c .before .before .before .before .before .before .pre .0) (c .before .before .before .before .before .before .pre .1) (c .before .before .before .before .before .before .pre .2) _ _ _ _ _ (c .before .before .before .before .loop .inv) (c .before .before .before .loop-test .taken) _ (c .before .first .ensures)
 
 rest-requires : tie.Need-rest-requires Inv-loop μ-loop
 rest-requires c κs =
@@ -36,19 +36,19 @@ add-k c =
 
 loop-less : tie.Need-loop-less Inv-loop μ-loop
 loop-less c =
-    omega (arith, (c .before .before .before .before .before .before .before .before .loop-test) .taken)
+    omega (arith, c .before .before .before .before .before .before .before .before .loop-test .taken)
 
 loop-again : tie.Need-loop-again Inv-loop μ-loop
 loop-again c =
-    let a = (c .before .before .before .before .before .before .before .before .before .before .before .args) in reversing-more (a .work .now) (a .top) (a .list) (a .tail) (a .c) ((c .before .before .before .before .before .before .before .before .before .before .before .pre) .0) ((c .before .before .before .before .before .before .before .before .before .before .before .pre) .1) ((c .before .before .before .before .before .before .before .before .before .before .before .pre) .2) _ _ _ _ _ ((c .before .before .before .before .before .before .before .before .before .loop) .inv) ((c .before .before .before .before .before .before .before .before .loop-test) .taken) _ ((c .before .before .before .before .before .before .first) .ensures) _ _ ((c .before .before .before .before .put-pair) .ensures) ((c .before .before .before .before .put-pair) .kept .0) _ ((c .rest) .ensures)
+    let a = c .before .before .before .before .before .before .before .before .before .before .before .args in reversing-more (a .work .now) (a .top) (a .list) (a .tail) (a .c) (c .before .before .before .before .before .before .before .before .before .before .before .pre .0) (c .before .before .before .before .before .before .before .before .before .before .before .pre .1) (c .before .before .before .before .before .before .before .before .before .before .before .pre .2) _ _ _ _ _ (c .before .before .before .before .before .before .before .before .before .loop .inv) (c .before .before .before .before .before .before .before .before .loop-test .taken) _ (c .before .before .before .before .before .before .first .ensures) _ _ (c .before .before .before .before .put-pair .ensures) (c .before .before .before .before .put-pair .kept .0) _ (c .rest .ensures)
 
 same-length : tie.Need-same-length Inv-loop μ-loop
 same-length c =
-    (c .before .loop) .inv .long
+    c .before .loop .inv .long
 
 returns : tie.Need-returns Inv-loop μ-loop
 returns c =
-    let a = (c .before .before .before .args) in reversing-ends (a .work .now) (a .top) (a .list) (a .tail) (a .c) ((c .before .before .before .pre) .0) ((c .before .before .before .pre) .1) ((c .before .before .before .pre) .2) _ _ _ _ _ ((c .before .loop) .inv) (omega (arith, (c .loop-test) .left))
+    let a = c .before .before .before .args in reversing-ends (a .work .now) (a .top) (a .list) (a .tail) (a .c) (c .before .before .before .pre .0) (c .before .before .before .pre .1) (c .before .before .before .pre .2) _ _ _ _ _ (c .before .loop .inv) (omega (arith, c .loop-test .left))
 
 pub put-reversed-spec : {M : Type 1} → statement M
 put-reversed-spec =
