@@ -140,5 +140,10 @@ fn main() {
         let list = repeated(n, |i| (i % 10).to_string());
         format!("(f) (let-syntax ((m (syntax-rules () ((_ (x ...) (y ...)) (f (f x y) ...))))) (m ({list}) ({list})))")
     });
+    growth("literals in each of fifteen rules, all compared at each step", &[4, 8, 16], |n| {
+        let literals = vec!["q"; n].join(" ");
+        let rules = repeated(15, |_| format!("((_ ({literals} 2)) 1)"));
+        format!("() (letrec-syntax ((m (syntax-rules (q) {rules} ((_ a) (m a))))) (m ({literals} 1)))")
+    });
     growth("operands", &[250, 500, 1_000, 2_000], |n| format!("(f) (f {})", repeated(n, |i| (i % 10).to_string())));
 }
