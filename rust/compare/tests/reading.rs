@@ -29,6 +29,10 @@ fn damaged(random: &mut Random) -> Vec<u8> {
     bytes
 }
 
+fn dirty_bytes(random: &mut Random, length: usize) -> Vec<u8> {
+    dirty(random, length).into_iter().map(|word| word as u8).collect()
+}
+
 #[test]
 fn reading() {
     let mut random = Random::new(setting("SEED", 1));
@@ -37,7 +41,7 @@ fn reading() {
         let source = damaged(&mut random);
         let lengths = [12_287, 12_288, 12_288, 12_300][random.below(4)];
         let bytes = [65_535, 65_536, 65_536, 65_600][random.below(4)];
-        let (mut items, mut names) = (dirty(&mut random, lengths), vec![random.below(256) as u8; bytes]);
+        let (mut items, mut names) = (dirty(&mut random, lengths), dirty_bytes(&mut random, bytes));
         let (mut items2, mut names2) = (items.clone(), names.clone());
         let answer = read(&source, &mut items, &mut names);
         assert_eq!(answer, text::read_call(&source, &mut items2, &mut names2), "{}", String::from_utf8_lossy(&source));
