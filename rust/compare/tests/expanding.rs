@@ -40,5 +40,5 @@ fn expanding() {
         grounds[compare(&mut random, &items, fuel) as usize] += 1;
     }
     println!("grounds of expansion: {grounds:?}");
-    assert!([0, 7, 8, 9, 11, 12, 13, 14, 15, 16, 17, 18].iter().all(|&g| grounds[g] > 0), "{grounds:?}");
+    assert!([0, 7, 8, 9, 10, 11, 12, 13, 14, 15, 16, 17, 18].iter().all(|&g| grounds[g] > 0), "{grounds:?}");
 }
