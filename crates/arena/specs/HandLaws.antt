@@ -97,6 +97,9 @@ after-is f g old new s n r e p =
 
 -- ---- wraps. `tag` is the last word of the wrap's cell, `inner` the wrap inside it
 
+pub wrap-none : (work : List ℕ) (w : ℕ) → w ≡ 0 → (x : Name) → wrapAt work w x ≡ x
+wrap-none work w e x = rw e (wrapAt-none work x)
+
 module _ (work : List ℕ) (w tag : ℕ) (tag-is : tag ≡ wordAt work w 1) where
   pub wrap-some : (tag ≡ 0 → ⊥) → 0 < w
   wrap-some h = wordAt-some work w 1 (omega arith) (λ z. h (tag-is ∙ z))

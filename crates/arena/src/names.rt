@@ -77,7 +77,7 @@ pub fn resolve(
 {
     let number = number_of(items, work, node);
     let own = cells::reference(work, node, cells::OWN);
-    let s = wraps::walk(work, table, start, 0, number, 0, own);
+    let s = wraps::walked(work, table, start, 0, number, 0, own);
     let n = s.count;
     let b = s.binding;
     if table.len() < n {

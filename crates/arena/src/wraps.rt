@@ -9,6 +9,17 @@ use crate::cells;
 use crate::marks;
 use crate::marks::Compared;
 
+// The marks of a name after wrap w, where there is one; answers their count. The walk is spared where no wrap is left.
+pub fn marks_left(work: &[u32], table: &mut [u32], start: usize, count: usize, w: u32) -> usize
+    requires { ⌜ Hand (now table) start count ⌝ }
+    ensures { λ r. ⌜ Fits (now (table .exit)) (start + stepLimit) r (MarksAfter (wrapAt (now (work .entry)) w) (now (table .entry)) (now (table .exit)) start count r) ⌝ }
+{
+    if w == 0 {
+        return count;
+    }
+    marks_after(work, table, start, count, w)
+}
+
 // The marks of a name after wrap w; answers their count.
 pub fn marks_after(work: &[u32], table: &mut [u32], start: usize, count: usize, w: u32) -> usize
     requires { ⌜ Hand (now table) start count ⌝ }
@@ -22,7 +33,7 @@ pub fn marks_after(work: &[u32], table: &mut [u32], start: usize, count: usize, 
         return count;
     }
     let inner = cells::reference(work, w, cells::INNER);
-    let n = marks_after(work, table, start, count, inner);
+    let n = marks_left(work, table, start, count, inner);
     if table.len() < n {
         return n;
     }
@@ -32,7 +43,7 @@ pub fn marks_after(work: &[u32], table: &mut [u32], start: usize, count: usize, 
     }
     if tag == cells::JOIN {
         let outer = cells::reference(work, w, cells::OUTER);
-        return marks_after(work, table, start, n, outer);
+        return marks_left(work, table, start, n, outer);
     }
     n
 }
@@ -133,6 +144,28 @@ pub fn rebind(
     }
 }
 
+// The name in hand after wrap w, where there is one. Most wraps are a cell or two: the walk is spared where none is left.
+pub fn walked(
+    work: &[u32],
+    table: &mut [u32],
+    start: usize,
+    count: usize,
+    number: u32,
+    binding: u32,
+    w: u32,
+) -> InHand
+    requires { ⌜ Hand (now table) start count ⌝ }
+    ensures { λ r. ⌜ Fits (now (table .exit)) (start + stepLimit + stepLimit) (r .count) (NameAfter (wrapAt (now (work .entry)) w) (now (table .entry)) (now (table .exit)) start number count binding (r .count) (r .binding)) ⌝ }
+{
+    if w == 0 {
+        return InHand {
+            count: count,
+            binding: binding,
+        };
+    }
+    walk(work, table, start, count, number, binding, w)
+}
+
 // The name in hand after wrap w: a mark toggles, a binder gives its binding to the same name, a join is one wrap after
 // another. It recurses through joined pending wraps, the reference falling.
 pub fn walk(
@@ -161,7 +194,7 @@ pub fn walk(
         };
     }
     let inner = cells::reference(work, w, cells::INNER);
-    let s = walk(work, table, start, count, number, binding, inner);
+    let s = walked(work, table, start, count, number, binding, inner);
     let n = s.count;
     let b = s.binding;
     if table.len() < n {
@@ -180,7 +213,7 @@ pub fn walk(
     }
     if tag == cells::JOIN {
         let outer = cells::reference(work, w, cells::OUTER);
-        return walk(work, table, start, n, number, b, outer);
+        return walked(work, table, start, n, number, b, outer);
     }
     rebind(work, table, start, n, number, b, w)
 }

@@ -121,6 +121,14 @@ below-false f (suc c) k h e =
     and-false true = refl
     and-false false = refl
 
+pub below-cong : (f g : ℕ → Bool) (c : ℕ) → ((i : ℕ) → f i ≡ g i) → allBelow f c ≡ allBelow g c
+unfolding allBelow
+below-cong f g zero h = refl
+below-cong f g (suc c) h = rw (below-cong f g c h, h c) refl
+
+pub below-at : (f : ℕ → Bool) (c k : ℕ) → k < c → allBelow f c ≡ true → f k ≡ true
+below-at f c k h e = cases (f k) (λ t. t) (λ t. absurd (false-true (sym (below-false f c k h t) ∙ e)))
+
 module _ (work env : List ℕ) (e : ℕ) where
   pub begun-copies : CopiesAgree work env e 0 true
   unfolding allBelow

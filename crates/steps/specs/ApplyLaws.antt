@@ -22,8 +22,8 @@ use Rattle.steps.specs.Entries.{tableWords, environmentAt, Under}
 use Rattle.steps.specs.Bind.{Binds}
 use Rattle.steps.specs.Fits.{ruleOr, FirstFit}
 use Rattle.steps.specs.Lengths.{LengthsAgree}
-use Rattle.steps.specs.Build.{resultAt, Buildable, Made}
-use Rattle.steps.specs.declared.build.Built.the-variants.{At, Costly}
+use Rattle.steps.specs.Build.{resultAt, agreesAt, Buildable, Gives, Stops}
+use Rattle.steps.specs.ResultLaws.{agrees-kept}
 use Rattle.steps.specs.Apply.{applied, stepOf, Answers, outcomeAt, Transcribing, Transcribed, Stepping, Stepped}
 use Rattle.steps.specs.declared.apply.Applied.{Applied}
 use Rattle.steps.specs.declared.apply.Applied.the-variants as A
@@ -42,28 +42,38 @@ firstFit-each t (also {x = r} p ps) = orNext-each r _ _ _ p (firstFit-each t ps)
 
 -- ---- a template in an environment
 
-module _ (old : List ℕ) (top : ℕ) (env : List ℕ) (w t limit : ℕ) (ok : Transcribing old top env w t limit) (b : Bool) (agrees : LengthsAgree old env t b) where
-  pub transcribed-differ : b ≡ false → Transcribed old old top env w t limit A.Differ
-  unfolding Answers outcomeAt
-  transcribed-differ e = record { is = λ items l. rw (← agrees items w, e) refl; kept = refl }
-
+module _ (old : List ℕ) (top : ℕ) (env : List ℕ) (w t limit : ℕ) (ok : Transcribing old top env w t limit) where
   pub transcribe-buildable : Buildable old top limit env w t
   transcribe-buildable = record { room = ok .room; plain = ok .plain; under = ok .under; wrap-below = ok .wrap-below; template-below = ok .template-below }
 
-  module _ (same : b ≡ true) (new : List ℕ) where
-    pub transcribed-costly : Made old new top limit env w t Costly → Transcribed old new top env w t limit A.Costly
-    unfolding Answers outcomeAt resultAt
-    transcribed-costly m = record { is = λ items l. rw (← agrees items w, same, lt-leb (size (resultAt items old env w t)) limit (m .over items)) refl; kept = m .kept }
-
-    pub transcribed-done : (root left : ℕ) → Made old new top limit env w t (At root left) → Transcribed old new top env w t limit (A.Done root (limit - left))
-    unfolding Answers outcomeAt resultAt
+  module _ (new : List ℕ) where
+    pub transcribed-done : (root left : ℕ) → Gives old new top limit env w t root left → Transcribed old new top env w t limit (A.Done root (limit - left))
+    unfolding Answers outcomeAt resultAt agreesAt
     transcribed-done root left m =
         record {
           is = λ items l.
-              rw (← agrees items w, same, le-leb (size (resultAt items old env w t)) limit (omega (arith, m .spent items)))
-              (omega (arith, m .spent items), m .means items l, m .above, omega (arith, m .most, m .spent items));
-          kept = m .kept;
+              rw (m .agrees items, le-leb (size (resultAt items old env w t)) limit (omega (arith, m .paid .spent items)))
+              (omega (arith, m .paid .spent items), m .paid .means items l, m .paid .above, omega (arith, m .paid .most, m .paid .spent items));
+          kept = m .paid .kept;
         }
+
+    -- there is no result: the lengths, compared after it, tell on which ground
+    module _ (m : Stops old new top limit env w t) (b : Bool) (agrees : LengthsAgree new env t b) where
+      agrees-is : (items : List ℕ) → agreesAt items old env w t ≡ b
+      unfolding agreesAt
+      agrees-is items = sym (agrees-kept items old new top (m .kept) env w t (ok .wrap-below) (ok .template-below) (ok .under)) ∙ sym (agrees items w)
+
+      pub transcribed-differ : b ≡ false → Transcribed old new top env w t limit A.Differ
+      unfolding Answers outcomeAt agreesAt
+      transcribed-differ e = record { is = λ items l. rw (agrees-is items, e) refl; kept = m .kept }
+
+      pub transcribed-costly : b ≡ true → Transcribed old new top env w t limit A.Costly
+      unfolding Answers outcomeAt resultAt agreesAt
+      transcribed-costly e =
+          record {
+            is = λ items l. rw (agrees-is items, e, lt-leb (size (resultAt items old env w t)) limit (m .over items (agrees-is items ∙ e))) refl;
+            kept = m .kept;
+          }
 
 -- ---- one step
 

@@ -1,17 +1,18 @@
 -- A step's result in the arena: fresh nodes above the old top, the root last, with every name produced; each item is paid for.
 use mathlib.Core.Path.{_≡_}
+use mathlib.Core.Bool.{Bool, true}
 use mathlib.Core.List.{List}
 use Prim.Native.Nat.{ℕ, zero, suc, _+_, _*_, _-_, _≤_, _<_}
 use lib.ListN.{length, take}
 use Rattle.recipe.specs.Tree.{Tree, size, element, produce}
-use Rattle.expansion.specs.Transcribe.{copies}
+use Rattle.expansion.specs.Transcribe.{copies, allBelow}
 use Rattle.arena.specs.Arena.{treeAt}
 use Rattle.arena.specs.Cells.{Room}
 use Rattle.rule_cells.specs.Cells.{templateAt}
 use Rattle.steps.specs.declared.build.Built.{Built}
-use Rattle.steps.specs.declared.build.Built.the-variants.{At, Costly}
+use Rattle.steps.specs.declared.build.Built.the-variants.{At, Stopped}
 use Rattle.steps.specs.Sound.{Plain}
-use Rattle.steps.specs.Environment.{enter, resultBy}
+use Rattle.steps.specs.Environment.{enter, agreeBy, resultBy}
 use Rattle.steps.specs.Entries.{environmentAt, Under}
 
 -- a node is three words, and a name's may have a join of three more
@@ -42,7 +43,7 @@ pub record Unpaid (tree : List ℕ → Tree) (old new : List ℕ) (top fuel : �
 
 abbrev pub Pays : (tree : List ℕ → Tree) (old new : List ℕ) (top fuel : ℕ) → Built → Type 0
 Pays tree old new top fuel (At root left) = Paid tree old new top fuel root left
-Pays tree old new top fuel Costly = Unpaid tree old new top fuel
+Pays tree old new top fuel Stopped = Unpaid tree old new top fuel
 
 -- a node and a wrap that stand below the top, with room for as many items as there is fuel
 pub record Waiting (work : List ℕ) (top fuel node w : ℕ) : Type 0 where
@@ -56,9 +57,17 @@ pub record Waiting (work : List ℕ) (top fuel node w : ℕ) : Type 0 where
 unfoldable pub resultAt : (items work env : List ℕ) (w t : ℕ) → Tree
 resultAt items work env w t = resultBy (environmentAt items work env w) (templateAt items work t)
 
+-- whether driving lists are of one length in all of it (ground 17 where they are not)
+unfoldable pub agreesAt : (items work env : List ℕ) (w t : ℕ) → Bool
+agreesAt items work env w t = agreeBy (environmentAt items work env w) (templateAt items work t)
+
 -- copy i of an element
 unfoldable pub copyAt : (items work env : List ℕ) (w e : ℕ) → ℕ → Tree
 copyAt items work env w e i = resultBy (enter i (environmentAt items work env w)) (templateAt items work e)
+
+-- whether they are in copy i
+unfoldable pub copyAgrees : (items work env : List ℕ) (w e : ℕ) → ℕ → Bool
+copyAgrees items work env w e i = agreeBy (enter i (environmentAt items work env w)) (templateAt items work e)
 
 -- a plain template in an environment below the top, with room for as many items as there is fuel
 pub record Buildable (work : List ℕ) (top fuel : ℕ) (env : List ℕ) (w t : ℕ) : Type 0 where
@@ -68,32 +77,64 @@ pub record Buildable (work : List ℕ) (top fuel : ℕ) (env : List ℕ) (w t : 
   pub wrap-below : w ≤ top
   pub template-below : t ≤ top
 
-abbrev pub Made : (old new : List ℕ) (top fuel : ℕ) (env : List ℕ) (w t : ℕ) → Built → Type 0
-Made old new top fuel env w t = Pays (λ items. resultAt items old env w t) old new top fuel
+-- what the template gives is paid for, and the lengths are right
+pub record Gives (old new : List ℕ) (top fuel : ℕ) (env : List ℕ) (w t root left : ℕ) : Type 0 where
+  pub paid : Paid (λ items. resultAt items old env w t) old new top fuel root left
+  pub agrees : (items : List ℕ) → agreesAt items old env w t ≡ true
 
--- ---- copies of an element
+-- there is not fuel enough, or the lengths are not right
+pub record Stops (old new : List ℕ) (top fuel : ℕ) (env : List ℕ) (w t : ℕ) : Type 0 where
+  pub over : (items : List ℕ) → agreesAt items old env w t ≡ true → fuel < size (resultAt items old env w t)
+  pub kept : take top new ≡ take top old
+
+abbrev pub Made : (old new : List ℕ) (top fuel : ℕ) (env : List ℕ) (w t : ℕ) → Built → Type 0
+Made old new top fuel env w t (At root left) = Gives old new top fuel env w t root left
+Made old new top fuel env w t Stopped = Stops old new top fuel env w t
+
+-- ---- copies, of an element or of a list's elements, by what copy i is
 
 -- the items of the first n copies, each with its pair
 unfoldable pub added : (ℕ → Tree) → ℕ → ℕ
 added f zero = 0
 added f (suc n) = added f n + suc (size (f n))
 
--- there are more than there is fuel
-pub record CopiesUnpaid (old new : List ℕ) (top fuel : ℕ) (env : List ℕ) (w e c : ℕ) : Type 0 where
-  pub over : (items : List ℕ) → fuel < added (copyAt items old env w e) c
-  pub kept : take top new ≡ take top old
-
 -- a list begins with the copies, the last first; a pair of it takes half of what is paid for
-pub record Turned (old new : List ℕ) (top fuel : ℕ) (env : List ℕ) (w e c list left : ℕ) : Type 0 where
-  pub spent : (items : List ℕ) → added (copyAt items old env w e) c + left ≡ fuel
+pub record Turned (copy : List ℕ → ℕ → Tree) (old new : List ℕ) (top fuel c list left : ℕ) : Type 0 where
+  pub spent : (items : List ℕ) → added (copy items) c + left ≡ fuel
   pub above : top ≤ list
   pub most : list + 3 * c + nodeWords * left ≤ top + nodeWords * fuel
   pub kept : take top new ≡ take top old
-  pub means : (items : List ℕ) → length items ≤ top → (m : ℕ) → m < c → element m (treeAt items new list 0) ≡ produce (copyAt items old env w e (c - suc m))
+  pub means : (items : List ℕ) → length items ≤ top → (m : ℕ) → m < c → element m (treeAt items new list 0) ≡ produce (copy items (c - suc m))
+
+-- the first c elements of a list
+abbrev pub elementsAt : (work : List ℕ) (list w : ℕ) → List ℕ → ℕ → Tree
+elementsAt work list w items i = element i (treeAt items work list w)
+
+-- there are more items in them than there is fuel
+pub record ElementsUnpaid (old new : List ℕ) (top fuel list w c : ℕ) : Type 0 where
+  pub over : (items : List ℕ) → fuel < added (elementsAt old list w items) c
+  pub kept : take top new ≡ take top old
+
+abbrev pub ElementsBackwards : (old new : List ℕ) (top fuel list w c : ℕ) → Built → Type 0
+ElementsBackwards old new top fuel list w c (At r left) = Turned (elementsAt old list w) old new top fuel c r left
+ElementsBackwards old new top fuel list w c Stopped = ElementsUnpaid old new top fuel list w c
+
+-- ---- copies of an element
+
+abbrev pub copiesAt : (work env : List ℕ) (w e : ℕ) → List ℕ → ℕ → Tree
+copiesAt work env w e items = copyAt items work env w e
+
+abbrev pub CopiesAgreed : (work env : List ℕ) (w e c : ℕ) → Type 0
+CopiesAgreed work env w e c = (items : List ℕ) → allBelow (copyAgrees items work env w e) c ≡ true
+
+-- there is not fuel enough for them, or the lengths in them are not right
+pub record CopiesStop (old new : List ℕ) (top fuel : ℕ) (env : List ℕ) (w e c : ℕ) : Type 0 where
+  pub over : (items : List ℕ) → allBelow (copyAgrees items old env w e) c ≡ true → fuel < added (copyAt items old env w e) c
+  pub kept : take top new ≡ take top old
 
 abbrev pub Backwards : (old new : List ℕ) (top fuel : ℕ) (env : List ℕ) (w e c : ℕ) → Built → Type 0
-Backwards old new top fuel env w e c (At list left) = Turned old new top fuel env w e c list left
-Backwards old new top fuel env w e c Costly = CopiesUnpaid old new top fuel env w e c
+Backwards old new top fuel env w e c (At list left) = Turned (copiesAt old env w e) old new top fuel c list left × CopiesAgreed old env w e c
+Backwards old new top fuel env w e c Stopped = CopiesStop old new top fuel env w e c
 
 -- the first c elements of a list, the last first, before a tail
 pub record Reversed (old new : List ℕ) (top list tail c r : ℕ) : Type 0 where
@@ -109,7 +150,8 @@ pub record Before (old new : List ℕ) (top fuel : ℕ) (env : List ℕ) (w e c 
   pub most : r + nodeWords * left ≤ top + nodeWords * fuel
   pub kept : take top new ≡ take top old
   pub means : (items : List ℕ) → length items ≤ top → treeAt items new r 0 ≡ copies (λ i. produce (copyAt items old env w e i)) 0 c (treeAt items old top 0)
+  pub agreed : CopiesAgreed old env w e c
 
 abbrev pub Copied : (old new : List ℕ) (top fuel : ℕ) (env : List ℕ) (w e c : ℕ) → Built → Type 0
 Copied old new top fuel env w e c (At r left) = Before old new top fuel env w e c r left
-Copied old new top fuel env w e c Costly = CopiesUnpaid old new top fuel env w e c
+Copied old new top fuel env w e c Stopped = CopiesStop old new top fuel env w e c

@@ -16,7 +16,7 @@ use Rattle.arena.specs.NodeLaws.{treeAt-empty, treeAt-name, treeAt-pair, treeAt
 use Rattle.arena.specs.Cells.{Room, Wrapped, itemName, Grown}
 use Rattle.arena.specs.CellLaws.{tree-kept}
 use Rattle.steps.specs.declared.build.Built.{Built}
-use Rattle.steps.specs.declared.build.Built.the-variants.{At, Costly}
+use Rattle.steps.specs.declared.build.Built.the-variants.{At, Stopped}
 use Rattle.steps.specs.Build.{nodeWords, Fresh, Paid, Unpaid, Pays, Waiting}
 
 -- ---- names are produced before or after what waits on them
@@ -108,13 +108,13 @@ module _ (A B : List ℕ → Tree) (old new : List ℕ) (top fuel : ℕ) (e : (i
         kept = p .kept;
         means = λ items l. p .means items l ∙ ap produce (e items);
       }
-  pays-is Costly p = record { over = λ items. rw (← e items) (p .over items); kept = p .kept }
+  pays-is Stopped p = record { over = λ items. rw (← e items) (p .over items); kept = p .kept }
 
 -- what an answer says
 pub paid-at : (A : List ℕ → Tree) (old new : List ℕ) (top fuel : ℕ) (r : Built) (root left : ℕ) → r ≡ At root left → Pays A old new top fuel r → Paid A old new top fuel root left
 paid-at A old new top fuel r root left e p = subst (Pays A old new top fuel) e p
 
-pub unpaid-at : (A : List ℕ → Tree) (old new : List ℕ) (top fuel : ℕ) (r : Built) → r ≡ Costly → Pays A old new top fuel r → Unpaid A old new top fuel
+pub unpaid-at : (A : List ℕ → Tree) (old new : List ℕ) (top fuel : ℕ) (r : Built) → r ≡ Stopped → Pays A old new top fuel r → Unpaid A old new top fuel
 unpaid-at A old new top fuel r e p = subst (Pays A old new top fuel) e p
 
 -- every tree has an item
@@ -171,11 +171,11 @@ module _ (old : List ℕ) (top fuel node w left : ℕ) (some-fuel : fuel ≡ 0 �
       pays-is (λ items. name (nameAt items old node w)) _ old new top fuel (λ items. sym (treeAt-name items old node w (sym kind-is ∙ e))) (At r left)
       (paid-one (λ items. name (nameAt items old node w)) old new top fuel r left some-fuel left-is (λ items. refl) f)
 
-  pub copied-constant : (new : List ℕ) (r a b : ℕ) → (kind ≡ 0 → ⊥) → (kind ≡ 3 → ⊥) → (kind ≡ 4 → ⊥) → a ≡ wordAt old node 2 → b ≡ wordAt old node 1 → Grown (λ items v. constant (record { kind = kind; first = a; second = b })) old new top r → Pays (Whole old node w) old new top fuel (At r left)
+  pub copied-constant : (new : List ℕ) (r a b : ℕ) → (kind ≡ 0 → ⊥) → (kind ≡ 3 → ⊥) → (wordAt old node 3 ≡ 4 → ⊥) → a ≡ wordAt old node 2 → b ≡ wordAt old node 1 → Grown (λ items v. constant (record { kind = kind; first = a; second = b })) old new top r → Pays (Whole old node w) old new top fuel (At r left)
   unfolding constantAt size
   copied-constant new r a b n0 n3 n4 a-is b-is g =
       pays-is (λ items. constant (record { kind = kind; first = a; second = b })) _ old new top fuel
-      (λ items. rw (kind-is, a-is, b-is) (sym (treeAt-constant items old node w (λ z. n0 (kind-is ∙ z)) (λ z. n3 (kind-is ∙ z)) (λ z. n4 (kind-is ∙ z))))) (At r left)
+      (λ items. rw (kind-is, a-is, b-is) (sym (treeAt-constant items old node w (λ z. n0 (kind-is ∙ z)) (λ z. n3 (kind-is ∙ z)) n4))) (At r left)
       (paid-one _ old new top fuel r left some-fuel left-is (λ items. refl) (fresh-constant old new top r kind a b g))
 
   module _ (head tail : ℕ) (e : kind ≡ 4) (head-is : head ≡ referenceAt old node 2) (tail-is : tail ≡ referenceAt old node 1) (waits : Waiting old top fuel node w) where
@@ -190,8 +190,8 @@ module _ (old : List ℕ) (top fuel node w left : ℕ) (some-fuel : fuel ≡ 0 �
           wrap-below = waits .wrap-below;
         }
 
-    pub copied-tail-costly : (one : List ℕ) → Unpaid (Whole old tail w) old one top left → Pays (Whole old node w) old one top fuel Costly
-    copied-tail-costly one b = pays-is _ _ old one top fuel whole-pair Costly (unpaid-tail (Whole old head w) (Whole old tail w) old one top fuel left some-fuel left-is b)
+    pub copied-tail-costly : (one : List ℕ) → Unpaid (Whole old tail w) old one top left → Pays (Whole old node w) old one top fuel Stopped
+    copied-tail-costly one b = pays-is _ _ old one top fuel whole-pair Stopped (unpaid-tail (Whole old head w) (Whole old tail w) old one top fuel left some-fuel left-is b)
 
     module _ (one : List ℕ) (t f : ℕ) (b : Paid (Whole old tail w) old one top left t f) (long : length one ≡ length old) where
       head-same : (items : List ℕ) → Whole one head w items ≡ Whole old head w items
@@ -205,10 +205,10 @@ module _ (old : List ℕ) (top fuel node w left : ℕ) (some-fuel : fuel ≡ 0 �
             wrap-below = omega (arith, waits .wrap-below, b .above);
           }
 
-      pub copied-head-costly : (two : List ℕ) → Unpaid (Whole one head w) one two t f → Pays (Whole old node w) old two top fuel Costly
+      pub copied-head-costly : (two : List ℕ) → Unpaid (Whole one head w) one two t f → Pays (Whole old node w) old two top fuel Stopped
       copied-head-costly two a =
-          pays-is _ _ old two top fuel whole-pair Costly
-          (unpaid-head (Whole old head w) (Whole old tail w) old one top fuel left some-fuel left-is t f b two (pays-is _ _ one two t f head-same Costly a))
+          pays-is _ _ old two top fuel whole-pair Stopped
+          (unpaid-head (Whole old head w) (Whole old tail w) old one top fuel left some-fuel left-is t f b two (pays-is _ _ one two t f head-same Stopped a))
 
       module _ (two : List ℕ) (h g : ℕ) (a : Paid (Whole one head w) one two t f h g) where
         head-paid : Paid (Whole old head w) one two t f h g

@@ -1,24 +1,33 @@
 -- Laws of the copies of an element: built the last first along the lists that drive them, then put before the rest of their list.
 use mathlib.Core.Path.{_≡_, refl, sym, ap, ap₂, subst, _∙_}
+use mathlib.Core.Bool.{true}
 use mathlib.Core.List.{List}
+use mathlib.Core.Option.{some}
 use Prim.Native.Nat.{ℕ, zero, suc, _+_, _*_, _-_, _≤_, _<_}
 use native.Mathlib.Omega.{arith}
 use lib.ListN.{length, take}
 use Rattle.recipe.specs.Tree.{Tree, pair, size, onNames, produce, element, elements, tail}
 use Rattle.recipe.specs.TreeLaws.{onNames-element, element-tail}
-use Rattle.expansion.specs.Transcribe.{copies}
-use Rattle.arena.specs.Arena.{treeAt, wrapAt}
+use borrow.Author.Tests.{ne-eqb}
+use Rattle.expansion.specs.Rules.{variableP}
+use Rattle.expansion.specs.Match.{part}
+use Rattle.expansion.specs.Transcribe.{copies, allBelow}
+use Rattle.arena.specs.Arena.{wordAt, treeAt, wrapAt}
 use Rattle.arena.specs.ArenaLaws.{take-less}
 use Rattle.arena.specs.NodeLaws.{treeAt-wrap}
 use Rattle.arena.specs.Cells.{Room, Grown}
 use Rattle.arena.specs.CellLaws.{tree-kept}
 use Rattle.arena.specs.Lists.{Means}
-use Rattle.steps.specs.declared.build.Built.the-variants.{At, Costly}
-use Rattle.steps.specs.Entries.{entryAt, Under, Low, Ahead, Along, AlongAll, Enters}
-use Rattle.steps.specs.Build.{resultAt, copyAt, Buildable, Made, added, CopiesUnpaid, Turned, Reversed, Copied}
+use Rattle.rule_cells.specs.CellLaws.{patternAt-variable, templateAt-variable}
+use Rattle.steps.specs.declared.build.Built.{Built}
+use Rattle.steps.specs.declared.build.Built.the-variants.{At, Stopped}
+use Rattle.steps.specs.Environment.{takes, entering, enter, resultBy}
+use Rattle.steps.specs.Entries.{field, entryAt, patternIn, takingOf, environmentAt, level, takenIn, Listed, Under, Low, Ahead, Along, AlongAll, Enters}
+use Rattle.steps.specs.Build.{nodeWords, Paid, Unpaid, Waiting, resultAt, agreesAt, copyAt, copyAgrees, Buildable, Gives, Stops, added, Turned, elementsAt, ElementsUnpaid, ElementsBackwards, copiesAt, CopiesAgreed, CopiesStop, Backwards, Reversed, Copied}
 use Rattle.steps.specs.EntryLaws.{entry-low}
-use Rattle.steps.specs.BuildLaws.{room-left}
-use Rattle.steps.specs.ResultLaws.{copy-kept, buildable-left}
+use Rattle.steps.specs.AgreeLaws.{flat-leaf, copies-flat, below-at}
+use Rattle.steps.specs.BuildLaws.{room-left, pays-is}
+use Rattle.steps.specs.ResultLaws.{copy-kept, copy-agrees-kept, buildable-left}
 
 -- ---- lists of copies
 
@@ -77,6 +86,17 @@ ahead-kept old new top list i node kept l n a =
         ap (element m) (treeAt-wrap items new at w) ∙ onNames-element (wrapAt new w) m (treeAt items new at 0)
         ∙ ap (λ (t : Tree). onNames (wrapAt new w) (element m t)) (tree-kept items old new top at 0 h (omega arith) kept)
 
+-- the list after one element more
+ahead-more : (old cur : List ℕ) (top list k node later : ℕ) → take top cur ≡ take top old → list ≤ top → node ≤ top → Ahead old list k node → Means cur node later tail → Ahead old list (suc k) later
+ahead-more old cur top list k node later kept l n a goes =
+    ahead-kept cur old top list (suc k) later (sym kept) l (omega (arith, goes .low))
+    (record {
+      is = λ items w m.
+          let z : suc k + m ≡ k + suc m = omega arith in
+          rw z (ahead-kept old cur top list k node kept l n a .is items w (suc m))
+          ∙ sym (element-tail m (treeAt items cur node w)) ∙ ap (element m) (sym (goes .is items w));
+    })
+
 pub along-kept : (old new outer : List ℕ) (top i : ℕ) (inner : List ℕ) → take top new ≡ take top old → Under outer top → Under inner top → AlongAll old outer i inner → AlongAll new outer i inner
 along-kept old new outer top i inner kept u v a k =
     let x : Along old (entryAt outer k) i (entryAt inner k) = a k in
@@ -94,9 +114,55 @@ along-kept old new outer top i inner kept u v a k =
 
 -- ---- copies, the last first
 
+module _ (copy : List ℕ → ℕ → Tree) (old : List ℕ) (top fuel : ℕ) (room : Room old top (nodeWords * fuel)) where
+  pub turned-begins : Turned copy old old top fuel 0 top fuel
+  unfolding added
+  turned-begins = record { spent = λ items. omega arith; above = omega arith; most = omega arith; kept = refl; means = λ items l m h. absurd (omega arith) }
+
+  module _ (cur : List ℕ) (k list left : ℕ) (inv : Turned copy old cur top fuel k list left) where
+    -- there is no fuel for a pair more, or for its head
+    pub turned-over : (c : ℕ) → k < c → (items : List ℕ) → left < suc (size (copy items k)) → fuel < added (copy items) c
+    turned-over c more items h = omega (arith, inv .spent items, added-among (copy items) k c more)
+
+    pub turned-none : (c : ℕ) → k < c → left ≡ 0 → (items : List ℕ) → fuel < added (copy items) c
+    turned-none c more z items = turned-over c more items (omega arith)
+
+    module _ (some-fuel : left ≡ 0 → ⊥) (two : List ℕ) (h g : ℕ) (b : Paid (λ items. copy items k) cur two list (left - 1) h g) where
+      pub turned-room : length two ≡ length old → Room two h 3
+      turned-room long = room-left old two top fuel h g 3 long (omega (arith, b .most, inv .most)) room
+
+      module _ (new : List ℕ) (r : ℕ) (p : Grown (λ items v. pair (treeAt items two h v) (treeAt items two list v)) two new h r) where
+        pub kept-list : take list new ≡ take list cur
+        kept-list = take-less new two list h (b .above) (p .kept) ∙ b .kept
+
+        list-is : (items : List ℕ) → length items ≤ top → treeAt items new r 0 ≡ pair (produce (copy items k)) (treeAt items cur list 0)
+        list-is items l =
+            p .means items 0 (omega arith)
+            ∙ ap₂ pair (b .means items (omega (arith, inv .above))) (tree-kept items cur two list list 0 (omega arith) (omega arith) (b .kept))
+
+        copies-are : (items : List ℕ) → length items ≤ top → (m : ℕ) → m < suc k → element m (treeAt items new r 0) ≡ produce (copy items (suc k - suc m))
+        copies-are items l zero h′ = ap (element 0) (list-is items l) ∙ element-first _ _ ∙ (let z : k ≡ suc k - 1 = omega arith in ap (λ (i : ℕ). produce (copy items i)) z)
+        copies-are items l (suc m) h′ =
+            let z : k - suc m ≡ suc k - suc (suc m) = omega arith in
+            ap (element (suc m)) (list-is items l) ∙ element-later m _ _ ∙ inv .means items l m (omega arith) ∙ ap (λ (i : ℕ). produce (copy items i)) z
+
+        pub turned-more : Turned copy old new top fuel (suc k) r g
+        unfolding added
+        turned-more =
+            record {
+              spent = λ items. omega (arith, inv .spent items, b .spent items);
+              above = omega (arith, inv .above, b .above, p .end);
+              most = omega (arith, inv .most, b .most, p .end);
+              kept = take-less new cur top list (inv .above) kept-list ∙ inv .kept;
+              means = copies-are;
+            }
+
+-- ---- copies of an element
+
 -- k of c copies are built, and the table stands before the next
 pub record Turning (old cur : List ℕ) (top fuel : ℕ) (env : List ℕ) (w e c k list left : ℕ) (table : List ℕ) : Type 0 where
-  pub turned : Turned old cur top fuel env w e k list left
+  pub turned : Turned (copiesAt old env w e) old cur top fuel k list left
+  pub agreed : CopiesAgreed old env w e k
   pub along : AlongAll cur env k table
   pub under : Under table list
   pub among : k ≤ c
@@ -106,23 +172,14 @@ module _ (old : List ℕ) (top fuel : ℕ) (env : List ℕ) (w e c : ℕ) (ok : 
   abbrev Copy : List ℕ → ℕ → Tree
   Copy items = copyAt items old env w e
 
-  abbrev Over : List ℕ → Type 0
-  Over new = CopiesUnpaid old new top fuel env w e c
-
   pub turning-begins : (table : List ℕ) → AlongAll old env 0 table → ((b : ℕ) → Under env b → Under table b) → Turning old old top fuel env w e c 0 top fuel table
-  unfolding added
+  unfolding allBelow
   turning-begins table a u =
-      record {
-        turned = record { spent = λ items. omega arith; above = omega arith; most = omega arith; kept = refl; means = λ items l m h. absurd (omega arith) };
-        along = a;
-        under = u top (ok .under);
-        among = omega arith;
-        long = refl;
-      }
+      record { turned = turned-begins (copiesAt old env w e) old top fuel (ok .room); agreed = λ items. refl; along = a; under = u top (ok .under); among = omega arith; long = refl }
 
   module _ (cur : List ℕ) (k list left : ℕ) (table : List ℕ) (inv : Turning old cur top fuel env w e c k list left table) (more : k < c) where
-    pub copies-none : left ≡ 0 → Over cur
-    copies-none z = record { over = λ items. omega (arith, inv .turned .spent items, added-among (Copy items) k c more); kept = inv .turned .kept }
+    pub copies-none : left ≡ 0 → CopiesStop old cur top fuel env w e c
+    copies-none z = record { over = λ items a. turned-none (copiesAt old env w e) old top fuel (ok .room) cur k list left (inv .turned) c more z items; kept = inv .turned .kept }
 
     module _ (some-fuel : left ≡ 0 → ⊥) (next : List ℕ) (enters : Enters cur table next) where
       copy-is : (items : List ℕ) → resultAt items cur next w e ≡ Copy items k
@@ -131,60 +188,127 @@ module _ (old : List ℕ) (top fuel : ℕ) (env : List ℕ) (w e c : ℕ) (ok : 
           rw (enters .goes env k (inv .along) .1 items w)
           (copy-kept items old cur top (inv .turned .kept) env w e k (ok .wrap-below) (ok .template-below) (ok .under))
 
+      agrees-is : (items : List ℕ) → agreesAt items cur next w e ≡ copyAgrees items old env w e k
+      unfolding agreesAt copyAgrees
+      agrees-is items =
+          rw (enters .goes env k (inv .along) .1 items w)
+          (copy-agrees-kept items old cur top (inv .turned .kept) env w e k (ok .wrap-below) (ok .template-below) (ok .under))
+
       pub copy-buildable : Buildable cur list (left - 1) next w e
       copy-buildable =
           let b = buildable-left old cur top fuel list (left - 1) env w e ok (inv .turned .kept) (inv .long) (inv .turned .above) (omega (arith, inv .turned .most)) in
           record { room = b .room; plain = b .plain; under = enters .low list (inv .under); wrap-below = b .wrap-below; template-below = b .template-below }
 
-      pub copy-costly : (two : List ℕ) → Made cur two list (left - 1) next w e Costly → Over two
+      pub copy-costly : (two : List ℕ) → Stops cur two list (left - 1) next w e → CopiesStop old two top fuel env w e c
       copy-costly two b =
           record {
-            over = λ items. omega (arith, inv .turned .spent items, added-among (Copy items) k c more, b .over items, ap size (copy-is items));
+            over = λ items a.
+                turned-over (copiesAt old env w e) old top fuel (ok .room) cur k list left (inv .turned) c more items
+                (omega (arith, b .over items (agrees-is items ∙ below-at _ c k more a), ap size (copy-is items)));
             kept = take-less two cur top list (inv .turned .above) (b .kept) ∙ inv .turned .kept;
           }
 
-      module _ (two : List ℕ) (h g : ℕ) (b : Made cur two list (left - 1) next w e (At h g)) (far : length two ≡ length cur) where
+      module _ (two : List ℕ) (h g : ℕ) (b : Gives cur two list (left - 1) next w e h g) (far : length two ≡ length cur) where
+        copy-paid : Paid (λ items. Copy items k) cur two list (left - 1) h g
+        copy-paid = pays-is _ _ cur two list (left - 1) copy-is (At h g) (b .paid)
+
         pub copy-room : Room two h 3
-        copy-room = room-left old two top fuel h g 3 (far ∙ inv .long) (omega (arith, b .most, inv .turned .most)) (ok .room)
+        copy-room = turned-room (copiesAt old env w e) old top fuel (ok .room) cur k list left (inv .turned) some-fuel two h g copy-paid (far ∙ inv .long)
 
         module _ (new : List ℕ) (r : ℕ) (p : Grown (λ items v. pair (treeAt items two h v) (treeAt items two list v)) two new h r) (end : length new ≡ length two) where
-          kept-list : take list new ≡ take list cur
-          kept-list = take-less new two list h (b .above) (p .kept) ∙ b .kept
-
-          list-is : (items : List ℕ) → length items ≤ top → treeAt items new r 0 ≡ pair (produce (Copy items k)) (treeAt items cur list 0)
-          list-is items l =
-              p .means items 0 (omega arith)
-              ∙ ap₂ pair (b .means items (omega (arith, inv .turned .above)) ∙ ap produce (copy-is items)) (tree-kept items cur two list list 0 (omega arith) (omega arith) (b .kept))
-
-          copies-are : (items : List ℕ) → length items ≤ top → (m : ℕ) → m < suc k → element m (treeAt items new r 0) ≡ produce (Copy items (suc k - suc m))
-          copies-are items l zero h′ = ap (element 0) (list-is items l) ∙ element-first _ _ ∙ (let z : k ≡ suc k - 1 = omega arith in ap (λ (i : ℕ). produce (Copy items i)) z)
-          copies-are items l (suc m) h′ =
-              let z : k - suc m ≡ suc k - suc (suc m) = omega arith in
-              ap (element (suc m)) (list-is items l) ∙ element-later m _ _ ∙ inv .turned .means items l m (omega arith) ∙ ap (λ (i : ℕ). produce (Copy items i)) z
+          kept-here : take list new ≡ take list cur
+          kept-here = kept-list (copiesAt old env w e) old top fuel (ok .room) cur k list left (inv .turned) some-fuel two h g copy-paid new r p
 
           pub turning-more : Turning old new top fuel env w e c (k + 1) r g next
-          unfolding added
+          unfolding allBelow
           turning-more =
               let s : k + 1 ≡ suc k = omega arith in
               rw s
               (record {
-                turned =
-                    record {
-                      spent = λ items. omega (arith, inv .turned .spent items, b .spent items, ap size (copy-is items));
-                      above = omega (arith, inv .turned .above, b .above, p .end);
-                      most = omega (arith, inv .turned .most, b .most, p .end);
-                      kept = take-less new cur top list (inv .turned .above) kept-list ∙ inv .turned .kept;
-                      means = copies-are;
-                    };
-                along = along-kept cur new env list (suc k) next kept-list (λ i. omega (arith, ok .under i, inv .turned .above)) (enters .low list (inv .under)) (subst (λ (i : ℕ). AlongAll cur env i next) s (enters .goes env k (inv .along) .0));
-                under = λ i. omega (arith, enters .low list (inv .under) i, b .above, p .end);
+                turned = turned-more (copiesAt old env w e) old top fuel (ok .room) cur k list left (inv .turned) some-fuel two h g copy-paid new r p;
+                agreed = λ items. rw (inv .agreed items, ← agrees-is items, b .agrees items) refl;
+                along = along-kept cur new env list (suc k) next kept-here (λ i. omega (arith, ok .under i, inv .turned .above)) (enters .low list (inv .under)) (subst (λ (i : ℕ). AlongAll cur env i next) s (enters .goes env k (inv .along) .0));
+                under = λ i. omega (arith, enters .low list (inv .under) i, b .paid .above, p .end);
                 among = omega arith;
                 long = end ∙ far ∙ inv .long;
               })
 
-  pub turning-ends : (cur : List ℕ) (k list left : ℕ) (table : List ℕ) → Turning old cur top fuel env w e c k list left table → c ≤ k → Turned old cur top fuel env w e c list left
+  pub turning-ends : (cur : List ℕ) (k list left : ℕ) (table : List ℕ) → Turning old cur top fuel env w e c k list left table → c ≤ k → Backwards old cur top fuel env w e c (At list left)
   turning-ends cur k list left table inv h =
-      let z : k ≡ c = omega (arith, inv .among) in subst (λ (n : ℕ). Turned old cur top fuel env w e n list left) z (inv .turned)
+      let z : k ≡ c = omega (arith, inv .among) in
+      (subst (λ (n : ℕ). Turned (copiesAt old env w e) old cur top fuel n list left) z (inv .turned), subst (λ (n : ℕ). CopiesAgreed old env w e n) z (inv .agreed))
+
+-- ---- elements of a list
+
+-- k of c elements are copied, and node is the list after them
+pub record Going (old cur : List ℕ) (top fuel list w c k at node left : ℕ) : Type 0 where
+  pub turned : Turned (elementsAt old list w) old cur top fuel k at left
+  pub ahead : Ahead old list k node
+  pub node-low : node ≤ top
+  pub among : k ≤ c
+  pub long : length cur ≡ length old
+
+module _ (old : List ℕ) (top fuel list w c : ℕ) (ok : Waiting old top fuel list w) where
+  pub going-begins : Going old old top fuel list w c 0 top list fuel
+  going-begins =
+      record {
+        turned = turned-begins (elementsAt old list w) old top fuel (ok .room);
+        ahead = record { is = λ items v m. let z : 0 + m ≡ m = omega arith in rw z refl };
+        node-low = ok .node-below;
+        among = omega arith;
+        long = refl;
+      }
+
+  module _ (cur : List ℕ) (k at node left : ℕ) (inv : Going old cur top fuel list w c k at node left) where
+    pub going-ends : c ≤ k → Turned (elementsAt old list w) old cur top fuel c at left
+    going-ends h = let z : k ≡ c = omega (arith, inv .among) in subst (λ (n : ℕ). Turned (elementsAt old list w) old cur top fuel n at left) z (inv .turned)
+
+    module _ (more : k < c) where
+      pub elements-none : left ≡ 0 → ElementsUnpaid old cur top fuel list w c
+      elements-none z = record { over = λ items. turned-none (elementsAt old list w) old top fuel (ok .room) cur k at left (inv .turned) c more z items; kept = inv .turned .kept }
+
+      module _ (some-fuel : left ≡ 0 → ⊥) (first : ℕ) (means : Means cur node first (element 0)) where
+        element-at : (items : List ℕ) → treeAt items cur first w ≡ elementsAt old list w items k
+        element-at items =
+            let z : k + 0 ≡ k = omega arith in
+            means .is items w ∙ ap (element 0) (tree-kept items old cur top node w (inv .node-low) (ok .wrap-below) (inv .turned .kept)) ∙ sym (inv .ahead .is items w 0) ∙ rw z refl
+
+        pub element-waits : Waiting cur at (left - 1) first w
+        element-waits =
+            record {
+              room = room-left old cur top fuel at (left - 1) (nodeWords * (left - 1)) (inv .long) (omega (arith, inv .turned .most)) (ok .room);
+              node-below = omega (arith, means .low, inv .node-low, inv .turned .above);
+              wrap-below = omega (arith, ok .wrap-below, inv .turned .above);
+            }
+
+        pub element-costly : (two : List ℕ) → Unpaid (λ items. treeAt items cur first w) cur two at (left - 1) → ElementsUnpaid old two top fuel list w c
+        element-costly two b =
+            record {
+              over = λ items. turned-over (elementsAt old list w) old top fuel (ok .room) cur k at left (inv .turned) c more items (omega (arith, b .over items, ap size (element-at items)));
+              kept = take-less two cur top at (inv .turned .above) (b .kept) ∙ inv .turned .kept;
+            }
+
+        module _ (two : List ℕ) (h g : ℕ) (b : Paid (λ items. treeAt items cur first w) cur two at (left - 1) h g) (far : length two ≡ length cur) where
+          element-paid : Paid (λ items. elementsAt old list w items k) cur two at (left - 1) h g
+          element-paid = pays-is _ _ cur two at (left - 1) element-at (At h g) b
+
+          pub element-room : Room two h 3
+          element-room = turned-room (elementsAt old list w) old top fuel (ok .room) cur k at left (inv .turned) some-fuel two h g element-paid (far ∙ inv .long)
+
+          two-kept : take top two ≡ take top old
+          two-kept = take-less two cur top at (inv .turned .above) (b .kept) ∙ inv .turned .kept
+
+          pub going-more : (later : ℕ) → Means two node later tail → (new : List ℕ) (r : ℕ) → Grown (λ items v. pair (treeAt items two h v) (treeAt items two at v)) two new h r → length new ≡ length two → Going old new top fuel list w c (k + 1) r later g
+          going-more later goes new r p end =
+              let s : k + 1 ≡ suc k = omega arith in
+              rw s
+              (record {
+                turned = turned-more (elementsAt old list w) old top fuel (ok .room) cur k at left (inv .turned) some-fuel two h g element-paid new r p;
+                ahead = ahead-more old two top list k node later two-kept (ok .node-below) (inv .node-low) (inv .ahead) goes;
+                node-low = omega (arith, goes .low, inv .node-low);
+                among = omega arith;
+                long = end ∙ far ∙ inv .long;
+              })
 
 -- ---- a list turned round before a tail
 
@@ -246,16 +370,6 @@ module _ (old : List ℕ) (top list behind c : ℕ) (room : Room old top (3 * c)
             let z : k + 0 ≡ k = omega arith in
             means .is items 0 ∙ ap (element 0) (tree-kept items old cur top node 0 (inv .node-low) (omega arith) (inv .kept)) ∙ sym (inv .ahead .is items 0 0) ∙ rw z refl
 
-        ahead-more : (later : ℕ) → Means new node later tail → Ahead old list (suc k) later
-        ahead-more later goes =
-            ahead-kept new old top list (suc k) later (sym (kept-top ∙ inv .kept)) list-low (omega (arith, goes .low, inv .node-low))
-            (record {
-              is = λ items w m.
-                  let z : suc k + m ≡ k + suc m = omega arith in
-                  rw z (ahead-kept old new top list k node (kept-top ∙ inv .kept) list-low (inv .node-low) (inv .ahead) .is items w (suc m))
-                  ∙ sym (element-tail m (treeAt items new node w)) ∙ ap (element m) (sym (goes .is items w));
-            })
-
         pub reversing-more : (later : ℕ) → Means new node later tail → Reversing old new top list behind c (k + 1) r later r
         unfolding copies
         reversing-more later goes =
@@ -267,7 +381,7 @@ module _ (old : List ℕ) (top list behind c : ℕ) (room : Room old top (3 * c)
               rest-low = omega arith;
               above = omega (arith, inv .above, inv .rest-low, p .end);
               kept = kept-top ∙ inv .kept;
-              ahead = ahead-more later goes;
+              ahead = ahead-more old new top list k node later (kept-top ∙ inv .kept) list-low (inv .node-low) (inv .ahead) goes;
               among = omega arith;
               means = λ items.
                   let a : suc (c - suc k) ≡ c - k = omega arith in
@@ -281,22 +395,62 @@ module _ (old : List ℕ) (top list behind c : ℕ) (room : Room old top (3 * c)
 
 -- ---- the copies before the rest of their list
 
-module _ (old : List ℕ) (top fuel : ℕ) (env : List ℕ) (w e c : ℕ) (ok : Buildable old top fuel env w e) (mid : List ℕ) (list left : ℕ) (b : Turned old mid top fuel env w e c list left) (long : length mid ≡ length old) where
+module _ (old : List ℕ) (top fuel : ℕ) (env : List ℕ) (w e c : ℕ) (ok : Buildable old top fuel env w e) (mid : List ℕ) (list left : ℕ) (b : Backwards old mid top fuel env w e c (At list left)) (long : length mid ≡ length old) where
   pub reversed-asks : (Room mid list (3 * c)) × (list ≤ list) × (top ≤ list)
-  reversed-asks = (room-left old mid top fuel list left (3 * c) long (omega (arith, b .most)) (ok .room), omega arith, b .above)
+  reversed-asks = (room-left old mid top fuel list left (3 * c) long (omega (arith, b .0 .most)) (ok .room), omega arith, b .0 .above)
 
   pub copied : (new : List ℕ) (r : ℕ) → Reversed mid new list list top c r → Copied old new top fuel env w e c (At r left)
   copied new r a =
       record {
-        spent = b .spent;
+        spent = b .0 .spent;
         above = a .above;
-        most = omega (arith, a .most, b .most);
-        kept = take-less new mid top list (b .above) (a .kept) ∙ b .kept;
+        most = omega (arith, a .most, b .0 .most);
+        kept = take-less new mid top list (b .0 .above) (a .kept) ∙ b .0 .kept;
         means = λ items l.
             a .means items
             ∙ copies-below _ _ 0 c _ _
             (λ i h.
             let z : c - suc (c - suc i) ≡ i = omega arith in
-            b .means items l (c - suc i) (omega arith) ∙ ap (λ (j : ℕ). produce (copyAt items old env w e j)) z)
-            (tree-kept items old mid top top 0 (omega arith) (omega arith) (b .kept));
+            b .0 .means items l (c - suc i) (omega arith) ∙ ap (λ (j : ℕ). produce (copyAt items old env w e j)) z)
+            (tree-kept items old mid top top 0 (omega arith) (omega arith) (b .0 .kept));
+        agreed = b .1;
       }
+
+-- ---- a variable that takes a list's elements
+
+module _ (old : List ℕ) (top fuel : ℕ) (env : List ℕ) (w e c : ℕ) (ok : Buildable old top fuel env w e) (listed : Listed old env e) (k list : ℕ) (k-is : k ≡ wordAt old e 3) (list-is : list ≡ takenIn env k 0) where
+  pub listed-waits : Waiting old top fuel list w
+  unfolding takenIn field
+  listed-waits = record { room = ok .room; node-below = rw list-is (ok .under _); wrap-below = ok .wrap-below }
+
+  none-tag : wordAt old 0 1 ≡ 1 → ⊥
+  unfolding wordAt
+  none-tag h = omega (arith, h)
+
+  pattern-some : (items : List ℕ) → patternIn items old (field env k 3) ≡ some (variableP (wordAt old (field env k 3) 2))
+  unfolding patternIn
+  pattern-some items =
+      let q : wordAt old (field env k 3) 1 ≡ 1 = rw k-is (listed .element-is) in
+      rw (ne-eqb (field env k 3) 0 (λ z. none-tag (subst (λ (x : ℕ). wordAt old x 1 ≡ 1) z q)), patternAt-variable items old (field env k 3) q) refl
+
+  pub listed-copy : (items : List ℕ) (i : ℕ) → copyAt items old env w e i ≡ elementsAt old list w items i
+  unfolding copyAt resultBy takes enter entering environmentAt takingOf entryAt part takenIn level
+  listed-copy items i =
+      rw (templateAt-variable items old e (listed .variable), listed .once, ← k-is, list-is, pattern-some items) refl
+
+  listed-agrees : (items : List ℕ) → allBelow (copyAgrees items old env w e) c ≡ true
+  unfolding copyAgrees
+  listed-agrees items = sym (copies-flat old env e c (flat-leaf old e _ refl (λ z. omega (arith, listed .variable)) (λ z. omega (arith, listed .variable))) items w)
+
+  pub listed-backwards : (new : List ℕ) (r : Built) → ElementsBackwards old new top fuel list w c r → Backwards old new top fuel env w e c r
+  listed-backwards new (At l left) t = (
+    record {
+      spent = λ items. omega (arith, t .spent items, added-cong _ _ c (listed-copy items));
+      above = t .above;
+      most = t .most;
+      kept = t .kept;
+      means = λ items h m n. t .means items h m n ∙ ap produce (sym (listed-copy items (c - suc m)));
+    },
+    listed-agrees,
+  )
+  listed-backwards new Stopped t = record { over = λ items a. omega (arith, t .over items, added-cong _ _ c (listed-copy items)); kept = t .kept }

@@ -1,28 +1,29 @@
 -- Laws of an element followed by `...`: the rest of its list is built first, then its copies before that.
 use mathlib.Core.Path.{_≡_, refl, sym, ap, subst, _∙_}
+use mathlib.Core.Bool.{Bool, true, false, _&&_}
 use mathlib.Core.List.{List}
 use Prim.Native.Nat.{ℕ, _+_}
 use native.Mathlib.Omega.{arith}
 use lib.ListN.{length}
 use Rattle.recipe.specs.Tree.{Tree, size, produce}
 use Rattle.expansion.specs.Rules.{ellipsisT}
-use Rattle.expansion.specs.Transcribe.{copies}
+use Rattle.expansion.specs.Transcribe.{copies, allBelow}
 use Rattle.arena.specs.Arena.{wordAt, referenceAt}
 use Rattle.arena.specs.ArenaLaws.{take-less, referenceAt-most}
 use Rattle.rule_cells.specs.Cells.{templateAt}
 use Rattle.steps.specs.declared.build.Built.{Built}
-use Rattle.steps.specs.declared.build.Built.the-variants.{At, Costly}
+use Rattle.steps.specs.declared.build.Built.the-variants.{At, Stopped}
 use Rattle.steps.specs.Sound.{Plain}
-use Rattle.steps.specs.Environment.{resultBy}
-use Rattle.steps.specs.Lengths.{Copies}
-use Rattle.steps.specs.AgreeLaws.{ellipsis-is}
+use Rattle.steps.specs.Environment.{agreeBy, resultBy}
+use Rattle.steps.specs.Lengths.{driving, AllOf, Copies}
+use Rattle.steps.specs.AgreeLaws.{false-true, ellipsis-is, below-cong}
 use Rattle.steps.specs.EnvironmentLaws.{copies-cong}
-use Rattle.steps.specs.Build.{resultAt, copyAt, Buildable, Made, added, Copied}
-use Rattle.steps.specs.ResultLaws.{plain-ellipsis, copy-kept, buildable-left}
+use Rattle.steps.specs.Build.{resultAt, agreesAt, copyAt, copyAgrees, Buildable, Gives, Stops, Made, added, Copied}
+use Rattle.steps.specs.ResultLaws.{both, plain-ellipsis, copy-kept, copy-agrees-kept, buildable-left}
 use Rattle.steps.specs.CopyLaws.{produce-copies, size-all-copies, added-cong}
 
 module _ (old : List ℕ) (top fuel : ℕ) (env : List ℕ) (w t tag : ℕ) (tag-is : tag ≡ wordAt old t 1) (ok : Buildable old top fuel env w t) (head rest : ℕ) (head-is : head ≡ referenceAt old t 3) (rest-is : rest ≡ referenceAt old t 2)
-    (e : tag ≡ 7) (c : ℕ) (c-is : Copies old env head c) where
+    (e : tag ≡ 7) (c : ℕ) (c-is : Copies old env head c) (b : Bool) (b-is : AllOf old env 0 head c b) where
   template-is : (items : List ℕ) → templateAt items old t ≡ ellipsisT (templateAt items old head) (templateAt items old rest)
   template-is items = ellipsis-is items old t tag head rest tag-is head-is rest-is e
 
@@ -39,42 +40,59 @@ module _ (old : List ℕ) (top fuel : ℕ) (env : List ℕ) (w t tag : ℕ) (tag
   size-ellipsis : (items : List ℕ) → size (resultAt items old env w t) ≡ added (Copy items) c + size (resultAt items old env w rest)
   size-ellipsis items = ap size (of-ellipsis items) ∙ size-all-copies (Copy items) c (resultAt items old env w rest)
 
+  agrees-ellipsis : (items : List ℕ) → agreesAt items old env w t ≡ (b && (allBelow (copyAgrees items old env w head) c && agreesAt items old env w rest))
+  unfolding agreesAt copyAgrees agreeBy driving
+  agrees-ellipsis items = rw (template-is items, ← c-is items w, ← b-is items w) refl
+
+  pub ellipsis-differs : b ≡ false → Made old old top fuel env w t Stopped
+  ellipsis-differs bad = record { over = λ items a. absurd (false-true (sym bad ∙ both b _ (sym (agrees-ellipsis items) ∙ a) .0)); kept = refl }
+
+  rest-agrees : (items : List ℕ) → agreesAt items old env w t ≡ true → (allBelow (copyAgrees items old env w head) c ≡ true) × (agreesAt items old env w rest ≡ true)
+  rest-agrees items a = both (allBelow (copyAgrees items old env w head) c) _ (both b _ (sym (agrees-ellipsis items) ∙ a) .1)
+
   pub ellipsis-rest : Buildable old top fuel env w rest
   ellipsis-rest = record { room = ok .room; plain = λ items. parts-plain items .1; under = ok .under; wrap-below = ok .wrap-below; template-below = omega (arith, ok .template-below, referenceAt-most old t 2) }
 
-  pub ellipsis-rest-costly : (one : List ℕ) → Made old one top fuel env w rest Costly → Made old one top fuel env w t Costly
-  ellipsis-rest-costly one b = record { over = λ items. omega (arith, b .over items, size-ellipsis items); kept = b .kept }
+  pub ellipsis-rest-costly : (one : List ℕ) → Stops old one top fuel env w rest → Made old one top fuel env w t Stopped
+  ellipsis-rest-costly one s = record { over = λ items a. omega (arith, s .over items (rest-agrees items a .1), size-ellipsis items); kept = s .kept }
 
-  module _ (one : List ℕ) (s f : ℕ) (b : Made old one top fuel env w rest (At s f)) (long : length one ≡ length old) where
+  module _ (good : b ≡ true) (one : List ℕ) (s f : ℕ) (g : Gives old one top fuel env w rest s f) (long : length one ≡ length old) where
     head-buildable : Buildable old top fuel env w head
     head-buildable = record { room = ok .room; plain = λ items. parts-plain items .0; under = ok .under; wrap-below = ok .wrap-below; template-below = omega (arith, ok .template-below, referenceAt-most old t 3) }
 
     pub ellipsis-copies : Buildable one s f env w head
-    ellipsis-copies = buildable-left old one top fuel s f env w head head-buildable (b .kept) long (b .above) (b .most)
+    ellipsis-copies = buildable-left old one top fuel s f env w head head-buildable (g .paid .kept) long (g .paid .above) (g .paid .most)
 
     at-kept : (items : List ℕ) (i : ℕ) → copyAt items one env w head i ≡ Copy items i
-    at-kept items i = copy-kept items old one top (b .kept) env w head i (ok .wrap-below) (head-buildable .template-below) (ok .under)
+    at-kept items i = copy-kept items old one top (g .paid .kept) env w head i (ok .wrap-below) (head-buildable .template-below) (ok .under)
 
-    ellipsis-costly : (new : List ℕ) → Copied one new s f env w head c Costly → Made old new top fuel env w t Costly
+    agreed-kept : (items : List ℕ) → allBelow (copyAgrees items one env w head) c ≡ allBelow (copyAgrees items old env w head) c
+    agreed-kept items = below-cong _ _ c (λ i. copy-agrees-kept items old one top (g .paid .kept) env w head i (ok .wrap-below) (head-buildable .template-below) (ok .under))
+
+    ellipsis-costly : (new : List ℕ) → Copied one new s f env w head c Stopped → Made old new top fuel env w t Stopped
     ellipsis-costly new a =
         record {
-          over = λ items. omega (arith, a .over items, added-cong _ _ c (at-kept items), b .spent items, size-ellipsis items);
-          kept = take-less new one top s (b .above) (a .kept) ∙ b .kept;
+          over = λ items h. omega (arith, a .over items (agreed-kept items ∙ rest-agrees items h .0), added-cong _ _ c (at-kept items), g .paid .spent items, size-ellipsis items);
+          kept = take-less new one top s (g .paid .above) (a .kept) ∙ g .paid .kept;
         }
 
-    made-ellipsis : (new : List ℕ) (r g : ℕ) → Copied one new s f env w head c (At r g) → Made old new top fuel env w t (At r g)
-    made-ellipsis new r g a =
+    made-ellipsis : (new : List ℕ) (r l : ℕ) → Copied one new s f env w head c (At r l) → Made old new top fuel env w t (At r l)
+    made-ellipsis new r l a =
         record {
-          spent = λ items. omega (arith, a .spent items, added-cong _ _ c (at-kept items), b .spent items, size-ellipsis items);
-          above = omega (arith, a .above, b .above);
-          most = omega (arith, a .most, b .most);
-          kept = take-less new one top s (b .above) (a .kept) ∙ b .kept;
-          means = λ items l.
-              a .means items (omega (arith, b .above))
-              ∙ copies-cong _ _ 0 c _ _ (λ i. ap produce (at-kept items i)) (b .means items l)
-              ∙ sym (ap produce (of-ellipsis items) ∙ produce-copies (Copy items) 0 c (resultAt items old env w rest));
+          paid =
+              record {
+                spent = λ items. omega (arith, a .spent items, added-cong _ _ c (at-kept items), g .paid .spent items, size-ellipsis items);
+                above = omega (arith, a .above, g .paid .above);
+                most = omega (arith, a .most, g .paid .most);
+                kept = take-less new one top s (g .paid .above) (a .kept) ∙ g .paid .kept;
+                means = λ items h.
+                    a .means items (omega (arith, g .paid .above))
+                    ∙ copies-cong _ _ 0 c _ _ (λ i. ap produce (at-kept items i)) (g .paid .means items h)
+                    ∙ sym (ap produce (of-ellipsis items) ∙ produce-copies (Copy items) 0 c (resultAt items old env w rest));
+              };
+          agrees = λ items. agrees-ellipsis items ∙ rw (good, ← agreed-kept items, a .agreed items, g .agrees items) refl;
         }
 
     pub made-copies : (new : List ℕ) (r : Built) → Copied one new s f env w head c r → Made old new top fuel env w t r
-    made-copies new (At r g) a = made-ellipsis new r g a
-    made-copies new Costly a = ellipsis-costly new a
+    made-copies new (At r l) a = made-ellipsis new r l a
+    made-copies new Stopped a = ellipsis-costly new a

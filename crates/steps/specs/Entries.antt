@@ -9,7 +9,7 @@ use lib.ListN.{getD}
 use Rattle.recipe.specs.Tree.{element}
 use Rattle.expansion.specs.Rules.{Pattern}
 use Rattle.expansion.specs.Match.{part}
-use Rattle.arena.specs.Arena.{treeAt}
+use Rattle.arena.specs.Arena.{wordAt, treeAt}
 use Rattle.rule_cells.specs.Cells.{patternAt}
 use Rattle.steps.specs.declared.environment.Entry.{Entry}
 use Rattle.steps.specs.Environment.{Taking, Environment, entering, enter}
@@ -55,6 +55,12 @@ level (suc (suc d)) = 2
 -- the node that variable k takes under the innermost d indices
 unfoldable pub takenIn : List ℕ → (k d : ℕ) → ℕ
 takenIn env k d = field env k (level d)
+
+-- a template's variable under one ellipsis of the pattern that is itself the ellipsis's element, so that it takes a list's elements
+pub record Listed (work env : List ℕ) (e : ℕ) : Type 0 where
+  pub variable : wordAt work e 1 ≡ 1
+  pub once : wordAt work e 2 ≡ 1
+  pub element-is : wordAt work (field env (wordAt work e 3) 3) 1 ≡ 1
 
 -- no word refers past the top
 abbrev pub Under : List ℕ → ℕ → Type 0

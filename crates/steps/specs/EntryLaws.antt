@@ -1,6 +1,7 @@
 -- Laws of the table of an environment, one for each way through the code. Words are spoken of where an entry is read or stored, and
 -- entries everywhere else.
 use mathlib.Core.Path.{_≡_, refl, sym, ap, subst, fun-ext, _∙_}
+use mathlib.Core.Bool.{true}
 use mathlib.Core.List.{List, [], _∷_}
 use mathlib.Core.Option.{none, some}
 use Prim.Native.Nat.{ℕ, zero, suc, _+_, _*_, _/_, _%_, _≤_, _<_}
@@ -14,14 +15,14 @@ use Rattle.words.specs.Limits.{patternVariablesMost}
 use Rattle.recipe.specs.Tree.{element, tail}
 use Rattle.recipe.specs.TreeLaws.{element-tail}
 use Rattle.expansion.specs.Match.{part}
-use Rattle.arena.specs.Arena.{treeAt}
+use Rattle.arena.specs.Arena.{wordAt, treeAt}
 use Rattle.arena.specs.ArenaLaws.{cases}
 use Rattle.arena.specs.Lists.{Means}
 use Rattle.rule_cells.specs.Cells.{patternAt}
 use Rattle.steps.specs.declared.environment.Entry.{Entry}
 use Rattle.steps.specs.Environment.{within, entering, enter}
 use Rattle.steps.specs.Parts.{Part}
-use Rattle.steps.specs.Entries.{entryWords, tableWords, field, entryAt, patternIn, takingOf, environmentAt, level, takenIn, Under, Low, Stored, Ahead, begun, Along, AlongAll, Within, Next, Enters}
+use Rattle.steps.specs.Entries.{entryWords, tableWords, field, entryAt, patternIn, takingOf, environmentAt, level, takenIn, Listed, Under, Low, Stored, Ahead, begun, Along, AlongAll, Within, Next, Enters}
 
 -- ---- words of an entry
 
@@ -428,3 +429,10 @@ module _ (work old : List ℕ) where
           );
           low = λ b u. under-low new b (λ k. follows-low work k _ _ b (all-follow k) (entry-low old b u k));
         }
+
+-- ---- a variable that takes a list's elements
+
+pub listed-is : (work env : List ℕ) (e a b k g : ℕ) → a ≡ wordAt work e 1 → a ≡ 1 → b ≡ wordAt work e 2 → b ≡ 1 → k ≡ wordAt work e 3 → g ≡ wordAt work (getD env (entryWords * k + 3) 0) 1 → eqb g 1 ≡ true → Listed work env e
+unfolding field
+listed-is work env e a b k g a-is a1 b-is b1 k-is g-is g1 =
+    record { variable = sym a-is ∙ a1; once = sym b-is ∙ b1; element-is = rw (← k-is) (sym g-is ∙ eqb-true g 1 g1) }

@@ -111,6 +111,10 @@ module _ (work : List ℕ) (p u kind : ℕ) (kind-is : kind ≡ wordAt work u 3)
 
 -- ---- patterns
 
+-- one pattern fits one node where another fits another
+abbrev pub Same : (items work : List ℕ) (w p u s v : ℕ) → Type 0
+Same items work w p u s v = fit (patternAt items work p) (treeAt items work u w) .1 ≡ fit (patternAt items work s) (treeAt items work v w) .1
+
 module _ (items work : List ℕ) (p tag : ℕ) (tag-is : tag ≡ wordAt work p 1) (u w : ℕ) where
   pub fits-variable : tag ≡ 1 → Fits items work p u w true
   unfolding fit fitting
@@ -135,18 +139,38 @@ module _ (items work : List ℕ) (p tag : ℕ) (tag-is : tag ≡ wordAt work p 1
     fits-no-pair t other = rw (patternAt-pair items work p (sym tag-is ∙ t)) (pair-no-pair items work u w kind kind-is p _ _ other)
 
     module _ (q h : ℕ) (b : Bool) (t : tag ≡ 6) (k : kind ≡ 4) (q-is : q ≡ referenceAt work p 3) (h-is : h ≡ referenceAt work u 2) (head : Fits items work q h w b) where
+      head-first : fit (patternAt items work p) (treeAt items work u w) .1 ≡ (b && fit (patternAt items work (referenceAt work p 2)) (treeAt items work (referenceAt work u 1) w) .1)
+      head-first =
+          ap (λ (x : Pattern). fit x (treeAt items work u w) .1) (patternAt-pair items work p (sym tag-is ∙ t)) ∙ pair-pair items work u w kind kind-is _ _ k ∙ rw (← q-is, ← h-is, ← head) refl
+
       pub fits-head-no : b ≡ false → Fits items work p u w false
-      fits-head-no e =
-          sym (ap (λ (x : Pattern). fit x (treeAt items work u w) .1) (patternAt-pair items work p (sym tag-is ∙ t)) ∙ pair-pair items work u w kind kind-is _ _ k ∙ rw (← q-is, ← h-is, ← head, e))
+      fits-head-no e = sym (head-first ∙ rw e refl)
 
-      pub fits-tail : (s v : ℕ) (r : Bool) → b ≡ true → s ≡ referenceAt work p 2 → v ≡ referenceAt work u 1 → Fits items work s v w r → Fits items work p u w r
-      fits-tail s v r e s-is v-is c =
-          c ∙ sym (ap (λ (x : Pattern). fit x (treeAt items work u w) .1) (patternAt-pair items work p (sym tag-is ∙ t)) ∙ pair-pair items work u w kind kind-is _ _ k ∙ rw (← q-is, ← h-is, ← head, e, ← s-is, ← v-is) refl)
+      pub fits-tail : (s v : ℕ) → b ≡ true → s ≡ referenceAt work p 2 → v ≡ referenceAt work u 1 → Same items work w p u s v
+      fits-tail s v e s-is v-is = head-first ∙ rw (e, ← s-is, ← v-is) refl
 
-    pub fits-empty : (tag ≡ 1 → ⊥) → (tag ≡ 2 → ⊥) → (tag ≡ 3 → ⊥) → (tag ≡ 4 → ⊥) → (tag ≡ 6 → ⊥) → (tag ≡ 7 → ⊥) → Fits items work p u w (eqb kind 0)
+    pub fits-empty : (tag ≡ 1 → ⊥) → (tag ≡ 2 → ⊥) → (tag ≡ 3 → ⊥) → (tag ≡ 4 → ⊥) → (wordAt work p 1 ≡ 6 → ⊥) → (tag ≡ 7 → ⊥) → Fits items work p u w (eqb kind 0)
     fits-empty n1 n2 n3 n4 n6 n7 =
-        rw (patternAt-empty items work p (λ z. n1 (tag-is ∙ z)) (λ z. n2 (tag-is ∙ z)) (λ z. n3 (tag-is ∙ z)) (λ z. n4 (tag-is ∙ z)) (λ z. n6 (tag-is ∙ z)) (λ z. n7 (tag-is ∙ z)))
+        rw (patternAt-empty items work p (λ z. n1 (tag-is ∙ z)) (λ z. n2 (tag-is ∙ z)) (λ z. n3 (tag-is ∙ z)) (λ z. n4 (tag-is ∙ z)) n6 (λ z. n7 (tag-is ∙ z)))
         (empty-fits items work u w kind kind-is)
+
+-- ---- along the pattern's list
+
+-- the pattern fits the use where the rest of its list fits the node
+pub record Along (items work : List ℕ) (p u w at node : ℕ) : Type 0 where
+  pub is : Same items work w p u at node
+  pub low : at ≤ p
+
+module _ (items work : List ℕ) (p u w : ℕ) where
+  pub along-begins : Along items work p u w p u
+  along-begins = record { is = refl; low = omega arith }
+
+  module _ (at node : ℕ) (inv : Along items work p u w at node) where
+    pub along-ends : (r : Bool) → Fits items work at node w r → Fits items work p u w r
+    along-ends r c = c ∙ sym (inv .is)
+
+    pub along-more : (s v : ℕ) → s ≡ referenceAt work at 2 → Same items work w at node s v → Along items work p u w s v
+    along-more s v s-is e = record { is = inv .is ∙ e; low = omega (arith, inv .low, referenceAt-most work at 2) }
 
 -- ---- zero or more elements
 

@@ -1,7 +1,8 @@
 -- Laws of building what a template gives in an environment, one for each way through the code.
-use mathlib.Core.Path.{_≡_, refl, sym, subst, fun-ext, _∙_}
+use mathlib.Core.Path.{_≡_, refl, sym, ap, subst, fun-ext, _∙_}
+use mathlib.Core.Bool.{Bool, true, false, _&&_}
 use mathlib.Core.List.{List, []}
-use Prim.Native.Nat.{ℕ, _+_, _*_, _-_, _≤_}
+use Prim.Native.Nat.{ℕ, _+_, _*_, _-_, _≤_, _<_}
 use native.Mathlib.Omega.{arith}
 use lib.ListN.{length, take}
 use Rattle.datum.specs.Constant.{Constant}
@@ -15,15 +16,15 @@ use Rattle.rule_cells.specs.Cells.{constantBefore, templateAt}
 use Rattle.rule_cells.specs.CellLaws.{patternAt-below, templateAt-below, templateAt-variable, templateAt-insert, templateAt-constant, templateAt-empty}
 use Rattle.steps.specs.declared.environment.Entry.{Entry}
 use Rattle.steps.specs.declared.build.Built.{Built}
-use Rattle.steps.specs.declared.build.Built.the-variants.{At, Costly}
+use Rattle.steps.specs.declared.build.Built.the-variants.{At, Stopped}
 use Rattle.steps.specs.Sound.{Plain, pairs, ellipsis}
-use Rattle.steps.specs.Environment.{resultBy}
+use Rattle.steps.specs.Environment.{agreeBy, resultBy}
 use Rattle.steps.specs.Entries.{field, entryAt, takenIn, patternIn, takingOf, environmentAt, Under, Low}
 use Rattle.steps.specs.EntryLaws.{entry-low}
 use Rattle.steps.specs.LengthLaws.{taken-is}
-use Rattle.steps.specs.AgreeLaws.{pair-is}
-use Rattle.steps.specs.Build.{nodeWords, Fresh, Paid, Pays, Waiting, resultAt, copyAt, Buildable, Made}
-use Rattle.steps.specs.BuildLaws.{Whole, fresh-empty, fresh-constant, room-left, pays-is, unpaid-none, paid-one, unpaid-tail, unpaid-head, pair-most, paid-pair}
+use Rattle.steps.specs.AgreeLaws.{flat-leaf, false-true, pair-is}
+use Rattle.steps.specs.Build.{nodeWords, Fresh, Paid, Pays, Waiting, resultAt, agreesAt, copyAt, copyAgrees, Buildable, Gives, Stops, Made}
+use Rattle.steps.specs.BuildLaws.{Whole, fresh-empty, fresh-constant, room-left, pays-is, unpaid-none, paid-one, pair-most, paid-pair}
 
 -- ---- what stands below the top
 
@@ -59,6 +60,26 @@ module _ (items old new : List ℕ) (top : ℕ) (kept : take top new ≡ take to
   unfolding copyAt
   copy-kept env w e i h l u = rw (environment-kept env w h u, template-kept e l) refl
 
+  pub agrees-kept : (env : List ℕ) (w t : ℕ) → w ≤ top → t ≤ top → Under env top → agreesAt items new env w t ≡ agreesAt items old env w t
+  unfolding agreesAt
+  agrees-kept env w t h l u = rw (environment-kept env w h u, template-kept t l) refl
+
+  pub copy-agrees-kept : (env : List ℕ) (w e i : ℕ) → w ≤ top → e ≤ top → Under env top → copyAgrees items new env w e i ≡ copyAgrees items old env w e i
+  unfolding copyAgrees
+  copy-agrees-kept env w e i h l u = rw (environment-kept env w h u, template-kept e l) refl
+
+-- what an answer says
+pub gives-at : (old new : List ℕ) (top fuel : ℕ) (env : List ℕ) (w t : ℕ) (r : Built) (root left : ℕ) → r ≡ At root left → Made old new top fuel env w t r → Gives old new top fuel env w t root left
+gives-at old new top fuel env w t r root left e m = subst (Made old new top fuel env w t) e m
+
+pub stops-at : (old new : List ℕ) (top fuel : ℕ) (env : List ℕ) (w t : ℕ) (r : Built) → r ≡ Stopped → Made old new top fuel env w t r → Stops old new top fuel env w t
+stops-at old new top fuel env w t r e m = subst (Made old new top fuel env w t) e m
+
+-- both of two tests
+pub both : (a b : Bool) → (a && b) ≡ true → (a ≡ true) × (b ≡ true)
+both true b e = (refl, e)
+both false b e = absurd (false-true e)
+
 under-less : (env : List ℕ) (a b : ℕ) → a ≤ b → Under env a → Under env b
 under-less env a b h u i = omega (arith, u i)
 
@@ -83,6 +104,12 @@ module _ (old : List ℕ) (top fuel : ℕ) (env : List ℕ) (w t tag : ℕ) (tag
   abbrev Of : ℕ → List ℕ → Tree
   Of s = λ items. resultAt items old env w s
 
+  -- a tree that a cell without parts gives
+  made-of : (A : List ℕ → Tree) → ((items : List ℕ) → A items ≡ Of t items) → (tag ≡ 6 → ⊥) → (tag ≡ 7 → ⊥) → (new : List ℕ) (r : Built) → Pays A old new top fuel r → Made old new top fuel env w t r
+  unfolding agreesAt
+  made-of A e n6 n7 new (At root left) p = record { paid = pays-is A (Of t) old new top fuel e (At root left) p; agrees = λ items. sym (flat-leaf old t tag tag-is n6 n7 items _) }
+  made-of A e n6 n7 new Stopped p = record { over = λ items a. pays-is A (Of t) old new top fuel e Stopped p .over items; kept = p .kept }
+
   module _ (k d node : ℕ) (e : tag ≡ 1) (k-is : k ≡ wordAt old t 3) (d-is : d ≡ wordAt old t 2) (node-is : node ≡ takenIn env k d) where
     variable-is : (items : List ℕ) → Whole old node w items ≡ Of t items
     unfolding resultAt resultBy
@@ -93,31 +120,31 @@ module _ (old : List ℕ) (top fuel : ℕ) (env : List ℕ) (w t tag : ℕ) (tag
     variable-waits = record { room = ok .room; node-below = rw node-is (ok .under _); wrap-below = ok .wrap-below }
 
     pub made-variable : (new : List ℕ) (r : Built) → Pays (Whole old node w) old new top fuel r → Made old new top fuel env w t r
-    made-variable new r p = pays-is (Whole old node w) (Of t) old new top fuel variable-is r p
+    made-variable new r p = made-of (Whole old node w) variable-is (λ z. omega arith) (λ z. omega arith) new r p
 
-  pub made-none : fuel ≡ 0 → Made old old top fuel env w t Costly
-  made-none e = unpaid-none (Of t) old top fuel e
+  pub made-none : fuel ≡ 0 → Made old old top fuel env w t Stopped
+  made-none e = record { over = λ items a. unpaid-none (Of t) old top fuel e .over items; kept = refl }
 
   module _ (left : ℕ) (some-fuel : fuel ≡ 0 → ⊥) (left-is : left ≡ fuel - 1) where
-    made-one : (A : List ℕ → Tree) (new : List ℕ) (r : ℕ) → ((items : List ℕ) → size (A items) ≡ 1) → ((items : List ℕ) → A items ≡ Of t items) → Fresh A old new top r → Made old new top fuel env w t (At r left)
-    made-one A new r one e f = pays-is A (Of t) old new top fuel e (At r left) (paid-one A old new top fuel r left some-fuel left-is one f)
+    made-one : (A : List ℕ → Tree) (new : List ℕ) (r : ℕ) → ((items : List ℕ) → size (A items) ≡ 1) → ((items : List ℕ) → A items ≡ Of t items) → (tag ≡ 6 → ⊥) → (tag ≡ 7 → ⊥) → Fresh A old new top r → Made old new top fuel env w t (At r left)
+    made-one A new r one e n6 n7 f = made-of A e n6 n7 new (At r left) (paid-one A old new top fuel r left some-fuel left-is one f)
 
     pub made-insert : (node v : ℕ) (new : List ℕ) (r : ℕ) → tag ≡ 2 → node ≡ referenceAt old t 3 → v ≡ referenceAt old t 2 → Fresh (λ items. name (nameAt items old node v)) old new top r → Made old new top fuel env w t (At r left)
     unfolding resultAt resultBy size
     made-insert node v new r e node-is v-is f =
-        made-one (λ items. name (nameAt items old node v)) new r (λ items. refl) (λ items. rw (templateAt-insert items old t (sym tag-is ∙ e), ← node-is, ← v-is) refl) f
+        made-one (λ items. name (nameAt items old node v)) new r (λ items. refl) (λ items. rw (templateAt-insert items old t (sym tag-is ∙ e), ← node-is, ← v-is) refl) (λ z. omega arith) (λ z. omega arith) f
 
     pub made-constant : (k a b : ℕ) (new : List ℕ) (r : ℕ) → tag ≡ 4 → k ≡ wordAt old t 4 → a ≡ wordAt old t 3 → b ≡ wordAt old t 2 → Grown (λ items v. constant (record { kind = k; first = a; second = b })) old new top r → Made old new top fuel env w t (At r left)
     unfolding resultAt resultBy constantBefore size
     made-constant k a b new r e k-is a-is b-is g =
-        made-one (λ items. constant (record { kind = k; first = a; second = b })) new r (λ items. refl) (λ items. rw (templateAt-constant items old t (sym tag-is ∙ e), k-is, a-is, b-is) refl) (fresh-constant old new top r k a b g)
+        made-one (λ items. constant (record { kind = k; first = a; second = b })) new r (λ items. refl) (λ items. rw (templateAt-constant items old t (sym tag-is ∙ e), k-is, a-is, b-is) refl) (λ z. omega arith) (λ z. omega arith) (fresh-constant old new top r k a b g)
 
     pub made-empty : (new : List ℕ) (r : ℕ) → (tag ≡ 1 → ⊥) → (tag ≡ 2 → ⊥) → (tag ≡ 4 → ⊥) → (tag ≡ 6 → ⊥) → (tag ≡ 7 → ⊥) → Grown (λ items v. empty) old new top r → Made old new top fuel env w t (At r left)
     unfolding resultAt resultBy size
     made-empty new r n1 n2 n4 n6 n7 g =
         made-one (λ items. empty) new r (λ items. refl)
         (λ items. rw (templateAt-empty items old t (λ z. n1 (tag-is ∙ z)) (λ z. n2 (tag-is ∙ z)) (λ z. n4 (tag-is ∙ z)) (λ z. n6 (tag-is ∙ z)) (λ z. n7 (tag-is ∙ z))) refl)
-        (fresh-empty old new top r g)
+        n6 n7 (fresh-empty old new top r g)
 
   pub kind-plain : (k : ℕ) → tag ≡ 4 → k ≡ wordAt old t 4 → (k ≡ 0 → ⊥) × (k ≡ 3 → ⊥) × (k ≡ 4 → ⊥)
   unfolding constantBefore
@@ -149,34 +176,57 @@ module _ (old : List ℕ) (top fuel : ℕ) (env : List ℕ) (w t tag : ℕ) (tag
     unfolding resultAt resultBy
     of-pair items = rw (pair-is items old t tag head rest tag-is head-is rest-is e) refl
 
+    agrees-pair : (items : List ℕ) → agreesAt items old env w t ≡ (agreesAt items old env w head && agreesAt items old env w rest)
+    unfolding agreesAt agreeBy
+    agrees-pair items = rw (pair-is items old t tag head rest tag-is head-is rest-is e) refl
+
+    parts-agree : (items : List ℕ) → agreesAt items old env w t ≡ true → (agreesAt items old env w head ≡ true) × (agreesAt items old env w rest ≡ true)
+    parts-agree items a = both (agreesAt items old env w head) _ (sym (agrees-pair items) ∙ a)
+
+    size-pair : (items : List ℕ) → size (resultAt items old env w t) ≡ 1 + size (resultAt items old env w head) + size (resultAt items old env w rest)
+    unfolding size
+    size-pair items = rw (← of-pair items) (omega arith)
+
     module _ (left : ℕ) (some-fuel : fuel ≡ 0 → ⊥) (left-is : left ≡ fuel - 1) where
       pub pair-tail : Buildable old top left env w rest
       pair-tail = buildable-left old old top fuel top left env w rest (part-buildable rest rest-low (λ items. parts-plain items .1)) refl refl (omega arith) (omega arith)
 
-      pub pair-tail-costly : (one : List ℕ) → Made old one top left env w rest Costly → Made old one top fuel env w t Costly
-      pair-tail-costly one b = pays-is _ _ old one top fuel of-pair Costly (unpaid-tail (λ items. resultAt items old env w head) _ old one top fuel left some-fuel left-is b)
+      pub pair-tail-costly : (one : List ℕ) → Stops old one top left env w rest → Made old one top fuel env w t Stopped
+      pair-tail-costly one b = record { over = λ items a. omega (arith, b .over items (parts-agree items a .1), size-pair items); kept = b .kept }
 
-      module _ (one : List ℕ) (s f : ℕ) (b : Made old one top left env w rest (At s f)) (long : length one ≡ length old) where
+      module _ (one : List ℕ) (s f : ℕ) (b : Gives old one top left env w rest s f) (long : length one ≡ length old) where
         pub pair-head : Buildable one s f env w head
-        pair-head = buildable-left old one top fuel s f env w head (part-buildable head head-low (λ items. parts-plain items .0)) (b .kept) long (b .above) (omega (arith, b .most))
+        pair-head = buildable-left old one top fuel s f env w head (part-buildable head head-low (λ items. parts-plain items .0)) (b .paid .kept) long (b .paid .above) (omega (arith, b .paid .most))
+
+        head-below : head ≤ top
+        head-below = omega (arith, head-low, ok .template-below)
 
         of-head : (items : List ℕ) → resultAt items one env w head ≡ resultAt items old env w head
-        of-head items = result-kept items old one top (b .kept) env w head (ok .wrap-below) (omega (arith, head-low, ok .template-below)) (ok .under)
+        of-head items = result-kept items old one top (b .paid .kept) env w head (ok .wrap-below) head-below (ok .under)
 
-        pub pair-head-costly : (two : List ℕ) → Made one two s f env w head Costly → Made old two top fuel env w t Costly
+        agrees-head : (items : List ℕ) → agreesAt items one env w head ≡ agreesAt items old env w head
+        agrees-head items = agrees-kept items old one top (b .paid .kept) env w head (ok .wrap-below) head-below (ok .under)
+
+        pub pair-head-costly : (two : List ℕ) → Stops one two s f env w head → Made old two top fuel env w t Stopped
         pair-head-costly two a =
-            pays-is _ _ old two top fuel of-pair Costly
-            (unpaid-head (λ items. resultAt items old env w head) _ old one top fuel left some-fuel left-is s f b two (pays-is _ _ one two s f of-head Costly a))
+            record {
+              over = λ items g. omega (arith, a .over items (agrees-head items ∙ parts-agree items g .0), ap size (of-head items), b .paid .spent items, size-pair items);
+              kept = take-less two one top s (b .paid .above) (a .kept) ∙ b .paid .kept;
+            }
 
-        module _ (two : List ℕ) (h g : ℕ) (a : Made one two s f env w head (At h g)) where
+        module _ (two : List ℕ) (h g : ℕ) (a : Gives one two s f env w head h g) where
           head-made : Paid (λ items. resultAt items old env w head) one two s f h g
-          head-made = pays-is _ _ one two s f of-head (At h g) a
+          head-made = pays-is _ _ one two s f of-head (At h g) (a .paid)
 
           pub pair-room : length two ≡ length one → Room two h 3
           pair-room far =
-              room-left old two top fuel h g 3 (far ∙ long) (omega (arith, pair-most (λ items. resultAt items old env w head) (λ items. resultAt items old env w rest) old one top fuel left some-fuel left-is s f b two h g head-made)) (ok .room)
+              room-left old two top fuel h g 3 (far ∙ long) (omega (arith, pair-most (λ items. resultAt items old env w head) (λ items. resultAt items old env w rest) old one top fuel left some-fuel left-is s f (b .paid) two h g head-made)) (ok .room)
 
           pub made-pair : (new : List ℕ) (r : ℕ) → Grown (λ items v. pair (treeAt items two h v) (treeAt items two s v)) two new h r → Made old new top fuel env w t (At r g)
           made-pair new r p =
-              pays-is _ _ old new top fuel of-pair (At r g)
-              (paid-pair (λ items. resultAt items old env w head) (λ items. resultAt items old env w rest) old one top fuel left some-fuel left-is s f b two h g head-made new r p)
+              record {
+                paid =
+                    pays-is _ _ old new top fuel of-pair (At r g)
+                    (paid-pair (λ items. resultAt items old env w head) (λ items. resultAt items old env w rest) old one top fuel left some-fuel left-is s f (b .paid) two h g head-made new r p);
+                agrees = λ items. agrees-pair items ∙ rw (← agrees-head items, a .agrees items, b .agrees items) refl;
+              }

@@ -1,4 +1,4 @@
-// One macro step: the first rule that fits, then the lengths of driving lists, and the result while there is fuel for it.
+// One macro step: the first rule that fits, then the result while there is fuel for it and driving lists are of one length.
 
 ghost use Rattle.steps.specs.Apply.{Transcribing, Transcribed, Stepping, Stepped};
 use crate::agree;
@@ -17,7 +17,8 @@ pub enum Applied {
     Done(u32, u32),
 }
 
-// A template in an environment; `limit` is the fuel left.
+// A template in an environment; `limit` is the fuel left. Where there is no result, all lengths are compared before the fuel is
+// called short.
 fn transcribe(
     work: &mut [u32],
     top: u32,
@@ -29,13 +30,15 @@ fn transcribe(
     requires { ⌜ Transcribing (now work) top (now env) w t limit ⌝ }
     ensures { λ r. ⌜ Transcribed (now (work .entry)) (now (work .exit)) top (now (env .entry)) w t limit r ⌝ }
 {
-    if !agree::lengths_agree(work, env, t) {
-        return Applied::Differ;
+    match build::build(work, top, limit as usize, env, w, t) {
+        Built::At(root, left) => Applied::Done(root, limit - left as u32),
+        Built::Stopped => {
+            if agree::lengths_agree(work, env, t) {
+                return Applied::Costly;
+            }
+            Applied::Differ
+        }
     }
-    let Built::At(root, left) = build::build(work, top, limit, env, w, t) else {
-        return Applied::Costly;
-    };
-    Applied::Done(root, limit - left)
 }
 
 // The rules at a use, which waits under w with the step's mark; `limit` is the fuel left.

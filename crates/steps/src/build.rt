@@ -1,74 +1,37 @@
-// A step's result, built into fresh nodes above the top, the root last, while there is fuel for each item of it (ground 18).
-// A name from the use gets the use's pending wrap, joined with its own; an inserted name the wrap of its cell, likewise.
+// A step's result, built into fresh nodes above the top, the root last, while there is fuel for each item of it (ground 18) and
+// the lists that drive copies are of one length (ground 17). An inserted name gets the wrap of its cell, joined with its own.
 
 ghost use mathlib.Core.Path.{_≡_};
-ghost use Prim.Native.Nat.{_*_, _≤_};
-ghost use Rattle.recipe.specs.Tree.{name};
-ghost use Rattle.arena.specs.Arena.{wordAt, nameAt, treeAt};
-ghost use Rattle.arena.specs.Cells.{Room};
-ghost use Rattle.steps.specs.Build.{Fresh, Waiting, Buildable, Pays, Made, Backwards, Reversed, Copied};
+ghost use Rattle.arena.specs.Arena.{wordAt};
+ghost use Rattle.steps.specs.Build.{Buildable, Made, Backwards, Copied};
+use crate::copy;
 use crate::environment;
 use crate::lengths;
 use arena::cells;
-use arena::lists;
 
-// The root's reference, which is the new top, and the fuel that is left; or there is not fuel enough.
+// The root's reference, which is the new top, and the fuel that is left, wider than the reference so that the two are not moved as
+// one; or there is not fuel enough, or driving lists differ in length: which of the two, who asks finds out (ground 17 before 18).
 pub enum Built {
-    At(u32, u32),
-    Costly,
+    At(u32, usize),
+    Stopped,
 }
 
-// A fresh name from a name's node and a wrap that waits on it.
-pub fn copy_name(work: &mut [u32], top: u32, node: u32, w: u32) -> u32
-    requires { ⌜ (Room (now work) top 6) × (node ≤ top) × (w ≤ top) ⌝ }
-    ensures { λ r. ⌜ Fresh (λ items. name (nameAt items (now (work .entry)) node w)) (now (work .entry)) (now (work .exit)) top r ⌝ }
+// The same answer, taken apart and put together. Handed on as it is, it would be copied through memory in larger pieces than it was
+// written in, for which the processor waits.
+pub fn again(b: Built) -> Built
+    ensures { λ r. ⌜ r ≡ b ⌝ }
 {
-    let item = cells::word(work, node, cells::ITEM);
-    let own = cells::reference(work, node, cells::OWN);
-    if own == 0 {
-        return cells::put_name(work, top, item, w);
+    match b {
+        Built::At(root, left) => Built::At(root, left),
+        Built::Stopped => Built::Stopped,
     }
-    let joined = cells::put_join(work, top, w, own);
-    cells::put_name(work, joined, item, joined)
-}
-
-// A fresh copy of a tree, its tail before its head.
-pub fn copy_tree(work: &mut [u32], top: u32, fuel: u32, node: u32, w: u32) -> Built
-    requires { ⌜ Waiting (now work) top fuel node w ⌝ }
-    ensures { λ r. ⌜ Pays (λ items. treeAt items (now (work .entry)) node w) (now (work .entry)) (now (work .exit)) top fuel r ⌝ }
-{
-    if fuel == 0 {
-        return Built::Costly;
-    }
-    let left = fuel - 1;
-    let kind = cells::word(work, node, cells::KIND);
-    if kind == cells::EMPTY {
-        return Built::At(cells::put_empty(work, top), left);
-    }
-    if kind == cells::NAME {
-        return Built::At(copy_name(work, top, node, w), left);
-    }
-    let a = cells::word(work, node, cells::FIRST);
-    let b = cells::word(work, node, cells::SECOND);
-    if kind != cells::PAIR {
-        return Built::At(cells::put_constant(work, top, kind, a, b), left);
-    }
-    let first = cells::reference(work, node, cells::HEAD);
-    let rest = cells::reference(work, node, cells::TAIL);
-    let Built::At(tail, f) = copy_tree(work, top, left, rest, w) else {
-        return Built::Costly;
-    };
-    let Built::At(head, g) = copy_tree(work, tail, f, first, w) else {
-        return Built::Costly;
-    };
-    Built::At(cells::put_pair(work, head, head, tail), g)
 }
 
 // What a template's cell without parts gives.
 pub fn build_leaf(
     work: &mut [u32],
     top: u32,
-    fuel: u32,
+    fuel: usize,
     env: &[u32; environment::WORDS],
     w: u32,
     t: u32,
@@ -81,16 +44,16 @@ pub fn build_leaf(
         let k = cells::word(work, t, 3);
         let d = cells::word(work, t, 2);
         let node = environment::taken(env, k, d);
-        return copy_tree(work, top, fuel, node, w);
+        return again(copy::copy_tree(work, top, fuel, node, w));
     }
     if fuel == 0 {
-        return Built::Costly;
+        return Built::Stopped;
     }
     let left = fuel - 1;
     if tag == rule_cells::cells::NAME {
         let node = cells::reference(work, t, 3);
         let wrap = cells::reference(work, t, 2);
-        return Built::At(copy_name(work, top, node, wrap), left);
+        return Built::At(copy::copy_name(work, top, node, wrap), left);
     }
     if tag == rule_cells::cells::CONSTANT {
         let kind = cells::word(work, t, 4);
@@ -101,11 +64,11 @@ pub fn build_leaf(
     Built::At(cells::put_empty(work, top), left)
 }
 
-// What a template gives, the rest of a list before its head.
-pub fn build(
+// What a part of a template gives. A cell without parts is built in place, without a call more.
+pub fn build_part(
     work: &mut [u32],
     top: u32,
-    fuel: u32,
+    fuel: usize,
     env: &[u32; environment::WORDS],
     w: u32,
     t: u32,
@@ -120,23 +83,62 @@ pub fn build(
     if rule_cells::cells::ELLIPSIS < tag {
         return build_leaf(work, top, fuel, env, w, t);
     }
+    build(work, top, fuel, env, w, t)
+}
+
+// What a template gives, the rest of a list before its head.
+pub fn build(
+    work: &mut [u32],
+    top: u32,
+    fuel: usize,
+    env: &[u32; environment::WORDS],
+    w: u32,
+    t: u32,
+) -> Built
+    requires { ⌜ Buildable (now work) top fuel (now env) w t ⌝ }
+    ensures { λ r. ⌜ Made (now (work .entry)) (now (work .exit)) top fuel (now (env .entry)) w t r ⌝ }
+{
+    let tag = cells::word(work, t, cells::TAG);
+    if tag == rule_cells::cells::ELLIPSIS {
+        return again(build_ellipsis(work, top, fuel, env, w, t));
+    }
+    if tag != rule_cells::cells::PAIR {
+        return again(build_leaf(work, top, fuel, env, w, t));
+    }
+    if fuel == 0 {
+        return Built::Stopped;
+    }
     let first = cells::reference(work, t, 3);
     let rest = cells::reference(work, t, 2);
-    if tag == rule_cells::cells::PAIR {
-        if fuel == 0 {
-            return Built::Costly;
-        }
-        let Built::At(tail, f) = build(work, top, fuel - 1, env, w, rest) else {
-            return Built::Costly;
-        };
-        let Built::At(head, g) = build(work, tail, f, env, w, first) else {
-            return Built::Costly;
-        };
-        return Built::At(cells::put_pair(work, head, head, tail), g);
-    }
+    let Built::At(tail, f) = build_part(work, top, fuel - 1, env, w, rest) else {
+        return Built::Stopped;
+    };
+    let Built::At(head, g) = build_part(work, tail, f, env, w, first) else {
+        return Built::Stopped;
+    };
+    Built::At(cells::put_pair(work, head, head, tail), g)
+}
+
+// What an element followed by `...` gives, before the rest of its list.
+fn build_ellipsis(
+    work: &mut [u32],
+    top: u32,
+    fuel: usize,
+    env: &[u32; environment::WORDS],
+    w: u32,
+    t: u32,
+) -> Built
+    requires { ⌜ (Buildable (now work) top fuel (now env) w t) × (wordAt (now work) t 1 ≡ 7) ⌝ }
+    ensures { λ r. ⌜ Made (now (work .entry)) (now (work .exit)) top fuel (now (env .entry)) w t r ⌝ }
+{
+    let first = cells::reference(work, t, 3);
+    let rest = cells::reference(work, t, 2);
     let c = lengths::copies(work, env, first);
-    let Built::At(tail, f) = build(work, top, fuel, env, w, rest) else {
-        return Built::Costly;
+    if !lengths::all_of(work, env, 0, first, c) {
+        return Built::Stopped;
+    }
+    let Built::At(tail, f) = build_part(work, top, fuel, env, w, rest) else {
+        return Built::Stopped;
     };
     build_copies(work, tail, f, env, w, first, c)
 }
@@ -145,7 +147,7 @@ pub fn build(
 fn build_backwards(
     work: &mut [u32],
     top: u32,
-    fuel: u32,
+    fuel: usize,
     env: &[u32; environment::WORDS],
     w: u32,
     e: u32,
@@ -161,11 +163,11 @@ fn build_backwards(
     let mut k = 0;
     while k < c {
         if left == 0 {
-            return Built::Costly;
+            return Built::Stopped;
         }
         environment::enter(work, &mut table);
-        let Built::At(head, g) = build(work, list, left - 1, &table, w, e) else {
-            return Built::Costly;
+        let Built::At(head, g) = build_part(work, list, left - 1, &table, w, e) else {
+            return Built::Stopped;
         };
         list = cells::put_pair(work, head, head, list);
         left = g;
@@ -174,30 +176,32 @@ fn build_backwards(
     Built::At(list, left)
 }
 
-// The first c elements of a list, each in front of the ones before it and of a tail.
-fn put_reversed(work: &mut [u32], top: u32, list: u32, tail: u32, c: u32) -> u32
-    requires { ⌜ (Room (now work) top (3 * c)) × (list ≤ top) × (tail ≤ top) ⌝ }
-    ensures { λ r. ⌜ Reversed (now (work .entry)) (now (work .exit)) top list tail c r ⌝ }
+// The copies of an element, the last first. Those of a variable that is itself an element of the pattern are its list's elements.
+fn build_elements(
+    work: &mut [u32],
+    top: u32,
+    fuel: usize,
+    env: &[u32; environment::WORDS],
+    w: u32,
+    e: u32,
+    c: u32,
+) -> Built
+    requires { ⌜ Buildable (now work) top fuel (now env) w e ⌝ }
+    ensures { λ r. ⌜ Backwards (now (work .entry)) (now (work .exit)) top fuel (now (env .entry)) w e c r ⌝ }
 {
-    let mut at = top;
-    let mut node = list;
-    let mut rest = tail;
-    let mut k = 0;
-    while k < c {
-        let first = lists::first(work, node);
-        at = cells::put_pair(work, at, first, rest);
-        rest = at;
-        node = lists::rest(work, node);
-        k += 1;
+    if !environment::is_listed(work, env, e) {
+        return build_backwards(work, top, fuel, env, w, e, c);
     }
-    rest
+    let k = cells::word(work, e, 3);
+    let list = environment::taken(env, k, 0);
+    copy::copy_elements(work, top, fuel, list, w, c)
 }
 
 // The copies of an element before the list that ends at the top.
 pub fn build_copies(
     work: &mut [u32],
     top: u32,
-    fuel: u32,
+    fuel: usize,
     env: &[u32; environment::WORDS],
     w: u32,
     e: u32,
@@ -206,8 +210,8 @@ pub fn build_copies(
     requires { ⌜ Buildable (now work) top fuel (now env) w e ⌝ }
     ensures { λ r. ⌜ Copied (now (work .entry)) (now (work .exit)) top fuel (now (env .entry)) w e c r ⌝ }
 {
-    let Built::At(list, left) = build_backwards(work, top, fuel, env, w, e, c) else {
-        return Built::Costly;
+    let Built::At(list, left) = build_elements(work, top, fuel, env, w, e, c) else {
+        return Built::Stopped;
     };
-    Built::At(put_reversed(work, list, list, top, c), left)
+    Built::At(copy::put_reversed(work, list, list, top, c), left)
 }

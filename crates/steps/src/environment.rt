@@ -3,12 +3,14 @@
 // what the table means.
 
 ghost use mathlib.Core.Path.{_≡_};
+ghost use mathlib.Core.Bool.{true};
 ghost use mathlib.Core.List.{List};
 ghost use lib.ListN.{length};
 ghost use Prim.Native.Nat.{ℕ, _<_};
 ghost use Rattle.words.specs.Limits.{patternVariablesMost};
-ghost use Rattle.steps.specs.Entries.{tableWords, entryAt, takenIn, level, Under, begun, Stored, AlongAll, Within, Next, Enters};
+ghost use Rattle.steps.specs.Entries.{tableWords, entryAt, takenIn, level, Listed, Under, begun, Stored, AlongAll, Within, Next, Enters};
 use crate::parts;
+use arena::cells;
 use arena::lists;
 
 // The words of an entry; entries, one for each of the most variables of a pattern; and words of all.
@@ -81,6 +83,26 @@ pub fn taken(env: &[u32; WORDS], k: u32, d: u32) -> u32
         return 0;
     }
     table[ENTRY * (k as usize) + level(d)]
+}
+
+// Whether a template's cell is a variable under one ellipsis of the pattern, which has it for its element: it takes a list, and
+// copy i of it is the list's element i.
+pub fn is_listed(work: &[u32], env: &[u32; WORDS], e: u32) -> bool
+    ensures { λ r. ⌜ (r ≡ true → Listed (now (work .entry)) (now (env .entry)) e) ⌝ }
+{
+    let table: &[u32] = env;
+    if cells::word(work, e, cells::TAG) != rule_cells::cells::VARIABLE {
+        return false;
+    }
+    if cells::word(work, e, 2) != 1 {
+        return false;
+    }
+    let k = cells::word(work, e, 3);
+    if words::VARIABLES <= k {
+        return false;
+    }
+    let q = table[ENTRY * (k as usize) + 3];
+    cells::word(work, q, cells::TAG) == rule_cells::cells::VARIABLE
 }
 
 // ---- copies of an element

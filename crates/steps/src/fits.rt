@@ -3,7 +3,8 @@
 
 ghost use Prim.Native.Nat.{_*_, _<_};
 ghost use lib.ListN.{length};
-ghost use Rattle.arena.specs.Arena.{markLimit};
+ghost use mathlib.Core.Path.{_≡_};
+ghost use Rattle.arena.specs.Arena.{wordAt, markLimit};
 ghost use Rattle.steps.specs.Fits.{Fits, EachFits, LiteralFits, ConstantFits, FirstFit};
 use arena::cells;
 use arena::names;
@@ -44,9 +45,9 @@ pub fn constant_fits(work: &[u32], p: u32, u: u32) -> bool
     cells::word(work, p, 2) == cells::word(work, u, cells::SECOND)
 }
 
-// Whether a pattern fits a use, from the left, up to the first misfit.
-pub fn fits(items: &[u32], work: &[u32], marks: &mut [u32], p: u32, u: u32, w: u32) -> bool
-    requires { ⌜ 2 * markLimit < length (now marks) ⌝ }
+// Whether a pattern that is no pair fits a use.
+pub fn end_fits(items: &[u32], work: &[u32], marks: &mut [u32], p: u32, u: u32, w: u32) -> bool
+    requires { ⌜ (2 * markLimit < length (now marks)) × (wordAt (now work) p 1 ≡ 6 → ⊥) ⌝ }
     ensures { λ r. ⌜ Fits (now (items .entry)) (now (work .entry)) p u w r ⌝ }
 {
     let tag = cells::word(work, p, cells::TAG);
@@ -66,21 +67,40 @@ pub fn fits(items: &[u32], work: &[u32], marks: &mut [u32], p: u32, u: u32, w: u
         let element = cells::reference(work, p, 2);
         return each_fits(items, work, marks, element, u, w);
     }
-    let kind = cells::word(work, u, cells::KIND);
-    if tag != rule_cells::cells::PAIR {
-        return kind == cells::EMPTY;
+    cells::word(work, u, cells::KIND) == cells::EMPTY
+}
+
+// Whether a part of a pattern fits. A variable takes anything, without a call more.
+pub fn part_fits(items: &[u32], work: &[u32], marks: &mut [u32], p: u32, u: u32, w: u32) -> bool
+    requires { ⌜ 2 * markLimit < length (now marks) ⌝ }
+    ensures { λ r. ⌜ Fits (now (items .entry)) (now (work .entry)) p u w r ⌝ }
+{
+    if cells::word(work, p, cells::TAG) == rule_cells::cells::VARIABLE {
+        return true;
     }
-    if kind != cells::PAIR {
-        return false;
+    fits(items, work, marks, p, u, w)
+}
+
+// Whether a pattern fits a use, from the left, up to the first misfit.
+pub fn fits(items: &[u32], work: &[u32], marks: &mut [u32], p: u32, u: u32, w: u32) -> bool
+    requires { ⌜ 2 * markLimit < length (now marks) ⌝ }
+    ensures { λ r. ⌜ Fits (now (items .entry)) (now (work .entry)) p u w r ⌝ }
+{
+    let mut at = p;
+    let mut node = u;
+    while cells::word(work, at, cells::TAG) == rule_cells::cells::PAIR {
+        if cells::word(work, node, cells::KIND) != cells::PAIR {
+            return false;
+        }
+        let head = cells::reference(work, at, 3);
+        let first = cells::reference(work, node, cells::HEAD);
+        if !part_fits(items, work, marks, head, first, w) {
+            return false;
+        }
+        at = cells::reference(work, at, 2);
+        node = cells::reference(work, node, cells::TAIL);
     }
-    let head = cells::reference(work, p, 3);
-    let first = cells::reference(work, u, cells::HEAD);
-    if !fits(items, work, marks, head, first, w) {
-        return false;
-    }
-    let tail = cells::reference(work, p, 2);
-    let rest = cells::reference(work, u, cells::TAIL);
-    fits(items, work, marks, tail, rest, w)
+    end_fits(items, work, marks, at, node, w)
 }
 
 // Whether every element of a list fits.
@@ -90,14 +110,8 @@ pub fn each_fits(items: &[u32], work: &[u32], marks: &mut [u32], e: u32, list: u
 {
     let mut node = list;
     while cells::word(work, node, cells::KIND) == cells::PAIR {
-        if !fits(
-            items,
-            work,
-            marks,
-            e,
-            cells::reference(work, node, cells::HEAD),
-            w,
-        ) {
+        let first = cells::reference(work, node, cells::HEAD);
+        if !part_fits(items, work, marks, e, first, w) {
             return false;
         }
         node = cells::reference(work, node, cells::TAIL);

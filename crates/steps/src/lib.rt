@@ -4,6 +4,7 @@ pub mod agree;
 pub mod apply;
 pub mod bind;
 pub mod build;
+pub mod copy;
 pub mod environment;
 pub mod fits;
 pub mod lengths;

@@ -11,8 +11,8 @@ number-of-requires c κs = search needs
 reference-requires : tie.Need-reference-requires
 reference-requires c κs = search needs
 
-walk-requires : tie.Need-walk-requires
-walk-requires c κs =
+walked-requires : tie.Need-walked-requires
+walked-requires c κs =
     let entry = c .before .before .before .before .before .before in
     let a = entry .args in
     let pre = entry .pre in
@@ -23,14 +23,14 @@ same-length c = search needs
 
 returns : tie.Need-returns
 returns c =
-    let walk = c .before .before .before .walk in
-    fits-on (c .if1 .taken) (walk .ensures)
+    let walked = c .before .before .before .walked in
+    fits-on (c .if1 .taken) (walked .ensures)
 
-walk-requires-2 : tie.Need-walk-requires-2
-walk-requires-2 c κs =
-    let walk = c .before .before .before .before .walk in
+walk-requires : tie.Need-walk-requires
+walk-requires c κs =
+    let walked = c .before .before .before .before .walked in
     let if1 = c .before .if1 in
-    walk .ensures .within (if1 .left) .hand
+    walked .ensures .within (if1 .left) .hand
 
 same-length-2 : tie.Need-same-length-2
 same-length-2 c = search needs
@@ -40,10 +40,10 @@ returns-2 c =
     let a = c .before .before .before .before .before .before .before .before .before .before .before .before .before .before .args in
     let number-of = c .before .before .before .before .before .before .before .before .before .before .number-of in
     let reference = c .before .before .before .before .before .before .before .before .before .reference in
-    let walk = c .before .before .before .before .before .before .before .walk in
+    let walked = c .before .before .before .before .before .before .before .walked in
     let if1 = c .before .before .before .before .if1 in
-    let walk2 = c .before .before .walk2 in
-    fits-then (walk2 .ensures) (resolved (a .items .now) (a .work .now) (a .node) (a .w) _ _ (reference .ensures) (number-of .ensures) (a .table .now) _ _ (a .start) _ _ _ _ (walk .ensures .within (if1 .left)))
+    let walk = c .before .before .walk in
+    fits-then (walk .ensures) (resolved (a .items .now) (a .work .now) (a .node) (a .w) _ _ (reference .ensures) (number-of .ensures) (a .table .now) _ _ (a .start) _ _ _ _ (walked .ensures .within (if1 .left)))
 
 pub resolve-spec : {M : Type 1} → statement M
 resolve-spec =
@@ -51,9 +51,9 @@ resolve-spec =
     (tie.spec
     number-of-requires
     reference-requires
-    walk-requires
+    walked-requires
     same-length
     returns
-    walk-requires-2
+    walk-requires
     same-length-2
     returns-2)

@@ -3,11 +3,12 @@ use borrow.Author.Needs.{needs}
 use Rattle.steps.proofs.build.build_leaf.Statement.{statement}
 use Rattle.steps.proofs.build.build_leaf.Tie as tie
 use Rattle.arena.specs.ArenaLaws.{referenceAt-most}
+use Rattle.steps.specs.Build.{Made}
 use Rattle.steps.specs.BuildLaws.{room-less, room-node}
 use Rattle.steps.specs.ResultLaws.{variable-waits, made-variable, made-none, made-insert, kind-plain, made-constant, made-empty}
 use native.Mathlib.Omega.{arith}
 use borrow.Author.Needs.{needs}
-use mathlib.Core.Path.{refl, sym, _∙_}
+use mathlib.Core.Path.{refl, sym, subst, _∙_}
 
 word-requires : tie.Need-word-requires
 word-requires c κs =
@@ -29,13 +30,17 @@ copy-tree-requires : tie.Need-copy-tree-requires
 copy-tree-requires c κs =
     let a = c .before .before .before .before .before .before .before .before .before .before .args in variable-waits (a .work .now) (a .top) (a .fuel) (a .env .now) (a .w) (a .t) _ (c .before .before .before .before .before .before .before .word .ensures) (c .before .before .before .before .before .before .before .before .before .before .pre .0) _ _ _ (c .before .before .before .before .before .before .if1 .taken) (c .before .before .before .before .word2 .ensures) (c .before .before .word3 .ensures) (c .before .taken .ensures)
 
+again-requires : tie.Need-again-requires
+again-requires c κs =
+    search needs
+
 same-length : tie.Need-same-length
 same-length c =
-    c .before .before .copy-tree .kept .0
+    c .before .before .before .copy-tree .kept .0
 
 returns : tie.Need-returns
 returns c =
-    let a = c .before .before .before .before .before .before .before .before .before .before .before .before .before .args in made-variable (a .work .now) (a .top) (a .fuel) (a .env .now) (a .w) (a .t) _ (c .before .before .before .before .before .before .before .before .before .before .word .ensures) (c .before .before .before .before .before .before .before .before .before .before .before .before .before .pre .0) _ _ _ (c .before .before .before .before .before .before .before .before .before .if1 .taken) (c .before .before .before .before .before .before .before .word2 .ensures) (c .before .before .before .before .before .word3 .ensures) (c .before .before .before .before .taken .ensures) (c .before .before .copy-tree .last .0) (c .before .before .copy-tree .result) (c .before .before .copy-tree .ensures)
+    let a = c .before .before .before .before .before .before .before .before .before .before .before .before .before .before .args in subst (Made (a .work .now) (c .before .before .before .copy-tree .last .0) (a .top) (a .fuel) (a .env .now) (a .w) (a .t)) (sym (c .again .ensures)) (made-variable (a .work .now) (a .top) (a .fuel) (a .env .now) (a .w) (a .t) _ (c .before .before .before .before .before .before .before .before .before .before .before .word .ensures) (c .before .before .before .before .before .before .before .before .before .before .before .before .before .before .pre .0) _ _ _ (c .before .before .before .before .before .before .before .before .before .before .if1 .taken) (c .before .before .before .before .before .before .before .before .word2 .ensures) (c .before .before .before .before .before .before .word3 .ensures) (c .before .before .before .before .before .taken .ensures) (c .before .before .before .copy-tree .last .0) (c .before .before .before .copy-tree .result) (c .before .before .before .copy-tree .ensures))
 
 same-length-2 : tie.Need-same-length-2
 same-length-2 c =
@@ -114,6 +119,7 @@ build-leaf-spec =
     word-requires-3
     taken-requires
     copy-tree-requires
+    again-requires
     same-length
     returns
     same-length-2

@@ -1,6 +1,6 @@
 -- The loop's invariant: what was passed stands before the tail, the last first.
-use Rattle.steps.proofs.build.put_reversed.Statement.{statement}
-use Rattle.steps.proofs.build.put_reversed.Tie as tie
+use Rattle.steps.proofs.copy.put_reversed.Statement.{statement}
+use Rattle.steps.proofs.copy.put_reversed.Tie as tie
 use Prim.Native.Nat.{_-_}
 use Rattle.steps.specs.CopyLaws.{Reversing, reversing-begins, reversing-asks, reversing-more, reversing-ends}
 use native.Mathlib.Omega.{arith}

@@ -1,7 +1,7 @@
 -- A name is put as it is, or behind a join of the wrap and its own.
 use borrow.Author.Needs.{needs}
-use Rattle.steps.proofs.build.copy_name.Statement.{statement}
-use Rattle.steps.proofs.build.copy_name.Tie as tie
+use Rattle.steps.proofs.copy.copy_name.Statement.{statement}
+use Rattle.steps.proofs.copy.copy_name.Tie as tie
 use Rattle.arena.specs.ArenaLaws.{referenceAt-most}
 use Rattle.steps.specs.BuildLaws.{room-less, fresh-bare, fresh-joined}
 use native.Mathlib.Omega.{arith}

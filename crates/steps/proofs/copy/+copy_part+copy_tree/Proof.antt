@@ -1,0 +1,291 @@
+-- The proof of the cycle {copy_part, copy_tree}. The measure is twice the node's reference, one more for a part.
+use Prim.Native.Nat.{ℕ, _<_, _+_, _*_, _-_}
+use borrow.Fn.Kinds.{In}
+use borrow.Fn.PlainCycle.{Measures, is, falls, and}
+use Rattle.steps.proofs.copy.copy_part.Reads as copy-part
+use Rattle.steps.proofs.copy.copy_part.Kinds as copy-part-kinds
+use Rattle.steps.proofs.copy.+copy_part+copy_tree.Lts-copy_part as copy-part-lts
+use Rattle.steps.proofs.copy.copy_tree.Reads as copy-tree
+use Rattle.steps.proofs.copy.copy_tree.Kinds as copy-tree-kinds
+use Rattle.steps.proofs.copy.+copy_part+copy_tree.Lts-copy_tree as copy-tree-lts
+use Rattle.arena.proofs.cells.put_pair.Reads as put-pair-reads
+use Rattle.arena.proofs.cells.reference.Reads as reference-reads
+use Rattle.arena.proofs.cells.word.Reads as word-reads
+use Rattle.steps.proofs.build.again.Reads as again-reads
+use Rattle.steps.proofs.copy.copy_leaf.Reads as copy-leaf-reads
+use Rattle.steps.proofs.copy.+copy_part+copy_tree.{statement}
+use Rattle.steps.proofs.copy.+copy_part+copy_tree.Tie.{close}
+use borrow.Author.Needs.{needs}
+use Rattle.arena.specs.ListLaws.{pair-falls}
+use Rattle.steps.specs.Build.{Pays}
+use Rattle.steps.specs.BuildLaws.{Whole, paid-at, unpaid-at, unpaid-none, waiting-tail, waiting-head, copied-tail-costly, copied-head-costly, copied-room, copied-pair}
+use native.Mathlib.Omega.{arith}
+use mathlib.Core.Path.{refl, sym, subst, _∙_}
+
+abbrev μ-copy-part : Measures 1 copy-part-kinds.ps ℕ
+μ-copy-part κs a =
+    2 * a .1 .1 .1 .0 + 1
+
+abbrev μ-copy-tree : Measures 1 copy-tree-kinds.ps ℕ
+μ-copy-tree κs a =
+    2 * a .1 .1 .1 .0
+
+abbrev copy-part-at : ℕ → In 1 copy-part-kinds.ps
+copy-part-at t = and 1 copy-part-kinds.ps (is 1 copy-part-kinds.ps μ-copy-part t) copy-part.Pre
+
+abbrev copy-part-below : ℕ → In 1 copy-part-kinds.ps
+copy-part-below t =
+    and 1 copy-part-kinds.ps (falls 1 copy-part-kinds.ps _<_ μ-copy-part t) copy-part.Pre
+
+abbrev copy-tree-at : ℕ → In 1 copy-tree-kinds.ps
+copy-tree-at t = and 1 copy-tree-kinds.ps (is 1 copy-tree-kinds.ps μ-copy-tree t) copy-tree.Pre
+
+abbrev copy-tree-below : ℕ → In 1 copy-tree-kinds.ps
+copy-tree-below t =
+    and 1 copy-tree-kinds.ps (falls 1 copy-tree-kinds.ps _<_ μ-copy-tree t) copy-tree.Pre
+
+abbrev copy-part-claims : ℕ → copy-part-lts.Claims
+copy-part-claims t = (word-reads.Asked, word-reads.Learnt, copy-tree-below t, copy-tree.Post, copy-leaf-reads.Asked, copy-leaf-reads.Learnt)
+
+copy-part-word-requires : (t : ℕ) → copy-part-lts.Need-word-requires (copy-part-claims t) (copy-part-at t) copy-part.Post
+copy-part-word-requires t c κs = search needs
+
+copy-part-copy-tree-requires : (t : ℕ) → copy-part-lts.Need-copy-tree-requires (copy-part-claims t) (copy-part-at t) copy-part.Post
+copy-part-copy-tree-requires t c κs =
+    let pre = c .before .before .before .before .before .pre in
+    (omega (arith, pre .0), pre .1)
+
+copy-part-same-length : (t : ℕ) → copy-part-lts.Need-same-length (copy-part-claims t) (copy-part-at t) copy-part.Post
+copy-part-same-length t c =
+    c .before .before .copy-tree .kept .0
+
+copy-part-returns : (t : ℕ) → copy-part-lts.Need-returns (copy-part-claims t) (copy-part-at t) copy-part.Post
+copy-part-returns t c =
+    c .before .before .copy-tree .ensures
+
+copy-part-copy-leaf-requires : (t : ℕ) → copy-part-lts.Need-copy-leaf-requires (copy-part-claims t) (copy-part-at t) copy-part.Post
+copy-part-copy-leaf-requires t c κs =
+    let pre = c .before .before .before .before .before .pre in
+    let word = c .before .before .word in
+    let if1 = c .before .if1 in
+    (pre .1, λ z. if1 .left (word .ensures ∙ z))
+
+copy-part-same-length-2 : (t : ℕ) → copy-part-lts.Need-same-length-2 (copy-part-claims t) (copy-part-at t) copy-part.Post
+copy-part-same-length-2 t c =
+    c .before .before .copy-leaf .kept .0
+
+copy-part-returns-2 : (t : ℕ) → copy-part-lts.Need-returns-2 (copy-part-claims t) (copy-part-at t) copy-part.Post
+copy-part-returns-2 t c =
+    c .before .before .copy-leaf .ensures
+
+abbrev copy-tree-claims : ℕ → copy-tree-lts.Claims
+copy-tree-claims t = (word-reads.Asked, word-reads.Learnt, copy-leaf-reads.Asked, copy-leaf-reads.Learnt, again-reads.Asked, again-reads.Learnt, reference-reads.Asked, reference-reads.Learnt, copy-part-below t, copy-part.Post, put-pair-reads.Asked, put-pair-reads.Learnt)
+
+copy-tree-word-requires : (t : ℕ) → copy-tree-lts.Need-word-requires (copy-tree-claims t) (copy-tree-at t) copy-tree.Post
+copy-tree-word-requires t c κs = search needs
+
+copy-tree-copy-leaf-requires : (t : ℕ) → copy-tree-lts.Need-copy-leaf-requires (copy-tree-claims t) (copy-tree-at t) copy-tree.Post
+copy-tree-copy-leaf-requires t c κs =
+    let pre = c .before .before .before .before .before .pre in
+    let word = c .before .before .word in
+    let if1 = c .before .if1 in
+    (pre .1, λ z. if1 .taken (word .ensures ∙ z))
+
+copy-tree-again-requires : (t : ℕ) → copy-tree-lts.Need-again-requires (copy-tree-claims t) (copy-tree-at t) copy-tree.Post
+copy-tree-again-requires t c κs = search needs
+
+copy-tree-same-length : (t : ℕ) → copy-tree-lts.Need-same-length (copy-tree-claims t) (copy-tree-at t) copy-tree.Post
+copy-tree-same-length t c =
+    c .before .before .before .copy-leaf .kept .0
+
+copy-tree-returns : (t : ℕ) → copy-tree-lts.Need-returns (copy-tree-claims t) (copy-tree-at t) copy-tree.Post
+copy-tree-returns t c =
+    let a = c .before .before .before .before .before .before .before .before .before .args in
+    let copy-leaf = c .before .before .before .copy-leaf in
+    subst (Pays (Whole (a .work .now) (a .node) (a .w)) (a .work .now) (copy-leaf .last .0) (a .top) (a .fuel)) (sym (c .again .ensures)) (copy-leaf .ensures)
+
+copy-tree-same-length-2 : (t : ℕ) → copy-tree-lts.Need-same-length-2 (copy-tree-claims t) (copy-tree-at t) copy-tree.Post
+copy-tree-same-length-2 t c = search needs
+
+copy-tree-returns-2 : (t : ℕ) → copy-tree-lts.Need-returns-2 (copy-tree-claims t) (copy-tree-at t) copy-tree.Post
+copy-tree-returns-2 t c =
+    let a = c .before .before .before .before .before .args in
+    unpaid-none (Whole (a .work .now) (a .node) (a .w)) (a .work .now) (a .top) (a .fuel) (c .if2 .taken)
+
+copy-tree-reference-requires : (t : ℕ) → copy-tree-lts.Need-reference-requires (copy-tree-claims t) (copy-tree-at t) copy-tree.Post
+copy-tree-reference-requires t c κs = search needs
+
+copy-tree-reference-requires-2 : (t : ℕ) → copy-tree-lts.Need-reference-requires-2 (copy-tree-claims t) (copy-tree-at t) copy-tree.Post
+copy-tree-reference-requires-2 t c κs = search needs
+
+copy-tree-sub-copy-part : (t : ℕ) → copy-tree-lts.Need-sub-copy-part (copy-tree-claims t) (copy-tree-at t) copy-tree.Post
+copy-tree-sub-copy-part t c = search needs
+
+copy-tree-copy-part-requires : (t : ℕ) → copy-tree-lts.Need-copy-part-requires (copy-tree-claims t) (copy-tree-at t) copy-tree.Post
+copy-tree-copy-part-requires t c κs =
+    let entry = c .before .before .before .before .before .before .before .before .before .before in
+    let a = entry .args in
+    let pre = entry .pre in
+    let word = c .before .before .before .before .before .before .before .word in
+    let if1 = c .before .before .before .before .before .before .if1 in
+    let if2 = c .before .before .before .before .before .if2 in
+    let reference = c .before .before .before .reference in
+    let reference2 = c .before .reference2 in (
+      omega (arith, pre .0, reference2 .ensures, pair-falls (a .work .now) (a .node) 1 (sym (word .ensures) ∙ if1 .left)),
+      waiting-tail (a .work .now) (a .top) (a .fuel) (a .node) (a .w) _ (if2 .left) refl _ (word .ensures) _ _ (if1 .left) (reference .ensures) (reference2 .ensures) (pre .1),
+    )
+
+copy-tree-enum-known-tail : (t : ℕ) → copy-tree-lts.Need-enum-known-tail (copy-tree-claims t) (copy-tree-at t) copy-tree.Post
+copy-tree-enum-known-tail t c = search needs
+
+copy-tree-enum-told : (t : ℕ) → copy-tree-lts.Need-enum-told (copy-tree-claims t) (copy-tree-at t) copy-tree.Post
+copy-tree-enum-told t c = search needs
+
+copy-tree-same-length-3 : (t : ℕ) → copy-tree-lts.Need-same-length-3 (copy-tree-claims t) (copy-tree-at t) copy-tree.Post
+copy-tree-same-length-3 t c =
+    c .before .before .before .before .copy-part .kept .0
+
+copy-tree-returns-3 : (t : ℕ) → copy-tree-lts.Need-returns-3 (copy-tree-claims t) (copy-tree-at t) copy-tree.Post
+copy-tree-returns-3 t c =
+    let entry = c .before .before .before .before .before .before .before .before .before .before .before .before .before .before .before in
+    let a = entry .args in
+    let pre = entry .pre in
+    let word = c .before .before .before .before .before .before .before .before .before .before .before .before .word in
+    let if1 = c .before .before .before .before .before .before .before .before .before .before .before .if1 in
+    let if2 = c .before .before .before .before .before .before .before .before .before .before .if2 in
+    let reference = c .before .before .before .before .before .before .before .before .reference in
+    let reference2 = c .before .before .before .before .before .before .reference2 in
+    let copy-part = c .before .before .before .before .copy-part in
+    copied-tail-costly (a .work .now) (a .top) (a .fuel) (a .node) (a .w) _ (if2 .left) refl _ (word .ensures) _ _ (if1 .left) (reference .ensures) (reference2 .ensures) (pre .1) _
+    (unpaid-at (Whole (a .work .now) (reference2 .result) (a .w)) (a .work .now) (copy-part .last .0) (a .top) (a .fuel - 1) _ (c .enum-told .given .1) (copy-part .ensures))
+
+copy-tree-copy-part-requires-2 : (t : ℕ) → copy-tree-lts.Need-copy-part-requires-2 (copy-tree-claims t) (copy-tree-at t) copy-tree.Post
+copy-tree-copy-part-requires-2 t c κs =
+    let entry = c .before .before .before .before .before .before .before .before .before .before .before .before .before .before .before .before .before in
+    let a = entry .args in
+    let pre = entry .pre in
+    let word = c .before .before .before .before .before .before .before .before .before .before .before .before .before .before .word in
+    let if1 = c .before .before .before .before .before .before .before .before .before .before .before .before .before .if1 in
+    let if2 = c .before .before .before .before .before .before .before .before .before .before .before .before .if2 in
+    let reference = c .before .before .before .before .before .before .before .before .before .before .reference in
+    let reference2 = c .before .before .before .before .before .before .before .before .reference2 in
+    let copy-part = c .before .before .before .before .before .before .copy-part in
+    let tail = c .before .before .tail in
+    let b = paid-at (Whole (a .work .now) (reference2 .result) (a .w)) (a .work .now) (copy-part .last .0) (a .top) (a .fuel - 1) _ _ _ (tail .given .1) (copy-part .ensures) in (
+      omega (arith, pre .0, reference .ensures, pair-falls (a .work .now) (a .node) 2 (sym (word .ensures) ∙ if1 .left)),
+      waiting-head (a .work .now) (a .top) (a .fuel) (a .node) (a .w) _ (if2 .left) refl _ (word .ensures) _ _ (if1 .left) (reference .ensures) (reference2 .ensures) (pre .1) _ _ _ b (copy-part .kept .0),
+    )
+
+copy-tree-enum-known-head : (t : ℕ) → copy-tree-lts.Need-enum-known-head (copy-tree-claims t) (copy-tree-at t) copy-tree.Post
+copy-tree-enum-known-head t c = search needs
+
+copy-tree-enum-told-2 : (t : ℕ) → copy-tree-lts.Need-enum-told-2 (copy-tree-claims t) (copy-tree-at t) copy-tree.Post
+copy-tree-enum-told-2 t c = search needs
+
+copy-tree-same-length-4 : (t : ℕ) → copy-tree-lts.Need-same-length-4 (copy-tree-claims t) (copy-tree-at t) copy-tree.Post
+copy-tree-same-length-4 t c =
+    let copy-part = c .before .before .before .before .before .before .before .before .before .before .before .copy-part in
+    let copy-part2 = c .before .before .before .before .copy-part2 in
+    copy-part2 .kept .0 ∙ copy-part .kept .0
+
+copy-tree-returns-4 : (t : ℕ) → copy-tree-lts.Need-returns-4 (copy-tree-claims t) (copy-tree-at t) copy-tree.Post
+copy-tree-returns-4 t c =
+    let entry = c .before .before .before .before .before .before .before .before .before .before .before .before .before .before .before .before .before .before .before .before .before .before in
+    let a = entry .args in
+    let pre = entry .pre in
+    let word = c .before .before .before .before .before .before .before .before .before .before .before .before .before .before .before .before .before .before .before .word in
+    let if1 = c .before .before .before .before .before .before .before .before .before .before .before .before .before .before .before .before .before .before .if1 in
+    let if2 = c .before .before .before .before .before .before .before .before .before .before .before .before .before .before .before .before .before .if2 in
+    let reference = c .before .before .before .before .before .before .before .before .before .before .before .before .before .before .before .reference in
+    let reference2 = c .before .before .before .before .before .before .before .before .before .before .before .before .before .reference2 in
+    let copy-part = c .before .before .before .before .before .before .before .before .before .before .before .copy-part in
+    let tail = c .before .before .before .before .before .before .before .tail in
+    let copy-part2 = c .before .before .before .before .copy-part2 in
+    let b = paid-at (Whole (a .work .now) (reference2 .result) (a .w)) (a .work .now) (copy-part .last .0) (a .top) (a .fuel - 1) _ _ _ (tail .given .1) (copy-part .ensures) in
+    copied-head-costly (a .work .now) (a .top) (a .fuel) (a .node) (a .w) _ (if2 .left) refl _ (word .ensures) _ _ (if1 .left) (reference .ensures) (reference2 .ensures) (pre .1) _ _ _ b (copy-part .kept .0) _
+    (unpaid-at (Whole (copy-part .last .0) (reference .result) (a .w)) (copy-part .last .0) (copy-part2 .last .0) _ _ _ (c .enum-told2 .given .1) (copy-part2 .ensures))
+
+copy-tree-put-pair-requires : (t : ℕ) → copy-tree-lts.Need-put-pair-requires (copy-tree-claims t) (copy-tree-at t) copy-tree.Post
+copy-tree-put-pair-requires t c κs =
+    let entry = c .before .before .before .before .before .before .before .before .before .before .before .before .before .before .before .before .before .before .before .before .before .before .before .before in
+    let a = entry .args in
+    let pre = entry .pre in
+    let word = c .before .before .before .before .before .before .before .before .before .before .before .before .before .before .before .before .before .before .before .before .before .word in
+    let if1 = c .before .before .before .before .before .before .before .before .before .before .before .before .before .before .before .before .before .before .before .before .if1 in
+    let if2 = c .before .before .before .before .before .before .before .before .before .before .before .before .before .before .before .before .before .before .before .if2 in
+    let reference = c .before .before .before .before .before .before .before .before .before .before .before .before .before .before .before .before .before .reference in
+    let reference2 = c .before .before .before .before .before .before .before .before .before .before .before .before .before .before .before .reference2 in
+    let copy-part = c .before .before .before .before .before .before .before .before .before .before .before .before .before .copy-part in
+    let tail = c .before .before .before .before .before .before .before .before .before .tail in
+    let copy-part2 = c .before .before .before .before .before .before .copy-part2 in
+    let head = c .before .before .head in
+    let b = paid-at (Whole (a .work .now) (reference2 .result) (a .w)) (a .work .now) (copy-part .last .0) (a .top) (a .fuel - 1) _ _ _ (tail .given .1) (copy-part .ensures) in
+    let h = paid-at (Whole (copy-part .last .0) (reference .result) (a .w)) (copy-part .last .0) (copy-part2 .last .0) _ _ _ _ _ (head .given .1) (copy-part2 .ensures) in (
+      copied-room (a .work .now) (a .top) (a .fuel) (a .node) (a .w) _ (if2 .left) refl _ (word .ensures) _ _ (if1 .left) (reference .ensures) (reference2 .ensures) (pre .1) _ _ _ b (copy-part .kept .0) _ _ _ h (copy-part2 .kept .0),
+      omega arith,
+      h .above,
+    )
+
+copy-tree-same-length-5 : (t : ℕ) → copy-tree-lts.Need-same-length-5 (copy-tree-claims t) (copy-tree-at t) copy-tree.Post
+copy-tree-same-length-5 t c =
+    let copy-part = c .before .before .before .before .before .before .before .before .before .before .before .before .before .before .before .before .copy-part in
+    let copy-part2 = c .before .before .before .before .before .before .before .before .before .copy-part2 in
+    let put-pair = c .before .before .put-pair in
+    put-pair .kept .0 ∙ copy-part2 .kept .0 ∙ copy-part .kept .0
+
+copy-tree-returns-5 : (t : ℕ) → copy-tree-lts.Need-returns-5 (copy-tree-claims t) (copy-tree-at t) copy-tree.Post
+copy-tree-returns-5 t c =
+    let entry = c .before .before .before .before .before .before .before .before .before .before .before .before .before .before .before .before .before .before .before .before .before .before .before .before .before .before .before in
+    let a = entry .args in
+    let pre = entry .pre in
+    let word = c .before .before .before .before .before .before .before .before .before .before .before .before .before .before .before .before .before .before .before .before .before .before .before .before .word in
+    let if1 = c .before .before .before .before .before .before .before .before .before .before .before .before .before .before .before .before .before .before .before .before .before .before .before .if1 in
+    let if2 = c .before .before .before .before .before .before .before .before .before .before .before .before .before .before .before .before .before .before .before .before .before .before .if2 in
+    let reference = c .before .before .before .before .before .before .before .before .before .before .before .before .before .before .before .before .before .before .before .before .reference in
+    let reference2 = c .before .before .before .before .before .before .before .before .before .before .before .before .before .before .before .before .before .before .reference2 in
+    let copy-part = c .before .before .before .before .before .before .before .before .before .before .before .before .before .before .before .before .copy-part in
+    let tail = c .before .before .before .before .before .before .before .before .before .before .before .before .tail in
+    let copy-part2 = c .before .before .before .before .before .before .before .before .before .copy-part2 in
+    let head = c .before .before .before .before .before .head in
+    let put-pair = c .before .before .put-pair in
+    let b = paid-at (Whole (a .work .now) (reference2 .result) (a .w)) (a .work .now) (copy-part .last .0) (a .top) (a .fuel - 1) _ _ _ (tail .given .1) (copy-part .ensures) in
+    let h = paid-at (Whole (copy-part .last .0) (reference .result) (a .w)) (copy-part .last .0) (copy-part2 .last .0) _ _ _ _ _ (head .given .1) (copy-part2 .ensures) in
+    copied-pair (a .work .now) (a .top) (a .fuel) (a .node) (a .w) _ (if2 .left) refl _ (word .ensures) _ _ (if1 .left) (reference .ensures) (reference2 .ensures) (pre .1) _ _ _ b (copy-part .kept .0) _ _ _ h _ _ (put-pair .ensures)
+
+pub +copy-part+copy-tree-spec : {M : Type 1} → statement M
++copy-part+copy-tree-spec = close μ-copy-part μ-copy-tree (λ t. copy-part-lts.spec (copy-part-claims t)
+    (copy-part-at t)
+    copy-part.Post
+    (copy-part-word-requires t)
+    (copy-part-copy-tree-requires t)
+    (copy-part-same-length t)
+    (copy-part-returns t)
+    (copy-part-copy-leaf-requires t)
+    (copy-part-same-length-2 t)
+    (copy-part-returns-2 t))
+    λ t. copy-tree-lts.spec (copy-tree-claims t)
+    (copy-tree-at t)
+    copy-tree.Post
+    (copy-tree-word-requires t)
+    (copy-tree-copy-leaf-requires t)
+    (copy-tree-again-requires t)
+    (copy-tree-same-length t)
+    (copy-tree-returns t)
+    (copy-tree-same-length-2 t)
+    (copy-tree-returns-2 t)
+    (copy-tree-reference-requires t)
+    (copy-tree-reference-requires-2 t)
+    (copy-tree-sub-copy-part t)
+    (copy-tree-copy-part-requires t)
+    (copy-tree-enum-known-tail t)
+    (copy-tree-enum-told t)
+    (copy-tree-same-length-3 t)
+    (copy-tree-returns-3 t)
+    (copy-tree-copy-part-requires-2 t)
+    (copy-tree-enum-known-head t)
+    (copy-tree-enum-told-2 t)
+    (copy-tree-same-length-4 t)
+    (copy-tree-returns-4 t)
+    (copy-tree-put-pair-requires t)
+    (copy-tree-same-length-5 t)
+    (copy-tree-returns-5 t)
