@@ -213,6 +213,10 @@ pub marked-number : (m : ℕ) (x : Name) → marked m x .number ≡ x .number
 unfolding marked markName
 marked-number m x = cases (ltb m stepLimit) (λ t. rw t) (λ t. rw t)
 
+pub marked-binding : (m : ℕ) (x : Name) → marked m x .binding ≡ x .binding
+unfolding marked markName
+marked-binding m x = cases (ltb m stepLimit) (λ t. rw t) (λ t. rw t)
+
 pub rebound-number : (work : List ℕ) (f : ℕ → Name → Name) (w : ℕ) (x : Name) → rebound work f w x .number ≡ x .number
 unfolding rebound giveKey
 rebound-number work f w x = cases (isOwn work f w x) (λ t. rw t) (λ t. rw t)

@@ -54,7 +54,7 @@ pub equal-lengths : (a b : List ℕ) → (length a ≡ length b → ⊥) → equ
 equal-lengths a b h = cases (equal a b) (λ t. absurd (h (ap length (equal-true a b t)))) (λ t. t)
 
 module _ (work : List ℕ) (w : ℕ) (x : Name) where
-  abbrev Not-own : Type 0
+  abbrev pub Not-own : Type 0
   Not-own = isOwn work (wrapAt work) w x ≡ false
 
   abbrev number-test : Bool
@@ -72,19 +72,19 @@ module _ (work : List ℕ) (w : ℕ) (x : Name) where
   abbrev marks-test : Bool
   marks-test = sameMarks work (wrapAt work) w (x .marks)
 
-  own-number : (wordAt work w 5 ≡ x .number → ⊥) → Not-own
+  pub own-number : (wordAt work w 5 ≡ x .number → ⊥) → Not-own
   unfolding isOwn
   own-number h = rw (ne-eqb _ _ h)
 
-  own-binding : (wordAt work w 4 ≡ bindingKey (x .binding) → ⊥) → Not-own
+  pub own-binding : (wordAt work w 4 ≡ bindingKey (x .binding) → ⊥) → Not-own
   unfolding isOwn
   own-binding h = second-fails binding-test count-test newest-test marks-test number-test (ne-eqb _ _ h)
 
-  own-count : (wordAt work w 6 ≡ length (x .marks) → ⊥) → Not-own
+  pub own-count : (wordAt work w 6 ≡ length (x .marks) → ⊥) → Not-own
   unfolding isOwn
   own-count h = third-fails count-test newest-test marks-test number-test binding-test (ne-eqb _ _ h)
 
-  own-newest : (wordAt work w 7 ≡ newest (x .marks) → ⊥) → Not-own
+  pub own-newest : (wordAt work w 7 ≡ newest (x .marks) → ⊥) → Not-own
   unfolding isOwn
   own-newest h = fourth-fails newest-test marks-test number-test binding-test count-test (ne-eqb _ _ h)
 
@@ -93,7 +93,7 @@ module _ (work : List ℕ) (w : ℕ) (x : Name) where
   own-marks l h = fifth-fails marks-test number-test binding-test count-test newest-test (rw (le-ltb (length (x .marks)) 2 l, h))
 
   -- at most one mark is the newest
-  few-same : length (x .marks) < 2 → sameMarks work (wrapAt work) w (x .marks) ≡ true
+  pub few-same : length (x .marks) < 2 → sameMarks work (wrapAt work) w (x .marks) ≡ true
   unfolding sameMarks
   few-same h = rw (lt-ltb (length (x .marks)) 2 h)
 
@@ -101,7 +101,7 @@ module _ (work : List ℕ) (w : ℕ) (x : Name) where
   unfolding sameMarks
   equal-same h = rw h (or-true (ltb (length (x .marks)) 2))
 
-  own-all : wordAt work w 5 ≡ x .number → wordAt work w 4 ≡ bindingKey (x .binding) → wordAt work w 6 ≡ length (x .marks) → wordAt work w 7 ≡ newest (x .marks) → sameMarks work (wrapAt work) w (x .marks) ≡ true → isOwn work (wrapAt work) w x ≡ true
+  pub own-all : wordAt work w 5 ≡ x .number → wordAt work w 4 ≡ bindingKey (x .binding) → wordAt work w 6 ≡ length (x .marks) → wordAt work w 7 ≡ newest (x .marks) → sameMarks work (wrapAt work) w (x .marks) ≡ true → isOwn work (wrapAt work) w x ≡ true
   unfolding isOwn
   own-all a b c d e = rw (eq-eqb _ _ a, eq-eqb _ _ b, eq-eqb _ _ c, eq-eqb _ _ d, e)
 

@@ -11,6 +11,8 @@ pub mod Cells
 pub mod CellLaws
 pub mod Names
 pub mod NameLaws
+pub mod Direct
+pub mod DirectLaws
 pub mod Nodes
 pub mod LayOut
 pub mod Lists

@@ -2,10 +2,9 @@
 use mathlib.Core.Path.{_≡_, refl, ap, _∙_}
 use mathlib.Core.List.{List}
 use Prim.Native.Nat.{ℕ}
-use lib.Dec.{ltb}
-use Rattle.recipe.specs.Name.{Name, bindingKey, markName}
-use Rattle.arena.specs.Arena.{wordAt, referenceAt, stepLimit, marked, rebound, wrapAt}
-use Rattle.arena.specs.ArenaLaws.{cases, marked-number}
+use Rattle.recipe.specs.Name.{Name, bindingKey}
+use Rattle.arena.specs.Arena.{wordAt, referenceAt, marked, rebound, wrapAt}
+use Rattle.arena.specs.ArenaLaws.{marked-number, marked-binding}
 use Rattle.arena.specs.Marks.{Hand, MarksAfter, NameAfter}
 use Rattle.arena.specs.HandLaws.{wrap-mark, wrap-join, wrap-binder}
 
@@ -19,10 +18,6 @@ name-both f g old mid new s number n b k c r d p q = record { holds = λ x o. q 
 
 pub name-is : (f g : Name → Name) (old new : List ℕ) (s number n b r d : ℕ) → ((x : Name) → g x ≡ f x) → NameAfter f old new s number n b r d → NameAfter g old new s number n b r d
 name-is f g old new s number n b r d e p = record { holds = λ x o. rw (e x) (p .holds x o); hand = p .hand; kept = p .kept }
-
-marked-binding : (m : ℕ) (x : Name) → marked m x .binding ≡ x .binding
-unfolding marked markName
-marked-binding m x = cases (ltb m stepLimit) (λ t. rw t) (λ t. rw t)
 
 -- marks never change a binding
 name-marked : (m : ℕ) (old new : List ℕ) (s number n b r : ℕ) → MarksAfter (marked m) old new s n r → NameAfter (marked m) old new s number n b r b

@@ -14,6 +14,7 @@ ghost use Rattle.arena.specs.Lists.{TestsIn};
 ghost use Rattle.arena.specs.Marks.{Fits, Tells};
 ghost use Rattle.arena.specs.Names.{numberOf, Resolved, Summed, meansOf, lookupIn, unboundIn, Agrees};
 use crate::cells;
+use crate::direct;
 use crate::marks;
 use crate::marks::Compared;
 use crate::wraps;
@@ -155,11 +156,17 @@ pub fn summary_of(items: &[u32], work: &[u32], table: &mut [u32], node: u32, w: 
     summary_grown(items, work, table, node, w)
 }
 
-// The key of a name's binding.
+// The key of a name's binding, found from the outside in or else by walking what waits.
 pub fn binding_of(items: &[u32], work: &[u32], table: &mut [u32], node: u32, w: u32) -> u32
     requires { ⌜ 2 * markLimit < length (now table) ⌝ }
     ensures { λ r. ⌜ r ≡ bindingKey (nameAt (now (items .entry)) (now (work .entry)) node w .binding) ⌝ }
 {
+    let number = number_of(items, work, node);
+    let own = cells::reference(work, node, cells::OWN);
+    let key = direct::binding(work, number, own, w);
+    if key != direct::UNKNOWN {
+        return key;
+    }
     let x = resolve(items, work, table, 0, node, w);
     if x.count <= table.len() {
         return x.binding;
@@ -226,7 +233,7 @@ pub fn same_grown(
     }
 }
 
-// Whether two names are the same.
+// Whether two names are the same. Their numbers tell most apart.
 pub fn same_names(
     items: &[u32],
     work: &[u32],
@@ -239,6 +246,9 @@ pub fn same_names(
     requires { ⌜ 3 * markLimit < length (now table) ⌝ }
     ensures { λ r. ⌜ r ≡ same (nameAt (now (items .entry)) (now (work .entry)) a v) (nameAt (now (items .entry)) (now (work .entry)) b w) ⌝ }
 {
+    if number_of(items, work, a) != number_of(items, work, b) {
+        return false;
+    }
     match compare(items, work, table, a, v, b, w) {
         Compared::Same => true,
         Compared::Other => false,
