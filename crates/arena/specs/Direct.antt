@@ -39,6 +39,10 @@ OneMark work number w mark r = r < stepLimit → (x : Name) → x .number ≡ nu
 abbrev pub LoneMark : List ℕ → (number w r : ℕ) → Type 0
 LoneMark work number w r = r < stepLimit → (x : Name) → x .number ≡ number → wrapAt work w x ≡ markOnce r x
 
+-- below the limit, all that a name's own wrap and a pending one mean of it is one mark or none
+abbrev pub OnlyMark : List ℕ → (number own w r : ℕ) → Type 0
+OnlyMark work number own w r = r < stepLimit → (x : Name) → x .number ≡ number → wrapAt work w (wrapAt work own x) ≡ markOnce r x
+
 -- a name of this number without marks and binding
 pub record Bare (number : ℕ) (x : Name) : Type 0 where
   pub number-is : x .number ≡ number

@@ -12,8 +12,8 @@ use Rattle.recipe.specs.Name.{Name, bindingKey, markName, toggle}
 use Rattle.arena.specs.Arena.{wordAt, referenceAt, stepLimit, newest, giveKey, marked, isOwn, rebound, wrapAt, nodeName, nameAt}
 use Rattle.arena.specs.ArenaLaws.{cases, wordAt-some, wrapAt-none, wrapAt-mark, wrapAt-binder, wrapAt-number, marked-is, marked-binding, bindingKey-of}
 use Rattle.arena.specs.BinderLaws.{own-number, own-binding, own-count, own-newest, few-same, own-all}
-use Rattle.arena.specs.Names.{numberOf}
-use Rattle.arena.specs.Direct.{SkipsTo, Passes, MarkCell, OneMark, markOnce, countOf, LoneMark, Bare, Gives, Finds}
+use Rattle.arena.specs.Names.{numberOf, Summed}
+use Rattle.arena.specs.Direct.{SkipsTo, Passes, MarkCell, OneMark, markOnce, countOf, LoneMark, OnlyMark, Bare, Gives, Finds}
 
 -- ---- one mark or none
 
@@ -114,6 +114,36 @@ module _ (work : List ℕ) (number w : ℕ) where
   pub no-lone-mark : LoneMark work number w stepLimit
   no-lone-mark l = absurd (omega arith)
 
+-- ---- a name's own wrap and a pending one
+
+module _ (work : List ℕ) (number own w : ℕ) where
+  pub no-only-mark : OnlyMark work number own w stepLimit
+  no-only-mark l = absurd (omega arith)
+
+  pub only-pending : (r l : ℕ) → LoneMark work number own l → l ≡ 0 → LoneMark work number w r → OnlyMark work number own w r
+  unfolding markOnce
+  only-pending r l n z m k x e = ap (wrapAt work w) (n (omega arith) x e ∙ ap (λ (v : ℕ). markOnce v x) z) ∙ m k x e
+
+-- a node's name is bare before any wrap
+node-bare : (items work : List ℕ) (node number : ℕ) → number ≡ numberOf items work node → Bare number (nodeName items work node)
+unfolding nodeName numberOf
+node-bare items work node number n = record { number-is = sym n; no-marks = refl; no-binding = refl }
+
+-- so that one mark or none is all of its summary
+pub marked-summed : (items work : List ℕ) (node w number own m k : ℕ) → number ≡ numberOf items work node → own ≡ referenceAt work node 1 → OnlyMark work number own w m → m < stepLimit → k ≡ countOf m → Summed (nameAt items work node w) 0 k m
+unfolding nameAt bindingKey
+marked-summed items work node w number own m k n o f l e =
+    let x = nodeName items work node in
+    let bare = node-bare items work node number n in
+    let means : nameAt items work node w ≡ markOnce m x = ap (λ (v : ℕ). wrapAt work w (wrapAt work v x)) (sym o) ∙ f l x (bare .number-is) in
+    rw means
+    (record {
+      binding-is = sym (ap bindingKey (once-binding number m x bare));
+      count-is = e ∙ sym (once-count number m x bare);
+      newest-is = sym (once-newest number m x bare);
+      most = omega (arith, once-few number m x bare, once-count number m x bare);
+    })
+
 -- ---- binders
 
 module _ (work : List ℕ) (number w mark : ℕ) where
@@ -152,24 +182,20 @@ module _ (work : List ℕ) (number w mark : ℕ) where
 
 -- ---- what is found
 
--- a node's name is bare before any wrap
 pub finds-name : (items work : List ℕ) (node w number own r : ℕ) → number ≡ numberOf items work node → own ≡ referenceAt work node 1 → Finds work number own w r → (r ≡ 4294967295 → ⊥) → r ≡ bindingKey (nameAt items work node w .binding)
-unfolding nameAt nodeName numberOf
+unfolding nameAt
 finds-name items work node w number own r n o f h =
-    let bare : Bare number (nodeName items work node) = record { number-is = sym n; no-marks = refl; no-binding = refl } in
-    f h (nodeName items work node) bare ∙ ap (λ (v : ℕ). bindingKey (wrapAt work w (wrapAt work v (nodeName items work node)) .binding)) o
+    f h (nodeName items work node) (node-bare items work node number n) ∙ ap (λ (v : ℕ). bindingKey (wrapAt work w (wrapAt work v (nodeName items work node)) .binding)) o
 
 module _ (work : List ℕ) (number own w : ℕ) where
   pub finds-nothing : Finds work number own w 4294967295
   finds-nothing h = absurd (h refl)
 
-  pub finds-binder : (tag inner mark l r : ℕ) → tag ≡ wordAt work w 1 → tag ≡ 3 → inner ≡ referenceAt work w 2 → LoneMark work number inner mark → mark < stepLimit → LoneMark work number own l → l ≡ 0 → Gives work number w mark r → Finds work number own w r
-  unfolding markOnce
-  finds-binder tag inner mark l r e t i m k n z g u x b =
-      let bare : wrapAt work own x ≡ x = n (omega arith) x (b .number-is) ∙ ap (λ (v : ℕ). markOnce v x) z in
+  pub finds-binder : (tag inner mark r : ℕ) → tag ≡ wordAt work w 1 → tag ≡ 3 → inner ≡ referenceAt work w 2 → OnlyMark work number own inner mark → mark < stepLimit → Gives work number w mark r → Finds work number own w r
+  finds-binder tag inner mark r e t i m k g u x b =
       let means : wrapAt work w (wrapAt work own x) ≡ rebound work (wrapAt work) w (markOnce mark x) =
-      ap (wrapAt work w) bare ∙ wrapAt-binder work w (some-word work w tag e (λ q. omega arith)) (sym e ∙ t) x
-      ∙ ap (λ (v : ℕ). rebound work (wrapAt work) w (wrapAt work v x)) (sym i)
+      wrapAt-binder work w (some-word work w tag e (λ q. omega arith)) (sym e ∙ t) (wrapAt work own x)
+      ∙ ap (λ (v : ℕ). rebound work (wrapAt work) w (wrapAt work v (wrapAt work own x))) (sym i)
       ∙ ap (rebound work (wrapAt work) w) (m k x (b .number-is)) in
       g x b ∙ sym (ap (λ (y : Name). bindingKey (y .binding)) means)
 

@@ -4,7 +4,7 @@
 ghost use mathlib.Core.Path.{_≡_};
 ghost use mathlib.Core.Bool.{true};
 ghost use Rattle.arena.specs.Arena.{referenceAt};
-ghost use Rattle.arena.specs.Direct.{SkipsTo, Passes, MarkCell, OneMark, LoneMark, countOf, Gives, Finds};
+ghost use Rattle.arena.specs.Direct.{SkipsTo, Passes, MarkCell, OneMark, LoneMark, OnlyMark, countOf, Gives, Finds};
 use crate::cells;
 use crate::marks;
 
@@ -90,8 +90,19 @@ fn lone_mark(work: &[u32], number: u32, w: u32) -> u32
     mark
 }
 
+// The one mark of a name of this number under its own wrap and a pending one, 0 where it has none; past the limit where it may have
+// more, or a binding.
+pub fn only_mark(work: &[u32], number: u32, own: u32, w: u32) -> u32
+    ensures { λ r. ⌜ OnlyMark (now (work .entry)) number own w r ⌝ }
+{
+    if lone_mark(work, number, own) != 0 {
+        return marks::STEP_LIMIT;
+    }
+    lone_mark(work, number, w)
+}
+
 // How many marks there are where this is the only one.
-fn count_of(mark: u32) -> u32
+pub fn count_of(mark: u32) -> u32
     ensures { λ r. ⌜ r ≡ countOf mark ⌝ }
 {
     if mark == 0 {
@@ -126,11 +137,8 @@ fn binding_by(work: &[u32], number: u32, own: u32, at: u32) -> u32
     if cells::word(work, at, cells::TAG) != cells::BINDER {
         return UNKNOWN;
     }
-    let mark = lone_mark(work, number, cells::reference(work, at, cells::INNER));
+    let mark = only_mark(work, number, own, cells::reference(work, at, cells::INNER));
     if marks::STEP_LIMIT <= mark {
-        return UNKNOWN;
-    }
-    if lone_mark(work, number, own) != 0 {
         return UNKNOWN;
     }
     given_key(work, number, at, mark)

@@ -145,13 +145,19 @@ pub fn summary_grown(items: &[u32], work: &[u32], table: &mut [u32], node: u32, 
     summary_grown(items, work, &mut larger, node, w)
 }
 
-// A name's summary.
+// A name's summary: of one mark or none where that is all that waits, else by walking what waits.
 pub fn summary_of(items: &[u32], work: &[u32], table: &mut [u32], node: u32, w: u32) -> Summary
     ensures { λ r. ⌜ Summed (nameAt (now (items .entry)) (now (work .entry)) node w) (r .binding) (r .count) (r .newest) ⌝ }
 {
-    let s = summary_in(items, work, table, node, w);
-    if s.count <= table.len() {
-        return s;
+    let number = number_of(items, work, node);
+    let own = cells::reference(work, node, cells::OWN);
+    let mark = direct::only_mark(work, number, own, w);
+    if mark < marks::STEP_LIMIT {
+        return Summary {
+            binding: 0,
+            count: direct::count_of(mark) as usize,
+            newest: mark,
+        };
     }
     summary_grown(items, work, table, node, w)
 }

@@ -1,4 +1,4 @@
--- `direct::binding_by`: the marks inside the binder, and none in the name's own wrap.
+-- `direct::binding_by`: the one mark inside the binder, and what the binder gives a name with it.
 use borrow.Author.Needs.{needs}
 use Rattle.arena.proofs.direct.binding_by.Statement.{statement}
 use Rattle.arena.proofs.direct.binding_by.Tie as tie
@@ -17,8 +17,8 @@ reference-requires : tie.Need-reference-requires
 reference-requires c κs =
     search needs
 
-lone-mark-requires : tie.Need-lone-mark-requires
-lone-mark-requires c κs =
+only-mark-requires : tie.Need-only-mark-requires
+only-mark-requires c κs =
     search needs
 
 returns-2 : tie.Need-returns-2
@@ -26,23 +26,14 @@ returns-2 c =
     let a = c .before .before .before .before .before .before .args in
     finds-nothing (a .work .now) (a .number) (a .own) (a .at)
 
-lone-mark-requires-2 : tie.Need-lone-mark-requires-2
-lone-mark-requires-2 c κs =
-    search needs
-
-returns-3 : tie.Need-returns-3
-returns-3 c =
-    let a = c .before .before .before .before .before .before .before .before .args in
-    finds-nothing (a .work .now) (a .number) (a .own) (a .at)
-
 given-key-requires : tie.Need-given-key-requires
 given-key-requires c κs =
     search needs
 
-returns-4 : tie.Need-returns-4
-returns-4 c =
-    let a = c .before .before .before .before .before .before .before .before .before .args in
-    finds-binder (a .work .now) (a .number) (a .own) (a .at) _ _ _ _ _ (c .before .before .before .before .before .before .before .word .ensures) (c .before .before .before .before .before .before .if1 .left) (c .before .before .before .before .before .reference .ensures) (c .before .before .before .before .lone-mark .ensures) (c .before .before .before .if2 .left) (c .before .before .lone-mark2 .ensures) (c .before .if3 .left) (c .given-key .ensures)
+returns-3 : tie.Need-returns-3
+returns-3 c =
+    let a = c .before .before .before .before .before .before .before .args in
+    finds-binder (a .work .now) (a .number) (a .own) (a .at) _ _ _ _ (c .before .before .before .before .before .word .ensures) (c .before .before .before .before .if1 .left) (c .before .before .before .reference .ensures) (c .before .before .only-mark .ensures) (c .before .if2 .left) (c .given-key .ensures)
 
 pub binding-by-spec : {M : Type 1} → statement M
 binding-by-spec =
@@ -51,9 +42,7 @@ binding-by-spec =
     word-requires
     returns
     reference-requires
-    lone-mark-requires
+    only-mark-requires
     returns-2
-    lone-mark-requires-2
-    returns-3
     given-key-requires
-    returns-4)
+    returns-3)

@@ -1,35 +1,56 @@
--- `names::summary_of`: in the lent table where it has room, else in a larger one.
+-- `names::summary_of`: one mark or none, else as the walk tells.
 use borrow.Author.Needs.{needs}
 use Rattle.arena.proofs.names.summary_of.Statement.{statement}
 use Rattle.arena.proofs.names.summary_of.Tie as tie
+use Rattle.arena.specs.DirectLaws.{marked-summed}
 
-summary-in-requires : tie.Need-summary-in-requires
-summary-in-requires c κs = search needs
+number-of-requires : tie.Need-number-of-requires
+number-of-requires c κs =
+    search needs
 
-same-length : tie.Need-same-length
-same-length c = search needs
+reference-requires : tie.Need-reference-requires
+reference-requires c κs =
+    search needs
+
+only-mark-requires : tie.Need-only-mark-requires
+only-mark-requires c κs =
+    search needs
+
+count-of-requires : tie.Need-count-of-requires
+count-of-requires c κs =
+    search needs
+
+cast-t11 : tie.Need-cast-t11
+cast-t11 c =
+    search needs
 
 returns : tie.Need-returns
 returns c =
-    let summary-in = c .before .before .before .before .summary-in in
-    summary-in .ensures .within (c .if1 .taken)
+    let a = c .before .before .before .before .before .before .before .before .args in
+    marked-summed (a .items .now) (a .work .now) (a .node) (a .w) _ _ _ _ (c .before .before .before .before .number-of .ensures) (c .before .before .before .reference .ensures) (c .before .before .only-mark .ensures) (c .before .if1 .taken) (c .count-of .ensures)
 
 summary-grown-requires : tie.Need-summary-grown-requires
-summary-grown-requires c κs = search needs
+summary-grown-requires c κs =
+    search needs
 
-same-length-2 : tie.Need-same-length-2
-same-length-2 c = search needs
+same-length : tie.Need-same-length
+same-length c =
+    search needs
 
 returns-2 : tie.Need-returns-2
-returns-2 c = search needs
+returns-2 c =
+    search needs
 
 pub summary-of-spec : {M : Type 1} → statement M
 summary-of-spec =
     tie.close
     (tie.spec
-    summary-in-requires
-    same-length
+    number-of-requires
+    reference-requires
+    only-mark-requires
+    count-of-requires
+    cast-t11
     returns
     summary-grown-requires
-    same-length-2
+    same-length
     returns-2)
