@@ -162,7 +162,8 @@ pub fn summary_of(items: &[u32], work: &[u32], table: &mut [u32], node: u32, w: 
     summary_grown(items, work, table, node, w)
 }
 
-// The key of a name's binding, found from the outside in or else by walking what waits.
+// The key of a name's binding, found from the outside in or else by walking what waits. The slices are handed on as parts, so that they
+// are put into memory only where the walk is made.
 pub fn binding_of(items: &[u32], work: &[u32], table: &mut [u32], node: u32, w: u32) -> u32
     requires { ⌜ 2 * markLimit < length (now table) ⌝ }
     ensures { λ r. ⌜ r ≡ bindingKey (nameAt (now (items .entry)) (now (work .entry)) node w .binding) ⌝ }
@@ -173,11 +174,7 @@ pub fn binding_of(items: &[u32], work: &[u32], table: &mut [u32], node: u32, w: 
     if key != direct::UNKNOWN {
         return key;
     }
-    let x = resolve(items, work, table, 0, node, w);
-    if x.count <= table.len() {
-        return x.binding;
-    }
-    let s = summary_grown(items, work, table, node, w);
+    let s = summary_grown(&items[0..], &work[0..], table, node, w);
     s.binding
 }
 

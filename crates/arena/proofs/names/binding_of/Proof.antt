@@ -1,8 +1,13 @@
--- `names::binding_of`: found from the outside in, else in the lent table where it has room, else in a larger one.
+-- `names::binding_of`: found from the outside in, else as the walk tells.
 use borrow.Author.Needs.{needs}
 use Rattle.arena.proofs.names.binding_of.Statement.{statement}
 use Rattle.arena.proofs.names.binding_of.Tie as tie
-use mathlib.Core.Path.{sym}
+use mathlib.Core.Path.{_∙_, ap₂}
+use mathlib.Core.List.{List}
+use Prim.Native.Nat.{ℕ}
+use Rattle.recipe.specs.Name.{bindingKey}
+use Rattle.words.specs.ListLaws.{rest-is}
+use Rattle.arena.specs.Arena.{nameAt}
 use Rattle.arena.specs.DirectLaws.{finds-name}
 
 number-of-requires : tie.Need-number-of-requires
@@ -22,8 +27,32 @@ returns c =
     let a = c .before .before .before .before .before .before .before .args in
     finds-name (a .items .now) (a .work .now) (a .node) (a .w) _ _ _ (c .before .before .before .number-of .ensures) (c .before .before .reference .ensures) (c .before .binding .ensures) (c .if1 .taken)
 
-resolve-requires : tie.Need-resolve-requires
-resolve-requires c κs =
+sub-summary-grown : tie.Need-sub-summary-grown
+sub-summary-grown c =
+    search needs
+
+part-summary-grown-start : tie.Need-part-summary-grown-start
+part-summary-grown-start c =
+    search needs
+
+part-summary-grown-end : tie.Need-part-summary-grown-end
+part-summary-grown-end c =
+    search needs
+
+sub-summary-grown-2 : tie.Need-sub-summary-grown-2
+sub-summary-grown-2 c =
+    search needs
+
+part-summary-grown-start-2 : tie.Need-part-summary-grown-start-2
+part-summary-grown-start-2 c =
+    search needs
+
+part-summary-grown-end-2 : tie.Need-part-summary-grown-end-2
+part-summary-grown-end-2 c =
+    search needs
+
+summary-grown-requires : tie.Need-summary-grown-requires
+summary-grown-requires c κs =
     search needs
 
 same-length : tie.Need-same-length
@@ -32,19 +61,8 @@ same-length c =
 
 returns-2 : tie.Need-returns-2
 returns-2 c =
-    sym (c .before .before .before .before .resolve .ensures .within (c .if2 .taken) .holds .binding-is)
-
-summary-grown-requires : tie.Need-summary-grown-requires
-summary-grown-requires c κs =
-    search needs
-
-same-length-2 : tie.Need-same-length-2
-same-length-2 c =
-    search needs
-
-returns-3 : tie.Need-returns-3
-returns-3 c =
-    search needs
+    let a = c .before .before .before .before .before .before .before .before .before .before .before .before .before .args in
+    c .before .before .summary-grown .ensures .binding-is ∙ ap₂ (λ (items work : List ℕ). bindingKey (nameAt items work (a .node) (a .w) .binding)) (rest-is 0 (a .items .now)) (rest-is 0 (a .work .now))
 
 pub binding-of-spec : {M : Type 1} → statement M
 binding-of-spec =
@@ -54,9 +72,12 @@ binding-of-spec =
     reference-requires
     binding-requires
     returns
-    resolve-requires
-    same-length
-    returns-2
+    sub-summary-grown
+    part-summary-grown-start
+    part-summary-grown-end
+    sub-summary-grown-2
+    part-summary-grown-start-2
+    part-summary-grown-end-2
     summary-grown-requires
-    same-length-2
-    returns-3)
+    same-length
+    returns-2)
