@@ -1,12 +1,12 @@
 -- What the checker finds at the beginning of words, by their code.
-use mathlib.Core.Path.{_≡_, refl, ap}
+use mathlib.Core.Path.{_≡_, refl, sym, ap, _∙_}
 use mathlib.Core.Bool.{Bool, true, false, _&&_, and-false, false≢true}
 use mathlib.Core.List.{List, [], _∷_, _++_}
 use Prim.Native.Nat.{ℕ, zero, suc, _+_, _≤_, _<_}
 use native.Mathlib.Omega.{arith}
 use native.Mathlib.Numerals.{add-one}
 use native.Mathlib.Nat.{add-zero}
-use lib.Dec.{eqb, ltb}
+use lib.Dec.{eqb, ltb, leb}
 use lib.ListN.{length, getD, drop}
 use borrow.Author.Tests.{lt-ltb, le-ltb, le-leb, lt-leb, eq-eqb, ne-eqb}
 use Rattle.datum.specs.Constant.{isConstant, constantWords, integer, boolean}
@@ -14,7 +14,8 @@ use Rattle.core_term.specs.Node.{Node, isNode, isDatumNode, isListNode, 
 use Rattle.core_term.specs.NodeLaws.{NodeRead, node-read}
 use Rattle.core_term.specs.declared.head.Head.{Head}
 use Rattle.core_term.specs.declared.head.Head.the-variants as H
-use Rattle.core_term.specs.Window.{noted, allowed, window, headOf}
+use Rattle.core_term.specs.Window.{noted, allowed, window, headOf, leafHead}
+use Rattle.core_term.specs.WindowLaws.{case}
 
 module _ (ws : List ℕ) (k : ℕ) (e : getD ws 0 0 ≡ k) where
   -- of a code and whatever follows
@@ -115,6 +116,16 @@ lambda-at ws l e = let h : 1 ≤ length ws = omega arith in rw (at-code ws 7 e h
 
 -- ---- what the checker finds
 
+-- a leaf, by whether it may stand here
+module _ (b : ℕ) (may : Bool) (h : Head) (e : leafHead b may ≡ h) where
+  pub leaf-yes : may ≡ true → H.Node 2 0 b false ≡ h
+  unfolding leafHead
+  leaf-yes y = sym (ap (leafHead b) y) ∙ e
+
+  pub leaf-no : may ≡ false → H.No ≡ h
+  unfolding leafHead
+  leaf-no n = sym (ap (leafHead b) n) ∙ e
+
 module _ (operations base : ℕ) (nameGood : ℕ → Bool) (flags : List ℕ) (b : ℕ) (q : Bool) (ws : List ℕ) where
   abbrev pub Answer : Head
   Answer = headOf (window operations nameGood base) q flags b (nodeAt ws)
@@ -124,46 +135,33 @@ module _ (operations base : ℕ) (nameGood : ℕ → Bool) (flags : List ℕ) (b
   head-missing e = rw e
 
   module _ (l : 2 ≤ length ws) where
-    pub integer-found : getD ws 0 0 ≡ 2 → H.Node 2 0 b false ≡ Answer
-    unfolding headOf window allowed nodeWords parts binds isDatumNode isListNode isConstant constantWords integer
-    integer-found e = rw (integer-at ws l e, add-zero)
+    pub integer-leaf : getD ws 0 0 ≡ 2 → leafHead b true ≡ Answer
+    unfolding headOf leafHead window allowed nodeWords parts binds isDatumNode isListNode isConstant constantWords integer
+    integer-leaf e = rw (integer-at ws l e, add-zero)
 
-    pub boolean-found : getD ws 0 0 ≡ 3 → getD ws 1 0 ≤ 1 → H.Node 2 0 b false ≡ Answer
-    unfolding headOf window allowed nodeWords parts binds isDatumNode isListNode isConstant constantWords boolean sound isNode
-    boolean-found e h = let k : getD ws 1 0 < 2 = omega arith in rw (boolean-at ws l e, lt-ltb _ _ k, lt-ltb _ _ k, add-zero)
+    pub boolean-leaf : getD ws 0 0 ≡ 3 → leafHead b (leb (getD ws 1 0) 1) ≡ Answer
+    unfolding headOf leafHead window allowed nodeWords parts binds isDatumNode isListNode isConstant constantWords boolean sound isNode
+    boolean-leaf e =
+        case (getD ws 1 0) 2
+        (λ k. let h : getD ws 1 0 ≤ 1 = omega arith in rw (boolean-at ws l e, lt-ltb _ _ k, lt-ltb _ _ k, le-leb _ _ h, add-zero))
+        (λ k. let h : 1 < getD ws 1 0 = omega arith in rw (boolean-at ws l e, le-ltb _ _ k, lt-leb _ _ h))
 
-    pub boolean-bad : getD ws 0 0 ≡ 3 → 1 < getD ws 1 0 → H.No ≡ Answer
-    unfolding headOf isConstant boolean sound isNode
-    boolean-bad e h = let k : 2 ≤ getD ws 1 0 = omega arith in rw (boolean-at ws l e, le-ltb _ _ k)
-
-    pub name-found : getD ws 0 0 ≡ 4 → nameGood (getD ws 1 0) ≡ true → H.Node 2 0 b false ≡ Answer
-    unfolding headOf window allowed nodeWords parts binds isDatumNode isListNode
-    name-found e h = rw (name-at ws l e, h, add-zero)
-
-    pub name-bad : getD ws 0 0 ≡ 4 → nameGood (getD ws 1 0) ≡ false → H.No ≡ Answer
-    unfolding headOf window allowed isDatumNode
-    name-bad e h = rw (name-at ws l e, h)
+    pub name-leaf : getD ws 0 0 ≡ 4 → leafHead b (nameGood (getD ws 1 0)) ≡ Answer
+    unfolding headOf leafHead window allowed nodeWords parts binds isDatumNode isListNode
+    name-leaf e = rw (name-at ws l e, add-zero)
 
     pub list-found : getD ws 0 0 ≡ 5 → H.Node 2 (getD ws 1 0) b true ≡ Answer
     unfolding headOf window allowed nodeWords parts binds isDatumNode isListNode
     list-found e = rw (list-at ws l e, add-zero)
 
   module _ (l : 2 ≤ length ws) (free : q ≡ false) where
-    pub variable-found : getD ws 0 0 ≡ 0 → (ltb (getD ws 1 0) b && noted base flags (getD ws 1 0)) ≡ true → H.Node 2 0 b false ≡ Answer
-    unfolding headOf window allowed nodeWords parts binds isDatumNode isListNode
-    variable-found e h = rw (variable-at ws l e, free, h, add-zero)
+    pub variable-leaf : getD ws 0 0 ≡ 0 → leafHead b (ltb (getD ws 1 0) b && noted base flags (getD ws 1 0)) ≡ Answer
+    unfolding headOf leafHead window allowed nodeWords parts binds isDatumNode isListNode
+    variable-leaf e = rw (variable-at ws l e, free, add-zero)
 
-    pub variable-bad : getD ws 0 0 ≡ 0 → (ltb (getD ws 1 0) b && noted base flags (getD ws 1 0)) ≡ false → H.No ≡ Answer
-    unfolding headOf window allowed isDatumNode
-    variable-bad e h = rw (variable-at ws l e, free, h)
-
-    pub operation-found : getD ws 0 0 ≡ 1 → getD ws 1 0 < operations → H.Node 2 0 b false ≡ Answer
-    unfolding headOf window allowed nodeWords parts binds isDatumNode isListNode
-    operation-found e h = rw (operation-at ws l e, free, lt-ltb _ _ h, add-zero)
-
-    pub operation-bad : getD ws 0 0 ≡ 1 → operations ≤ getD ws 1 0 → H.No ≡ Answer
-    unfolding headOf window allowed isDatumNode
-    operation-bad e h = rw (operation-at ws l e, free, le-ltb _ _ h)
+    pub operation-leaf : getD ws 0 0 ≡ 1 → leafHead b (ltb (getD ws 1 0) operations) ≡ Answer
+    unfolding headOf leafHead window allowed nodeWords parts binds isDatumNode isListNode
+    operation-leaf e = rw (operation-at ws l e, free, add-zero)
 
     pub application-found : getD ws 0 0 ≡ 8 → H.Node 2 (getD ws 1 0 + 1) b false ≡ Answer
     unfolding headOf window allowed nodeWords parts binds isDatumNode isListNode

@@ -2,10 +2,11 @@
 use mathlib.Core.Path.{_≡_, refl, sym, ap, _∙_}
 use mathlib.Core.Bool.{Bool, true, _&&_, and-true, false≢true}
 use mathlib.Core.List.{List, _++_, append-nil}
-use Prim.Native.Nat.{ℕ, suc, _+_}
+use Prim.Native.Nat.{ℕ, suc, _+_, _≤_}
 use native.Mathlib.Omega.{arith}
 use native.Mathlib.Nat.{add-zero}
-use lib.ListN.{replicate, length-replicate}
+use lib.ListN.{length, replicate, length-append, length-replicate}
+use Rattle.datum.specs.Constant.{constantWords}
 use Rattle.datum.specs.Datum.{constantD, nameD, listD, Data, noneD, moreD}
 use Rattle.datum.specs.Datum as D
 use Rattle.core_term.specs.Node.{Node, nodeWords, parts, binds, isDatumNode, isListNode, variableN, operationN, constantN, nameN, listN, ifN, lambdaN, applicationN}
@@ -32,6 +33,18 @@ encode-parts (datumC (listD ds)) = ap (λ (z : List ℕ). nodeWords (listN (D.co
 encode-parts (ifC x y z) = rw (append-nil (encode z))
 encode-parts (lambdaC first formals body) = rw (append-nil (encode body))
 encode-parts (applicationC h ts) = refl
+
+-- a term has at least two words
+pub encode-two : (t : Plain) → 2 ≤ length (encode t)
+unfolding encode datumWords nodeWords constantWords
+encode-two (variableC n) = omega arith
+encode-two (operationC n) = omega arith
+encode-two (datumC (constantD a)) = omega arith
+encode-two (datumC (nameD n)) = omega arith
+encode-two (datumC (listD ds)) = omega arith
+encode-two (ifC x y z) = omega (arith, encode-two x, length-append (encode x) (encode y ++ encode z))
+encode-two (lambdaC first formals body) = omega arith
+encode-two (applicationC h ts) = omega arith
 
 -- ---- counts
 

@@ -1,17 +1,20 @@
 -- The checker's walk in its own terms: flags, a place in the words, the variables bound so far and the parts left.
-use mathlib.Core.Path.{_≡_, sym, ap, subst, _∙_}
-use mathlib.Core.Bool.{Bool}
+use mathlib.Core.Path.{_≡_, refl, sym, ap, subst, _∙_}
+use mathlib.Core.Bool.{Bool, true, false}
 use mathlib.Core.List.{List}
 use Prim.Native.Nat.{ℕ, _+_, _-_, _≤_, _<_}
 use native.Mathlib.Omega.{arith}
-use lib.ListN.{length, drop, take}
+use lib.ListN.{length, drop, take, length-append}
 use Rattle.core_term.specs.declared.head.Head.the-variants as H
 use Rattle.core_term.specs.declared.term.Checked.{Checked}
 use Rattle.core_term.specs.declared.term.Checked.the-variants as C
 use Rattle.core_term.specs.Node.{Node, nodeAt, nodeWords, parts, binds, isListNode}
+use Rattle.core_term.specs.Words.{encode}
 use Rattle.core_term.specs.Every.{Asked}
-use Rattle.core_term.specs.Window.{marked, window, headOf}
+use Rattle.core_term.specs.PartsLaws.{encode-two}
+use Rattle.core_term.specs.Window.{marked, window, headOf, leafHead}
 use Rattle.core_term.specs.WindowLaws.{marked-undo, marked-clear, marked-length, allowed-node}
+use Rattle.core_term.specs.HeadLaws.{leaf-yes, leaf-no}
 use Rattle.core_term.specs.Shape.{Whole, None, Shaped, Kept, Clear}
 use Rattle.core_term.specs.ShapeLaws.{rest-is, found, not-found, Going, going-start, going-end, going-none, going-on, next-inside}
 
@@ -37,6 +40,10 @@ module _ (operations : ℕ) (nameGood : ℕ → Bool) (base : ℕ) (q : Bool) (e
   -- the words begin with no node that may stand there
   pub walk-none : H.No ≡ headOf Asks q e b (nodeAt ws) → None Asks q e b ws
   walk-none = not-found Asks (allowed-node operations nameGood base) q e b ws
+
+  -- they are too few
+  pub walk-short : length ws < 2 → None Asks q e b ws
+  walk-short h t r d f w = omega (arith, encode-two t, ap length w ∙ length-append (encode t) r)
 
   pub record Walking (within : ℕ) (inner : Bool) (flags : List ℕ) (c at left : ℕ) : Type 0 where
     pub marks : flags ≡ marked base b (within - b) 1 e
@@ -89,6 +96,18 @@ module _ (operations : ℕ) (nameGood : ℕ → Bool) (base : ℕ) (q : Bool) (e
             clear = λ k l m. w .clear k (omega (arith, t .bound)) m;
             going = going-on Asks (allowed-node operations nameGood base) q e b ws inner flags c at left (w .going) used after part h;
           })
+
+  -- a leaf is a whole term, where it may stand there
+  module _ (may : Bool) (h : leafHead b may ≡ headOf Asks q e b (nodeAt ws)) where
+    pub leaf-whole : may ≡ true → Clear base b e → Whole Asks q e b ws 2 b
+    unfolding marked
+    leaf-whole y k =
+        let i : b - b ≡ 0 = omega arith in
+        let m : e ≡ marked base b (b - b) 1 e = rw i in
+        walk-end b false e b 2 0 (walk-start 2 0 b false e (leaf-yes b may _ h y) k m) refl
+
+    pub leaf-none : may ≡ false → None Asks q e b ws
+    leaf-none n = walk-none (leaf-no b may _ h n)
 
 -- ---- from the flags that a lambda has set, which are all that is left of those before
 

@@ -55,3 +55,7 @@ unfoldable pub headOf : Asked (List ℕ) → Bool → List ℕ → ℕ → Got N
 headOf A quoted flags b missing = H.No
 headOf A quoted flags b (got x left) =
     cond ((isDatumNode x || not quoted) && A .test flags b x) (H.Node (length (nodeWords x)) (parts x) (b + binds x) (isListNode x)) H.No
+
+-- the same of a leaf, which has two words and no parts
+unfoldable pub leafHead : ℕ → Bool → Head
+leafHead b may = cond may (H.Node 2 0 b false) H.No

@@ -5,7 +5,7 @@ ghost use mathlib.Core.List.{List};
 ghost use Prim.Native.Nat.{ℕ, _≤_, _<_};
 ghost use lib.ListN.{length, getD};
 ghost use Rattle.core_term.specs.Node.{nodeAt};
-ghost use Rattle.core_term.specs.Window.{goodName, window, headOf};
+ghost use Rattle.core_term.specs.Window.{goodName, window, headOf, leafHead};
 use crate::flags::in_scope;
 use words::FORMALS;
 use words::NAME_LENGTH;
@@ -49,32 +49,38 @@ fn name_good(n: usize, names: &[u8], tabled: bool) -> bool
     length >= 1 && length <= NAME_LENGTH
 }
 
-// A node of codes 2 to 5: a datum's.
-fn datum_head(words: &[u32], names: &[u8], tabled: bool, bound: usize) -> Head
-    requires { ⌜ (1 ≤ length (now words)) × (2 ≤ getD (now words) 0 0) × (getD (now words) 0 0 ≤ 5) ⌝ }
-    ensures { λ r. ⌜ ((operations base : ℕ) (flags : List ℕ) (quoted : Bool) → r ≡ headOf (window operations (goodName tabled (now (names .entry))) base) quoted flags bound (nodeAt (now (words .entry)))) ⌝ }
+// Whether the leaf at the beginning of words, a node of codes 0 to 4, may stand there.
+pub fn leaf(
+    words: &[u32],
+    operations: u32,
+    names: &[u8],
+    tabled: bool,
+    bound: usize,
+    base: usize,
+    flags: &[u8],
+    quoted: bool,
+) -> bool
+    requires { ⌜ (2 ≤ length (now words)) × (getD (now words) 0 0 < 5) ⌝ }
+    ensures { λ r. ⌜ leafHead bound r ≡ headOf (window operations (goodName tabled (now (names .entry))) base) quoted (now (flags .entry)) bound (nodeAt (now (words .entry))) ⌝ }
 {
-    if words.len() < 2 {
-        return Head::No;
-    }
     let code = words[0];
     let a = words[1];
+    if code < 2 {
+        if quoted {
+            return false;
+        }
+        if code == 0 {
+            return in_scope(wide(a), bound, base, flags);
+        }
+        return a < operations;
+    }
     if code == 2 {
-        return Head::Node(2, 0, bound, false);
+        return true;
     }
     if code == 3 {
-        if a > 1 {
-            return Head::No;
-        }
-        return Head::Node(2, 0, bound, false);
+        return a <= 1;
     }
-    if code == 4 {
-        if !name_good(wide(a), names, tabled) {
-            return Head::No;
-        }
-        return Head::Node(2, 0, bound, false);
-    }
-    Head::Node(2, wide(a), bound, true)
+    name_good(wide(a), names, tabled)
 }
 
 // A lambda: its first number is the count of variables before it.
@@ -96,32 +102,35 @@ fn lambda_head(words: &[u32], bound: usize) -> Head
     Head::Node(3, 1, first + wide(count), false)
 }
 
-// A variable, an operation or an application: codes 0, 1 and 8.
-fn plain_head(words: &[u32], operations: u32, bound: usize, base: usize, flags: &[u8]) -> Head
-    requires { ⌜ (1 ≤ length (now words)) × ((2 ≤ getD (now words) 0 0) → 8 ≤ getD (now words) 0 0) ⌝ }
-    ensures { λ r. ⌜ ((nameGood : ℕ → Bool) → r ≡ headOf (window operations nameGood base) false (now (flags .entry)) bound (nodeAt (now (words .entry)))) ⌝ }
+// A node with parts: codes 5 to 8.
+fn branch(words: &[u32], bound: usize, quoted: bool) -> Head
+    requires { ⌜ (1 ≤ length (now words)) × (5 ≤ getD (now words) 0 0) ⌝ }
+    ensures { λ r. ⌜ ((operations base : ℕ) (nameGood : ℕ → Bool) (flags : List ℕ) → r ≡ headOf (window operations nameGood base) quoted flags bound (nodeAt (now (words .entry)))) ⌝ }
 {
+    let code = words[0];
+    if code == 6 {
+        if quoted {
+            return Head::No;
+        }
+        return Head::Node(1, 3, bound, false);
+    }
     if words.len() < 2 {
         return Head::No;
     }
-    let code = words[0];
-    let a = words[1];
-    if code == 0 {
-        if !in_scope(wide(a), bound, base, flags) {
-            return Head::No;
-        }
-        return Head::Node(2, 0, bound, false);
+    let a = wide(words[1]);
+    if code == 5 {
+        return Head::Node(2, a, bound, true);
     }
-    if code == 1 {
-        if a >= operations {
-            return Head::No;
-        }
-        return Head::Node(2, 0, bound, false);
+    if quoted {
+        return Head::No;
+    }
+    if code == 7 {
+        return lambda_head(words, bound);
     }
     if code > 8 {
         return Head::No;
     }
-    Head::Node(2, wide(a) + 1, bound, false)
+    Head::Node(2, a + 1, bound, false)
 }
 
 // The node at the beginning of words, where it may stand there.
@@ -140,24 +149,14 @@ pub fn node(
     if words.len() == 0 {
         return Head::No;
     }
-    let code = words[0];
-    if code < 2 {
-        if quoted {
-            return Head::No;
-        }
-        return plain_head(words, operations, bound, base, flags);
+    if words[0] >= 5 {
+        return branch(words, bound, quoted);
     }
-    if code <= 5 {
-        return datum_head(words, names, tabled, bound);
-    }
-    if quoted {
+    if words.len() < 2 {
         return Head::No;
     }
-    if code == 6 {
-        return Head::Node(1, 3, bound, false);
+    if leaf(words, operations, names, tabled, bound, base, flags, quoted) {
+        return Head::Node(2, 0, bound, false);
     }
-    if code == 7 {
-        return lambda_head(words, bound);
-    }
-    plain_head(words, operations, bound, base, flags)
+    Head::No
 }

@@ -3,6 +3,7 @@ ghost use Rattle.core_term.specs.Window.{goodName, window};
 ghost use Rattle.core_term.specs.Shape.{Shaped, Kept, Clear};
 use crate::flags::mark;
 use crate::head::Head;
+use crate::head::leaf;
 use crate::head::node;
 
 // How many words a term takes, and how many variables are bound behind it.
@@ -42,7 +43,7 @@ pub fn term(
     let mut left = parts;
     let mut now = within;
     while left > 0 {
-        let Checked::Term(used, after) = term(
+        let Checked::Term(used, after) = part(
             &words[at..],
             operations,
             names,
@@ -60,4 +61,30 @@ pub fn term(
     }
     mark(flags, base, bound, within, 0);
     Checked::Term(at, now)
+}
+
+// The same of a part, which may be a leaf.
+fn part(
+    words: &[u32],
+    operations: u32,
+    names: &[u8],
+    tabled: bool,
+    bound: usize,
+    base: usize,
+    flags: &mut [u8],
+    quoted: bool,
+) -> Checked
+    requires { ⌜ Clear base bound (now flags) ⌝ }
+    ensures { λ r. ⌜ Shaped (window operations (goodName tabled (now (names .entry))) base) quoted (now (flags .entry)) bound (now (words .entry)) r × Kept r (now (flags .entry)) (now (flags .exit)) ⌝ }
+{
+    if words.len() < 2 {
+        return Checked::No;
+    }
+    if words[0] < 5 {
+        if leaf(words, operations, names, tabled, bound, base, flags, quoted) {
+            return Checked::Term(2, bound);
+        }
+        return Checked::No;
+    }
+    term(words, operations, names, tabled, bound, base, flags, quoted)
 }

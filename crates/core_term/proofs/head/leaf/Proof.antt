@@ -1,0 +1,84 @@
+-- Codes 0 to 4, by the laws of specs/HeadLaws.antt.
+use borrow.Author.Needs.{needs}
+use Rattle.core_term.proofs.head.leaf.Statement.{statement}
+use Rattle.core_term.proofs.head.leaf.Tie as tie
+use Rattle.core_term.proofs.head.leaf.Reads as reads
+use Rattle.core_term.proofs.head.leaf.Lts as lts
+use Rattle.core_term.proofs.flags.in_scope.Reads as in-scope-reads
+use Rattle.core_term.proofs.head.name_good.Reads as name-good-reads
+use Rattle.core_term.proofs.head.wide.Reads as wide-reads
+use native.Mathlib.Omega.{arith}
+use mathlib.Core.Path.{_≡_}
+use lib.ListN.{getD}
+use Rattle.core_term.specs.Window.{leafHead}
+use Rattle.core_term.specs.HeadLaws.{quoted-none, variable-leaf, operation-leaf, integer-leaf, boolean-leaf, name-leaf}
+
+shared-slice-read-code : tie.Need-shared-slice-read-code
+shared-slice-read-code c =
+    search needs
+
+shared-slice-read-a : tie.Need-shared-slice-read-a
+shared-slice-read-a c =
+    search needs
+
+returns : tie.Need-returns
+unfolding leafHead
+returns c =
+    quoted-none _ _ _ _ _ _ (c .before .before .before .before .before .before .before .args .words .now) (c .if2 .taken) (λ l h. omega arith)
+
+wide-requires : tie.Need-wide-requires
+wide-requires c κs =
+    search needs
+
+in-scope-requires : tie.Need-in-scope-requires
+in-scope-requires c κs =
+    search needs
+
+returns-2 : tie.Need-returns-2
+returns-2 c =
+    let s = c .before .before .before .before .before .before .before .before .before .before in rw (c .in-scope .ensures, c .before .wide .ensures) (variable-leaf _ _ _ _ _ _ (s .args .words .now) (s .pre .0) (c .before .before .before .if2 .left) (c .before .before .if3 .taken))
+
+returns-3 : tie.Need-returns-3
+returns-3 c =
+    let s = c .before .before .before .before .before .before .before .before in
+    let e : getD (s .args .words .now) 0 0 ≡ 1 = omega (arith, c .before .before .if1 .taken, c .if3 .left) in
+    operation-leaf _ _ _ _ _ _ (s .args .words .now) (s .pre .0) (c .before .if2 .left) e
+
+returns-4 : tie.Need-returns-4
+returns-4 c =
+    let s = c .before .before .before .before .before .before .before in integer-leaf _ _ _ _ _ _ (s .args .words .now) (s .pre .0) (c .if4 .taken)
+
+returns-5 : tie.Need-returns-5
+returns-5 c =
+    let s = c .before .before .before .before .before .before .before .before in boolean-leaf _ _ _ _ _ _ (s .args .words .now) (s .pre .0) (c .if5 .taken)
+
+wide-requires-2 : tie.Need-wide-requires-2
+wide-requires-2 c κs =
+    search needs
+
+name-good-requires : tie.Need-name-good-requires
+name-good-requires c κs =
+    search needs
+
+returns-6 : tie.Need-returns-6
+returns-6 c =
+    let s = c .before .before .before .before .before .before .before .before .before .before in
+    let e : getD (s .args .words .now) 0 0 ≡ 4 = omega (arith, s .pre .1, c .before .before .before .before .if1 .left, c .before .before .before .if4 .left, c .before .before .if5 .left) in
+    rw (c .name-good .ensures, c .before .wide2 .ensures) (name-leaf _ _ _ _ _ _ (s .args .words .now) (s .pre .0) e)
+
+pub leaf-spec : {M : Type 1} → statement M
+leaf-spec =
+    tie.close
+    (tie.spec
+    shared-slice-read-code
+    shared-slice-read-a
+    returns
+    wide-requires
+    in-scope-requires
+    returns-2
+    returns-3
+    returns-4
+    returns-5
+    wide-requires-2
+    name-good-requires
+    returns-6)
