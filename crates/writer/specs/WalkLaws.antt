@@ -25,11 +25,11 @@ use Rattle.writer.specs.declared.term.Step.{Step}
 use Rattle.writer.specs.declared.term.Step.the-variants as S
 use Rattle.writer.specs.declared.term.Shape.{Shape}
 use Rattle.writer.specs.Laid.{Left}
-use Rattle.writer.specs.LaidLaws.{left-full, left-then, left-is, left-none}
+use Rattle.writer.specs.LaidLaws.{left-done, left-full, left-then, left-is, left-none}
 use Rattle.writer.specs.Pieces.{gapText, gapFirst, opening, closing, textIn, partsText}
 use Rattle.writer.specs.PiecesLaws.{pieces}
 use Rattle.writer.specs.Opened.{named, Opened}
-use Rattle.writer.specs.OpenedLaws.{code-is, is-list, is-if, is-lambda, is-application}
+use Rattle.writer.specs.OpenedLaws.{code-is, closes-leaf, is-list, is-if, is-lambda, is-application}
 use Rattle.writer.specs.Walk.{Shaped, spelling, Fits, Begins, Walked, walked, stopped}
 
 -- ---- shapes
@@ -296,6 +296,32 @@ module _ (names : List ℕ) where
 
     pub open-stops : r ≡ P.Full → Walked ink (textIn (nameAt names) inner (b .term)) (length (encode (b .term))) at d₀ d S.Full
     open-stops h = stopped (left-is (all-text _ refl) (left-full opened-left _ h))
+
+    -- a leaf has no parts, and nothing closes it
+    module _ (h : getD ws 0 0 < 5) where
+      leaf-shaped : Shaped (node (b .term)) (shape 2 0 false false)
+      leaf-shaped = shaped-leaf ws (node (b .term)) _ (begins-node inner ws b) h
+
+      leaf-parts : partsOf (b .term) ≡ noneC
+      unfolding shape
+      leaf-parts = none-left (partsOf (b .term)) (count-parts (b .term) ∙ sym (leaf-shaped .rest))
+
+      leaf-size : 2 ≡ length (encode (b .term))
+      unfolding shape encode
+      leaf-size =
+          let x = node (b .term) in
+          leaf-shaped .own ∙ sym (ap length (encode-parts (b .term) ∙ ap (λ (ts : Plains). nodeWords x ++ encodeAll ts) leaf-parts ∙ append-nil (nodeWords x)))
+
+      leaf-text : opening (nameAt names) inner (node (b .term)) ≡ textIn (nameAt names) inner (b .term)
+      unfolding partsText
+      leaf-text =
+          let x = node (b .term) in
+          let p : Parts (isListNode x) ≡ [] = ap (partsText (nameAt names) (isListNode x) (gapFirst x)) leaf-parts in
+          let c : [] ≡ Parts (isListNode x) ++ closing inner x = closes-leaf ws x _ (begins-node inner ws b) inner h ∙ ap (λ (z : List ℕ). z ++ closing inner x) (sym p) in
+          sym (append-nil (opening (nameAt names) inner x)) ∙ ap (λ (z : List ℕ). opening (nameAt names) inner x ++ z) c ∙ all-text _ refl
+
+      pub leaf-walked : (to : ℕ) → r ≡ P.Done to → Walked ink (textIn (nameAt names) inner (b .term)) (length (encode (b .term))) at d₀ d (S.Done 2 to)
+      leaf-walked to k = walked leaf-size (left-done (left-is leaf-text opened-left) to k)
 
     module _ (opened : ℕ) (h : r ≡ P.Done opened) (q : Bool) (i : q ≡ isListNode (node (b .term))) (e : List ℕ) where
       pub parts-stop : Left ink (Parts q) opened d e P.Full → Walked ink (textIn (nameAt names) inner (b .term)) (length (encode (b .term))) at d₀ e S.Full

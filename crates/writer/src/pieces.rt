@@ -99,6 +99,22 @@ fn datum_opening(
     copy(b"(quote (", out, at, ink)
 }
 
+// The text of the leaf at the beginning of words, a node of codes 0 to 4.
+pub fn leaf(words: &[u32], names: &[u8], out: &mut [u8], at: usize, inner: bool, ink: bool) -> Put
+    requires { ⌜ (at ≤ length (now out)) × Opened (now names) (now words) × (getD (now words) 0 0 < 5) ⌝ }
+    ensures { λ r. ⌜ ((x : Node) (left : List ℕ) → nodeAt (now (words .entry)) ≡ got x left → Left ink (opening (nameAt (now (names .entry))) inner x) at (now (out .entry)) (now (out .exit)) r) ⌝ }
+{
+    let code = words[0];
+    let a = wide(words[1]);
+    if code == 0 {
+        return numbered(b'v', a, out, at, ink);
+    }
+    if code == 1 {
+        return numbered(b'o', a, out, at, ink);
+    }
+    datum_opening(words, names, out, at, inner, ink)
+}
+
 // What opens the node at the beginning of words.
 pub fn begin(words: &[u32], names: &[u8], out: &mut [u8], at: usize, inner: bool, ink: bool) -> Put
     requires { ⌜ (at ≤ length (now out)) × Opened (now names) (now words) ⌝ }

@@ -15,6 +15,7 @@ use crate::numbers::gap;
 use crate::numbers::wide;
 use crate::pieces::begin;
 use crate::pieces::finish;
+use crate::pieces::leaf;
 
 // How many words a term takes, and the place behind its text; or the output is too short.
 pub enum Step {
@@ -94,7 +95,7 @@ pub fn term(words: &[u32], names: &[u8], out: &mut [u8], at: usize, inner: bool,
         let Put::Done(start) = gap(wanted, out, to, ink) else {
             return Step::Full;
         };
-        let Step::Done(used, behind) = term(&words[from..], names, out, start, quoted, ink) else {
+        let Step::Done(used, behind) = part(&words[from..], names, out, start, quoted, ink) else {
             return Step::Full;
         };
         from = from + used;
@@ -106,4 +107,18 @@ pub fn term(words: &[u32], names: &[u8], out: &mut [u8], at: usize, inner: bool,
         return Step::Full;
     };
     Step::Done(from, end)
+}
+
+// The same of a part, which may be a leaf.
+fn part(words: &[u32], names: &[u8], out: &mut [u8], at: usize, inner: bool, ink: bool) -> Step
+    requires { ⌜ (at ≤ length (now out)) × Begins (now names) inner (now words) ⌝ }
+    ensures { λ r. ⌜ ((t : Plain) (left : List ℕ) → Fits (now (names .entry)) inner t → now (words .entry) ≡ encode t ++ left → Walked ink (textIn (nameAt (now (names .entry))) inner t) (length (encode t)) at (now (out .entry)) (now (out .exit)) r) ⌝ }
+{
+    if words[0] < 5 {
+        let Put::Done(to) = leaf(words, names, out, at, inner, ink) else {
+            return Step::Full;
+        };
+        return Step::Done(2, to);
+    }
+    term(words, names, out, at, inner, ink)
 }

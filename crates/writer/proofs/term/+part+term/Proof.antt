@@ -1,27 +1,42 @@
--- `term` lays the text of what the words begin with. The invariant is Going of specs/WalkLaws.antt; the measure is the count of words.
-use Prim.Native.Nat.{ℕ, _<_}
+-- `term` and `part` lay the text of what the words begin with. The invariant is Going of specs/WalkLaws.antt; the measure is
+-- twice the count of words, and one more for `part`, which calls `term` with the same words.
+use Prim.Native.Nat.{ℕ, _+_, _*_, _<_}
 use borrow.Fn.Kinds.{In}
 use borrow.Fn.PlainCycle.{Measures, is, falls, and}
+use Rattle.writer.proofs.term.part.Reads as part
+use Rattle.writer.proofs.term.part.Kinds as part-kinds
+use Rattle.writer.proofs.term.+part+term.Lts-part as part-lts
 use Rattle.writer.proofs.term.term.Reads as term
 use Rattle.writer.proofs.term.term.Kinds as term-kinds
-use Rattle.writer.proofs.term.+term.Lts-term as term-lts
+use Rattle.writer.proofs.term.+part+term.Lts-term as term-lts
 use Rattle.writer.proofs.numbers.gap.Reads as gap-reads
 use Rattle.writer.proofs.pieces.begin.Reads as begin-reads
 use Rattle.writer.proofs.pieces.finish.Reads as finish-reads
+use Rattle.writer.proofs.pieces.leaf.Reads as leaf-reads
 use Rattle.writer.proofs.term.parts_of.Reads as parts-of-reads
-use Rattle.writer.proofs.term.+term.{statement}
-use Rattle.writer.proofs.term.+term.Tie.{close}
+use Rattle.writer.proofs.term.+part+term.{statement}
+use Rattle.writer.proofs.term.+part+term.Tie.{close}
 use borrow.Author.Needs.{needs}
 use native.Mathlib.Omega.{arith}
 use mathlib.Core.Path.{refl, _∙_}
 use Rattle.writer.specs.LaidLaws.{left-length, left-room}
 use lib.ListN.{length}
 use Rattle.writer.specs.OpenedLaws.{some-words}
-use Rattle.writer.specs.WalkLaws.{for-any, begins-node, begins-opened, Going, going-start, going-inside, going-shorter, going-next, going-on, going-end, gap-full, part-full, part-inside, open-stops, parts-stop, close-stops, all-walked}
+use Rattle.writer.specs.WalkLaws.{for-any, begins-node, begins-opened, Going, going-start, going-inside, going-shorter, going-next, going-on, going-end, gap-full, part-full, part-inside, open-stops, leaf-walked, parts-stop, close-stops, all-walked}
+
+abbrev μ-part : Measures 3 part-kinds.ps ℕ
+μ-part κs a =
+    2 * length (a .0 .now) + 1
 
 abbrev μ-term : Measures 3 term-kinds.ps ℕ
 μ-term κs a =
-    length (a .0 .now)
+    2 * length (a .0 .now)
+
+abbrev part-at : ℕ → In 3 part-kinds.ps
+part-at t = and 3 part-kinds.ps (is 3 part-kinds.ps μ-part t) part.Pre
+
+abbrev part-below : ℕ → In 3 part-kinds.ps
+part-below t = and 3 part-kinds.ps (falls 3 part-kinds.ps _<_ μ-part t) part.Pre
 
 abbrev term-at : ℕ → In 3 term-kinds.ps
 term-at t = and 3 term-kinds.ps (is 3 term-kinds.ps μ-term t) term.Pre
@@ -30,8 +45,11 @@ abbrev term-below : ℕ → In 3 term-kinds.ps
 term-below t = and 3 term-kinds.ps (falls 3 term-kinds.ps _<_ μ-term t) term.Pre
 
 -- what the callees promise
+abbrev P : ℕ → part-lts.Claims
+P t = (leaf-reads.Asked, leaf-reads.Learnt, term-below t, term.Post)
+
 abbrev E : ℕ → term-lts.Claims
-E t = (begin-reads.Asked, begin-reads.Learnt, parts-of-reads.Asked, parts-of-reads.Learnt, gap-reads.Asked, gap-reads.Learnt, term-below t, term.Post, finish-reads.Asked, finish-reads.Learnt)
+E t = (begin-reads.Asked, begin-reads.Learnt, parts-of-reads.Asked, parts-of-reads.Learnt, gap-reads.Asked, gap-reads.Learnt, part-below t, part.Post, finish-reads.Asked, finish-reads.Learnt)
 
 abbrev term-Inv-loop : term-lts.InvT-loop
 term-Inv-loop words names out₀ at inner ink opened quoted from₀ left₀ wanted₀ to₀ out from left wanted to =
@@ -40,6 +58,52 @@ term-Inv-loop words names out₀ at inner ink opened quoted from₀ left₀ want
 abbrev term-μ-loop : term-lts.MeasureT-loop
 term-μ-loop words names out₀ at inner ink opened quoted from₀ left₀ wanted₀ to₀ out from left wanted to =
     left
+
+part-shared-slice-read-if1 : (t : ℕ) → part-lts.Need-shared-slice-read-if1 (P t) (part-at t) part.Post
+part-shared-slice-read-if1 t c =
+    let s = c .before .before .before .before in let o = begins-opened _ _ _ (s .pre .1 .1) in omega (arith, some-words (s .args .words .now) (o .it) (o .left) (o .is))
+
+part-leaf-requires : (t : ℕ) → part-lts.Need-leaf-requires (P t) (part-at t) part.Post
+part-leaf-requires t c κs =
+    let s = c .before .before .before .before .before .before in (s .pre .1 .0, begins-opened _ _ _ (s .pre .1 .1), c .before .if1 .taken)
+
+part-enum-known-to : (t : ℕ) → part-lts.Need-enum-known-to (P t) (part-at t) part.Post
+part-enum-known-to t c =
+    search needs
+
+part-enum-told : (t : ℕ) → part-lts.Need-enum-told (P t) (part-at t) part.Post
+part-enum-told t c =
+    search needs
+
+part-same-length : (t : ℕ) → part-lts.Need-same-length (P t) (part-at t) part.Post
+part-same-length t c =
+    c .before .before .before .before .leaf .kept .1 .1 .0
+
+part-returns : (t : ℕ) → part-lts.Need-returns (P t) (part-at t) part.Post
+part-returns t c =
+    let s = c .before .before .before .before .before .before .before .before .before .before .before in let w = s .args .words .now in
+    for-any _ _ _ w (s .pre .1 .1) _ _ _ _ (open-stops _ _ _ w (s .pre .1 .1) _ _ _ _ (c .before .before .before .before .leaf .ensures) (c .enum-told .given .1))
+
+part-same-length-2 : (t : ℕ) → part-lts.Need-same-length-2 (P t) (part-at t) part.Post
+part-same-length-2 t c =
+    c .before .before .before .before .before .leaf .kept .1 .1 .0
+
+part-returns-2 : (t : ℕ) → part-lts.Need-returns-2 (P t) (part-at t) part.Post
+part-returns-2 t c =
+    let s = c .before .before .before .before .before .before .before .before .before .before .before .before in let w = s .args .words .now in
+    for-any _ _ _ w (s .pre .1 .1) _ _ _ _ (leaf-walked _ _ _ w (s .pre .1 .1) _ _ _ _ (c .before .before .before .before .before .leaf .ensures) (c .before .before .before .before .before .before .before .if1 .taken) _ (c .before .to .given .1))
+
+part-term-requires : (t : ℕ) → part-lts.Need-term-requires (P t) (part-at t) part.Post
+part-term-requires t c κs =
+    search needs
+
+part-same-length-3 : (t : ℕ) → part-lts.Need-same-length-3 (P t) (part-at t) part.Post
+part-same-length-3 t c =
+    c .before .before .term .kept .1 .1 .0
+
+part-returns-3 : (t : ℕ) → part-lts.Need-returns-3 (P t) (part-at t) part.Post
+part-returns-3 t c =
+    c .before .before .term .ensures
 
 term-begin-requires : (t : ℕ) → term-lts.Need-begin-requires (E t) (term-at t) term.Post term-Inv-loop term-μ-loop
 term-begin-requires t c κs =
@@ -89,24 +153,24 @@ term-returns-2 : (t : ℕ) → term-lts.Need-returns-2 (E t) (term-at t) term.Po
 term-returns-2 t c =
     let g = c .before .before .before .before .before .before .before .loop .inv in for-any _ _ _ (c .before .before .before .before .before .before .before .before .before .before .before .before .before .before .before .before .before .before .before .args .words .now) (g .whole) _ _ _ _ (parts-stop _ _ _ (c .before .before .before .before .before .before .before .before .before .before .before .before .before .before .before .before .before .before .before .args .words .now) (g .whole) _ _ _ _ (c .before .before .before .before .before .before .before .before .before .before .before .before .before .before .begin .ensures) _ (c .before .before .before .before .before .before .before .before .before .before .opened .given .1) _ (g .inner′) _ (gap-full _ _ _ _ (c .before .before .before .before .before .before .before .before .before .before .before .before .before .before .before .before .before .before .before .args .words .now) _ _ _ _ _ _ _ g (omega arith) _ _ (c .before .before .before .before .gap .ensures) (c .enum-told2 .given .1)))
 
-term-mul-term : (t : ℕ) → term-lts.Need-mul-term (E t) (term-at t) term.Post term-Inv-loop term-μ-loop
-term-mul-term t c =
+term-mul-part : (t : ℕ) → term-lts.Need-mul-part (E t) (term-at t) term.Post term-Inv-loop term-μ-loop
+term-mul-part t c =
     let l = going-inside _ _ _ _ (c .before .before .before .before .before .before .before .before .before .before .before .before .before .before .before .before .before .before .before .before .args .words .now) _ _ _ _ _ _ _ (c .before .before .before .before .before .before .before .before .loop .inv) in omega (arith, c .before .before .before .before .before .before .before .before .before .before .before .before .before .before .before .before .before .before .before .before .good .0 .1)
 
-term-sub-term : (t : ℕ) → term-lts.Need-sub-term (E t) (term-at t) term.Post term-Inv-loop term-μ-loop
-term-sub-term t c =
+term-sub-part : (t : ℕ) → term-lts.Need-sub-part (E t) (term-at t) term.Post term-Inv-loop term-μ-loop
+term-sub-part t c =
     let l = going-inside _ _ _ _ (c .before .before .before .before .before .before .before .before .before .before .before .before .before .before .before .before .before .before .before .before .args .words .now) _ _ _ _ _ _ _ (c .before .before .before .before .before .before .before .before .loop .inv) in omega arith
 
-term-part-term-start : (t : ℕ) → term-lts.Need-part-term-start (E t) (term-at t) term.Post term-Inv-loop term-μ-loop
-term-part-term-start t c =
+term-part-part-start : (t : ℕ) → term-lts.Need-part-part-start (E t) (term-at t) term.Post term-Inv-loop term-μ-loop
+term-part-part-start t c =
     let l = going-inside _ _ _ _ (c .before .before .before .before .before .before .before .before .before .before .before .before .before .before .before .before .before .before .before .before .args .words .now) _ _ _ _ _ _ _ (c .before .before .before .before .before .before .before .before .loop .inv) in omega arith
 
-term-part-term-end : (t : ℕ) → term-lts.Need-part-term-end (E t) (term-at t) term.Post term-Inv-loop term-μ-loop
-term-part-term-end t c =
+term-part-part-end : (t : ℕ) → term-lts.Need-part-part-end (E t) (term-at t) term.Post term-Inv-loop term-μ-loop
+term-part-part-end t c =
     search needs
 
-term-term-requires : (t : ℕ) → term-lts.Need-term-requires (E t) (term-at t) term.Post term-Inv-loop term-μ-loop
-term-term-requires t c κs =
+term-part-requires : (t : ℕ) → term-lts.Need-part-requires (E t) (term-at t) term.Post term-Inv-loop term-μ-loop
+term-part-requires t c κs =
     let g = c .before .before .before .before .before .before .before .before .before .before .loop .inv in (omega (arith, going-shorter _ _ _ _ (c .before .before .before .before .before .before .before .before .before .before .before .before .before .before .before .before .before .before .before .before .before .before .args .words .now) _ _ _ _ _ _ _ g, c .before .before .before .before .before .before .before .before .before .before .before .before .before .before .before .before .before .before .before .before .before .before .pre .0), (left-room (c .before .before .before .before .before .before .before .gap .ensures) _ (c .before .before .before .start .given .1), going-next _ _ _ _ (c .before .before .before .before .before .before .before .before .before .before .before .before .before .before .before .before .before .before .before .before .before .before .args .words .now) _ _ _ _ _ _ _ g (omega arith)))
 
 term-enum-known-used : (t : ℕ) → term-lts.Need-enum-known-used (E t) (term-at t) term.Post term-Inv-loop term-μ-loop
@@ -119,15 +183,15 @@ term-enum-told-3 t c =
 
 term-same-length-3 : (t : ℕ) → term-lts.Need-same-length-3 (E t) (term-at t) term.Post term-Inv-loop term-μ-loop
 term-same-length-3 t c =
-    c .before .before .before .before .term .kept .1 .1 .0 ∙ c .before .before .before .before .before .before .before .before .before .before .before .before .gap .kept .1 .0 ∙ left-length (c .before .before .before .before .before .before .before .before .before .before .before .before .before .before .before .loop .inv .laid) _ refl ∙ c .before .before .before .before .before .before .before .before .before .before .before .before .before .before .before .before .before .before .before .before .before .before .begin .kept .1 .1 .0
+    c .before .before .before .before .part .kept .1 .1 .0 ∙ c .before .before .before .before .before .before .before .before .before .before .before .before .gap .kept .1 .0 ∙ left-length (c .before .before .before .before .before .before .before .before .before .before .before .before .before .before .before .loop .inv .laid) _ refl ∙ c .before .before .before .before .before .before .before .before .before .before .before .before .before .before .before .before .before .before .before .before .before .before .begin .kept .1 .1 .0
 
 term-returns-3 : (t : ℕ) → term-lts.Need-returns-3 (E t) (term-at t) term.Post term-Inv-loop term-μ-loop
 term-returns-3 t c =
-    let g = c .before .before .before .before .before .before .before .before .before .before .before .before .before .before .before .loop .inv in for-any _ _ _ (c .before .before .before .before .before .before .before .before .before .before .before .before .before .before .before .before .before .before .before .before .before .before .before .before .before .before .before .args .words .now) (g .whole) _ _ _ _ (parts-stop _ _ _ (c .before .before .before .before .before .before .before .before .before .before .before .before .before .before .before .before .before .before .before .before .before .before .before .before .before .before .before .args .words .now) (g .whole) _ _ _ _ (c .before .before .before .before .before .before .before .before .before .before .before .before .before .before .before .before .before .before .before .before .before .before .begin .ensures) _ (c .before .before .before .before .before .before .before .before .before .before .before .before .before .before .before .before .before .before .opened .given .1) _ (g .inner′) _ (part-full _ _ _ _ (c .before .before .before .before .before .before .before .before .before .before .before .before .before .before .before .before .before .before .before .before .before .before .before .before .before .before .before .args .words .now) _ _ _ _ _ _ _ g (omega arith) _ _ (c .before .before .before .before .before .before .before .before .before .before .before .before .gap .ensures) _ (c .before .before .before .before .before .before .before .before .start .given .1) _ _ (c .before .before .before .before .term .ensures) (c .enum-told3 .given .1)))
+    let g = c .before .before .before .before .before .before .before .before .before .before .before .before .before .before .before .loop .inv in for-any _ _ _ (c .before .before .before .before .before .before .before .before .before .before .before .before .before .before .before .before .before .before .before .before .before .before .before .before .before .before .before .args .words .now) (g .whole) _ _ _ _ (parts-stop _ _ _ (c .before .before .before .before .before .before .before .before .before .before .before .before .before .before .before .before .before .before .before .before .before .before .before .before .before .before .before .args .words .now) (g .whole) _ _ _ _ (c .before .before .before .before .before .before .before .before .before .before .before .before .before .before .before .before .before .before .before .before .before .before .begin .ensures) _ (c .before .before .before .before .before .before .before .before .before .before .before .before .before .before .before .before .before .before .opened .given .1) _ (g .inner′) _ (part-full _ _ _ _ (c .before .before .before .before .before .before .before .before .before .before .before .before .before .before .before .before .before .before .before .before .before .before .before .before .before .before .before .args .words .now) _ _ _ _ _ _ _ g (omega arith) _ _ (c .before .before .before .before .before .before .before .before .before .before .before .before .gap .ensures) _ (c .before .before .before .before .before .before .before .before .start .given .1) _ _ (c .before .before .before .before .part .ensures) (c .enum-told3 .given .1)))
 
 term-add-from : (t : ℕ) → term-lts.Need-add-from (E t) (term-at t) term.Post term-Inv-loop term-μ-loop
 term-add-from t c =
-    let g = c .before .before .before .before .before .before .before .before .before .before .before .before .before .before .before .before .loop .inv in omega (arith, c .before .before .before .before .before .before .before .before .before .before .before .before .before .before .before .before .before .before .before .before .before .before .before .before .before .before .before .before .good .0 .1, part-inside _ _ _ _ (c .before .before .before .before .before .before .before .before .before .before .before .before .before .before .before .before .before .before .before .before .before .before .before .before .before .before .before .before .args .words .now) _ _ _ _ _ _ _ g (omega arith) _ _ (c .before .before .before .before .before .before .before .before .before .before .before .before .before .gap .ensures) _ (c .before .before .before .before .before .before .before .before .before .start .given .1) _ _ (c .before .before .before .before .before .term .ensures) _ _ (c .before .used .given .1))
+    let g = c .before .before .before .before .before .before .before .before .before .before .before .before .before .before .before .before .loop .inv in omega (arith, c .before .before .before .before .before .before .before .before .before .before .before .before .before .before .before .before .before .before .before .before .before .before .before .before .before .before .before .before .good .0 .1, part-inside _ _ _ _ (c .before .before .before .before .before .before .before .before .before .before .before .before .before .before .before .before .before .before .before .before .before .before .before .before .before .before .before .before .args .words .now) _ _ _ _ _ _ _ g (omega arith) _ _ (c .before .before .before .before .before .before .before .before .before .before .before .before .before .gap .ensures) _ (c .before .before .before .before .before .before .before .before .before .start .given .1) _ _ (c .before .before .before .before .before .part .ensures) _ _ (c .before .used .given .1))
 
 term-sub-left : (t : ℕ) → term-lts.Need-sub-left (E t) (term-at t) term.Post term-Inv-loop term-μ-loop
 term-sub-left t c =
@@ -139,7 +203,7 @@ term-loop-less t c =
 
 term-loop-again : (t : ℕ) → term-lts.Need-loop-again (E t) (term-at t) term.Post term-Inv-loop term-μ-loop
 term-loop-again t c =
-    let g = c .before .before .before .before .before .before .before .before .before .before .before .before .before .before .before .before .loop .inv in going-on _ _ _ _ (c .before .before .before .before .before .before .before .before .before .before .before .before .before .before .before .before .before .before .before .before .before .before .before .before .before .before .before .before .args .words .now) _ _ _ _ _ _ _ g (omega arith) _ _ (c .before .before .before .before .before .before .before .before .before .before .before .before .before .gap .ensures) _ (c .before .before .before .before .before .before .before .before .before .start .given .1) _ _ (c .before .before .before .before .before .term .ensures) _ _ (c .before .used .given .1)
+    let g = c .before .before .before .before .before .before .before .before .before .before .before .before .before .before .before .before .loop .inv in going-on _ _ _ _ (c .before .before .before .before .before .before .before .before .before .before .before .before .before .before .before .before .before .before .before .before .before .before .before .before .before .before .before .before .args .words .now) _ _ _ _ _ _ _ g (omega arith) _ _ (c .before .before .before .before .before .before .before .before .before .before .before .before .before .gap .ensures) _ (c .before .before .before .before .before .before .before .before .before .start .given .1) _ _ (c .before .before .before .before .before .part .ensures) _ _ (c .before .used .given .1)
 
 term-finish-requires : (t : ℕ) → term-lts.Need-finish-requires (E t) (term-at t) term.Post term-Inv-loop term-μ-loop
 term-finish-requires t c κs =
@@ -169,8 +233,21 @@ term-returns-5 : (t : ℕ) → term-lts.Need-returns-5 (E t) (term-at t) term.Po
 term-returns-5 t c =
     let g = c .before .before .before .before .before .before .before .before .loop .inv in let z = going-end _ _ _ _ (c .before .before .before .before .before .before .before .before .before .before .before .before .before .before .before .before .before .before .before .before .args .words .now) _ _ _ _ _ _ _ g (omega arith) in for-any _ _ _ (c .before .before .before .before .before .before .before .before .before .before .before .before .before .before .before .before .before .before .before .before .args .words .now) (g .whole) _ _ _ _ (all-walked _ _ _ (c .before .before .before .before .before .before .before .before .before .before .before .before .before .before .before .before .before .before .before .before .args .words .now) (g .whole) _ _ _ _ (c .before .before .before .before .before .before .before .before .before .before .before .before .before .before .before .begin .ensures) _ (c .before .before .before .before .before .before .before .before .before .before .before .opened .given .1) _ (g .inner′) _ _ (z .1) _ _ (c .before .before .before .before .before .finish .ensures) _ _ (z .0) (c .before .end .given .1))
 
-pub +term-spec : {M : Type 1} → statement M
-+term-spec = close μ-term λ t. term-lts.spec (E t) (term-at t)
+pub +part+term-spec : {M : Type 1} → statement M
++part+term-spec = close μ-part μ-term (λ t. part-lts.spec (P t) (part-at t)
+    part.Post
+    (part-shared-slice-read-if1 t)
+    (part-leaf-requires t)
+    (part-enum-known-to t)
+    (part-enum-told t)
+    (part-same-length t)
+    (part-returns t)
+    (part-same-length-2 t)
+    (part-returns-2 t)
+    (part-term-requires t)
+    (part-same-length-3 t)
+    (part-returns-3 t))
+    λ t. term-lts.spec (E t) (term-at t)
     term.Post
     term-Inv-loop
     term-μ-loop
@@ -186,11 +263,11 @@ pub +term-spec : {M : Type 1} → statement M
     (term-enum-told-2 t)
     (term-same-length-2 t)
     (term-returns-2 t)
-    (term-mul-term t)
-    (term-sub-term t)
-    (term-part-term-start t)
-    (term-part-term-end t)
-    (term-term-requires t)
+    (term-mul-part t)
+    (term-sub-part t)
+    (term-part-part-start t)
+    (term-part-part-end t)
+    (term-part-requires t)
     (term-enum-known-used t)
     (term-enum-told-3 t)
     (term-same-length-3 t)
