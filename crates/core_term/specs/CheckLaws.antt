@@ -20,7 +20,7 @@ use Rattle.core_term.specs.Window.{window}
 use Rattle.core_term.specs.WindowLaws.{case, allowed-node}
 use Rattle.core_term.specs.Shape.{Whole, None, Clear}
 use Rattle.core_term.specs.ShapeLaws.{every-proper, only}
-use Rattle.core_term.specs.Windows.{windowSize, noFlags, noFlags-clear, window-passes, Passed, Covered, windows-numbered, windows-known, windows-scoped}
+use Rattle.core_term.specs.Windows.{noFlags, noFlags-clear, window-passes, Passed, Covered, windows-numbered, windows-known, windows-scoped}
 
 module _ (operations : ℕ) (nameGood : ℕ → Bool) where
   -- the words are exactly this term, and ground 19 lets it pass
@@ -81,84 +81,93 @@ module _ (operations : ℕ) (nameGood : ℕ → Bool) where
 
   -- ---- from the walks
 
-  module _ (ws : List ℕ) where
-    pub many-no : 256 < operations → isTerm operations nameGood ws ≡ false
-    many-no h = isTerm-no ws (λ t a. omega (arith, a .few))
+  pub many-no : (ws : List ℕ) → 256 < operations → isTerm operations nameGood ws ≡ false
+  many-no ws h = isTerm-no ws (λ t a. omega (arith, a .few))
 
-    -- a window with no term
-    pub none-no : (base : ℕ) → None (window operations nameGood base) false noFlags 0 ws → isTerm operations nameGood ws ≡ false
-    none-no base n = isTerm-no ws (λ t a. n t [] (λ h. absurd (false≢true h)) (window-passes operations nameGood t base (a .formed) (a .closed) (a .counted) (a .known′)) (sym (a .words) ∙ sym (append-nil (encode t))))
+  module _ (span : ℕ) (ws : List ℕ) where
+    -- a walk that begins with no flag set
+    module _ (base : ℕ) (flags : List ℕ) (e : flags ≡ noFlags span) where
+      pub clean-whole : (m n : ℕ) → Whole (window operations nameGood base) false flags 0 ws m n → Whole (window operations nameGood base) false (noFlags span) 0 ws m n
+      clean-whole m n w = subst (λ (z : List ℕ). Whole (window operations nameGood base) false z 0 ws m n) e w
 
-    module _ (used after : ℕ) (w : Whole (window operations nameGood 0) false noFlags 0 ws used after) where
+      -- it finds no term
+      pub none-no : None (window operations nameGood base) false flags 0 ws → isTerm operations nameGood ws ≡ false
+      none-no n = isTerm-no ws (λ t a.
+          let p = window-passes span operations nameGood t base (a .formed) (a .closed) (a .counted) (a .known′) in
+          n t [] (λ h. absurd (false≢true h)) (rw e p) (sym (a .words) ∙ sym (append-nil (encode t))))
+
+    module _ (used after : ℕ) (w : Whole (window operations nameGood 0) false (noFlags span) 0 ws used after) where
       -- words left over
       pub left-no : (used ≡ length ws → ⊥) → isTerm operations nameGood ws ≡ false
       left-no h = isTerm-no ws (λ t a.
-          let p = window-passes operations nameGood t 0 (a .formed) (a .closed) (a .counted) (a .known′) in
-          let z = only (window operations nameGood 0) (allowed-node operations nameGood 0) t (w .term) [] (drop used ws) noFlags noFlags 0 0 p (w .fine)
+          let p = window-passes span operations nameGood t 0 (a .formed) (a .closed) (a .counted) (a .known′) in
+          let z = only (window operations nameGood 0) (allowed-node operations nameGood 0) t (w .term) [] (drop used ws) (noFlags span) (noFlags span) 0 0 p (w .fine)
           (append-nil (encode t) ∙ a .words ∙ w .words) in
           h (omega (arith, ap length (z .1), length-drop used ws, w .size, ap length (w .words) ∙ length-append (encode (w .term)) (drop used ws))))
 
       -- another window's walk finds the same term
-      pub same-passed : (base m n : ℕ) → Whole (window operations nameGood base) false noFlags 0 ws m n → every (window operations nameGood base) noFlags 0 (w .term) ≡ true
+      pub same-passed : (base m n : ℕ) → Whole (window operations nameGood base) false (noFlags span) 0 ws m n → every (window operations nameGood base) (noFlags span) 0 (w .term) ≡ true
       same-passed base m n v =
           let z = encode-unique (v .term) (w .term) (drop m ws) (drop used ws) 0 0
-          (every-proper (window operations nameGood base) (allowed-node operations nameGood base) (v .term) noFlags 0 (v .fine))
-          (every-proper (window operations nameGood 0) (allowed-node operations nameGood 0) (w .term) noFlags 0 (w .fine))
+          (every-proper (window operations nameGood base) (allowed-node operations nameGood base) (v .term) (noFlags span) 0 (v .fine))
+          (every-proper (window operations nameGood 0) (allowed-node operations nameGood 0) (w .term) (noFlags span) 0 (w .fine))
           (sym (v .words) ∙ w .words) in
-          subst (λ (t : Plain). every (window operations nameGood base) noFlags 0 t ≡ true) (z .0) (v .fine)
+          subst (λ (t : Plain). every (window operations nameGood base) (noFlags span) 0 t ≡ true) (z .0) (v .fine)
 
       -- every window passed
-      pub whole-yes : used ≡ length ws → operations ≤ 256 → ((n : ℕ) → n < variables (w .term) → Covered operations nameGood (w .term) n) → isTerm operations nameGood ws ≡ true
+      pub whole-yes : used ≡ length ws → operations ≤ 256 → ((n : ℕ) → n < variables (w .term) → Covered span operations nameGood (w .term) n) → isTerm operations nameGood ws ≡ true
       unfolding wellFormed
       whole-yes e f c =
           let t = w .term in
-          let one : Passed operations nameGood t = record { base = 0; ran = w .fine } in
+          let one : Passed span operations nameGood t = record { base = 0; ran = w .fine } in
           let d : drop used ws ≡ [] = ap (λ (n : ℕ). drop n ws) e ∙ drop-length ws in
           isTerm-yes ws t
           (record {
             words = sym (w .words ∙ ap (λ (z : List ℕ). encode t ++ z) d ∙ append-nil (encode t));
-            formed = every-proper (window operations nameGood 0) (allowed-node operations nameGood 0) t noFlags 0 (w .fine);
+            formed = every-proper (window operations nameGood 0) (allowed-node operations nameGood 0) t (noFlags span) 0 (w .fine);
             few = f;
-            closed = windows-scoped operations nameGood t one c;
-            counted = windows-numbered operations nameGood t one;
-            known′ = windows-known operations nameGood t one;
+            closed = windows-scoped span operations nameGood t one c;
+            counted = windows-numbered span operations nameGood t one;
+            known′ = windows-known span operations nameGood t one;
           })
 
   -- ---- from one window to the next
 
-  -- every window up to base has been walked through
-  pub record Walked (ws : List ℕ) (used after base : ℕ) (flags : List ℕ) : Type 0 where
-    pub whole : Whole (window operations nameGood 0) false noFlags 0 ws used after
-    pub clean : flags ≡ noFlags
+  -- every window of span variables up to base has been walked through
+  pub record Walked (span : ℕ) (ws : List ℕ) (used after base : ℕ) (flags : List ℕ) : Type 0 where
+    pub whole : Whole (window operations nameGood 0) false (noFlags span) 0 ws used after
+    pub clean : flags ≡ noFlags span
     pub some′ : base ≤ after
-    pub cover : (n : ℕ) → n < base + windowSize → Covered operations nameGood (whole .term) n
+    pub cover : (n : ℕ) → n < base + span → Covered span operations nameGood (whole .term) n
 
-  module _ (ws : List ℕ) (used after : ℕ) where
-    pub walked-first : (flags : List ℕ) → Whole (window operations nameGood 0) false noFlags 0 ws used after → flags ≡ noFlags → Walked ws used after 0 flags
-    walked-first flags w e =
-        record { whole = w; clean = e; some′ = omega arith; cover = λ n l. record { in′ = record { base = 0; ran = w .fine }; low = omega arith; high = l } }
+  pub walked-first : (ws : List ℕ) (used after : ℕ) (lent flags : List ℕ) → lent ≡ noFlags (length lent) → Whole (window operations nameGood 0) false lent 0 ws used after → flags ≡ lent
+      → Walked (length flags) ws used after 0 flags
+  walked-first ws used after lent flags e v h =
+      let w = clean-whole (length lent) ws 0 lent e used after v in
+      subst (λ (z : List ℕ). Walked (length z) ws used after 0 z) (sym h)
+      (record { whole = w; clean = e; some′ = omega arith; cover = λ n l. record { in′ = record { base = 0; ran = w .fine }; low = omega arith; high = l } })
 
-    module _ (base : ℕ) (flags : List ℕ) (k : Walked ws used after base flags) where
-      pub walked-more : (m n : ℕ) (flags′ : List ℕ) → windowSize < after - base → Whole (window operations nameGood (base + windowSize)) false flags 0 ws m n → flags′ ≡ flags
-          → Walked ws used after (base + windowSize) flags′
-      walked-more m n flags′ l v e =
-          let u = subst (λ (z : List ℕ). Whole (window operations nameGood (base + windowSize)) false z 0 ws m n) (k .clean) v in
-          record {
-            whole = k .whole;
-            clean = e ∙ k .clean;
-            some′ = omega arith;
-            cover = λ i h. case i (base + windowSize) (k .cover i)
-                (λ g. record { in′ = record { base = base + windowSize; ran = same-passed ws used after (k .whole) (base + windowSize) m n u }; low = g; high = h });
-          }
+  module _ (span : ℕ) (ws : List ℕ) (used after base : ℕ) (flags : List ℕ) (k : Walked span ws used after base flags) where
+    pub walked-more : (m n : ℕ) (flags′ : List ℕ) → span < after - base → Whole (window operations nameGood (base + span)) false flags 0 ws m n → flags′ ≡ flags
+        → Walked span ws used after (base + span) flags′
+    walked-more m n flags′ l v e =
+        let u = clean-whole span ws (base + span) flags (k .clean) m n v in
+        record {
+          whole = k .whole;
+          clean = e ∙ k .clean;
+          some′ = omega arith;
+          cover = λ i h. case i (base + span) (k .cover i)
+              (λ g. record { in′ = record { base = base + span; ran = same-passed span ws used after (k .whole) (base + span) m n u }; low = g; high = h });
+        }
 
-      pub walked-none : None (window operations nameGood (base + windowSize)) false flags 0 ws → isTerm operations nameGood ws ≡ false
-      walked-none n = none-no ws (base + windowSize) (subst (λ (z : List ℕ). None (window operations nameGood (base + windowSize)) false z 0 ws) (k .clean) n)
+    pub walked-none : None (window operations nameGood (base + span)) false flags 0 ws → isTerm operations nameGood ws ≡ false
+    walked-none = none-no span ws (base + span) flags (k .clean)
 
-      pub walked-length : length flags ≡ windowSize
-      walked-length = ap length (k .clean) ∙ length-replicate {A = ℕ} windowSize 0
+    pub walked-length : length flags ≡ span
+    walked-length = ap length (k .clean) ∙ length-replicate {A = ℕ} span 0
 
-      pub walked-clear : (low b : ℕ) → Clear low b flags
-      walked-clear low b = subst (λ (z : List ℕ). Clear low b z) (sym (k .clean)) (noFlags-clear low b)
+    pub walked-clear : (low b : ℕ) → Clear low b flags
+    walked-clear = noFlags-clear span flags (k .clean)
 
-      pub walked-all : after - base ≤ windowSize → used ≡ length ws → operations ≤ 256 → isTerm operations nameGood ws ≡ true
-      walked-all l e f = whole-yes ws used after (k .whole) e f (λ n h. k .cover n (omega (arith, k .whole .bound)))
+    pub walked-all : after - base ≤ span → used ≡ length ws → operations ≤ 256 → isTerm operations nameGood ws ≡ true
+    walked-all l e f = whole-yes span ws used after (k .whole) e f (λ n h. k .cover n (omega (arith, k .whole .bound)))

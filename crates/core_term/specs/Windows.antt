@@ -1,6 +1,6 @@
 -- All windows together are ground 19: what passes it passes every window, and what passes windows over all its
 -- variables passes it.
-use mathlib.Core.Path.{_≡_, refl, sym, subst, _∙_}
+use mathlib.Core.Path.{_≡_, refl, sym, ap, subst, _∙_}
 use mathlib.Core.Bool.{Bool, true, _&&_, and-false, false≢true}
 use mathlib.Core.List.{List}
 use Prim.Native.Nat.{ℕ, _+_, _-_, _≤_, _<_}
@@ -18,17 +18,16 @@ use Rattle.core_term.specs.Check.{Scope, outside, inside, variableInside
 use Rattle.core_term.specs.Window.{marked, noted, allowed, window}
 use Rattle.core_term.specs.WindowLaws.{case, marked-length, marked-in, marked-out, noted-below, noted-in, noted-past}
 
-abbrev pub windowSize : ℕ
-windowSize = 4096
+-- the flags of a window of so many variables, where none is set
+abbrev pub noFlags : ℕ → List ℕ
+noFlags span = replicate span 0
 
-abbrev pub noFlags : List ℕ
-noFlags = replicate windowSize 0
-
-pub noFlags-clear : (base b : ℕ) → Clear base b noFlags
-noFlags-clear base b k l m =
-    case (k - base) windowSize
-    (λ h. getD-replicate {A = ℕ} windowSize (k - base) 0 0 h)
-    (λ h. let e : length noFlags ≤ k - base = omega (arith, length-replicate {A = ℕ} windowSize 0) in List·getD-eq-default noFlags 0 e)
+pub noFlags-clear : (span : ℕ) (flags : List ℕ) → flags ≡ noFlags span → (base b : ℕ) → Clear base b flags
+noFlags-clear span flags e base b k l m =
+    ap (λ (z : List ℕ). getD z (k - base) 0) e
+    ∙ case (k - base) span
+    (λ h. getD-replicate {A = ℕ} span (k - base) 0 0 h)
+    (λ h. let i : length (noFlags span) ≤ k - base = omega (arith, length-replicate {A = ℕ} span 0) in List·getD-eq-default (noFlags span) 0 i)
 
 -- ---- flags and scope
 
@@ -46,13 +45,13 @@ module _ (s : Scope) (b n k : ℕ) where
       (λ l. case k (b + n) (λ m. absurd (h l m)) (λ m. rw (le-ltb k (b + n) m, and-false)))
 
 -- the flags are the scope, as far as the window goes, and only bound variables are in scope
-record Agree (base : ℕ) (s : Scope) (flags : List ℕ) (b : ℕ) : Type 0 where
-  size : length flags ≡ windowSize
-  same : (k : ℕ) → base ≤ k → k - base < windowSize → eqb (getD flags (k - base) 1) 1 ≡ s k
+record Agree (span base : ℕ) (s : Scope) (flags : List ℕ) (b : ℕ) : Type 0 where
+  size : length flags ≡ span
+  same : (k : ℕ) → base ≤ k → k - base < span → eqb (getD flags (k - base) 1) 1 ≡ s k
   bound : (k : ℕ) → s k ≡ true → k < b
 
-module _ (base : ℕ) (s : Scope) (flags : List ℕ) (b : ℕ) (g : Agree base s flags b) where
-  agree-more : (n : ℕ) → Agree base s flags (b + n)
+module _ (span base : ℕ) (s : Scope) (flags : List ℕ) (b : ℕ) (g : Agree span base s flags b) where
+  agree-more : (n : ℕ) → Agree span base s flags (b + n)
   agree-more n = record { size = g .size; same = g .same; bound = λ k h. omega (arith, g .bound k h) }
 
   -- a variable in scope may stand in any window
@@ -63,32 +62,32 @@ module _ (base : ℕ) (s : Scope) (flags : List ℕ) (b : ℕ) (g : Agree base s
       go =
           case n base
           (λ l. noted-below base n flags l)
-          (λ l. case (n - base) windowSize
+          (λ l. case (n - base) span
           (λ m. noted-in base n flags l ∙ g .same n l m ∙ h)
           (λ m. noted-past base n flags l (omega (arith, g .size))))
 
   -- one that may stand in its own window is in scope
-  agree-scope : (n : ℕ) → base ≤ n → n - base < windowSize → noted base flags n ≡ true → s n ≡ true
+  agree-scope : (n : ℕ) → base ≤ n → n - base < span → noted base flags n ≡ true → s n ≡ true
   agree-scope n l m h = sym (g .same n l m) ∙ sym (noted-in base n flags l) ∙ h
 
   -- a lambda's own variables
-  agree-lambda : (n : ℕ) → Agree base (inside s b (lambdaN b n)) (marked base b n 1 flags) (b + n)
+  agree-lambda : (n : ℕ) → Agree span base (inside s b (lambdaN b n)) (marked base b n 1 flags) (b + n)
   agree-lambda n =
       record { size = marked-length base b n 1 flags ∙ g .size; same = same; bound = bound }
     where
-      own : (k : ℕ) → base ≤ k → k - base < windowSize → b ≤ k → k < b + n → eqb (getD (marked base b n 1 flags) (k - base) 1) 1 ≡ inside s b (lambdaN b n) k
+      own : (k : ℕ) → base ≤ k → k - base < span → b ≤ k → k < b + n → eqb (getD (marked base b n 1 flags) (k - base) 1) 1 ≡ inside s b (lambdaN b n) k
       own k l m x y = rw (inside-own s b n k x y, marked-in base k 1 1 l b n flags x y (omega (arith, g .size)))
 
-      other : (k : ℕ) → base ≤ k → k - base < windowSize → (b ≤ k → k < b + n → ⊥) → eqb (getD (marked base b n 1 flags) (k - base) 1) 1 ≡ inside s b (lambdaN b n) k
+      other : (k : ℕ) → base ≤ k → k - base < span → (b ≤ k → k < b + n → ⊥) → eqb (getD (marked base b n 1 flags) (k - base) 1) 1 ≡ inside s b (lambdaN b n) k
       other k l m h = rw (inside-other s b n k h, marked-out base k 1 1 l b n flags h) (g .same k l m)
 
-      same : (k : ℕ) → base ≤ k → k - base < windowSize → eqb (getD (marked base b n 1 flags) (k - base) 1) 1 ≡ inside s b (lambdaN b n) k
+      same : (k : ℕ) → base ≤ k → k - base < span → eqb (getD (marked base b n 1 flags) (k - base) 1) 1 ≡ inside s b (lambdaN b n) k
       same k l m = case k b (λ x. other k l m (λ y z. omega arith)) (λ x. case k (b + n) (own k l m x) (λ y. other k l m (λ z w. omega arith)))
 
       bound : (k : ℕ) → inside s b (lambdaN b n) k ≡ true → k < b + n
       bound k h = case k (b + n) (λ l. l) (λ l. let i : k < b = g .bound k (sym (inside-other s b n k (λ x y. omega arith)) ∙ h) in omega arith)
 
-  agree-enter : (x : Node) (z : Scope) → firstNumber z b x ≡ true → Agree base (inside s b x) (marked base b (binds x) 1 flags) (b + binds x)
+  agree-enter : (x : Node) (z : Scope) → firstNumber z b x ≡ true → Agree span base (inside s b x) (marked base b (binds x) 1 flags) (b + binds x)
   unfolding inside binds marked firstNumber
   agree-enter (variableN n) z h = agree-more 0
   agree-enter (operationN n) z h = agree-more 0
@@ -96,15 +95,15 @@ module _ (base : ℕ) (s : Scope) (flags : List ℕ) (b : ℕ) (g : Agree base s
   agree-enter (nameN n) z h = agree-more 0
   agree-enter (listN n) z h = agree-more 0
   agree-enter ifN z h = agree-more 0
-  agree-enter (lambdaN first n) z h = subst (λ (i : ℕ). Agree base (inside s b (lambdaN i n)) (marked base b n 1 flags) (b + n)) (sym (eqb-true first b h)) (agree-lambda n)
+  agree-enter (lambdaN first n) z h = subst (λ (i : ℕ). Agree span base (inside s b (lambdaN i n)) (marked base b n 1 flags) (b + n)) (sym (eqb-true first b h)) (agree-lambda n)
   agree-enter (applicationN n) z h = agree-more 0
 
-agree-none : (base : ℕ) → Agree base outside noFlags 0
+agree-none : (span base : ℕ) → Agree span base outside (noFlags span) 0
 unfolding outside
-agree-none base =
+agree-none span base =
     record {
-      size = length-replicate {A = ℕ} windowSize 0;
-      same = λ k l m. rw (getD-replicate {A = ℕ} windowSize (k - base) 0 1 m);
+      size = length-replicate {A = ℕ} span 0;
+      same = λ k l m. rw (getD-replicate {A = ℕ} span (k - base) 0 1 m);
       bound = λ k h. absurd (false≢true h);
     }
 
@@ -114,7 +113,7 @@ agree-none base =
 data Asking : Type 0 where
   scopes numbers knows shapes : Asking
 
-module _ (operations : ℕ) (nameGood : ℕ → Bool) where
+module _ (span operations : ℕ) (nameGood : ℕ → Bool) where
   shaped : Scope → ℕ → Node → Bool
   shaped s b x = isNode x
 
@@ -125,10 +124,10 @@ module _ (operations : ℕ) (nameGood : ℕ → Bool) where
   asks shapes = asked shaped
 
   -- a node that passes all four passes the window
-  four-allow : (base : ℕ) (e : Asking → Scope) (flags : List ℕ) (b : ℕ) (x : Node) → Agree base (e scopes) flags b
+  four-allow : (base : ℕ) (e : Asking → Scope) (flags : List ℕ) (b : ℕ) (x : Node) → Agree span base (e scopes) flags b
       → ((i : Asking) → asks i .test (e i) b x ≡ true) → allowed operations nameGood base flags b x ≡ true
   unfolding asks asked shaped variableInside firstNumber known isNode allowed
-  four-allow base e flags b (variableN n) g h = agree-noted base (e scopes) flags b g n (h scopes)
+  four-allow base e flags b (variableN n) g h = agree-noted span base (e scopes) flags b g n (h scopes)
   four-allow base e flags b (operationN n) g h = h knows
   four-allow base e flags b (constantN a) g h = h shapes
   four-allow base e flags b (nameN n) g h = h knows
@@ -137,10 +136,10 @@ module _ (operations : ℕ) (nameGood : ℕ → Bool) where
   four-allow base e flags b (lambdaN first n) g h = rw (h shapes, h numbers)
   four-allow base e flags b (applicationN n) g h = refl
 
-  four-enter : (base : ℕ) (e : Asking → Scope) (flags : List ℕ) (b : ℕ) (x : Node) → Agree base (e scopes) flags b
-      → ((i : Asking) → asks i .test (e i) b x ≡ true) → Agree base (asks scopes .enter (e scopes) b x) (marked base b (binds x) 1 flags) (b + binds x)
+  four-enter : (base : ℕ) (e : Asking → Scope) (flags : List ℕ) (b : ℕ) (x : Node) → Agree span base (e scopes) flags b
+      → ((i : Asking) → asks i .test (e i) b x ≡ true) → Agree span base (asks scopes .enter (e scopes) b x) (marked base b (binds x) 1 flags) (b + binds x)
   unfolding asks asked
-  four-enter base e flags b x g h = agree-enter base (e scopes) flags b g x (e numbers) (h numbers)
+  four-enter base e flags b x g h = agree-enter span base (e scopes) flags b g x (e numbers) (h numbers)
 
   module _ (t : Plain) where
     every-shaped : wellFormed t ≡ true → every (asked shaped) outside 0 t ≡ true
@@ -150,12 +149,12 @@ module _ (operations : ℕ) (nameGood : ℕ → Bool) where
         (λ f g c x r l k. k tt) (λ f g c x r k. tt) (λ f g c n r. tt) t (λ i. tt) outside 0 tt (omega arith) (λ i. h)
 
     pub window-passes : (base : ℕ) → wellFormed t ≡ true → scoped t ≡ true → numbered t ≡ true → allKnown operations nameGood t ≡ true
-        → every (window operations nameGood base) noFlags 0 t ≡ true
+        → every (window operations nameGood base) (noFlags span) 0 t ≡ true
     unfolding window scoped numbered allKnown asks
     window-passes base w s n k =
-        every-from asks (window operations nameGood base) (variables t) (λ e f b. Agree base (e scopes) f b)
-        (λ e f b x r l h. four-allow base e f b x r h) (λ e f b x r h. four-enter base e f b x r h) (λ e f b m r. agree-more base (e scopes) f b r m)
-        t (λ i. outside) noFlags 0 (agree-none base) (omega arith) all
+        every-from asks (window operations nameGood base) (variables t) (λ e f b. Agree span base (e scopes) f b)
+        (λ e f b x r l h. four-allow base e f b x r h) (λ e f b x r h. four-enter base e f b x r h) (λ e f b m r. agree-more span base (e scopes) f b r m)
+        t (λ i. outside) (noFlags span) 0 (agree-none span base) (omega arith) all
       where
         all : (i : Asking) → every (asks i) outside 0 t ≡ true
         all scopes = s
@@ -191,36 +190,36 @@ module _ (operations : ℕ) (nameGood : ℕ → Bool) where
   -- a window that a term passes, and one with variable n in it
   pub record Passed (t : Plain) : Type 0 where
     pub base : ℕ
-    pub ran : every (window operations nameGood base) noFlags 0 t ≡ true
+    pub ran : every (window operations nameGood base) (noFlags span) 0 t ≡ true
 
   pub record Covered (t : Plain) (n : ℕ) : Type 0 where
     pub in′ : Passed t
     pub low : in′ .base ≤ n
-    pub high : n < in′ .base + windowSize
+    pub high : n < in′ .base + span
 
   module _ (t : Plain) (one : Passed t) where
     pub windows-numbered : numbered t ≡ true
     unfolding numbered asked window
     windows-numbered =
         every-from (λ (i : Unit {0}). window operations nameGood (one .base)) (asked firstNumber) (variables t) (λ f g c. Unit {0})
-        (λ f g c x r l k. allowed-first (one .base) (f tt) c g x (k tt)) (λ f g c x r k. tt) (λ f g c n r. tt) t (λ i. noFlags) outside 0 tt (omega arith) (λ i. one .ran)
+        (λ f g c x r l k. allowed-first (one .base) (f tt) c g x (k tt)) (λ f g c x r k. tt) (λ f g c n r. tt) t (λ i. noFlags span) outside 0 tt (omega arith) (λ i. one .ran)
 
     pub windows-known : allKnown operations nameGood t ≡ true
     unfolding allKnown asked window
     windows-known =
         every-from (λ (i : Unit {0}). window operations nameGood (one .base)) (asked (known operations nameGood)) (variables t) (λ f g c. Unit {0})
-        (λ f g c x r l k. allowed-known (one .base) (f tt) c g x (k tt)) (λ f g c x r k. tt) (λ f g c n r. tt) t (λ i. noFlags) outside 0 tt (omega arith) (λ i. one .ran)
+        (λ f g c x r l k. allowed-known (one .base) (f tt) c g x (k tt)) (λ f g c x r k. tt) (λ f g c n r. tt) t (λ i. noFlags span) outside 0 tt (omega arith) (λ i. one .ran)
 
     module _ (cover : (n : ℕ) → n < variables t → Covered t n) where
-      variable-scope : (e : Passed t → List ℕ) (s : Scope) (b n : ℕ) → ((i : Passed t) → Agree (i .base) s (e i) b) → b ≤ variables t
+      variable-scope : (e : Passed t → List ℕ) (s : Scope) (b n : ℕ) → ((i : Passed t) → Agree span (i .base) s (e i) b) → b ≤ variables t
           → ((i : Passed t) → (ltb n b && noted (i .base) (e i) n) ≡ true) → s n ≡ true
       variable-scope e s b n g l h =
           let below : n < b = ltb-true n b (both (ltb n b) (noted (one .base) (e one) n) (h one) .0) in
           let c = cover n (omega arith) in
           let i = c .in′ in
-          agree-scope (i .base) s (e i) b (g i) n (c .low) (omega (arith, c .high, c .low)) (both (ltb n b) (noted (i .base) (e i) n) (h i) .1)
+          agree-scope span (i .base) s (e i) b (g i) n (c .low) (omega (arith, c .high, c .low)) (both (ltb n b) (noted (i .base) (e i) n) (h i) .1)
 
-      node-scope : (e : Passed t → List ℕ) (s : Scope) (b : ℕ) (x : Node) → ((i : Passed t) → Agree (i .base) s (e i) b) → b ≤ variables t
+      node-scope : (e : Passed t → List ℕ) (s : Scope) (b : ℕ) (x : Node) → ((i : Passed t) → Agree span (i .base) s (e i) b) → b ≤ variables t
           → ((i : Passed t) → allowed operations nameGood (i .base) (e i) b x ≡ true) → variableInside s b x ≡ true
       unfolding allowed variableInside
       node-scope e s b (variableN n) g l h = variable-scope e s b n g l h
@@ -235,8 +234,8 @@ module _ (operations : ℕ) (nameGood : ℕ → Bool) where
       pub windows-scoped : scoped t ≡ true
       unfolding scoped asked window
       windows-scoped =
-          every-from (λ (i : Passed t). window operations nameGood (i .base)) (asked variableInside) (variables t) (λ e s b. (i : Passed t) → Agree (i .base) s (e i) b)
+          every-from (λ (i : Passed t). window operations nameGood (i .base)) (asked variableInside) (variables t) (λ e s b. (i : Passed t) → Agree span (i .base) s (e i) b)
           (λ e s b x g l h. node-scope e s b x g l h)
-          (λ e s b x g h i. agree-enter (i .base) s (e i) b (g i) x s (allowed-first (i .base) (e i) b s x (h i)))
-          (λ e s b n g i. agree-more (i .base) s (e i) b (g i) n)
-          t (λ i. noFlags) outside 0 (λ i. agree-none (i .base)) (omega arith) (λ i. i .ran)
+          (λ e s b x g h i. agree-enter span (i .base) s (e i) b (g i) x s (allowed-first (i .base) (e i) b s x (h i)))
+          (λ e s b n g i. agree-more span (i .base) s (e i) b (g i) n)
+          t (λ i. noFlags span) outside 0 (λ i. agree-none span (i .base)) (omega arith) (λ i. i .ran)

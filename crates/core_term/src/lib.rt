@@ -5,9 +5,12 @@ mod head; // a node's own words
 mod term; // a term's words
 
 ghost use mathlib.Core.Path.{_≡_};
+ghost use Prim.Native.Nat.{_≤_};
+ghost use lib.ListN.{length};
 ghost use Rattle.datum.specs.NameTable.{hasName};
 ghost use Rattle.core_term.specs.Check.{isTerm, small};
 ghost use Rattle.core_term.specs.Window.{goodName};
+ghost use Rattle.core_term.specs.Windows.{noFlags};
 use term::Checked;
 use term::term;
 use words::OPERATIONS;
@@ -15,32 +18,34 @@ use words::OPERATIONS;
 // Scope is tested for so many variables at a time.
 const WINDOW: usize = 4096;
 
-// The first walk finds the term; later ones test the scope of its further variables.
-fn every_window(words: &[u32], operations: u32, names: &[u8], tabled: bool) -> bool
+// The same where there are no more words than this.
+const SMALL_WINDOW: usize = 512;
+
+// The first walk finds the term; later ones test the scope of its further variables, as many at a time as there are flags.
+fn every_window(
+    words: &[u32],
+    operations: u32,
+    names: &[u8],
+    tabled: bool,
+    flags: &mut [u8],
+) -> bool
+    requires { ⌜ (1 ≤ length (now flags)) × (now flags ≡ noFlags (length (now flags))) ⌝ }
     ensures { λ r. ⌜ r ≡ isTerm operations (goodName tabled (now (names .entry))) (now (words .entry)) ⌝ }
 {
     if operations > OPERATIONS {
         return false;
     }
-    let mut flags = [0u8; WINDOW];
-    let Checked::Term(used, variables) = term(
-        words,
-        operations,
-        names,
-        tabled,
-        0,
-        0,
-        &mut flags,
-        false,
-    ) else {
+    let Checked::Term(used, variables) = term(words, operations, names, tabled, 0, 0, flags, false)
+    else {
         return false;
     };
     if used != words.len() {
         return false;
     }
+    let window = flags.len();
     let mut base = 0;
-    while variables - base > WINDOW {
-        base = base + WINDOW;
+    while variables - base > window {
+        base = base + window;
         let Checked::Term(again, bound) = term(
             words,
             operations,
@@ -48,7 +53,7 @@ fn every_window(words: &[u32], operations: u32, names: &[u8], tabled: bool) -> b
             tabled,
             0,
             base,
-            &mut flags,
+            flags,
             false,
         ) else {
             return false;
@@ -57,11 +62,23 @@ fn every_window(words: &[u32], operations: u32, names: &[u8], tabled: bool) -> b
     true
 }
 
+// Ground 19 has no objection. The window is small where the words are few.
+fn holds(words: &[u32], operations: u32, names: &[u8], tabled: bool) -> bool
+    ensures { λ r. ⌜ r ≡ isTerm operations (goodName tabled (now (names .entry))) (now (words .entry)) ⌝ }
+{
+    if words.len() <= SMALL_WINDOW {
+        let mut flags = [0u8; SMALL_WINDOW];
+        return every_window(words, operations, names, tabled, &mut flags);
+    }
+    let mut flags = [0u8; WINDOW];
+    every_window(words, operations, names, tabled, &mut flags)
+}
+
 // Ground 19 has no objection, with names as in the lent table.
 pub fn is_term(words: &[u32], operations: u32, names: &[u8]) -> bool
     ensures { λ r. ⌜ r ≡ isTerm operations (hasName (now (names .entry))) (now (words .entry)) ⌝ }
 {
-    every_window(words, operations, names, true)
+    holds(words, operations, names, true)
 }
 
 // The same of a service lent no name table: names are below 1,024.
@@ -69,5 +86,5 @@ pub fn is_term_unnamed(words: &[u32], operations: u32) -> bool
     ensures { λ r. ⌜ r ≡ isTerm operations small (now (words .entry)) ⌝ }
 {
     let none = [0u8; 1];
-    every_window(words, operations, &none, false)
+    holds(words, operations, &none, false)
 }

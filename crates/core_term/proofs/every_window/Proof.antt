@@ -6,32 +6,29 @@ use Rattle.core_term.proofs.every_window.Lts as lts
 use Rattle.core_term.proofs.term.term.Reads as term-reads
 use borrow.Author.Needs.{needs}
 use native.Mathlib.Omega.{arith}
-use mathlib.Core.Path.{sym}
+use mathlib.Core.Path.{sym, _∙_}
 use Prim.Native.Nat.{_-_}
+use lib.ListN.{length}
 use Rattle.core_term.specs.Window.{goodName}
 use Rattle.core_term.specs.Walk.{shaped-term, shaped-none, kept-term}
 use Rattle.core_term.specs.Windows.{noFlags-clear}
-use Rattle.core_term.specs.CheckLaws.{many-no, none-no, left-no, Walked, walked-first, walked-more, walked-none, walked-length, walked-clear, walked-all}
+use Rattle.core_term.specs.CheckLaws.{many-no, none-no, clean-whole, left-no, Walked, walked-first, walked-more, walked-none, walked-length, walked-clear, walked-all}
 
 abbrev Inv-loop : tie.InvT-loop
-Inv-loop words operations names tabled flags₀ used variables base₀ flags base =
-    Walked operations (goodName tabled names) words used variables base flags
+Inv-loop words operations names tabled flags₀ used variables window base₀ flags base =
+    Walked operations (goodName tabled names) window words used variables base flags
 
 abbrev μ-loop : tie.MeasureT-loop
-μ-loop words operations names tabled flags₀ used variables base₀ flags base =
+μ-loop words operations names tabled flags₀ used variables window base₀ flags base =
     variables - base
 
 returns : tie.Need-returns Inv-loop μ-loop
 returns c =
-    sym (many-no _ _ (c .before .before .before .args .words .now) (c .if1 .taken))
-
-slice-aggregate-term : tie.Need-slice-aggregate-term Inv-loop μ-loop
-slice-aggregate-term c =
-    search needs
+    sym (many-no _ _ (c .before .before .before .before .args .words .now) (c .if1 .taken))
 
 term-requires : tie.Need-term-requires Inv-loop μ-loop
 term-requires c κs =
-    noFlags-clear 0 0
+    let s = c .before .before .before .before .before in noFlags-clear (length (s .args .flags .now)) _ (s .pre .1) 0 0
 
 enum-known-used : tie.Need-enum-known-used Inv-loop μ-loop
 enum-known-used c =
@@ -41,17 +38,27 @@ enum-told : tie.Need-enum-told Inv-loop μ-loop
 enum-told c =
     search needs
 
+same-length : tie.Need-same-length Inv-loop μ-loop
+same-length c =
+    c .before .before .before .before .term .kept .1 .1 .1 .1 .1 .1 .0
+
 returns-2 : tie.Need-returns-2 Inv-loop μ-loop
 returns-2 c =
-    sym (none-no _ _ (c .before .before .before .before .before .before .before .before .args .words .now) 0 (shaped-none _ _ _ _ _ _ (c .before .before .before .term .ensures .0) (c .enum-told .given .1)))
+    let s = c .before .before .before .before .before .before .before .before .before .before in sym (none-no _ _ (length (s .args .flags .now)) (s .args .words .now) 0 _ (s .pre .1) (shaped-none _ _ _ _ _ _ (c .before .before .before .before .term .ensures .0) (c .enum-told .given .1)))
+
+same-length-2 : tie.Need-same-length-2 Inv-loop μ-loop
+same-length-2 c =
+    c .before .before .before .before .before .before .term .kept .1 .1 .1 .1 .1 .1 .0
 
 returns-3 : tie.Need-returns-3 Inv-loop μ-loop
 returns-3 c =
-    sym (left-no _ _ (c .before .before .before .before .before .before .before .before .before .before .args .words .now) _ _ (shaped-term _ _ _ _ _ _ (c .before .before .before .before .before .term .ensures .0) _ _ (c .before .before .used .given .1)) (c .if2 .taken))
+    let s = c .before .before .before .before .before .before .before .before .before .before .before .before in
+    let w = clean-whole _ _ (length (s .args .flags .now)) (s .args .words .now) 0 _ (s .pre .1) _ _ (shaped-term _ _ _ _ _ _ (c .before .before .before .before .before .before .term .ensures .0) _ _ (c .before .before .used .given .1)) in
+    sym (left-no _ _ (length (s .args .flags .now)) (s .args .words .now) _ _ w (c .if2 .taken))
 
 loop-holds : tie.Need-loop-holds Inv-loop μ-loop
 loop-holds c =
-    walked-first _ _ _ _ _ _ (shaped-term _ _ _ _ _ _ (c .before .before .before .before .before .term .ensures .0) _ _ (c .before .before .used .given .1)) (kept-term _ _ _ _ _ (c .before .before .before .before .before .term .ensures .1) (c .before .before .used .given .1))
+    let h = c .before .before .used .given .1 in walked-first _ _ _ _ _ _ _ (c .before .before .before .before .before .before .before .before .before .before .before .before .pre .1) (shaped-term _ _ _ _ _ _ (c .before .before .before .before .before .before .term .ensures .0) _ _ h) (kept-term _ _ _ _ _ (c .before .before .before .before .before .before .term .ensures .1) h)
 
 sub-loop : tie.Need-sub-loop Inv-loop μ-loop
 sub-loop c =
@@ -61,13 +68,9 @@ add-base : tie.Need-add-base Inv-loop μ-loop
 add-base c =
     search needs
 
-slice-aggregate-term-2 : tie.Need-slice-aggregate-term-2 Inv-loop μ-loop
-slice-aggregate-term-2 c =
-    let h = walked-length _ _ _ _ _ _ _ (c .before .before .loop .inv) in search needs
-
 term-requires-2 : tie.Need-term-requires-2 Inv-loop μ-loop
 term-requires-2 c κs =
-    walked-clear _ _ _ _ _ _ _ (c .before .before .loop .inv) _ _
+    walked-clear _ _ _ _ _ _ _ _ (c .before .before .loop .inv) _ _
 
 enum-known-again : tie.Need-enum-known-again Inv-loop μ-loop
 enum-known-again c =
@@ -75,23 +78,31 @@ enum-known-again c =
 
 loop-less : tie.Need-loop-less Inv-loop μ-loop
 loop-less c =
-    search needs
+    omega (arith, c .before .before .before .before .before .before .before .before .before .before .before .before .before .before .before .before .before .before .before .before .before .pre .0, c .before .before .before .before .before .before .before .before .before .before .before .before .before .before .before .term .kept .1 .1 .1 .1 .1 .1 .0)
 
 loop-again : tie.Need-loop-again Inv-loop μ-loop
 loop-again c =
-    walked-more _ _ _ _ _ _ _ (c .before .before .before .before .before .before .before .loop .inv) _ _ _ (omega arith) (shaped-term _ _ _ _ _ _ (c .before .before .before .before .term2 .ensures .0) _ _ (c .before .again .given .1)) (kept-term _ _ _ _ _ (c .before .before .before .before .term2 .ensures .1) (c .before .again .given .1))
+    let h = c .before .again .given .1 in walked-more _ _ _ _ _ _ _ _ (c .before .before .before .before .before .before .before .before .loop .inv) _ _ _ (omega arith) (shaped-term _ _ _ _ _ _ (c .before .before .before .before .before .term2 .ensures .0) _ _ h) (kept-term _ _ _ _ _ (c .before .before .before .before .before .term2 .ensures .1) h)
 
 enum-told-2 : tie.Need-enum-told-2 Inv-loop μ-loop
 enum-told-2 c =
     search needs
 
+same-length-3 : tie.Need-same-length-3 Inv-loop μ-loop
+same-length-3 c =
+    c .before .before .before .before .term2 .kept .1 .1 .1 .1 .1 .1 .0 ∙ walked-length _ _ _ _ _ _ _ _ (c .before .before .before .before .before .before .before .loop .inv) ∙ c .before .before .before .before .before .before .before .before .before .before .before .before .before .before .term .kept .1 .1 .1 .1 .1 .1 .0
+
 returns-4 : tie.Need-returns-4 Inv-loop μ-loop
 returns-4 c =
-    sym (walked-none _ _ _ _ _ _ _ (c .before .before .before .before .before .before .loop .inv) (shaped-none _ _ _ _ _ _ (c .before .before .before .term2 .ensures .0) (c .enum-told2 .given .1)))
+    sym (walked-none _ _ _ _ _ _ _ _ (c .before .before .before .before .before .before .before .loop .inv) (shaped-none _ _ _ _ _ _ (c .before .before .before .before .term2 .ensures .0) (c .enum-told2 .given .1)))
+
+same-length-4 : tie.Need-same-length-4 Inv-loop μ-loop
+same-length-4 c =
+    walked-length _ _ _ _ _ _ _ _ (c .before .loop .inv) ∙ c .before .before .before .before .before .before .before .before .term .kept .1 .1 .1 .1 .1 .1 .0
 
 returns-5 : tie.Need-returns-5 Inv-loop μ-loop
 returns-5 c =
-    sym (walked-all _ _ _ _ _ _ _ (c .before .loop .inv) (omega arith) (c .before .before .if2 .left) (c .before .before .before .before .before .before .before .before .before .if1 .left))
+    sym (walked-all _ _ _ _ _ _ _ _ (c .before .loop .inv) (omega arith) (c .before .before .if2 .left) (c .before .before .before .before .before .before .before .before .before .before .if1 .left))
 
 pub every-window-spec : {M : Type 1} → statement M
 every-window-spec =
@@ -100,20 +111,22 @@ every-window-spec =
     Inv-loop
     μ-loop
     returns
-    slice-aggregate-term
     term-requires
     enum-known-used
     enum-told
+    same-length
     returns-2
+    same-length-2
     returns-3
     loop-holds
     sub-loop
     add-base
-    slice-aggregate-term-2
     term-requires-2
     enum-known-again
     loop-less
     loop-again
     enum-told-2
+    same-length-3
     returns-4
+    same-length-4
     returns-5)

@@ -4,17 +4,17 @@ use Rattle.core_term.proofs.is_term.Statement.{statement}
 use Rattle.core_term.proofs.is_term.Tie as tie
 use Rattle.core_term.proofs.is_term.Reads as reads
 use Rattle.core_term.proofs.is_term.Lts as lts
-use Rattle.core_term.proofs.every_window.Reads as every-window-reads
+use Rattle.core_term.proofs.holds.Reads as holds-reads
 use Rattle.core_term.specs.Window.{goodName}
 
-every-window-requires : tie.Need-every-window-requires
-every-window-requires c κs =
+holds-requires : tie.Need-holds-requires
+holds-requires c κs =
     search needs
 
 returns : tie.Need-returns
 unfolding goodName
 returns c =
-    c .every-window .ensures
+    c .holds .ensures
 
 pub is-term-spec : {M : Type 1} → statement M
-is-term-spec = tie.close (tie.spec every-window-requires returns)
+is-term-spec = tie.close (tie.spec holds-requires returns)
