@@ -6,10 +6,9 @@ use Prim.Native.Nat.{ℕ, suc, _+_, _*_, _<_, _≤_}
 use native.Mathlib.Omega.{arith}
 use native.Mathlib.Numerals.{add-one}
 use lib.Dec.{eqb}
-use lib.ListN.{length, getD, set, drop, replicate, getD-replicate, drop-of-length-le}
+use lib.ListN.{length, getD, set, drop, replicate, length-replicate, getD-replicate, drop-of-length-le}
 use lib.Seq.{getD-set-same, getD-set-other}
 use borrow.Author.Tests.{eqb-true, eqb-false, eq-eqb, ne-eqb}
-use Rattle.words.specs.Limits.{itemsMost}
 use Rattle.words.specs.Lists.{all}
 use Rattle.recipe.specs.Table.{Item, items, references, occurrences, kindAt, isReferredOnce}
 use Rattle.recipe.specs.ItemLaws.{itemAt, items-length, items-drop}
@@ -18,15 +17,15 @@ use Rattle.layout.specs.ItemTests.{all-more}
 
 -- after has one more at each place for each time that it is among the references
 abbrev pub Counted : (before after refs : List ℕ) → Type 0
-Counted before after refs = (k : ℕ) → k < itemsMost → getD after k 0 ≡ getD before k 0 + occurrences k refs
+Counted before after refs = (k : ℕ) → k < length before → getD after k 0 ≡ getD before k 0 + occurrences k refs
 
 -- no count is above m
 abbrev pub AtMost : ℕ → List ℕ → Type 0
-AtMost m counts = (k : ℕ) → k < itemsMost → getD counts k 0 ≤ m
+AtMost m counts = (k : ℕ) → k < length counts → getD counts k 0 ≤ m
 
 -- each count is that of the table's references
 abbrev pub Referred : (ws counts : List ℕ) → Type 0
-Referred ws counts = (k : ℕ) → k < itemsMost → getD counts k 0 ≡ occurrences k (references (items 0 ws))
+Referred ws counts = (k : ℕ) → k < length counts → getD counts k 0 ≡ occurrences k (references (items 0 ws))
 
 -- ---- one reference
 
@@ -46,19 +45,18 @@ occurrences-least k x = by (eqb k x)
     by true = omega arith
     by false = omega arith
 
-pub counted-one : (counts : List ℕ) (x : ℕ) → length counts ≡ itemsMost → Counted counts (set counts x (getD counts x 0 + 1)) (x ∷ [])
+pub counted-one : (counts : List ℕ) (x : ℕ) → x < length counts → Counted counts (set counts x (getD counts x 0 + 1)) (x ∷ [])
 unfolding occurrences
 counted-one counts x l k h = by (eqb k x) refl
   where
     by : (b : Bool) → eqb k x ≡ b → getD (set counts x (getD counts x 0 + 1)) k 0 ≡ getD counts k 0 + occurrences k (x ∷ [])
     by true e =
         let q : k ≡ x = eqb-true k x e in
-        let r : x < length counts = omega arith in
-        rw (e, q) (getD-set-same counts x (getD counts x 0 + 1) 0 r)
+        rw (e, q) (getD-set-same counts x (getD counts x 0 + 1) 0 l)
     by false e = rw e (getD-set-other counts x k (getD counts x 0 + 1) 0 (eqb-false k x e) ∙ omega arith)
 
 -- past the table there is no count
-pub counted-past : (counts : List ℕ) (x : ℕ) → itemsMost ≤ x → Counted counts counts (x ∷ [])
+pub counted-past : (counts : List ℕ) (x : ℕ) → length counts ≤ x → Counted counts counts (x ∷ [])
 unfolding occurrences
 counted-past counts x l k h = let n : k ≡ x → ⊥ = λ e. omega arith in rw (ne-eqb k x n) (omega arith)
 
@@ -67,8 +65,8 @@ unfolding occurrences
 counted-none counts k h = omega arith
 
 -- no count yet
-pub most-zero : AtMost 0 (replicate itemsMost 0)
-most-zero k h = omega (arith, getD-replicate {A = ℕ} itemsMost k 0 0 h)
+pub most-zero : (n : ℕ) → AtMost 0 (replicate n 0)
+most-zero n k h = let l : k < n = omega (arith, length-replicate {A = ℕ} n 0) in omega (arith, getD-replicate {A = ℕ} n k 0 0 l)
 
 -- ---- one item
 
@@ -81,12 +79,12 @@ module _ (ws : List ℕ) (i : ℕ) where
   unfolding references itemAt kindAt
   references-none k = rw (ne-eqb (kindAt ws i) 4 k)
 
-pub counted-two : (a b c : List ℕ) (x y : ℕ) → Counted a b (x ∷ []) → Counted b c (y ∷ []) → Counted a c (x ∷ y ∷ [])
-counted-two a b c x y p q k h = omega (arith, p k h, q k h, occurrences-one k x (y ∷ []))
+pub counted-two : (a b c : List ℕ) (x y : ℕ) → length b ≡ length a → Counted a b (x ∷ []) → Counted b c (y ∷ []) → Counted a c (x ∷ y ∷ [])
+counted-two a b c x y e p q k h = omega (arith, p k h, q k (omega arith), occurrences-one k x (y ∷ []))
 
 -- one count more at most
-pub most-one : (a b : List ℕ) (x m : ℕ) → Counted a b (x ∷ []) → AtMost m a → AtMost (m + 1) b
-most-one a b x m p q k h = omega (arith, p k h, q k h, occurrences-least k x)
+pub most-one : (a b : List ℕ) (x m : ℕ) → length b ≡ length a → Counted a b (x ∷ []) → AtMost m a → AtMost (m + 1) b
+most-one a b x m e p q k h = let l : k < length a = omega arith in omega (arith, p k l, q k l, occurrences-least k x)
 
 -- ---- all items, as a loop counts them
 
@@ -115,7 +113,7 @@ occurrences-most k (x ∷ xs) = omega (arith, occurrences-item k x xs, occurrenc
 
 -- counted so far and left to count, together, are all references
 abbrev pub Counting : (ws : List ℕ) (i : ℕ) (counts : List ℕ) → Type 0
-Counting ws i counts = (k : ℕ) → k < itemsMost → getD counts k 0 + occurrences k (references (drop i (items 0 ws))) ≡ occurrences k (references (items 0 ws))
+Counting ws i counts = (k : ℕ) → k < length counts → getD counts k 0 + occurrences k (references (drop i (items 0 ws))) ≡ occurrences k (references (items 0 ws))
 
 module _ (ws : List ℕ) (n : ℕ) (e : length ws ≡ 3 * n) where
   pub counting-start : (counts : List ℕ) → AtMost 0 counts → Counting ws 0 counts
@@ -124,8 +122,9 @@ module _ (ws : List ℕ) (n : ℕ) (e : length ws ≡ 3 * n) where
   pub counting-most : (i : ℕ) (counts : List ℕ) → Counting ws i counts → AtMost (2 * n) counts
   counting-most i counts c k h = omega (arith, c k h, occurrences-most k (items 0 ws), items-length 0 n ws e)
 
-  pub counting-more : (i : ℕ) (a b : List ℕ) → i < n → Counting ws i a → Counted a b (references (itemAt ws i ∷ [])) → Counting ws (i + 1) b
-  counting-more i a b h c d k l =
+  pub counting-more : (i : ℕ) (a b : List ℕ) → i < n → length b ≡ length a → Counting ws i a → Counted a b (references (itemAt ws i ∷ [])) → Counting ws (i + 1) b
+  counting-more i a b h f c d k m =
+      let l : k < length a = omega arith in
       let s : occurrences k (references (drop i (items 0 ws))) ≡ occurrences k (references (itemAt ws i ∷ [])) + occurrences k (references (drop (i + 1) (items 0 ws)))
       = rw (add-one, items-drop ws n i e h) (occurrences-item k (itemAt ws i) (drop (suc i) (items 0 ws))) in
       omega (arith, c k l, d k l, s)
@@ -143,7 +142,7 @@ module _ (ws : List ℕ) (n : ℕ) (e : length ws ≡ 3 * n) where
   unfolding isReferredOnce itemAt
   once-first h = all-more (isReferredOnce (references (items 0 ws))) ws n e 0 h refl
 
-  module _ (counts : List ℕ) (c : Referred ws counts) (i : ℕ) (z : 0 < i) (l : i < itemsMost) where
+  module _ (counts : List ℕ) (c : Referred ws counts) (i : ℕ) (z : 0 < i) (l : i < length counts) where
     once-is : isReferredOnce (references (items 0 ws)) (itemAt ws i) ≡ eqb (getD counts i 0) 1
     unfolding isReferredOnce itemAt
     once-is = let nz : i ≡ 0 → ⊥ = λ q. omega arith in rw (ne-eqb i 0 nz, c i l)

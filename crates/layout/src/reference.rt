@@ -12,19 +12,22 @@ ghost use Rattle.recipe.specs.Table.{items, references, isReferredOnce};
 ghost use Rattle.recipe.specs.ItemLaws.{itemAt};
 ghost use Rattle.layout.specs.Counts.{Counted, AtMost, Referred};
 
+// Most recipes have at most so many items.
+const FEW_ITEMS: usize = 512;
+
 // One reference more to item k; past the table there is no count.
 fn count(counts: &mut [u16], k: usize)
-    requires { ⌜ (length (now counts) ≡ itemsMost) × (AtMost 65534 (now counts)) ⌝ }
+    requires { ⌜ AtMost 65534 (now counts) ⌝ }
     ensures { λ _. ⌜ Counted (now (counts .entry)) (now (counts .exit)) (k ∷ []) ⌝ }
 {
-    if k < words::MOST_ITEMS {
+    if k < counts.len() {
         counts[k] = counts[k] + 1;
     }
 }
 
 // The references of item i.
 fn count_item(table: &[u32], i: usize, counts: &mut [u16])
-    requires { ⌜ (3 * i + 2 < length (now table)) × (length (now counts) ≡ itemsMost) × (AtMost 65533 (now counts)) ⌝ }
+    requires { ⌜ (3 * i + 2 < length (now table)) × (AtMost 65533 (now counts)) ⌝ }
     ensures { λ _. ⌜ Counted (now (counts .entry)) (now (counts .exit)) (references (itemAt (now (table .entry)) i ∷ [])) ⌝ }
 {
     if kind(table, i) != 4 {
@@ -36,7 +39,7 @@ fn count_item(table: &[u32], i: usize, counts: &mut [u16])
 
 // The references of all n items.
 fn count_items(table: &[u32], n: usize, counts: &mut [u16])
-    requires { ⌜ (length (now table) ≡ 3 * n) × (n ≤ itemsMost) × (length (now counts) ≡ itemsMost) × (AtMost 0 (now counts)) ⌝ }
+    requires { ⌜ (length (now table) ≡ 3 * n) × (n ≤ itemsMost) × (AtMost 0 (now counts)) ⌝ }
     ensures { λ _. ⌜ Referred (now (table .entry)) (now (counts .exit)) ⌝ }
 {
     let mut i = 0;
@@ -46,13 +49,12 @@ fn count_items(table: &[u32], n: usize, counts: &mut [u16])
     }
 }
 
-// Every item but item 0 is referred to exactly once.
-pub fn referred_once(table: &[u32], n: usize) -> bool
-    requires { ⌜ (length (now table) ≡ 3 * n) × (0 < n) × (n ≤ itemsMost) ⌝ }
+// Every item but item 0 is referred to exactly once, by a table of zeros with a count for each item.
+fn once_each(table: &[u32], n: usize, counts: &mut [u16]) -> bool
+    requires { ⌜ (length (now table) ≡ 3 * n) × (0 < n) × (n ≤ itemsMost) × (n ≤ length (now counts)) × (AtMost 0 (now counts)) ⌝ }
     ensures { λ r. ⌜ r ≡ all (isReferredOnce (references (items 0 (now (table .entry))))) (items 0 (now (table .entry))) ⌝ }
 {
-    let mut counts = [0u16; words::MOST_ITEMS];
-    count_items(table, n, &mut counts);
+    count_items(table, n, counts);
     let mut i = 1;
     while i < n {
         if counts[i] != 1 {
@@ -61,4 +63,17 @@ pub fn referred_once(table: &[u32], n: usize) -> bool
         i += 1;
     }
     true
+}
+
+// Every item but item 0 is referred to exactly once.
+pub fn referred_once(table: &[u32], n: usize) -> bool
+    requires { ⌜ (length (now table) ≡ 3 * n) × (0 < n) × (n ≤ itemsMost) ⌝ }
+    ensures { λ r. ⌜ r ≡ all (isReferredOnce (references (items 0 (now (table .entry))))) (items 0 (now (table .entry))) ⌝ }
+{
+    if n <= FEW_ITEMS {
+        let mut few = [0u16; FEW_ITEMS];
+        return once_each(table, n, &mut few);
+    }
+    let mut counts = [0u16; words::MOST_ITEMS];
+    once_each(table, n, &mut counts)
 }

@@ -15,7 +15,7 @@ slice-read-counts c =
 
 add-counts : tie.Need-add-counts
 add-counts c =
-    omega (arith, c .before .before .pre .1 (c .before .before .args .k) (c .before .if1 .taken))
+    omega (arith, c .before .before .pre (c .before .before .args .k) (c .before .if1 .taken))
 
 mul-counts-2 : tie.Need-mul-counts-2
 mul-counts-2 c =
@@ -31,7 +31,7 @@ same-length c =
 
 returns : tie.Need-returns
 returns c =
-    counted-one (c .before .before .args .counts .now) (c .before .before .args .k) (c .before .before .pre .0)
+    counted-one (c .before .before .args .counts .now) (c .before .before .args .k) (c .before .if1 .taken)
 
 returns-2 : tie.Need-returns-2
 returns-2 c =

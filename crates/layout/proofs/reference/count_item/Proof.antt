@@ -26,7 +26,7 @@ head-requires c κs =
 
 count-requires : tie.Need-count-requires
 count-requires c κs =
-    (c .before .before .before .before .before .before .pre .1, λ k h. omega (arith, c .before .before .before .before .before .before .pre .2 k h))
+    λ k h. omega (arith, c .before .before .before .before .before .before .pre .1 k h)
 
 tail-requires : tie.Need-tail-requires
 tail-requires c κs =
@@ -34,8 +34,9 @@ tail-requires c κs =
 
 count-requires-2 : tie.Need-count-requires-2
 count-requires-2 c κs =
-    let a = c .before .before .before .before .before .before .before .before .before .before .before .args in
-    (c .before .before .before .before .count .kept .0 ∙ c .before .before .before .before .before .before .before .before .before .before .before .pre .1, most-one (a .counts .now) (c .before .before .before .before .count .last .0) (c .before .before .before .before .before .head .result) 65533 (c .before .before .before .before .count .ensures) (c .before .before .before .before .before .before .before .before .before .before .before .pre .2))
+    let entry = c .before .before .before .before .before .before .before .before .before .before .before in
+    let count = c .before .before .before .before .count in
+    most-one (entry .args .counts .now) (count .last .0) (c .before .before .before .before .before .head .result) 65533 (count .kept .0) (count .ensures) (entry .pre .1)
 
 same-length : tie.Need-same-length
 same-length c =
@@ -45,10 +46,14 @@ returns-2 : tie.Need-returns-2
 returns-2 c =
     let a = c .before .before .before .before .before .before .before .before .before .before .before .before .before .before .args in let ws = a .table .now in
     let k : kindAt ws (a .i) ≡ 4 = omega arith in
-    let e : references (itemAt ws (a .i) ∷ []) ≡ c .before .before .before .before .before .before .before .before .head .result ∷ c .before .before .before .tail .result ∷ [] =
-    references-pair ws (a .i) k ∙ ap₂ (λ (a b : ℕ). a ∷ b ∷ []) (sym (c .before .before .before .before .before .before .before .before .head .ensures)) (sym (c .before .before .before .tail .ensures)) in
-    subst (Counted (a .counts .now) (c .before .before .count2 .last .0)) (sym e)
-    (counted-two (a .counts .now) (c .before .before .before .before .before .before .before .count .last .0) (c .before .before .count2 .last .0) (c .before .before .before .before .before .before .before .before .head .result) (c .before .before .before .tail .result) (c .before .before .before .before .before .before .before .count .ensures) (c .before .before .count2 .ensures))
+    let head = c .before .before .before .before .before .before .before .before .head in
+    let tail = c .before .before .before .tail in
+    let first = c .before .before .before .before .before .before .before .count in
+    let second = c .before .before .count2 in
+    let e : references (itemAt ws (a .i) ∷ []) ≡ head .result ∷ tail .result ∷ [] =
+    references-pair ws (a .i) k ∙ ap₂ (λ (a b : ℕ). a ∷ b ∷ []) (sym (head .ensures)) (sym (tail .ensures)) in
+    subst (Counted (a .counts .now) (second .last .0)) (sym e)
+    (counted-two (a .counts .now) (first .last .0) (second .last .0) (head .result) (tail .result) (first .kept .0) (first .ensures) (second .ensures))
 
 pub count-item-spec : {M : Type 1} → statement M
 count-item-spec =

@@ -2,16 +2,15 @@
 use Rattle.layout.proofs.reference.count_items.Statement.{statement}
 use Rattle.layout.proofs.reference.count_items.Tie as tie
 use borrow.Author.Needs.{needs}
-use mathlib.Core.Path.{_≡_, sym, subst, _∙_}
+use mathlib.Core.Path.{_≡_, refl, subst, _∙_}
 use Prim.Native.Nat.{_≤_, _-_}
 use native.Mathlib.Omega.{arith}
 use lib.ListN.{length}
-use Rattle.words.specs.Limits.{itemsMost}
 use Rattle.layout.specs.Counts.{Counting, counting-start, counting-most, counting-more, counting-end}
 
 abbrev Inv-loop : tie.InvT-loop
 Inv-loop table n counts₀ i₀ counts i =
-    (length counts ≡ itemsMost) × (i ≤ n) × Counting table i counts
+    (length counts ≡ length counts₀) × (i ≤ n) × Counting table i counts
 
 abbrev μ-loop : tie.MeasureT-loop
 μ-loop table n counts₀ i₀ counts i =
@@ -20,12 +19,12 @@ abbrev μ-loop : tie.MeasureT-loop
 loop-holds : tie.Need-loop-holds Inv-loop μ-loop
 loop-holds c =
     let a = c .before .before .args in let ws = a .table .now in
-    (c .before .before .pre .2, omega arith, counting-start ws (a .n) (c .before .before .pre .0) (a .counts .now) (c .before .before .pre .3))
+    (refl, omega arith, counting-start ws (a .n) (c .before .before .pre .0) (a .counts .now) (c .before .before .pre .2))
 
 count-item-requires : tie.Need-count-item-requires Inv-loop μ-loop
 count-item-requires c κs =
     let a = c .before .before .before .before .before .args in let ws = a .table .now in
-    (omega arith, c .before .before .loop .inv .0, λ k h. omega (arith, counting-most ws (a .n) (c .before .before .before .before .before .pre .0) (c .before .before .loop .i) (c .before .before .loop .counts) (c .before .before .loop .inv .2) k h))
+    (omega arith, λ k h. omega (arith, counting-most ws (a .n) (c .before .before .before .before .before .pre .0) (c .before .before .loop .i) (c .before .before .loop .counts) (c .before .before .loop .inv .2) k h))
 
 add-i : tie.Need-add-i Inv-loop μ-loop
 add-i c =
@@ -37,15 +36,17 @@ loop-less c =
 
 loop-again : tie.Need-loop-again Inv-loop μ-loop
 loop-again c =
-    let a = c .before .before .before .before .before .before .before .before .args in let ws = a .table .now in (
-      c .before .before .count-item .kept .1 .1 .0 ∙ c .before .before .before .before .before .loop .inv .0,
+    let entry = c .before .before .before .before .before .before .before .before in
+    let loop = c .before .before .before .before .before .loop in
+    let item = c .before .before .count-item in (
+      item .kept .1 .1 .0 ∙ loop .inv .0,
       omega arith,
-      counting-more ws (a .n) (c .before .before .before .before .before .before .before .before .pre .0) (c .before .before .before .before .before .loop .i) (c .before .before .before .before .before .loop .counts) (c .before .before .count-item .last .1 .1 .0) (omega arith) (c .before .before .before .before .before .loop .inv .2) (c .before .before .count-item .ensures),
+      counting-more (entry .args .table .now) (entry .args .n) (entry .pre .0) (loop .i) (loop .counts) (item .last .1 .1 .0) (omega arith) (item .kept .1 .1 .0) (loop .inv .2) (item .ensures),
     )
 
 same-length : tie.Need-same-length Inv-loop μ-loop
 same-length c =
-    c .before .loop .inv .0 ∙ sym (c .before .before .before .before .pre .2)
+    c .before .loop .inv .0
 
 returns : tie.Need-returns Inv-loop μ-loop
 returns c =

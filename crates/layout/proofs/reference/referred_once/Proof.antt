@@ -1,82 +1,43 @@
--- `referred_once` answers the test of all counts. Invariant: the answer is that of the items from i on. Measure: the items left.
+-- `referred_once` lends a table of zeros with a count for each item.
+use borrow.Author.Needs.{needs}
 use Rattle.layout.proofs.reference.referred_once.Statement.{statement}
 use Rattle.layout.proofs.reference.referred_once.Tie as tie
-use borrow.Author.Needs.{needs}
-use mathlib.Core.Path.{_≡_, refl, sym, _∙_}
-use Prim.Native.Nat.{_≤_, _<_, _-_}
-use native.Mathlib.Omega.{arith}
-use lib.ListN.{drop}
-use Rattle.words.specs.Lists.{all}
-use Rattle.recipe.specs.Table.{items, references, isReferredOnce}
-use Rattle.layout.specs.ItemTests.{all-misfit, all-more, all-end}
-use Rattle.layout.specs.Counts.{most-zero, once-first, once-not, once-so}
+use Rattle.words.specs.Limits.{itemsMost}
+use Rattle.layout.specs.Counts.{most-zero}
 
-abbrev Inv-loop : tie.InvT-loop
-Inv-loop table n counts i₀ i =
-    (0 < i) × (i ≤ n) × (all (isReferredOnce (references (items 0 table))) (items 0 table) ≡ all (isReferredOnce (references (items 0 table))) (drop i (items 0 table)))
-
-abbrev μ-loop : tie.MeasureT-loop
-μ-loop table n counts i₀ i =
-    n - i
-
-slice-aggregate-count-items : tie.Need-slice-aggregate-count-items Inv-loop μ-loop
-slice-aggregate-count-items c =
+slice-aggregate-once-each : tie.Need-slice-aggregate-once-each
+slice-aggregate-once-each c =
     search needs
 
-count-items-requires : tie.Need-count-items-requires Inv-loop μ-loop
-count-items-requires c κs =
-    (c .before .before .pre .0, c .before .before .pre .2, refl, most-zero)
+once-each-requires : tie.Need-once-each-requires
+once-each-requires c κs =
+    let pre = c .before .before .before .pre in
+    (pre .0, pre .1, pre .2, c .before .if1 .taken, most-zero 512)
 
-loop-holds : tie.Need-loop-holds Inv-loop μ-loop
-loop-holds c =
-    (omega arith, omega arith, once-first (c .before .before .before .before .args .table .now) (c .before .before .before .before .args .n) (c .before .before .before .before .pre .0) (c .before .before .before .before .pre .1))
-
-mul-if1 : tie.Need-mul-if1 Inv-loop μ-loop
-mul-if1 c =
-    search needs
-
-array-read-if1 : tie.Need-array-read-if1 Inv-loop μ-loop
-array-read-if1 c =
-    search needs
-
-returns : tie.Need-returns Inv-loop μ-loop
+returns : tie.Need-returns
 returns c =
-    let a = c .before .before .before .before .before .before .before .args in let F = isReferredOnce (references (items 0 (a .table .now))) in
-    let w = once-not (a .table .now) (a .n) (c .before .before .before .before .before .before .before .pre .0) (c .before .before .before .before .count-items .last .1 .1 .0) (c .before .before .before .before .count-items .ensures) (c .before .before .loop .i) (c .before .before .loop .inv .0) (omega arith) (c .if1 .taken) in
-    sym (c .before .before .loop .inv .2 ∙ all-misfit F (a .table .now) (a .n) (c .before .before .before .before .before .before .before .pre .0) (c .before .before .loop .i) (omega arith) w)
-
-add-i : tie.Need-add-i Inv-loop μ-loop
-add-i c =
     search needs
 
-loop-less : tie.Need-loop-less Inv-loop μ-loop
-loop-less c =
+slice-aggregate-once-each-2 : tie.Need-slice-aggregate-once-each-2
+slice-aggregate-once-each-2 c =
     search needs
 
-loop-again : tie.Need-loop-again Inv-loop μ-loop
-loop-again c =
-    let a = c .before .before .before .before .before .before .before .args in let F = isReferredOnce (references (items 0 (a .table .now))) in
-    let w = once-so (a .table .now) (a .n) (c .before .before .before .before .before .before .before .pre .0) (c .before .before .before .before .count-items .last .1 .1 .0) (c .before .before .before .before .count-items .ensures) (c .before .before .loop .i) (c .before .before .loop .inv .0) (omega arith) (c .if1 .left) in
-    (omega arith, omega arith, c .before .before .loop .inv .2 ∙ all-more F (a .table .now) (a .n) (c .before .before .before .before .before .before .before .pre .0) (c .before .before .loop .i) (omega arith) w)
+once-each-requires-2 : tie.Need-once-each-requires-2
+once-each-requires-2 c κs =
+    let pre = c .before .before .before .pre in
+    (pre .0, pre .1, pre .2, pre .2, most-zero itemsMost)
 
-returns-2 : tie.Need-returns-2 Inv-loop μ-loop
+returns-2 : tie.Need-returns-2
 returns-2 c =
-    let a = c .before .before .before .before .before .before .args in let F = isReferredOnce (references (items 0 (a .table .now))) in let e : c .before .loop .i ≡ a .n = omega arith in
-    sym (c .before .loop .inv .2 ∙ rw e (all-end F (a .table .now) (a .n) (c .before .before .before .before .before .before .pre .0)))
+    search needs
 
 pub referred-once-spec : {M : Type 1} → statement M
 referred-once-spec =
     tie.close
     (tie.spec
-    Inv-loop
-    μ-loop
-    slice-aggregate-count-items
-    count-items-requires
-    loop-holds
-    mul-if1
-    array-read-if1
+    slice-aggregate-once-each
+    once-each-requires
     returns
-    add-i
-    loop-less
-    loop-again
+    slice-aggregate-once-each-2
+    once-each-requires-2
     returns-2)
