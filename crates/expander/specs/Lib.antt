@@ -3,6 +3,7 @@ pub mod LentLaws
 pub mod Cycle
 pub mod CycleLaws
 pub mod CycleCallLaws
+pub mod OperandLaws
 pub mod Service
 pub mod Start
 pub mod StartLaws

@@ -10,6 +10,7 @@ use turns::answers::Ended;
 use turns::answers::Reached;
 use turns::answers::Turn;
 use turns::dispatch;
+use turns::leaf;
 
 pub fn expression(
     items: &[u32],
@@ -57,6 +58,46 @@ pub fn expression(
     }
 }
 
+// An operand: a pair is expanded by turns; a name, a constant or an empty list is done at once.
+pub fn operand(
+    items: &[u32],
+    work: &mut [u32],
+    core: &mut [u32],
+    known: &mut [u32],
+    operations: &[u32],
+    marks: &mut [u32],
+    fuel: u32,
+    node: u32,
+    wrap: u32,
+    from: Reached,
+) -> Ended
+    requires { ⌜ (Lent (now items) (now operations) (now marks)) × (Placed (now items) (now work) (from .top) node wrap) × (Ready (now items) fuel (size (treeAt (now items) (now work) node wrap)) from (tables (now work) (now core) (now known))) ⌝ }
+    ensures { λ r. ⌜ Expands (now (items .entry)) fuel (treeAt (now (items .entry)) (now (work .entry)) node wrap) from (tables (now (work .entry)) (now (core .entry)) (now (known .entry))) (tables (now (work .exit)) (now (core .exit)) (now (known .exit))) r ⌝ }
+{
+    let kind = cells::word(work, node, cells::KIND);
+    if kind == cells::NAME {
+        return leaf::bare_name(items, work, core, operations, marks, node, wrap, from);
+    }
+    if kind == cells::PAIR {
+        return expression(
+            items,
+            work,
+            core,
+            known,
+            operations,
+            marks,
+            fuel,
+            node,
+            wrap,
+            from,
+        );
+    }
+    if kind == cells::EMPTY {
+        return leaf::refuse(13, from);
+    }
+    leaf::constant(core, kind, cells::word(work, node, cells::FIRST), from)
+}
+
 pub fn operands(
     items: &[u32],
     work: &mut [u32],
@@ -76,7 +117,7 @@ pub fn operands(
     let mut reached = from;
     while cells::word(work, list, cells::KIND) == cells::PAIR {
         let head = cells::reference(work, list, cells::HEAD);
-        let ended = expression(
+        let ended = operand(
             items,
             work,
             core,

@@ -1,19 +1,25 @@
--- The proof of the cycle {expression, operands}. The loops' invariants are Going and Walking of specs/Cycle.antt; the measure is twice
--- the items at hand and the fuel left, one more for an expression.
+-- The proof of the cycle {expression, operand, operands}. The loops' invariants are Going and Walking of specs/Cycle.antt; the measure
+-- is three times the items at hand and the fuel left, one more for an expression and two more for an operand.
 use Prim.Native.Nat.{ℕ, _<_, _+_, _*_}
 use borrow.Fn.Kinds.{In}
 use borrow.Fn.PlainCycle.{Measures, is, falls, and}
 use Rattle.expander.proofs.cycle.expression.Reads as expression
 use Rattle.expander.proofs.cycle.expression.Kinds as expression-kinds
-use Rattle.expander.proofs.cycle.+expression+operands.Lts-expression as expression-lts
+use Rattle.expander.proofs.cycle.+expression+operand+operands.Lts-expression as expression-lts
+use Rattle.expander.proofs.cycle.operand.Reads as operand
+use Rattle.expander.proofs.cycle.operand.Kinds as operand-kinds
+use Rattle.expander.proofs.cycle.+expression+operand+operands.Lts-operand as operand-lts
 use Rattle.expander.proofs.cycle.operands.Reads as operands
 use Rattle.expander.proofs.cycle.operands.Kinds as operands-kinds
-use Rattle.expander.proofs.cycle.+expression+operands.Lts-operands as operands-lts
+use Rattle.expander.proofs.cycle.+expression+operand+operands.Lts-operands as operands-lts
 use Rattle.arena.proofs.cells.reference.Reads as reference-reads
 use Rattle.arena.proofs.cells.word.Reads as word-reads
 use Rattle.turns.proofs.dispatch.turn.Reads as turn-reads
-use Rattle.expander.proofs.cycle.+expression+operands.{statement}
-use Rattle.expander.proofs.cycle.+expression+operands.Tie.{close}
+use Rattle.turns.proofs.leaf.bare_name.Reads as bare-name-reads
+use Rattle.turns.proofs.leaf.constant.Reads as constant-reads
+use Rattle.turns.proofs.leaf.refuse.Reads as refuse-reads
+use Rattle.expander.proofs.cycle.+expression+operand+operands.{statement}
+use Rattle.expander.proofs.cycle.+expression+operand+operands.Tie.{close}
 use borrow.Author.Needs.{needs}
 use native.Mathlib.Omega.{arith}
 use mathlib.Core.Path.{_≡_, refl, _∙_}
@@ -23,14 +29,19 @@ use Rattle.turns.specs.Memory.{tables}
 use Rattle.expander.specs.Cycle.{leftOf, Going, Walking}
 use Rattle.expander.specs.CycleLaws.{going-start, walking-start}
 use Rattle.expander.specs.CycleCallLaws.{lent-kept, going-ready, again-falls, again-going, spread-asks, spread-over, over-right, operands-end, operand-asks, operand-refused, next-falls, operand-walking}
+use Rattle.expander.specs.OperandLaws.{operand-room, name-expands, empty-expands, constant-asks, constant-expands}
 
 abbrev μ-expression : Measures 6 expression-kinds.ps ℕ
 μ-expression κs a =
-    2 * leftOf (a .0 .now) (a .1 .1 .1 .1 .1 .1 .0) (a .1 .0 .now) (a .1 .1 .1 .1 .1 .1 .1 .0) (a .1 .1 .1 .1 .1 .1 .1 .1 .0) (a .1 .1 .1 .1 .1 .1 .1 .1 .1 .0) + 1
+    3 * leftOf (a .0 .now) (a .1 .1 .1 .1 .1 .1 .0) (a .1 .0 .now) (a .1 .1 .1 .1 .1 .1 .1 .0) (a .1 .1 .1 .1 .1 .1 .1 .1 .0) (a .1 .1 .1 .1 .1 .1 .1 .1 .1 .0) + 1
+
+abbrev μ-operand : Measures 6 operand-kinds.ps ℕ
+μ-operand κs a =
+    3 * leftOf (a .0 .now) (a .1 .1 .1 .1 .1 .1 .0) (a .1 .0 .now) (a .1 .1 .1 .1 .1 .1 .1 .0) (a .1 .1 .1 .1 .1 .1 .1 .1 .0) (a .1 .1 .1 .1 .1 .1 .1 .1 .1 .0) + 2
 
 abbrev μ-operands : Measures 6 operands-kinds.ps ℕ
 μ-operands κs a =
-    2 * leftOf (a .0 .now) (a .1 .1 .1 .1 .1 .1 .0) (a .1 .0 .now) (a .1 .1 .1 .1 .1 .1 .1 .0) (a .1 .1 .1 .1 .1 .1 .1 .1 .0) (a .1 .1 .1 .1 .1 .1 .1 .1 .1 .0)
+    3 * leftOf (a .0 .now) (a .1 .1 .1 .1 .1 .1 .0) (a .1 .0 .now) (a .1 .1 .1 .1 .1 .1 .1 .0) (a .1 .1 .1 .1 .1 .1 .1 .1 .0) (a .1 .1 .1 .1 .1 .1 .1 .1 .1 .0)
 
 abbrev expression-at : ℕ → In 6 expression-kinds.ps
 expression-at t =
@@ -39,6 +50,12 @@ expression-at t =
 abbrev expression-below : ℕ → In 6 expression-kinds.ps
 expression-below t =
     and 6 expression-kinds.ps (falls 6 expression-kinds.ps _<_ μ-expression t) expression.Pre
+
+abbrev operand-at : ℕ → In 6 operand-kinds.ps
+operand-at t = and 6 operand-kinds.ps (is 6 operand-kinds.ps μ-operand t) operand.Pre
+
+abbrev operand-below : ℕ → In 6 operand-kinds.ps
+operand-below t = and 6 operand-kinds.ps (falls 6 operand-kinds.ps _<_ μ-operand t) operand.Pre
 
 abbrev operands-at : ℕ → In 6 operands-kinds.ps
 operands-at t = and 6 operands-kinds.ps (is 6 operands-kinds.ps μ-operands t) operands.Pre
@@ -166,6 +183,102 @@ expression-returns-2 t c =
     let after = tables (turn .last .1 .0) (turn .last .1 .1 .0) (turn .last .1 .1 .1 .0) in
     over-right (entry .args .items .now) (entry .args .fuel) _ _ _ _ _ _ _ (loop .inv .1) after (turn .result) (turn .ensures) _ (c .before .e .given .1)
 
+abbrev operand-claims : ℕ → operand-lts.Claims
+operand-claims t = (word-reads.Asked, word-reads.Learnt, bare-name-reads.Asked, bare-name-reads.Learnt, expression-below t, expression.Post, refuse-reads.Asked, refuse-reads.Learnt, constant-reads.Asked, constant-reads.Learnt)
+
+operand-word-requires : (t : ℕ) → operand-lts.Need-word-requires (operand-claims t) (operand-at t) operand.Post
+operand-word-requires t c κs =
+    search needs
+
+operand-bare-name-requires : (t : ℕ) → operand-lts.Need-bare-name-requires (operand-claims t) (operand-at t) operand.Post
+operand-bare-name-requires t c κs =
+    let entry = c .before .before .before .before .before .before .before .before .before .before .before .before in
+    let a = entry .args in
+    (entry .pre .1 .0, operand-room (a .items .now) (a .work .now) (a .core .now) (a .known .now) (a .marks .now) (a .fuel) (a .node) (a .wrap) (a .from) (entry .pre .1 .1) (entry .pre .1 .2))
+
+operand-same-length : (t : ℕ) → operand-lts.Need-same-length (operand-claims t) (operand-at t) operand.Post
+operand-same-length t c =
+    search needs
+
+operand-same-length-2 : (t : ℕ) → operand-lts.Need-same-length-2 (operand-claims t) (operand-at t) operand.Post
+operand-same-length-2 t c =
+    search needs
+
+operand-same-length-3 : (t : ℕ) → operand-lts.Need-same-length-3 (operand-claims t) (operand-at t) operand.Post
+operand-same-length-3 t c =
+    search needs
+
+operand-returns : (t : ℕ) → operand-lts.Need-returns (operand-claims t) (operand-at t) operand.Post
+operand-returns t c =
+    let entry = c .before .before .before .before .before .before .before .before .before .before .before .before .before .before .before .before .before in
+    let a = entry .args in
+    let name = c .before .before .before .before .bare-name in
+    name-expands (a .items .now) (a .work .now) (a .core .now) (a .known .now) (a .marks .now) (a .fuel) (a .node) (a .wrap) (a .from) (entry .pre .1 .1) (entry .pre .1 .2) _ (c .before .before .before .before .before .before .before .before .before .word .ensures) (c .before .before .before .before .before .before .before .before .if1 .taken) _ (name .result) (name .ensures)
+
+operand-expression-requires : (t : ℕ) → operand-lts.Need-expression-requires (operand-claims t) (operand-at t) operand.Post
+operand-expression-requires t c κs =
+    let pre = c .before .before .before .before .before .before .before .before .before .before .before .before .before .before .pre in
+    (omega (arith, pre .0), pre .1)
+
+operand-same-length-4 : (t : ℕ) → operand-lts.Need-same-length-4 (operand-claims t) (operand-at t) operand.Post
+operand-same-length-4 t c =
+    search needs
+
+operand-same-length-5 : (t : ℕ) → operand-lts.Need-same-length-5 (operand-claims t) (operand-at t) operand.Post
+operand-same-length-5 t c =
+    search needs
+
+operand-same-length-6 : (t : ℕ) → operand-lts.Need-same-length-6 (operand-claims t) (operand-at t) operand.Post
+operand-same-length-6 t c =
+    search needs
+
+operand-same-length-7 : (t : ℕ) → operand-lts.Need-same-length-7 (operand-claims t) (operand-at t) operand.Post
+operand-same-length-7 t c =
+    search needs
+
+operand-returns-2 : (t : ℕ) → operand-lts.Need-returns-2 (operand-claims t) (operand-at t) operand.Post
+operand-returns-2 t c =
+    c .before .before .before .before .before .before .before .before .expression .ensures
+
+operand-refuse-requires : (t : ℕ) → operand-lts.Need-refuse-requires (operand-claims t) (operand-at t) operand.Post
+operand-refuse-requires t c κs =
+    search needs
+
+operand-same-length-8 : (t : ℕ) → operand-lts.Need-same-length-8 (operand-claims t) (operand-at t) operand.Post
+operand-same-length-8 t c =
+    search needs
+
+operand-returns-3 : (t : ℕ) → operand-lts.Need-returns-3 (operand-claims t) (operand-at t) operand.Post
+operand-returns-3 t c =
+    let entry = c .before .before .before .before .before .before .before .before .before .before .before .before in
+    let a = entry .args in
+    empty-expands (a .items .now) (a .work .now) (a .core .now) (a .known .now) (a .marks .now) (a .fuel) (a .node) (a .wrap) (a .from) (entry .pre .1 .1) (entry .pre .1 .2) _ (c .before .before .before .before .word .ensures) (c .before .if3 .taken) _ (c .refuse .ensures)
+
+operand-word-requires-2 : (t : ℕ) → operand-lts.Need-word-requires-2 (operand-claims t) (operand-at t) operand.Post
+operand-word-requires-2 t c κs =
+    search needs
+
+operand-constant-requires : (t : ℕ) → operand-lts.Need-constant-requires (operand-claims t) (operand-at t) operand.Post
+operand-constant-requires t c κs =
+    let entry = c .before .before .before .before .before .before .before .before .before .before .before .before .before .before in
+    let a = entry .args in
+    constant-asks (a .items .now) (a .work .now) (a .core .now) (a .known .now) (a .marks .now) (a .fuel) (a .node) (a .wrap) (a .from) (entry .pre .1 .1) (entry .pre .1 .2) _ (c .before .before .before .before .before .before .word .ensures) (c .before .before .before .if3 .left) (c .before .before .before .before .before .if1 .left) (c .before .before .before .before .if2 .left) _ (c .word2 .ensures)
+
+operand-same-length-9 : (t : ℕ) → operand-lts.Need-same-length-9 (operand-claims t) (operand-at t) operand.Post
+operand-same-length-9 t c =
+    search needs
+
+operand-same-length-10 : (t : ℕ) → operand-lts.Need-same-length-10 (operand-claims t) (operand-at t) operand.Post
+operand-same-length-10 t c =
+    search needs
+
+operand-returns-4 : (t : ℕ) → operand-lts.Need-returns-4 (operand-claims t) (operand-at t) operand.Post
+operand-returns-4 t c =
+    let entry = c .before .before .before .before .before .before .before .before .before .before .before .before .before .before .before .before .before in
+    let a = entry .args in
+    let constant = c .before .before .constant in
+    constant-expands (a .items .now) (a .work .now) (a .core .now) (a .known .now) (a .marks .now) (a .fuel) (a .node) (a .wrap) (a .from) (entry .pre .1 .1) (entry .pre .1 .2) _ (c .before .before .before .before .before .before .before .before .before .word .ensures) (c .before .before .before .before .before .before .if3 .left) (c .before .before .before .before .before .before .before .before .if1 .left) (c .before .before .before .before .before .before .before .if2 .left) _ (c .before .before .before .word2 .ensures) _ (constant .result) (constant .ensures)
+
 abbrev operands-Inv-loop : operands-lts.InvT-loop
 operands-Inv-loop items work₀ core₀ known₀ operations marks₀ fuel first wrap list₀ reached₀ work core known marks list reached =
     (length marks ≡ length marks₀) × Walking items fuel (treeAt items work₀ first wrap) reached₀ (tables work₀ core₀ known₀) list wrap reached (tables work core known)
@@ -175,7 +288,7 @@ operands-μ-loop items work₀ core₀ known₀ operations marks₀ fuel first w
     list
 
 abbrev operands-claims : ℕ → operands-lts.Claims
-operands-claims t = (word-reads.Asked, word-reads.Learnt, reference-reads.Asked, reference-reads.Learnt, expression-below t, expression.Post)
+operands-claims t = (word-reads.Asked, word-reads.Learnt, reference-reads.Asked, reference-reads.Learnt, operand-below t, operand.Post)
 
 operands-loop-holds : (t : ℕ) → operands-lts.Need-loop-holds (operands-claims t) (operands-at t) operands.Post operands-Inv-loop operands-μ-loop
 operands-loop-holds t c =
@@ -190,8 +303,8 @@ operands-reference-requires : (t : ℕ) → operands-lts.Need-reference-requires
 operands-reference-requires t c κs =
     search needs
 
-operands-expression-requires : (t : ℕ) → operands-lts.Need-expression-requires (operands-claims t) (operands-at t) operands.Post operands-Inv-loop operands-μ-loop
-operands-expression-requires t c κs =
+operands-operand-requires : (t : ℕ) → operands-lts.Need-operand-requires (operands-claims t) (operands-at t) operands.Post operands-Inv-loop operands-μ-loop
+operands-operand-requires t c κs =
     let entry = c .before .before .before .before .before .before .before .before .before .before .before .before .before .before .before .before in
     let loop = c .before .before .before .before .before .before .before .before .before .loop in
     let word = c .before .before .before .before .before .before .before .word in
@@ -229,9 +342,9 @@ operands-returns t c =
     let loop = c .before .before .before .before .before .before .before .before .before .before .before .before .before .before .before .before .before .before .before .before .loop in
     let word = c .before .before .before .before .before .before .before .before .before .before .before .before .before .before .before .before .before .before .word in
     let head = c .before .before .before .before .before .before .before .before .before .before .before .before .before .before .before .reference in
-    let expression = c .before .before .before .before .before .before .before .before .before .before .expression in
-    let after = tables (expression .last .1 .0) (expression .last .1 .1 .0) (expression .last .1 .1 .1 .0) in
-    operand-refused (entry .args .items .now) (entry .args .fuel) _ _ _ _ _ _ _ (loop .inv .1) (entry .pre .1 .2) _ (word .ensures) (c .before .before .before .before .before .before .before .before .before .before .before .before .before .before .before .before .before .if1 .taken) _ (head .ensures) after (expression .result) (expression .ensures) _ _ _ (c .enum-told .given .1)
+    let operand = c .before .before .before .before .before .before .before .before .before .before .operand in
+    let after = tables (operand .last .1 .0) (operand .last .1 .1 .0) (operand .last .1 .1 .1 .0) in
+    operand-refused (entry .args .items .now) (entry .args .fuel) _ _ _ _ _ _ _ (loop .inv .1) (entry .pre .1 .2) _ (word .ensures) (c .before .before .before .before .before .before .before .before .before .before .before .before .before .before .before .before .before .if1 .taken) _ (head .ensures) after (operand .result) (operand .ensures) _ _ _ (c .enum-told .given .1)
 
 operands-reference-requires-2 : (t : ℕ) → operands-lts.Need-reference-requires-2 (operands-claims t) (operands-at t) operands.Post operands-Inv-loop operands-μ-loop
 operands-reference-requires-2 t c κs =
@@ -243,10 +356,10 @@ operands-loop-less t c =
     let loop = c .before .before .before .before .before .before .before .before .before .before .before .before .before .before .before .before .before .before .before .before .before .before .before .loop in
     let word = c .before .before .before .before .before .before .before .before .before .before .before .before .before .before .before .before .before .before .before .before .before .word in
     let head = c .before .before .before .before .before .before .before .before .before .before .before .before .before .before .before .before .before .before .reference in
-    let expression = c .before .before .before .before .before .before .before .before .before .before .before .before .before .expression in
-    let after = tables (expression .last .1 .0) (expression .last .1 .1 .0) (expression .last .1 .1 .1 .0) in
+    let operand = c .before .before .before .before .before .before .before .before .before .before .before .before .before .operand in
+    let after = tables (operand .last .1 .0) (operand .last .1 .1 .0) (operand .last .1 .1 .1 .0) in
     let tail = c .reference2 in
-    next-falls (entry .args .items .now) (entry .args .fuel) _ _ _ _ _ _ _ (loop .inv .1) (entry .pre .1 .2) _ (word .ensures) (c .before .before .before .before .before .before .before .before .before .before .before .before .before .before .before .before .before .before .before .before .if1 .taken) _ (head .ensures) after (expression .result) (expression .ensures) _ (c .before .before .before .ended .given .1) _ (tail .ensures)
+    next-falls (entry .args .items .now) (entry .args .fuel) _ _ _ _ _ _ _ (loop .inv .1) (entry .pre .1 .2) _ (word .ensures) (c .before .before .before .before .before .before .before .before .before .before .before .before .before .before .before .before .before .before .before .before .if1 .taken) _ (head .ensures) after (operand .result) (operand .ensures) _ (c .before .before .before .ended .given .1) _ (tail .ensures)
 
 operands-loop-again : (t : ℕ) → operands-lts.Need-loop-again (operands-claims t) (operands-at t) operands.Post operands-Inv-loop operands-μ-loop
 operands-loop-again t c =
@@ -254,10 +367,10 @@ operands-loop-again t c =
     let loop = c .before .before .before .before .before .before .before .before .before .before .before .before .before .before .before .before .before .before .before .before .before .before .before .loop in
     let word = c .before .before .before .before .before .before .before .before .before .before .before .before .before .before .before .before .before .before .before .before .before .word in
     let head = c .before .before .before .before .before .before .before .before .before .before .before .before .before .before .before .before .before .before .reference in
-    let expression = c .before .before .before .before .before .before .before .before .before .before .before .before .before .expression in
-    let after = tables (expression .last .1 .0) (expression .last .1 .1 .0) (expression .last .1 .1 .1 .0) in
+    let operand = c .before .before .before .before .before .before .before .before .before .before .before .before .before .operand in
+    let after = tables (operand .last .1 .0) (operand .last .1 .1 .0) (operand .last .1 .1 .1 .0) in
     let tail = c .reference2 in
-    (expression .kept .1 .1 .1 .1 .1 .0 ∙ loop .inv .0, operand-walking (entry .args .items .now) (entry .args .fuel) _ _ _ _ _ _ _ (loop .inv .1) (entry .pre .1 .2) _ (word .ensures) (c .before .before .before .before .before .before .before .before .before .before .before .before .before .before .before .before .before .before .before .before .if1 .taken) _ (head .ensures) after (expression .result) (expression .ensures) _ (c .before .before .before .ended .given .1) _ (tail .ensures))
+    (operand .kept .1 .1 .1 .1 .1 .0 ∙ loop .inv .0, operand-walking (entry .args .items .now) (entry .args .fuel) _ _ _ _ _ _ _ (loop .inv .1) (entry .pre .1 .2) _ (word .ensures) (c .before .before .before .before .before .before .before .before .before .before .before .before .before .before .before .before .before .before .before .before .if1 .taken) _ (head .ensures) after (operand .result) (operand .ensures) _ (c .before .before .before .ended .given .1) _ (tail .ensures))
 
 operands-same-length-5 : (t : ℕ) → operands-lts.Need-same-length-5 (operands-claims t) (operands-at t) operands.Post operands-Inv-loop operands-μ-loop
 operands-same-length-5 t c =
@@ -282,8 +395,8 @@ operands-returns-2 t c =
     let word = c .before .word in
     operands-end (entry .args .items .now) (entry .args .fuel) _ _ _ _ _ _ _ (loop .inv .1) (entry .pre .1 .2) _ (word .ensures) (c .if1 .left)
 
-pub +expression+operands-spec : {M : Type 1} → statement M
-+expression+operands-spec = close μ-expression μ-operands (λ t. expression-lts.spec (expression-claims t)
+pub +expression+operand+operands-spec : {M : Type 1} → statement M
++expression+operand+operands-spec = close μ-expression μ-operand μ-operands (λ t. expression-lts.spec (expression-claims t)
     (expression-at t)
     expression.Post
     expression-Inv-loop
@@ -306,6 +419,29 @@ pub +expression+operands-spec : {M : Type 1} → statement M
     (expression-same-length-7 t)
     (expression-same-length-8 t)
     (expression-returns-2 t))
+    (λ t. operand-lts.spec (operand-claims t)
+    (operand-at t)
+    operand.Post
+    (operand-word-requires t)
+    (operand-bare-name-requires t)
+    (operand-same-length t)
+    (operand-same-length-2 t)
+    (operand-same-length-3 t)
+    (operand-returns t)
+    (operand-expression-requires t)
+    (operand-same-length-4 t)
+    (operand-same-length-5 t)
+    (operand-same-length-6 t)
+    (operand-same-length-7 t)
+    (operand-returns-2 t)
+    (operand-refuse-requires t)
+    (operand-same-length-8 t)
+    (operand-returns-3 t)
+    (operand-word-requires-2 t)
+    (operand-constant-requires t)
+    (operand-same-length-9 t)
+    (operand-same-length-10 t)
+    (operand-returns-4 t))
     λ t. operands-lts.spec (operands-claims t)
     (operands-at t)
     operands.Post
@@ -314,7 +450,7 @@ pub +expression+operands-spec : {M : Type 1} → statement M
     (operands-loop-holds t)
     (operands-word-requires t)
     (operands-reference-requires t)
-    (operands-expression-requires t)
+    (operands-operand-requires t)
     (operands-enum-known-ended t)
     (operands-enum-told t)
     (operands-same-length t)
