@@ -69,6 +69,10 @@ module _ (items work core operations : List ℕ) (fuel : ℕ) (l : Lends items w
   pub start-fits : length items ≤ length work
   start-fits = omega (arith, l .begun .work-room, isLayout-parts items (l .begun .layout) .words)
 
+  -- the items and the fuel are at most the limits' sum
+  pub start-most : itemCount items + fuel ≤ itemsMost + fuelMost
+  start-most = omega (arith, isLayout-parts items (l .begun .layout) .count .1, l .begun .fuelled)
+
   module _ (work′ : List ℕ) (top body : ℕ) (laid : LaidOut items work′ top) (second : Means work′ top body (element 1)) where
     start-tree : treeAt items work′ body 0 ≡ element 1 (treeOf items)
     start-tree = second .is items 0 ∙ ap (element 1) (laid .means)
@@ -84,7 +88,7 @@ module _ (items work core operations : List ℕ) (fuel : ℕ) (l : Lends items w
           proper = rw start-tree (tidy-element 1 (tidy-weaken (λ x p. tt) (treeOf-tidy items (l .begun .layout))));
         }
 
-    pub start-ready : (macros : List ℕ) → length work′ ≡ length work → itemsMost + fuelMost ≤ macroItems * length macros → Ready items fuel (size (treeAt items work′ body 0)) (atStart top) (tables work′ core macros)
+    pub start-ready : (macros : List ℕ) → length work′ ≡ length work → itemCount items + fuel ≤ macroItems * length macros → Ready items fuel (size (treeAt items work′ body 0)) (atStart top) (tables work′ core macros)
     unfolding atStart workNeed coreNeed variableNeed macroNeed macrosAt
     start-ready macros long h =
         let parts = isLayout-parts items (l .begun .layout) in

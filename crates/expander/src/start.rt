@@ -1,32 +1,41 @@
 // The start: the arena of an item table, and the expansion of its recipe's expression.
 
-ghost use Rattle.recipe.specs.Table.{treeOf};
+ghost use Prim.Native.Nat.{_+_, _*_, _≤_, _<_};
+ghost use lib.ListN.{length};
+ghost use Rattle.recipe.specs.Table.{itemCount, treeOf};
 ghost use Rattle.expansion.specs.Run.{ended, expandRecipe};
+ghost use Rattle.arena.specs.Arena.{markLimit};
+ghost use Rattle.turns.specs.Memory.{macroItems};
 ghost use Rattle.expander.specs.Start.{Lends, Expanded};
 use crate::cycle;
 use arena::lists;
 use turns::answers::Ended;
 use turns::answers::Reached;
 
-// A word for each macro, which takes at least six of at most 4,096 items and a fuel of 8,192; and three for each of 512 marks in
-// hand, since names with more are looked at in a table of their own.
+// A macro takes at least six items, and an expansion has at most its table's and one for each unit of fuel.
+const MACRO_ITEMS: usize = 6;
+
+// A word for each macro: of most recipes, and of 4,096 items with a fuel of 8,192.
+const FEW_MACROS: usize = 128;
+
 const MACRO_WORDS: usize = 2048;
 
+// Three words for each of 512 marks in hand, since names with more are looked at in a table of their own.
 const MARK_WORDS: usize = 1537;
 
-// Past the tests of grounds 7 to 10: the run of the recipe, its term's words from the core table's start.
-pub fn expand_recipe(
+// The run of the recipe, with tables for its macros and for marks in hand.
+fn run(
     items: &[u32],
     work: &mut [u32],
     core: &mut [u32],
+    known: &mut [u32],
     operations: &[u32],
+    marks: &mut [u32],
     fuel: u32,
 ) -> Ended
-    requires { ⌜ Lends (now items) (now work) (now core) (now operations) fuel ⌝ }
+    requires { ⌜ (Lends (now items) (now work) (now core) (now operations) fuel) × (itemCount (now items) + fuel ≤ macroItems * length (now known)) × (3 * markLimit < length (now marks)) ⌝ }
     ensures { λ r. ⌜ Expanded (ended (expandRecipe fuel (treeOf (now (items .entry))))) (now (core .exit)) r ⌝ }
 {
-    let mut known = [0u32; MACRO_WORDS];
-    let mut marks = [0u32; MARK_WORDS];
     let top = arena::item_nodes::lay_out(items, work);
     let body = lists::element(work, top, 1);
     let from = Reached {
@@ -41,12 +50,32 @@ pub fn expand_recipe(
         items,
         work,
         core,
-        &mut known,
+        known,
         operations,
-        &mut marks,
+        marks,
         fuel,
         body,
         0,
         from,
     )
+}
+
+// Past the tests of grounds 7 to 10: the run of the recipe, its term's words from the core table's start.
+pub fn expand_recipe(
+    items: &[u32],
+    work: &mut [u32],
+    core: &mut [u32],
+    operations: &[u32],
+    fuel: u32,
+) -> Ended
+    requires { ⌜ Lends (now items) (now work) (now core) (now operations) fuel ⌝ }
+    ensures { λ r. ⌜ Expanded (ended (expandRecipe fuel (treeOf (now (items .entry))))) (now (core .exit)) r ⌝ }
+{
+    let mut marks = [0u32; MARK_WORDS];
+    if items.len() / 3 + fuel as usize <= MACRO_ITEMS * FEW_MACROS {
+        let mut few = [0u32; FEW_MACROS];
+        return run(items, work, core, &mut few, operations, &mut marks, fuel);
+    }
+    let mut known = [0u32; MACRO_WORDS];
+    run(items, work, core, &mut known, operations, &mut marks, fuel)
 }

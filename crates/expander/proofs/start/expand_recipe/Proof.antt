@@ -1,39 +1,31 @@
--- `start::expand_recipe`: the arena, then the cycle from the start.
+-- `start::expand_recipe` lends the run a table with a word for each macro that its items and its fuel allow.
 use borrow.Author.Needs.{needs}
 use Rattle.expander.proofs.start.expand_recipe.Statement.{statement}
 use Rattle.expander.proofs.start.expand_recipe.Tie as tie
 use native.Mathlib.Omega.{arith}
-use Rattle.expander.specs.Start.{atStart}
-use Rattle.expander.specs.StartLaws.{start-fits, start-lent, start-placed, start-ready, start-expanded}
+use Rattle.recipe.specs.Table.{itemCount}
+use Rattle.expander.specs.StartLaws.{start-most}
 
-lay-out-requires : tie.Need-lay-out-requires
-lay-out-requires c κs =
-    let a = c .before .before .before .before .before .args in
-    (c .before .before .before .before .before .pre .begun .layout, start-fits (a .items .now) (a .work .now) (a .core .now) (a .operations .now) (a .fuel) (c .before .before .before .before .before .pre))
-
-element-requires : tie.Need-element-requires
-element-requires c κs =
+add-if1 : tie.Need-add-if1
+add-if1 c =
     search needs
 
-slice-aggregate-expression : tie.Need-slice-aggregate-expression
-slice-aggregate-expression c =
+mul-if1 : tie.Need-mul-if1
+mul-if1 c =
     search needs
 
-slice-aggregate-expression-2 : tie.Need-slice-aggregate-expression-2
-slice-aggregate-expression-2 c =
+slice-aggregate-run : tie.Need-slice-aggregate-run
+slice-aggregate-run c =
     search needs
 
-expression-requires : tie.Need-expression-requires
-unfolding atStart
-expression-requires c κs =
-    let a = c .before .before .before .before .before .before .before .before .before .before .before .before .before .before .args in
-    let l = c .before .before .before .before .before .before .before .before .before .before .before .before .before .before .pre in
-    let laid = c .before .before .before .before .before .before .before .before .lay-out .ensures in
-    let second = c .before .before .before .before .element .ensures in (
-      start-lent (a .items .now) (a .work .now) (a .core .now) (a .operations .now) (a .fuel) l _ (omega arith),
-      start-placed (a .items .now) (a .work .now) (a .core .now) (a .operations .now) (a .fuel) l _ _ _ laid second,
-      start-ready (a .items .now) (a .work .now) (a .core .now) (a .operations .now) (a .fuel) l _ _ _ laid second _ (c .before .before .before .before .before .before .before .before .lay-out .kept .1 .0) (omega arith),
-    )
+slice-aggregate-run-2 : tie.Need-slice-aggregate-run-2
+slice-aggregate-run-2 c =
+    search needs
+
+run-requires : tie.Need-run-requires
+unfolding itemCount
+run-requires c κs =
+    (c .before .before .before .before .before .before .before .before .before .pre, omega (arith, c .before .before .before .before .if1 .taken), omega arith)
 
 same-length : tie.Need-same-length
 same-length c =
@@ -44,20 +36,50 @@ same-length-2 c =
     search needs
 
 returns : tie.Need-returns
-unfolding atStart
 returns c =
-    let a = c .before .before .before .before .before .before .before .before .before .before .before .before .before .before .before .before .before .before .before .before .before .args in
-    start-expanded (a .items .now) (a .work .now) (a .core .now) (a .operations .now) (a .fuel) (c .before .before .before .before .before .before .before .before .before .before .before .before .before .before .before .before .before .before .before .before .before .pre) _ _ _ (c .before .before .before .before .before .before .before .before .before .before .before .before .before .before .before .lay-out .ensures) (c .before .before .before .before .before .before .before .before .before .before .before .element .ensures) _ _ _ (c .before .before .before .before .before .before .expression .ensures)
+    search needs
+
+slice-aggregate-run-3 : tie.Need-slice-aggregate-run-3
+slice-aggregate-run-3 c =
+    search needs
+
+slice-aggregate-run-4 : tie.Need-slice-aggregate-run-4
+slice-aggregate-run-4 c =
+    search needs
+
+run-requires-2 : tie.Need-run-requires-2
+run-requires-2 c κs =
+    let entry = c .before .before .before .before .before .before .before .before .before in
+    let a = entry .args in
+    (entry .pre, omega (arith, start-most (a .items .now) (a .work .now) (a .core .now) (a .operations .now) (a .fuel) (entry .pre)), omega arith)
+
+same-length-3 : tie.Need-same-length-3
+same-length-3 c =
+    search needs
+
+same-length-4 : tie.Need-same-length-4
+same-length-4 c =
+    search needs
+
+returns-2 : tie.Need-returns-2
+returns-2 c =
+    search needs
 
 pub expand-recipe-spec : {M : Type 1} → statement M
 expand-recipe-spec =
     tie.close
     (tie.spec
-    lay-out-requires
-    element-requires
-    slice-aggregate-expression
-    slice-aggregate-expression-2
-    expression-requires
+    add-if1
+    mul-if1
+    slice-aggregate-run
+    slice-aggregate-run-2
+    run-requires
     same-length
     same-length-2
-    returns)
+    returns
+    slice-aggregate-run-3
+    slice-aggregate-run-4
+    run-requires-2
+    same-length-3
+    same-length-4
+    returns-2)
