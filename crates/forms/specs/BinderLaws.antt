@@ -86,9 +86,9 @@ pub among-first : (x y : Name) (xs ys : List Name) (r : Bool) → xs ≡ y ∷ y
 unfolding any
 among-first x y xs ys r e s t = rw (e, sym s ∙ t)
 
-pub among-later : (x y : Name) (xs ys : List Name) (r q : Bool) → xs ≡ y ∷ ys → r ≡ same x y → r ≡ false → q ≡ any (same x) ys → q ≡ any (same x) xs
+pub among-later : (x y : Name) (xs ys : List Name) (r : Bool) → xs ≡ y ∷ ys → r ≡ same x y → r ≡ false → any (same x) xs ≡ any (same x) ys
 unfolding any
-among-later x y xs ys r q e s t h = h ∙ rw (e, sym s ∙ t)
+among-later x y xs ys r e s t = rw (e, ← s, t) refl
 
 pub distinct-none : (xs : List Name) → xs ≡ [] → true ≡ distinct xs
 unfolding distinct

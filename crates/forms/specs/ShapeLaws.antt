@@ -4,7 +4,7 @@ use mathlib.Core.Bool.{Bool, true, false, _&&_, and-false}
 use mathlib.Core.List.{List}
 use Prim.Native.Nat.{ℕ, zero, suc, _-_}
 use native.Mathlib.Omega.{arith}
-use lib.Dec.{leb·zero, leb·suc-zero, leb·suc-suc}
+use lib.Dec.{leb, leb·zero, leb·suc-zero, leb·suc-suc}
 use lib.ListN.{length}
 use borrow.Author.Tests.{le-leb}
 use Rattle.words.specs.Lists.{within, all}
@@ -44,29 +44,41 @@ one-formal items work node macros r e h = rw e h
 
 -- ---- all of a list
 
-module _ (items work : List ℕ) (node kind : ℕ) (kind-is : kind ≡ wordAt work node 3) (macros : Bool) where
-  pub all-none : (most : ℕ) → (kind ≡ 4 → ⊥) → TestsIn (bindsAll macros most) items work node true
-  unfolding bindsAll elements all
-  all-none most other = no-pair work node kind kind-is (λ t. true ≡ bindsAll macros most t) (sym (leb·zero most)) (λ x. sym (leb·zero most)) (λ a. sym (leb·zero most)) other items
+-- all of the list bind, at most so many, where all of the node do, at most as many as are left
+abbrev pub AllLeft : (items work : List ℕ) (macros : Bool) (list most node left : ℕ) → Type 0
+AllLeft items work macros list most node left = (w : ℕ) → bindsAll macros most (treeAt items work list w) ≡ bindsAll macros left (treeAt items work node w)
 
-  pub all-over : (most : ℕ) → kind ≡ 4 → most ≡ 0 → TestsIn (bindsAll macros most) items work node false
-  unfolding bindsAll elements
-  all-over most p z w =
-      rw (a-pair work node kind kind-is p items w, z, leb·suc-zero (length (elements (treeAt items work (referenceAt work node 1) w))))
-      (sym (and-false (all (bindsOne macros) (elements (pair (treeAt items work (referenceAt work node 2) w) (treeAt items work (referenceAt work node 1) w))))))
-
-  pub all-first : (most first : ℕ) (r : Bool) → kind ≡ 4 → first ≡ referenceAt work node 2 → TestsIn (bindsOne macros) items work first r → r ≡ false → TestsIn (bindsAll macros most) items work node false
+module _ (items work : List ℕ) (macros : Bool) (list most node left : ℕ) (inv : AllLeft items work macros list most node left) (kind : ℕ) (kind-is : kind ≡ wordAt work node 3) where
+  pub all-none : (kind ≡ 4 → ⊥) → TestsIn (bindsAll macros most) items work list true
   unfolding bindsAll elements all
-  all-first most first r p q h e w = rw (a-pair work node kind kind-is p items w, sym q, sym (h w) ∙ e)
+  all-none other w =
+      let none : true ≡ leb 0 left = sym (leb·zero left) in
+      no-pair work node kind kind-is (λ t. true ≡ bindsAll macros left t) none (λ x. none) (λ a. none) other items w ∙ sym (inv w)
 
-  pub all-later : (most first rest : ℕ) (r s : Bool) → kind ≡ 4 → (most ≡ 0 → ⊥) → first ≡ referenceAt work node 2 → TestsIn (bindsOne macros) items work first r → r ≡ true → rest ≡ referenceAt work node 1 → TestsIn (bindsAll macros (most - 1)) items work rest s
-      → TestsIn (bindsAll macros most) items work node s
-  unfolding bindsAll elements all
-  all-later zero first rest r s p z q h e l g = λ w. absurd (z refl)
-  all-later (suc most) first rest r s p z q h e l g =
-      λ w.
-      let d : suc most - 1 ≡ most = omega arith in
-      g w ∙ rw (d, a-pair work node kind kind-is p items w, sym q, sym (h w) ∙ e, l) (ap (λ (b : Bool). all (bindsOne macros) (elements (treeAt items work (referenceAt work node 1) w)) && b) (sym (leb·suc-suc (length (elements (treeAt items work (referenceAt work node 1) w))) most)))
+  module _ (a-list : kind ≡ 4) where
+    pub all-over : left ≡ 0 → TestsIn (bindsAll macros most) items work list false
+    unfolding bindsAll elements
+    all-over z w =
+        let h = treeAt items work (referenceAt work node 2) w in
+        let t = treeAt items work (referenceAt work node 1) w in
+        sym (inv w ∙ rw (a-pair work node kind kind-is a-list items w, z, leb·suc-zero (length (elements t))) (and-false (all (bindsOne macros) (elements (pair h t)))))
+
+    module _ (first : ℕ) (r : Bool) (first-is : first ≡ referenceAt work node 2) (binds : TestsIn (bindsOne macros) items work first r) where
+      pub all-first : r ≡ false → TestsIn (bindsAll macros most) items work list false
+      unfolding bindsAll elements all
+      all-first e w = sym (inv w ∙ rw (a-pair work node kind kind-is a-list items w, ← first-is, ← binds w, e) refl)
+
+      pub all-later : (rest : ℕ) → r ≡ true → (left ≡ 0 → ⊥) → rest ≡ referenceAt work node 1 → AllLeft items work macros list most rest (left - 1)
+      unfolding bindsAll elements all
+      all-later rest e z l w =
+          let n : ℕ = length (elements (treeAt items work rest w)) in
+          inv w ∙ rw (a-pair work node kind kind-is a-list items w, ← first-is, ← binds w, e, ← l) (ap (λ (b : Bool). all (bindsOne macros) (elements (treeAt items work rest w)) && b) (one-less n left z))
+        where
+          one-less : (n k : ℕ) → (k ≡ 0 → ⊥) → leb (suc n) k ≡ leb n (k - 1)
+          one-less n zero h = absurd (h refl)
+          one-less n (suc k) h =
+              let d : suc k - 1 ≡ k = omega arith in
+              rw d (leb·suc-suc n k)
 
 -- ---- forms
 

@@ -30,16 +30,16 @@ pub fn is_among(
     requires { ⌜ (3 * markLimit < length (now table)) × (AllNames macros (treeAt (now items) (now work) list w)) ⌝ }
     ensures { λ r. ⌜ r ≡ any (same (nameAt (now (items .entry)) (now (work .entry)) node w)) (namesIn macros (treeAt (now (items .entry)) (now (work .entry)) list w)) ⌝ }
 {
-    if cells::word(work, list, 3) != cells::PAIR {
-        return false;
+    let mut at = list;
+    while cells::word(work, at, 3) == cells::PAIR {
+        let first = cells::reference(work, at, 2);
+        let own = shapes::own_name(work, first, macros);
+        if names::same_names(items, work, table, node, w, own, w) {
+            return true;
+        }
+        at = cells::reference(work, at, 1);
     }
-    let first = cells::reference(work, list, 2);
-    let own = shapes::own_name(work, first, macros);
-    if names::same_names(items, work, table, node, w, own, w) {
-        return true;
-    }
-    let rest = cells::reference(work, list, 1);
-    is_among(items, work, table, node, rest, w, macros)
+    false
 }
 
 // Whether no two of the names that a list binds are the same.

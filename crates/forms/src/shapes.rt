@@ -46,18 +46,20 @@ pub fn binds_one(items: &[u32], work: &[u32], node: u32, macros: bool) -> bool
 pub fn binds_all(items: &[u32], work: &[u32], list: u32, macros: bool, most: u32) -> bool
     ensures { λ r. ⌜ TestsIn (bindsAll macros most) (now (items .entry)) (now (work .entry)) list r ⌝ }
 {
-    if cells::word(work, list, 3) != cells::PAIR {
-        return true;
+    let mut node = list;
+    let mut left = most;
+    while cells::word(work, node, 3) == cells::PAIR {
+        if left == 0 {
+            return false;
+        }
+        let first = cells::reference(work, node, 2);
+        if !binds_one(items, work, first, macros) {
+            return false;
+        }
+        node = cells::reference(work, node, 1);
+        left -= 1;
     }
-    if most == 0 {
-        return false;
-    }
-    let first = cells::reference(work, list, 2);
-    if !binds_one(items, work, first, macros) {
-        return false;
-    }
-    let rest = cells::reference(work, list, 1);
-    binds_all(items, work, rest, macros, most - 1)
+    true
 }
 
 // (lambda (name ...) body)

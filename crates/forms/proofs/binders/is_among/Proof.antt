@@ -1,0 +1,99 @@
+-- `binders::is_among`: a name is among those of the list where it is among those of the node.
+use Rattle.forms.proofs.binders.is_among.Statement.{statement}
+use Rattle.forms.proofs.binders.is_among.Tie as tie
+use borrow.Author.Needs.{needs}
+use native.Mathlib.Omega.{arith}
+use mathlib.Core.Path.{_≡_, refl, sym, _∙_}
+use lib.ListN.{length}
+use Rattle.words.specs.Lists.{any}
+use Rattle.recipe.specs.Name.{same}
+use Rattle.arena.specs.Arena.{nameAt, treeAt}
+use Rattle.forms.specs.Binders.{AllNames, namesIn}
+use Rattle.forms.specs.BinderLaws.{opened, names-none, among-none, among-first, among-later}
+
+abbrev Inv-loop : tie.InvT-loop
+Inv-loop items work table₀ node list w macros at₀ table at =
+    (length table ≡ length table₀)
+    × (AllNames macros (treeAt items work at w))
+    × (any (same (nameAt items work node w)) (namesIn macros (treeAt items work list w)) ≡ any (same (nameAt items work node w)) (namesIn macros (treeAt items work at w)))
+
+abbrev μ-loop : tie.MeasureT-loop
+μ-loop items work table₀ node list w macros at₀ table at =
+    at
+
+loop-holds : tie.Need-loop-holds Inv-loop μ-loop
+loop-holds c =
+    (refl, c .before .before .before .pre .1, refl)
+
+word-requires : tie.Need-word-requires Inv-loop μ-loop
+word-requires c κs =
+    search needs
+
+reference-requires : tie.Need-reference-requires Inv-loop μ-loop
+reference-requires c κs =
+    search needs
+
+own-name-requires : tie.Need-own-name-requires Inv-loop μ-loop
+own-name-requires c κs =
+    search needs
+
+same-names-requires : tie.Need-same-names-requires Inv-loop μ-loop
+same-names-requires c κs =
+    omega (arith, c .before .before .before .before .before .before .before .before .before .pre .0, c .before .before .before .before .before .loop .inv .0)
+
+same-length : tie.Need-same-length Inv-loop μ-loop
+same-length c =
+    c .before .before .before .same-names .kept .1 .1 .0 ∙ c .before .before .before .before .before .before .before .before .before .loop .inv .0
+
+returns : tie.Need-returns Inv-loop μ-loop
+returns c =
+    let a = c .before .before .before .before .before .before .before .before .before .before .before .before .before .args in
+    let loop = c .before .before .before .before .before .before .before .before .before .loop in
+    let o = opened (a .items .now) (a .work .now) (loop .at) _ (c .before .before .before .before .before .before .before .before .word .ensures) (a .w) (a .macros) (c .before .before .before .before .before .before .before .if1 .taken) (loop .inv .1) _ _ _ (c .before .before .before .before .before .before .reference .ensures) (c .before .before .before .before .before .own-name .ensures) refl in
+    among-first _ _ _ _ _ (o .names-are) (c .before .before .before .same-names .ensures) (c .if2 .taken) ∙ sym (loop .inv .2)
+
+reference-requires-2 : tie.Need-reference-requires-2 Inv-loop μ-loop
+reference-requires-2 c κs =
+    search needs
+
+loop-less : tie.Need-loop-less Inv-loop μ-loop
+loop-less c =
+    let a = c .before .before .before .before .before .before .before .before .before .before .before .before .before .before .args in
+    let loop = c .before .before .before .before .before .before .before .before .before .before .loop in
+    opened (a .items .now) (a .work .now) (loop .at) _ (c .before .before .before .before .before .before .before .before .before .word .ensures) (a .w) (a .macros) (c .before .before .before .before .before .before .before .before .if1 .taken) (loop .inv .1) _ _ _ (c .before .before .before .before .before .before .before .reference .ensures) (c .before .before .before .before .before .before .own-name .ensures) (c .reference2 .ensures) .rest-low
+
+loop-again : tie.Need-loop-again Inv-loop μ-loop
+loop-again c =
+    let a = c .before .before .before .before .before .before .before .before .before .before .before .before .before .before .args in
+    let loop = c .before .before .before .before .before .before .before .before .before .before .loop in
+    let o = opened (a .items .now) (a .work .now) (loop .at) _ (c .before .before .before .before .before .before .before .before .before .word .ensures) (a .w) (a .macros) (c .before .before .before .before .before .before .before .before .if1 .taken) (loop .inv .1) _ _ _ (c .before .before .before .before .before .before .before .reference .ensures) (c .before .before .before .before .before .before .own-name .ensures) (c .reference2 .ensures) in
+    (c .before .before .before .before .same-names .kept .1 .1 .0 ∙ loop .inv .0, o .ordinary, loop .inv .2 ∙ among-later _ _ _ _ _ (o .names-are) (c .before .before .before .before .same-names .ensures) (c .before .if2 .left))
+
+same-length-2 : tie.Need-same-length-2 Inv-loop μ-loop
+same-length-2 c =
+    c .before .before .loop .inv .0
+
+returns-2 : tie.Need-returns-2 Inv-loop μ-loop
+returns-2 c =
+    let a = c .before .before .before .before .before .before .args in
+    let loop = c .before .before .loop in
+    among-none _ _ (names-none (a .items .now) (a .work .now) (loop .at) _ (c .before .word .ensures) (a .w) (a .macros) (c .if1 .left)) ∙ sym (loop .inv .2)
+
+pub is-among-spec : {M : Type 1} → statement M
+is-among-spec =
+    tie.close
+    (tie.spec
+    Inv-loop
+    μ-loop
+    loop-holds
+    word-requires
+    reference-requires
+    own-name-requires
+    same-names-requires
+    same-length
+    returns
+    reference-requires-2
+    loop-less
+    loop-again
+    same-length-2
+    returns-2)

@@ -1,0 +1,85 @@
+-- `shapes::binds_all`: all of the list bind where all that are left do.
+use Rattle.forms.proofs.shapes.binds_all.Statement.{statement}
+use Rattle.forms.proofs.shapes.binds_all.Tie as tie
+use borrow.Author.Tests.{not-true, not-false}
+use mathlib.Core.Path.{refl}
+use borrow.Author.Needs.{needs}
+use Rattle.forms.specs.ShapeLaws.{AllLeft, all-none, all-over, all-first, all-later}
+
+abbrev Inv-loop : tie.InvT-loop
+Inv-loop items work list macros most node₀ left₀ node left =
+    AllLeft items work macros list most node left
+
+abbrev μ-loop : tie.MeasureT-loop
+μ-loop items work list macros most node₀ left₀ node left =
+    left
+
+loop-holds : tie.Need-loop-holds Inv-loop μ-loop
+loop-holds c =
+    λ w. refl
+
+word-requires : tie.Need-word-requires Inv-loop μ-loop
+word-requires c κs =
+    search needs
+
+returns : tie.Need-returns Inv-loop μ-loop
+returns c =
+    let a = c .before .before .before .before .before .before .args in
+    let loop = c .before .before .before .loop in
+    all-over (a .items .now) (a .work .now) (a .macros) (a .list) (a .most) (loop .node) (loop .left) (loop .inv) _ (c .before .before .word .ensures) (c .before .if1 .taken) (c .if2 .taken)
+
+reference-requires : tie.Need-reference-requires Inv-loop μ-loop
+reference-requires c κs =
+    search needs
+
+binds-one-requires : tie.Need-binds-one-requires Inv-loop μ-loop
+binds-one-requires c κs =
+    search needs
+
+returns-2 : tie.Need-returns-2 Inv-loop μ-loop
+returns-2 c =
+    let a = c .before .before .before .before .before .before .before .before .before .args in
+    let loop = c .before .before .before .before .before .before .loop in
+    all-first (a .items .now) (a .work .now) (a .macros) (a .list) (a .most) (loop .node) (loop .left) (loop .inv) _ (c .before .before .before .before .before .word .ensures) (c .before .before .before .before .if1 .taken) _ _ (c .before .before .reference .ensures) (c .before .binds-one .ensures) (not-true _ (c .if3 .taken))
+
+reference-requires-2 : tie.Need-reference-requires-2 Inv-loop μ-loop
+reference-requires-2 c κs =
+    search needs
+
+sub-left : tie.Need-sub-left Inv-loop μ-loop
+sub-left c =
+    search needs
+
+loop-less : tie.Need-loop-less Inv-loop μ-loop
+loop-less c =
+    search needs
+
+loop-again : tie.Need-loop-again Inv-loop μ-loop
+loop-again c =
+    let a = c .before .before .before .before .before .before .before .before .before .before .args in
+    let loop = c .before .before .before .before .before .before .before .loop in
+    all-later (a .items .now) (a .work .now) (a .macros) (a .list) (a .most) (loop .node) (loop .left) (loop .inv) _ (c .before .before .before .before .before .before .word .ensures) (c .before .before .before .before .before .if1 .taken) _ _ (c .before .before .before .reference .ensures) (c .before .before .binds-one .ensures) _ (not-false _ (c .before .if3 .left)) (c .before .before .before .before .if2 .left) (c .reference2 .ensures)
+
+returns-3 : tie.Need-returns-3 Inv-loop μ-loop
+returns-3 c =
+    let a = c .before .before .before .before .before .args in
+    let loop = c .before .before .loop in
+    all-none (a .items .now) (a .work .now) (a .macros) (a .list) (a .most) (loop .node) (loop .left) (loop .inv) _ (c .before .word .ensures) (c .if1 .left)
+
+pub binds-all-spec : {M : Type 1} → statement M
+binds-all-spec =
+    tie.close
+    (tie.spec
+    Inv-loop
+    μ-loop
+    loop-holds
+    word-requires
+    returns
+    reference-requires
+    binds-one-requires
+    returns-2
+    reference-requires-2
+    sub-left
+    loop-less
+    loop-again
+    returns-3)
