@@ -98,6 +98,6 @@ pub distinct-not : (y : Name) (xs ys : List Name) (r : Bool) → xs ≡ y ∷ ys
 unfolding distinct
 distinct-not y xs ys r e s t = rw (e, sym s ∙ t)
 
-pub distinct-later : (y : Name) (xs ys : List Name) (r q : Bool) → xs ≡ y ∷ ys → r ≡ any (same y) ys → r ≡ false → q ≡ distinct ys → q ≡ distinct xs
+pub distinct-later : (y : Name) (xs ys : List Name) (r : Bool) → xs ≡ y ∷ ys → r ≡ any (same y) ys → r ≡ false → distinct xs ≡ distinct ys
 unfolding distinct
-distinct-later y xs ys r q e s t h = h ∙ rw (e, sym s ∙ t)
+distinct-later y xs ys r e s t = rw (e, ← s, t) refl

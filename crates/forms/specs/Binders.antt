@@ -60,3 +60,10 @@ pub record Scoped (f : ℕ → Binding) (k : ℕ) (xs : List Name) (parent : ℕ
   pub wrap-below : wrap ≤ end
   pub kept : take top new ≡ take top old
   pub means : (x : Name) → wrapAt new wrap x ≡ bindNames f k xs (wrapAt old parent x)
+
+-- names are bound up to the node's: where those are bound, all names of the list are
+pub record Scoping (items old : List ℕ) (list w : ℕ) (macros : Bool) (number parent top : ℕ) (work table : List ℕ) (node n wrap end : ℕ) : Type 0 where
+  pub ordinary : AllNames macros (treeAt items work node w)
+  pub space : Space (namesIn macros (treeAt items work node w)) work table node w n wrap end
+  pub whole : (new : List ℕ) (x y : ℕ) → Scoped (bindsTo macros) n (namesIn macros (treeAt items work node w)) wrap work new end x y
+      → Scoped (bindsTo macros) number (namesIn macros (treeAt items old list w)) parent old new top x y

@@ -25,12 +25,12 @@ use Rattle.arena.specs.ArenaLaws.{take-less}
 use Rattle.arena.specs.Cells.{Room, Binds}
 use Rattle.arena.specs.CellLaws.{tree-kept, tree-after}
 use Rattle.forms.specs.Shapes.{ownName, bindsOne}
-use Rattle.forms.specs.Binders.{AllNames, ownNames, namesIn, Proper, bindsTo, bindNames, Opened, Space, Scoped}
+use Rattle.forms.specs.Binders.{AllNames, ownNames, namesIn, Proper, bindsTo, bindNames, Opened, Space, Scoped, Scoping}
 use Rattle.forms.specs.BinderLaws.{binds-ordinary}
 
 -- ---- no name
 
-pub scoped-none : (f : ℕ → Binding) (k : ℕ) (xs : List Name) (parent : ℕ) (old : List ℕ) (top : ℕ) → xs ≡ [] → parent ≤ top → Scoped f k xs parent old old top parent top
+scoped-none : (f : ℕ → Binding) (k : ℕ) (xs : List Name) (parent : ℕ) (old : List ℕ) (top : ℕ) → xs ≡ [] → parent ≤ top → Scoped f k xs parent old old top parent top
 unfolding bindNames
 scoped-none f k xs parent old top e h = record { end-is = rw e (omega arith); wrap-below = h; kept = refl; means = λ x. rw e }
 
@@ -60,10 +60,10 @@ module _ (items old : List ℕ) (list w : ℕ) (macros : Bool) (table : List ℕ
     more-count : length (namesIn macros (treeAt items old list w)) ≡ suc (length (namesIn macros (treeAt items mid rest w)))
     more-count = ap length more-is
 
-    pub ordinary-next : AllNames macros (treeAt items mid rest w)
+    ordinary-next : AllNames macros (treeAt items mid rest w)
     ordinary-next = rw rest-kept (open′ .ordinary)
 
-    pub space-next : (table′ : List ℕ) → length mid ≡ length old → length table′ ≡ length table → Space (namesIn macros (treeAt items mid rest w)) mid table′ rest w (number + 1) next next
+    space-next : (table′ : List ℕ) → length mid ≡ length old → length table′ ≡ length table → Space (namesIn macros (treeAt items mid rest w)) mid table′ rest w (number + 1) next next
     space-next table′ l m =
         record {
           fits = omega (arith, space .fits, more-count, bound .end);
@@ -75,7 +75,7 @@ module _ (items old : List ℕ) (list w : ℕ) (macros : Bool) (table : List ℕ
           marks = omega (arith, space .marks);
         }
 
-    pub scoped-more : (new : List ℕ) (wrap end : ℕ) → Scoped (bindsTo macros) (number + 1) (namesIn macros (treeAt items mid rest w)) next mid new next wrap end
+    scoped-more : (new : List ℕ) (wrap end : ℕ) → Scoped (bindsTo macros) (number + 1) (namesIn macros (treeAt items mid rest w)) next mid new next wrap end
         → Scoped (bindsTo macros) number (namesIn macros (treeAt items old list w)) parent old new top wrap end
     unfolding bindNames
     scoped-more new wrap end s =
@@ -88,6 +88,27 @@ module _ (items old : List ℕ) (list w : ℕ) (macros : Bool) (table : List ℕ
               ∙ ap (λ (k : ℕ). bindNames (bindsTo macros) k (namesIn macros (treeAt items mid rest w)) (wrapAt mid next x)) (add-one number)
               ∙ ap (bindNames (bindsTo macros) (suc number) (namesIn macros (treeAt items mid rest w))) (bound .means (bindsTo macros number) key-is x)
               ∙ ap (λ (l : List Name). bindNames (bindsTo macros) number l (wrapAt old parent x)) (sym more-is);
+        }
+
+-- ---- name after name
+
+module _ (items old : List ℕ) (list w : ℕ) (macros : Bool) (number parent top : ℕ) where
+  pub scoping-begins : (table : List ℕ) → AllNames macros (treeAt items old list w) → Space (namesIn macros (treeAt items old list w)) old table list w number parent top
+      → Scoping items old list w macros number parent top old table list number parent top
+  scoping-begins table h s = record { ordinary = h; space = s; whole = λ new x y r. r }
+
+  module _ (work table : List ℕ) (node n wrap end : ℕ) (inv : Scoping items old list w macros number parent top work table node n wrap end) where
+    pub scoping-ends : namesIn macros (treeAt items work node w) ≡ [] → Scoped (bindsTo macros) number (namesIn macros (treeAt items old list w)) parent old work top wrap end
+    scoping-ends e = inv .whole work wrap end (scoped-none (bindsTo macros) n _ wrap work end e (inv .space .parent-below))
+
+    pub scoping-more : (own rest : ℕ) → Opened items work node w macros own rest → (key next : ℕ) (mid table′ : List ℕ) → key ≡ bindingKey (some (bindsTo macros n)) → Binds items own w key wrap work mid end next → length mid ≡ length work → length table′ ≡ length table
+        → Scoping items old list w macros number parent top mid table′ rest (n + 1) next next
+    scoping-more own rest o key next mid table′ k b l m =
+        let s = inv .space in
+        record {
+          ordinary = ordinary-next items work node w macros table n wrap end own rest s o key next mid k b;
+          space = space-next items work node w macros table n wrap end own rest s o key next mid k b table′ l m;
+          whole = λ new x y r. inv .whole new x y (scoped-more items work node w macros table n wrap end own rest s o key next mid k b new x y r);
         }
 
 -- ---- trees

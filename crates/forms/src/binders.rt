@@ -54,16 +54,16 @@ pub fn are_distinct(
     requires { ⌜ (3 * markLimit < length (now table)) × (AllNames macros (treeAt (now items) (now work) list w)) ⌝ }
     ensures { λ r. ⌜ r ≡ distinct (namesIn macros (treeAt (now (items .entry)) (now (work .entry)) list w)) ⌝ }
 {
-    if cells::word(work, list, 3) != cells::PAIR {
-        return true;
+    let mut at = list;
+    while cells::word(work, at, 3) == cells::PAIR {
+        let first = cells::reference(work, at, 2);
+        let own = shapes::own_name(work, first, macros);
+        at = cells::reference(work, at, 1);
+        if is_among(items, work, table, own, at, w, macros) {
+            return false;
+        }
     }
-    let first = cells::reference(work, list, 2);
-    let own = shapes::own_name(work, first, macros);
-    let rest = cells::reference(work, list, 1);
-    if is_among(items, work, table, own, rest, w, macros) {
-        return false;
-    }
-    are_distinct(items, work, table, rest, w, macros)
+    true
 }
 
 // No two names of a lambda are the same.
@@ -117,18 +117,23 @@ pub fn bind_names(
     requires { ⌜ (AllNames macros (treeAt (now items) (now work) list w)) × (Space (namesIn macros (treeAt (now items) (now work) list w)) (now work) (now table) list w number parent top) ⌝ }
     ensures { λ r. ⌜ Scoped (bindsTo macros) number (namesIn macros (treeAt (now (items .entry)) (now (work .entry)) list w)) parent (now (work .entry)) (now (work .exit)) top (r .wrap) (r .top) ⌝ }
 {
-    if cells::word(work, list, 3) != cells::PAIR {
-        return Scope {
-            wrap: parent,
-            top: top,
-        };
+    let mut at = list;
+    let mut n = number;
+    let mut wrap = parent;
+    let mut end = top;
+    while cells::word(work, at, 3) == cells::PAIR {
+        let first = cells::reference(work, at, 2);
+        let own = shapes::own_name(work, first, macros);
+        at = cells::reference(work, at, 1);
+        let key = key_of(macros, n);
+        wrap = names::bind(items, work, table, end, own, w, key, wrap);
+        end = wrap;
+        n += 1;
     }
-    let first = cells::reference(work, list, 2);
-    let own = shapes::own_name(work, first, macros);
-    let rest = cells::reference(work, list, 1);
-    let key = key_of(macros, number);
-    let next = names::bind(items, work, table, top, own, w, key, parent);
-    bind_names(items, work, table, rest, w, macros, number + 1, next, next)
+    Scope {
+        wrap: wrap,
+        top: end,
+    }
 }
 
 // Binders for a lambda's names, variables from `first`.

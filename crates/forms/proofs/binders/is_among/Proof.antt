@@ -9,6 +9,7 @@ use Rattle.words.specs.Lists.{any}
 use Rattle.recipe.specs.Name.{same}
 use Rattle.arena.specs.Arena.{nameAt, treeAt}
 use Rattle.forms.specs.Binders.{AllNames, namesIn}
+use Rattle.arena.specs.ListLaws.{pair-falls}
 use Rattle.forms.specs.BinderLaws.{opened, names-none, among-none, among-first, among-later}
 
 abbrev Inv-loop : tie.InvT-loop
@@ -23,7 +24,8 @@ abbrev μ-loop : tie.MeasureT-loop
 
 loop-holds : tie.Need-loop-holds Inv-loop μ-loop
 loop-holds c =
-    (refl, c .before .before .before .pre .1, refl)
+    let pre = c .before .before .before .pre in
+    (refl, pre .1, refl)
 
 word-requires : tie.Need-word-requires Inv-loop μ-loop
 word-requires c κs =
@@ -39,18 +41,27 @@ own-name-requires c κs =
 
 same-names-requires : tie.Need-same-names-requires Inv-loop μ-loop
 same-names-requires c κs =
-    omega (arith, c .before .before .before .before .before .before .before .before .before .pre .0, c .before .before .before .before .before .loop .inv .0)
+    let pre = c .before .before .before .before .before .before .before .before .before .pre in
+    let loop = c .before .before .before .before .before .loop in
+    omega (arith, pre .0, loop .inv .0)
 
 same-length : tie.Need-same-length Inv-loop μ-loop
 same-length c =
-    c .before .before .before .same-names .kept .1 .1 .0 ∙ c .before .before .before .before .before .before .before .before .before .loop .inv .0
+    let loop = c .before .before .before .before .before .before .before .before .before .loop in
+    let same-names = c .before .before .before .same-names in
+    same-names .kept .1 .1 .0 ∙ loop .inv .0
 
 returns : tie.Need-returns Inv-loop μ-loop
 returns c =
     let a = c .before .before .before .before .before .before .before .before .before .before .before .before .before .args in
     let loop = c .before .before .before .before .before .before .before .before .before .loop in
-    let o = opened (a .items .now) (a .work .now) (loop .at) _ (c .before .before .before .before .before .before .before .before .word .ensures) (a .w) (a .macros) (c .before .before .before .before .before .before .before .if1 .taken) (loop .inv .1) _ _ _ (c .before .before .before .before .before .before .reference .ensures) (c .before .before .before .before .before .own-name .ensures) refl in
-    among-first _ _ _ _ _ (o .names-are) (c .before .before .before .same-names .ensures) (c .if2 .taken) ∙ sym (loop .inv .2)
+    let word = c .before .before .before .before .before .before .before .before .word in
+    let if1 = c .before .before .before .before .before .before .before .if1 in
+    let reference = c .before .before .before .before .before .before .reference in
+    let own-name = c .before .before .before .before .before .own-name in
+    let same-names = c .before .before .before .same-names in
+    let o = opened (a .items .now) (a .work .now) (loop .at) _ (word .ensures) (a .w) (a .macros) (if1 .taken) (loop .inv .1) _ _ _ (reference .ensures) (own-name .ensures) refl in
+    among-first _ _ _ _ _ (o .names-are) (same-names .ensures) (c .if2 .taken) ∙ sym (loop .inv .2)
 
 reference-requires-2 : tie.Need-reference-requires-2 Inv-loop μ-loop
 reference-requires-2 c κs =
@@ -60,24 +71,34 @@ loop-less : tie.Need-loop-less Inv-loop μ-loop
 loop-less c =
     let a = c .before .before .before .before .before .before .before .before .before .before .before .before .before .before .args in
     let loop = c .before .before .before .before .before .before .before .before .before .before .loop in
-    opened (a .items .now) (a .work .now) (loop .at) _ (c .before .before .before .before .before .before .before .before .before .word .ensures) (a .w) (a .macros) (c .before .before .before .before .before .before .before .before .if1 .taken) (loop .inv .1) _ _ _ (c .before .before .before .before .before .before .before .reference .ensures) (c .before .before .before .before .before .before .own-name .ensures) (c .reference2 .ensures) .rest-low
+    let word = c .before .before .before .before .before .before .before .before .before .word in
+    let if1 = c .before .before .before .before .before .before .before .before .if1 in
+    omega (arith, c .reference2 .ensures, pair-falls (a .work .now) (loop .at) 1 (sym (word .ensures) ∙ if1 .taken))
 
 loop-again : tie.Need-loop-again Inv-loop μ-loop
 loop-again c =
     let a = c .before .before .before .before .before .before .before .before .before .before .before .before .before .before .args in
     let loop = c .before .before .before .before .before .before .before .before .before .before .loop in
-    let o = opened (a .items .now) (a .work .now) (loop .at) _ (c .before .before .before .before .before .before .before .before .before .word .ensures) (a .w) (a .macros) (c .before .before .before .before .before .before .before .before .if1 .taken) (loop .inv .1) _ _ _ (c .before .before .before .before .before .before .before .reference .ensures) (c .before .before .before .before .before .before .own-name .ensures) (c .reference2 .ensures) in
-    (c .before .before .before .before .same-names .kept .1 .1 .0 ∙ loop .inv .0, o .ordinary, loop .inv .2 ∙ among-later _ _ _ _ _ (o .names-are) (c .before .before .before .before .same-names .ensures) (c .before .if2 .left))
+    let word = c .before .before .before .before .before .before .before .before .before .word in
+    let if1 = c .before .before .before .before .before .before .before .before .if1 in
+    let reference = c .before .before .before .before .before .before .before .reference in
+    let own-name = c .before .before .before .before .before .before .own-name in
+    let same-names = c .before .before .before .before .same-names in
+    let if2 = c .before .if2 in
+    let o = opened (a .items .now) (a .work .now) (loop .at) _ (word .ensures) (a .w) (a .macros) (if1 .taken) (loop .inv .1) _ _ _ (reference .ensures) (own-name .ensures) (c .reference2 .ensures) in
+    (same-names .kept .1 .1 .0 ∙ loop .inv .0, o .ordinary, loop .inv .2 ∙ among-later _ _ _ _ _ (o .names-are) (same-names .ensures) (if2 .left))
 
 same-length-2 : tie.Need-same-length-2 Inv-loop μ-loop
 same-length-2 c =
-    c .before .before .loop .inv .0
+    let loop = c .before .before .loop in
+    loop .inv .0
 
 returns-2 : tie.Need-returns-2 Inv-loop μ-loop
 returns-2 c =
     let a = c .before .before .before .before .before .before .args in
     let loop = c .before .before .loop in
-    among-none _ _ (names-none (a .items .now) (a .work .now) (loop .at) _ (c .before .word .ensures) (a .w) (a .macros) (c .if1 .left)) ∙ sym (loop .inv .2)
+    let word = c .before .word in
+    among-none _ _ (names-none (a .items .now) (a .work .now) (loop .at) _ (word .ensures) (a .w) (a .macros) (c .if1 .left)) ∙ sym (loop .inv .2)
 
 pub is-among-spec : {M : Type 1} → statement M
 is-among-spec =

@@ -26,7 +26,9 @@ returns : tie.Need-returns Inv-loop μ-loop
 returns c =
     let a = c .before .before .before .before .before .before .args in
     let loop = c .before .before .before .loop in
-    all-over (a .items .now) (a .work .now) (a .macros) (a .list) (a .most) (loop .node) (loop .left) (loop .inv) _ (c .before .before .word .ensures) (c .before .if1 .taken) (c .if2 .taken)
+    let word = c .before .before .word in
+    let if1 = c .before .if1 in
+    all-over (a .items .now) (a .work .now) (a .macros) (a .list) (a .most) (loop .node) (loop .left) (loop .inv) _ (word .ensures) (if1 .taken) (c .if2 .taken)
 
 reference-requires : tie.Need-reference-requires Inv-loop μ-loop
 reference-requires c κs =
@@ -40,7 +42,11 @@ returns-2 : tie.Need-returns-2 Inv-loop μ-loop
 returns-2 c =
     let a = c .before .before .before .before .before .before .before .before .before .args in
     let loop = c .before .before .before .before .before .before .loop in
-    all-first (a .items .now) (a .work .now) (a .macros) (a .list) (a .most) (loop .node) (loop .left) (loop .inv) _ (c .before .before .before .before .before .word .ensures) (c .before .before .before .before .if1 .taken) _ _ (c .before .before .reference .ensures) (c .before .binds-one .ensures) (not-true _ (c .if3 .taken))
+    let word = c .before .before .before .before .before .word in
+    let if1 = c .before .before .before .before .if1 in
+    let reference = c .before .before .reference in
+    let binds-one = c .before .binds-one in
+    all-first (a .items .now) (a .work .now) (a .macros) (a .list) (a .most) (loop .node) (loop .left) (loop .inv) _ (word .ensures) (if1 .taken) _ _ (reference .ensures) (binds-one .ensures) (not-true _ (c .if3 .taken))
 
 reference-requires-2 : tie.Need-reference-requires-2 Inv-loop μ-loop
 reference-requires-2 c κs =
@@ -58,13 +64,20 @@ loop-again : tie.Need-loop-again Inv-loop μ-loop
 loop-again c =
     let a = c .before .before .before .before .before .before .before .before .before .before .args in
     let loop = c .before .before .before .before .before .before .before .loop in
-    all-later (a .items .now) (a .work .now) (a .macros) (a .list) (a .most) (loop .node) (loop .left) (loop .inv) _ (c .before .before .before .before .before .before .word .ensures) (c .before .before .before .before .before .if1 .taken) _ _ (c .before .before .before .reference .ensures) (c .before .before .binds-one .ensures) _ (not-false _ (c .before .if3 .left)) (c .before .before .before .before .if2 .left) (c .reference2 .ensures)
+    let word = c .before .before .before .before .before .before .word in
+    let if1 = c .before .before .before .before .before .if1 in
+    let if2 = c .before .before .before .before .if2 in
+    let reference = c .before .before .before .reference in
+    let binds-one = c .before .before .binds-one in
+    let if3 = c .before .if3 in
+    all-later (a .items .now) (a .work .now) (a .macros) (a .list) (a .most) (loop .node) (loop .left) (loop .inv) _ (word .ensures) (if1 .taken) _ _ (reference .ensures) (binds-one .ensures) _ (not-false _ (if3 .left)) (if2 .left) (c .reference2 .ensures)
 
 returns-3 : tie.Need-returns-3 Inv-loop μ-loop
 returns-3 c =
     let a = c .before .before .before .before .before .args in
     let loop = c .before .before .loop in
-    all-none (a .items .now) (a .work .now) (a .macros) (a .list) (a .most) (loop .node) (loop .left) (loop .inv) _ (c .before .word .ensures) (c .if1 .left)
+    let word = c .before .word in
+    all-none (a .items .now) (a .work .now) (a .macros) (a .list) (a .most) (loop .node) (loop .left) (loop .inv) _ (word .ensures) (c .if1 .left)
 
 pub binds-all-spec : {M : Type 1} → statement M
 binds-all-spec =
