@@ -27,7 +27,7 @@ use Rattle.turns.specs.declared.macros.Read.{Read}
 use Rattle.turns.specs.declared.macros.Read.the-variants.{Good, Bad}
 use Rattle.turns.specs.Memory.{macrosAt}
 use Rattle.turns.specs.MemoryLaws.{macrosAt-settled}
-use Rattle.turns.specs.MacroRules.{OneAsk, OneRead, OneLeft, formsIn, AllAsk, AllRead, AllLeft}
+use Rattle.turns.specs.MacroRules.{OneAsk, OneRead, OneLeft, formsIn, AllAsk, AllRead, AllLeft, Reading}
 
 -- ---- one macro
 
@@ -77,7 +77,7 @@ module _ (items work macros marks : List ℕ) (list w count top : ℕ) (ask : Al
   abbrev whole : Tree
   whole = treeAt items work list w
 
-  pub all-end : (wordAt work list 3 ≡ 4 → ⊥) → AllLeft whole items work work macros macros count top (Good top)
+  all-end : (wordAt work list 3 ≡ 4 → ⊥) → AllLeft whole items work work macros macros count top (Good top)
   unfolding formsIn traverse
   all-end n =
       let none-are : formsIn whole ≡ [] = ap (map (element 1)) (no-elements items work list w n) in
@@ -103,7 +103,7 @@ module _ (items work macros marks : List ℕ) (list w count top : ℕ) (ask : Al
     entry-low : entry < list
     entry-low = head-below items work list w top (ask .asks) entry rest e f g
 
-    pub rest-low : rest < list
+    rest-low : rest < list
     rest-low = rest-below items work list w top (ask .asks) entry rest e f g
 
     forms-are : formsIn whole ≡ first ∷ formsIn later
@@ -137,9 +137,9 @@ module _ (items work macros marks : List ℕ) (list w count top : ℕ) (ask : Al
     pub count-small : count + 1 < 2 ^ 32
     count-small = omega (arith, ask .few, count-is)
 
-    pub all-bad : (mid macros′ new macros″ : List ℕ) (r : Read) → r ≡ Bad → OneLeft first items work mid macros macros′ count top r → AllLeft whole items work new macros macros″ count top Bad
+    all-bad : (mid macros′ : List ℕ) (r : Read) → r ≡ Bad → OneLeft first items work mid macros macros′ count top r → AllLeft whole items work mid macros macros′ count top Bad
     unfolding traverse mapBoth mapSome
-    all-bad mid macros′ new macros″ r b p =
+    all-bad mid macros′ r b p =
         let q : rulesOf first ≡ none = subst (λ (z : Read). OneLeft first items work mid macros macros′ count top z) b p in
         ap (traverse rulesOf) forms-are ∙ ap (λ (o : Option (List Rule)). mapBoth _∷_ o (traverse rulesOf (formsIn later))) q
 
@@ -152,7 +152,7 @@ module _ (items work macros marks : List ℕ) (list w count top : ℕ) (ask : Al
       later-is : treeAt items mid rest w ≡ later
       later-is = tree-kept items work mid top rest w (omega (arith, rest-low, ask .asks .node-below)) (ask .asks .wrap-below) (one .kept)
 
-      pub ask-later : AllAsk items mid macros′ marks′ rest w (count + 1) upper
+      ask-later : AllAsk items mid macros′ marks′ rest w (count + 1) upper
       ask-later =
           record {
             asks = record {
@@ -169,7 +169,7 @@ module _ (items work macros marks : List ℕ) (list w count top : ℕ) (ask : Al
             hands = omega (arith, ask .hands);
           }
 
-      pub all-both : (new macros″ : List ℕ) (a : Read) → AllLeft (treeAt items mid rest w) items mid new macros′ macros″ (count + 1) upper a → AllLeft whole items work new macros macros″ count top a
+      all-both : (new macros″ : List ℕ) (a : Read) → AllLeft (treeAt items mid rest w) items mid new macros′ macros″ (count + 1) upper a → AllLeft whole items work new macros macros″ count top a
       unfolding traverse mapBoth mapSome
       all-both new macros″ (Good higher) m =
           let n : AllRead later items mid new macros′ macros″ (count + 1) upper higher = subst (λ (t : Tree). AllRead t items mid new macros′ macros″ (count + 1) upper higher) later-is m in
@@ -191,3 +191,26 @@ module _ (items work macros marks : List ℕ) (list w count top : ℕ) (ask : Al
       all-both new macros″ Bad m =
           let n : traverse rulesOf (formsIn later) ≡ none = subst (λ (t : Tree). traverse rulesOf (formsIn t) ≡ none) later-is m in
           ap (traverse rulesOf) forms-are ∙ ap₂ (mapBoth _∷_) (one .is) n
+
+-- ---- macro after macro
+
+module _ (items old known : List ℕ) (list w count top : ℕ) where
+  pub reading-begins : (marks : List ℕ) → AllAsk items old known marks list w count top → Reading items old known list w count top old known marks list count top
+  reading-begins marks ask = record { ask = ask; whole = λ new macros′ r l. l }
+
+  module _ (work macros marks : List ℕ) (node n end : ℕ) (inv : Reading items old known list w count top work macros marks node n end) where
+    pub reading-ends : (wordAt work node 3 ≡ 4 → ⊥) → AllLeft (treeAt items old list w) items old work known macros count top (Good end)
+    reading-ends other = inv .whole work macros (Good end) (all-end items work macros marks node w n end (inv .ask) other)
+
+    module _ (entry rest form : ℕ) (e : wordAt work node 3 ≡ 4) (f : entry ≡ referenceAt work node 2) (g : rest ≡ referenceAt work node 1) (form-is : Means work entry form (element 1))
+        (mid macros′ : List ℕ) (r : Read) (left : OneLeft (treeAt items work form w) items work mid macros macros′ n end r) where
+      pub reading-bad : r ≡ Bad → AllLeft (treeAt items old list w) items old mid known macros′ count top Bad
+      reading-bad b = inv .whole mid macros′ Bad (all-bad items work macros marks node w n end (inv .ask) entry rest form e f g form-is mid macros′ r b left)
+
+      pub reading-more : (marks′ : List ℕ) (upper : ℕ) → r ≡ Good upper → length mid ≡ length work → length macros′ ≡ length macros → length marks′ ≡ length marks
+          → Reading items old known list w count top mid macros′ marks′ rest (n + 1) upper
+      reading-more marks′ upper b l m k =
+          record {
+            ask = ask-later items work macros marks node w n end (inv .ask) entry rest form e f g form-is mid macros′ marks′ r upper b left l m k;
+            whole = λ new macros″ z h. inv .whole new macros″ z (all-both items work macros marks node w n end (inv .ask) entry rest form e f g form-is mid macros′ marks′ r upper b left l m k new macros″ z h);
+          }

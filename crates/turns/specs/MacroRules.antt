@@ -65,3 +65,8 @@ pub record AllRead (list : Tree) (items work work′ macros macros′ : List ℕ
 abbrev pub AllLeft : (list : Tree) (items work work′ macros macros′ : List ℕ) (count top : ℕ) → Read → Type 0
 AllLeft list items work work′ macros macros′ count top (Good upper) = AllRead list items work work′ macros macros′ count top upper
 AllLeft list items work work′ macros macros′ count top Bad = traverse rulesOf (formsIn list) ≡ none
+
+-- rules are read up to the node's: what reading those leaves is what reading the whole list leaves
+pub record Reading (items old known : List ℕ) (list w count top : ℕ) (work macros marks : List ℕ) (node n end : ℕ) : Type 0 where
+  pub ask : AllAsk items work macros marks node w n end
+  pub whole : (new macros′ : List ℕ) (r : Read) → AllLeft (treeAt items work node w) items work new macros macros′ n end r → AllLeft (treeAt items old list w) items old new known macros′ count top r

@@ -60,16 +60,20 @@ pub fn all_macros(
     requires { ⌜ AllAsk (now items) (now work) (now macros) (now marks) list w count top ⌝ }
     ensures { λ r. ⌜ AllLeft (treeAt (now (items .entry)) (now (work .entry)) list w) (now (items .entry)) (now (work .entry)) (now (work .exit)) (now (macros .entry)) (now (macros .exit)) count top r ⌝ }
 {
-    if cells::word(work, list, 3) != cells::PAIR {
-        return Read::Good(top);
+    let mut at = list;
+    let mut n = count;
+    let mut end = top;
+    while cells::word(work, at, 3) == cells::PAIR {
+        let entry = cells::reference(work, at, 2);
+        let form = lists::element(work, entry, 1);
+        at = cells::reference(work, at, 1);
+        let Read::Good(upper) = one_macro(items, work, macros, marks, form, w, n, end) else {
+            return Read::Bad;
+        };
+        end = upper;
+        n += 1;
     }
-    let entry = cells::reference(work, list, 2);
-    let rest = cells::reference(work, list, 1);
-    let form = lists::element(work, entry, 1);
-    let Read::Good(upper) = one_macro(items, work, macros, marks, form, w, count, top) else {
-        return Read::Bad;
-    };
-    all_macros(items, work, macros, marks, rest, w, count + 1, upper)
+    Read::Good(end)
 }
 
 // The wrap of a form's rules: that of its scope, or the one round the form.

@@ -1,0 +1,169 @@
+-- `macros::all_macros`: what reading the node's rules leaves is what reading the whole list leaves.
+use Rattle.turns.proofs.macros.all_macros.Statement.{statement}
+use Rattle.turns.proofs.macros.all_macros.Tie as tie
+use borrow.Author.Needs.{needs}
+use native.Mathlib.Omega.{arith}
+use mathlib.Core.Path.{_≡_, refl, sym, _∙_}
+use lib.ListN.{length}
+use Rattle.arena.specs.ListLaws.{pair-falls}
+use Rattle.turns.specs.MacroRules.{Reading}
+use Rattle.turns.specs.MacroRuleLaws.{one-ask, count-small, reading-begins, reading-ends, reading-bad, reading-more}
+
+abbrev Inv-loop : tie.InvT-loop
+Inv-loop items work₀ macros₀ marks₀ list w count top at₀ n₀ end₀ work macros marks at n end =
+    (length work ≡ length work₀) × (length macros ≡ length macros₀) × (length marks ≡ length marks₀) × Reading items work₀ macros₀ list w count top work macros marks at n end
+
+abbrev μ-loop : tie.MeasureT-loop
+μ-loop items work₀ macros₀ marks₀ list w count top at₀ n₀ end₀ work macros marks at n end =
+    at
+
+loop-holds : tie.Need-loop-holds Inv-loop μ-loop
+loop-holds c =
+    let a = c .before .before .before .before .args in
+    let pre = c .before .before .before .before .pre in
+    (refl, refl, refl, reading-begins (a .items .now) (a .work .now) (a .macros .now) (a .list) (a .w) (a .count) (a .top) (a .marks .now) pre)
+
+word-requires : tie.Need-word-requires Inv-loop μ-loop
+word-requires c κs =
+    search needs
+
+reference-requires : tie.Need-reference-requires Inv-loop μ-loop
+reference-requires c κs =
+    search needs
+
+element-requires : tie.Need-element-requires Inv-loop μ-loop
+element-requires c κs =
+    search needs
+
+reference-requires-2 : tie.Need-reference-requires-2 Inv-loop μ-loop
+reference-requires-2 c κs =
+    search needs
+
+one-macro-requires : tie.Need-one-macro-requires Inv-loop μ-loop
+one-macro-requires c κs =
+    let a = c .before .before .before .before .before .before .before .before .before .before .before .before .before .before .before .before .before .args in
+    let loop = c .before .before .before .before .before .before .before .before .before .before .before .before .loop in
+    let word = c .before .before .before .before .before .before .before .before .before .before .word in
+    let if1 = c .before .before .before .before .before .before .before .before .before .if1 in
+    let reference = c .before .before .before .before .before .before .before .reference in
+    let element = c .before .before .before .before .before .element in
+    let reference2 = c .before .before .before .reference2 in
+    one-ask (a .items .now) (loop .work) (loop .macros) (loop .marks) (loop .at) (a .w) (loop .n) (loop .end) (loop .inv .3 .ask) _ _ _ (sym (word .ensures) ∙ if1 .taken) (reference .ensures) (reference2 .ensures) (element .ensures)
+
+enum-known-upper : tie.Need-enum-known-upper Inv-loop μ-loop
+enum-known-upper c =
+    search needs
+
+enum-told : tie.Need-enum-told Inv-loop μ-loop
+enum-told c =
+    search needs
+
+same-length : tie.Need-same-length Inv-loop μ-loop
+same-length c =
+    let loop = c .before .before .before .before .before .before .before .before .before .before .before .before .before .before .before .before .before .before .before .before .before .loop in
+    let one-macro = c .before .before .before .before .before .before .before .before .one-macro in
+    one-macro .kept .1 .0 ∙ loop .inv .0
+
+same-length-2 : tie.Need-same-length-2 Inv-loop μ-loop
+same-length-2 c =
+    let loop = c .before .before .before .before .before .before .before .before .before .before .before .before .before .before .before .before .before .before .before .before .before .loop in
+    let one-macro = c .before .before .before .before .before .before .before .before .one-macro in
+    one-macro .kept .1 .1 .0 ∙ loop .inv .1
+
+same-length-3 : tie.Need-same-length-3 Inv-loop μ-loop
+same-length-3 c =
+    let loop = c .before .before .before .before .before .before .before .before .before .before .before .before .before .before .before .before .before .before .before .before .before .loop in
+    let one-macro = c .before .before .before .before .before .before .before .before .one-macro in
+    one-macro .kept .1 .1 .1 .0 ∙ loop .inv .2
+
+returns : tie.Need-returns Inv-loop μ-loop
+returns c =
+    let a = c .before .before .before .before .before .before .before .before .before .before .before .before .before .before .before .before .before .before .before .before .before .before .before .before .before .before .args in
+    let loop = c .before .before .before .before .before .before .before .before .before .before .before .before .before .before .before .before .before .before .before .before .before .loop in
+    let word = c .before .before .before .before .before .before .before .before .before .before .before .before .before .before .before .before .before .before .before .word in
+    let if1 = c .before .before .before .before .before .before .before .before .before .before .before .before .before .before .before .before .before .before .if1 in
+    let reference = c .before .before .before .before .before .before .before .before .before .before .before .before .before .before .before .before .reference in
+    let element = c .before .before .before .before .before .before .before .before .before .before .before .before .before .before .element in
+    let reference2 = c .before .before .before .before .before .before .before .before .before .before .before .before .reference2 in
+    let one-macro = c .before .before .before .before .before .before .before .before .one-macro in
+    reading-bad (a .items .now) (a .work .now) (a .macros .now) (a .list) (a .w) (a .count) (a .top) (loop .work) (loop .macros) (loop .marks) (loop .at) (loop .n) (loop .end) (loop .inv .3) _ _ _ (sym (word .ensures) ∙ if1 .taken) (reference .ensures) (reference2 .ensures) (element .ensures) _ _ _ (one-macro .ensures) (c .enum-told .given .1)
+
+add-n : tie.Need-add-n Inv-loop μ-loop
+add-n c =
+    let a = c .before .before .before .before .before .before .before .before .before .before .before .before .before .before .before .before .before .before .before .before .before .before .before .before .before .before .before .args in
+    let loop = c .before .before .before .before .before .before .before .before .before .before .before .before .before .before .before .before .before .before .before .before .before .before .loop in
+    let word = c .before .before .before .before .before .before .before .before .before .before .before .before .before .before .before .before .before .before .before .before .word in
+    let if1 = c .before .before .before .before .before .before .before .before .before .before .before .before .before .before .before .before .before .before .before .if1 in
+    let reference = c .before .before .before .before .before .before .before .before .before .before .before .before .before .before .before .before .before .reference in
+    let element = c .before .before .before .before .before .before .before .before .before .before .before .before .before .before .before .element in
+    let reference2 = c .before .before .before .before .before .before .before .before .before .before .before .before .before .reference2 in
+    record { fits = count-small (a .items .now) (loop .work) (loop .macros) (loop .marks) (loop .at) (a .w) (loop .n) (loop .end) (loop .inv .3 .ask) _ _ _ (sym (word .ensures) ∙ if1 .taken) (reference .ensures) (reference2 .ensures) (element .ensures) }
+
+loop-less : tie.Need-loop-less Inv-loop μ-loop
+loop-less c =
+    let loop = c .before .before .before .before .before .before .before .before .before .before .before .before .before .before .before .before .before .before .before .before .before .before .loop in
+    let word = c .before .before .before .before .before .before .before .before .before .before .before .before .before .before .before .before .before .before .before .before .word in
+    let if1 = c .before .before .before .before .before .before .before .before .before .before .before .before .before .before .before .before .before .before .before .if1 in
+    let reference2 = c .before .before .before .before .before .before .before .before .before .before .before .before .before .reference2 in
+    omega (arith, reference2 .ensures, pair-falls (loop .work) (loop .at) 1 (sym (word .ensures) ∙ if1 .taken))
+
+loop-again : tie.Need-loop-again Inv-loop μ-loop
+loop-again c =
+    let a = c .before .before .before .before .before .before .before .before .before .before .before .before .before .before .before .before .before .before .before .before .before .before .before .before .before .before .before .args in
+    let loop = c .before .before .before .before .before .before .before .before .before .before .before .before .before .before .before .before .before .before .before .before .before .before .loop in
+    let word = c .before .before .before .before .before .before .before .before .before .before .before .before .before .before .before .before .before .before .before .before .word in
+    let if1 = c .before .before .before .before .before .before .before .before .before .before .before .before .before .before .before .before .before .before .before .if1 in
+    let reference = c .before .before .before .before .before .before .before .before .before .before .before .before .before .before .before .before .before .reference in
+    let element = c .before .before .before .before .before .before .before .before .before .before .before .before .before .before .before .element in
+    let reference2 = c .before .before .before .before .before .before .before .before .before .before .before .before .before .reference2 in
+    let one-macro = c .before .before .before .before .before .before .before .before .before .one-macro in
+    let upper = c .before .upper in
+    (one-macro .kept .1 .0 ∙ loop .inv .0, one-macro .kept .1 .1 .0 ∙ loop .inv .1, one-macro .kept .1 .1 .1 .0 ∙ loop .inv .2, reading-more (a .items .now) (a .work .now) (a .macros .now) (a .list) (a .w) (a .count) (a .top) (loop .work) (loop .macros) (loop .marks) (loop .at) (loop .n) (loop .end) (loop .inv .3) _ _ _ (sym (word .ensures) ∙ if1 .taken) (reference .ensures) (reference2 .ensures) (element .ensures) _ _ _ (one-macro .ensures) _ _ (upper .given .1) (one-macro .kept .1 .0) (one-macro .kept .1 .1 .0) (one-macro .kept .1 .1 .1 .0))
+
+same-length-4 : tie.Need-same-length-4 Inv-loop μ-loop
+same-length-4 c =
+    let loop = c .before .before .before .loop in
+    loop .inv .0
+
+same-length-5 : tie.Need-same-length-5 Inv-loop μ-loop
+same-length-5 c =
+    let loop = c .before .before .before .loop in
+    loop .inv .1
+
+same-length-6 : tie.Need-same-length-6 Inv-loop μ-loop
+same-length-6 c =
+    let loop = c .before .before .before .loop in
+    loop .inv .2
+
+returns-2 : tie.Need-returns-2 Inv-loop μ-loop
+returns-2 c =
+    let a = c .before .before .before .before .before .before .before .before .args in
+    let loop = c .before .before .before .loop in
+    let word = c .before .word in
+    reading-ends (a .items .now) (a .work .now) (a .macros .now) (a .list) (a .w) (a .count) (a .top) (loop .work) (loop .macros) (loop .marks) (loop .at) (loop .n) (loop .end) (loop .inv .3) (λ z. c .if1 .left (word .ensures ∙ z))
+
+pub all-macros-spec : {M : Type 1} → statement M
+all-macros-spec =
+    tie.close
+    (tie.spec
+    Inv-loop
+    μ-loop
+    loop-holds
+    word-requires
+    reference-requires
+    element-requires
+    reference-requires-2
+    one-macro-requires
+    enum-known-upper
+    enum-told
+    same-length
+    same-length-2
+    same-length-3
+    returns
+    add-n
+    loop-less
+    loop-again
+    same-length-4
+    same-length-5
+    same-length-6
+    returns-2)
