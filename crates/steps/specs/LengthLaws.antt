@@ -1,12 +1,12 @@
 -- Laws of driving lists on cells, one for each way through the code.
 use mathlib.Core.Path.{_≡_, refl, sym, ap, _∙_}
-use mathlib.Core.Bool.{Bool, true, false, _&&_}
+use mathlib.Core.Bool.{Bool, true, false, _&&_, cond}
 use mathlib.Core.List.{List, [], _∷_, _++_, map, map-append}
 use Prim.Native.Nat.{ℕ, zero, suc, _+_, _-_, _≤_, _<_}
 use native.Mathlib.Omega.{arith}
-use lib.Dec.{eqb}
+use lib.Dec.{eqb, ltb}
 use lib.ListN.{length, getD}
-use borrow.Author.Tests.{eqb-true, eqb-false, lt-ltb, le-ltb}
+use borrow.Author.Tests.{eq-eqb, eqb-true, eqb-false, lt-ltb, le-ltb}
 use Rattle.words.specs.Lists.{all}
 use Rattle.recipe.specs.Tree.{Tree, elements}
 use Rattle.expansion.specs.Rules.{drivers}
@@ -85,6 +85,11 @@ unfolding all
 all-both f [] b = refl
 all-both f (x ∷ xs) b = ap (λ (y : Bool). f x && y) (all-both f xs b) ∙ and-assoc (f x) (all f xs) (all f b)
 
+first-alone : (f : (ℕ × ℕ) → ℕ) (b : Bool) (x : ℕ × ℕ) → true ≡ all (eqb (getD (map f (cond b (x ∷ []) [])) 0 0)) (map f (cond b (x ∷ []) []))
+unfolding all
+first-alone f true x = rw (eq-eqb (f x) (f x) refl) refl
+first-alone f false x = refl
+
 -- ---- driving lists
 
 -- what a variable takes is the node of its entry
@@ -162,3 +167,18 @@ module _ (work env : List ℕ) where
   pub copies-none : (e : ℕ) (r : Driving) → r ≡ None → Drives work env 0 e r → Copies work env e 0
   unfolding lengthOr
   copies-none e r i f items w = sym (ap lengthOr i) ∙ copies-of e r f items w
+
+  module _ (e tag : ℕ) (tag-is : tag ≡ wordAt work e 1) (one : tag ≡ 1) where
+    pub copies-unlisted : (d : ℕ) → d ≡ wordAt work e 2 → d ≡ 0 → Copies work env e 0
+    copies-unlisted d d-is h = copies-none e _ refl (drives-few e tag tag-is 0 d one d-is (omega arith))
+
+    pub copies-own : (d k list c : ℕ) → d ≡ wordAt work e 2 → k ≡ wordAt work e 3 → (d ≡ 0 → ⊥) → list ≡ takenIn env k (d - 1) → Counts work list c → Copies work env e c
+    copies-own d k list c d-is k-is h g l =
+        let s : d - 1 ≡ d - 0 - 1 = omega arith in
+        copies-some e c _ refl (drives-one e tag tag-is 0 d k list c one d-is k-is (omega arith) (g ∙ ap (takenIn env k) s) l)
+
+    -- a variable is driven by no list or by one, which has the length of the first
+    pub all-own : (c : ℕ) → Copies work env e c → AllOf work env 0 e c true
+    unfolding countBy driving lengthsBy drivers
+    all-own c f items w =
+        rw (f items w, templateAt-variable items work e (sym tag-is ∙ one)) (first-alone _ (ltb 0 (wordAt work e 2)) _)

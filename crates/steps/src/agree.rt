@@ -46,7 +46,7 @@ pub fn lengths_agree(work: &[u32], env: &[u32; environment::WORDS], t: u32) -> b
         return lengths_agree(work, env, rest);
     }
     let c = lengths::copies(work, env, head);
-    if !lengths::all_of(work, env, 0, head, c) {
+    if !lengths::one_length(work, env, head, c) {
         return false;
     }
     if !copies_agree(work, env, head, c) {

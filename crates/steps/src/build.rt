@@ -134,7 +134,7 @@ fn build_ellipsis(
     let first = cells::reference(work, t, 3);
     let rest = cells::reference(work, t, 2);
     let c = lengths::copies(work, env, first);
-    if !lengths::all_of(work, env, 0, first, c) {
+    if !lengths::one_length(work, env, first, c) {
         return Built::Stopped;
     }
     let Built::At(tail, f) = build_part(work, top, fuel, env, w, rest) else {

@@ -57,10 +57,19 @@ pub fn driver(work: &[u32], env: &[u32; environment::WORDS], j: u32, t: u32) -> 
     driver(work, env, j, rest)
 }
 
-// How many copies an element gets: as many as its first driving list has elements.
+// How many copies an element gets: as many as its first driving list has elements. A variable is driven by its own list.
 pub fn copies(work: &[u32], env: &[u32; environment::WORDS], e: u32) -> u32
     ensures { λ r. ⌜ Copies (now (work .entry)) (now (env .entry)) e r ⌝ }
 {
+    if cells::word(work, e, cells::TAG) == rule_cells::cells::VARIABLE {
+        let d = cells::word(work, e, 2);
+        if d == 0 {
+            return 0;
+        }
+        let k = cells::word(work, e, 3);
+        let list = environment::taken(env, k, d - 1);
+        return lists::count(work, list);
+    }
     match driver(work, env, 0, e) {
         Driving::Length(c) => c,
         Driving::None => 0,
@@ -95,4 +104,15 @@ pub fn all_of(work: &[u32], env: &[u32; environment::WORDS], j: u32, t: u32, c: 
     }
     let rest = cells::reference(work, t, 2);
     all_of(work, env, j, rest, c)
+}
+
+// Whether all the lists that drive an element have as many elements as the first, c. A variable has no second.
+pub fn one_length(work: &[u32], env: &[u32; environment::WORDS], e: u32, c: u32) -> bool
+    requires { ⌜ Copies (now work) (now env) e c ⌝ }
+    ensures { λ r. ⌜ AllOf (now (work .entry)) (now (env .entry)) 0 e c r ⌝ }
+{
+    if cells::word(work, e, cells::TAG) == rule_cells::cells::VARIABLE {
+        return true;
+    }
+    all_of(work, env, 0, e, c)
 }

@@ -13,7 +13,7 @@ use Rattle.arena.proofs.cells.word.Reads as word-reads
 use Rattle.steps.proofs.agree.flat.Reads as flat-reads
 use Rattle.steps.proofs.environment.begin.Reads as begin-reads
 use Rattle.steps.proofs.environment.enter.Reads as enter-reads
-use Rattle.steps.proofs.lengths.all_of.Reads as all-of-reads
+use Rattle.steps.proofs.lengths.one_length.Reads as one-length-reads
 use Rattle.steps.proofs.lengths.copies.Reads as copies-reads
 use Rattle.steps.proofs.agree.+copies_agree+lengths_agree.{statement}
 use Rattle.steps.proofs.agree.+copies_agree+lengths_agree.Tie.{close}
@@ -63,7 +63,7 @@ abbrev copies-agree-claims : ℕ → copies-agree-lts.Claims
 copies-agree-claims t = (flat-reads.Asked, flat-reads.Learnt, begin-reads.Asked, begin-reads.Learnt, enter-reads.Asked, enter-reads.Learnt, lengths-agree-below t, lengths-agree.Post)
 
 abbrev lengths-agree-claims : ℕ → lengths-agree-lts.Claims
-lengths-agree-claims t = (word-reads.Asked, word-reads.Learnt, reference-reads.Asked, reference-reads.Learnt, lengths-agree-below t, lengths-agree.Post, copies-reads.Asked, copies-reads.Learnt, all-of-reads.Asked, all-of-reads.Learnt, copies-agree-below t, copies-agree.Post)
+lengths-agree-claims t = (word-reads.Asked, word-reads.Learnt, reference-reads.Asked, reference-reads.Learnt, lengths-agree-below t, lengths-agree.Post, copies-reads.Asked, copies-reads.Learnt, one-length-reads.Asked, one-length-reads.Learnt, copies-agree-below t, copies-agree.Post)
 
 abbrev copies-agree-Inv-loop : copies-agree-lts.InvT-loop
 copies-agree-Inv-loop work env e c table₀ k₀ table k =
@@ -207,8 +207,8 @@ lengths-agree-copies-requires : (t : ℕ) → lengths-agree-lts.Need-copies-requ
 lengths-agree-copies-requires t c κs =
     search needs
 
-lengths-agree-all-of-requires : (t : ℕ) → lengths-agree-lts.Need-all-of-requires (lengths-agree-claims t) (lengths-agree-at t) lengths-agree.Post
-lengths-agree-all-of-requires t c κs =
+lengths-agree-one-length-requires : (t : ℕ) → lengths-agree-lts.Need-one-length-requires (lengths-agree-claims t) (lengths-agree-at t) lengths-agree.Post
+lengths-agree-one-length-requires t c κs =
     search needs
 
 lengths-agree-returns-5 : (t : ℕ) → lengths-agree-lts.Need-returns-5 (lengths-agree-claims t) (lengths-agree-at t) lengths-agree.Post
@@ -221,9 +221,9 @@ lengths-agree-returns-5 t c =
     let reference2 = c .before .before .before .before .reference2 in
     let if3 = c .before .before .before .if3 in
     let copies = c .before .before .copies in
-    let all-of = c .before .all-of in
+    let one-length = c .before .one-length in
     let if5 = c .if5 in
-    agree-differ (a .work .now) (a .env .now) (a .t) _ (word .ensures) _ _ (reference .ensures) (reference2 .ensures) (omega (arith, if1 .left, if2 .left, if3 .left)) _ (copies .ensures) _ (all-of .ensures) (not-true _ (if5 .taken))
+    agree-differ (a .work .now) (a .env .now) (a .t) _ (word .ensures) _ _ (reference .ensures) (reference2 .ensures) (omega (arith, if1 .left, if2 .left, if3 .left)) _ (copies .ensures) _ (one-length .ensures) (not-true _ (if5 .taken))
 
 lengths-agree-copies-agree-requires : (t : ℕ) → lengths-agree-lts.Need-copies-agree-requires (lengths-agree-claims t) (lengths-agree-at t) lengths-agree.Post
 lengths-agree-copies-agree-requires t c κs =
@@ -244,11 +244,11 @@ lengths-agree-returns-6 t c =
     let reference2 = c .before .before .before .before .before .before .reference2 in
     let if3 = c .before .before .before .before .before .if3 in
     let copies = c .before .before .before .before .copies in
-    let all-of = c .before .before .before .all-of in
+    let one-length = c .before .before .before .one-length in
     let if5 = c .before .before .if5 in
     let copies-agree = c .before .copies-agree in
     let if6 = c .if6 in
-    agree-copies-no (a .work .now) (a .env .now) (a .t) _ (word .ensures) _ _ (reference .ensures) (reference2 .ensures) (omega (arith, if1 .left, if2 .left, if3 .left)) _ (copies .ensures) _ (all-of .ensures) (not-false _ (if5 .left)) _ (copies-agree .ensures) (not-true _ (if6 .taken))
+    agree-copies-no (a .work .now) (a .env .now) (a .t) _ (word .ensures) _ _ (reference .ensures) (reference2 .ensures) (omega (arith, if1 .left, if2 .left, if3 .left)) _ (copies .ensures) _ (one-length .ensures) (not-false _ (if5 .left)) _ (copies-agree .ensures) (not-true _ (if6 .taken))
 
 lengths-agree-lengths-agree-requires-3 : (t : ℕ) → lengths-agree-lts.Need-lengths-agree-requires-3 (lengths-agree-claims t) (lengths-agree-at t) lengths-agree.Post
 lengths-agree-lengths-agree-requires-3 t c κs =
@@ -269,12 +269,12 @@ lengths-agree-returns-7 t c =
     let reference2 = c .before .before .before .before .before .before .before .reference2 in
     let if3 = c .before .before .before .before .before .before .if3 in
     let copies = c .before .before .before .before .before .copies in
-    let all-of = c .before .before .before .before .all-of in
+    let one-length = c .before .before .before .before .one-length in
     let if5 = c .before .before .before .if5 in
     let copies-agree = c .before .before .copies-agree in
     let if6 = c .before .if6 in
     let lengths-agree3 = c .lengths-agree3 in
-    agree-rest (a .work .now) (a .env .now) (a .t) _ (word .ensures) _ _ (reference .ensures) (reference2 .ensures) (omega (arith, if1 .left, if2 .left, if3 .left)) _ (copies .ensures) _ (all-of .ensures) (not-false _ (if5 .left)) _ (copies-agree .ensures) _ (not-false _ (if6 .left)) (lengths-agree3 .ensures)
+    agree-rest (a .work .now) (a .env .now) (a .t) _ (word .ensures) _ _ (reference .ensures) (reference2 .ensures) (omega (arith, if1 .left, if2 .left, if3 .left)) _ (copies .ensures) _ (one-length .ensures) (not-false _ (if5 .left)) _ (copies-agree .ensures) _ (not-false _ (if6 .left)) (lengths-agree3 .ensures)
 
 pub +copies-agree+lengths-agree-spec : {M : Type 1} → statement M
 +copies-agree+lengths-agree-spec =
@@ -307,7 +307,7 @@ pub +copies-agree+lengths-agree-spec : {M : Type 1} → statement M
     (lengths-agree-lengths-agree-requires-2 t)
     (lengths-agree-returns-4 t)
     (lengths-agree-copies-requires t)
-    (lengths-agree-all-of-requires t)
+    (lengths-agree-one-length-requires t)
     (lengths-agree-returns-5 t)
     (lengths-agree-copies-agree-requires t)
     (lengths-agree-returns-6 t)

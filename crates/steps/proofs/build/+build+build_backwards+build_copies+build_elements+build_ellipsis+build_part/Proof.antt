@@ -32,7 +32,7 @@ use Rattle.steps.proofs.environment.begin.Reads as begin-reads
 use Rattle.steps.proofs.environment.enter.Reads as enter-reads
 use Rattle.steps.proofs.environment.is_listed.Reads as is-listed-reads
 use Rattle.steps.proofs.environment.taken.Reads as taken-reads
-use Rattle.steps.proofs.lengths.all_of.Reads as all-of-reads
+use Rattle.steps.proofs.lengths.one_length.Reads as one-length-reads
 use Rattle.steps.proofs.lengths.copies.Reads as copies-reads
 use Rattle.steps.proofs.build.+build+build_backwards+build_copies+build_elements+build_ellipsis+build_part.{statement}
 use Rattle.steps.proofs.build.+build+build_backwards+build_copies+build_elements+build_ellipsis+build_part.Tie.{close}
@@ -157,7 +157,7 @@ abbrev build-elements-claims : ℕ → build-elements-lts.Claims
 build-elements-claims t = (is-listed-reads.Asked, is-listed-reads.Learnt, build-backwards-below t, build-backwards.Post, word-reads.Asked, word-reads.Learnt, taken-reads.Asked, taken-reads.Learnt, copy-elements-reads.Asked, copy-elements-reads.Learnt)
 
 abbrev build-ellipsis-claims : ℕ → build-ellipsis-lts.Claims
-build-ellipsis-claims t = (reference-reads.Asked, reference-reads.Learnt, copies-reads.Asked, copies-reads.Learnt, all-of-reads.Asked, all-of-reads.Learnt, build-part-below t, build-part.Post, build-copies-below t, build-copies.Post)
+build-ellipsis-claims t = (reference-reads.Asked, reference-reads.Learnt, copies-reads.Asked, copies-reads.Learnt, one-length-reads.Asked, one-length-reads.Learnt, build-part-below t, build-part.Post, build-copies-below t, build-copies.Post)
 
 abbrev build-part-claims : ℕ → build-part-lts.Claims
 build-part-claims t = (word-reads.Asked, word-reads.Learnt, build-leaf-reads.Asked, build-leaf-reads.Learnt, build-below t, build.Post)
@@ -427,8 +427,8 @@ build-ellipsis-copies-requires : (t : ℕ) → build-ellipsis-lts.Need-copies-re
 build-ellipsis-copies-requires t c κs =
     search needs
 
-build-ellipsis-all-of-requires : (t : ℕ) → build-ellipsis-lts.Need-all-of-requires (build-ellipsis-claims t) (build-ellipsis-at t) build-ellipsis.Post
-build-ellipsis-all-of-requires t c κs =
+build-ellipsis-one-length-requires : (t : ℕ) → build-ellipsis-lts.Need-one-length-requires (build-ellipsis-claims t) (build-ellipsis-at t) build-ellipsis.Post
+build-ellipsis-one-length-requires t c κs =
     search needs
 
 build-ellipsis-same-length : (t : ℕ) → build-ellipsis-lts.Need-same-length (build-ellipsis-claims t) (build-ellipsis-at t) build-ellipsis.Post
@@ -437,11 +437,11 @@ build-ellipsis-same-length t c =
 
 build-ellipsis-returns : (t : ℕ) → build-ellipsis-lts.Need-returns (build-ellipsis-claims t) (build-ellipsis-at t) build-ellipsis.Post
 build-ellipsis-returns t c =
-    let a = c .before .before .before .before .before .before .before .before .before .before .args in ellipsis-differs (a .work .now) (a .top) (a .fuel) (a .env .now) (a .w) (a .t) _ refl (c .before .before .before .before .before .before .before .before .before .before .pre .1 .0) _ _ (c .before .before .before .before .before .before .before .reference .ensures) (c .before .before .before .before .before .reference2 .ensures) (c .before .before .before .before .before .before .before .before .before .before .pre .1 .1) _ (c .before .before .before .copies .ensures) _ (c .before .all-of .ensures) (not-true _ (c .if1 .taken))
+    let a = c .before .before .before .before .before .before .before .before .before .before .args in ellipsis-differs (a .work .now) (a .top) (a .fuel) (a .env .now) (a .w) (a .t) _ refl (c .before .before .before .before .before .before .before .before .before .before .pre .1 .0) _ _ (c .before .before .before .before .before .before .before .reference .ensures) (c .before .before .before .before .before .reference2 .ensures) (c .before .before .before .before .before .before .before .before .before .before .pre .1 .1) _ (c .before .before .before .copies .ensures) _ (c .before .one-length .ensures) (not-true _ (c .if1 .taken))
 
 build-ellipsis-build-part-requires : (t : ℕ) → build-ellipsis-lts.Need-build-part-requires (build-ellipsis-claims t) (build-ellipsis-at t) build-ellipsis.Post
 build-ellipsis-build-part-requires t c κs =
-    let a = c .before .before .before .before .before .before .before .before .before .before .before .args in let l = tag-falls (a .work .now) (a .t) _ refl 2 _ (λ z. omega (arith, c .before .before .before .before .before .before .before .before .before .before .before .pre .1 .1)) (c .before .before .before .before .before .before .reference2 .ensures) in (omega (arith, l, c .before .before .before .before .before .before .before .before .before .before .before .pre .0), ellipsis-rest (a .work .now) (a .top) (a .fuel) (a .env .now) (a .w) (a .t) _ refl (c .before .before .before .before .before .before .before .before .before .before .before .pre .1 .0) _ _ (c .before .before .before .before .before .before .before .before .reference .ensures) (c .before .before .before .before .before .before .reference2 .ensures) (c .before .before .before .before .before .before .before .before .before .before .before .pre .1 .1) _ (c .before .before .before .before .copies .ensures) _ (c .before .before .all-of .ensures))
+    let a = c .before .before .before .before .before .before .before .before .before .before .before .args in let l = tag-falls (a .work .now) (a .t) _ refl 2 _ (λ z. omega (arith, c .before .before .before .before .before .before .before .before .before .before .before .pre .1 .1)) (c .before .before .before .before .before .before .reference2 .ensures) in (omega (arith, l, c .before .before .before .before .before .before .before .before .before .before .before .pre .0), ellipsis-rest (a .work .now) (a .top) (a .fuel) (a .env .now) (a .w) (a .t) _ refl (c .before .before .before .before .before .before .before .before .before .before .before .pre .1 .0) _ _ (c .before .before .before .before .before .before .before .before .reference .ensures) (c .before .before .before .before .before .before .reference2 .ensures) (c .before .before .before .before .before .before .before .before .before .before .before .pre .1 .1) _ (c .before .before .before .before .copies .ensures) _ (c .before .before .one-length .ensures))
 
 build-ellipsis-enum-known-tail : (t : ℕ) → build-ellipsis-lts.Need-enum-known-tail (build-ellipsis-claims t) (build-ellipsis-at t) build-ellipsis.Post
 build-ellipsis-enum-known-tail t c =
@@ -457,11 +457,11 @@ build-ellipsis-same-length-2 t c =
 
 build-ellipsis-returns-2 : (t : ℕ) → build-ellipsis-lts.Need-returns-2 (build-ellipsis-claims t) (build-ellipsis-at t) build-ellipsis.Post
 build-ellipsis-returns-2 t c =
-    let a = c .before .before .before .before .before .before .before .before .before .before .before .before .before .before .before .before .args in ellipsis-rest-costly (a .work .now) (a .top) (a .fuel) (a .env .now) (a .w) (a .t) _ refl (c .before .before .before .before .before .before .before .before .before .before .before .before .before .before .before .before .pre .1 .0) _ _ (c .before .before .before .before .before .before .before .before .before .before .before .before .before .reference .ensures) (c .before .before .before .before .before .before .before .before .before .before .before .reference2 .ensures) (c .before .before .before .before .before .before .before .before .before .before .before .before .before .before .before .before .pre .1 .1) _ (c .before .before .before .before .before .before .before .before .before .copies .ensures) _ (c .before .before .before .before .before .before .before .all-of .ensures) _ (stops-at (a .work .now) (c .before .before .before .before .build-part .last .0) (a .top) (a .fuel) (a .env .now) (a .w) (c .before .before .before .before .before .before .before .before .before .before .before .reference2 .result) _ (c .enum-told .given .1) (c .before .before .before .before .build-part .ensures))
+    let a = c .before .before .before .before .before .before .before .before .before .before .before .before .before .before .before .before .args in ellipsis-rest-costly (a .work .now) (a .top) (a .fuel) (a .env .now) (a .w) (a .t) _ refl (c .before .before .before .before .before .before .before .before .before .before .before .before .before .before .before .before .pre .1 .0) _ _ (c .before .before .before .before .before .before .before .before .before .before .before .before .before .reference .ensures) (c .before .before .before .before .before .before .before .before .before .before .before .reference2 .ensures) (c .before .before .before .before .before .before .before .before .before .before .before .before .before .before .before .before .pre .1 .1) _ (c .before .before .before .before .before .before .before .before .before .copies .ensures) _ (c .before .before .before .before .before .before .before .one-length .ensures) _ (stops-at (a .work .now) (c .before .before .before .before .build-part .last .0) (a .top) (a .fuel) (a .env .now) (a .w) (c .before .before .before .before .before .before .before .before .before .before .before .reference2 .result) _ (c .enum-told .given .1) (c .before .before .before .before .build-part .ensures))
 
 build-ellipsis-build-copies-requires : (t : ℕ) → build-ellipsis-lts.Need-build-copies-requires (build-ellipsis-claims t) (build-ellipsis-at t) build-ellipsis.Post
 build-ellipsis-build-copies-requires t c κs =
-    let a = c .before .before .before .before .before .before .before .before .before .before .before .before .before .before .before .before .before .before .args in let l = tag-falls (a .work .now) (a .t) _ refl 3 _ (λ z. omega (arith, c .before .before .before .before .before .before .before .before .before .before .before .before .before .before .before .before .before .before .pre .1 .1)) (c .before .before .before .before .before .before .before .before .before .before .before .before .before .before .before .reference .ensures) in (omega (arith, l, c .before .before .before .before .before .before .before .before .before .before .before .before .before .before .before .before .before .before .pre .0), ellipsis-copies (a .work .now) (a .top) (a .fuel) (a .env .now) (a .w) (a .t) _ refl (c .before .before .before .before .before .before .before .before .before .before .before .before .before .before .before .before .before .before .pre .1 .0) _ _ (c .before .before .before .before .before .before .before .before .before .before .before .before .before .before .before .reference .ensures) (c .before .before .before .before .before .before .before .before .before .before .before .before .before .reference2 .ensures) (c .before .before .before .before .before .before .before .before .before .before .before .before .before .before .before .before .before .before .pre .1 .1) _ (c .before .before .before .before .before .before .before .before .before .before .before .copies .ensures) _ (c .before .before .before .before .before .before .before .before .before .all-of .ensures) (not-false _ (c .before .before .before .before .before .before .before .before .if1 .left)) _ _ _ (gives-at (a .work .now) (c .before .before .before .before .before .before .build-part .last .0) (a .top) (a .fuel) (a .env .now) (a .w) (c .before .before .before .before .before .before .before .before .before .before .before .before .before .reference2 .result) _ _ _ (c .before .before .tail .given .1) (c .before .before .before .before .before .before .build-part .ensures)) (c .before .before .before .before .before .before .build-part .kept .0))
+    let a = c .before .before .before .before .before .before .before .before .before .before .before .before .before .before .before .before .before .before .args in let l = tag-falls (a .work .now) (a .t) _ refl 3 _ (λ z. omega (arith, c .before .before .before .before .before .before .before .before .before .before .before .before .before .before .before .before .before .before .pre .1 .1)) (c .before .before .before .before .before .before .before .before .before .before .before .before .before .before .before .reference .ensures) in (omega (arith, l, c .before .before .before .before .before .before .before .before .before .before .before .before .before .before .before .before .before .before .pre .0), ellipsis-copies (a .work .now) (a .top) (a .fuel) (a .env .now) (a .w) (a .t) _ refl (c .before .before .before .before .before .before .before .before .before .before .before .before .before .before .before .before .before .before .pre .1 .0) _ _ (c .before .before .before .before .before .before .before .before .before .before .before .before .before .before .before .reference .ensures) (c .before .before .before .before .before .before .before .before .before .before .before .before .before .reference2 .ensures) (c .before .before .before .before .before .before .before .before .before .before .before .before .before .before .before .before .before .before .pre .1 .1) _ (c .before .before .before .before .before .before .before .before .before .before .before .copies .ensures) _ (c .before .before .before .before .before .before .before .before .before .one-length .ensures) (not-false _ (c .before .before .before .before .before .before .before .before .if1 .left)) _ _ _ (gives-at (a .work .now) (c .before .before .before .before .before .before .build-part .last .0) (a .top) (a .fuel) (a .env .now) (a .w) (c .before .before .before .before .before .before .before .before .before .before .before .before .before .reference2 .result) _ _ _ (c .before .before .tail .given .1) (c .before .before .before .before .before .before .build-part .ensures)) (c .before .before .before .before .before .before .build-part .kept .0))
 
 build-ellipsis-same-length-3 : (t : ℕ) → build-ellipsis-lts.Need-same-length-3 (build-ellipsis-claims t) (build-ellipsis-at t) build-ellipsis.Post
 build-ellipsis-same-length-3 t c =
@@ -469,7 +469,7 @@ build-ellipsis-same-length-3 t c =
 
 build-ellipsis-returns-3 : (t : ℕ) → build-ellipsis-lts.Need-returns-3 (build-ellipsis-claims t) (build-ellipsis-at t) build-ellipsis.Post
 build-ellipsis-returns-3 t c =
-    let a = c .before .before .before .before .before .before .before .before .before .before .before .before .before .before .before .before .before .before .before .before .before .args in made-copies (a .work .now) (a .top) (a .fuel) (a .env .now) (a .w) (a .t) _ refl (c .before .before .before .before .before .before .before .before .before .before .before .before .before .before .before .before .before .before .before .before .before .pre .1 .0) _ _ (c .before .before .before .before .before .before .before .before .before .before .before .before .before .before .before .before .before .before .reference .ensures) (c .before .before .before .before .before .before .before .before .before .before .before .before .before .before .before .before .reference2 .ensures) (c .before .before .before .before .before .before .before .before .before .before .before .before .before .before .before .before .before .before .before .before .before .pre .1 .1) _ (c .before .before .before .before .before .before .before .before .before .before .before .before .before .before .copies .ensures) _ (c .before .before .before .before .before .before .before .before .before .before .before .before .all-of .ensures) (not-false _ (c .before .before .before .before .before .before .before .before .before .before .before .if1 .left)) _ _ _ (gives-at (a .work .now) (c .before .before .before .before .before .before .before .before .before .build-part .last .0) (a .top) (a .fuel) (a .env .now) (a .w) (c .before .before .before .before .before .before .before .before .before .before .before .before .before .before .before .before .reference2 .result) _ _ _ (c .before .before .before .before .before .tail .given .1) (c .before .before .before .before .before .before .before .before .before .build-part .ensures)) (c .before .before .before .before .before .before .before .before .before .build-part .kept .0) (c .before .before .build-copies .last .0) (c .before .before .build-copies .result) (c .before .before .build-copies .ensures)
+    let a = c .before .before .before .before .before .before .before .before .before .before .before .before .before .before .before .before .before .before .before .before .before .args in made-copies (a .work .now) (a .top) (a .fuel) (a .env .now) (a .w) (a .t) _ refl (c .before .before .before .before .before .before .before .before .before .before .before .before .before .before .before .before .before .before .before .before .before .pre .1 .0) _ _ (c .before .before .before .before .before .before .before .before .before .before .before .before .before .before .before .before .before .before .reference .ensures) (c .before .before .before .before .before .before .before .before .before .before .before .before .before .before .before .before .reference2 .ensures) (c .before .before .before .before .before .before .before .before .before .before .before .before .before .before .before .before .before .before .before .before .before .pre .1 .1) _ (c .before .before .before .before .before .before .before .before .before .before .before .before .before .before .copies .ensures) _ (c .before .before .before .before .before .before .before .before .before .before .before .before .one-length .ensures) (not-false _ (c .before .before .before .before .before .before .before .before .before .before .before .if1 .left)) _ _ _ (gives-at (a .work .now) (c .before .before .before .before .before .before .before .before .before .build-part .last .0) (a .top) (a .fuel) (a .env .now) (a .w) (c .before .before .before .before .before .before .before .before .before .before .before .before .before .before .before .before .reference2 .result) _ _ _ (c .before .before .before .before .before .tail .given .1) (c .before .before .before .before .before .before .before .before .before .build-part .ensures)) (c .before .before .before .before .before .before .before .before .before .build-part .kept .0) (c .before .before .build-copies .last .0) (c .before .before .build-copies .result) (c .before .before .build-copies .ensures)
 
 build-part-word-requires : (t : ℕ) → build-part-lts.Need-word-requires (build-part-claims t) (build-part-at t) build-part.Post
 build-part-word-requires t c κs =
@@ -602,7 +602,7 @@ pub +build+build-backwards+build-copies+build-elements+build-ellipsis+build-part
     (build-ellipsis-reference-requires t)
     (build-ellipsis-reference-requires-2 t)
     (build-ellipsis-copies-requires t)
-    (build-ellipsis-all-of-requires t)
+    (build-ellipsis-one-length-requires t)
     (build-ellipsis-same-length t)
     (build-ellipsis-returns t)
     (build-ellipsis-build-part-requires t)
