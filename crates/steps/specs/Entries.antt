@@ -6,6 +6,7 @@ use mathlib.Core.Option.{Option, none, some}
 use Prim.Native.Nat.{ℕ, zero, suc, _+_, _*_, _≤_}
 use lib.Dec.{eqb}
 use lib.ListN.{getD}
+use Rattle.words.specs.Limits.{patternVariablesMost}
 use Rattle.recipe.specs.Tree.{element}
 use Rattle.expansion.specs.Rules.{Pattern}
 use Rattle.expansion.specs.Match.{part}
@@ -82,6 +83,11 @@ pub record Stored (k : ℕ) (x : Entry) (old new : List ℕ) : Type 0 where
   pub low : (b : ℕ) → Low x b → Under old b → Under new b
 
 -- ---- going along lists
+
+-- only entries below n go along lists: the others are under no ellipsis
+pub record Moving (env : List ℕ) (n : ℕ) : Type 0 where
+  pub among : n ≤ patternVariablesMost
+  pub others : (k : ℕ) → n ≤ k → entryAt env k .first ≡ 0
 
 -- the node is the list after its first i elements
 pub record Ahead (work : List ℕ) (list i node : ℕ) : Type 0 where

@@ -22,7 +22,7 @@ use Rattle.rule_cells.specs.Cells.{patternAt}
 use Rattle.steps.specs.declared.environment.Entry.{Entry}
 use Rattle.steps.specs.Environment.{within, entering, enter}
 use Rattle.steps.specs.Parts.{Part}
-use Rattle.steps.specs.Entries.{entryWords, tableWords, field, entryAt, patternIn, takingOf, environmentAt, level, takenIn, Listed, Under, Low, Stored, Ahead, begun, Along, AlongAll, Within, Next, Enters}
+use Rattle.steps.specs.Entries.{entryWords, tableWords, field, entryAt, patternIn, takingOf, environmentAt, level, takenIn, Listed, Under, Low, Stored, Moving, Ahead, begun, Along, AlongAll, Within, Next, Enters}
 
 -- ---- words of an entry
 
@@ -246,6 +246,38 @@ module _ (outer : List ℕ) where
       λ b u. under-low inner b (λ k. low-same _ _ b (all-begun k) (begun-low _ b (entry-low outer b u k))),
     )
 
+-- ---- entries that go along lists
+
+-- of the entries below k, only those below n do
+pub record MovingBelow (env : List ℕ) (k n : ℕ) : Type 0 where
+  pub among : n ≤ k
+  pub others : (m : ℕ) → m < k → n ≤ m → entryAt env m .first ≡ 0
+
+module _ (env : List ℕ) where
+  pub moving-all : (k : ℕ) → MovingBelow env k k
+  moving-all k = record { among = omega arith; others = λ m l h. absurd (omega arith) }
+
+  pub moving-less : (k n : ℕ) (x : Entry) → x ≡ entryAt env k → x .first ≡ 0 → MovingBelow env k n → MovingBelow env (k + 1) n
+  moving-less k n x x-is e f =
+      record {
+        among = omega (arith, f .among);
+        others = below-more (λ m. n ≤ m → entryAt env m .first ≡ 0) k (f .others) (λ h. ap (λ z. z .first) (sym x-is) ∙ e);
+      }
+
+  pub moving-ends : (k n : ℕ) → length env ≡ tableWords → k ≤ patternVariablesMost → patternVariablesMost ≤ k → MovingBelow env k n → Moving env n
+  moving-ends k n room low past f =
+      record {
+        among = omega (arith, f .among);
+        others = λ m h.
+            cases (ltb m k)
+            (λ t. f .others m (ltb-true m k t) h)
+            (λ t. ap (λ x. x .first) (entry-out env m room (omega (arith, ltb-false m k t))) ∙ blank-first);
+      }
+
+-- they are the same in every copy
+pub moving-along : (work outer inner : List ℕ) (i n : ℕ) → AlongAll work outer i inner → Moving outer n → Moving inner n
+moving-along work outer inner i n a f = record { among = f .among; others = λ k h. a k .first-is ∙ f .others k h }
+
 -- ---- the next copy
 
 module _ (work : List ℕ) (q k list before : ℕ) where
@@ -410,14 +442,14 @@ module _ (work old : List ℕ) where
           left = λ m l. s .other m (λ z. omega arith) ∙ so-far .left m (omega arith);
         }
 
-  module _ (n : ℕ) (new : List ℕ) (room : length old ≡ tableWords) (past : patternVariablesMost ≤ n) (all : Entering work old n new) where
+  module _ (moving n : ℕ) (new : List ℕ) (still : Moving old moving) (past : moving ≤ n) (all : Entering work old n new) where
     all-follow : (k : ℕ) → Follows work k (entryAt old k) (entryAt new k)
     all-follow k =
         cases (ltb k n)
         (λ t. all .done k (ltb-true k n t))
         (λ t.
         let l = ltb-false k n t in
-        record { flat = λ e. all .left k l; next = λ h. absurd (h (ap (λ x. x .first) (entry-out old k room (omega arith)) ∙ blank-first)) })
+        record { flat = λ e. all .left k l; next = λ h. absurd (h (still .others k (omega arith))) })
 
     pub entered-all : Enters work old new
     unfolding environmentAt enter takingOf

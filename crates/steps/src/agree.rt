@@ -63,10 +63,10 @@ pub fn copies_agree(work: &[u32], env: &[u32; environment::WORDS], e: u32, c: u3
         return true;
     }
     let mut table = [0u32; environment::WORDS];
-    environment::begin(env, &mut table);
+    let moving = environment::begin(env, &mut table);
     let mut k = 0;
     while k < c {
-        environment::enter(work, &mut table);
+        environment::enter(work, &mut table, moving);
         if !lengths_agree(work, &table, e) {
             return false;
         }

@@ -157,7 +157,7 @@ fn build_backwards(
     ensures { λ r. ⌜ Backwards (now (work .entry)) (now (work .exit)) top fuel (now (env .entry)) w e c r ⌝ }
 {
     let mut table = [0u32; environment::WORDS];
-    environment::begin(env, &mut table);
+    let moving = environment::begin(env, &mut table);
     let mut list = top;
     let mut left = fuel;
     let mut k = 0;
@@ -165,7 +165,7 @@ fn build_backwards(
         if left == 0 {
             return Built::Stopped;
         }
-        environment::enter(work, &mut table);
+        environment::enter(work, &mut table, moving);
         let Built::At(head, g) = build_part(work, list, left - 1, &table, w, e) else {
             return Built::Stopped;
         };

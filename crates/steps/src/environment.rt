@@ -8,7 +8,7 @@ ghost use mathlib.Core.List.{List};
 ghost use lib.ListN.{length};
 ghost use Prim.Native.Nat.{ℕ, _<_};
 ghost use Rattle.words.specs.Limits.{patternVariablesMost};
-ghost use Rattle.steps.specs.Entries.{tableWords, entryAt, takenIn, level, Listed, Under, begun, Stored, AlongAll, Within, Next, Enters};
+ghost use Rattle.steps.specs.Entries.{tableWords, entryAt, takenIn, level, Listed, Under, Moving, begun, Stored, AlongAll, Within, Next, Enters};
 use crate::parts;
 use arena::cells;
 use arena::lists;
@@ -122,17 +122,23 @@ fn begun(x: Entry) -> Entry
     }
 }
 
-// The environment before the first copy.
-pub fn begin(outer: &[u32; WORDS], inner: &mut [u32; WORDS])
-    ensures { λ _. ⌜ ((work : List ℕ) → AlongAll work (now (outer .entry)) 0 (now (inner .exit))) × ((b : ℕ) → Under (now (outer .entry)) b → Under (now (inner .exit)) b) ⌝ }
+// The environment before the first copy, and a number of entries past which none moves along a list.
+pub fn begin(outer: &[u32; WORDS], inner: &mut [u32; WORDS]) -> usize
+    ensures { λ r. ⌜ ((work : List ℕ) → AlongAll work (now (outer .entry)) 0 (now (inner .exit))) × ((b : ℕ) → Under (now (outer .entry)) b → Under (now (inner .exit)) b) × (Moving (now (outer .entry)) r) ⌝ }
 {
     let from: &[u32] = outer;
     let to: &mut [u32] = inner;
+    let mut moving: usize = 0;
     let mut k: usize = 0;
     while k < ENTRIES {
-        put(to, k, begun(get(from, k)));
+        let x = get(from, k);
+        if x.first != 0 {
+            moving = k + 1;
+        }
+        put(to, k, begun(x));
         k += 1;
     }
+    moving
 }
 
 // What variable k takes of a list's first element by the element's pattern q; without a pattern, what it took before.
@@ -166,13 +172,14 @@ fn next(work: &[u32], k: u32, x: Entry) -> Entry
     }
 }
 
-// The environment of the next copy.
-pub fn enter(work: &[u32], env: &mut [u32; WORDS])
+// The environment of the next copy. Only entries below this number move.
+pub fn enter(work: &[u32], env: &mut [u32; WORDS], moving: usize)
+    requires { ⌜ Moving (now env) moving ⌝ }
     ensures { λ _. ⌜ Enters (now (work .entry)) (now (env .entry)) (now (env .exit)) ⌝ }
 {
     let table: &mut [u32] = env;
     let mut k: usize = 0;
-    while k < ENTRIES {
+    while k < moving {
         let x = get(table, k);
         if x.first != 0 {
             put(table, k, next(work, k as u32, x));

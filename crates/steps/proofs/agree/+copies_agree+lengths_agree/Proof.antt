@@ -21,6 +21,7 @@ use borrow.Author.Tests.{not-true, not-false}
 use Rattle.steps.specs.PartLaws.{tag-falls}
 use Rattle.steps.specs.Lengths.{CopiesAgree}
 use Rattle.steps.specs.Entries.{AlongAll}
+use Rattle.steps.specs.EntryLaws.{moving-along}
 use Rattle.steps.specs.AgreeLaws.{agree-leaf, copies-flat, agree-head-no, agree-tail, agree-differ, agree-copies-no, agree-rest, begun-copies, copies-no, copies-more}
 use native.Mathlib.Omega.{arith}
 use borrow.Author.Needs.{needs}
@@ -66,11 +67,11 @@ abbrev lengths-agree-claims : ℕ → lengths-agree-lts.Claims
 lengths-agree-claims t = (word-reads.Asked, word-reads.Learnt, reference-reads.Asked, reference-reads.Learnt, lengths-agree-below t, lengths-agree.Post, copies-reads.Asked, copies-reads.Learnt, one-length-reads.Asked, one-length-reads.Learnt, copies-agree-below t, copies-agree.Post)
 
 abbrev copies-agree-Inv-loop : copies-agree-lts.InvT-loop
-copies-agree-Inv-loop work env e c table₀ k₀ table k =
+copies-agree-Inv-loop work env e c moving table₀ k₀ table k =
     (k ≤ c) × CopiesAgree work env e k true × AlongAll work env k table
 
 abbrev copies-agree-μ-loop : copies-agree-lts.MeasureT-loop
-copies-agree-μ-loop work env e c table₀ k₀ table k =
+copies-agree-μ-loop work env e c moving table₀ k₀ table k =
     c - k
 
 copies-agree-flat-requires : (t : ℕ) → copies-agree-lts.Need-flat-requires (copies-agree-claims t) (copies-agree-at t) copies-agree.Post copies-agree-Inv-loop copies-agree-μ-loop
@@ -96,7 +97,10 @@ copies-agree-loop-holds t c =
 
 copies-agree-enter-requires : (t : ℕ) → copies-agree-lts.Need-enter-requires (copies-agree-claims t) (copies-agree-at t) copies-agree.Post copies-agree-Inv-loop copies-agree-μ-loop
 copies-agree-enter-requires t c κs =
-    search needs
+    let a = c .before .before .before .before .before .before .before .before .args in
+    let begin = c .before .before .before .begin in
+    let loop = c .before .before .loop in
+    moving-along (a .work .now) (a .env .now) _ (loop .k) _ (loop .inv .2) (begin .ensures .2)
 
 copies-agree-lengths-agree-requires : (t : ℕ) → copies-agree-lts.Need-lengths-agree-requires (copies-agree-claims t) (copies-agree-at t) copies-agree.Post copies-agree-Inv-loop copies-agree-μ-loop
 copies-agree-lengths-agree-requires t c κs =

@@ -39,6 +39,7 @@ use Rattle.steps.proofs.build.+build+build_backwards+build_copies+build
 use Rattle.steps.specs.PartLaws.{tag-falls}
 use Rattle.steps.specs.Build.{Made, Backwards}
 use Rattle.steps.specs.ResultLaws.{gives-at, stops-at, made-none, pair-tail, pair-tail-costly, pair-head, pair-head-costly, pair-room, made-pair}
+use Rattle.steps.specs.EntryLaws.{moving-along}
 use Rattle.steps.specs.CopyLaws.{Turning, turning-begins, copies-none, copy-buildable, copy-costly, copy-room, turning-more, turning-ends, reversed-asks, copied, listed-waits, listed-backwards}
 use Rattle.steps.specs.EllipsisLaws.{ellipsis-differs, ellipsis-rest, ellipsis-rest-costly, ellipsis-copies, made-copies}
 use native.Mathlib.Omega.{arith}
@@ -271,11 +272,11 @@ build-returns-6 t c =
     let a = c .before .before .before .before .before .before .before .before .before .before .before .before .before .before .before .before .before .before .before .before .before .before .before .before .before .before .before .before .args in made-pair (a .work .now) (a .top) (a .fuel) (a .env .now) (a .w) (a .t) _ (c .before .before .before .before .before .before .before .before .before .before .before .before .before .before .before .before .before .before .before .before .before .before .before .before .before .word .ensures) (c .before .before .before .before .before .before .before .before .before .before .before .before .before .before .before .before .before .before .before .before .before .before .before .before .before .before .before .before .pre .1) _ _ (c .before .before .before .before .before .before .before .before .before .before .before .before .before .before .before .before .before .before .before .before .reference .ensures) (c .before .before .before .before .before .before .before .before .before .before .before .before .before .before .before .before .before .before .reference2 .ensures) (c .before .before .before .before .before .before .before .before .before .before .before .before .before .before .before .before .before .before .before .before .before .before .before .if2 .left) _ (c .before .before .before .before .before .before .before .before .before .before .before .before .before .before .before .before .before .before .before .before .before .before .if3 .left) refl _ _ _ (gives-at (a .work .now) (c .before .before .before .before .before .before .before .before .before .before .before .before .before .before .before .before .build-part .last .0) (a .top) (a .fuel - 1) (a .env .now) (a .w) (c .before .before .before .before .before .before .before .before .before .before .before .before .before .before .before .before .before .before .reference2 .result) _ _ _ (c .before .before .before .before .before .before .before .before .before .before .before .before .tail .given .1) (c .before .before .before .before .before .before .before .before .before .before .before .before .before .before .before .before .build-part .ensures)) (c .before .before .before .before .before .before .before .before .before .before .before .before .before .before .before .before .build-part .kept .0) _ _ _ (gives-at (c .before .before .before .before .before .before .before .before .before .before .before .before .before .before .before .before .build-part .last .0) (c .before .before .before .before .before .before .before .before .before .build-part2 .last .0) _ _ (a .env .now) (a .w) (c .before .before .before .before .before .before .before .before .before .before .before .before .before .before .before .before .before .before .before .before .reference .result) _ _ _ (c .before .before .before .before .before .head .given .1) (c .before .before .before .before .before .before .before .before .before .build-part2 .ensures)) _ _ (c .before .before .put-pair .ensures)
 
 abbrev build-backwards-Inv-loop : build-backwards-lts.InvT-loop
-build-backwards-Inv-loop work₀ top fuel env w e c table₀ list₀ left₀ k₀ work table list left k =
+build-backwards-Inv-loop work₀ top fuel env w e c moving table₀ list₀ left₀ k₀ work table list left k =
     Turning work₀ work top fuel env w e c k list left table
 
 abbrev build-backwards-μ-loop : build-backwards-lts.MeasureT-loop
-build-backwards-μ-loop work₀ top fuel env w e c table₀ list₀ left₀ k₀ work table list left k =
+build-backwards-μ-loop work₀ top fuel env w e c moving table₀ list₀ left₀ k₀ work table list left k =
     c - k
 
 build-backwards-begin-requires : (t : ℕ) → build-backwards-lts.Need-begin-requires (build-backwards-claims t) (build-backwards-at t) build-backwards.Post build-backwards-Inv-loop build-backwards-μ-loop
@@ -296,7 +297,10 @@ build-backwards-returns t c =
 
 build-backwards-enter-requires : (t : ℕ) → build-backwards-lts.Need-enter-requires (build-backwards-claims t) (build-backwards-at t) build-backwards.Post build-backwards-Inv-loop build-backwards-μ-loop
 build-backwards-enter-requires t c κs =
-    search needs
+    let a = c .before .before .before .before .before .before .before .before .args in
+    let begin = c .before .before .before .before .before .begin in
+    let loop = c .before .before .before .before .loop in
+    moving-along (loop .work) (a .env .now) _ (loop .k) _ (loop .inv .along) (begin .ensures .2)
 
 build-backwards-sub-build-part : (t : ℕ) → build-backwards-lts.Need-sub-build-part (build-backwards-claims t) (build-backwards-at t) build-backwards.Post build-backwards-Inv-loop build-backwards-μ-loop
 build-backwards-sub-build-part t c =

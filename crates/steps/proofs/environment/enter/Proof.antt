@@ -7,17 +7,16 @@ use Prim.Native.Nat.{_≤_, _-_}
 use native.Mathlib.Omega.{arith}
 use lib.ListN.{length}
 use borrow.Author.Needs.{needs}
-use Rattle.words.specs.Limits.{patternVariablesMost}
 use Rattle.steps.specs.Entries.{tableWords}
 use Rattle.steps.specs.EntryLaws.{Entering, enter-begins, enter-flat, enter-next, entered-all}
 
 abbrev Inv-loop : tie.InvT-loop
-Inv-loop work table₀ k₀ table k =
-    (k ≤ patternVariablesMost) × (length table ≡ tableWords) × Entering work table₀ k table
+Inv-loop work moving table₀ k₀ table k =
+    (k ≤ moving) × (length table ≡ tableWords) × Entering work table₀ k table
 
 abbrev μ-loop : tie.MeasureT-loop
-μ-loop work table₀ k₀ table k =
-    patternVariablesMost - k
+μ-loop work moving table₀ k₀ table k =
+    moving - k
 
 loop-holds : tie.Need-loop-holds Inv-loop μ-loop
 loop-holds c =
@@ -25,11 +24,11 @@ loop-holds c =
 
 get-requires : tie.Need-get-requires Inv-loop μ-loop
 get-requires c κs =
-    (c .before .before .loop .inv .1, omega arith)
+    (c .before .before .loop .inv .1, omega (arith, c .before .before .before .before .before .pre .among))
 
 cast-next : tie.Need-cast-next Inv-loop μ-loop
 cast-next c =
-    search needs
+    omega (arith, c .before .before .before .before .before .before .before .before .before .pre .among)
 
 next-requires : tie.Need-next-requires Inv-loop μ-loop
 next-requires c κs =
@@ -37,7 +36,7 @@ next-requires c κs =
 
 put-requires : tie.Need-put-requires Inv-loop μ-loop
 put-requires c κs =
-    (c .before .before .before .before .before .before .before .loop .inv .1, omega arith)
+    (c .before .before .before .before .before .before .before .loop .inv .1, omega (arith, c .before .before .before .before .before .before .before .before .before .before .pre .among))
 
 add-k : tie.Need-add-k Inv-loop μ-loop
 add-k c =
@@ -58,7 +57,7 @@ loop-again c =
 
 returns : tie.Need-returns Inv-loop μ-loop
 returns c =
-    entered-all (c .before .before .before .before .args .work .now) (c .before .before .before .before .args .env .now) (c .before .loop .k) _ (c .before .before .table .given .0 .1) (omega arith) (c .before .loop .inv .2)
+    let a = c .before .before .before .before .args in entered-all (a .work .now) (a .env .now) (a .moving) (c .before .loop .k) _ (c .before .before .before .before .pre) (omega arith) (c .before .loop .inv .2)
 
 pub enter-spec : {M : Type 1} → statement M
 enter-spec =
