@@ -96,3 +96,7 @@ module _ (work : List ℕ) (p tag : ℕ) (tag-is : tag ≡ wordAt work p 1) wher
       pub part-list : tag ≡ 7 → Part work p k u u
       unfolding part
       part-list e = record { is-part = λ items w. rw (patternAt-ellipsis items work p (sym tag-is ∙ e)) refl; low = omega arith }
+
+-- what variable k takes of the node by the pattern at `at`, it takes of the use by the whole pattern
+abbrev pub Leads : (work : List ℕ) (p k u at node : ℕ) → Type 0
+Leads work p k u at node = (r : ℕ) → Part work at k node r → Part work p k u r
