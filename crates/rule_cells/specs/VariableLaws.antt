@@ -19,7 +19,7 @@ use Rattle.arena.specs.Arena.{wordAt, referenceAt, nameAt, treeAt}
 use Rattle.arena.specs.ArenaLaws.{cases}
 use Rattle.arena.specs.NodeLaws.{treeAt-name, treeAt-pair}
 use Rattle.arena.specs.ListLaws.{tree-cases}
-use Rattle.rule_cells.specs.Variables.{variableAt, variablesFrom, knownOf, Held, Under, Stored, Deeper}
+use Rattle.rule_cells.specs.Variables.{variableAt, variablesFrom, knownOf, knownFrom, Held, Under, Stored, Deeper}
 use Rattle.rule_cells.specs.declared.variables.Known.{Known}
 use Rattle.rule_cells.specs.declared.variables.Known.the-variants.{At, Not}
 
@@ -60,25 +60,28 @@ module _ (items work : List ℕ) (list w : ℕ) (f : Name → Bool) where
 
 -- ---- known variables
 
-module _ (items work : List ℕ) (w : ℕ) (vars : List ℕ) (x : Name) (i : ℕ) where
-  pub known-none : (n : ℕ) → n ≡ 0 → knownOf Not ≡ variableFrom i (variablesFrom items work w vars i n) x
-  unfolding knownOf variablesFrom variableFrom
-  known-none n e = rw e refl
+module _ (items work : List ℕ) (w : ℕ) (vars : List ℕ) (x : Name) where
+  pub known-all : (i left : ℕ) → knownFrom items work w vars x (i + left) i ≡ variableFrom i (variablesFrom items work w vars i left) x
+  known-all i left = let e : i + left - i ≡ left = omega arith in rw e refl
 
-  known-step : (n : ℕ) → (n ≡ 0 → ⊥) → variableFrom i (variablesFrom items work w vars i n) x ≡ cond (same (nameAt items work (getD vars (2 * i) 0) w) x) (some (i, getD vars (2 * i + 1) 0)) (variableFrom (i + 1) (variablesFrom items work w vars (i + 1) (n - 1)) x)
-  unfolding variablesFrom variableFrom variableAt
-  known-step zero h = absurd (h refl)
-  known-step (suc n) h =
-      let e : suc n - 1 ≡ n = omega arith in
-      let d : suc i ≡ i + 1 = omega arith in
-      rw (e, ← d)
+  module _ (end i : ℕ) where
+    pub known-none : end ≤ i → knownOf Not ≡ knownFrom items work w vars x end i
+    unfolding knownOf variablesFrom variableFrom
+    known-none h = let e : end - i ≡ 0 = omega arith in rw e refl
 
-  pub known-here : (n : ℕ) → (n ≡ 0 → ⊥) → true ≡ same (nameAt items work (getD vars (2 * i) 0) w) x → knownOf (At i (getD vars (2 * i + 1) 0)) ≡ variableFrom i (variablesFrom items work w vars i n) x
-  unfolding knownOf
-  known-here n h e = rw (known-step n h, ← e) refl
+    known-step : i < end → knownFrom items work w vars x end i ≡ cond (same (nameAt items work (getD vars (2 * i) 0) w) x) (some (i, getD vars (2 * i + 1) 0)) (knownFrom items work w vars x end (i + 1))
+    unfolding variablesFrom variableFrom variableAt
+    known-step h =
+        let e : end - i ≡ suc (end - (i + 1)) = omega arith in
+        let d : i + 1 ≡ suc i = omega arith in
+        rw (e, d) refl
 
-  pub known-later : (n : ℕ) (r : Known) → (n ≡ 0 → ⊥) → false ≡ same (nameAt items work (getD vars (2 * i) 0) w) x → knownOf r ≡ variableFrom (i + 1) (variablesFrom items work w vars (i + 1) (n - 1)) x → knownOf r ≡ variableFrom i (variablesFrom items work w vars i n) x
-  known-later n r h e g = rw (known-step n h, ← e) g
+    pub known-here : i < end → true ≡ same (nameAt items work (getD vars (2 * i) 0) w) x → knownOf (At i (getD vars (2 * i + 1) 0)) ≡ knownFrom items work w vars x end i
+    unfolding knownOf
+    known-here h e = rw (known-step h, ← e) refl
+
+    pub known-more : i < end → false ≡ same (nameAt items work (getD vars (2 * i) 0) w) x → knownFrom items work w vars x end (i + 1) ≡ knownFrom items work w vars x end i
+    known-more h e = rw (known-step h, ← e) refl
 
 -- ---- limits
 

@@ -3,11 +3,11 @@ use mathlib.Core.Path.{_≡_}
 use mathlib.Core.Bool.{true, false, cond}
 use mathlib.Core.List.{List, [], _∷_, _++_}
 use mathlib.Core.Option.{Option, none, some}
-use Prim.Native.Nat.{ℕ, zero, suc, _+_, _*_, _≤_, _<_}
+use Prim.Native.Nat.{ℕ, zero, suc, _+_, _*_, _-_, _≤_, _<_}
 use lib.ListN.{getD}
 use Rattle.recipe.specs.Name.{Name, isEllipsis}
 use Rattle.recipe.specs.Tree.{Tree, onName}
-use Rattle.expansion.specs.Rules.{areVariables, depthBefore, isVariable}
+use Rattle.expansion.specs.Rules.{areVariables, depthBefore, isVariable, variableFrom}
 use Rattle.arena.specs.Arena.{nameAt, treeAt}
 use Rattle.rule_cells.specs.declared.variables.Known.{Known}
 use Rattle.rule_cells.specs.declared.variables.Known.the-variants.{At, Not}
@@ -30,6 +30,10 @@ variablesFrom items work w vars i (suc n) = variableAt items work w vars i ∷ v
 unfoldable pub knownOf : Known → Option (ℕ × ℕ)
 knownOf (At k d) = some (k, d)
 knownOf Not = none
+
+-- what the variables from number i up to `end` say of a name
+abbrev pub knownFrom : (items work : List ℕ) (w : ℕ) (vars : List ℕ) (x : Name) → (end i : ℕ) → Option (ℕ × ℕ)
+knownFrom items work w vars x end i = variableFrom i (variablesFrom items work w vars i (end - i)) x
 
 -- the depth of an element before this rest of its list, whatever waits on it
 abbrev pub Deeper : (items work : List ℕ) (rest d r : ℕ) → Type 0

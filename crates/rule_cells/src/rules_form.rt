@@ -25,15 +25,16 @@ pub const RULES: u32 = 16;
 pub fn all_ordinary(items: &[u32], work: &[u32], node: u32) -> bool
     ensures { λ r. ⌜ TestsIn ordinaryAll (now (items .entry)) (now (work .entry)) node r ⌝ }
 {
-    if cells::word(work, node, 3) != cells::PAIR {
-        return true;
+    let mut at = node;
+    while cells::word(work, at, 3) == cells::PAIR {
+        let first = cells::reference(work, at, 2);
+        if names::is_ordinary(items, work, first) {
+            at = cells::reference(work, at, 1);
+        } else {
+            return false;
+        }
     }
-    let first = cells::reference(work, node, 2);
-    if names::is_ordinary(items, work, first) {
-        let rest = cells::reference(work, node, 1);
-        return all_ordinary(items, work, rest);
-    }
-    false
+    true
 }
 
 // Whether a tree is a list of at most 8 such names.

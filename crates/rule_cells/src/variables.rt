@@ -95,15 +95,16 @@ pub fn find(
     requires { ⌜ (3 * markLimit < length (now table)) × (i + left ≤ 16) × (32 ≤ length (now vars)) ⌝ }
     ensures { λ r. ⌜ knownOf r ≡ variableFrom i (variablesFrom (now (items .entry)) (now (work .entry)) w (now (vars .entry)) i left) (nameAt (now (items .entry)) (now (work .entry)) node w) ⌝ }
 {
-    if left == 0 {
-        return Known::Not;
+    let end = i + left;
+    let mut k = i;
+    while k < end {
+        let at = 2 * (k as usize);
+        if names::same_names(items, work, table, vars[at], w, node, w) {
+            return Known::At(k, vars[at + 1]);
+        }
+        k += 1;
     }
-    let at = 2 * (i as usize);
-    let v = vars[at];
-    if names::same_names(items, work, table, v, w, node, w) {
-        return Known::At(i, vars[at + 1]);
-    }
-    find(items, work, table, vars, i + 1, left - 1, node, w)
+    Known::Not
 }
 
 // How many variables the table holds, or none where there are more than 16, two the same, or one under three ellipses.

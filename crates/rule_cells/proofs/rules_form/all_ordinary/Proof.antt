@@ -1,0 +1,74 @@
+-- `rules_form::all_ordinary`: what holds of the elements that are left holds of all.
+use Rattle.rule_cells.proofs.rules_form.all_ordinary.Statement.{statement}
+use Rattle.rule_cells.proofs.rules_form.all_ordinary.Tie as tie
+use borrow.Author.Needs.{needs}
+use mathlib.Core.Path.{sym, _∙_}
+use mathlib.Core.Bool.{Bool, true, false}
+use native.Mathlib.Omega.{arith}
+use Rattle.arena.specs.Lists.{TestsIn}
+use Rattle.arena.specs.ListLaws.{pair-falls}
+use Rattle.rule_cells.specs.Forms.{ordinaryAll, all-end, all-no, all-more}
+
+abbrev Inv-loop : tie.InvT-loop
+Inv-loop items work node at₀ at =
+    (r : Bool) → TestsIn ordinaryAll items work at r → TestsIn ordinaryAll items work node r
+
+abbrev μ-loop : tie.MeasureT-loop
+μ-loop items work node at₀ at =
+    at
+
+loop-holds : tie.Need-loop-holds Inv-loop μ-loop
+loop-holds c =
+    λ r h. h
+
+word-requires : tie.Need-word-requires Inv-loop μ-loop
+word-requires c κs =
+    search needs
+
+reference-requires : tie.Need-reference-requires Inv-loop μ-loop
+reference-requires c κs =
+    search needs
+
+is-ordinary-requires : tie.Need-is-ordinary-requires Inv-loop μ-loop
+is-ordinary-requires c κs =
+    search needs
+
+reference-requires-2 : tie.Need-reference-requires-2 Inv-loop μ-loop
+reference-requires-2 c κs =
+    search needs
+
+loop-less : tie.Need-loop-less Inv-loop μ-loop
+loop-less c =
+    omega (arith, c .reference2 .ensures, pair-falls (c .before .before .before .before .before .before .before .before .before .args .work .now) (c .before .before .before .before .before .before .loop .at) 1 (sym (c .before .before .before .before .before .word .ensures) ∙ c .before .before .before .before .if1 .taken))
+
+loop-again : tie.Need-loop-again Inv-loop μ-loop
+loop-again c =
+    let a = c .before .before .before .before .before .before .before .before .before .args in
+    λ r h. c .before .before .before .before .before .before .loop .inv r
+    (all-more (a .items .now) (a .work .now) (c .before .before .before .before .before .before .loop .at) _ (sym (c .before .before .before .before .before .word .ensures) ∙ c .before .before .before .before .if1 .taken) (c .before .before .before .reference .ensures) _ r (c .reference2 .ensures) (λ w. sym (c .before .if2 .taken) ∙ c .before .before .is-ordinary .ensures w) h)
+
+returns : tie.Need-returns Inv-loop μ-loop
+returns c =
+    let a = c .before .before .before .before .before .before .before .before .args in
+    c .before .before .before .before .before .loop .inv false
+    (all-no (a .items .now) (a .work .now) (c .before .before .before .before .before .loop .at) _ (sym (c .before .before .before .before .word .ensures) ∙ c .before .before .before .if1 .taken) (c .before .before .reference .ensures) (λ w. sym (c .if2 .left) ∙ c .before .is-ordinary .ensures w))
+
+returns-2 : tie.Need-returns-2 Inv-loop μ-loop
+returns-2 c =
+    let a = c .before .before .before .before .before .args in c .before .before .loop .inv true (all-end (a .items .now) (a .work .now) (c .before .before .loop .at) (λ z. c .if1 .left (c .before .word .ensures ∙ z)))
+
+pub all-ordinary-spec : {M : Type 1} → statement M
+all-ordinary-spec =
+    tie.close
+    (tie.spec
+    Inv-loop
+    μ-loop
+    loop-holds
+    word-requires
+    reference-requires
+    is-ordinary-requires
+    reference-requires-2
+    loop-less
+    loop-again
+    returns
+    returns-2)

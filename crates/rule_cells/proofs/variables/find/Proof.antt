@@ -1,0 +1,115 @@
+-- `variables::find`: what the variables that are left say of the name is what all of them say.
+use Rattle.rule_cells.proofs.variables.find.Statement.{statement}
+use Rattle.rule_cells.proofs.variables.find.Tie as tie
+use borrow.Author.Needs.{needs}
+use Prim.Native.Nat.{_-_, _≤_}
+use mathlib.Core.Path.{_≡_, refl, sym, _∙_}
+use lib.ListN.{length}
+use native.Mathlib.Omega.{arith}
+use Rattle.expansion.specs.Rules.{variableFrom}
+use Rattle.arena.specs.Arena.{nameAt}
+use Rattle.rule_cells.specs.Variables.{variablesFrom, knownFrom}
+use Rattle.rule_cells.specs.VariableLaws.{known-all, known-none, known-here, known-more}
+
+abbrev Inv-loop : tie.InvT-loop
+Inv-loop items work table₀ vars i left node w end k₀ table k =
+    (length table ≡ length table₀) × (k ≤ end) × (knownFrom items work w vars (nameAt items work node w) end k ≡ variableFrom i (variablesFrom items work w vars i left) (nameAt items work node w))
+
+abbrev μ-loop : tie.MeasureT-loop
+μ-loop items work table₀ vars i left node w end k₀ table k =
+    end - k
+
+add-end : tie.Need-add-end Inv-loop μ-loop
+add-end c =
+    search needs
+
+loop-holds : tie.Need-loop-holds Inv-loop μ-loop
+loop-holds c =
+    let a = c .before .before .before .before .args in (refl, omega arith, known-all (a .items .now) (a .work .now) (a .w) (a .vars .now) (nameAt (a .items .now) (a .work .now) (a .node) (a .w)) (a .i) (a .left))
+
+cast-at : tie.Need-cast-at Inv-loop μ-loop
+cast-at c =
+    search needs
+
+mul-at : tie.Need-mul-at Inv-loop μ-loop
+mul-at c =
+    search needs
+
+mul-same-names : tie.Need-mul-same-names Inv-loop μ-loop
+mul-same-names c =
+    search needs
+
+shared-slice-read-same-names : tie.Need-shared-slice-read-same-names Inv-loop μ-loop
+shared-slice-read-same-names c =
+    search needs
+
+same-names-requires : tie.Need-same-names-requires Inv-loop μ-loop
+same-names-requires c κs =
+    search needs
+
+add-t19 : tie.Need-add-t19 Inv-loop μ-loop
+add-t19 c =
+    search needs
+
+mul-t20 : tie.Need-mul-t20 Inv-loop μ-loop
+mul-t20 c =
+    search needs
+
+shared-slice-read-t22 : tie.Need-shared-slice-read-t22 Inv-loop μ-loop
+shared-slice-read-t22 c =
+    search needs
+
+same-length : tie.Need-same-length Inv-loop μ-loop
+same-length c =
+    c .before .before .before .before .same-names .kept .1 .1 .0 ∙ c .before .before .before .before .before .before .before .before .loop .inv .0
+
+returns : tie.Need-returns Inv-loop μ-loop
+returns c =
+    let a = c .before .before .before .before .before .before .before .before .before .before .before .before .before .args in
+    known-here (a .items .now) (a .work .now) (a .w) (a .vars .now) (nameAt (a .items .now) (a .work .now) (a .node) (a .w)) _ _ (c .before .before .before .before .before .before .before .loop-test .taken) (sym (c .before .if1 .taken) ∙ c .before .before .before .before .same-names .ensures) ∙ c .before .before .before .before .before .before .before .before .loop .inv .2
+
+add-k : tie.Need-add-k Inv-loop μ-loop
+add-k c =
+    search needs
+
+loop-less : tie.Need-loop-less Inv-loop μ-loop
+loop-less c =
+    search needs
+
+loop-again : tie.Need-loop-again Inv-loop μ-loop
+loop-again c =
+    let a = c .before .before .before .before .before .before .before .before .before .before .before .before .args in
+    (c .before .before .before .same-names .kept .1 .1 .0 ∙ c .before .before .before .before .before .before .before .loop .inv .0, omega arith, known-more (a .items .now) (a .work .now) (a .w) (a .vars .now) (nameAt (a .items .now) (a .work .now) (a .node) (a .w)) _ _ (c .before .before .before .before .before .before .loop-test .taken) (sym (c .if1 .left) ∙ c .before .before .before .same-names .ensures) ∙ c .before .before .before .before .before .before .before .loop .inv .2)
+
+same-length-2 : tie.Need-same-length-2 Inv-loop μ-loop
+same-length-2 c =
+    c .before .loop .inv .0
+
+returns-2 : tie.Need-returns-2 Inv-loop μ-loop
+returns-2 c =
+    let a = c .before .before .before .before .before .before .args in
+    known-none (a .items .now) (a .work .now) (a .w) (a .vars .now) (nameAt (a .items .now) (a .work .now) (a .node) (a .w)) _ _ (omega arith) ∙ c .before .loop .inv .2
+
+pub find-spec : {M : Type 1} → statement M
+find-spec =
+    tie.close
+    (tie.spec
+    Inv-loop
+    μ-loop
+    add-end
+    loop-holds
+    cast-at
+    mul-at
+    mul-same-names
+    shared-slice-read-same-names
+    same-names-requires
+    add-t19
+    mul-t20
+    shared-slice-read-t22
+    same-length
+    returns
+    add-k
+    loop-less
+    loop-again
+    same-length-2
+    returns-2)
