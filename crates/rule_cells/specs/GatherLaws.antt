@@ -13,7 +13,7 @@ use Rattle.arena.specs.Arena.{wordAt, referenceAt, nameAt, treeAt}
 use Rattle.arena.specs.ArenaLaws.{cases}
 use Rattle.arena.specs.NodeLaws.{treeAt-name, treeAt-pair}
 use Rattle.arena.specs.ListLaws.{tree-cases, no-name, pair-falls}
-use Rattle.rule_cells.specs.Variables.{leafCount, variablesFrom, Held, Stored, Gathered, Deeper}
+use Rattle.rule_cells.specs.Variables.{leafCount, variablesFrom, Held, Stored, Gathered, Gathering, Deeper}
 use Rattle.rule_cells.specs.declared.variables.Kept.{Kept}
 use Rattle.rule_cells.specs.declared.variables.Kept.the-variants.{Count, Bad}
 
@@ -97,6 +97,9 @@ module _ (items work : List ℕ) (w node n : ℕ) (old : List ℕ) where
     pub gathered-other : (wordAt work node 3 ≡ 3 → ⊥) → (wordAt work node 3 ≡ 4 → ⊥) → Held items work w old n → Gathered (variables isEllipsis literals d (treeAt items work node w)) items work w node n old old (Count n)
     gathered-other m k h = gathered-is [] _ old (Count n) (sym (variables-other m k)) (gathered-none h)
 
+    pub gathering-begins : Held items work w old n → Gathering literals d items work w node n old node n old
+    gathering-begins h = record { low = omega arith; held = h; all = λ last r k. k }
+
     -- a pair: the variables of its head, then those of its tail
     module _ (head rest inner : ℕ) (e : wordAt work node 3 ≡ 4) (f : head ≡ referenceAt work node 2) (g : rest ≡ referenceAt work node 1) (deeper : Deeper items work rest d inner) where
       abbrev first : List (Name × ℕ)
@@ -129,5 +132,13 @@ module _ (items work : List ℕ) (w node n : ℕ) (old : List ℕ) where
           ∙ ap (λ (l : List (Name × ℕ)). areVariables (l ++ (later ++ more))) (sym (a .list))
           ∙ b more
 
-      pub gathered-pair : (mid new : List ℕ) (m : ℕ) (r : Kept) → Stored first items work w head n old mid m → Gathered later items work w rest m mid new r → Gathered (variables isEllipsis literals d (treeAt items work node w)) items work w node n old new r
+      gathered-pair : (mid new : List ℕ) (m : ℕ) (r : Kept) → Stored first items work w head n old mid m → Gathered later items work w rest m mid new r → Gathered (variables isEllipsis literals d (treeAt items work node w)) items work w node n old new r
       gathered-pair mid new m r a b = gathered-is (first ++ later) _ new r variables-pair (both mid new m r a b)
+
+      pub gathering-more : (list b : ℕ) (start new : List ℕ) (m : ℕ) → Stored first items work w head n old new m → Gathering literals d items work w list b start node n old → Gathering literals d items work w list b start rest m new
+      gathering-more list b start new m s h =
+          record {
+            low = omega (arith, h .low, pair-falls work node 1 e);
+            held = s .held;
+            all = λ last r k. h .all last r (gathered-pair new last m r s k);
+          }

@@ -7,7 +7,7 @@ use Prim.Native.Nat.{ℕ, zero, suc, _+_, _*_, _-_, _≤_, _<_}
 use lib.ListN.{getD}
 use Rattle.recipe.specs.Name.{Name, isEllipsis}
 use Rattle.recipe.specs.Tree.{Tree, onName}
-use Rattle.expansion.specs.Rules.{areVariables, depthBefore, isVariable, variableFrom}
+use Rattle.expansion.specs.Rules.{areVariables, depthBefore, isVariable, variableFrom, variables}
 use Rattle.arena.specs.Arena.{nameAt, treeAt}
 use Rattle.rule_cells.specs.declared.variables.Known.{Known}
 use Rattle.rule_cells.specs.declared.variables.Known.the-variants.{At, Not}
@@ -60,3 +60,9 @@ pub record Stored (more : List (Name × ℕ)) (items work : List ℕ) (w node n 
 abbrev pub Gathered : (more : List (Name × ℕ)) (items work : List ℕ) (w node n : ℕ) (old new : List ℕ) → Kept → Type 0
 Gathered more items work w node n old new (Count m) = Stored more items work w node n old new m
 Gathered more items work w node n old new Bad = (rest : List (Name × ℕ)) → areVariables (variablesFrom items work w old 0 n ++ (more ++ rest)) ≡ false
+
+-- the list `at` is left of the node's, and its variables behind the m of the table are all the node's behind the n
+pub record Gathering (literals : List Name) (d : ℕ) (items work : List ℕ) (w node n : ℕ) (old : List ℕ) (at m : ℕ) (vars : List ℕ) : Type 0 where
+  pub low : at ≤ node
+  pub held : Held items work w vars m
+  pub all : (new : List ℕ) (r : Kept) → Gathered (variables isEllipsis literals d (treeAt items work at w)) items work w at m vars new r → Gathered (variables isEllipsis literals d (treeAt items work node w)) items work w node n old new r

@@ -26,6 +26,17 @@ pub enum Built {
     Bad,
 }
 
+// The same answer, taken apart and put together. Handed on as it is, it would be copied through memory in larger pieces than it was
+// written in, for which the processor waits.
+pub fn again(b: Built) -> Built
+    ensures { λ r. ⌜ r ≡ b ⌝ }
+{
+    match b {
+        Built::Good(at, top) => Built::Good(at, top),
+        Built::Bad => Built::Bad,
+    }
+}
+
 // Whether a template holds a variable that drives its copies: one under more ellipses than the j inside the element.
 pub fn driven(work: &[u32], at: u32, j: u32) -> bool
     requires { ⌜ j + at < 2 ^ 32 ⌝ }
@@ -158,12 +169,12 @@ pub fn template(
     ensures { λ r. ⌜ TemplateLeft (variablesFrom (now (items .entry)) (now (work .entry)) w (now (vars .entry)) 0 count) d taken (treeAt (now (items .entry)) (now (work .entry)) node w) (now (items .entry)) (now (work .entry)) (now (work .exit)) top r ⌝ }
 {
     if arena::cells::word(work, node, 3) != arena::cells::PAIR {
-        return template_leaf(items, work, table, vars, count, node, w, d, top);
+        return again(template_leaf(items, work, table, vars, count, node, w, d, top));
     }
     let head = arena::cells::reference(work, node, 2);
     let rest = arena::cells::reference(work, node, 1);
     if taken {
-        return template(items, work, table, vars, count, rest, w, d, false, top);
+        return again(template(items, work, table, vars, count, rest, w, d, false, top));
     }
     let dots = dots::dots_next(items, work, rest);
     let inner = variables::depth_before(items, work, rest, d);

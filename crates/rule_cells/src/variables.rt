@@ -199,18 +199,20 @@ pub fn gather(
     requires { ⌜ (3 * markLimit < length (now table)) × (32 ≤ length (now vars)) × (Held (now items) (now work) w (now vars) n) × (d + node < 2 ^ 32) ⌝ }
     ensures { λ r. ⌜ Gathered (variables isEllipsis (names (treeAt (now (items .entry)) (now (work .entry)) literals w)) d (treeAt (now (items .entry)) (now (work .entry)) node w)) (now (items .entry)) (now (work .entry)) w node n (now (vars .entry)) (now (vars .exit)) r ⌝ }
 {
-    let kind = cells::word(work, node, 3);
-    if kind == cells::NAME {
-        return gather_name(items, work, table, vars, literals, node, w, d, n);
+    let mut at = node;
+    let mut m = n;
+    while cells::word(work, at, 3) == cells::PAIR {
+        let head = cells::reference(work, at, 2);
+        let rest = cells::reference(work, at, 1);
+        let inner = depth_before(items, work, rest, d);
+        let Kept::Count(k) = gather(items, work, table, vars, literals, head, w, inner, m) else {
+            return Kept::Bad;
+        };
+        m = k;
+        at = rest;
     }
-    if kind != cells::PAIR {
-        return Kept::Count(n);
+    if cells::word(work, at, 3) == cells::NAME {
+        return gather_name(items, work, table, vars, literals, at, w, d, m);
     }
-    let head = cells::reference(work, node, 2);
-    let rest = cells::reference(work, node, 1);
-    let inner = depth_before(items, work, rest, d);
-    let Kept::Count(m) = gather(items, work, table, vars, literals, head, w, inner, n) else {
-        return Kept::Bad;
-    };
-    gather(items, work, table, vars, literals, rest, w, d, m)
+    Kept::Count(m)
 }

@@ -9,6 +9,7 @@ use Rattle.rule_cells.proofs.templates.+template.Lts-template as templa
 use Rattle.arena.proofs.cells.reference.Reads as reference-reads
 use Rattle.arena.proofs.cells.word.Reads as word-reads
 use Rattle.rule_cells.proofs.templates.accepted.Reads as accepted-reads
+use Rattle.rule_cells.proofs.templates.again.Reads as again-reads
 use Rattle.rule_cells.proofs.templates.put_list.Reads as put-list-reads
 use Rattle.rule_cells.proofs.templates.template_leaf.Reads as template-leaf-reads
 use Rattle.rule_cells.proofs.dots.dots_next.Reads as dots-next-reads
@@ -19,7 +20,9 @@ use Rattle.rule_cells.specs.Variables.{variablesFrom}
 use Rattle.rule_cells.specs.GatherLaws.{deeper-most}
 use Rattle.rule_cells.specs.ParseLaws.{asks-head, asks-tail, asks-rest, room-pair, head-below, rest-below}
 use Rattle.rule_cells.specs.TemplateLaws.{left-leaf, left-taken, left-bad, made-head, left-undriven, under-still, left-bad-rest, made-rest, left-list}
-use mathlib.Core.Path.{sym, _∙_}
+use Rattle.arena.specs.Arena.{treeAt}
+use Rattle.rule_cells.specs.Parse.{TemplateLeft}
+use mathlib.Core.Path.{sym, subst, _∙_}
 use native.Mathlib.Omega.{arith}
 
 abbrev μ-template : Measures 4 template-kinds.ps ℕ
@@ -34,7 +37,7 @@ template-below t =
     and 4 template-kinds.ps (falls 4 template-kinds.ps _<_ μ-template t) template.Pre
 
 abbrev template-claims : ℕ → template-lts.Claims
-template-claims t = (word-reads.Asked, word-reads.Learnt, template-leaf-reads.Asked, template-leaf-reads.Learnt, reference-reads.Asked, reference-reads.Learnt, template-below t, template.Post, dots-next-reads.Asked, dots-next-reads.Learnt, depth-before-reads.Asked, depth-before-reads.Learnt, accepted-reads.Asked, accepted-reads.Learnt, put-list-reads.Asked, put-list-reads.Learnt)
+template-claims t = (word-reads.Asked, word-reads.Learnt, template-leaf-reads.Asked, template-leaf-reads.Learnt, again-reads.Asked, again-reads.Learnt, reference-reads.Asked, reference-reads.Learnt, template-below t, template.Post, dots-next-reads.Asked, dots-next-reads.Learnt, depth-before-reads.Asked, depth-before-reads.Learnt, accepted-reads.Asked, accepted-reads.Learnt, put-list-reads.Asked, put-list-reads.Learnt)
 
 template-word-requires : (t : ℕ) → template-lts.Need-word-requires (template-claims t) (template-at t) template.Post
 template-word-requires t c κs = search needs
@@ -43,17 +46,24 @@ template-template-leaf-requires : (t : ℕ) → template-lts.Need-template-leaf-
 template-template-leaf-requires t c κs =
     let a = c .before .before .before .before .before .before .before .before .before .args in (c .before .before .before .before .before .before .before .before .before .pre .1 .0, c .before .before .before .before .before .before .before .before .before .pre .1 .1, c .before .before .before .before .before .before .before .before .before .pre .1 .2, c .before .before .before .before .before .before .before .before .before .pre .1 .3, λ z. c .before .before .if1 .taken (c .before .before .before .word .ensures ∙ z))
 
+template-again-requires : (t : ℕ) → template-lts.Need-again-requires (template-claims t) (template-at t) template.Post
+template-again-requires t c κs = search needs
+
 template-same-length : (t : ℕ) → template-lts.Need-same-length (template-claims t) (template-at t) template.Post
 template-same-length t c =
-    c .before .before .before .before .template-leaf .kept .1 .0
+    c .before .before .before .before .before .template-leaf .kept .1 .0
 
 template-same-length-2 : (t : ℕ) → template-lts.Need-same-length-2 (template-claims t) (template-at t) template.Post
 template-same-length-2 t c =
-    c .before .before .before .before .template-leaf .kept .1 .1 .0
+    c .before .before .before .before .before .template-leaf .kept .1 .1 .0
 
 template-returns : (t : ℕ) → template-lts.Need-returns (template-claims t) (template-at t) template.Post
 template-returns t c =
-    let a = c .before .before .before .before .before .before .before .before .before .before .before .before .before .before .args in left-leaf (variablesFrom (a .items .now) (a .work .now) (a .w) (a .vars .now) 0 (a .count)) (a .d) (a .taken) (a .items .now) (a .work .now) (a .node) (a .w) (a .top) (c .before .before .before .before .template-leaf .last .1 .0) (c .before .before .before .before .template-leaf .result) (λ z. c .before .before .before .before .before .before .before .if1 .taken (c .before .before .before .before .before .before .before .before .word .ensures ∙ z)) (c .before .before .before .before .template-leaf .ensures)
+    let a = c .before .before .before .before .before .before .before .before .before .before .before .before .before .before .before .args in
+    let l = c .before .before .before .before .before .template-leaf in
+    let left = TemplateLeft (variablesFrom (a .items .now) (a .work .now) (a .w) (a .vars .now) 0 (a .count)) (a .d) (a .taken) (treeAt (a .items .now) (a .work .now) (a .node) (a .w)) (a .items .now) (a .work .now) (l .last .1 .0) (a .top) in
+    subst left (sym (c .again .ensures))
+    (left-leaf (variablesFrom (a .items .now) (a .work .now) (a .w) (a .vars .now) 0 (a .count)) (a .d) (a .taken) (a .items .now) (a .work .now) (a .node) (a .w) (a .top) (l .last .1 .0) (l .result) (λ z. c .before .before .before .before .before .before .before .before .if1 .taken (c .before .before .before .before .before .before .before .before .before .word .ensures ∙ z)) (l .ensures))
 
 template-reference-requires : (t : ℕ) → template-lts.Need-reference-requires (template-claims t) (template-at t) template.Post
 template-reference-requires t c κs = search needs
@@ -65,17 +75,24 @@ template-template-requires : (t : ℕ) → template-lts.Need-template-requires (
 template-template-requires t c κs =
     let a = c .before .before .before .before .before .before .before .before .before .before .before .before .before .before .args in (omega (arith, rest-below (a .items .now) (a .work .now) (a .node) (a .w) (a .top) (c .before .before .before .before .before .before .before .before .before .before .before .before .before .before .pre .1 .1) _ _ (sym (c .before .before .before .before .before .before .before .before .word .ensures) ∙ c .before .before .before .before .before .before .before .if1 .left) (c .before .before .before .before .before .reference .ensures) (c .before .before .before .reference2 .ensures)), (c .before .before .before .before .before .before .before .before .before .before .before .before .before .before .pre .1 .0, asks-tail (a .items .now) (a .work .now) (a .node) (a .w) (a .top) (c .before .before .before .before .before .before .before .before .before .before .before .before .before .before .pre .1 .1) _ _ (sym (c .before .before .before .before .before .before .before .before .word .ensures) ∙ c .before .before .before .before .before .before .before .if1 .left) (c .before .before .before .before .before .reference .ensures) (c .before .before .before .reference2 .ensures), c .before .before .before .before .before .before .before .before .before .before .before .before .before .before .pre .1 .2, c .before .before .before .before .before .before .before .before .before .before .before .before .before .before .pre .1 .3, c .before .before .before .before .before .before .before .before .before .before .before .before .before .before .pre .1 .4, omega (arith, c .before .before .before .before .before .before .before .before .before .before .before .before .before .before .pre .1 .5, rest-below (a .items .now) (a .work .now) (a .node) (a .w) (a .top) (c .before .before .before .before .before .before .before .before .before .before .before .before .before .before .pre .1 .1) _ _ (sym (c .before .before .before .before .before .before .before .before .word .ensures) ∙ c .before .before .before .before .before .before .before .if1 .left) (c .before .before .before .before .before .reference .ensures) (c .before .before .before .reference2 .ensures))))
 
+template-again-requires-2 : (t : ℕ) → template-lts.Need-again-requires-2 (template-claims t) (template-at t) template.Post
+template-again-requires-2 t c κs = search needs
+
 template-same-length-3 : (t : ℕ) → template-lts.Need-same-length-3 (template-claims t) (template-at t) template.Post
 template-same-length-3 t c =
-    c .before .before .before .before .template .kept .1 .0
+    c .before .before .before .before .before .template .kept .1 .0
 
 template-same-length-4 : (t : ℕ) → template-lts.Need-same-length-4 (template-claims t) (template-at t) template.Post
 template-same-length-4 t c =
-    c .before .before .before .before .template .kept .1 .1 .0
+    c .before .before .before .before .before .template .kept .1 .1 .0
 
 template-returns-2 : (t : ℕ) → template-lts.Need-returns-2 (template-claims t) (template-at t) template.Post
 template-returns-2 t c =
-    let a = c .before .before .before .before .before .before .before .before .before .before .before .before .before .before .before .before .before .before .before .args in left-taken (a .items .now) (a .work .now) (a .vars .now) (a .count) (a .node) (a .w) (a .d) (a .top) (c .before .before .before .before .before .before .before .before .before .before .before .before .before .before .before .before .before .before .before .pre .1 .1) (c .before .before .before .before .before .before .before .before .before .before .before .before .before .before .before .before .before .before .before .pre .1 .4) _ _ (sym (c .before .before .before .before .before .before .before .before .before .before .before .before .before .word .ensures) ∙ c .before .before .before .before .before .before .before .before .before .before .before .before .if1 .left) (c .before .before .before .before .before .before .before .before .before .before .reference .ensures) (c .before .before .before .before .before .before .before .before .reference2 .ensures) (a .taken) (c .before .before .before .before .template .last .1 .0) (c .before .before .before .before .template .result) (c .before .before .before .before .before .before .before .if2 .taken) (c .before .before .before .before .template .ensures)
+    let a = c .before .before .before .before .before .before .before .before .before .before .before .before .before .before .before .before .before .before .before .before .args in
+    let l = c .before .before .before .before .before .template in
+    let left = TemplateLeft (variablesFrom (a .items .now) (a .work .now) (a .w) (a .vars .now) 0 (a .count)) (a .d) (a .taken) (treeAt (a .items .now) (a .work .now) (a .node) (a .w)) (a .items .now) (a .work .now) (l .last .1 .0) (a .top) in
+    subst left (sym (c .again2 .ensures))
+    (left-taken (a .items .now) (a .work .now) (a .vars .now) (a .count) (a .node) (a .w) (a .d) (a .top) (c .before .before .before .before .before .before .before .before .before .before .before .before .before .before .before .before .before .before .before .before .pre .1 .1) (c .before .before .before .before .before .before .before .before .before .before .before .before .before .before .before .before .before .before .before .before .pre .1 .4) _ _ (sym (c .before .before .before .before .before .before .before .before .before .before .before .before .before .before .word .ensures) ∙ c .before .before .before .before .before .before .before .before .before .before .before .before .before .if1 .left) (c .before .before .before .before .before .before .before .before .before .before .before .reference .ensures) (c .before .before .before .before .before .before .before .before .before .reference2 .ensures) (a .taken) (l .last .1 .0) (l .result) (c .before .before .before .before .before .before .before .before .if2 .taken) (l .ensures))
 
 template-dots-next-requires : (t : ℕ) → template-lts.Need-dots-next-requires (template-claims t) (template-at t) template.Post
 template-dots-next-requires t c κs = search needs
@@ -165,12 +182,14 @@ pub +template-spec : {M : Type 1} → statement M
     template.Post
     (template-word-requires t)
     (template-template-leaf-requires t)
+    (template-again-requires t)
     (template-same-length t)
     (template-same-length-2 t)
     (template-returns t)
     (template-reference-requires t)
     (template-reference-requires-2 t)
     (template-template-requires t)
+    (template-again-requires-2 t)
     (template-same-length-3 t)
     (template-same-length-4 t)
     (template-returns-2 t)
