@@ -38,19 +38,20 @@ pub fn is_literal(
     requires { ⌜ 3 * markLimit < length (now table) ⌝ }
     ensures { λ r. ⌜ r ≡ any (same (nameAt (now (items .entry)) (now (work .entry)) node w)) (names (treeAt (now (items .entry)) (now (work .entry)) list w)) ⌝ }
 {
-    let kind = cells::word(work, list, 3);
+    let mut at = list;
+    let mut kind = cells::word(work, at, 3);
+    while kind == cells::PAIR {
+        let first = cells::reference(work, at, 2);
+        if is_literal(items, work, table, first, node, w) {
+            return true;
+        }
+        at = cells::reference(work, at, 1);
+        kind = cells::word(work, at, 3);
+    }
     if kind == cells::NAME {
-        return names::same_names(items, work, table, node, w, list, w);
+        return names::same_names(items, work, table, node, w, at, w);
     }
-    if kind != cells::PAIR {
-        return false;
-    }
-    let first = cells::reference(work, list, 2);
-    if is_literal(items, work, table, first, node, w) {
-        return true;
-    }
-    let rest = cells::reference(work, list, 1);
-    is_literal(items, work, table, rest, node, w)
+    false
 }
 
 // How many variables a leaf of a pattern is, none or one.
