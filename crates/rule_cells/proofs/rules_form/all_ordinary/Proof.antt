@@ -39,23 +39,28 @@ reference-requires-2 c κs =
 
 loop-less : tie.Need-loop-less Inv-loop μ-loop
 loop-less c =
-    omega (arith, c .reference2 .ensures, pair-falls (c .before .before .before .before .before .before .before .before .before .args .work .now) (c .before .before .before .before .before .before .loop .at) 1 (sym (c .before .before .before .before .before .word .ensures) ∙ c .before .before .before .before .if1 .taken))
+    let l = c .before .before .before .before .before .before .loop in
+    omega (arith, c .reference2 .ensures, pair-falls (c .before .before .before .before .before .before .before .before .before .args .work .now) (l .at) 1 (sym (c .before .before .before .before .before .word .ensures) ∙ c .before .before .before .before .if1 .taken))
 
 loop-again : tie.Need-loop-again Inv-loop μ-loop
 loop-again c =
     let a = c .before .before .before .before .before .before .before .before .before .args in
-    λ r h. c .before .before .before .before .before .before .loop .inv r
-    (all-more (a .items .now) (a .work .now) (c .before .before .before .before .before .before .loop .at) _ (sym (c .before .before .before .before .before .word .ensures) ∙ c .before .before .before .before .if1 .taken) (c .before .before .before .reference .ensures) _ r (c .reference2 .ensures) (λ w. sym (c .before .if2 .taken) ∙ c .before .before .is-ordinary .ensures w) h)
+    let l = c .before .before .before .before .before .before .loop in
+    λ r h. l .inv r
+    (all-more (a .items .now) (a .work .now) (l .at) _ (sym (c .before .before .before .before .before .word .ensures) ∙ c .before .before .before .before .if1 .taken) (c .before .before .before .reference .ensures) _ r (c .reference2 .ensures) (λ w. sym (c .before .if2 .taken) ∙ c .before .before .is-ordinary .ensures w) h)
 
 returns : tie.Need-returns Inv-loop μ-loop
 returns c =
     let a = c .before .before .before .before .before .before .before .before .args in
-    c .before .before .before .before .before .loop .inv false
-    (all-no (a .items .now) (a .work .now) (c .before .before .before .before .before .loop .at) _ (sym (c .before .before .before .before .word .ensures) ∙ c .before .before .before .if1 .taken) (c .before .before .reference .ensures) (λ w. sym (c .if2 .left) ∙ c .before .is-ordinary .ensures w))
+    let l = c .before .before .before .before .before .loop in
+    l .inv false
+    (all-no (a .items .now) (a .work .now) (l .at) _ (sym (c .before .before .before .before .word .ensures) ∙ c .before .before .before .if1 .taken) (c .before .before .reference .ensures) (λ w. sym (c .if2 .left) ∙ c .before .is-ordinary .ensures w))
 
 returns-2 : tie.Need-returns-2 Inv-loop μ-loop
 returns-2 c =
-    let a = c .before .before .before .before .before .args in c .before .before .loop .inv true (all-end (a .items .now) (a .work .now) (c .before .before .loop .at) (λ z. c .if1 .left (c .before .word .ensures ∙ z)))
+    let a = c .before .before .before .before .before .args in
+    let l = c .before .before .loop in
+    l .inv true (all-end (a .items .now) (a .work .now) (l .at) (λ z. c .if1 .left (c .before .word .ensures ∙ z)))
 
 pub all-ordinary-spec : {M : Type 1} → statement M
 all-ordinary-spec =

@@ -25,7 +25,8 @@ add-end c =
 
 loop-holds : tie.Need-loop-holds Inv-loop μ-loop
 loop-holds c =
-    let a = c .before .before .before .before .args in (refl, omega arith, known-all (a .items .now) (a .work .now) (a .w) (a .vars .now) (nameAt (a .items .now) (a .work .now) (a .node) (a .w)) (a .i) (a .left))
+    let a = c .before .before .before .before .args in
+    (refl, omega arith, known-all (a .items .now) (a .work .now) (a .w) (a .vars .now) (nameAt (a .items .now) (a .work .now) (a .node) (a .w)) (a .i) (a .left))
 
 cast-at : tie.Need-cast-at Inv-loop μ-loop
 cast-at c =
@@ -66,7 +67,8 @@ same-length c =
 returns : tie.Need-returns Inv-loop μ-loop
 returns c =
     let a = c .before .before .before .before .before .before .before .before .before .before .before .before .before .args in
-    known-here (a .items .now) (a .work .now) (a .w) (a .vars .now) (nameAt (a .items .now) (a .work .now) (a .node) (a .w)) _ _ (c .before .before .before .before .before .before .before .loop-test .taken) (sym (c .before .if1 .taken) ∙ c .before .before .before .before .same-names .ensures) ∙ c .before .before .before .before .before .before .before .before .loop .inv .2
+    let l = c .before .before .before .before .before .before .before .before .loop in
+    known-here (a .items .now) (a .work .now) (a .w) (a .vars .now) (nameAt (a .items .now) (a .work .now) (a .node) (a .w)) _ _ (c .before .before .before .before .before .before .before .loop-test .taken) (sym (c .before .if1 .taken) ∙ c .before .before .before .before .same-names .ensures) ∙ l .inv .2
 
 add-k : tie.Need-add-k Inv-loop μ-loop
 add-k c =
@@ -79,7 +81,12 @@ loop-less c =
 loop-again : tie.Need-loop-again Inv-loop μ-loop
 loop-again c =
     let a = c .before .before .before .before .before .before .before .before .before .before .before .before .args in
-    (c .before .before .before .same-names .kept .1 .1 .0 ∙ c .before .before .before .before .before .before .before .loop .inv .0, omega arith, known-more (a .items .now) (a .work .now) (a .w) (a .vars .now) (nameAt (a .items .now) (a .work .now) (a .node) (a .w)) _ _ (c .before .before .before .before .before .before .loop-test .taken) (sym (c .if1 .left) ∙ c .before .before .before .same-names .ensures) ∙ c .before .before .before .before .before .before .before .loop .inv .2)
+    let l = c .before .before .before .before .before .before .before .loop in
+    let s = c .before .before .before .same-names in (
+      s .kept .1 .1 .0 ∙ l .inv .0,
+      omega arith,
+      known-more (a .items .now) (a .work .now) (a .w) (a .vars .now) (nameAt (a .items .now) (a .work .now) (a .node) (a .w)) _ _ (c .before .before .before .before .before .before .loop-test .taken) (sym (c .if1 .left) ∙ s .ensures) ∙ l .inv .2,
+    )
 
 same-length-2 : tie.Need-same-length-2 Inv-loop μ-loop
 same-length-2 c =
