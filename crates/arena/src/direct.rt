@@ -8,7 +8,7 @@ ghost use Rattle.arena.specs.Direct.{SkipsTo, Passes, MarkCell, OneMark,
 use crate::cells;
 use crate::marks;
 
-// Answered where the binding is not found so: no key is as large.
+// Answered where the binding is not found so.
 pub const UNKNOWN: u32 = 4294967295;
 
 // Whether a cell is a binder of another number.

@@ -5,8 +5,8 @@ use mathlib.Core.List.{List, _++_, append-assoc}
 use Prim.Native.Nat.{ℕ, _+_, _-_, _≤_, _<_}
 use native.Mathlib.Omega.{arith}
 use native.Mathlib.Nat.{add-zero}
-use lib.ListN.{length, drop, take, length-append, length-drop}
-use lib.Seq.{drop-at, drop-drop, take-all, drop-append-seam}
+use lib.ListN.{length, drop, length-append, length-drop}
+use lib.Seq.{drop-at, drop-drop, drop-append-seam}
 use Rattle.core_term.specs.declared.head.Head.the-variants as H
 use Rattle.core_term.specs.Node.{Node, Got, got, missing, nodeWords, nodeAt, parts, binds, isNode, isDatumNode, isListNode}
 use Rattle.core_term.specs.NodeLaws.{both, node-round, node-some, node-read}
@@ -19,10 +19,6 @@ use Rattle.core_term.specs.Parts.{node, partsOf, isDatum, areData}
 use Rattle.core_term.specs.PartsLaws.{encode-parts, every-parts, variables-parts, count-parts, list-data, Built, built}
 use Rattle.core_term.specs.Window.{headOf}
 use Rattle.core_term.specs.Shape.{Whole, None}
-
--- a part of words to their end
-pub rest-is : (a : ℕ) (s : List ℕ) → take (length s - a) (drop a s) ≡ drop a s
-rest-is a s = let h : length (drop a s) ≤ length s - a = omega (arith, length-drop a s) in take-all (length s - a) (drop a s) h
 
 -- what a wanted datum asks of a node
 wanted-yes : (q d : Bool) → (q ≡ true → d ≡ true) → (d || not q) ≡ true

@@ -5,6 +5,7 @@ use mathlib.Core.List.{List}
 use Prim.Native.Nat.{ℕ, _+_, _-_, _≤_, _<_}
 use native.Mathlib.Omega.{arith}
 use lib.ListN.{length, drop, take, length-append}
+use Rattle.words.specs.ListLaws.{rest-is}
 use Rattle.core_term.specs.declared.head.Head.the-variants as H
 use Rattle.core_term.specs.declared.term.Checked.{Checked}
 use Rattle.core_term.specs.declared.term.Checked.the-variants as C
@@ -16,7 +17,7 @@ use Rattle.core_term.specs.Window.{marked, window, headOf, leafHead}
 use Rattle.core_term.specs.WindowLaws.{marked-undo, marked-clear, marked-length, allowed-node}
 use Rattle.core_term.specs.HeadLaws.{leaf-yes, leaf-no}
 use Rattle.core_term.specs.Shape.{Whole, None, Shaped, Kept, Clear}
-use Rattle.core_term.specs.ShapeLaws.{rest-is, found, not-found, Going, going-start, going-end, going-none, going-on, next-inside}
+use Rattle.core_term.specs.ShapeLaws.{found, not-found, Going, going-start, going-end, going-none, going-on, next-inside}
 
 -- words from a place on, as code hands them down
 abbrev pub rest : ℕ → List ℕ → List ℕ

@@ -18,7 +18,7 @@ use Rattle.core_term.specs.Every.{every, everyTerm, proper}
 use Rattle.core_term.specs.EveryLaws.{every-from}
 use Rattle.core_term.specs.Parts.{node, partsOf, isDatum, areData}
 use Rattle.core_term.specs.PartsLaws.{encode-parts, every-parts, count-parts, list-data}
-use Rattle.core_term.specs.ShapeLaws.{rest-is}
+use Rattle.words.specs.ListLaws.{rest-is}
 use Rattle.writer.specs.declared.bytes.Put.{Put}
 use Rattle.writer.specs.declared.bytes.Put.the-variants as P
 use Rattle.writer.specs.declared.term.Step.{Step}
