@@ -1,5 +1,5 @@
 -- Laws of names in the arena, in the code's shape.
-use mathlib.Core.Path.{_≡_, refl, sym, ap, _∙_}
+use mathlib.Core.Path.{_≡_, refl, sym, ap, ap₂, subst, _∙_}
 use mathlib.Core.Bool.{Bool, true, false, _&&_}
 use mathlib.Core.List.{List}
 use mathlib.Core.Option.{Option, none, some}
@@ -9,6 +9,8 @@ use lib.Dec.{eqb}
 use lib.ListN.{length, getD, List·getD-eq-default}
 use borrow.Author.Tests.{lt-ltb, le-ltb, eq-eqb, ne-eqb}
 use Rattle.words.specs.Lists.{equal}
+use Rattle.words.specs.Parts.{rest}
+use Rattle.words.specs.ListLaws.{rest-is}
 use Rattle.recipe.specs.Name.{Binding, variable, macro, Name, plainName, bindingKey, isBound, same}
 use Rattle.expansion.specs.Lookup.{orUnbound, agree}
 use Rattle.arena.specs.Arena.{referenceAt, newest, bindingOf, wrapAt, nodeName, nameAt}
@@ -46,6 +48,16 @@ no-marks items work node = refl
 pub nameAt-number : (items work : List ℕ) (node w : ℕ) → nameAt items work node w .number ≡ numberOf items work node
 unfolding nameAt numberOf nodeName
 nameAt-number items work node w = wrapAt-number work w _ ∙ wrapAt-number work _ _
+
+-- a name in the parts that are all of both tables
+pub whole-name : (items work : List ℕ) (node w : ℕ) → nameAt (rest 0 items) (rest 0 work) node w ≡ nameAt items work node w
+whole-name items work node w = ap₂ (λ (i s : List ℕ). nameAt i s node w) (rest-is 0 items) (rest-is 0 work)
+
+pub whole-same : (items work : List ℕ) (a v b w : ℕ) → same (nameAt (rest 0 items) (rest 0 work) a v) (nameAt (rest 0 items) (rest 0 work) b w) ≡ same (nameAt items work a v) (nameAt items work b w)
+whole-same items work a v b w = ap₂ same (whole-name items work a v) (whole-name items work b w)
+
+pub whole-summed : (items work : List ℕ) (node w binding count m : ℕ) → Summed (nameAt (rest 0 items) (rest 0 work) node w) binding count m → Summed (nameAt items work node w) binding count m
+whole-summed items work node w binding count m h = subst (λ (x : Name). Summed x binding count m) (whole-name items work node w) h
 
 -- ---- binders
 

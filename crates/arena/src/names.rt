@@ -1,6 +1,7 @@
 // Names in the arena: resolved, compared, looked up. The definition's functions of names are in recipe/specs/Name.antt and
 // expansion/specs/Lookup.antt. `table` is lent for marks in hand; nothing is promised of what is left in it. A name with more
-// marks than it has room for is looked at again in a table of its own.
+// marks than it has room for is looked at again in a table of its own. Slices that are handed on to a walk that is seldom made are handed
+// on as parts, so that they are put into memory there alone.
 
 ghost use mathlib.Core.Path.{_≡_};
 ghost use Prim.Native.Nat.{_+_, _*_, _≤_, _<_};
@@ -159,11 +160,10 @@ pub fn summary_of(items: &[u32], work: &[u32], table: &mut [u32], node: u32, w: 
             newest: mark,
         };
     }
-    summary_grown(items, work, table, node, w)
+    summary_grown(&items[0..], &work[0..], table, node, w)
 }
 
-// The key of a name's binding, found from the outside in or else by walking what waits. The slices are handed on as parts, so that they
-// are put into memory only where the walk is made.
+// The key of a name's binding, found from the outside in or else by walking what waits.
 pub fn binding_of(items: &[u32], work: &[u32], table: &mut [u32], node: u32, w: u32) -> u32
     requires { ⌜ 2 * markLimit < length (now table) ⌝ }
     ensures { λ r. ⌜ r ≡ bindingKey (nameAt (now (items .entry)) (now (work .entry)) node w .binding) ⌝ }
@@ -252,10 +252,10 @@ pub fn same_names(
     if number_of(items, work, a) != number_of(items, work, b) {
         return false;
     }
-    match compare(items, work, table, a, v, b, w) {
+    match compare(&items[0..], &work[0..], table, a, v, b, w) {
         Compared::Same => true,
         Compared::Other => false,
-        Compared::Full => same_grown(items, work, table, a, v, b, w),
+        Compared::Full => same_grown(&items[0..], &work[0..], table, a, v, b, w),
     }
 }
 

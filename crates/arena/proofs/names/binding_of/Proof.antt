@@ -2,12 +2,9 @@
 use borrow.Author.Needs.{needs}
 use Rattle.arena.proofs.names.binding_of.Statement.{statement}
 use Rattle.arena.proofs.names.binding_of.Tie as tie
-use mathlib.Core.Path.{_∙_, ap₂}
-use mathlib.Core.List.{List}
-use Prim.Native.Nat.{ℕ}
-use Rattle.recipe.specs.Name.{bindingKey}
-use Rattle.words.specs.ListLaws.{rest-is}
-use Rattle.arena.specs.Arena.{nameAt}
+use mathlib.Core.Path.{_∙_, ap}
+use Rattle.recipe.specs.Name.{Name, bindingKey}
+use Rattle.arena.specs.NameLaws.{whole-name}
 use Rattle.arena.specs.DirectLaws.{finds-name}
 
 number-of-requires : tie.Need-number-of-requires
@@ -62,7 +59,7 @@ same-length c =
 returns-2 : tie.Need-returns-2
 returns-2 c =
     let a = c .before .before .before .before .before .before .before .before .before .before .before .before .before .args in
-    c .before .before .summary-grown .ensures .binding-is ∙ ap₂ (λ (items work : List ℕ). bindingKey (nameAt items work (a .node) (a .w) .binding)) (rest-is 0 (a .items .now)) (rest-is 0 (a .work .now))
+    c .before .before .summary-grown .ensures .binding-is ∙ ap (λ (x : Name). bindingKey (x .binding)) (whole-name (a .items .now) (a .work .now) (a .node) (a .w))
 
 pub binding-of-spec : {M : Type 1} → statement M
 binding-of-spec =
