@@ -1,10 +1,4 @@
 -- What the code's functions promise, and the laws that their proofs cite, in the order of the source.
-pub mod Answers
-pub mod NumberLaws
-pub mod Told
-pub mod ToldLaws
-pub mod Answered
-pub mod AnsweredLaws
 pub mod Index
 pub mod IndexLaws
 pub mod Stored

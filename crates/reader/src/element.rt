@@ -15,9 +15,9 @@ use crate::place::ground_at;
 use crate::place::is_complete;
 use crate::place::open_list;
 use crate::place::put_token;
-use crate::token::Cursor;
-use crate::token::Token;
-use crate::token::token_at;
+use lexer::token::Cursor;
+use lexer::token::Token;
+use lexer::token::token_at;
 use words::signed::to_word;
 
 // What reading does next: it goes on from a place and a cursor, is done with so many items and names, or turns the text back.

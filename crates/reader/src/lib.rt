@@ -13,17 +13,13 @@ use crate::element::advance;
 use crate::names::ENTRIES;
 use crate::names::enter_base;
 use crate::place::Place;
-use crate::token::Cursor;
+use lexer::token::Cursor;
 use words::tables::zero_bytes;
 use words::tables::zero_words;
 
-pub mod bytes;
 pub mod element;
 pub mod names;
-pub mod number;
 pub mod place;
-pub mod token;
-pub mod token_reader;
 
 // The answer: item and name counts, or the ground.
 pub enum Reading {

@@ -2,12 +2,12 @@
 // back shows its ground in place of its bytes; a text that is too long shows ground 2 at the first byte past the limit.
 ghost use Prim.Native.Nat.{_≤_};
 ghost use lib.ListN.{length};
+use lexer::token::skip;
+use lexer::token_reader::ground;
+use lexer::token_reader::past;
+use lexer::token_reader::token_from;
 use libc::STDIN_FILENO;
 use libc::STDOUT_FILENO;
-use reader::token::skip;
-use reader::token_reader::ground;
-use reader::token_reader::past;
-use reader::token_reader::token_from;
 
 // An offset, then the bytes from there to another, or the ground.
 fn print_line(text: &[u8], from: usize, to: usize, ground: u32)

@@ -6,7 +6,7 @@ use Prim.Native.Nat.{ℕ, _+_, _≤_, _<_}
 use lib.Dec.{eqb}
 use lib.ListN.{length}
 use Rattle.datum.specs.Datum.{dataItems}
-use Rattle.reader.specs.declared.token.Cursor.{Cursor}
+use Rattle.lexer.specs.declared.token.Cursor.{Cursor}
 use Rattle.reader.specs.declared.place.Place.{Place}
 use Rattle.reader.specs.declared.place.Step as S
 use Rattle.reader.specs.declared.place.Step.the-variants as SV
@@ -15,7 +15,7 @@ use Rattle.reader.specs.declared.element.Move.the-variants.{On, Done, Re
 use Rattle.reading.specs.Elements.{Answer, got, back, then, Reading, takesAll}
 use Rattle.reading.specs.Read.{Recipe, finished, itemWords, nameBytes}
 use Rattle.words.specs.Tables.{filled}
-use Rattle.reader.specs.Code.Told.{meaningsFrom}
+use Rattle.lexer.specs.Told.{meaningsFrom}
 use Rattle.reader.specs.Code.Index.{Indexed}
 use Rattle.reader.specs.Code.Placed.{Holds}
 

@@ -9,7 +9,7 @@ use lib.ListN.{length, length-append}
 use Rattle.words.specs.ListLaws.{either, never, and-left}
 use Rattle.datum.specs.Constant.{Constant}
 use Rattle.datum.specs.Datum.{Datum, constantD, noneD, dataItems, datumItems}
-use Rattle.reader.specs.declared.token.Cursor.{Cursor}
+use Rattle.lexer.specs.declared.token.Cursor.{Cursor}
 use Rattle.reader.specs.declared.place.Place.{Place}
 use Rattle.reader.specs.declared.place.Step as S
 use Rattle.reader.specs.declared.place.Step.the-variants as SV
@@ -21,7 +21,7 @@ use Rattle.reading.specs.Elements.{Answer, got, back, then, Reading, onto, none
 use Rattle.reading.specs.Laws.Elements.{got-only, never-got, begin-got}
 use Rattle.reading.specs.Read.{finished, itemWords, nameBytes}
 use Rattle.words.specs.Tables.{filled}
-use Rattle.reader.specs.Code.Told.{meaningsFrom, Took}
+use Rattle.lexer.specs.Told.{meaningsFrom, Took}
 use Rattle.reader.specs.Code.Index.{Indexed}
 use Rattle.reader.specs.Code.Placed.{Holds, Stepped, IndexedAfter, withToken, TokenPut, itemsOf, wordsOf, itemsAround, wordsAround, nextItem, placed}
 use Rattle.reader.specs.Code.PlacedLaws.{onto-items, onto-words, length-words, zeros, refill}

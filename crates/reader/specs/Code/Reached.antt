@@ -6,7 +6,7 @@ use lib.ListN.{length}
 use Rattle.reader.specs.declared.Reading.{Reading}
 use Rattle.reader.specs.declared.Reading.the-variants.{Read, Refused}
 use Rattle.reader.specs.declared.place.Place.{Place}
-use Rattle.reader.specs.declared.token.Cursor.{Cursor}
+use Rattle.lexer.specs.declared.token.Cursor.{Cursor}
 use Rattle.reading.specs.Elements as E
 use Rattle.reading.specs.Elements.{back}
 use Rattle.reading.specs.Read.{recipeOf}

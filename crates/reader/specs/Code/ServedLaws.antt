@@ -11,7 +11,7 @@ use Rattle.datum.specs.NameTable.{slots}
 use Rattle.reader.specs.declared.Reading.{Reading}
 use Rattle.reader.specs.declared.Reading.the-variants.{Read, Refused}
 use Rattle.reader.specs.declared.place.Place.{Place}
-use Rattle.reader.specs.declared.token.Cursor.{Cursor}
+use Rattle.lexer.specs.declared.token.Cursor.{Cursor}
 use Rattle.reader.specs.declared.element.Move as M
 use Rattle.reader.specs.declared.element.Move.the-variants as MV
 use Rattle.reading.specs.Token.{tokens}
@@ -36,7 +36,7 @@ use Rattle.words.specs.Tables.{filled}
 use Rattle.reader.specs.Code.Index.{indexSize}
 use Rattle.reader.specs.Code.IndexLaws.{indexed-none}
 use Rattle.reader.specs.Code.Stored.{NameTable}
-use Rattle.reader.specs.Code.Told.{meaningsFrom}
+use Rattle.lexer.specs.Told.{meaningsFrom}
 use Rattle.reader.specs.Code.Placed.{Holds, itemsOf, itemsAround, wordsOf, wordsAround, openPair, nextItem, placed}
 use Rattle.reader.specs.Code.PlacedLaws.{filled-same}
 use Rattle.reader.specs.Code.Moved.{outcomeFrom, Whole, Moved, Advanced}

@@ -7,7 +7,7 @@ use Prim.Native.Nat.{_≤_, _-_}
 use lib.ListN.{length}
 use borrow.Author.Needs.{needs}
 use Rattle.reading.specs.Laws.Offsets.{start-low}
-use Rattle.reader.specs.Code.AnsweredLaws.{answered-past}
+use Rattle.lexer.specs.AnsweredLaws.{answered-past}
 
 abbrev Inv-loop : tie.InvT-loop
 Inv-loop text at₀ at =

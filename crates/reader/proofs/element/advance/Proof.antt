@@ -9,7 +9,7 @@ use mir.Facts.{toZ-ofZ}
 use Rattle.words.specs.Parts.{part}
 use Rattle.datum.specs.Constant.{integer, boolean}
 use Rattle.reading.specs.Meaning.{begins, ends, constant, name}
-use Rattle.reader.specs.Code.Told.{Told}
+use Rattle.lexer.specs.Told.{Told}
 use Rattle.reader.specs.Code.MovedLaws.{
   stepped-moved,
   begins-indexed,

@@ -1,0 +1,95 @@
+-- The loop's invariant: all bytes passed are in the run.
+use Rattle.lexer.proofs.token.run_end.Statement.{statement}
+use Rattle.lexer.proofs.token.run_end.Tie as tie
+use native.Mathlib.Omega.{arith}
+use mathlib.Core.Path.{_≡_, sym, _∙_}
+use mathlib.Core.Bool.{true}
+use Prim.Native.Nat.{_≤_, _-_}
+use borrow.Author.Tests.{not-true, not-false}
+use lib.ListN.{length}
+use Rattle.words.specs.Lists.{all}
+use Rattle.words.specs.Parts.{part}
+use Rattle.words.specs.ListLaws.{part-none}
+use Rattle.reading.specs.Token.{isRunning}
+use Rattle.lexer.specs.ToldLaws.{run-step, run-stops, end-stops}
+use borrow.Author.Needs.{needs}
+
+abbrev Inv-loop : tie.InvT-loop
+Inv-loop text from at₀ at =
+    (from ≤ at) × (at ≤ length text) × (all isRunning (part from at text) ≡ true)
+
+abbrev μ-loop : tie.MeasureT-loop
+μ-loop text from at₀ at =
+    length text - at
+
+loop-holds : tie.Need-loop-holds Inv-loop μ-loop
+unfolding all
+loop-holds c =
+    let args = c .before .args in
+    (omega arith, c .before .pre, rw (part-none (args .from) (args .text .now)))
+
+shared-slice-read-is-running : tie.Need-shared-slice-read-is-running Inv-loop μ-loop
+shared-slice-read-is-running c =
+    search needs
+
+is-running-requires : tie.Need-is-running-requires Inv-loop μ-loop
+is-running-requires c κs =
+    search needs
+
+returns : tie.Need-returns Inv-loop μ-loop
+returns c =
+    let is-running = c .before .is-running in
+    let loop = c .before .before .before .before .loop in
+    let args = c .before .before .before .before .before .before .args in
+    let loop-test = c .before .before .before .loop-test in
+    let r = sym (is-running .ensures) ∙ not-true (is-running .result) (c .if1 .taken) in
+    record {
+      low = loop .inv .0;
+      high = loop .inv .1;
+      runs = loop .inv .2;
+      stops = run-stops (args .text .now) (loop .at)
+          (loop-test .taken) r;
+    }
+
+add-at : tie.Need-add-at Inv-loop μ-loop
+add-at c =
+    search needs
+
+loop-less : tie.Need-loop-less Inv-loop μ-loop
+loop-less c =
+    search needs
+
+loop-again : tie.Need-loop-again Inv-loop μ-loop
+loop-again c =
+    let is-running = c .before .is-running in
+    let args = c .before .before .before .before .before .before .args in
+    let loop = c .before .before .before .before .loop in
+    let loop-test = c .before .before .before .loop-test in
+    let r = sym (is-running .ensures) ∙ not-false (is-running .result) (c .if1 .left) in (
+      omega arith,
+      omega arith,
+      run-step (args .text .now) (loop .at) (loop-test .taken) (args .from) (loop .inv .0) (loop .inv .2)
+          r,
+    )
+
+returns-2 : tie.Need-returns-2 Inv-loop μ-loop
+returns-2 c =
+    let loop = c .before .loop in
+    let args = c .before .before .before .args in
+    let e : loop .at ≡ length (args .text .now) = omega arith in
+    record { low = loop .inv .0; high = loop .inv .1; runs = loop .inv .2; stops = end-stops (args .text .now) (loop .at) e }
+
+pub run-end-spec : {M : Type 1} → statement M
+run-end-spec =
+    tie.close
+    (tie.spec
+    Inv-loop
+    μ-loop
+    loop-holds
+    shared-slice-read-is-running
+    is-running-requires
+    returns
+    add-at
+    loop-less
+    loop-again
+    returns-2)
