@@ -24,8 +24,8 @@ use Rattle.rule_cells.specs.RuleParse.{RulesMade, RulesLeft}
 use Rattle.rule_cells.specs.declared.templates.Built.{Built}
 use Rattle.rule_cells.specs.declared.templates.Built.the-variants.{Good}
 use Rattle.arena.specs.Lists.{Means}
-use Rattle.steps.specs.Sound.{SoundRule}
-use Rattle.steps.specs.SoundRules.{rulesOf-sound}
+use Rattle.environments.specs.Sound.{SoundRule}
+use Rattle.environments.specs.SoundRules.{rulesOf-sound}
 use Rattle.steps.specs.Apply.{Stepping}
 use Rattle.parts_vectors.specs.Steps.{Begun}
 

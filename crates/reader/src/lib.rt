@@ -1,4 +1,4 @@
-// The reading service. Its meaning stands in specs/Read.antt, its promise in specs/Served.antt.
+// The reading service. Its meaning stands in reading/specs/Read.antt, its promise in specs/Served.antt.
 ghost use mathlib.Core.Path.{_≡_};
 ghost use Prim.Native.Nat.{_≤_};
 ghost use lib.ListN.{length, replicate};

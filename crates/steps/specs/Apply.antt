@@ -14,9 +14,9 @@ use Rattle.expansion.specs.Transcribe.{equalLengths, transcribe}
 use Rattle.arena.specs.Arena.{markLimit, treeAt}
 use Rattle.arena.specs.Cells.{Room}
 use Rattle.rule_cells.specs.Cells.{templateAt, rulesAt}
-use Rattle.steps.specs.Sound.{Plain, SoundRule}
-use Rattle.steps.specs.Environment.{agreeBy, resultBy}
-use Rattle.steps.specs.Entries.{environmentAt, Under}
+use Rattle.environments.specs.Sound.{Plain, SoundRule}
+use Rattle.environments.specs.Environment.{agreeBy, resultBy}
+use Rattle.environments.specs.Entries.{environmentAt, Under}
 use Rattle.steps.specs.Build.{nodeWords}
 use Rattle.steps.specs.declared.apply.Applied.{Applied}
 use Rattle.steps.specs.declared.apply.Applied.the-variants.{NoRule, Differ, Costly, Done}

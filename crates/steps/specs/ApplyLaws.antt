@@ -15,13 +15,13 @@ use Rattle.expansion.specs.Match.{orNext, firstFit}
 use Rattle.arena.specs.Arena.{referenceAt, treeAt}
 use Rattle.arena.specs.ArenaLaws.{referenceAt-most}
 use Rattle.rule_cells.specs.Cells.{patternAt, templateAt, ruleAt, rulesAt}
-use Rattle.steps.specs.Sound.{Sound, sound-plain}
-use Rattle.steps.specs.SoundRules.{plain-any}
-use Rattle.steps.specs.EnvironmentLaws.{Agrees, result-is, agree-is}
-use Rattle.steps.specs.Entries.{tableWords, environmentAt, Under}
-use Rattle.steps.specs.Bind.{Binds}
+use Rattle.environments.specs.Sound.{Sound, sound-plain}
+use Rattle.environments.specs.SoundRules.{plain-any}
+use Rattle.environments.specs.EnvironmentLaws.{Agrees, result-is, agree-is}
+use Rattle.environments.specs.Entries.{tableWords, environmentAt, Under}
+use Rattle.environments.specs.Bind.{Binds}
+use Rattle.environments.specs.Lengths.{LengthsAgree}
 use Rattle.steps.specs.Fits.{ruleOr, FirstFit}
-use Rattle.steps.specs.Lengths.{LengthsAgree}
 use Rattle.steps.specs.Build.{resultAt, agreesAt, Buildable, Gives, Stops}
 use Rattle.steps.specs.ResultLaws.{agrees-kept}
 use Rattle.steps.specs.Apply.{applied, stepOf, Answers, outcomeAt, Transcribing, Transcribed, Stepping, Stepped}

@@ -19,13 +19,13 @@ use Rattle.arena.specs.Cells.{Room, Grown}
 use Rattle.arena.specs.CellLaws.{tree-kept}
 use Rattle.arena.specs.Lists.{Means}
 use Rattle.rule_cells.specs.CellLaws.{patternAt-variable, templateAt-variable}
+use Rattle.environments.specs.Environment.{takes, entering, enter, resultBy}
+use Rattle.environments.specs.Entries.{field, entryAt, patternIn, takingOf, environmentAt, level, takenIn, Listed, Under, Low, Ahead, Along, AlongAll, Enters}
+use Rattle.environments.specs.EntryLaws.{entry-low}
+use Rattle.environments.specs.AgreeLaws.{flat-leaf, copies-flat, below-at}
 use Rattle.steps.specs.declared.build.Built.{Built}
 use Rattle.steps.specs.declared.build.Built.the-variants.{At, Stopped}
-use Rattle.steps.specs.Environment.{takes, entering, enter, resultBy}
-use Rattle.steps.specs.Entries.{field, entryAt, patternIn, takingOf, environmentAt, level, takenIn, Listed, Under, Low, Ahead, Along, AlongAll, Enters}
 use Rattle.steps.specs.Build.{nodeWords, Paid, Unpaid, Waiting, resultAt, agreesAt, copyAt, copyAgrees, Buildable, Gives, Stops, added, Turned, elementsAt, ElementsUnpaid, ElementsBackwards, copiesAt, CopiesAgreed, CopiesStop, Backwards, Reversed, Copied}
-use Rattle.steps.specs.EntryLaws.{entry-low}
-use Rattle.steps.specs.AgreeLaws.{flat-leaf, copies-flat, below-at}
 use Rattle.steps.specs.BuildLaws.{room-left, pays-is}
 use Rattle.steps.specs.ResultLaws.{copy-kept, copy-agrees-kept, buildable-left}
 

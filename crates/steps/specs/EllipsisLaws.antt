@@ -11,13 +11,13 @@ use Rattle.expansion.specs.Transcribe.{copies, allBelow}
 use Rattle.arena.specs.Arena.{wordAt, referenceAt}
 use Rattle.arena.specs.ArenaLaws.{take-less, referenceAt-most}
 use Rattle.rule_cells.specs.Cells.{templateAt}
+use Rattle.environments.specs.Sound.{Plain}
+use Rattle.environments.specs.Environment.{agreeBy, resultBy}
+use Rattle.environments.specs.Lengths.{driving, AllOf, Copies}
+use Rattle.environments.specs.AgreeLaws.{false-true, ellipsis-is, below-cong}
+use Rattle.environments.specs.EnvironmentLaws.{copies-cong}
 use Rattle.steps.specs.declared.build.Built.{Built}
 use Rattle.steps.specs.declared.build.Built.the-variants.{At, Stopped}
-use Rattle.steps.specs.Sound.{Plain}
-use Rattle.steps.specs.Environment.{agreeBy, resultBy}
-use Rattle.steps.specs.Lengths.{driving, AllOf, Copies}
-use Rattle.steps.specs.AgreeLaws.{false-true, ellipsis-is, below-cong}
-use Rattle.steps.specs.EnvironmentLaws.{copies-cong}
 use Rattle.steps.specs.Build.{resultAt, agreesAt, copyAt, copyAgrees, Buildable, Gives, Stops, Made, added, Copied}
 use Rattle.steps.specs.ResultLaws.{both, plain-ellipsis, copy-kept, copy-agrees-kept, buildable-left}
 use Rattle.steps.specs.CopyLaws.{produce-copies, size-all-copies, added-cong}

@@ -1,19 +1,6 @@
 -- A macro step on cells: what its functions mean, and laws.
-pub mod Parts
-pub mod PartLaws
 pub mod Fits
 pub mod FitLaws
-pub mod Environment
-pub mod Sound
-pub mod EnvironmentLaws
-pub mod SoundRules
-pub mod Entries
-pub mod EntryLaws
-pub mod Bind
-pub mod BindLaws
-pub mod Lengths
-pub mod LengthLaws
-pub mod AgreeLaws
 pub mod Build
 pub mod BuildLaws
 pub mod ResultLaws

@@ -14,15 +14,15 @@ use Rattle.arena.specs.Cells.{Room, Grown}
 use Rattle.arena.specs.CellLaws.{tree-kept}
 use Rattle.rule_cells.specs.Cells.{constantBefore, templateAt}
 use Rattle.rule_cells.specs.CellLaws.{patternAt-below, templateAt-below, templateAt-variable, templateAt-insert, templateAt-constant, templateAt-empty}
-use Rattle.steps.specs.declared.environment.Entry.{Entry}
+use Rattle.environments.specs.declared.environment.Entry.{Entry}
+use Rattle.environments.specs.Sound.{Plain, pairs, ellipsis}
+use Rattle.environments.specs.Environment.{agreeBy, resultBy}
+use Rattle.environments.specs.Entries.{field, entryAt, takenIn, patternIn, takingOf, environmentAt, Under, Low}
+use Rattle.environments.specs.EntryLaws.{entry-low}
+use Rattle.environments.specs.LengthLaws.{taken-is}
+use Rattle.environments.specs.AgreeLaws.{flat-leaf, false-true, pair-is}
 use Rattle.steps.specs.declared.build.Built.{Built}
 use Rattle.steps.specs.declared.build.Built.the-variants.{At, Stopped}
-use Rattle.steps.specs.Sound.{Plain, pairs, ellipsis}
-use Rattle.steps.specs.Environment.{agreeBy, resultBy}
-use Rattle.steps.specs.Entries.{field, entryAt, takenIn, patternIn, takingOf, environmentAt, Under, Low}
-use Rattle.steps.specs.EntryLaws.{entry-low}
-use Rattle.steps.specs.LengthLaws.{taken-is}
-use Rattle.steps.specs.AgreeLaws.{flat-leaf, false-true, pair-is}
 use Rattle.steps.specs.Build.{nodeWords, Fresh, Paid, Pays, Waiting, resultAt, agreesAt, copyAt, copyAgrees, Buildable, Gives, Stops, Made}
 use Rattle.steps.specs.BuildLaws.{Whole, fresh-empty, fresh-constant, room-left, pays-is, unpaid-none, paid-one, pair-most, paid-pair}
 

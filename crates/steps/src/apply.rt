@@ -1,13 +1,13 @@
 // One macro step: the first rule that fits, then the result while there is fuel for it and driving lists are of one length.
 
 ghost use Rattle.steps.specs.Apply.{Transcribing, Transcribed, Stepping, Stepped};
-use crate::agree;
-use crate::bind;
 use crate::build;
 use crate::build::Built;
-use crate::environment;
 use crate::fits;
 use arena::cells;
+use environments::agree;
+use environments::bind;
+use environments::environment;
 
 // Grounds 16, 17 and 18, or the result's root and its items.
 pub enum Applied {

@@ -5,9 +5,9 @@ ghost use mathlib.Core.Path.{_≡_};
 ghost use Rattle.arena.specs.Arena.{wordAt};
 ghost use Rattle.steps.specs.Build.{Buildable, Made, Backwards, Copied};
 use crate::copy;
-use crate::environment;
-use crate::lengths;
 use arena::cells;
+use environments::environment;
+use environments::lengths;
 
 // The root's reference, which is the new top, and the fuel that is left, wider than the reference so that the two are not moved as
 // one; or there is not fuel enough, or driving lists differ in length: which of the two, who asks finds out (ground 17 before 18).

@@ -21,8 +21,8 @@ use Rattle.expansion.specs.TidyRules.{TidyRules, rulesOf-tidy}
 use Rattle.expansion.specs.Computation.{State, M}
 use Rattle.expansion.specs.Forms.{isMacros, keywords, rulesForms, expandMacros}
 use Rattle.arena.specs.Arena.{treeAt}
-use Rattle.steps.specs.Sound.{SoundRule}
-use Rattle.steps.specs.SoundRules.{rulesOf-sound}
+use Rattle.environments.specs.Sound.{SoundRule}
+use Rattle.environments.specs.SoundRules.{rulesOf-sound}
 use Rattle.turns.specs.declared.answers.Reached.{Reached}
 use Rattle.turns.specs.declared.answers.Ended.{Ended}
 use Rattle.turns.specs.declared.answers.Ended.the-variants.{Refused}

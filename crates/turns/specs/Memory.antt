@@ -13,7 +13,7 @@ use Rattle.expansion.specs.TidyRules.{TidyRules}
 use Rattle.expansion.specs.Computation.{State}
 use Rattle.arena.specs.Arena.{treeAt}
 use Rattle.rule_cells.specs.Cells.{rulesAt}
-use Rattle.steps.specs.Sound.{SoundRule}
+use Rattle.environments.specs.Sound.{SoundRule}
 use Rattle.turns.specs.declared.answers.Reached.{Reached}
 
 pub record Tables : Type 0 where

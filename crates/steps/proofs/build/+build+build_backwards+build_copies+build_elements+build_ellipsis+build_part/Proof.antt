@@ -24,22 +24,22 @@ use Rattle.steps.proofs.build.+build+build_backwards+build_copies+build
 use Rattle.arena.proofs.cells.put_pair.Reads as put-pair-reads
 use Rattle.arena.proofs.cells.reference.Reads as reference-reads
 use Rattle.arena.proofs.cells.word.Reads as word-reads
+use Rattle.environments.proofs.environment.begin.Reads as begin-reads
+use Rattle.environments.proofs.environment.enter.Reads as enter-reads
+use Rattle.environments.proofs.environment.is_listed.Reads as is-listed-reads
+use Rattle.environments.proofs.environment.taken.Reads as taken-reads
+use Rattle.environments.proofs.lengths.one_length.Reads as one-length-reads
+use Rattle.environments.proofs.lengths.copies.Reads as copies-reads
 use Rattle.steps.proofs.build.again.Reads as again-reads
 use Rattle.steps.proofs.build.build_leaf.Reads as build-leaf-reads
 use Rattle.steps.proofs.copy.copy_elements.Reads as copy-elements-reads
 use Rattle.steps.proofs.copy.put_reversed.Reads as put-reversed-reads
-use Rattle.steps.proofs.environment.begin.Reads as begin-reads
-use Rattle.steps.proofs.environment.enter.Reads as enter-reads
-use Rattle.steps.proofs.environment.is_listed.Reads as is-listed-reads
-use Rattle.steps.proofs.environment.taken.Reads as taken-reads
-use Rattle.steps.proofs.lengths.one_length.Reads as one-length-reads
-use Rattle.steps.proofs.lengths.copies.Reads as copies-reads
 use Rattle.steps.proofs.build.+build+build_backwards+build_copies+build_elements+build_ellipsis+build_part.{statement}
 use Rattle.steps.proofs.build.+build+build_backwards+build_copies+build_elements+build_ellipsis+build_part.Tie.{close}
-use Rattle.steps.specs.PartLaws.{tag-falls}
+use Rattle.environments.specs.PartLaws.{tag-falls}
+use Rattle.environments.specs.EntryLaws.{moving-along}
 use Rattle.steps.specs.Build.{Made, Backwards}
 use Rattle.steps.specs.ResultLaws.{gives-at, stops-at, made-none, pair-tail, pair-tail-costly, pair-head, pair-head-costly, pair-room, made-pair}
-use Rattle.steps.specs.EntryLaws.{moving-along}
 use Rattle.steps.specs.CopyLaws.{Turning, turning-begins, copies-none, copy-buildable, copy-costly, copy-room, turning-more, turning-ends, reversed-asks, copied, listed-waits, listed-backwards}
 use Rattle.steps.specs.EllipsisLaws.{ellipsis-differs, ellipsis-rest, ellipsis-rest-costly, ellipsis-copies, made-copies}
 use native.Mathlib.Omega.{arith}

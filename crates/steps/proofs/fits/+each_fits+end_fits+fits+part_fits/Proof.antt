@@ -21,7 +21,7 @@ use Rattle.steps.proofs.fits.constant_fits.Reads as constant-fits-reads
 use Rattle.steps.proofs.fits.literal_fits.Reads as literal-fits-reads
 use Rattle.steps.proofs.fits.+each_fits+end_fits+fits+part_fits.{statement}
 use Rattle.steps.proofs.fits.+each_fits+end_fits+fits+part_fits.Tie.{close}
-use Rattle.steps.specs.PartLaws.{tag-falls}
+use Rattle.environments.specs.PartLaws.{tag-falls}
 use Rattle.arena.specs.ListLaws.{kind-some}
 use borrow.Author.Tests.{not-true, not-false}
 use Rattle.steps.specs.FitLaws.{fits-variable, fits-wildcard, fits-literal, fits-constant, fits-ellipsis, fits-no-pair, fits-head-no, fits-tail, fits-empty, Along, along-begins, along-ends, along-more, Matched, each-ends, each-no, each-more}

@@ -1,0 +1,105 @@
+-- The proof of the cycle {bind_list}. The measure is the pattern's reference.
+use Prim.Native.Nat.{ℕ, _<_}
+use borrow.Fn.Kinds.{In}
+use borrow.Fn.PlainCycle.{Measures, is, falls, and}
+use Rattle.environments.proofs.bind.bind_list.Reads as bind-list
+use Rattle.environments.proofs.bind.bind_list.Kinds as bind-list-kinds
+use Rattle.environments.proofs.bind.+bind_list.Lts-bind_list as bind-list-lts
+use Rattle.arena.proofs.cells.reference.Reads as reference-reads
+use Rattle.arena.proofs.cells.word.Reads as word-reads
+use Rattle.environments.proofs.bind.bind_variable.Reads as bind-variable-reads
+use Rattle.environments.proofs.bind.+bind_list.{statement}
+use Rattle.environments.proofs.bind.+bind_list.Tie.{close}
+use native.Mathlib.Omega.{arith}
+use borrow.Author.Needs.{needs}
+use Rattle.environments.specs.PartLaws.{tag-falls}
+use Rattle.environments.specs.BindLaws.{list-none, list-variable, list-second, list-known, list-pair}
+
+abbrev μ-bind-list : Measures 2 bind-list-kinds.ps ℕ
+μ-bind-list κs a =
+    a .1 .1 .0
+
+abbrev bind-list-at : ℕ → In 2 bind-list-kinds.ps
+bind-list-at t = and 2 bind-list-kinds.ps (is 2 bind-list-kinds.ps μ-bind-list t) bind-list.Pre
+
+abbrev bind-list-below : ℕ → In 2 bind-list-kinds.ps
+bind-list-below t =
+    and 2 bind-list-kinds.ps (falls 2 bind-list-kinds.ps _<_ μ-bind-list t) bind-list.Pre
+
+abbrev bind-list-claims : ℕ → bind-list-lts.Claims
+bind-list-claims t = (word-reads.Asked, word-reads.Learnt, bind-variable-reads.Asked, bind-variable-reads.Learnt, reference-reads.Asked, reference-reads.Learnt, bind-list-below t, bind-list.Post)
+
+bind-list-word-requires : (t : ℕ) → bind-list-lts.Need-word-requires (bind-list-claims t) (bind-list-at t) bind-list.Post
+bind-list-word-requires t c κs =
+    search needs
+
+bind-list-word-requires-2 : (t : ℕ) → bind-list-lts.Need-word-requires-2 (bind-list-claims t) (bind-list-at t) bind-list.Post
+bind-list-word-requires-2 t c κs =
+    search needs
+
+bind-list-bind-variable-requires : (t : ℕ) → bind-list-lts.Need-bind-variable-requires (bind-list-claims t) (bind-list-at t) bind-list.Post
+bind-list-bind-variable-requires t c κs =
+    search needs
+
+bind-list-returns : (t : ℕ) → bind-list-lts.Need-returns (bind-list-claims t) (bind-list-at t) bind-list.Post
+bind-list-returns t c =
+    let a = c .before .before .before .before .before .before .args in list-variable (a .work .now) (a .p) _ (c .before .before .before .before .word .ensures) (a .env .now) (a .list) (a .first) (a .second) _ _ (c .before .before .before .if1 .taken) (c .before .before .word2 .ensures) (c .bind-variable .ensures)
+
+bind-list-reference-requires : (t : ℕ) → bind-list-lts.Need-reference-requires (bind-list-claims t) (bind-list-at t) bind-list.Post
+bind-list-reference-requires t c κs =
+    search needs
+
+bind-list-bind-list-requires : (t : ℕ) → bind-list-lts.Need-bind-list-requires (bind-list-claims t) (bind-list-at t) bind-list.Post
+bind-list-bind-list-requires t c κs =
+    let a = c .before .before .before .before .before .before .before .args in let l = tag-falls (a .work .now) (a .p) _ (c .before .before .before .before .before .word .ensures) 2 _ (λ z. omega arith) (c .before .before .before .reference .ensures) in omega (arith, l)
+
+bind-list-returns-2 : (t : ℕ) → bind-list-lts.Need-returns-2 (bind-list-claims t) (bind-list-at t) bind-list.Post
+bind-list-returns-2 t c =
+    let a = c .before .before .before .before .before .before .before .before .args in list-second (a .work .now) (a .p) _ (c .before .before .before .before .before .before .word .ensures) (a .env .now) (a .list) (a .first) (a .second) _ _ (c .before .before .before .if2 .taken) (c .before .before .before .before .reference .ensures) (c .before .before .if3 .taken) (c .bind-list .ensures)
+
+bind-list-bind-list-requires-2 : (t : ℕ) → bind-list-lts.Need-bind-list-requires-2 (bind-list-claims t) (bind-list-at t) bind-list.Post
+bind-list-bind-list-requires-2 t c κs =
+    let a = c .before .before .before .before .before .before .before .args in let l = tag-falls (a .work .now) (a .p) _ (c .before .before .before .before .before .word .ensures) 2 _ (λ z. omega arith) (c .before .before .before .reference .ensures) in omega (arith, l)
+
+bind-list-returns-3 : (t : ℕ) → bind-list-lts.Need-returns-3 (bind-list-claims t) (bind-list-at t) bind-list.Post
+bind-list-returns-3 t c =
+    let a = c .before .before .before .before .before .before .before .before .args in list-known (a .work .now) (a .p) _ (c .before .before .before .before .before .before .word .ensures) (a .env .now) (a .list) (a .first) (a .second) _ _ (c .before .before .before .if2 .taken) (c .before .before .before .before .reference .ensures) (c .before .before .if3 .left) (c .bind-list2 .ensures)
+
+bind-list-returns-4 : (t : ℕ) → bind-list-lts.Need-returns-4 (bind-list-claims t) (bind-list-at t) bind-list.Post
+bind-list-returns-4 t c =
+    let a = c .before .before .before .before .before .before .args in list-none (a .work .now) (a .p) _ (c .before .before .before .before .word .ensures) (a .env .now) (a .list) (a .first) (a .second) (c .before .before .before .if1 .left) (c .if4 .taken) (c .before .if2 .left)
+
+bind-list-reference-requires-2 : (t : ℕ) → bind-list-lts.Need-reference-requires-2 (bind-list-claims t) (bind-list-at t) bind-list.Post
+bind-list-reference-requires-2 t c κs =
+    search needs
+
+bind-list-bind-list-requires-3 : (t : ℕ) → bind-list-lts.Need-bind-list-requires-3 (bind-list-claims t) (bind-list-at t) bind-list.Post
+bind-list-bind-list-requires-3 t c κs =
+    let a = c .before .before .before .before .before .before .before .before .args in let l = tag-falls (a .work .now) (a .p) _ (c .before .before .before .before .before .before .word .ensures) 2 _ (λ z. omega arith) (c .before .before .before .before .reference .ensures) in omega (arith, l)
+
+bind-list-bind-list-requires-4 : (t : ℕ) → bind-list-lts.Need-bind-list-requires-4 (bind-list-claims t) (bind-list-at t) bind-list.Post
+bind-list-bind-list-requires-4 t c κs =
+    let a = c .before .before .before .before .before .before .before .before .before .before .args in let l = tag-falls (a .work .now) (a .p) _ (c .before .before .before .before .before .before .before .before .word .ensures) 3 _ (λ z. omega arith) (c .before .before .before .reference2 .ensures) in omega (arith, l)
+
+bind-list-returns-5 : (t : ℕ) → bind-list-lts.Need-returns-5 (bind-list-claims t) (bind-list-at t) bind-list.Post
+bind-list-returns-5 t c =
+    let a = c .before .before .before .before .before .before .before .before .before .before .before .args in list-pair (a .work .now) (a .p) _ (c .before .before .before .before .before .before .before .before .before .word .ensures) (a .env .now) _ _ (c .before .before .before .before .before .if4 .left) (c .before .before .before .before .before .before .before .reference .ensures) (c .before .before .before .before .reference2 .ensures) _ _ (a .list) (a .first) (a .second) (c .before .before .bind-list3 .ensures) (c .bind-list4 .ensures)
+
+pub +bind-list-spec : {M : Type 1} → statement M
++bind-list-spec = close μ-bind-list λ t. bind-list-lts.spec (bind-list-claims t)
+    (bind-list-at t)
+    bind-list.Post
+    (bind-list-word-requires t)
+    (bind-list-word-requires-2 t)
+    (bind-list-bind-variable-requires t)
+    (bind-list-returns t)
+    (bind-list-reference-requires t)
+    (bind-list-bind-list-requires t)
+    (bind-list-returns-2 t)
+    (bind-list-bind-list-requires-2 t)
+    (bind-list-returns-3 t)
+    (bind-list-returns-4 t)
+    (bind-list-reference-requires-2 t)
+    (bind-list-bind-list-requires-3 t)
+    (bind-list-bind-list-requires-4 t)
+    (bind-list-returns-5 t)

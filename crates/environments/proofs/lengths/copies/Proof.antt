@@ -1,0 +1,79 @@
+-- `lengths::copies`: the length of a variable's own list, else the first of the lengths, 0 where there is none.
+use borrow.Author.Needs.{needs}
+use Rattle.environments.proofs.lengths.copies.Statement.{statement}
+use Rattle.environments.proofs.lengths.copies.Tie as tie
+use Rattle.environments.specs.LengthLaws.{copies-some, copies-none, copies-unlisted, copies-own}
+
+word-requires : tie.Need-word-requires
+word-requires c κs =
+    search needs
+
+word-requires-2 : tie.Need-word-requires-2
+word-requires-2 c κs =
+    search needs
+
+returns : tie.Need-returns
+returns c =
+    let a = c .before .before .before .before .before .args in copies-unlisted (a .work .now) (a .env .now) (a .e) _ (c .before .before .before .word .ensures) (c .before .before .if1 .taken) _ (c .before .word2 .ensures) (c .if2 .taken)
+
+word-requires-3 : tie.Need-word-requires-3
+word-requires-3 c κs =
+    search needs
+
+sub-taken : tie.Need-sub-taken
+sub-taken c =
+    search needs
+
+taken-requires : tie.Need-taken-requires
+taken-requires c κs =
+    search needs
+
+count-requires : tie.Need-count-requires
+count-requires c κs =
+    search needs
+
+returns-2 : tie.Need-returns-2
+returns-2 c =
+    let a = c .before .before .before .before .before .before .before .before .args in
+    let tag = c .before .before .before .before .before .before .word in
+    let if1 = c .before .before .before .before .before .if1 in
+    let depth = c .before .before .before .before .word2 in
+    copies-own (a .work .now) (a .env .now) (a .e) _ (tag .ensures) (if1 .taken) _ _ _ _ (depth .ensures) (c .before .before .word3 .ensures) (c .before .before .before .if2 .left) (c .before .taken .ensures) (c .count .ensures)
+
+driver-requires : tie.Need-driver-requires
+driver-requires c κs =
+    search needs
+
+enum-known-c : tie.Need-enum-known-c
+enum-known-c c =
+    search needs
+
+enum-told : tie.Need-enum-told
+enum-told c =
+    search needs
+
+returns-3 : tie.Need-returns-3
+returns-3 c =
+    let a = c .before .before .before .before .before .before .before .args in copies-some (a .work .now) (a .env .now) (a .e) _ _ (c .before .c .given .1) (c .before .before .before .driver .ensures)
+
+returns-4 : tie.Need-returns-4
+returns-4 c =
+    let a = c .before .before .before .before .before .before .args in copies-none (a .work .now) (a .env .now) (a .e) _ (c .enum-told .given .1) (c .before .before .driver .ensures)
+
+pub copies-spec : {M : Type 1} → statement M
+copies-spec =
+    tie.close
+    (tie.spec
+    word-requires
+    word-requires-2
+    returns
+    word-requires-3
+    sub-taken
+    taken-requires
+    count-requires
+    returns-2
+    driver-requires
+    enum-known-c
+    enum-told
+    returns-3
+    returns-4)

@@ -1,0 +1,102 @@
+-- Laws of parts on cells, one for each way through the code.
+use mathlib.Core.Path.{_≡_, refl, sym, ap, _∙_}
+use mathlib.Core.Bool.{Bool, true, false}
+use mathlib.Core.List.{List, []}
+use Prim.Native.Nat.{ℕ, _<_}
+use native.Mathlib.Omega.{arith}
+use lib.Dec.{eqb}
+use borrow.Author.Tests.{eqb-true, eqb-false}
+use Rattle.recipe.specs.Tree.{Tree, empty, element, tail}
+use Rattle.expansion.specs.Rules.{Pattern}
+use Rattle.expansion.specs.Match.{holds, part}
+use Rattle.arena.specs.Arena.{wordAt, referenceAt}
+use Rattle.arena.specs.ArenaLaws.{cases, wordAt-some, referenceAt-falls}
+use Rattle.rule_cells.specs.Cells.{patternAt}
+use Rattle.rule_cells.specs.CellLaws.{patternAt-variable, patternAt-literal, patternAt-wildcard, patternAt-constant, patternAt-pair, patternAt-ellipsis, patternAt-empty}
+use Rattle.arena.specs.Lists.{Means}
+use Rattle.arena.specs.ListLaws.{treeAt-none}
+use Rattle.environments.specs.Parts.{Holds, Part}
+
+-- a pattern that holds no variable
+abbrev Bare : Pattern → Type 0
+Bare p = (k : ℕ) → (holds k p ≡ false) × ((is : List ℕ) (t : Tree) → part p k is t ≡ empty)
+
+module _ (work : List ℕ) (p tag : ℕ) (tag-is : tag ≡ wordAt work p 1) where
+  pub tag-some : (tag ≡ 0 → ⊥) → 0 < p
+  tag-some h = wordAt-some work p 1 (omega arith) (λ z. h (tag-is ∙ z))
+
+  pub tag-falls : (k r : ℕ) → (tag ≡ 0 → ⊥) → r ≡ referenceAt work p k → r < p
+  tag-falls k r h e = omega (arith, referenceAt-falls work p k (tag-some h))
+
+  bare : (items : List ℕ) → (tag ≡ 1 → ⊥) → (tag ≡ 6 → ⊥) → (tag ≡ 7 → ⊥) → Bare (patternAt items work p)
+  unfolding holds part
+  bare items a b c =
+      cases (eqb tag 2)
+      (λ t. rw (patternAt-literal items work p (sym tag-is ∙ eqb-true tag 2 t)) (λ k. (refl, λ is t. refl)))
+      (λ t.
+      cases (eqb tag 3)
+      (λ u. rw (patternAt-wildcard items work p (sym tag-is ∙ eqb-true tag 3 u)) (λ k. (refl, λ is t. refl)))
+      (λ u.
+      cases (eqb tag 4)
+      (λ v. rw (patternAt-constant items work p (sym tag-is ∙ eqb-true tag 4 v)) (λ k. (refl, λ is t. refl)))
+      (λ v.
+      rw (patternAt-empty items work p (λ z. a (tag-is ∙ z)) (λ z. eqb-false tag 2 t (tag-is ∙ z)) (λ z. eqb-false tag 3 u (tag-is ∙ z)) (λ z. eqb-false tag 4 v (tag-is ∙ z)) (λ z. b (tag-is ∙ z)) (λ z. c (tag-is ∙ z)))
+      (λ k. (refl, λ is t. refl)))))
+
+  module _ (k : ℕ) where
+    pub holds-variable : (j : ℕ) → tag ≡ 1 → j ≡ wordAt work p 2 → Holds work p k (eqb k j)
+    unfolding holds
+    holds-variable j e h items = rw (h, patternAt-variable items work p (sym tag-is ∙ e)) refl
+
+    pub holds-ellipsis : (e : ℕ) (r : Bool) → tag ≡ 7 → e ≡ referenceAt work p 2 → Holds work e k r → Holds work p k r
+    unfolding holds
+    holds-ellipsis e r t h c items = c items ∙ rw (h, patternAt-ellipsis items work p (sym tag-is ∙ t)) refl
+
+    pub holds-none : (tag ≡ 1 → ⊥) → (tag ≡ 6 → ⊥) → (tag ≡ 7 → ⊥) → Holds work p k false
+    holds-none a b c items = sym (bare items a b c k .0)
+
+    module _ (head : ℕ) (left : Bool) (pair : tag ≡ 6) (head-is : head ≡ referenceAt work p 3) (left-is : Holds work head k left) where
+      pub holds-head : left ≡ true → Holds work p k true
+      unfolding holds
+      holds-head e items = rw (patternAt-pair items work p (sym tag-is ∙ pair), ← head-is, ← left-is items, e) refl
+
+      pub holds-tail : (tail : ℕ) (r : Bool) → left ≡ false → tail ≡ referenceAt work p 2 → Holds work tail k r → Holds work p k r
+      unfolding holds
+      holds-tail tail r e h c items = rw (patternAt-pair items work p (sym tag-is ∙ pair), ← head-is, ← left-is items, e) (c items ∙ rw h refl)
+
+    module _ (u : ℕ) where
+      pub part-variable : tag ≡ 1 → Part work p k u u
+      unfolding part
+      part-variable e = record { is-part = λ items w. rw (patternAt-variable items work p (sym tag-is ∙ e)) refl; low = omega arith }
+
+      pub part-none : (tag ≡ 1 → ⊥) → (tag ≡ 6 → ⊥) → (tag ≡ 7 → ⊥) → Part work p k u 0
+      part-none a b c = record { is-part = λ items w. treeAt-none items work w ∙ sym (bare items a b c k .1 _ _); low = omega arith }
+
+      module _ (head : ℕ) (left : Bool) (pair : tag ≡ 6) (head-is : head ≡ referenceAt work p 3) (left-is : Holds work head k left) (v r : ℕ) where
+        pub part-head : left ≡ true → Means work u v (element 0) → Part work head k v r → Part work p k u r
+        unfolding part
+        part-head e m c =
+            record {
+              is-part = λ items w.
+                  c .is-part items w
+                  ∙ rw (patternAt-pair items work p (sym tag-is ∙ pair), ← head-is, ← left-is items, e) (ap (part (patternAt items work head) k []) (m .is items w));
+              low = omega (arith, c .low, m .low);
+            }
+
+        pub part-tail : (rest : ℕ) → left ≡ false → rest ≡ referenceAt work p 2 → Means work u v tail → Part work rest k v r → Part work p k u r
+        unfolding part
+        part-tail rest e h m c =
+            record {
+              is-part = λ items w.
+                  c .is-part items w
+                  ∙ rw (patternAt-pair items work p (sym tag-is ∙ pair), ← head-is, ← left-is items, e, ← h) (ap (part (patternAt items work rest) k []) (m .is items w));
+              low = omega (arith, c .low, m .low);
+            }
+
+      pub part-list : tag ≡ 7 → Part work p k u u
+      unfolding part
+      part-list e = record { is-part = λ items w. rw (patternAt-ellipsis items work p (sym tag-is ∙ e)) refl; low = omega arith }
+
+-- what variable k takes of the node by the pattern at `at`, it takes of the use by the whole pattern
+abbrev pub Leads : (work : List ℕ) (p k u at node : ℕ) → Type 0
+Leads work p k u at node = (r : ℕ) → Part work at k node r → Part work p k u r

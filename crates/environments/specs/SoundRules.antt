@@ -1,0 +1,215 @@
+-- Rules that parsing makes of tidy trees are sound. Tails must be lists: a name in place of the list after `...` would be counted as
+-- a variable, and no pattern would hold it.
+use mathlib.Core.Path.{_≡_, refl, sym, ap, ap₂, _∙_}
+use mathlib.Core.Bool.{Bool, true, false, not, _&&_, cond, false≢true}
+use mathlib.Core.List.{List, [], _∷_, map}
+use mathlib.Core.Option.{Option}
+use Prim.Native.Nat.{ℕ, zero, suc, _+_, _≤_, _<_}
+use native.Mathlib.Omega.{arith}
+use lib.Dec.{eqb, leb}
+use lib.ListN.{length, length-append}
+use borrow.Author.Tests.{eqb-true, eq-eqb, leb-true, leb-false}
+use Rattle.words.specs.Limits.{patternVariablesMost, depthMost}
+use Rattle.words.specs.Lists.{all}
+use Rattle.words.specs.TestLaws.{and-left, and-right, or-left, or-right}
+use Rattle.words.specs.Options.{guard, mapBoth}
+use Rattle.words.specs.Each.{Each, each-weaken, Given, missing, given, given-weaken, given-traverse, given-cond, given-guard, given-mapSome, given-mapBoth}
+use Rattle.datum.specs.Constant.{Constant, isConstant}
+use Rattle.recipe.specs.Name.{Name, same, distinct, isEllipsis}
+use Rattle.recipe.specs.Tree.{Tree, empty, constant, name, pair, onEmpty, onName, onPair, isList, isListOf, names, elements, element, tail}
+use Rattle.recipe.specs.Tidy.{Tidy, tidyEmpty, tidyConstant, tidyName, tidyPair, tidy-elements, tidy-element, tidy-tail}
+use Rattle.recipe.specs.TableTidy.{IsConstant}
+use Rattle.expansion.specs.Rules.{Pattern, pairP, ellipsisP, Template, constantT, pairT, ellipsisT, depthFits, variableFrom, nameTemplate, areVariables, dotsNext, depthBefore, isVariable, variables, patternOf, templateOf, ruleOf, isRulesForm, rulesOf}
+use Rattle.expansion.specs.Match.{holds}
+use Rattle.arena.specs.Arena.{wordAt, referenceAt}
+use Rattle.arena.specs.ArenaLaws.{cases}
+use Rattle.rule_cells.specs.Cells.{templateStep, templateFrom, templateAt}
+use Rattle.environments.specs.Sound.{Sound, SoundRule, Plain}
+
+-- ---- answers
+
+-- each answer may use what the test says
+given-tested : {A : Type 0} {P : A → Type 0} (b : Bool) {o q : Option A} → (b ≡ true → Given P o) → (b ≡ false → Given P q) → Given P (cond b o q)
+given-tested true f g = f refl
+given-tested false f g = g refl
+
+given-guarded : {A : Type 0} {P : A → Type 0} (b : Bool) {o : Option A} → (b ≡ true → Given P o) → Given P (guard b o)
+unfolding guard
+given-guarded b f = given-tested b f (λ e. missing)
+
+-- the second answer may use what holds of the first
+given-then : {A B C : Type 0} {P : A → Type 0} {R : C → Type 0} (f : A → B → C) {o : Option A} {q : Option B} → ((a : A) → P a → Given (λ b. R (f a b)) q) → Given P o → Given R (mapBoth f o q)
+unfolding mapBoth
+given-then f k missing = missing
+given-then f k (given {a} p) = given-mapSome (f a) (λ b r. r) (k a p)
+
+-- ---- patterns
+
+-- the pattern holds n variables from number k on
+abbrev HoldsFrom : (k n : ℕ) → Pattern → Type 0
+HoldsFrom k n p = (j : ℕ) → k ≤ j → j < k + n → holds j p ≡ true
+
+module _ (dots : Name → Bool) (literals : List Name) where
+  -- there are as many variables at any depth
+  variables-count : (d e : ℕ) (t : Tree) → length (variables dots literals d t) ≡ length (variables dots literals e t)
+  unfolding variables
+  variables-count d e empty = refl
+  variables-count d e (constant a) = refl
+  variables-count d e (name x) = cases (isVariable dots literals x) (λ v. rw v refl) (λ v. rw v refl)
+  variables-count d e (pair p ps) =
+      length-append (variables dots literals (depthBefore dots ps d) p) (variables dots literals d ps)
+      ∙ ap₂ _+_ (variables-count (depthBefore dots ps d) (depthBefore dots ps e) p) (variables-count d e ps)
+      ∙ sym (length-append (variables dots literals (depthBefore dots ps e) p) (variables dots literals e ps))
+
+  count : Tree → ℕ
+  count t = length (variables dots literals 0 t)
+
+  count-pair : (p ps : Tree) → count (pair p ps) ≡ count p + count ps
+  unfolding variables count
+  count-pair p ps =
+      length-append (variables dots literals (depthBefore dots ps 0) p) (variables dots literals 0 ps)
+      ∙ ap (λ (n : ℕ). n + length (variables dots literals 0 ps)) (variables-count (depthBefore dots ps 0) 0 p)
+
+  module _ {N : Name → Type 0} {C : Constant → Type 0} where
+    count-end : {t : Tree} → Tidy N C t → isList t ≡ true → length (elements t) ≡ 0 → count t ≡ 0
+    unfolding isList onEmpty onPair elements variables count
+    count-end tidyEmpty l e = refl
+    count-end (tidyConstant c) l e = absurd (false≢true l)
+    count-end (tidyName x) l e = absurd (false≢true l)
+    count-end (tidyPair p q m) l e = absurd (omega arith)
+
+    -- `...` alone has no variable
+    count-dots : {t : Tree} → Tidy N C t → dotsNext dots t ≡ true → isListOf 1 t ≡ true → count t ≡ 0
+    unfolding dotsNext onPair onName isListOf isList onEmpty elements variables isVariable count
+    count-dots tidyEmpty d l = absurd (false≢true d)
+    count-dots (tidyConstant c) d l = absurd (false≢true d)
+    count-dots (tidyName x) d l = absurd (false≢true d)
+    count-dots (tidyPair tidyEmpty q m) d l = absurd (false≢true d)
+    count-dots (tidyPair (tidyConstant c) q m) d l = absurd (false≢true d)
+    count-dots (tidyPair {t = t} (tidyName x) q m) d l =
+        let e : suc (length (elements t)) ≡ 1 = eqb-true (suc (length (elements t))) 1 l in
+        rw d (count-end q m (omega arith))
+    count-dots (tidyPair (tidyPair a b c) q m) d l = absurd (false≢true d)
+
+    -- a pattern holds every variable that is counted
+    patternOf-holds : (k : ℕ) {t : Tree} → Tidy N C t → Given (HoldsFrom k (count t)) (patternOf dots literals k t)
+    unfolding patternOf variables holds count
+    patternOf-holds k tidyEmpty = given (λ j a b. absurd (omega arith))
+    patternOf-holds k (tidyConstant c) = given (λ j a b. absurd (omega arith))
+    patternOf-holds k (tidyName {x} y) =
+        given-guard (not (dots x))
+        (cases (isVariable dots literals x)
+        (λ v. rw v (given (λ j a b. eq-eqb j k (omega arith))))
+        (λ v. rw v (given (λ j a b. absurd (omega arith)))))
+    patternOf-holds k (tidyPair {h} {t} p q l) =
+        let first = patternOf-holds k p in
+        let both = count-pair h t in
+        given-tested (dotsNext dots t)
+        (λ d. given-guarded (isListOf 1 t) (λ e. given-mapSome ellipsisP (λ a f j b c. f j b (omega (arith, both, count-dots q d e))) first))
+        (λ d. given-mapBoth pairP (λ a b f g j c e. either a b f g j c (omega (arith, both, e))) first (patternOf-holds (k + count h) q))
+      where
+        either : (a b : Pattern) → HoldsFrom k (count h) a → HoldsFrom (k + count h) (count t) b → HoldsFrom k (count h + count t) (pairP a b)
+        either a b f g j c e =
+            cases (leb (k + count h) j)
+            (λ o. or-right (holds j a) (holds j b) (g j (leb-true (k + count h) j o) (omega arith)))
+            (λ o. or-left (holds j a) (holds j b) (f j c (leb-false (k + count h) j o)))
+
+-- ---- templates
+
+constant-sound : (p : Pattern) (d : ℕ) (a : Constant) → isConstant a ≡ true → Sound p d (constantT a)
+unfolding isConstant
+constant-sound p d a c = Sound.constant {a = a} (λ z. false≢true (rw z at c)) (λ z. false≢true (rw z at c)) (λ z. false≢true (rw z at c))
+
+depthFits-most : (d here : ℕ) → depthFits d here ≡ true → d ≤ here
+unfolding depthFits
+depthFits-most d here e = cases (eqb d 0) (λ z. omega (arith, eqb-true d 0 z)) (λ z. omega (arith, eqb-true d here (rw z at e)))
+
+-- a number below k + n, under at most two ellipses
+record Known (k n : ℕ) (v : ℕ × ℕ) : Type 0 where
+  few : v .0 < k + n
+  shallow : v .1 ≤ depthMost
+
+variableFrom-known : (k : ℕ) (vs : List (Name × ℕ)) (x : Name) → all (λ v. leb (v .1) depthMost) vs ≡ true → Given (Known k (length vs)) (variableFrom k vs x)
+unfolding variableFrom all
+variableFrom-known k [] x s = missing
+variableFrom-known k (v ∷ vs) x s =
+    given-cond (same (v .0) x) (given (record { few = omega arith; shallow = leb-true (v .1) depthMost (and-left (leb (v .1) depthMost) _ s) }))
+    (given-weaken (λ a f. record { few = omega (arith, f .few); shallow = f .shallow }) (variableFrom-known (suc k) vs x (and-right (leb (v .1) depthMost) _ s)))
+
+module _ (dots : Name → Bool) (vs : List (Name × ℕ)) (good : areVariables vs ≡ true) (p : Pattern) (held : HoldsFrom 0 (length vs) p) where
+  few : length vs ≤ patternVariablesMost
+  unfolding areVariables
+  few = leb-true (length vs) patternVariablesMost (and-left (leb (length vs) patternVariablesMost) _ good)
+
+  shallow : all (λ v. leb (v .1) depthMost) vs ≡ true
+  unfolding areVariables
+  shallow = and-right (distinct (map (λ v. v .0) vs)) _ (and-right (leb (length vs) patternVariablesMost) _ good)
+
+  nameTemplate-sound : (here : ℕ) (x : Name) {o : Option (ℕ × ℕ)} → Given (Known 0 (length vs)) o → Given (Sound p here) (nameTemplate here x o)
+  unfolding nameTemplate
+  nameTemplate-sound here x missing = given Sound.insert
+  nameTemplate-sound here x (given {a = v} f) =
+      given-guarded (depthFits (v .1) here)
+      (λ e. given (Sound.variable (omega (arith, f .few, few)) (held (v .0) (omega arith) (f .few)) (f .shallow) (depthFits-most (v .1) here e)))
+
+  templateOf-sound : {N : Name → Type 0} (d : ℕ) (taken : Bool) {t : Tree} → Tidy N IsConstant t → Given (Sound p d) (templateOf dots vs d taken t)
+  unfolding templateOf depthBefore
+  templateOf-sound d taken tidyEmpty = given Sound.empty
+  templateOf-sound d taken (tidyConstant {a} c) = given (constant-sound p d a c)
+  templateOf-sound d taken (tidyName {x} y) = given-guard (not (dots x)) (nameTemplate-sound d x (variableFrom-known 0 vs x shallow))
+  templateOf-sound d taken (tidyPair {h} {t} a b l) =
+      let first = templateOf-sound (depthBefore dots t d) false a in
+      let later = templateOf-sound d (not taken && dotsNext dots t) b in
+      given-cond taken later
+      (given-tested (dotsNext dots t)
+      (λ e. given-guard _ (given-mapBoth ellipsisT (λ x y f g. Sound.ellipsis (rw e at f) g) first later))
+      (λ e. given-mapBoth pairT (λ x y f g. Sound.pairs (rw e at f) g) first later))
+
+-- ---- rules
+
+module _ {N : Name → Type 0} where
+  ruleOf-sound : (dots : Name → Bool) (literals : List Name) {r : Tree} → Tidy N IsConstant r → Given SoundRule (ruleOf dots literals r)
+  unfolding ruleOf count
+  ruleOf-sound dots literals {r} s =
+      let vs : List (Name × ℕ) = variables dots literals 0 (tail (element 0 r)) in
+      given-guarded _
+      (λ e.
+      let good : areVariables vs ≡ true = and-right (onName (λ x. not (dots x)) false (element 0 (element 0 r))) _ (and-right (isListOf 2 r) _ e) in
+      given-then _ (λ p held. templateOf-sound dots vs good p held 0 false (tidy-element 1 s)) (patternOf-holds dots literals 0 (tidy-tail (tidy-element 0 s))))
+
+  pub rulesOf-sound : {r : Tree} → Tidy N IsConstant r → Given (Each SoundRule) (rulesOf r)
+  unfolding rulesOf
+  rulesOf-sound {r} s =
+      given-guard (isRulesForm r) (given-traverse (each-weaken (λ t f. ruleOf-sound isEllipsis (names (element 1 r)) f) (tidy-elements (tidy-tail (tidy-tail s)))))
+
+-- ---- whether a template is plain does not depend on the items
+
+plain-from : (a b work : List ℕ) (gas at : ℕ) → Plain (templateFrom a work gas at) → Plain (templateFrom b work gas at)
+unfolding templateFrom templateStep
+plain-from a b work zero at = λ x. x
+plain-from a b work (suc gas) at =
+    cases (eqb (wordAt work at 1) 1)
+    (λ t1. rw t1 (λ x. x))
+    (λ t1.
+    cases (eqb (wordAt work at 1) 2)
+    (λ t2. rw (t1, t2) (λ x. Plain.insert))
+    (λ t2.
+    cases (eqb (wordAt work at 1) 4)
+    (λ t4. rw (t1, t2, t4) (λ x. x))
+    (λ t4.
+    cases (eqb (wordAt work at 1) 6)
+    (λ t6. rw (t1, t2, t4, t6) (in-pair _ _ _ _ (plain-from a b work gas (referenceAt work at 3)) (plain-from a b work gas (referenceAt work at 2))))
+    (λ t6.
+    cases (eqb (wordAt work at 1) 7)
+    (λ t7. rw (t1, t2, t4, t6, t7) (in-ellipsis _ _ _ _ (plain-from a b work gas (referenceAt work at 3)) (plain-from a b work gas (referenceAt work at 2))))
+    (λ t7. rw (t1, t2, t4, t6, t7) (λ x. x))))))
+  where
+    in-pair : (s t y z : Template) → (Plain s → Plain y) → (Plain t → Plain z) → Plain (pairT s t) → Plain (pairT y z)
+    in-pair s t y z f g (Plain.pairs m n) = Plain.pairs (f m) (g n)
+
+    in-ellipsis : (s t y z : Template) → (Plain s → Plain y) → (Plain t → Plain z) → Plain (ellipsisT s t) → Plain (ellipsisT y z)
+    in-ellipsis s t y z f g (Plain.ellipsis m n) = Plain.ellipsis (f m) (g n)
+
+pub plain-any : (a b work : List ℕ) (t : ℕ) → Plain (templateAt a work t) → Plain (templateAt b work t)
+unfolding templateAt
+plain-any a b work t x = plain-from a b work t t x

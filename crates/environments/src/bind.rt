@@ -1,0 +1,90 @@
+// The environment of a pattern and a use that fits it. The tail of a list is bound before its head, which the definition finds first.
+
+ghost use mathlib.Core.Path.{_≡_};
+ghost use Rattle.environments.specs.Bind.{bound, BindsOne, BindsList, Binds};
+use crate::environment;
+use crate::environment::Entry;
+use arena::cells;
+use arena::lists;
+
+// Variable k takes a node, and lies under the ellipses of these elements.
+fn bind_variable(env: &mut [u32; environment::WORDS], k: u32, node: u32, first: u32, second: u32)
+    ensures { λ _. ⌜ BindsOne k (bound node first second) (now (env .entry)) (now (env .exit)) ⌝ }
+{
+    if words::VARIABLES <= k {
+        return;
+    }
+    let i = k as usize;
+    environment::put(
+        env,
+        i,
+        Entry {
+            whole: node,
+            one: node,
+            two: node,
+            first: first,
+            second: second,
+            along: 0,
+            across: 0,
+        },
+    );
+}
+
+// The variables of an element: each takes the list.
+fn bind_list(
+    work: &[u32],
+    env: &mut [u32; environment::WORDS],
+    p: u32,
+    list: u32,
+    first: u32,
+    second: u32,
+)
+    ensures { λ _. ⌜ BindsList (now (work .entry)) p list first second (now (env .entry)) (now (env .exit)) ⌝ }
+{
+    let tag = cells::word(work, p, cells::TAG);
+    if tag == rule_cells::cells::VARIABLE {
+        let k = cells::word(work, p, 2);
+        bind_variable(env, k, list, first, second);
+        return;
+    }
+    let rest = cells::reference(work, p, 2);
+    if tag == rule_cells::cells::ELLIPSIS {
+        if second == 0 {
+            bind_list(work, env, rest, list, first, rest);
+            return;
+        }
+        bind_list(work, env, rest, list, first, second);
+        return;
+    }
+    if tag != rule_cells::cells::PAIR {
+        return;
+    }
+    let head = cells::reference(work, p, 3);
+    bind_list(work, env, rest, list, first, second);
+    bind_list(work, env, head, list, first, second);
+}
+
+// The variables of a pattern, each with what it takes from the use.
+pub fn bind(work: &[u32], env: &mut [u32; environment::WORDS], p: u32, u: u32)
+    ensures { λ _. ⌜ Binds (now (work .entry)) p u (now (env .entry)) (now (env .exit)) ⌝ }
+{
+    let tag = cells::word(work, p, cells::TAG);
+    if tag == rule_cells::cells::VARIABLE {
+        let k = cells::word(work, p, 2);
+        bind_variable(env, k, u, 0, 0);
+        return;
+    }
+    let rest = cells::reference(work, p, 2);
+    if tag == rule_cells::cells::ELLIPSIS {
+        bind_list(work, env, rest, u, rest, 0);
+        return;
+    }
+    if tag != rule_cells::cells::PAIR {
+        return;
+    }
+    let tail = lists::rest(work, u);
+    bind(work, env, rest, tail);
+    let head = cells::reference(work, p, 3);
+    let first = lists::first(work, u);
+    bind(work, env, head, first);
+}
