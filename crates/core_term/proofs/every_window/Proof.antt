@@ -1,9 +1,6 @@
 -- Every window is walked through. The invariant is Walked of specs/CheckLaws.antt.
 use Rattle.core_term.proofs.every_window.Statement.{statement}
 use Rattle.core_term.proofs.every_window.Tie as tie
-use Rattle.core_term.proofs.every_window.Reads as reads
-use Rattle.core_term.proofs.every_window.Lts as lts
-use Rattle.core_term.proofs.term.term.Reads as term-reads
 use borrow.Author.Needs.{needs}
 use native.Mathlib.Omega.{arith}
 use mathlib.Core.Path.{sym, _∙_}

@@ -2,9 +2,6 @@
 use borrow.Author.Needs.{needs}
 use Rattle.core_term.proofs.is_term.Statement.{statement}
 use Rattle.core_term.proofs.is_term.Tie as tie
-use Rattle.core_term.proofs.is_term.Reads as reads
-use Rattle.core_term.proofs.is_term.Lts as lts
-use Rattle.core_term.proofs.holds.Reads as holds-reads
 use Rattle.core_term.specs.Window.{goodName}
 
 holds-requires : tie.Need-holds-requires

@@ -2,9 +2,6 @@
 use borrow.Author.Needs.{needs}
 use Rattle.core_term.proofs.is_term_unnamed.Statement.{statement}
 use Rattle.core_term.proofs.is_term_unnamed.Tie as tie
-use Rattle.core_term.proofs.is_term_unnamed.Reads as reads
-use Rattle.core_term.proofs.is_term_unnamed.Lts as lts
-use Rattle.core_term.proofs.holds.Reads as holds-reads
 use Rattle.core_term.specs.Window.{goodName}
 
 slice-aggregate-holds : tie.Need-slice-aggregate-holds

@@ -2,10 +2,6 @@
 use borrow.Author.Needs.{needs}
 use Rattle.core_term.proofs.head.branch.Statement.{statement}
 use Rattle.core_term.proofs.head.branch.Tie as tie
-use Rattle.core_term.proofs.head.branch.Reads as reads
-use Rattle.core_term.proofs.head.branch.Lts as lts
-use Rattle.core_term.proofs.head.lambda_head.Reads as lambda-head-reads
-use Rattle.core_term.proofs.head.wide.Reads as wide-reads
 use native.Mathlib.Omega.{arith}
 use mathlib.Core.Path.{_≡_}
 use lib.ListN.{getD}

@@ -2,11 +2,6 @@
 use borrow.Author.Needs.{needs}
 use Rattle.core_term.proofs.head.leaf.Statement.{statement}
 use Rattle.core_term.proofs.head.leaf.Tie as tie
-use Rattle.core_term.proofs.head.leaf.Reads as reads
-use Rattle.core_term.proofs.head.leaf.Lts as lts
-use Rattle.core_term.proofs.flags.in_scope.Reads as in-scope-reads
-use Rattle.core_term.proofs.head.name_good.Reads as name-good-reads
-use Rattle.core_term.proofs.head.wide.Reads as wide-reads
 use native.Mathlib.Omega.{arith}
 use mathlib.Core.Path.{_≡_}
 use lib.ListN.{getD}

@@ -2,10 +2,6 @@
 use borrow.Author.Needs.{needs}
 use Rattle.core_term.proofs.head.node.Statement.{statement}
 use Rattle.core_term.proofs.head.node.Tie as tie
-use Rattle.core_term.proofs.head.node.Reads as reads
-use Rattle.core_term.proofs.head.node.Lts as lts
-use Rattle.core_term.proofs.head.branch.Reads as branch-reads
-use Rattle.core_term.proofs.head.leaf.Reads as leaf-reads
 use native.Mathlib.Omega.{arith}
 use Rattle.core_term.specs.HeadLaws.{head-missing, at-none, short-missing, leaf-yes, leaf-no}
 

@@ -2,10 +2,6 @@
 use borrow.Author.Needs.{needs}
 use Rattle.steps.proofs.apply.transcribe.Statement.{statement}
 use Rattle.steps.proofs.apply.transcribe.Tie as tie
-use Rattle.steps.proofs.apply.transcribe.Reads as reads
-use Rattle.steps.proofs.apply.transcribe.Lts as lts
-use Rattle.environments.proofs.agree.lengths_agree.Reads as lengths-agree-reads
-use Rattle.steps.proofs.build.build.Reads as build-reads
 use Rattle.steps.specs.ResultLaws.{gives-at, stops-at}
 use Rattle.steps.specs.ApplyLaws.{transcribe-buildable, transcribed-done, transcribed-differ, transcribed-costly}
 use native.Mathlib.Omega.{arith}

@@ -2,11 +2,6 @@
 use borrow.Author.Needs.{needs}
 use Rattle.writer.proofs.pieces.leaf.Statement.{statement}
 use Rattle.writer.proofs.pieces.leaf.Tie as tie
-use Rattle.writer.proofs.pieces.leaf.Reads as reads
-use Rattle.writer.proofs.pieces.leaf.Lts as lts
-use Rattle.writer.proofs.numbers.numbered.Reads as numbered-reads
-use Rattle.writer.proofs.numbers.wide.Reads as wide-reads
-use Rattle.writer.proofs.pieces.datum_opening.Reads as datum-opening-reads
 use native.Mathlib.Omega.{arith}
 use mathlib.Core.Path.{ap, _∙_}
 use mathlib.Core.List.{_∷_}
