@@ -40,10 +40,6 @@ giveKey k x = record { number = x .number; item = x .item; produced = x .produce
 abbrev pub stepLimit : ℕ
 stepLimit = 8194
 
--- for so many marks a lent table has room; a name with more is looked at in a table of its own, which takes time and nothing else
-abbrev pub markLimit : ℕ
-markLimit = 512
-
 unfoldable pub marked : ℕ → Name → Name
 marked m x = cond (ltb m stepLimit) (markName m x) x
 

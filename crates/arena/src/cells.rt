@@ -9,6 +9,7 @@ ghost use Rattle.recipe.specs.Name.{markName};
 ghost use Rattle.recipe.specs.Tree.{empty, constant, name, pair};
 ghost use Rattle.arena.specs.Arena.{wordAt, referenceAt, stepLimit, wrapAt, treeAt};
 ghost use Rattle.arena.specs.Cells.{Room, Cell, Wrapped, Bound, itemName, Grown};
+use std::num;
 
 // Kinds of nodes, as of items; every other is a constant's.
 pub const EMPTY: u32 = 0;
@@ -64,14 +65,12 @@ pub const BOUND_PENDING: u32 = 8;
 
 pub const BOUND_OWN: u32 = 9;
 
-// Word k of the cell that ends at `at`, counted back from its end.
+// Word k of the cell that ends at `at`, counted back from its end. Counted back past the table's start, it wraps to an index that no
+// table has, so that one test is enough.
 pub fn word(work: &[u32], at: u32, k: u32) -> u32
     ensures { λ r. ⌜ r ≡ wordAt (now (work .entry)) at k ⌝ }
 {
-    if at < k {
-        return 0;
-    }
-    let i = (at - k) as usize;
+    let i = num::wrapping_sub_usize(at as usize, k as usize);
     if i < work.len() {
         return work[i];
     }

@@ -1,7 +1,7 @@
 // Names in the arena: resolved, compared, looked up. The definition's functions of names are in recipe/specs/Name.antt and
-// expansion/specs/Lookup.antt. `table` is lent for marks in hand; nothing is promised of what is left in it. A name with more
-// marks than it has room for is looked at again in a table of its own. Slices that are handed on to a walk that is seldom made are handed
-// on as parts, so that they are put into memory there alone.
+// expansion/specs/Lookup.antt. Where what waits on a name is walked, its marks in hand are put into a small table, and where they are
+// more than that has room for, into larger ones. Slices that are handed on to a walk that is seldom made are handed on as parts, so
+// that they are put into memory there alone.
 
 ghost use mathlib.Core.Path.{_≡_};
 ghost use Prim.Native.Nat.{_+_, _*_, _≤_, _<_};
@@ -9,7 +9,7 @@ ghost use lib.ListN.{length};
 ghost use mathlib.Core.Option.{some};
 ghost use Rattle.recipe.specs.Name.{variable, macro, same, bindingKey};
 ghost use Rattle.recipe.specs.Tree.{isOrdinaryName};
-ghost use Rattle.arena.specs.Arena.{stepLimit, markLimit, nameAt};
+ghost use Rattle.arena.specs.Arena.{stepLimit, nameAt};
 ghost use Rattle.arena.specs.Cells.{Room, Binds};
 ghost use Rattle.arena.specs.Lists.{TestsIn};
 ghost use Rattle.arena.specs.Marks.{Fits, Tells};
@@ -26,7 +26,12 @@ pub const ELLIPSIS: u32 = 6;
 
 pub const WILDCARD: u32 = 7;
 
-// Room for the marks of two names, and for those of a binder's own name behind them, however many they are.
+// Room for the marks of two names, and for those of a binder's own name behind them: as many as most names have, 512 of each,
+// however many they are.
+const FEW_WORDS: usize = 32;
+
+const MORE_WORDS: usize = 1536;
+
 const LARGE_WORDS: usize = 24583;
 
 // What a lookup finds: bound variable n, macro n, form k, the place of an operation, or nothing.
@@ -146,8 +151,21 @@ pub fn summary_grown(items: &[u32], work: &[u32], table: &mut [u32], node: u32, 
     summary_grown(items, work, &mut larger, node, w)
 }
 
+// A name's summary, by walking what waits on it.
+fn summary_walked(items: &[u32], work: &[u32], node: u32, w: u32) -> Summary
+    ensures { λ r. ⌜ Summed (nameAt (now (items .entry)) (now (work .entry)) node w) (r .binding) (r .count) (r .newest) ⌝ }
+{
+    let mut few = [0u32; FEW_WORDS];
+    let s = summary_in(items, work, &mut few, node, w);
+    if s.count <= FEW_WORDS {
+        return s;
+    }
+    let mut more = [0u32; MORE_WORDS];
+    summary_grown(items, work, &mut more, node, w)
+}
+
 // A name's summary: of one mark or none where that is all that waits, else by walking what waits.
-pub fn summary_of(items: &[u32], work: &[u32], table: &mut [u32], node: u32, w: u32) -> Summary
+pub fn summary_of(items: &[u32], work: &[u32], node: u32, w: u32) -> Summary
     ensures { λ r. ⌜ Summed (nameAt (now (items .entry)) (now (work .entry)) node w) (r .binding) (r .count) (r .newest) ⌝ }
 {
     let number = number_of(items, work, node);
@@ -160,12 +178,11 @@ pub fn summary_of(items: &[u32], work: &[u32], table: &mut [u32], node: u32, w: 
             newest: mark,
         };
     }
-    summary_grown(&items[0..], &work[0..], table, node, w)
+    summary_walked(&items[0..], &work[0..], node, w)
 }
 
 // The key of a name's binding, found from the outside in or else by walking what waits.
-pub fn binding_of(items: &[u32], work: &[u32], table: &mut [u32], node: u32, w: u32) -> u32
-    requires { ⌜ 2 * markLimit < length (now table) ⌝ }
+pub fn binding_of(items: &[u32], work: &[u32], node: u32, w: u32) -> u32
     ensures { λ r. ⌜ r ≡ bindingKey (nameAt (now (items .entry)) (now (work .entry)) node w .binding) ⌝ }
 {
     let number = number_of(items, work, node);
@@ -174,7 +191,7 @@ pub fn binding_of(items: &[u32], work: &[u32], table: &mut [u32], node: u32, w: 
     if key != direct::UNKNOWN {
         return key;
     }
-    let s = summary_grown(&items[0..], &work[0..], table, node, w);
+    let s = summary_walked(&items[0..], &work[0..], node, w);
     s.binding
 }
 
@@ -236,45 +253,46 @@ pub fn same_grown(
     }
 }
 
+// Whether two names are the same, by walking what waits on them.
+fn same_walked(items: &[u32], work: &[u32], a: u32, v: u32, b: u32, w: u32) -> bool
+    ensures { λ r. ⌜ r ≡ same (nameAt (now (items .entry)) (now (work .entry)) a v) (nameAt (now (items .entry)) (now (work .entry)) b w) ⌝ }
+{
+    let mut few = [0u32; FEW_WORDS];
+    match compare(items, work, &mut few, a, v, b, w) {
+        Compared::Same => true,
+        Compared::Other => false,
+        Compared::Full => {
+            let mut more = [0u32; MORE_WORDS];
+            same_grown(items, work, &mut more, a, v, b, w)
+        }
+    }
+}
+
 // Whether two names are the same. Their numbers tell most apart.
-pub fn same_names(
-    items: &[u32],
-    work: &[u32],
-    table: &mut [u32],
-    a: u32,
-    v: u32,
-    b: u32,
-    w: u32,
-) -> bool
-    requires { ⌜ 3 * markLimit < length (now table) ⌝ }
+pub fn same_names(items: &[u32], work: &[u32], a: u32, v: u32, b: u32, w: u32) -> bool
     ensures { λ r. ⌜ r ≡ same (nameAt (now (items .entry)) (now (work .entry)) a v) (nameAt (now (items .entry)) (now (work .entry)) b w) ⌝ }
 {
     if number_of(items, work, a) != number_of(items, work, b) {
         return false;
     }
-    match compare(&items[0..], &work[0..], table, a, v, b, w) {
-        Compared::Same => true,
-        Compared::Other => false,
-        Compared::Full => same_grown(&items[0..], &work[0..], table, a, v, b, w),
-    }
+    same_walked(&items[0..], &work[0..], a, v, b, w)
 }
 
 // A binder of a name under wrap w, after what `parent` means: the binding with this key goes to every name that is the same.
 pub fn bind(
     items: &[u32],
     work: &mut [u32],
-    table: &mut [u32],
     top: u32,
     node: u32,
     w: u32,
     key: u32,
     parent: u32,
 ) -> u32
-    requires { ⌜ (Room (now work) top 9) × (node ≤ top) × (w ≤ top) × (parent ≤ top) × (2 * markLimit < length (now table)) ⌝ }
+    requires { ⌜ (Room (now work) top 9) × (node ≤ top) × (w ≤ top) × (parent ≤ top) ⌝ }
     ensures { λ r. ⌜ Binds (now (items .entry)) node w key parent (now (work .entry)) (now (work .exit)) top r ⌝ }
 {
     let number = number_of(items, work, node);
-    let s = summary_of(items, work, table, node, w);
+    let s = summary_of(items, work, node, w);
     let own = cells::reference(work, node, cells::OWN);
     cells::put_binder(
         work,
@@ -309,18 +327,10 @@ pub fn unbound(operations: &[u32], number: u32) -> Meaning
 }
 
 // A lookup finds the binding; without one, a base form, an operation, or nothing.
-pub fn lookup(
-    items: &[u32],
-    work: &[u32],
-    operations: &[u32],
-    table: &mut [u32],
-    node: u32,
-    w: u32,
-) -> Meaning
-    requires { ⌜ 2 * markLimit < length (now table) ⌝ }
+pub fn lookup(items: &[u32], work: &[u32], operations: &[u32], node: u32, w: u32) -> Meaning
     ensures { λ r. ⌜ meansOf r ≡ lookupIn (now (operations .entry)) (nameAt (now (items .entry)) (now (work .entry)) node w) ⌝ }
 {
-    let b = binding_of(items, work, table, node, w);
+    let b = binding_of(items, work, node, w);
     if b == 0 {
         let number = number_of(items, work, node);
         return unbound(operations, number);
@@ -332,19 +342,10 @@ pub fn lookup(
 }
 
 // Whether a literal, by its number and its binding's key, agrees with a name.
-pub fn agrees(
-    items: &[u32],
-    work: &[u32],
-    table: &mut [u32],
-    number: u32,
-    binding: u32,
-    node: u32,
-    w: u32,
-) -> bool
-    requires { ⌜ 2 * markLimit < length (now table) ⌝ }
+pub fn agrees(items: &[u32], work: &[u32], number: u32, binding: u32, node: u32, w: u32) -> bool
     ensures { λ r. ⌜ Agrees number binding (nameAt (now (items .entry)) (now (work .entry)) node w) r ⌝ }
 {
-    let b = binding_of(items, work, table, node, w);
+    let b = binding_of(items, work, node, w);
     if b != binding {
         return false;
     }

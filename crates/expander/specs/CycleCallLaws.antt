@@ -16,13 +16,9 @@ use Rattle.turns.specs.declared.answers.Turn.{Turn}
 use Rattle.turns.specs.declared.answers.Turn.the-variants.{Again, Operands, Over}
 use Rattle.turns.specs.Memory.{Tables, coreNeed, Ready, Placed, Kept}
 use Rattle.turns.specs.MemoryLaws.{ready-after}
-use Rattle.turns.specs.Turns.{Lent, Turned, Follows, Spreads, Expands, ExpandsAll}
+use Rattle.turns.specs.Turns.{Turned, Follows, Spreads, Expands, ExpandsAll}
 use Rattle.expander.specs.Cycle.{Going, Walking, leftOf}
 use Rattle.expander.specs.CycleLaws.{kept-part, going-on, going-over, going-spreads, walking-end, walking-refused, walking-on, first-placed, sizes}
-
--- a table for marks that is as long serves as well
-pub lent-kept : (items operations marks marks′ : List ℕ) → length marks′ ≡ length marks → Lent items operations marks → Lent items operations marks′
-lent-kept items operations marks marks′ e l = record { places = l .places; hands = omega (arith, l .hands) }
 
 module _ (items : List ℕ) (fuel : ℕ) where
   -- the core words reached stand in the table

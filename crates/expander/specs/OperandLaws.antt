@@ -14,7 +14,7 @@ use Rattle.turns.specs.Leaves.{Refuses, Leaf, nameEnd, ConstantLeft}
 use Rattle.turns.specs.DispatchLaws.{empty-over, name-over, constant-over, constant-kind, leaf-room}
 use Rattle.expander.specs.CycleLaws.{going-start, going-over}
 
-module _ (items work core macros marks : List ℕ) (fuel node w : ℕ) (r : Reached) (placed : Placed items work (r .top) node w)
+module _ (items work core macros : List ℕ) (fuel node w : ℕ) (r : Reached) (placed : Placed items work (r .top) node w)
     (ready : Ready items fuel (size (treeAt items work node w)) r (tables work core macros)) where
   abbrev here : Tree
   here = treeAt items work node w
@@ -26,7 +26,7 @@ module _ (items work core macros marks : List ℕ) (fuel node w : ℕ) (r : Reac
       going-over items fuel here r a node w r a (going-start items fuel node w r a ready placed) (tables work core′ macros) e x
 
   pub operand-room : CoreRoom core (r .at) 2
-  operand-room = leaf-room items work core macros marks fuel node w r ready placed
+  operand-room = leaf-room items work core macros fuel node w r ready placed
 
   module _ (kind : ℕ) (kind-is : kind ≡ wordAt work node 3) where
     pub name-expands : kind ≡ 3 → (core′ : List ℕ) (e : Ended) → Leaf (nameEnd (lookup (operationsOf items) (nameAt items work node w))) 2 r core core′ e

@@ -2,7 +2,7 @@
 use mathlib.Core.Path.{_≡_, refl, ap, sym, subst, _∙_}
 use mathlib.Core.Bool.{true}
 use mathlib.Core.List.{List, _++_}
-use Prim.Native.Nat.{ℕ, _+_, _*_, _≤_, _<_}
+use Prim.Native.Nat.{ℕ, _+_, _*_, _≤_}
 use native.Mathlib.Omega.{arith}
 use lib.Dec.{ltb}
 use lib.ListN.{length, take, drop}
@@ -24,7 +24,7 @@ use Rattle.core_term.specs.Words.{encode}
 use Rattle.expansion.specs.Computation.{State, start, Out, done, refused, starved}
 use Rattle.expansion.specs.Forms.{expand}
 use Rattle.expansion.specs.Run.{ended, operationNumbers, expandRecipe}
-use Rattle.arena.specs.Arena.{treeAt, markLimit}
+use Rattle.arena.specs.Arena.{treeAt}
 use Rattle.arena.specs.LayOut.{LaidOut}
 use Rattle.arena.specs.Lists.{Means}
 use Rattle.turns.specs.declared.answers.Reached.{Reached}
@@ -62,8 +62,8 @@ module _ (items work core operations : List ℕ) (fuel : ℕ) (l : Lends items w
       true-each (λ x. ltb x namesMost)
       (each-map (λ (x : Name). x .number) (λ x p. lt-ltb _ _ (p .small)) (tidy-names (tidy-element 0 (treeOf-tidy items (l .begun .layout)))))
 
-  pub start-lent : (marks : List ℕ) → 3 * markLimit < length marks → Lent items operations marks
-  start-lent marks h = record { places = places-lent operations (operationsOf items) (l .placed) (l .long) operations-small; hands = h }
+  pub start-lent : Lent items operations
+  start-lent = record { places = places-lent operations (operationsOf items) (l .placed) (l .long) operations-small }
 
   -- the items fit the work table
   pub start-fits : length items ≤ length work

@@ -18,13 +18,12 @@ pub fn expression(
     core: &mut [u32],
     known: &mut [u32],
     operations: &[u32],
-    marks: &mut [u32],
     fuel: u32,
     start: u32,
     outer: u32,
     from: Reached,
 ) -> Ended
-    requires { ⌜ (Lent (now items) (now operations) (now marks)) × (Placed (now items) (now work) (from .top) start outer) × (Ready (now items) fuel (size (treeAt (now items) (now work) start outer)) from (tables (now work) (now core) (now known))) ⌝ }
+    requires { ⌜ (Lent (now items) (now operations)) × (Placed (now items) (now work) (from .top) start outer) × (Ready (now items) fuel (size (treeAt (now items) (now work) start outer)) from (tables (now work) (now core) (now known))) ⌝ }
     ensures { λ r. ⌜ Expands (now (items .entry)) fuel (treeAt (now (items .entry)) (now (work .entry)) start outer) from (tables (now (work .entry)) (now (core .entry)) (now (known .entry))) (tables (now (work .exit)) (now (core .exit)) (now (known .exit))) r ⌝ }
 {
     let mut node = start;
@@ -37,7 +36,6 @@ pub fn expression(
             core,
             known,
             operations,
-            marks,
             fuel,
             node,
             wrap,
@@ -49,7 +47,7 @@ pub fn expression(
                 reached = q;
             }
             Turn::Operands(l, w, q) => {
-                return operands(items, work, core, known, operations, marks, fuel, l, w, q);
+                return operands(items, work, core, known, operations, fuel, l, w, q);
             }
             Turn::Over(e) => {
                 return e;
@@ -65,32 +63,20 @@ pub fn operand(
     core: &mut [u32],
     known: &mut [u32],
     operations: &[u32],
-    marks: &mut [u32],
     fuel: u32,
     node: u32,
     wrap: u32,
     from: Reached,
 ) -> Ended
-    requires { ⌜ (Lent (now items) (now operations) (now marks)) × (Placed (now items) (now work) (from .top) node wrap) × (Ready (now items) fuel (size (treeAt (now items) (now work) node wrap)) from (tables (now work) (now core) (now known))) ⌝ }
+    requires { ⌜ (Lent (now items) (now operations)) × (Placed (now items) (now work) (from .top) node wrap) × (Ready (now items) fuel (size (treeAt (now items) (now work) node wrap)) from (tables (now work) (now core) (now known))) ⌝ }
     ensures { λ r. ⌜ Expands (now (items .entry)) fuel (treeAt (now (items .entry)) (now (work .entry)) node wrap) from (tables (now (work .entry)) (now (core .entry)) (now (known .entry))) (tables (now (work .exit)) (now (core .exit)) (now (known .exit))) r ⌝ }
 {
     let kind = cells::word(work, node, cells::KIND);
     if kind == cells::NAME {
-        return leaf::bare_name(items, work, core, operations, marks, node, wrap, from);
+        return leaf::bare_name(items, work, core, operations, node, wrap, from);
     }
     if kind == cells::PAIR {
-        return expression(
-            items,
-            work,
-            core,
-            known,
-            operations,
-            marks,
-            fuel,
-            node,
-            wrap,
-            from,
-        );
+        return expression(items, work, core, known, operations, fuel, node, wrap, from);
     }
     if kind == cells::EMPTY {
         return leaf::refuse(13, from);
@@ -104,13 +90,12 @@ pub fn operands(
     core: &mut [u32],
     known: &mut [u32],
     operations: &[u32],
-    marks: &mut [u32],
     fuel: u32,
     first: u32,
     wrap: u32,
     from: Reached,
 ) -> Ended
-    requires { ⌜ (Lent (now items) (now operations) (now marks)) × (Placed (now items) (now work) (from .top) first wrap) × (Ready (now items) fuel (size (treeAt (now items) (now work) first wrap) - 1) from (tables (now work) (now core) (now known))) ⌝ }
+    requires { ⌜ (Lent (now items) (now operations)) × (Placed (now items) (now work) (from .top) first wrap) × (Ready (now items) fuel (size (treeAt (now items) (now work) first wrap) - 1) from (tables (now work) (now core) (now known))) ⌝ }
     ensures { λ r. ⌜ ExpandsAll (now (items .entry)) fuel (treeAt (now (items .entry)) (now (work .entry)) first wrap) from (tables (now (work .entry)) (now (core .entry)) (now (known .entry))) (tables (now (work .exit)) (now (core .exit)) (now (known .exit))) r ⌝ }
 {
     let mut list = first;
@@ -123,7 +108,6 @@ pub fn operands(
             core,
             known,
             operations,
-            marks,
             fuel,
             head,
             wrap,

@@ -1,10 +1,9 @@
 // The start: the arena of an item table, and the expansion of its recipe's expression.
 
-ghost use Prim.Native.Nat.{_+_, _*_, _≤_, _<_};
+ghost use Prim.Native.Nat.{_+_, _*_, _≤_};
 ghost use lib.ListN.{length};
 ghost use Rattle.recipe.specs.Table.{itemCount, treeOf};
 ghost use Rattle.expansion.specs.Run.{ended, expandRecipe};
-ghost use Rattle.arena.specs.Arena.{markLimit};
 ghost use Rattle.turns.specs.Memory.{macroItems};
 ghost use Rattle.expander.specs.Start.{Lends, Expanded};
 use crate::cycle;
@@ -20,20 +19,16 @@ const FEW_MACROS: usize = 128;
 
 const MACRO_WORDS: usize = 2048;
 
-// Three words for each of 512 marks in hand, since names with more are looked at in a table of their own.
-const MARK_WORDS: usize = 1537;
-
-// The run of the recipe, with tables for its macros and for marks in hand.
+// The run of the recipe, with a table for its macros.
 fn run(
     items: &[u32],
     work: &mut [u32],
     core: &mut [u32],
     known: &mut [u32],
     operations: &[u32],
-    marks: &mut [u32],
     fuel: u32,
 ) -> Ended
-    requires { ⌜ (Lends (now items) (now work) (now core) (now operations) fuel) × (itemCount (now items) + fuel ≤ macroItems * length (now known)) × (3 * markLimit < length (now marks)) ⌝ }
+    requires { ⌜ (Lends (now items) (now work) (now core) (now operations) fuel) × (itemCount (now items) + fuel ≤ macroItems * length (now known)) ⌝ }
     ensures { λ r. ⌜ Expanded (ended (expandRecipe fuel (treeOf (now (items .entry))))) (now (core .exit)) r ⌝ }
 {
     let top = arena::item_nodes::lay_out(items, work);
@@ -46,18 +41,7 @@ fn run(
         variables: 0,
         macros: 0,
     };
-    cycle::expression(
-        items,
-        work,
-        core,
-        known,
-        operations,
-        marks,
-        fuel,
-        body,
-        0,
-        from,
-    )
+    cycle::expression(items, work, core, known, operations, fuel, body, 0, from)
 }
 
 // Past the tests of grounds 7 to 10: the run of the recipe, its term's words from the core table's start.
@@ -71,11 +55,10 @@ pub fn expand_recipe(
     requires { ⌜ Lends (now items) (now work) (now core) (now operations) fuel ⌝ }
     ensures { λ r. ⌜ Expanded (ended (expandRecipe fuel (treeOf (now (items .entry))))) (now (core .exit)) r ⌝ }
 {
-    let mut marks = [0u32; MARK_WORDS];
     if items.len() / 3 + fuel as usize <= MACRO_ITEMS * FEW_MACROS {
         let mut few = [0u32; FEW_MACROS];
-        return run(items, work, core, &mut few, operations, &mut marks, fuel);
+        return run(items, work, core, &mut few, operations, fuel);
     }
     let mut known = [0u32; MACRO_WORDS];
-    run(items, work, core, &mut known, operations, &mut marks, fuel)
+    run(items, work, core, &mut known, operations, fuel)
 }

@@ -8,7 +8,7 @@ use Rattle.words.specs.Lists.{all}
 use Rattle.recipe.specs.Name.{Binding, variable, macro, Name, bindName}
 use Rattle.recipe.specs.Tree.{Tree, names, elements}
 use Rattle.recipe.specs.Tidy.{Tidy}
-use Rattle.arena.specs.Arena.{markLimit, wrapAt, nameAt, treeAt}
+use Rattle.arena.specs.Arena.{wrapAt, nameAt, treeAt}
 use Rattle.forms.specs.Shapes.{ownName, bindsOne}
 
 -- every element binds as it should; shapes tells before
@@ -44,15 +44,14 @@ pub record Opened (items work : List ℕ) (list w : ℕ) (macros : Bool) (own re
   pub names-are : namesIn macros (treeAt items work list w) ≡ nameAt items work own w ∷ namesIn macros (treeAt items work rest w)
   pub ordinary : AllNames macros (treeAt items work rest w)
 
--- room for binders of names xs: nine words a name, and numbers that fit a word; node, wraps and marks in hand as they should be
-pub record Space (xs : List Name) (work table : List ℕ) (node w number parent top : ℕ) : Type 0 where
+-- room for binders of names xs: nine words a name, and numbers that fit a word; node and wraps as they should be
+pub record Space (xs : List Name) (work : List ℕ) (node w number parent top : ℕ) : Type 0 where
   pub fits : top + 9 * length xs ≤ length work
   pub small : top + 9 * length xs < 2 ^ 32
   pub numbers : number + length xs ≤ 2 ^ 30
   pub node-below : node ≤ top
   pub w-below : w ≤ top
   pub parent-below : parent ≤ top
-  pub marks : 2 * markLimit < length table
 
 -- names xs are bound, numbered from k, after what `parent` means
 pub record Scoped (f : ℕ → Binding) (k : ℕ) (xs : List Name) (parent : ℕ) (old new : List ℕ) (top wrap end : ℕ) : Type 0 where
@@ -62,8 +61,8 @@ pub record Scoped (f : ℕ → Binding) (k : ℕ) (xs : List Name) (parent : ℕ
   pub means : (x : Name) → wrapAt new wrap x ≡ bindNames f k xs (wrapAt old parent x)
 
 -- names are bound up to the node's: where those are bound, all names of the list are
-pub record Scoping (items old : List ℕ) (list w : ℕ) (macros : Bool) (number parent top : ℕ) (work table : List ℕ) (node n wrap end : ℕ) : Type 0 where
+pub record Scoping (items old : List ℕ) (list w : ℕ) (macros : Bool) (number parent top : ℕ) (work : List ℕ) (node n wrap end : ℕ) : Type 0 where
   pub ordinary : AllNames macros (treeAt items work node w)
-  pub space : Space (namesIn macros (treeAt items work node w)) work table node w n wrap end
+  pub space : Space (namesIn macros (treeAt items work node w)) work node w n wrap end
   pub whole : (new : List ℕ) (x y : ℕ) → Scoped (bindsTo macros) n (namesIn macros (treeAt items work node w)) wrap work new end x y
       → Scoped (bindsTo macros) number (namesIn macros (treeAt items old list w)) parent old new top x y

@@ -36,8 +36,8 @@ scoped-none f k xs parent old top e h = record { end-is = rw e (omega arith); wr
 
 -- ---- one name more
 
-module _ (items old : List ℕ) (list w : ℕ) (macros : Bool) (table : List ℕ) (number parent top own rest : ℕ)
-    (space : Space (namesIn macros (treeAt items old list w)) old table list w number parent top) (open′ : Opened items old list w macros own rest) where
+module _ (items old : List ℕ) (list w : ℕ) (macros : Bool) (number parent top own rest : ℕ)
+    (space : Space (namesIn macros (treeAt items old list w)) old list w number parent top) (open′ : Opened items old list w macros own rest) where
   count-is : length (namesIn macros (treeAt items old list w)) ≡ suc (length (namesIn macros (treeAt items old rest w)))
   count-is = ap length (open′ .names-are)
 
@@ -63,8 +63,8 @@ module _ (items old : List ℕ) (list w : ℕ) (macros : Bool) (table : List ℕ
     ordinary-next : AllNames macros (treeAt items mid rest w)
     ordinary-next = rw rest-kept (open′ .ordinary)
 
-    space-next : (table′ : List ℕ) → length mid ≡ length old → length table′ ≡ length table → Space (namesIn macros (treeAt items mid rest w)) mid table′ rest w (number + 1) next next
-    space-next table′ l m =
+    space-next : length mid ≡ length old → Space (namesIn macros (treeAt items mid rest w)) mid rest w (number + 1) next next
+    space-next l =
         record {
           fits = omega (arith, space .fits, more-count, bound .end);
           small = omega (arith, space .small, more-count, bound .end);
@@ -72,7 +72,6 @@ module _ (items old : List ℕ) (list w : ℕ) (macros : Bool) (table : List ℕ
           node-below = omega (arith, space .node-below, open′ .rest-low, bound .end);
           w-below = omega (arith, space .w-below, bound .end);
           parent-below = omega arith;
-          marks = omega (arith, space .marks);
         }
 
     scoped-more : (new : List ℕ) (wrap end : ℕ) → Scoped (bindsTo macros) (number + 1) (namesIn macros (treeAt items mid rest w)) next mid new next wrap end
@@ -93,22 +92,22 @@ module _ (items old : List ℕ) (list w : ℕ) (macros : Bool) (table : List ℕ
 -- ---- name after name
 
 module _ (items old : List ℕ) (list w : ℕ) (macros : Bool) (number parent top : ℕ) where
-  pub scoping-begins : (table : List ℕ) → AllNames macros (treeAt items old list w) → Space (namesIn macros (treeAt items old list w)) old table list w number parent top
-      → Scoping items old list w macros number parent top old table list number parent top
-  scoping-begins table h s = record { ordinary = h; space = s; whole = λ new x y r. r }
+  pub scoping-begins : AllNames macros (treeAt items old list w) → Space (namesIn macros (treeAt items old list w)) old list w number parent top
+      → Scoping items old list w macros number parent top old list number parent top
+  scoping-begins h s = record { ordinary = h; space = s; whole = λ new x y r. r }
 
-  module _ (work table : List ℕ) (node n wrap end : ℕ) (inv : Scoping items old list w macros number parent top work table node n wrap end) where
+  module _ (work : List ℕ) (node n wrap end : ℕ) (inv : Scoping items old list w macros number parent top work node n wrap end) where
     pub scoping-ends : namesIn macros (treeAt items work node w) ≡ [] → Scoped (bindsTo macros) number (namesIn macros (treeAt items old list w)) parent old work top wrap end
     scoping-ends e = inv .whole work wrap end (scoped-none (bindsTo macros) n _ wrap work end e (inv .space .parent-below))
 
-    pub scoping-more : (own rest : ℕ) → Opened items work node w macros own rest → (key next : ℕ) (mid table′ : List ℕ) → key ≡ bindingKey (some (bindsTo macros n)) → Binds items own w key wrap work mid end next → length mid ≡ length work → length table′ ≡ length table
-        → Scoping items old list w macros number parent top mid table′ rest (n + 1) next next
-    scoping-more own rest o key next mid table′ k b l m =
+    pub scoping-more : (own rest : ℕ) → Opened items work node w macros own rest → (key next : ℕ) (mid : List ℕ) → key ≡ bindingKey (some (bindsTo macros n)) → Binds items own w key wrap work mid end next → length mid ≡ length work
+        → Scoping items old list w macros number parent top mid rest (n + 1) next next
+    scoping-more own rest o key next mid k b l =
         let s = inv .space in
         record {
-          ordinary = ordinary-next items work node w macros table n wrap end own rest s o key next mid k b;
-          space = space-next items work node w macros table n wrap end own rest s o key next mid k b table′ l m;
-          whole = λ new x y r. inv .whole new x y (scoped-more items work node w macros table n wrap end own rest s o key next mid k b new x y r);
+          ordinary = ordinary-next items work node w macros n wrap end own rest s o key next mid k b;
+          space = space-next items work node w macros n wrap end own rest s o key next mid k b l;
+          whole = λ new x y r. inv .whole new x y (scoped-more items work node w macros n wrap end own rest s o key next mid k b new x y r);
         }
 
 -- ---- trees
@@ -209,8 +208,8 @@ module _ (t : Tree) where
 -- ---- a form's binders
 
 -- room for a form's names is room for those of its list
-pub space-list : (xs ys : List Name) (work table : List ℕ) (node w number parent top list : ℕ) → xs ≡ ys → list ≤ node → Space ys work table node w number parent top → Space xs work table list w number parent top
-space-list xs ys work table node w number parent top list e l s =
+pub space-list : (xs ys : List Name) (work : List ℕ) (node w number parent top list : ℕ) → xs ≡ ys → list ≤ node → Space ys work node w number parent top → Space xs work list w number parent top
+space-list xs ys work node w number parent top list e l s =
     record {
       fits = rw e (s .fits);
       small = rw e (s .small);
@@ -218,7 +217,6 @@ space-list xs ys work table node w number parent top list e l s =
       node-below = omega (arith, s .node-below);
       w-below = s .w-below;
       parent-below = s .parent-below;
-      marks = s .marks;
     }
 
 pub scoped-names : (f g : ℕ → Binding) (k : ℕ) (xs ys : List Name) (parent : ℕ) (old new : List ℕ) (top wrap end : ℕ) → f ≡ g → xs ≡ ys → Scoped f k xs parent old new top wrap end → Scoped g k ys parent old new top wrap end

@@ -1,16 +1,15 @@
 // Names that a form binds: whether no two are the same (ground 14), and their binders. `macros` says which kind of form
-// binds, as in shapes. `table` is lent for marks in hand; nothing is promised of what is left in it.
+// binds, as in shapes.
 
 ghost use mathlib.Core.Path.{_≡_};
 ghost use mathlib.Core.Bool.{true, false};
-ghost use Prim.Native.Nat.{_+_, _*_, _^_, _<_};
-ghost use lib.ListN.{length};
+ghost use Prim.Native.Nat.{_^_, _<_};
 ghost use Rattle.words.specs.Lists.{any};
 ghost use mathlib.Core.Option.{some};
 ghost use Rattle.recipe.specs.Name.{variable, macro, same, distinct, bindingKey};
 ghost use Rattle.recipe.specs.Tree.{element};
 ghost use Rattle.expansion.specs.Forms.{isLambda, formals, keywords};
-ghost use Rattle.arena.specs.Arena.{markLimit, nameAt, treeAt};
+ghost use Rattle.arena.specs.Arena.{nameAt, treeAt};
 ghost use Rattle.forms.specs.Binders.{AllNames, namesIn, Proper, bindsTo, Space, Scoped};
 use crate::shapes;
 use arena::cells;
@@ -18,23 +17,15 @@ use arena::lists;
 use arena::names;
 
 // Whether a name is the same as one that the list binds.
-pub fn is_among(
-    items: &[u32],
-    work: &[u32],
-    table: &mut [u32],
-    node: u32,
-    list: u32,
-    w: u32,
-    macros: bool,
-) -> bool
-    requires { ⌜ (3 * markLimit < length (now table)) × (AllNames macros (treeAt (now items) (now work) list w)) ⌝ }
+pub fn is_among(items: &[u32], work: &[u32], node: u32, list: u32, w: u32, macros: bool) -> bool
+    requires { ⌜ AllNames macros (treeAt (now items) (now work) list w) ⌝ }
     ensures { λ r. ⌜ r ≡ any (same (nameAt (now (items .entry)) (now (work .entry)) node w)) (namesIn macros (treeAt (now (items .entry)) (now (work .entry)) list w)) ⌝ }
 {
     let mut at = list;
     while cells::word(work, at, 3) == cells::PAIR {
         let first = cells::reference(work, at, 2);
         let own = shapes::own_name(work, first, macros);
-        if names::same_names(items, work, table, node, w, own, w) {
+        if names::same_names(items, work, node, w, own, w) {
             return true;
         }
         at = cells::reference(work, at, 1);
@@ -43,15 +34,8 @@ pub fn is_among(
 }
 
 // Whether no two of the names that a list binds are the same.
-pub fn are_distinct(
-    items: &[u32],
-    work: &[u32],
-    table: &mut [u32],
-    list: u32,
-    w: u32,
-    macros: bool,
-) -> bool
-    requires { ⌜ (3 * markLimit < length (now table)) × (AllNames macros (treeAt (now items) (now work) list w)) ⌝ }
+pub fn are_distinct(items: &[u32], work: &[u32], list: u32, w: u32, macros: bool) -> bool
+    requires { ⌜ AllNames macros (treeAt (now items) (now work) list w) ⌝ }
     ensures { λ r. ⌜ r ≡ distinct (namesIn macros (treeAt (now (items .entry)) (now (work .entry)) list w)) ⌝ }
 {
     let mut at = list;
@@ -59,7 +43,7 @@ pub fn are_distinct(
         let first = cells::reference(work, at, 2);
         let own = shapes::own_name(work, first, macros);
         at = cells::reference(work, at, 1);
-        if is_among(items, work, table, own, at, w, macros) {
+        if is_among(items, work, own, at, w, macros) {
             return false;
         }
     }
@@ -67,21 +51,21 @@ pub fn are_distinct(
 }
 
 // No two names of a lambda are the same.
-pub fn formals_distinct(items: &[u32], work: &[u32], table: &mut [u32], node: u32, w: u32) -> bool
-    requires { ⌜ (3 * markLimit < length (now table)) × (isLambda (treeAt (now items) (now work) node w) ≡ true) × (Proper (treeAt (now items) (now work) node w)) ⌝ }
+pub fn formals_distinct(items: &[u32], work: &[u32], node: u32, w: u32) -> bool
+    requires { ⌜ (isLambda (treeAt (now items) (now work) node w) ≡ true) × (Proper (treeAt (now items) (now work) node w)) ⌝ }
     ensures { λ r. ⌜ r ≡ distinct (formals (treeAt (now (items .entry)) (now (work .entry)) node w)) ⌝ }
 {
     let list = lists::element(work, node, 1);
-    are_distinct(items, work, table, list, w, false)
+    are_distinct(items, work, list, w, false)
 }
 
 // No two names of macros are the same.
-pub fn keywords_distinct(items: &[u32], work: &[u32], table: &mut [u32], node: u32, w: u32) -> bool
-    requires { ⌜ (3 * markLimit < length (now table)) × (AllNames true (element 1 (treeAt (now items) (now work) node w))) ⌝ }
+pub fn keywords_distinct(items: &[u32], work: &[u32], node: u32, w: u32) -> bool
+    requires { ⌜ AllNames true (element 1 (treeAt (now items) (now work) node w)) ⌝ }
     ensures { λ r. ⌜ r ≡ distinct (keywords (treeAt (now (items .entry)) (now (work .entry)) node w)) ⌝ }
 {
     let list = lists::element(work, node, 1);
-    are_distinct(items, work, table, list, w, true)
+    are_distinct(items, work, list, w, true)
 }
 
 // The key of variable or macro n.
@@ -106,7 +90,6 @@ pub struct Scope {
 pub fn bind_names(
     items: &[u32],
     work: &mut [u32],
-    table: &mut [u32],
     list: u32,
     w: u32,
     macros: bool,
@@ -114,7 +97,7 @@ pub fn bind_names(
     parent: u32,
     top: u32,
 ) -> Scope
-    requires { ⌜ (AllNames macros (treeAt (now items) (now work) list w)) × (Space (namesIn macros (treeAt (now items) (now work) list w)) (now work) (now table) list w number parent top) ⌝ }
+    requires { ⌜ (AllNames macros (treeAt (now items) (now work) list w)) × (Space (namesIn macros (treeAt (now items) (now work) list w)) (now work) list w number parent top) ⌝ }
     ensures { λ r. ⌜ Scoped (bindsTo macros) number (namesIn macros (treeAt (now (items .entry)) (now (work .entry)) list w)) parent (now (work .entry)) (now (work .exit)) top (r .wrap) (r .top) ⌝ }
 {
     let mut at = list;
@@ -126,7 +109,7 @@ pub fn bind_names(
         let own = shapes::own_name(work, first, macros);
         at = cells::reference(work, at, 1);
         let key = key_of(macros, n);
-        wrap = names::bind(items, work, table, end, own, w, key, wrap);
+        wrap = names::bind(items, work, end, own, w, key, wrap);
         end = wrap;
         n += 1;
     }
@@ -140,32 +123,30 @@ pub fn bind_names(
 pub fn bind_formals(
     items: &[u32],
     work: &mut [u32],
-    table: &mut [u32],
     node: u32,
     w: u32,
     first: u32,
     top: u32,
 ) -> Scope
-    requires { ⌜ (isLambda (treeAt (now items) (now work) node w) ≡ true) × (Proper (treeAt (now items) (now work) node w)) × (Space (formals (treeAt (now items) (now work) node w)) (now work) (now table) node w first w top) ⌝ }
+    requires { ⌜ (isLambda (treeAt (now items) (now work) node w) ≡ true) × (Proper (treeAt (now items) (now work) node w)) × (Space (formals (treeAt (now items) (now work) node w)) (now work) node w first w top) ⌝ }
     ensures { λ r. ⌜ Scoped variable first (formals (treeAt (now (items .entry)) (now (work .entry)) node w)) w (now (work .entry)) (now (work .exit)) top (r .wrap) (r .top) ⌝ }
 {
     let list = lists::element(work, node, 1);
-    bind_names(items, work, table, list, w, false, first, w, top)
+    bind_names(items, work, list, w, false, first, w, top)
 }
 
 // Binders for the names of macros, numbered from `first`.
 pub fn bind_macros(
     items: &[u32],
     work: &mut [u32],
-    table: &mut [u32],
     node: u32,
     w: u32,
     first: u32,
     top: u32,
 ) -> Scope
-    requires { ⌜ (AllNames true (element 1 (treeAt (now items) (now work) node w))) × (Space (keywords (treeAt (now items) (now work) node w)) (now work) (now table) node w first w top) ⌝ }
+    requires { ⌜ (AllNames true (element 1 (treeAt (now items) (now work) node w))) × (Space (keywords (treeAt (now items) (now work) node w)) (now work) node w first w top) ⌝ }
     ensures { λ r. ⌜ Scoped macro first (keywords (treeAt (now (items .entry)) (now (work .entry)) node w)) w (now (work .entry)) (now (work .exit)) top (r .wrap) (r .top) ⌝ }
 {
     let list = lists::element(work, node, 1);
-    bind_names(items, work, table, list, w, true, first, w, top)
+    bind_names(items, work, list, w, true, first, w, top)
 }

@@ -2,15 +2,13 @@
 use mathlib.Core.Path.{_≡_}
 use mathlib.Core.Bool.{true}
 use mathlib.Core.List.{List}
-use Prim.Native.Nat.{ℕ, _*_, _≤_, _<_}
+use Prim.Native.Nat.{ℕ, _≤_}
 use lib.ListN.{length}
 use Rattle.recipe.specs.Table.{isLayout}
-use Rattle.arena.specs.Arena.{markLimit}
 use Rattle.arena.specs.LayOut.{LaidOut}
 
-pub record Begun (items work marks : List ℕ) (root fuel : ℕ) : Type 0 where
+pub record Begun (items work : List ℕ) (root fuel : ℕ) : Type 0 where
   pub layout : isLayout items ≡ true
   pub laid : LaidOut items work root
   pub room : 65536 ≤ length work
-  pub hands : 3 * markLimit < length marks
   pub fuelled : fuel ≤ 4096

@@ -14,8 +14,7 @@ fn tell(ground: &[u8]) {
 // The ground, or the result's items and text.
 fn tell_step(items: &[u32], table: &[u8], fuel: u32) {
     let mut work = [0u32; 65536];
-    let mut marks = [0u32; 1537];
-    match step::attempt(items, &mut work, &mut marks, fuel) {
+    match step::attempt(items, &mut work, fuel) {
         Tried::Unfit => tell(b": no items"),
         Tried::BadRules => tell(b": 15"),
         Tried::NoRule => tell(b": 16"),

@@ -19,18 +19,18 @@ pub enum Tried {
 }
 
 // The recipe at `root` has a list as its expression, (rules use): the rules are parsed, and step 1 applies them to the use.
-fn first_step(items: &[u32], work: &mut [u32], marks: &mut [u32], root: u32, fuel: u32) -> Tried
-    requires { ⌜ Begun (now items) (now work) (now marks) root fuel ⌝ }
+fn first_step(items: &[u32], work: &mut [u32], root: u32, fuel: u32) -> Tried
+    requires { ⌜ Begun (now items) (now work) root fuel ⌝ }
 {
     let both = lists::element(work, root, 1);
     let form = lists::element(work, both, 0);
     let whole = lists::element(work, both, 1);
     let used = lists::rest(work, whole);
-    let Built::Good(at, top) = rules::rules(items, work, marks, form, 0, root) else {
+    let Built::Good(at, top) = rules::rules(items, work, form, 0, root) else {
         return Tried::BadRules;
     };
     let marked = cells::put_mark(work, top, 1, 0);
-    match apply::apply(items, work, marks, marked, at, used, marked, fuel) {
+    match apply::apply(items, work, marked, at, used, marked, fuel) {
         Applied::NoRule => Tried::NoRule,
         Applied::Differ => Tried::Differ,
         Applied::Costly => Tried::Costly,
@@ -39,11 +39,8 @@ fn first_step(items: &[u32], work: &mut [u32], marks: &mut [u32], root: u32, fue
 }
 
 // The items of a recipe, laid out, and that step; the tables are large enough for every recipe.
-pub fn attempt(items: &[u32], work: &mut [u32], marks: &mut [u32], fuel: u32) -> Tried {
+pub fn attempt(items: &[u32], work: &mut [u32], fuel: u32) -> Tried {
     if work.len() < 65536 {
-        return Tried::Unfit;
-    }
-    if marks.len() < 1537 {
         return Tried::Unfit;
     }
     if 4096 < fuel {
@@ -51,7 +48,7 @@ pub fn attempt(items: &[u32], work: &mut [u32], marks: &mut [u32], fuel: u32) ->
     }
     if layout::is_layout(items) {
         let root = item_nodes::lay_out(items, work);
-        return first_step(items, work, marks, root, fuel);
+        return first_step(items, work, root, fuel);
     }
     Tried::Unfit
 }

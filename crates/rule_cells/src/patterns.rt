@@ -1,10 +1,9 @@
 // Patterns, parsed to cells: children first, so that every reference falls. A part that breaks the rules makes the whole bad.
 
 ghost use mathlib.Core.Path.{_≡_};
-ghost use Prim.Native.Nat.{_+_, _*_, _^_, _≤_, _<_};
-ghost use lib.ListN.{length};
+ghost use Prim.Native.Nat.{_+_, _^_, _≤_, _<_};
 ghost use Rattle.recipe.specs.Tree.{name, names, size};
-ghost use Rattle.arena.specs.Arena.{wordAt, markLimit, nameAt, treeAt};
+ghost use Rattle.arena.specs.Arena.{wordAt, nameAt, treeAt};
 ghost use Rattle.arena.specs.Cells.{Room};
 ghost use Rattle.rule_cells.specs.Parse.{Asks, PatternLeft};
 use crate::cells;
@@ -23,14 +22,13 @@ pub enum Parsed {
 pub fn pattern_name(
     items: &[u32],
     work: &mut [u32],
-    table: &mut [u32],
     literals: u32,
     node: u32,
     w: u32,
     k: u32,
     top: u32,
 ) -> Parsed
-    requires { ⌜ (3 * markLimit < length (now table)) × (Room (now work) top 5) × (node ≤ top) × (w ≤ top) × (k + 1 < 2 ^ 32) ⌝ }
+    requires { ⌜ (Room (now work) top 5) × (node ≤ top) × (w ≤ top) × (k + 1 < 2 ^ 32) ⌝ }
     ensures { λ r. ⌜ PatternLeft (names (treeAt (now (items .entry)) (now (work .entry)) literals w)) k (name (nameAt (now (items .entry)) (now (work .entry)) node w)) (now (items .entry)) (now (work .entry)) (now (work .exit)) top r ⌝ }
 {
     let number = names::number_of(items, work, node);
@@ -41,8 +39,8 @@ pub fn pattern_name(
         let r = cells::put_wildcard(work, top);
         return Parsed::Good(r, r, k);
     }
-    if variables::is_literal(items, work, table, literals, node, w) {
-        let key = names::binding_of(items, work, table, node, w);
+    if variables::is_literal(items, work, literals, node, w) {
+        let key = names::binding_of(items, work, node, w);
         let r = cells::put_literal(work, top, node, w, number, key);
         return Parsed::Good(r, r, k);
     }
@@ -54,19 +52,18 @@ pub fn pattern_name(
 pub fn pattern_leaf(
     items: &[u32],
     work: &mut [u32],
-    table: &mut [u32],
     literals: u32,
     node: u32,
     w: u32,
     k: u32,
     top: u32,
 ) -> Parsed
-    requires { ⌜ (3 * markLimit < length (now table)) × (Asks (now items) (now work) node w top) × (k + 1 < 2 ^ 32) × (wordAt (now work) node 3 ≡ 4 → ⊥) ⌝ }
+    requires { ⌜ (Asks (now items) (now work) node w top) × (k + 1 < 2 ^ 32) × (wordAt (now work) node 3 ≡ 4 → ⊥) ⌝ }
     ensures { λ r. ⌜ PatternLeft (names (treeAt (now (items .entry)) (now (work .entry)) literals w)) k (treeAt (now (items .entry)) (now (work .entry)) node w) (now (items .entry)) (now (work .entry)) (now (work .exit)) top r ⌝ }
 {
     let kind = arena::cells::word(work, node, 3);
     if kind == arena::cells::NAME {
-        return pattern_name(items, work, table, literals, node, w, k, top);
+        return pattern_name(items, work, literals, node, w, k, top);
     }
     if kind == arena::cells::EMPTY {
         return Parsed::Good(0, top, k);
@@ -81,27 +78,25 @@ pub fn pattern_leaf(
 pub fn pattern(
     items: &[u32],
     work: &mut [u32],
-    table: &mut [u32],
     literals: u32,
     node: u32,
     w: u32,
     k: u32,
     top: u32,
 ) -> Parsed
-    requires { ⌜ (3 * markLimit < length (now table)) × (Asks (now items) (now work) node w top) × (literals ≤ top) × (k + size (treeAt (now items) (now work) node w) < 2 ^ 32) ⌝ }
+    requires { ⌜ (Asks (now items) (now work) node w top) × (literals ≤ top) × (k + size (treeAt (now items) (now work) node w) < 2 ^ 32) ⌝ }
     ensures { λ r. ⌜ PatternLeft (names (treeAt (now (items .entry)) (now (work .entry)) literals w)) k (treeAt (now (items .entry)) (now (work .entry)) node w) (now (items .entry)) (now (work .entry)) (now (work .exit)) top r ⌝ }
 {
     if arena::cells::word(work, node, 3) != arena::cells::PAIR {
-        return pattern_leaf(items, work, table, literals, node, w, k, top);
+        return pattern_leaf(items, work, literals, node, w, k, top);
     }
     let head = arena::cells::reference(work, node, 2);
     let rest = arena::cells::reference(work, node, 1);
     if dots::dots_next(items, work, rest) {
         if lists::is_list_of(work, rest, 1) {
             let last = lists::rest(work, rest);
-            let more = variables::leaf_count(items, work, table, literals, last, w);
-            let Parsed::Good(a, t, n) = pattern(items, work, table, literals, head, w, k, top)
-            else {
+            let more = variables::leaf_count(items, work, literals, last, w);
+            let Parsed::Good(a, t, n) = pattern(items, work, literals, head, w, k, top) else {
                 return Parsed::Bad;
             };
             let r = cells::put_ellipsis(work, t, a);
@@ -109,10 +104,10 @@ pub fn pattern(
         }
         return Parsed::Bad;
     }
-    let Parsed::Good(a, t, n) = pattern(items, work, table, literals, head, w, k, top) else {
+    let Parsed::Good(a, t, n) = pattern(items, work, literals, head, w, k, top) else {
         return Parsed::Bad;
     };
-    let Parsed::Good(b, u, m) = pattern(items, work, table, literals, rest, w, n, t) else {
+    let Parsed::Good(b, u, m) = pattern(items, work, literals, rest, w, n, t) else {
         return Parsed::Bad;
     };
     let r = cells::put_pair(work, u, a, b);

@@ -1,13 +1,12 @@
 // Rules, parsed once, when their form is reached: (syntax-rules (literal ...) (pattern template) ...). Bad is ground 15.
 // The last rule is parsed first, so that each cell refers to lower ones.
 
-ghost use Prim.Native.Nat.{_+_, _*_, _≤_, _<_};
-ghost use lib.ListN.{length};
+ghost use Prim.Native.Nat.{_+_, _≤_};
 ghost use Rattle.recipe.specs.Tree.{names, size, elements};
 ghost use Rattle.words.specs.Options.{traverse};
 ghost use Rattle.recipe.specs.Name.{isEllipsis};
 ghost use Rattle.expansion.specs.Rules.{ruleOf, rulesOf};
-ghost use Rattle.arena.specs.Arena.{markLimit, treeAt};
+ghost use Rattle.arena.specs.Arena.{treeAt};
 ghost use Rattle.arena.specs.Lists.{TestsIn};
 ghost use Rattle.rule_cells.specs.Parse.{Asks};
 ghost use Rattle.rule_cells.specs.RuleParse.{ruleShape, partsOf, PartsAsk, RuleLeft, RulesLeft};
@@ -26,7 +25,6 @@ use arena::names;
 pub fn rule_parts(
     items: &[u32],
     work: &mut [u32],
-    table: &mut [u32],
     literals: u32,
     p: u32,
     q: u32,
@@ -34,19 +32,17 @@ pub fn rule_parts(
     next: u32,
     top: u32,
 ) -> Built
-    requires { ⌜ (3 * markLimit < length (now table)) × (PartsAsk (now items) (now work) literals p q w next top) ⌝ }
+    requires { ⌜ PartsAsk (now items) (now work) literals p q w next top ⌝ }
     ensures { λ r. ⌜ RuleLeft (partsOf (names (treeAt (now (items .entry)) (now (work .entry)) literals w)) (treeAt (now (items .entry)) (now (work .entry)) p w) (treeAt (now (items .entry)) (now (work .entry)) q w)) (size (treeAt (now (items .entry)) (now (work .entry)) p w) + size (treeAt (now (items .entry)) (now (work .entry)) q w) + 1) (now (items .entry)) (now (work .entry)) (now (work .exit)) next top r ⌝ }
 {
     let mut vars = [0u32; 32];
-    let Kept::Count(n) = variables::gather(items, work, table, &mut vars, literals, p, w, 0, 0)
-    else {
+    let Kept::Count(n) = variables::gather(items, work, &mut vars, literals, p, w, 0, 0) else {
         return Built::Bad;
     };
-    let Parsed::Good(a, t, m) = patterns::pattern(items, work, table, literals, p, w, 0, top) else {
+    let Parsed::Good(a, t, m) = patterns::pattern(items, work, literals, p, w, 0, top) else {
         return Built::Bad;
     };
-    let Built::Good(b, u) = templates::template(items, work, table, &vars, n, q, w, 0, false, t)
-    else {
+    let Built::Good(b, u) = templates::template(items, work, &vars, n, q, w, 0, false, t) else {
         return Built::Bad;
     };
     let r = cells::put_rule(work, u, a, b, next);
@@ -75,14 +71,13 @@ pub fn rule_shape(items: &[u32], work: &[u32], node: u32) -> bool
 pub fn rule(
     items: &[u32],
     work: &mut [u32],
-    table: &mut [u32],
     literals: u32,
     node: u32,
     w: u32,
     next: u32,
     top: u32,
 ) -> Built
-    requires { ⌜ (3 * markLimit < length (now table)) × (Asks (now items) (now work) node w top) × (literals ≤ top) × (next ≤ top) ⌝ }
+    requires { ⌜ (Asks (now items) (now work) node w top) × (literals ≤ top) × (next ≤ top) ⌝ }
     ensures { λ r. ⌜ RuleLeft (ruleOf isEllipsis (names (treeAt (now (items .entry)) (now (work .entry)) literals w)) (treeAt (now (items .entry)) (now (work .entry)) node w)) (size (treeAt (now (items .entry)) (now (work .entry)) node w)) (now (items .entry)) (now (work .entry)) (now (work .exit)) next top r ⌝ }
 {
     if rule_shape(items, work, node) {
@@ -90,7 +85,7 @@ pub fn rule(
         let p = lists::rest(work, pattern);
         let after = lists::rest(work, node);
         let q = lists::first(work, after);
-        return rule_parts(items, work, table, literals, p, q, w, next, top);
+        return rule_parts(items, work, literals, p, q, w, next, top);
     }
     Built::Bad
 }
@@ -99,13 +94,12 @@ pub fn rule(
 pub fn rule_list(
     items: &[u32],
     work: &mut [u32],
-    table: &mut [u32],
     literals: u32,
     node: u32,
     w: u32,
     top: u32,
 ) -> Built
-    requires { ⌜ (3 * markLimit < length (now table)) × (Asks (now items) (now work) node w top) × (literals ≤ top) ⌝ }
+    requires { ⌜ (Asks (now items) (now work) node w top) × (literals ≤ top) ⌝ }
     ensures { λ r. ⌜ RulesLeft (traverse (ruleOf isEllipsis (names (treeAt (now (items .entry)) (now (work .entry)) literals w))) (elements (treeAt (now (items .entry)) (now (work .entry)) node w))) (size (treeAt (now (items .entry)) (now (work .entry)) node w)) (now (items .entry)) (now (work .entry)) (now (work .exit)) top r ⌝ }
 {
     if arena::cells::word(work, node, 3) != arena::cells::PAIR {
@@ -113,29 +107,22 @@ pub fn rule_list(
     }
     let head = arena::cells::reference(work, node, 2);
     let rest = arena::cells::reference(work, node, 1);
-    let Built::Good(next, t) = rule_list(items, work, table, literals, rest, w, top) else {
+    let Built::Good(next, t) = rule_list(items, work, literals, rest, w, top) else {
         return Built::Bad;
     };
-    rule(items, work, table, literals, head, w, next, t)
+    rule(items, work, literals, head, w, next, t)
 }
 
 // The rules of a form.
-pub fn rules(
-    items: &[u32],
-    work: &mut [u32],
-    table: &mut [u32],
-    node: u32,
-    w: u32,
-    top: u32,
-) -> Built
-    requires { ⌜ (3 * markLimit < length (now table)) × (Asks (now items) (now work) node w top) ⌝ }
+pub fn rules(items: &[u32], work: &mut [u32], node: u32, w: u32, top: u32) -> Built
+    requires { ⌜ Asks (now items) (now work) node w top ⌝ }
     ensures { λ r. ⌜ RulesLeft (rulesOf (treeAt (now (items .entry)) (now (work .entry)) node w)) (size (treeAt (now (items .entry)) (now (work .entry)) node w)) (now (items .entry)) (now (work .entry)) (now (work .exit)) top r ⌝ }
 {
-    if rules_form::is_rules_form(items, work, table, node, w) {
+    if rules_form::is_rules_form(items, work, node, w) {
         let after = lists::rest(work, node);
         let literals = lists::first(work, after);
         let list = lists::rest(work, after);
-        return rule_list(items, work, table, literals, list, w, top);
+        return rule_list(items, work, literals, list, w, top);
     }
     Built::Bad
 }

@@ -2,12 +2,10 @@
 
 ghost use mathlib.Core.Path.{_≡_};
 ghost use mathlib.Core.Bool.{false};
-ghost use Prim.Native.Nat.{_*_, _<_};
-ghost use lib.ListN.{length};
 ghost use Rattle.recipe.specs.Tree.{onName};
 ghost use Rattle.expansion.specs.Lookup.{isSyntaxRules};
 ghost use Rattle.expansion.specs.Rules.{isRulesForm};
-ghost use Rattle.arena.specs.Arena.{markLimit, treeAt};
+ghost use Rattle.arena.specs.Arena.{treeAt};
 ghost use Rattle.arena.specs.Lists.{TestsIn};
 ghost use Rattle.rule_cells.specs.Forms.{ordinaryAll, literalsGood};
 use arena::cells;
@@ -51,8 +49,7 @@ pub fn literals_good(items: &[u32], work: &[u32], node: u32) -> bool
 }
 
 // Whether a tree is a name whose lookup finds the base form syntax-rules.
-pub fn is_syntax_rules(items: &[u32], work: &[u32], table: &mut [u32], node: u32, w: u32) -> bool
-    requires { ⌜ 2 * markLimit < length (now table) ⌝ }
+pub fn is_syntax_rules(items: &[u32], work: &[u32], node: u32, w: u32) -> bool
     ensures { λ r. ⌜ r ≡ onName isSyntaxRules false (treeAt (now (items .entry)) (now (work .entry)) node w) ⌝ }
 {
     if cells::word(work, node, 3) != cells::NAME {
@@ -61,16 +58,15 @@ pub fn is_syntax_rules(items: &[u32], work: &[u32], table: &mut [u32], node: u32
     if names::number_of(items, work, node) != SYNTAX_RULES {
         return false;
     }
-    names::binding_of(items, work, table, node, w) == 0
+    names::binding_of(items, work, node, w) == 0
 }
 
 // Whether a tree has the shape of a rules form.
-pub fn is_rules_form(items: &[u32], work: &[u32], table: &mut [u32], node: u32, w: u32) -> bool
-    requires { ⌜ 2 * markLimit < length (now table) ⌝ }
+pub fn is_rules_form(items: &[u32], work: &[u32], node: u32, w: u32) -> bool
     ensures { λ r. ⌜ r ≡ isRulesForm (treeAt (now (items .entry)) (now (work .entry)) node w) ⌝ }
 {
     let first = lists::first(work, node);
-    if is_syntax_rules(items, work, table, first, w) {
+    if is_syntax_rules(items, work, first, w) {
         let after = lists::rest(work, node);
         let literals = lists::first(work, after);
         if literals_good(items, work, literals) {

@@ -3,11 +3,11 @@
 
 ghost use mathlib.Core.Path.{_≡_};
 ghost use mathlib.Core.Bool.{false, cond};
-ghost use Prim.Native.Nat.{_+_, _*_, _^_, _≤_, _<_};
+ghost use Prim.Native.Nat.{_+_, _^_, _≤_, _<_};
 ghost use lib.ListN.{length};
 ghost use Rattle.recipe.specs.Tree.{name};
 ghost use Rattle.expansion.specs.Rules.{depthFits, pairT, ellipsisT};
-ghost use Rattle.arena.specs.Arena.{wordAt, markLimit, nameAt, treeAt};
+ghost use Rattle.arena.specs.Arena.{wordAt, nameAt, treeAt};
 ghost use Rattle.arena.specs.Cells.{Room};
 ghost use Rattle.rule_cells.specs.Cells.{templateAt};
 ghost use Rattle.rule_cells.specs.Made.{Made};
@@ -96,7 +96,6 @@ pub fn put_list(work: &mut [u32], top: u32, dots: bool, element: u32, rest: u32)
 pub fn template_name(
     items: &[u32],
     work: &mut [u32],
-    table: &mut [u32],
     vars: &[u32],
     count: u32,
     node: u32,
@@ -104,13 +103,13 @@ pub fn template_name(
     d: u32,
     top: u32,
 ) -> Built
-    requires { ⌜ (3 * markLimit < length (now table)) × (Room (now work) top 5) × (node ≤ top) × (w ≤ top) × (count ≤ 16) × (32 ≤ length (now vars)) ⌝ }
+    requires { ⌜ (Room (now work) top 5) × (node ≤ top) × (w ≤ top) × (count ≤ 16) × (32 ≤ length (now vars)) ⌝ }
     ensures { λ r. ⌜ TemplateLeft (variablesFrom (now (items .entry)) (now (work .entry)) w (now (vars .entry)) 0 count) d false (name (nameAt (now (items .entry)) (now (work .entry)) node w)) (now (items .entry)) (now (work .entry)) (now (work .exit)) top r ⌝ }
 {
     if names::number_of(items, work, node) == names::ELLIPSIS {
         return Built::Bad;
     }
-    match variables::find(items, work, table, vars, 0, count, node, w) {
+    match variables::find(items, work, vars, 0, count, node, w) {
         Known::At(k, e) => {
             if depth_fits(e, d) {
                 let r = cells::put_variable_template(work, top, k, e);
@@ -128,7 +127,6 @@ pub fn template_name(
 pub fn template_leaf(
     items: &[u32],
     work: &mut [u32],
-    table: &mut [u32],
     vars: &[u32],
     count: u32,
     node: u32,
@@ -136,12 +134,12 @@ pub fn template_leaf(
     d: u32,
     top: u32,
 ) -> Built
-    requires { ⌜ (3 * markLimit < length (now table)) × (Asks (now items) (now work) node w top) × (count ≤ 16) × (32 ≤ length (now vars)) × (wordAt (now work) node 3 ≡ 4 → ⊥) ⌝ }
+    requires { ⌜ (Asks (now items) (now work) node w top) × (count ≤ 16) × (32 ≤ length (now vars)) × (wordAt (now work) node 3 ≡ 4 → ⊥) ⌝ }
     ensures { λ r. ⌜ TemplateLeft (variablesFrom (now (items .entry)) (now (work .entry)) w (now (vars .entry)) 0 count) d false (treeAt (now (items .entry)) (now (work .entry)) node w) (now (items .entry)) (now (work .entry)) (now (work .exit)) top r ⌝ }
 {
     let kind = arena::cells::word(work, node, 3);
     if kind == arena::cells::NAME {
-        return template_name(items, work, table, vars, count, node, w, d, top);
+        return template_name(items, work, vars, count, node, w, d, top);
     }
     if kind == arena::cells::EMPTY {
         return Built::Good(0, top);
@@ -156,7 +154,6 @@ pub fn template_leaf(
 pub fn template(
     items: &[u32],
     work: &mut [u32],
-    table: &mut [u32],
     vars: &[u32],
     count: u32,
     node: u32,
@@ -165,26 +162,24 @@ pub fn template(
     taken: bool,
     top: u32,
 ) -> Built
-    requires { ⌜ (3 * markLimit < length (now table)) × (Asks (now items) (now work) node w top) × (count ≤ 16) × (32 ≤ length (now vars)) × (Under (now vars) count top) × (d + node < 2 ^ 32) ⌝ }
+    requires { ⌜ (Asks (now items) (now work) node w top) × (count ≤ 16) × (32 ≤ length (now vars)) × (Under (now vars) count top) × (d + node < 2 ^ 32) ⌝ }
     ensures { λ r. ⌜ TemplateLeft (variablesFrom (now (items .entry)) (now (work .entry)) w (now (vars .entry)) 0 count) d taken (treeAt (now (items .entry)) (now (work .entry)) node w) (now (items .entry)) (now (work .entry)) (now (work .exit)) top r ⌝ }
 {
     if arena::cells::word(work, node, 3) != arena::cells::PAIR {
-        return again(template_leaf(items, work, table, vars, count, node, w, d, top));
+        return again(template_leaf(items, work, vars, count, node, w, d, top));
     }
     let head = arena::cells::reference(work, node, 2);
     let rest = arena::cells::reference(work, node, 1);
     if taken {
-        return again(template(items, work, table, vars, count, rest, w, d, false, top));
+        return again(template(items, work, vars, count, rest, w, d, false, top));
     }
     let dots = dots::dots_next(items, work, rest);
     let inner = variables::depth_before(items, work, rest, d);
-    let Built::Good(a, t) = template(items, work, table, vars, count, head, w, inner, false, top)
-    else {
+    let Built::Good(a, t) = template(items, work, vars, count, head, w, inner, false, top) else {
         return Built::Bad;
     };
     if accepted(work, dots, a) {
-        let Built::Good(b, u) = template(items, work, table, vars, count, rest, w, d, dots, t)
-        else {
+        let Built::Good(b, u) = template(items, work, vars, count, rest, w, d, dots, t) else {
             return Built::Bad;
         };
         let r = put_list(work, u, dots, a, b);

@@ -9,7 +9,7 @@ ghost use Rattle.words.specs.Lists.{any};
 ghost use Rattle.recipe.specs.Name.{same, isEllipsis};
 ghost use Rattle.recipe.specs.Tree.{name, names};
 ghost use Rattle.expansion.specs.Rules.{variableFrom, variables};
-ghost use Rattle.arena.specs.Arena.{markLimit, nameAt, treeAt};
+ghost use Rattle.arena.specs.Arena.{nameAt, treeAt};
 ghost use Rattle.rule_cells.specs.Variables.{leafCount, variablesFrom, knownOf, Deeper, Held, Gathered};
 use crate::dots;
 use arena::cells;
@@ -27,43 +27,27 @@ pub enum Known {
 }
 
 // Whether a name is the same as one of the names of a list.
-pub fn is_literal(
-    items: &[u32],
-    work: &[u32],
-    table: &mut [u32],
-    list: u32,
-    node: u32,
-    w: u32,
-) -> bool
-    requires { ⌜ 3 * markLimit < length (now table) ⌝ }
+pub fn is_literal(items: &[u32], work: &[u32], list: u32, node: u32, w: u32) -> bool
     ensures { λ r. ⌜ r ≡ any (same (nameAt (now (items .entry)) (now (work .entry)) node w)) (names (treeAt (now (items .entry)) (now (work .entry)) list w)) ⌝ }
 {
     let mut at = list;
     let mut kind = cells::word(work, at, 3);
     while kind == cells::PAIR {
         let first = cells::reference(work, at, 2);
-        if is_literal(items, work, table, first, node, w) {
+        if is_literal(items, work, first, node, w) {
             return true;
         }
         at = cells::reference(work, at, 1);
         kind = cells::word(work, at, 3);
     }
     if kind == cells::NAME {
-        return names::same_names(items, work, table, node, w, at, w);
+        return names::same_names(items, work, node, w, at, w);
     }
     false
 }
 
 // How many variables a leaf of a pattern is, none or one.
-pub fn leaf_count(
-    items: &[u32],
-    work: &[u32],
-    table: &mut [u32],
-    literals: u32,
-    node: u32,
-    w: u32,
-) -> u32
-    requires { ⌜ 3 * markLimit < length (now table) ⌝ }
+pub fn leaf_count(items: &[u32], work: &[u32], literals: u32, node: u32, w: u32) -> u32
     ensures { λ r. ⌜ r ≡ leafCount (names (treeAt (now (items .entry)) (now (work .entry)) literals w)) (treeAt (now (items .entry)) (now (work .entry)) node w) ⌝ }
 {
     if cells::word(work, node, 3) != cells::NAME {
@@ -76,7 +60,7 @@ pub fn leaf_count(
     if number == names::WILDCARD {
         return 0;
     }
-    if is_literal(items, work, table, literals, node, w) {
+    if is_literal(items, work, literals, node, w) {
         return 0;
     }
     1
@@ -86,21 +70,20 @@ pub fn leaf_count(
 pub fn find(
     items: &[u32],
     work: &[u32],
-    table: &mut [u32],
     vars: &[u32],
     i: u32,
     left: u32,
     node: u32,
     w: u32,
 ) -> Known
-    requires { ⌜ (3 * markLimit < length (now table)) × (i + left ≤ 16) × (32 ≤ length (now vars)) ⌝ }
+    requires { ⌜ (i + left ≤ 16) × (32 ≤ length (now vars)) ⌝ }
     ensures { λ r. ⌜ knownOf r ≡ variableFrom i (variablesFrom (now (items .entry)) (now (work .entry)) w (now (vars .entry)) i left) (nameAt (now (items .entry)) (now (work .entry)) node w) ⌝ }
 {
     let end = i + left;
     let mut k = i;
     while k < end {
         let at = 2 * (k as usize);
-        if names::same_names(items, work, table, vars[at], w, node, w) {
+        if names::same_names(items, work, vars[at], w, node, w) {
             return Known::At(k, vars[at + 1]);
         }
         k += 1;
@@ -126,17 +109,8 @@ pub fn depth_before(items: &[u32], work: &[u32], rest: u32, d: u32) -> u32
 }
 
 // One more variable behind the n of the table, under d ellipses.
-pub fn add(
-    items: &[u32],
-    work: &[u32],
-    table: &mut [u32],
-    vars: &mut [u32],
-    node: u32,
-    w: u32,
-    d: u32,
-    n: u32,
-) -> Kept
-    requires { ⌜ (3 * markLimit < length (now table)) × (32 ≤ length (now vars)) × (Held (now items) (now work) w (now vars) n) ⌝ }
+pub fn add(items: &[u32], work: &[u32], vars: &mut [u32], node: u32, w: u32, d: u32, n: u32) -> Kept
+    requires { ⌜ (32 ≤ length (now vars)) × (Held (now items) (now work) w (now vars) n) ⌝ }
     ensures { λ r. ⌜ Gathered ((nameAt (now (items .entry)) (now (work .entry)) node w, d) ∷ []) (now (items .entry)) (now (work .entry)) w node n (now (vars .entry)) (now (vars .exit)) r ⌝ }
 {
     if DEPTH < d {
@@ -145,7 +119,7 @@ pub fn add(
     if MOST <= n {
         return Kept::Bad;
     }
-    match find(items, work, table, vars, 0, n, node, w) {
+    match find(items, work, vars, 0, n, node, w) {
         Known::At(k, e) => {
             return Kept::Bad;
         }
@@ -161,7 +135,6 @@ pub fn add(
 pub fn gather_name(
     items: &[u32],
     work: &[u32],
-    table: &mut [u32],
     vars: &mut [u32],
     literals: u32,
     node: u32,
@@ -169,7 +142,7 @@ pub fn gather_name(
     d: u32,
     n: u32,
 ) -> Kept
-    requires { ⌜ (3 * markLimit < length (now table)) × (32 ≤ length (now vars)) × (Held (now items) (now work) w (now vars) n) ⌝ }
+    requires { ⌜ (32 ≤ length (now vars)) × (Held (now items) (now work) w (now vars) n) ⌝ }
     ensures { λ r. ⌜ Gathered (variables isEllipsis (names (treeAt (now (items .entry)) (now (work .entry)) literals w)) d (name (nameAt (now (items .entry)) (now (work .entry)) node w))) (now (items .entry)) (now (work .entry)) w node n (now (vars .entry)) (now (vars .exit)) r ⌝ }
 {
     let number = names::number_of(items, work, node);
@@ -179,17 +152,16 @@ pub fn gather_name(
     if number == names::WILDCARD {
         return Kept::Count(n);
     }
-    if is_literal(items, work, table, literals, node, w) {
+    if is_literal(items, work, literals, node, w) {
         return Kept::Count(n);
     }
-    add(items, work, table, vars, node, w, d, n)
+    add(items, work, vars, node, w, d, n)
 }
 
 // The variables of a pattern from the left, each with the number of ellipses it lies under, behind the n of the table.
 pub fn gather(
     items: &[u32],
     work: &[u32],
-    table: &mut [u32],
     vars: &mut [u32],
     literals: u32,
     node: u32,
@@ -197,7 +169,7 @@ pub fn gather(
     d: u32,
     n: u32,
 ) -> Kept
-    requires { ⌜ (3 * markLimit < length (now table)) × (32 ≤ length (now vars)) × (Held (now items) (now work) w (now vars) n) × (d + node < 2 ^ 32) ⌝ }
+    requires { ⌜ (32 ≤ length (now vars)) × (Held (now items) (now work) w (now vars) n) × (d + node < 2 ^ 32) ⌝ }
     ensures { λ r. ⌜ Gathered (variables isEllipsis (names (treeAt (now (items .entry)) (now (work .entry)) literals w)) d (treeAt (now (items .entry)) (now (work .entry)) node w)) (now (items .entry)) (now (work .entry)) w node n (now (vars .entry)) (now (vars .exit)) r ⌝ }
 {
     let mut at = node;
@@ -206,14 +178,14 @@ pub fn gather(
         let head = cells::reference(work, at, 2);
         let rest = cells::reference(work, at, 1);
         let inner = depth_before(items, work, rest, d);
-        let Kept::Count(k) = gather(items, work, table, vars, literals, head, w, inner, m) else {
+        let Kept::Count(k) = gather(items, work, vars, literals, head, w, inner, m) else {
             return Kept::Bad;
         };
         m = k;
         at = rest;
     }
     if cells::word(work, at, 3) == cells::NAME {
-        return gather_name(items, work, table, vars, literals, at, w, d, m);
+        return gather_name(items, work, vars, literals, at, w, d, m);
     }
     Kept::Count(m)
 }

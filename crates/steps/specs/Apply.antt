@@ -3,7 +3,7 @@ use mathlib.Core.Path.{_≡_}
 use mathlib.Core.Bool.{cond}
 use mathlib.Core.List.{List, []}
 use mathlib.Core.Option.{Option, none, some}
-use Prim.Native.Nat.{ℕ, _+_, _*_, _≤_, _<_}
+use Prim.Native.Nat.{ℕ, _+_, _*_, _≤_}
 use lib.Dec.{leb}
 use lib.ListN.{length, take}
 use Rattle.words.specs.Each.{Each}
@@ -11,7 +11,7 @@ use Rattle.recipe.specs.Tree.{Tree, size, produce}
 use Rattle.expansion.specs.Rules.{Rule}
 use Rattle.expansion.specs.Match.{firstFit}
 use Rattle.expansion.specs.Transcribe.{equalLengths, transcribe}
-use Rattle.arena.specs.Arena.{markLimit, treeAt}
+use Rattle.arena.specs.Arena.{treeAt}
 use Rattle.arena.specs.Cells.{Room}
 use Rattle.rule_cells.specs.Cells.{templateAt, rulesAt}
 use Rattle.environments.specs.Sound.{Plain, SoundRule}
@@ -71,11 +71,10 @@ pub record Stepped (items old new : List ℕ) (top rules u w limit : ℕ) (r : A
   pub kept : take top new ≡ take top old
 
 -- sound rules and a use below the top, with room for as many items as there is fuel
-pub record Stepping (items work marks : List ℕ) (top rules u w limit : ℕ) : Type 0 where
+pub record Stepping (items work : List ℕ) (top rules u w limit : ℕ) : Type 0 where
   pub sound : Each SoundRule (rulesAt items work rules)
   pub rules-below : rules ≤ top
   pub use-below : u ≤ top
   pub wrap-below : w ≤ top
   pub items-below : length items ≤ top
   pub room : Room work top (nodeWords * limit)
-  pub marks-room : 2 * markLimit < length marks

@@ -82,7 +82,7 @@ zeros-under zero top i = omega arith
 zeros-under (suc n) top zero = omega arith
 zeros-under (suc n) top (suc i) = zeros-under n top i
 
-module _ (items old marks : List ℕ) (top rules u w limit : ℕ) (ok : Stepping items old marks top rules u w limit) (rule : ℕ) (found : FirstFit items old rules u w rule) where
+module _ (items old : List ℕ) (top rules u w limit : ℕ) (ok : Stepping items old top rules u w limit) (rule : ℕ) (found : FirstFit items old rules u w rule) where
   abbrev Used : Tree
   Used = treeAt items old u w
 

@@ -1,17 +1,13 @@
 // Matching: whether a pattern fits a use, and the first rule that does (ground 16 where none does).
-// `marks` is lent for the marks of names that are looked up; nothing is promised of what is left in it.
 
-ghost use Prim.Native.Nat.{_*_, _<_};
-ghost use lib.ListN.{length};
 ghost use mathlib.Core.Path.{_≡_};
-ghost use Rattle.arena.specs.Arena.{wordAt, markLimit};
+ghost use Rattle.arena.specs.Arena.{wordAt};
 ghost use Rattle.steps.specs.Fits.{Fits, EachFits, LiteralFits, ConstantFits, FirstFit};
 use arena::cells;
 use arena::names;
 
 // A literal fits a name whose lookup finds what its own has found.
-pub fn literal_fits(items: &[u32], work: &[u32], marks: &mut [u32], p: u32, u: u32, w: u32) -> bool
-    requires { ⌜ 2 * markLimit < length (now marks) ⌝ }
+pub fn literal_fits(items: &[u32], work: &[u32], p: u32, u: u32, w: u32) -> bool
     ensures { λ r. ⌜ LiteralFits (now (items .entry)) (now (work .entry)) p u w r ⌝ }
 {
     if cells::word(work, u, cells::KIND) != cells::NAME {
@@ -19,7 +15,7 @@ pub fn literal_fits(items: &[u32], work: &[u32], marks: &mut [u32], p: u32, u: u
     }
     let number = cells::word(work, p, 3);
     let binding = cells::word(work, p, 2);
-    names::agrees(items, work, marks, number, binding, u, w)
+    names::agrees(items, work, number, binding, u, w)
 }
 
 // A constant is matched by value.
@@ -46,8 +42,8 @@ pub fn constant_fits(work: &[u32], p: u32, u: u32) -> bool
 }
 
 // Whether a pattern that is no pair fits a use.
-pub fn end_fits(items: &[u32], work: &[u32], marks: &mut [u32], p: u32, u: u32, w: u32) -> bool
-    requires { ⌜ (2 * markLimit < length (now marks)) × (wordAt (now work) p 1 ≡ 6 → ⊥) ⌝ }
+pub fn end_fits(items: &[u32], work: &[u32], p: u32, u: u32, w: u32) -> bool
+    requires { ⌜ (wordAt (now work) p 1 ≡ 6 → ⊥) ⌝ }
     ensures { λ r. ⌜ Fits (now (items .entry)) (now (work .entry)) p u w r ⌝ }
 {
     let tag = cells::word(work, p, cells::TAG);
@@ -55,7 +51,7 @@ pub fn end_fits(items: &[u32], work: &[u32], marks: &mut [u32], p: u32, u: u32, 
         return true;
     }
     if tag == rule_cells::cells::NAME {
-        return literal_fits(items, work, marks, p, u, w);
+        return literal_fits(items, work, p, u, w);
     }
     if tag == rule_cells::cells::WILDCARD {
         return true;
@@ -65,25 +61,23 @@ pub fn end_fits(items: &[u32], work: &[u32], marks: &mut [u32], p: u32, u: u32, 
     }
     if tag == rule_cells::cells::ELLIPSIS {
         let element = cells::reference(work, p, 2);
-        return each_fits(items, work, marks, element, u, w);
+        return each_fits(items, work, element, u, w);
     }
     cells::word(work, u, cells::KIND) == cells::EMPTY
 }
 
 // Whether a part of a pattern fits. A variable takes anything, without a call more.
-pub fn part_fits(items: &[u32], work: &[u32], marks: &mut [u32], p: u32, u: u32, w: u32) -> bool
-    requires { ⌜ 2 * markLimit < length (now marks) ⌝ }
+pub fn part_fits(items: &[u32], work: &[u32], p: u32, u: u32, w: u32) -> bool
     ensures { λ r. ⌜ Fits (now (items .entry)) (now (work .entry)) p u w r ⌝ }
 {
     if cells::word(work, p, cells::TAG) == rule_cells::cells::VARIABLE {
         return true;
     }
-    fits(items, work, marks, p, u, w)
+    fits(items, work, p, u, w)
 }
 
 // Whether a pattern fits a use, from the left, up to the first misfit.
-pub fn fits(items: &[u32], work: &[u32], marks: &mut [u32], p: u32, u: u32, w: u32) -> bool
-    requires { ⌜ 2 * markLimit < length (now marks) ⌝ }
+pub fn fits(items: &[u32], work: &[u32], p: u32, u: u32, w: u32) -> bool
     ensures { λ r. ⌜ Fits (now (items .entry)) (now (work .entry)) p u w r ⌝ }
 {
     let mut at = p;
@@ -94,24 +88,23 @@ pub fn fits(items: &[u32], work: &[u32], marks: &mut [u32], p: u32, u: u32, w: u
         }
         let head = cells::reference(work, at, 3);
         let first = cells::reference(work, node, cells::HEAD);
-        if !part_fits(items, work, marks, head, first, w) {
+        if !part_fits(items, work, head, first, w) {
             return false;
         }
         at = cells::reference(work, at, 2);
         node = cells::reference(work, node, cells::TAIL);
     }
-    end_fits(items, work, marks, at, node, w)
+    end_fits(items, work, at, node, w)
 }
 
 // Whether every element of a list fits.
-pub fn each_fits(items: &[u32], work: &[u32], marks: &mut [u32], e: u32, list: u32, w: u32) -> bool
-    requires { ⌜ 2 * markLimit < length (now marks) ⌝ }
+pub fn each_fits(items: &[u32], work: &[u32], e: u32, list: u32, w: u32) -> bool
     ensures { λ r. ⌜ EachFits (now (items .entry)) (now (work .entry)) e list w r ⌝ }
 {
     let mut node = list;
     while cells::word(work, node, cells::KIND) == cells::PAIR {
         let first = cells::reference(work, node, cells::HEAD);
-        if !part_fits(items, work, marks, e, first, w) {
+        if !part_fits(items, work, e, first, w) {
             return false;
         }
         node = cells::reference(work, node, cells::TAIL);
@@ -120,13 +113,12 @@ pub fn each_fits(items: &[u32], work: &[u32], marks: &mut [u32], e: u32, list: u
 }
 
 // The first of the rules that fits the use, 0 where none does.
-pub fn first_fit(items: &[u32], work: &[u32], marks: &mut [u32], rules: u32, u: u32, w: u32) -> u32
-    requires { ⌜ 2 * markLimit < length (now marks) ⌝ }
+pub fn first_fit(items: &[u32], work: &[u32], rules: u32, u: u32, w: u32) -> u32
     ensures { λ r. ⌜ FirstFit (now (items .entry)) (now (work .entry)) rules u w r ⌝ }
 {
     let mut rule = rules;
     while rule != 0 {
-        if fits(items, work, marks, cells::reference(work, rule, 3), u, w) {
+        if fits(items, work, cells::reference(work, rule, 3), u, w) {
             return rule;
         }
         rule = cells::reference(work, rule, 1);

@@ -31,11 +31,11 @@ pub record OtherHead (items work : List ℕ) (node tail w : ℕ) : Type 0 where
   pub unlike : (x : Name) → head ≡ name x → ⊥
 
 -- room for whichever form it is
-pub record FormRoom (items work core macros marks : List ℕ) (node w : ℕ) (r : Reached) : Type 0 where
+pub record FormRoom (items work core macros : List ℕ) (node w : ℕ) (r : Reached) : Type 0 where
   pub quotes : QuoteRoom items work core node r
   pub word : CoreRoom core (r .at) 1
-  pub binds : Roomy items work core marks node w r
-  pub reads : MacroRoom items work macros marks node w r
+  pub binds : Roomy items work core node w r
+  pub reads : MacroRoom items work macros node w r
 
 -- a turn, whatever the fuel
 abbrev pub Turns : (items : List ℕ) (tree : Tree) (r : Reached) (before after : Tables) → Turn → Type 0

@@ -2,7 +2,7 @@
 use mathlib.Core.Path.{_≡_, refl, ap, sym, subst, _∙_}
 use mathlib.Core.Bool.{Bool, true, false, cond, false≢true}
 use mathlib.Core.List.{List, [], _∷_}
-use Prim.Native.Nat.{ℕ, zero, suc, _*_, _≤_, _<_}
+use Prim.Native.Nat.{ℕ, zero, suc, _*_, _≤_}
 use native.Mathlib.Omega.{arith}
 use lib.ListN.{length}
 use borrow.Author.Tests.{eqb-true}
@@ -19,7 +19,7 @@ use Rattle.expansion.specs.Lookup as U
 use Rattle.expansion.specs.Lookup.{quote, if, lambda, let-syntax, letrec-syntax, auxiliary, form, nothing, formOf, lookup}
 use Rattle.expansion.specs.Computation.{State, M}
 use Rattle.expansion.specs.Forms.{expandList, expandMacros}
-use Rattle.arena.specs.Arena.{wordAt, nameAt, treeAt, markLimit}
+use Rattle.arena.specs.Arena.{wordAt, nameAt, treeAt}
 use Rattle.arena.specs.NodeLaws.{treeAt-name}
 use Rattle.arena.specs.Lists.{Tests}
 use Rattle.arena.specs.ListLaws.{name-test}
@@ -104,22 +104,22 @@ module _ (work : List ℕ) (head : ℕ) (b : Bool) (test : Tests isName work hea
 
 -- ---- room
 
-module _ (items work core macros marks : List ℕ) (fuel node w : ℕ) (r : Reached) (ready : Ready items fuel (size (treeAt items work node w)) r (tables work core macros)) (placed : Placed items work (r .top) node w) where
+module _ (items work core macros : List ℕ) (fuel node w : ℕ) (r : Reached) (ready : Ready items fuel (size (treeAt items work node w)) r (tables work core macros)) (placed : Placed items work (r .top) node w) where
   pub leaf-room : CoreRoom core (r .at) 2
-  leaf-room = ready-core items work core macros marks fuel node w r ready placed 2 (two-words (treeAt items work node w))
+  leaf-room = ready-core items work core macros fuel node w r ready placed 2 (two-words (treeAt items work node w))
 
   pub application-room : (tail : ℕ) (x : Name) → Headed items work node tail w x → CoreRoom core (r .at) 4
   unfolding size
   application-room tail x h =
-      ready-core items work core macros marks fuel node w r ready placed 4 (rw (h .tree) (omega (arith, size-positive (treeAt items work tail w))))
+      ready-core items work core macros fuel node w r ready placed 4 (rw (h .tree) (omega (arith, size-positive (treeAt items work tail w))))
 
-  pub form-room : 3 * markLimit < length marks → FormRoom items work core macros marks node w r
-  form-room hands =
+  pub form-room : FormRoom items work core macros node w r
+  form-room =
       record {
-        quotes = ready-quote items work core macros marks fuel node w r ready placed;
-        word = ready-core items work core macros marks fuel node w r ready placed 1 (omega (arith, size-positive (treeAt items work node w)));
-        binds = ready-roomy items work core macros marks fuel node w r ready placed hands;
-        reads = ready-macros items work core macros marks fuel node w r ready placed hands;
+        quotes = ready-quote items work core macros fuel node w r ready placed;
+        word = ready-core items work core macros fuel node w r ready placed 1 (omega (arith, size-positive (treeAt items work node w)));
+        binds = ready-roomy items work core macros fuel node w r ready placed;
+        reads = ready-macros items work core macros fuel node w r ready placed;
       }
 
 -- ---- an application whose head is no name

@@ -52,14 +52,14 @@ lambda-sizes t e = omega (arith, three-sizes t (and-parts (isListOf 3 t) _ e .0)
 
 -- ---- what the code needs, and what it leaves
 
-module _ (items work core marks : List ℕ) (node w : ℕ) (r : Reached) (roomy : Roomy items work core marks node w r) (shape : isLambda (treeAt items work node w) ≡ true) where
+module _ (items work core : List ℕ) (node w : ℕ) (r : Reached) (roomy : Roomy items work core node w r) (shape : isLambda (treeAt items work node w) ≡ true) where
   abbrev tree : Tree
   tree = treeAt items work node w
 
   pub lambda-proper : F.Proper tree
   lambda-proper = proper (roomy .placed .proper)
 
-  pub lambda-space : Space (formals tree) work marks node w (r .variables) w (r .top)
+  pub lambda-space : Space (formals tree) work node w (r .variables) w (r .top)
   lambda-space =
       let sizes = lambda-sizes tree shape in
       record {
@@ -69,7 +69,6 @@ module _ (items work core marks : List ℕ) (node w : ℕ) (r : Reached) (roomy 
         node-below = roomy .placed .node-below;
         w-below = roomy .placed .wrap-below;
         parent-below = roomy .placed .wrap-below;
-        marks = omega (arith, roomy .hands);
       }
 
   pub lambda-core : CoreRoom core (r .at) 3
@@ -199,15 +198,3 @@ module _ (t : Tree) (r : Reached) where
   lambda-left items work work′ core core′ (Again n w q) shape apart b = record { shape = shape; apart = apart; bound = b }
   lambda-left items work work′ core core′ (Operands l w q) shape apart b = absurd b
   lambda-left items work work′ core core′ (Over a) shape apart b = absurd b
-
-pub roomy-marks : (items work core marks marks′ : List ℕ) (node w : ℕ) (r : Reached) → length marks′ ≡ length marks → Roomy items work core marks node w r → Roomy items work core marks′ node w r
-roomy-marks items work core marks marks′ node w r e x =
-    record {
-      placed = x .placed;
-      fits = x .fits;
-      small = x .small;
-      core-fits = x .core-fits;
-      core-small = x .core-small;
-      few = x .few;
-      hands = omega (arith, x .hands);
-    }

@@ -35,13 +35,13 @@ use Rattle.turns.specs.Leaves.{knownOf, Looks, Refuses, Makes, Stops, Le
 
 -- ---- lookups
 
-pub lookup-in : (items operations marks : List ℕ) (x : Name) → Lent items operations marks → lookupIn operations x ≡ lookup (operationsOf items) x
+pub lookup-in : (items operations : List ℕ) (x : Name) → Lent items operations → lookupIn operations x ≡ lookup (operationsOf items) x
 unfolding lookupIn lookup
-lookup-in items operations marks x h = ap (orUnbound (x .binding)) (h .places (x .number))
+lookup-in items operations x h = ap (orUnbound (x .binding)) (h .places (x .number))
 
-module _ (items operations marks : List ℕ) (x : Name) (lent : Lent items operations marks) (m : Meaning) (e : meansOf m ≡ lookupIn operations x) where
+module _ (items operations : List ℕ) (x : Name) (lent : Lent items operations) (m : Meaning) (e : meansOf m ≡ lookupIn operations x) where
   meaning-is : (n : Meaning) → m ≡ n → meansOf n ≡ lookup (operationsOf items) x
-  meaning-is n h = ap meansOf (sym h) ∙ e ∙ lookup-in items operations marks x lent
+  meaning-is n h = ap meansOf (sym h) ∙ e ∙ lookup-in items operations x lent
 
   pub look-variable : (n : ℕ) → m ≡ M.Variable n → Looks (lookup (operationsOf items) x) (Finds (Variable n))
   unfolding meansOf knownOf

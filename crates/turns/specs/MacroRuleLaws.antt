@@ -31,7 +31,7 @@ use Rattle.turns.specs.MacroRules.{OneAsk, OneRead, OneLeft, formsIn, Al
 
 -- ---- one macro
 
-module _ (items work macros marks : List ℕ) (form w count top : ℕ) (ask : OneAsk items work macros marks form w count top) where
+module _ (items work macros : List ℕ) (form w count top : ℕ) (ask : OneAsk items work macros form w count top) where
   abbrev tree : Tree
   tree = treeAt items work form w
 
@@ -73,7 +73,7 @@ module _ (items work macros marks : List ℕ) (form w count top : ℕ) (ask : On
 
 -- ---- a list of (name rules)
 
-module _ (items work macros marks : List ℕ) (list w count top : ℕ) (ask : AllAsk items work macros marks list w count top) where
+module _ (items work macros : List ℕ) (list w count top : ℕ) (ask : AllAsk items work macros list w count top) where
   abbrev whole : Tree
   whole = treeAt items work list w
 
@@ -121,7 +121,7 @@ module _ (items work macros marks : List ℕ) (list w count top : ℕ) (ask : Al
     form-below : form ≤ top
     form-below = omega (arith, form-is .low, entry-low, ask .asks .node-below)
 
-    pub one-ask : OneAsk items work macros marks form w count top
+    pub one-ask : OneAsk items work macros form w count top
     one-ask =
         record {
           asks = record {
@@ -131,7 +131,6 @@ module _ (items work macros marks : List ℕ) (list w count top : ℕ) (ask : Al
           };
           slot = omega (arith, ask .slots, count-is);
           below = ask .below;
-          hands = ask .hands;
         }
 
     pub count-small : count + 1 < 2 ^ 32
@@ -144,15 +143,15 @@ module _ (items work macros marks : List ℕ) (list w count top : ℕ) (ask : Al
         ap (traverse rulesOf) forms-are ∙ ap (λ (o : Option (List Rule)). mapBoth _∷_ o (traverse rulesOf (formsIn later))) q
 
     -- after the first
-    module _ (mid macros′ marks′ : List ℕ) (r : Read) (upper : ℕ) (b : r ≡ Good upper) (left : OneLeft first items work mid macros macros′ count top r)
-        (long : length mid ≡ length work) (macros-long : length macros′ ≡ length macros) (marks-long : length marks′ ≡ length marks) where
+    module _ (mid macros′ : List ℕ) (r : Read) (upper : ℕ) (b : r ≡ Good upper) (left : OneLeft first items work mid macros macros′ count top r)
+        (long : length mid ≡ length work) (macros-long : length macros′ ≡ length macros) where
       one : OneRead first items work mid macros macros′ count top upper
       one = subst (λ (z : Read). OneLeft first items work mid macros macros′ count top z) b left
 
       later-is : treeAt items mid rest w ≡ later
       later-is = tree-kept items work mid top rest w (omega (arith, rest-low, ask .asks .node-below)) (ask .asks .wrap-below) (one .kept)
 
-      ask-later : AllAsk items mid macros′ marks′ rest w (count + 1) upper
+      ask-later : AllAsk items mid macros′ rest w (count + 1) upper
       ask-later =
           record {
             asks = record {
@@ -166,7 +165,6 @@ module _ (items work macros marks : List ℕ) (list w count top : ℕ) (ask : Al
             slots = rw later-is (omega (arith, ask .slots, count-is));
             few = rw later-is (omega (arith, ask .few, count-is));
             below = one .below;
-            hands = omega (arith, ask .hands);
           }
 
       all-both : (new macros″ : List ℕ) (a : Read) → AllLeft (treeAt items mid rest w) items mid new macros′ macros″ (count + 1) upper a → AllLeft whole items work new macros macros″ count top a
@@ -195,22 +193,22 @@ module _ (items work macros marks : List ℕ) (list w count top : ℕ) (ask : Al
 -- ---- macro after macro
 
 module _ (items old known : List ℕ) (list w count top : ℕ) where
-  pub reading-begins : (marks : List ℕ) → AllAsk items old known marks list w count top → Reading items old known list w count top old known marks list count top
-  reading-begins marks ask = record { ask = ask; whole = λ new macros′ r l. l }
+  pub reading-begins : AllAsk items old known list w count top → Reading items old known list w count top old known list count top
+  reading-begins ask = record { ask = ask; whole = λ new macros′ r l. l }
 
-  module _ (work macros marks : List ℕ) (node n end : ℕ) (inv : Reading items old known list w count top work macros marks node n end) where
+  module _ (work macros : List ℕ) (node n end : ℕ) (inv : Reading items old known list w count top work macros node n end) where
     pub reading-ends : (wordAt work node 3 ≡ 4 → ⊥) → AllLeft (treeAt items old list w) items old work known macros count top (Good end)
-    reading-ends other = inv .whole work macros (Good end) (all-end items work macros marks node w n end (inv .ask) other)
+    reading-ends other = inv .whole work macros (Good end) (all-end items work macros node w n end (inv .ask) other)
 
     module _ (entry rest form : ℕ) (e : wordAt work node 3 ≡ 4) (f : entry ≡ referenceAt work node 2) (g : rest ≡ referenceAt work node 1) (form-is : Means work entry form (element 1))
         (mid macros′ : List ℕ) (r : Read) (left : OneLeft (treeAt items work form w) items work mid macros macros′ n end r) where
       pub reading-bad : r ≡ Bad → AllLeft (treeAt items old list w) items old mid known macros′ count top Bad
-      reading-bad b = inv .whole mid macros′ Bad (all-bad items work macros marks node w n end (inv .ask) entry rest form e f g form-is mid macros′ r b left)
+      reading-bad b = inv .whole mid macros′ Bad (all-bad items work macros node w n end (inv .ask) entry rest form e f g form-is mid macros′ r b left)
 
-      pub reading-more : (marks′ : List ℕ) (upper : ℕ) → r ≡ Good upper → length mid ≡ length work → length macros′ ≡ length macros → length marks′ ≡ length marks
-          → Reading items old known list w count top mid macros′ marks′ rest (n + 1) upper
-      reading-more marks′ upper b l m k =
+      pub reading-more : (upper : ℕ) → r ≡ Good upper → length mid ≡ length work → length macros′ ≡ length macros
+          → Reading items old known list w count top mid macros′ rest (n + 1) upper
+      reading-more upper b l m =
           record {
-            ask = ask-later items work macros marks node w n end (inv .ask) entry rest form e f g form-is mid macros′ marks′ r upper b left l m k;
-            whole = λ new macros″ z h. inv .whole new macros″ z (all-both items work macros marks node w n end (inv .ask) entry rest form e f g form-is mid macros′ marks′ r upper b left l m k new macros″ z h);
+            ask = ask-later items work macros node w n end (inv .ask) entry rest form e f g form-is mid macros′ r upper b left l m;
+            whole = λ new macros″ z h. inv .whole new macros″ z (all-both items work macros node w n end (inv .ask) entry rest form e f g form-is mid macros′ r upper b left l m new macros″ z h);
           }

@@ -7,7 +7,7 @@ use lib.ListN.{length, getD, take}
 use Rattle.words.specs.Options.{traverse}
 use Rattle.recipe.specs.Tree.{Tree, size, elements, element}
 use Rattle.expansion.specs.Rules.{Rule, rulesOf}
-use Rattle.arena.specs.Arena.{treeAt, markLimit}
+use Rattle.arena.specs.Arena.{treeAt}
 use Rattle.rule_cells.specs.Parse.{Asks}
 use Rattle.turns.specs.declared.macros.Read.{Read}
 use Rattle.turns.specs.declared.macros.Read.the-variants.{Good, Bad}
@@ -19,11 +19,10 @@ Below macros count top = (k : ℕ) → k < count → getD macros k 0 ≤ top
 
 -- ---- one macro
 
-pub record OneAsk (items work macros marks : List ℕ) (form w count top : ℕ) : Type 0 where
+pub record OneAsk (items work macros : List ℕ) (form w count top : ℕ) : Type 0 where
   pub asks : Asks items work form w top
   pub slot : count < length macros
   pub below : Below macros count top
-  pub hands : 3 * markLimit < length marks
 
 pub record OneRead (form : Tree) (items work work′ macros macros′ : List ℕ) (count top upper : ℕ) : Type 0 where
   pub rules : List Rule
@@ -44,12 +43,11 @@ OneLeft form items work work′ macros macros′ count top Bad = rulesOf form �
 unfoldable pub formsIn : Tree → List Tree
 formsIn t = map (element 1) (elements t)
 
-pub record AllAsk (items work macros marks : List ℕ) (list w count top : ℕ) : Type 0 where
+pub record AllAsk (items work macros : List ℕ) (list w count top : ℕ) : Type 0 where
   pub asks : Asks items work list w top
   pub slots : count + length (formsIn (treeAt items work list w)) ≤ length macros
   pub few : count + length (formsIn (treeAt items work list w)) < 2 ^ 32
   pub below : Below macros count top
-  pub hands : 3 * markLimit < length marks
 
 pub record AllRead (list : Tree) (items work work′ macros macros′ : List ℕ) (count top upper : ℕ) : Type 0 where
   pub rules : List (List Rule)
@@ -67,6 +65,6 @@ AllLeft list items work work′ macros macros′ count top (Good upper) = AllRea
 AllLeft list items work work′ macros macros′ count top Bad = traverse rulesOf (formsIn list) ≡ none
 
 -- rules are read up to the node's: what reading those leaves is what reading the whole list leaves
-pub record Reading (items old known : List ℕ) (list w count top : ℕ) (work macros marks : List ℕ) (node n end : ℕ) : Type 0 where
-  pub ask : AllAsk items work macros marks node w n end
+pub record Reading (items old known : List ℕ) (list w count top : ℕ) (work macros : List ℕ) (node n end : ℕ) : Type 0 where
+  pub ask : AllAsk items work macros node w n end
   pub whole : (new macros′ : List ℕ) (r : Read) → AllLeft (treeAt items work node w) items work new macros macros′ n end r → AllLeft (treeAt items old list w) items old new known macros′ count top r

@@ -108,7 +108,7 @@ macros-sizes t e =
 
 -- ---- what the code needs, and what it leaves
 
-module _ (items work macros marks : List ℕ) (node w : ℕ) (inside : Bool) (r : Reached) (room : MacroRoom items work macros marks node w r) (shape : isMacros macrosMost (treeAt items work node w) ≡ true) where
+module _ (items work macros : List ℕ) (node w : ℕ) (inside : Bool) (r : Reached) (room : MacroRoom items work macros node w r) (shape : isMacros macrosMost (treeAt items work node w) ≡ true) where
   abbrev tree : Tree
   tree = treeAt items work node w
 
@@ -124,7 +124,7 @@ module _ (items work macros marks : List ℕ) (node w : ℕ) (inside : Bool) (r 
   count-most : length (keywords tree) ≤ size tree
   count-most = omega (arith, sizes)
 
-  pub macros-space : Space (keywords tree) work marks node w (r .macros) w (r .top)
+  pub macros-space : Space (keywords tree) work node w (r .macros) w (r .top)
   macros-space =
       record {
         fits = omega (arith, sizes, room .fits);
@@ -133,7 +133,6 @@ module _ (items work macros marks : List ℕ) (node w : ℕ) (inside : Bool) (r 
         node-below = room .placed .node-below;
         w-below = room .placed .wrap-below;
         parent-below = room .placed .wrap-below;
-        marks = omega (arith, room .hands);
       }
 
   module _ (list count : ℕ) (list-is : Means work node list (element 1)) (count-is : Counts work list count) where
@@ -146,8 +145,8 @@ module _ (items work macros marks : List ℕ) (node w : ℕ) (inside : Bool) (r 
     list-below : list ≤ r .top
     list-below = omega (arith, list-is .low, room .placed .node-below)
 
-    module _ (mid marks′ : List ℕ) (wrap end rules-wrap : ℕ) (scoped : Scoped macro (r .macros) (keywords tree) w work mid (r .top) wrap end) (wrap-is : rules-wrap ≡ cond inside wrap w)
-        (long : length mid ≡ length work) (marks-long : length marks′ ≡ length marks) where
+    module _ (mid : List ℕ) (wrap end rules-wrap : ℕ) (scoped : Scoped macro (r .macros) (keywords tree) w work mid (r .top) wrap end) (wrap-is : rules-wrap ≡ cond inside wrap w)
+        (long : length mid ≡ length work) where
       abbrev scope : Tree → Tree
       scope = bindAll macro (r .macros) (keywords tree)
 
@@ -192,7 +191,7 @@ module _ (items work macros marks : List ℕ) (node w : ℕ) (inside : Bool) (r 
       rules-wrap-low : rules-wrap ≤ end
       rules-wrap-low = rw wrap-is (wrap-low inside)
 
-      pub macros-ask : AllAsk items mid macros marks′ list rules-wrap (r .macros) end
+      pub macros-ask : AllAsk items mid macros list rules-wrap (r .macros) end
       macros-ask =
           record {
             asks = record {
@@ -206,7 +205,6 @@ module _ (items work macros marks : List ℕ) (node w : ℕ) (inside : Bool) (r 
             slots = omega (arith, forms-count, room .slots, rate);
             few = omega (arith, forms-count, room .few, count-most);
             below = λ k h. let g = room .below k h in omega (arith, scoped .end-is);
-            hands = omega (arith, room .hands);
           }
 
       module _ (work′ macros′ : List ℕ) (a : Read) (left : AllLeft (treeAt items mid list rules-wrap) items mid work′ macros macros′ (r .macros) end a) where
@@ -257,15 +255,3 @@ module _ (t : Tree) (inside : Bool) (r : Reached) where
   macros-left items work work′ macros macros′ (Again n w q) shape apart b = record { shape = shape; apart = apart; knows = b }
   macros-left items work work′ macros macros′ (Operands l w q) shape apart b = absurd b
   macros-left items work work′ macros macros′ (Over a) shape apart b = record { ground = 15; is = λ f s. rw (shape, apart, b .0); refuses = b .1 }
-
-pub room-marks : (items work macros marks marks′ : List ℕ) (node w : ℕ) (r : Reached) → length marks′ ≡ length marks → MacroRoom items work macros marks node w r → MacroRoom items work macros marks′ node w r
-room-marks items work macros marks marks′ node w r e x =
-    record {
-      placed = x .placed;
-      fits = x .fits;
-      small = x .small;
-      slots = x .slots;
-      few = x .few;
-      below = x .below;
-      hands = omega (arith, x .hands);
-    }

@@ -3,7 +3,7 @@ use mathlib.Core.Path.{_≡_}
 use mathlib.Core.Bool.{Bool, true, cond}
 use mathlib.Core.List.{List, _++_, map}
 use mathlib.Core.Option.{none, some}
-use Prim.Native.Nat.{ℕ, _+_, _*_, _≤_, _<_}
+use Prim.Native.Nat.{ℕ, _+_, _*_, _≤_}
 use lib.ListN.{length, take}
 use Rattle.words.specs.Limits.{macrosMost}
 use Rattle.words.specs.Options.{traverse}
@@ -13,7 +13,7 @@ use Rattle.core_term.specs.Term.{Term}
 use Rattle.expansion.specs.Rules.{Rule, rulesOf}
 use Rattle.expansion.specs.Computation.{State}
 use Rattle.expansion.specs.Forms.{isMacros, keywords, rulesForms}
-use Rattle.arena.specs.Arena.{treeAt, markLimit}
+use Rattle.arena.specs.Arena.{treeAt}
 use Rattle.turns.specs.declared.answers.Reached.{Reached}
 use Rattle.turns.specs.declared.answers.Ended.{Ended}
 use Rattle.turns.specs.declared.answers.Turn.{Turn}
@@ -24,14 +24,13 @@ use Rattle.turns.specs.Leaves.{Refuses}
 use Rattle.turns.specs.MacroRules.{Below}
 
 -- what is at hand, and room for it
-pub record MacroRoom (items work macros marks : List ℕ) (node w : ℕ) (r : Reached) : Type 0 where
+pub record MacroRoom (items work macros : List ℕ) (node w : ℕ) (r : Reached) : Type 0 where
   pub placed : Placed items work (r .top) node w
   pub fits : r .top + itemRate * size (treeAt items work node w) ≤ length work
   pub small : r .top + itemRate * size (treeAt items work node w) ≤ numberMost
   pub slots : macroItems * r .macros + size (treeAt items work node w) ≤ macroItems * length macros
   pub few : r .macros + size (treeAt items work node w) ≤ numberMost
   pub below : Below macros (r .macros) (r .top)
-  pub hands : 3 * markLimit < length marks
 
 -- the rules forms of a tree whose names are macros from k on; inside their scope or not
 unfoldable pub formsOf : (inside : Bool) → Tree → ℕ → List Tree

@@ -1,12 +1,11 @@
 -- What is ready for an expression gives each turn the room it asks for.
 use mathlib.Core.Path.{_≡_, ap, _∙_}
 use mathlib.Core.List.{List}
-use Prim.Native.Nat.{ℕ, _*_, _≤_, _<_}
+use Prim.Native.Nat.{ℕ, _*_, _≤_}
 use native.Mathlib.Omega.{arith}
-use lib.ListN.{length}
 use Rattle.recipe.specs.Tree.{size}
 use Rattle.recipe.specs.TreeLaws.{size-positive, onNames-size}
-use Rattle.arena.specs.Arena.{treeAt, wrapAt, markLimit}
+use Rattle.arena.specs.Arena.{treeAt, wrapAt}
 use Rattle.arena.specs.NodeLaws.{treeAt-wrap}
 use Rattle.forms.specs.QuoteLaws.{quotable-any}
 use Rattle.turns.specs.declared.answers.Reached.{Reached}
@@ -15,7 +14,7 @@ use Rattle.turns.specs.Scopes.{Roomy, QuoteRoom}
 use Rattle.turns.specs.Uses.{UseRoom}
 use Rattle.turns.specs.MacroTurns.{MacroRoom}
 
-module _ (items work core macros marks : List ℕ) (fuel node w : ℕ) (r : Reached)
+module _ (items work core macros : List ℕ) (fuel node w : ℕ) (r : Reached)
     (ready : Ready items fuel (size (treeAt items work node w)) r (tables work core macros)) (placed : Placed items work (r .top) node w) where
   pub ready-core : (k : ℕ) → k ≤ 2 * size (treeAt items work node w) → CoreRoom core (r .at) k
   unfolding coreNeed
@@ -31,46 +30,42 @@ module _ (items work core macros marks : List ℕ) (fuel node w : ℕ) (r : Reac
         small = omega (arith, ready .core-small);
       }
 
-  module _ (hands : 3 * markLimit < length marks) where
-    pub ready-roomy : Roomy items work core marks node w r
-    unfolding workNeed coreNeed variableNeed
-    ready-roomy =
-        record {
-          placed = placed;
-          fits = omega (arith, ready .room);
-          small = omega (arith, ready .small);
-          core-fits = omega (arith, ready .core-room);
-          core-small = omega (arith, ready .core-small);
-          few = omega (arith, ready .few);
-          hands = hands;
-        }
+  pub ready-roomy : Roomy items work core node w r
+  unfolding workNeed coreNeed variableNeed
+  ready-roomy =
+      record {
+        placed = placed;
+        fits = omega (arith, ready .room);
+        small = omega (arith, ready .small);
+        core-fits = omega (arith, ready .core-room);
+        core-small = omega (arith, ready .core-small);
+        few = omega (arith, ready .few);
+      }
 
-    pub ready-use : UseRoom items work macros marks fuel node w r
-    unfolding workNeed macroNeed
-    ready-use =
-        let some : 1 ≤ size (treeAt items work node w) = size-positive (treeAt items work node w) in
-        record {
-          placed = placed;
-          fuelled = ready .fuelled;
-          spent = ready .spent;
-          stepped = ready .stepped;
-          items-below = ready .items-below;
-          fits = omega (arith, ready .room);
-          small = omega (arith, ready .small);
-          counted = omega (arith, ready .macro-room);
-          macros-are = record { below = ready .macros-are .below; proper = ready .macros-are .proper; sound = ready .macros-are .sound };
-          hands = hands;
-        }
+  pub ready-use : UseRoom items work macros fuel node w r
+  unfolding workNeed macroNeed
+  ready-use =
+      let some : 1 ≤ size (treeAt items work node w) = size-positive (treeAt items work node w) in
+      record {
+        placed = placed;
+        fuelled = ready .fuelled;
+        spent = ready .spent;
+        stepped = ready .stepped;
+        items-below = ready .items-below;
+        fits = omega (arith, ready .room);
+        small = omega (arith, ready .small);
+        counted = omega (arith, ready .macro-room);
+        macros-are = record { below = ready .macros-are .below; proper = ready .macros-are .proper; sound = ready .macros-are .sound };
+      }
 
-    pub ready-macros : MacroRoom items work macros marks node w r
-    unfolding workNeed macroNeed
-    ready-macros =
-        record {
-          placed = placed;
-          fits = omega (arith, ready .room);
-          small = omega (arith, ready .small);
-          slots = omega (arith, ready .macro-room);
-          few = omega (arith, ready .macros-few);
-          below = ready .macros-are .below;
-          hands = hands;
-        }
+  pub ready-macros : MacroRoom items work macros node w r
+  unfolding workNeed macroNeed
+  ready-macros =
+      record {
+        placed = placed;
+        fits = omega (arith, ready .room);
+        small = omega (arith, ready .small);
+        slots = omega (arith, ready .macro-room);
+        few = omega (arith, ready .macros-few);
+        below = ready .macros-are .below;
+      }

@@ -2,14 +2,14 @@
 use mathlib.Core.Path.{_≡_}
 use mathlib.Core.Bool.{true, false}
 use mathlib.Core.List.{List, [], _∷_}
-use Prim.Native.Nat.{ℕ, _+_, _*_, _≤_, _<_}
+use Prim.Native.Nat.{ℕ, _+_, _*_, _≤_}
 use lib.ListN.{length, take}
 use Rattle.recipe.specs.Name.{variable, Name, distinct}
 use Rattle.recipe.specs.Tree.{Tree, size, strip, isListOf, element, bindAll}
 use Rattle.core_term.specs.Term.{Term, datumC}
 use Rattle.expansion.specs.Computation.{State}
 use Rattle.expansion.specs.Forms.{isLambda, formals}
-use Rattle.arena.specs.Arena.{treeAt, markLimit}
+use Rattle.arena.specs.Arena.{treeAt}
 use Rattle.turns.specs.declared.answers.Reached.{Reached}
 use Rattle.turns.specs.declared.answers.Ended.{Ended}
 use Rattle.turns.specs.declared.answers.Turn.{Turn}
@@ -19,14 +19,13 @@ use Rattle.turns.specs.Memory.{itemRate, numberMost, Put, Moved, Proper,
 use Rattle.turns.specs.Leaves.{Refuses, Leaf}
 
 -- what is at hand, and room for it
-pub record Roomy (items work core marks : List ℕ) (node w : ℕ) (r : Reached) : Type 0 where
+pub record Roomy (items work core : List ℕ) (node w : ℕ) (r : Reached) : Type 0 where
   pub placed : Placed items work (r .top) node w
   pub fits : r .top + itemRate * size (treeAt items work node w) ≤ length work
   pub small : r .top + itemRate * size (treeAt items work node w) ≤ numberMost
   pub core-fits : r .at + 2 * size (treeAt items work node w) ≤ length core
   pub core-small : r .at + 2 * size (treeAt items work node w) ≤ numberMost
   pub few : r .variables + size (treeAt items work node w) ≤ numberMost
-  pub hands : 3 * markLimit < length marks
 
 -- ---- quote
 

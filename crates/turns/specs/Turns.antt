@@ -1,8 +1,7 @@
 -- How the code's answers and tables meet the definition's ends: of an expression, of operands, and of one turn.
 use mathlib.Core.Path.{_≡_}
 use mathlib.Core.List.{List}
-use Prim.Native.Nat.{ℕ, _+_, _*_, _-_, _≤_, _<_}
-use lib.ListN.{length}
+use Prim.Native.Nat.{ℕ, _+_, _-_, _≤_, _<_}
 use Rattle.words.specs.Limits.{macrosMost}
 use Rattle.recipe.specs.Name.{Name}
 use Rattle.recipe.specs.Tree.{Tree, size}
@@ -13,7 +12,7 @@ use Rattle.expansion.specs.Lookup.{unboundMeaning}
 use Rattle.expansion.specs.Computation.{State, M}
 use Rattle.expansion.specs.Forms.{expandTree, expandAll, expand}
 use Rattle.expansion.specs.Run.{operationNumbers}
-use Rattle.arena.specs.Arena.{treeAt, markLimit}
+use Rattle.arena.specs.Arena.{treeAt}
 use Rattle.arena.specs.Names.{unboundIn}
 use Rattle.turns.specs.declared.answers.Reached.{Reached}
 use Rattle.turns.specs.declared.answers.Ended.{Ended}
@@ -27,10 +26,9 @@ use Rattle.turns.specs.Memory.{Tables, stateAt, Placed, Kept, Written}
 unfoldable pub operationsOf : List ℕ → List ℕ
 operationsOf items = operationNumbers (treeOf items)
 
--- what is lent besides: the places of the operations, and a table for marks in hand
-pub record Lent (items operations marks : List ℕ) : Type 0 where
+-- what is lent besides: the places of the operations
+pub record Lent (items operations : List ℕ) : Type 0 where
   pub places : (n : ℕ) → unboundIn operations n ≡ unboundMeaning (operationsOf items) n
-  pub hands : 3 * markLimit < length marks
 
 -- ---- an end and the answer
 

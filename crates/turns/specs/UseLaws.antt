@@ -114,7 +114,7 @@ within limit used (some x) = within-rule limit (transcribe (x .pattern) used [] 
 
 -- ---- on the way
 
-module _ (items work macros marks : List ℕ) (fuel node w n : ℕ) (r : Reached) (room : UseRoom items work macros marks fuel node w r) where
+module _ (items work macros : List ℕ) (fuel node w n : ℕ) (r : Reached) (room : UseRoom items work macros fuel node w r) where
   abbrev tree : Tree
   tree = treeAt items work node w
 
@@ -144,8 +144,8 @@ module _ (items work macros marks : List ℕ) (fuel node w n : ℕ) (r : Reached
         tree-mark items work mid (r .top) used operands operands-low (wrapped .kept) (r .steps + 1) w wrapped
         ∙ ap (mark (r .steps + 1)) (operands-are .is items w) ∙ tail-mark (r .steps + 1) tree ∙ ap (λ (m : ℕ). tail (mark m tree)) e
 
-    pub use-stepping : (marks′ : List ℕ) → length marks′ ≡ length marks → Stepping items mid marks′ used rules operands used (fuel - r .sum)
-    use-stepping marks′ e =
+    pub use-stepping : Stepping items mid used rules operands used (fuel - r .sum)
+    use-stepping =
         record {
           sound = rw rules-same (each-getD n [] (room .macros-are .sound) noneOf);
           rules-below = omega (arith, rules-low, wrapped .end);
@@ -153,7 +153,6 @@ module _ (items work macros marks : List ℕ) (fuel node w n : ℕ) (r : Reached
           wrap-below = omega arith;
           items-below = omega (arith, room .items-below, wrapped .end);
           room = record { fits = omega (arith, room .fits, wrapped .end); small = omega (arith, room .small, wrapped .end) };
-          marks-room = omega (arith, room .hands);
         }
 
     module _ (last : List ℕ) (a : Applied) (stepped-is : Stepped items mid last used rules operands used (fuel - r .sum) a) where

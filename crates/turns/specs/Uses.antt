@@ -2,13 +2,13 @@
 use mathlib.Core.Path.{_≡_}
 use mathlib.Core.Bool.{cond}
 use mathlib.Core.List.{List, []}
-use Prim.Native.Nat.{ℕ, suc, _+_, _*_, _-_, _≤_, _<_}
+use Prim.Native.Nat.{ℕ, suc, _+_, _*_, _-_, _≤_}
 use lib.Dec.{ltb}
 use lib.ListN.{length, getD, take}
 use Rattle.recipe.specs.Tree.{Tree, size, tail, mark, produce}
 use Rattle.expansion.specs.Rules.{Rule}
 use Rattle.expansion.specs.Match.{firstFit}
-use Rattle.arena.specs.Arena.{treeAt, markLimit}
+use Rattle.arena.specs.Arena.{treeAt}
 use Rattle.steps.specs.Apply.{Outcome, refused, result, stepOf}
 use Rattle.turns.specs.declared.answers.Reached.{Reached}
 use Rattle.turns.specs.declared.answers.Ended.{Ended}
@@ -29,7 +29,7 @@ usedOf t r = tail (mark (suc (r .steps)) t)
 unfoldable pub outcomeOf : (rules : List (List Rule)) (n fuel : ℕ) → Tree → Reached → Outcome
 outcomeOf rules n fuel t r = stepOf (fuel - r .sum) (usedOf t r) (firstFit (getD rules n []) (usedOf t r) .1)
 
-pub record UseRoom (items work macros marks : List ℕ) (fuel node w : ℕ) (r : Reached) : Type 0 where
+pub record UseRoom (items work macros : List ℕ) (fuel node w : ℕ) (r : Reached) : Type 0 where
   pub placed : Placed items work (r .top) node w
   pub fuelled : fuel ≤ 8192
   pub spent : r .sum ≤ fuel
@@ -39,7 +39,6 @@ pub record UseRoom (items work macros marks : List ℕ) (fuel node w : ℕ) (r :
   pub small : r .top + 6 + 6 * (fuel - r .sum) ≤ numberMost
   pub counted : r .macros ≤ length macros
   pub macros-are : Macros items r (tables work [] macros)
-  pub hands : 3 * markLimit < length marks
 
 -- a step that costs n, whose cells end at `top`
 unfoldable pub stepped : (top n : ℕ) → Reached → Reached

@@ -59,18 +59,17 @@ pub fn lambda_body(
     items: &[u32],
     work: &mut [u32],
     core: &mut [u32],
-    marks: &mut [u32],
     node: u32,
     wrap: u32,
     reached: Reached,
 ) -> Turn
-    requires { ⌜ (Roomy (now items) (now work) (now core) (now marks) node wrap reached) × (isLambda (treeAt (now items) (now work) node wrap) ≡ true) ⌝ }
+    requires { ⌜ (Roomy (now items) (now work) (now core) node wrap reached) × (isLambda (treeAt (now items) (now work) node wrap) ≡ true) ⌝ }
     ensures { λ r. ⌜ BoundLeft (treeAt (now (items .entry)) (now (work .entry)) node wrap) (now (items .entry)) reached (now (work .entry)) (now (work .exit)) (now (core .entry)) (now (core .exit)) r ⌝ }
 {
     let first = reached.variables;
     let count = lists::count(work, lists::element(work, node, 1));
     let body = lists::element(work, node, 2);
-    let scope = binders::bind_formals(items, work, marks, node, wrap, first, reached.top);
+    let scope = binders::bind_formals(items, work, node, wrap, first, reached.top);
     let at = output::put_three(core, reached.at, 7, first, count);
     Turn::Again(
         body,
@@ -91,19 +90,18 @@ pub fn lambda(
     items: &[u32],
     work: &mut [u32],
     core: &mut [u32],
-    marks: &mut [u32],
     node: u32,
     wrap: u32,
     reached: Reached,
 ) -> Turn
-    requires { ⌜ Roomy (now items) (now work) (now core) (now marks) node wrap reached ⌝ }
+    requires { ⌜ Roomy (now items) (now work) (now core) node wrap reached ⌝ }
     ensures { λ r. ⌜ LambdaLeft (treeAt (now (items .entry)) (now (work .entry)) node wrap) (now (items .entry)) reached (now (work .entry)) (now (work .exit)) (now (core .entry)) (now (core .exit)) r ⌝ }
 {
     if !shapes::is_lambda(items, work, node) {
         return Turn::Over(leaf::refuse(13, reached));
     }
-    if !binders::formals_distinct(items, work, marks, node, wrap) {
+    if !binders::formals_distinct(items, work, node, wrap) {
         return Turn::Over(leaf::refuse(14, reached));
     }
-    lambda_body(items, work, core, marks, node, wrap, reached)
+    lambda_body(items, work, core, node, wrap, reached)
 }

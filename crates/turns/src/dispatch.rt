@@ -25,14 +25,13 @@ pub fn form(
     work: &mut [u32],
     core: &mut [u32],
     known: &mut [u32],
-    marks: &mut [u32],
     k: u32,
     node: u32,
     tail: u32,
     wrap: u32,
     reached: Reached,
 ) -> Turn
-    requires { ⌜ (FormHead (now items) (now work) node tail wrap k) × (FormRoom (now items) (now work) (now core) (now known) (now marks) node wrap reached) ⌝ }
+    requires { ⌜ (FormHead (now items) (now work) node tail wrap k) × (FormRoom (now items) (now work) (now core) (now known) node wrap reached) ⌝ }
     ensures { λ r. ⌜ Turns (now (items .entry)) (treeAt (now (items .entry)) (now (work .entry)) node wrap) reached (tables (now (work .entry)) (now (core .entry)) (now (known .entry))) (tables (now (work .exit)) (now (core .exit)) (now (known .exit))) r ⌝ }
 {
     if k == 0 {
@@ -42,13 +41,13 @@ pub fn form(
         return base_forms::condition(work, core, node, tail, wrap, reached);
     }
     if k == 2 {
-        return base_forms::lambda(items, work, core, marks, node, wrap, reached);
+        return base_forms::lambda(items, work, core, node, wrap, reached);
     }
     if k == 3 {
-        return macros::let_syntax(items, work, known, marks, node, wrap, false, reached);
+        return macros::let_syntax(items, work, known, node, wrap, false, reached);
     }
     if k == 4 {
-        return macros::let_syntax(items, work, known, marks, node, wrap, true, reached);
+        return macros::let_syntax(items, work, known, node, wrap, true, reached);
     }
     Turn::Over(leaf::refuse(12, reached))
 }
@@ -60,7 +59,6 @@ pub fn named(
     core: &mut [u32],
     known: &mut [u32],
     operations: &[u32],
-    marks: &mut [u32],
     fuel: u32,
     node: u32,
     head: u32,
@@ -68,10 +66,10 @@ pub fn named(
     wrap: u32,
     reached: Reached,
 ) -> Turn
-    requires { ⌜ (Lent (now items) (now operations) (now marks)) × (Placed (now items) (now work) (reached .top) node wrap) × (Ready (now items) fuel (size (treeAt (now items) (now work) node wrap)) reached (tables (now work) (now core) (now known))) × (Headed (now items) (now work) node tail wrap (nameAt (now items) (now work) head wrap)) ⌝ }
+    requires { ⌜ (Lent (now items) (now operations)) × (Placed (now items) (now work) (reached .top) node wrap) × (Ready (now items) fuel (size (treeAt (now items) (now work) node wrap)) reached (tables (now work) (now core) (now known))) × (Headed (now items) (now work) node tail wrap (nameAt (now items) (now work) head wrap)) ⌝ }
     ensures { λ r. ⌜ Turned (now (items .entry)) fuel (treeAt (now (items .entry)) (now (work .entry)) node wrap) reached (tables (now (work .entry)) (now (core .entry)) (now (known .entry))) (tables (now (work .exit)) (now (core .exit)) (now (known .exit))) r ⌝ }
 {
-    let Looked::Finds(found) = leaf::look(items, work, operations, marks, head, wrap) else {
+    let Looked::Finds(found) = leaf::look(items, work, operations, head, wrap) else {
         return Turn::Over(leaf::refuse(11, reached));
     };
     match found {
@@ -89,19 +87,8 @@ pub fn named(
                 output::put_application(work, core, tail, 1, p, reached),
             )
         }
-        Known::Macro(n) => uses::macro_use(items, work, known, marks, fuel, node, wrap, n, reached),
-        Known::Form(k) => form(
-            items,
-            work,
-            core,
-            known,
-            marks,
-            k,
-            node,
-            tail,
-            wrap,
-            reached,
-        ),
+        Known::Macro(n) => uses::macro_use(items, work, known, fuel, node, wrap, n, reached),
+        Known::Form(k) => form(items, work, core, known, k, node, tail, wrap, reached),
     }
 }
 
@@ -128,7 +115,6 @@ pub fn list(
     core: &mut [u32],
     known: &mut [u32],
     operations: &[u32],
-    marks: &mut [u32],
     fuel: u32,
     node: u32,
     head: u32,
@@ -136,7 +122,7 @@ pub fn list(
     wrap: u32,
     reached: Reached,
 ) -> Turn
-    requires { ⌜ (Lent (now items) (now operations) (now marks)) × (Placed (now items) (now work) (reached .top) node wrap) × (Ready (now items) fuel (size (treeAt (now items) (now work) node wrap)) reached (tables (now work) (now core) (now known))) × (OpensPair (now work) node head tail) ⌝ }
+    requires { ⌜ (Lent (now items) (now operations)) × (Placed (now items) (now work) (reached .top) node wrap) × (Ready (now items) fuel (size (treeAt (now items) (now work) node wrap)) reached (tables (now work) (now core) (now known))) × (OpensPair (now work) node head tail) ⌝ }
     ensures { λ r. ⌜ Turned (now (items .entry)) fuel (treeAt (now (items .entry)) (now (work .entry)) node wrap) reached (tables (now (work .entry)) (now (core .entry)) (now (known .entry))) (tables (now (work .exit)) (now (core .exit)) (now (known .exit))) r ⌝ }
 {
     if nodes::is_name(work, head) {
@@ -146,7 +132,6 @@ pub fn list(
             core,
             known,
             operations,
-            marks,
             fuel,
             node,
             head,
@@ -165,13 +150,12 @@ pub fn turn(
     core: &mut [u32],
     known: &mut [u32],
     operations: &[u32],
-    marks: &mut [u32],
     fuel: u32,
     node: u32,
     wrap: u32,
     reached: Reached,
 ) -> Turn
-    requires { ⌜ (Lent (now items) (now operations) (now marks)) × (Placed (now items) (now work) (reached .top) node wrap) × (Ready (now items) fuel (size (treeAt (now items) (now work) node wrap)) reached (tables (now work) (now core) (now known))) ⌝ }
+    requires { ⌜ (Lent (now items) (now operations)) × (Placed (now items) (now work) (reached .top) node wrap) × (Ready (now items) fuel (size (treeAt (now items) (now work) node wrap)) reached (tables (now work) (now core) (now known))) ⌝ }
     ensures { λ r. ⌜ Turned (now (items .entry)) fuel (treeAt (now (items .entry)) (now (work .entry)) node wrap) reached (tables (now (work .entry)) (now (core .entry)) (now (known .entry))) (tables (now (work .exit)) (now (core .exit)) (now (known .exit))) r ⌝ }
 {
     match nodes::opened(work, node) {
@@ -181,7 +165,6 @@ pub fn turn(
             work,
             core,
             operations,
-            marks,
             node,
             wrap,
             reached,
@@ -192,7 +175,6 @@ pub fn turn(
             core,
             known,
             operations,
-            marks,
             fuel,
             node,
             head,

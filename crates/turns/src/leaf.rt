@@ -26,18 +26,11 @@ pub enum Looked {
     Nothing,
 }
 
-pub fn look(
-    items: &[u32],
-    work: &[u32],
-    operations: &[u32],
-    marks: &mut [u32],
-    node: u32,
-    wrap: u32,
-) -> Looked
-    requires { ⌜ Lent (now items) (now operations) (now marks) ⌝ }
+pub fn look(items: &[u32], work: &[u32], operations: &[u32], node: u32, wrap: u32) -> Looked
+    requires { ⌜ Lent (now items) (now operations) ⌝ }
     ensures { λ r. ⌜ Looks (lookup (operationsOf (now (items .entry))) (nameAt (now (items .entry)) (now (work .entry)) node wrap)) r ⌝ }
 {
-    let found = names::lookup(items, work, operations, marks, node, wrap);
+    let found = names::lookup(items, work, operations, node, wrap);
     match found {
         Meaning::Variable(v) => Looked::Finds(Known::Variable(v)),
         Meaning::Macro(m) => Looked::Finds(Known::Macro(m)),
@@ -72,15 +65,14 @@ pub fn bare_name(
     work: &[u32],
     core: &mut [u32],
     operations: &[u32],
-    marks: &mut [u32],
     node: u32,
     wrap: u32,
     reached: Reached,
 ) -> Ended
-    requires { ⌜ (Lent (now items) (now operations) (now marks)) × (CoreRoom (now core) (reached .at) 2) ⌝ }
+    requires { ⌜ (Lent (now items) (now operations)) × (CoreRoom (now core) (reached .at) 2) ⌝ }
     ensures { λ r. ⌜ Leaf (nameEnd (lookup (operationsOf (now (items .entry))) (nameAt (now (items .entry)) (now (work .entry)) node wrap))) 2 reached (now (core .entry)) (now (core .exit)) r ⌝ }
 {
-    let Looked::Finds(found) = look(items, work, operations, marks, node, wrap) else {
+    let Looked::Finds(found) = look(items, work, operations, node, wrap) else {
         return refuse(11, reached);
     };
     match found {

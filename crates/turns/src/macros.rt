@@ -30,16 +30,15 @@ pub fn one_macro(
     items: &[u32],
     work: &mut [u32],
     macros: &mut [u32],
-    marks: &mut [u32],
     form: u32,
     w: u32,
     count: u32,
     top: u32,
 ) -> Read
-    requires { ⌜ OneAsk (now items) (now work) (now macros) (now marks) form w count top ⌝ }
+    requires { ⌜ OneAsk (now items) (now work) (now macros) form w count top ⌝ }
     ensures { λ r. ⌜ OneLeft (treeAt (now (items .entry)) (now (work .entry)) form w) (now (items .entry)) (now (work .entry)) (now (work .exit)) (now (macros .entry)) (now (macros .exit)) count top r ⌝ }
 {
-    let Built::Good(at, upper) = rules::rules(items, work, marks, form, w, top) else {
+    let Built::Good(at, upper) = rules::rules(items, work, form, w, top) else {
         return Read::Bad;
     };
     macros[count as usize] = at;
@@ -51,13 +50,12 @@ pub fn all_macros(
     items: &[u32],
     work: &mut [u32],
     macros: &mut [u32],
-    marks: &mut [u32],
     list: u32,
     w: u32,
     count: u32,
     top: u32,
 ) -> Read
-    requires { ⌜ AllAsk (now items) (now work) (now macros) (now marks) list w count top ⌝ }
+    requires { ⌜ AllAsk (now items) (now work) (now macros) list w count top ⌝ }
     ensures { λ r. ⌜ AllLeft (treeAt (now (items .entry)) (now (work .entry)) list w) (now (items .entry)) (now (work .entry)) (now (work .exit)) (now (macros .entry)) (now (macros .exit)) count top r ⌝ }
 {
     let mut at = list;
@@ -67,7 +65,7 @@ pub fn all_macros(
         let entry = cells::reference(work, at, 2);
         let form = lists::element(work, entry, 1);
         at = cells::reference(work, at, 1);
-        let Read::Good(upper) = one_macro(items, work, macros, marks, form, w, n, end) else {
+        let Read::Good(upper) = one_macro(items, work, macros, form, w, n, end) else {
             return Read::Bad;
         };
         end = upper;
@@ -91,22 +89,21 @@ pub fn macros_body(
     items: &[u32],
     work: &mut [u32],
     macros: &mut [u32],
-    marks: &mut [u32],
     node: u32,
     wrap: u32,
     inside: bool,
     reached: Reached,
 ) -> Turn
-    requires { ⌜ (MacroRoom (now items) (now work) (now macros) (now marks) node wrap reached) × (isMacros 16 (treeAt (now items) (now work) node wrap) ≡ true) ⌝ }
+    requires { ⌜ (MacroRoom (now items) (now work) (now macros) node wrap reached) × (isMacros 16 (treeAt (now items) (now work) node wrap) ≡ true) ⌝ }
     ensures { λ r. ⌜ KnownLeft (treeAt (now (items .entry)) (now (work .entry)) node wrap) inside (now (items .entry)) reached (now (work .entry)) (now (work .exit)) (now (macros .entry)) (now (macros .exit)) r ⌝ }
 {
     let first = reached.macros;
     let list = lists::element(work, node, 1);
     let count = lists::count(work, list);
     let body = lists::element(work, node, 2);
-    let scope = binders::bind_macros(items, work, marks, node, wrap, first, reached.top);
+    let scope = binders::bind_macros(items, work, node, wrap, first, reached.top);
     let w = rules_wrap(inside, scope.wrap, wrap);
-    let Read::Good(top) = all_macros(items, work, macros, marks, list, w, first, scope.top) else {
+    let Read::Good(top) = all_macros(items, work, macros, list, w, first, scope.top) else {
         return Turn::Over(leaf::refuse(15, reached));
     };
     Turn::Again(
@@ -128,20 +125,19 @@ pub fn let_syntax(
     items: &[u32],
     work: &mut [u32],
     macros: &mut [u32],
-    marks: &mut [u32],
     node: u32,
     wrap: u32,
     inside: bool,
     reached: Reached,
 ) -> Turn
-    requires { ⌜ MacroRoom (now items) (now work) (now macros) (now marks) node wrap reached ⌝ }
+    requires { ⌜ MacroRoom (now items) (now work) (now macros) node wrap reached ⌝ }
     ensures { λ r. ⌜ MacrosLeft (treeAt (now (items .entry)) (now (work .entry)) node wrap) inside (now (items .entry)) reached (now (work .entry)) (now (work .exit)) (now (macros .entry)) (now (macros .exit)) r ⌝ }
 {
     if !shapes::is_macros(items, work, node, MACROS_MOST) {
         return Turn::Over(leaf::refuse(13, reached));
     }
-    if !binders::keywords_distinct(items, work, marks, node, wrap) {
+    if !binders::keywords_distinct(items, work, node, wrap) {
         return Turn::Over(leaf::refuse(14, reached));
     }
-    macros_body(items, work, macros, marks, node, wrap, inside, reached)
+    macros_body(items, work, macros, node, wrap, inside, reached)
 }

@@ -30,14 +30,13 @@ pub fn macro_use(
     items: &[u32],
     work: &mut [u32],
     macros: &[u32],
-    marks: &mut [u32],
     fuel: u32,
     node: u32,
     wrap: u32,
     number: u32,
     reached: Reached,
 ) -> Turn
-    requires { ⌜ UseRoom (now items) (now work) (now macros) (now marks) fuel node wrap reached ⌝ }
+    requires { ⌜ UseRoom (now items) (now work) (now macros) fuel node wrap reached ⌝ }
     ensures { λ r. ⌜ UseLeft (outcomeOf (macrosAt (now (items .entry)) (now (work .entry)) (now (macros .entry)) (reached .macros)) number fuel (treeAt (now (items .entry)) (now (work .entry)) node wrap) reached) (now (items .entry)) fuel reached (now (work .entry)) (now (work .exit)) r ⌝ }
 {
     let m = reached.steps + 1;
@@ -45,7 +44,7 @@ pub fn macro_use(
     let rules = rules_of(macros, reached.macros, number);
     let operands = lists::rest(work, node);
     let used = cells::put_mark(work, reached.top, m, wrap);
-    match apply::apply(items, work, marks, used, rules, operands, used, limit) {
+    match apply::apply(items, work, used, rules, operands, used, limit) {
         Applied::NoRule => Turn::Over(leaf::refuse(16, reached)),
         Applied::Differ => Turn::Over(leaf::refuse(17, reached)),
         Applied::Costly => Turn::Over(leaf::refuse(18, reached)),

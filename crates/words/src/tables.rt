@@ -3,10 +3,10 @@ ghost use mathlib.Core.Path.{_≡_};
 ghost use lib.ListN.{length, replicate};
 ghost use Rattle.words.specs.Tables.{allZero};
 
-// A chunk: one KiB of either table.
-const CHUNK_WORDS: usize = 256;
+// A chunk: a quarter of a KiB of either table.
+const CHUNK_WORDS: usize = 64;
 
-const CHUNK_BYTES: usize = 1024;
+const CHUNK_BYTES: usize = 256;
 
 // No early exit: the loop is vectorised.
 fn words_are_zero(words: &[u32]) -> bool

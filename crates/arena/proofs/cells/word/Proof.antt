@@ -1,20 +1,17 @@
--- `cells::word` reads the word that the arena means.
+-- `cells::word` reads the word that the arena means. A difference that wraps is past every table.
 use borrow.Author.Needs.{needs}
 use Rattle.arena.proofs.cells.word.Statement.{statement}
 use Rattle.arena.proofs.cells.word.Tie as tie
 use native.Mathlib.Omega.{arith}
-use mathlib.Core.Path.{sym, _∙_}
-use Prim.Native.Nat.{_≤_, _-_}
-use lib.ListN.{length, List·getD-eq-default}
-use Rattle.arena.specs.ArenaLaws.{wordAt-in, wordAt-out}
+use mathlib.Core.Path.{_≡_, sym, _∙_, ap}
+use Prim.Native.Nat.{ℕ, _≤_, _-_}
+use lib.Dec.{ltb}
+use borrow.Author.Tests.{ltb-true, ltb-false}
+use lib.ListN.{length, getD, List·getD-eq-default}
+use Rattle.arena.specs.ArenaLaws.{cases, wordAt-in, wordAt-out}
 
-returns : tie.Need-returns
-returns c =
-    let args = c .before .args in
-    sym (wordAt-out (args .work .now) (args .at) (args .k) (c .if1 .taken))
-
-cast-i : tie.Need-cast-i
-cast-i c = search needs
+wrapping-sub-usize-requires : tie.Need-wrapping-sub-usize-requires
+wrapping-sub-usize-requires c κs = search needs
 
 mul-result : tie.Need-mul-result
 mul-result c = search needs
@@ -22,18 +19,26 @@ mul-result c = search needs
 shared-slice-read-result : tie.Need-shared-slice-read-result
 shared-slice-read-result c = search needs
 
+returns : tie.Need-returns
+returns c =
+    let a = c .before .before .before .before .args in
+    let wrapped = c .before .before .wrapping-sub-usize in
+    let h : a .k ≤ a .at = omega (arith, wrapped .ensures, c .before .if1 .taken) in
+    let e : wrapped .result ≡ a .at - a .k = omega (arith, wrapped .ensures, c .before .if1 .taken) in
+    ap (λ (j : ℕ). getD (a .work .now) j 0) e ∙ sym (wordAt-in (a .work .now) (a .at) (a .k) h)
+
 returns-2 : tie.Need-returns-2
 returns-2 c =
-    let args = c .before .before .before .args in
-    let h : args .k ≤ args .at = omega arith in sym (wordAt-in (args .work .now) (args .at) (args .k) h)
-
-returns-3 : tie.Need-returns-3
-returns-3 c =
-    let args = c .before .before .args in
-    let h : args .k ≤ args .at = omega arith in
-    let l : length (args .work .now) ≤ args .at - args .k = omega arith in
-    sym (wordAt-in (args .work .now) (args .at) (args .k) h ∙ List·getD-eq-default (args .work .now) 0 l)
+    let a = c .before .before .before .args in
+    let wrapped = c .before .wrapping-sub-usize in
+    sym (cases (ltb (a .at) (a .k))
+    (λ t. wordAt-out (a .work .now) (a .at) (a .k) (ltb-true (a .at) (a .k) t))
+    (λ t.
+    let h : a .k ≤ a .at = ltb-false (a .at) (a .k) t in
+    let l : length (a .work .now) ≤ a .at - a .k = omega (arith, wrapped .ensures, h, c .if1 .left) in
+    wordAt-in (a .work .now) (a .at) (a .k) h ∙ List·getD-eq-default (a .work .now) 0 l))
 
 pub word-spec : {M : Type 1} → statement M
 word-spec =
-    tie.close (tie.spec returns cast-i mul-result shared-slice-read-result returns-2 returns-3)
+    tie.close
+    (tie.spec wrapping-sub-usize-requires mul-result shared-slice-read-result returns returns-2)

@@ -9,41 +9,26 @@ use mathlib.Core.Path.{sym, _∙_}
 binding-of-requires : tie.Need-binding-of-requires
 binding-of-requires c κs = search needs
 
-same-length : tie.Need-same-length
-same-length c =
-    let binding-of = c .before .before .before .binding-of in
-    binding-of .kept .1 .1 .0
-
 returns : tie.Need-returns
 returns c =
-    let a = c .before .before .before .before .before .before .before .before .args in
-    let binding-of = c .before .before .before .binding-of in
+    let a = c .before .before .before .before .args in
+    let binding-of = c .before .binding-of in
     agree-bindings (a .number) (a .binding) (nameAt (a .items .now) (a .work .now) (a .node) (a .w)) _ (binding-of .ensures) (c .if1 .taken)
-
-same-length-2 : tie.Need-same-length-2
-same-length-2 c =
-    let binding-of = c .before .before .before .before .binding-of in
-    binding-of .kept .1 .1 .0
 
 returns-2 : tie.Need-returns-2
 returns-2 c =
-    let a = c .before .before .before .before .before .before .before .before .before .args in
-    let binding-of = c .before .before .before .before .binding-of in
+    let a = c .before .before .before .before .before .args in
+    let binding-of = c .before .before .binding-of in
     let if1 = c .before .if1 in
     agree-bound (a .number) (a .binding) (nameAt (a .items .now) (a .work .now) (a .node) (a .w)) _ (binding-of .ensures) (if1 .left) (c .if2 .taken)
 
 number-of-requires : tie.Need-number-of-requires
 number-of-requires c κs = search needs
 
-same-length-3 : tie.Need-same-length-3
-same-length-3 c =
-    let binding-of = c .before .before .before .before .before .binding-of in
-    binding-of .kept .1 .1 .0
-
 returns-3 : tie.Need-returns-3
 returns-3 c =
-    let a = c .before .before .before .before .before .before .before .before .before .before .args in
-    let binding-of = c .before .before .before .before .before .binding-of in
+    let a = c .before .before .before .before .before .before .args in
+    let binding-of = c .before .before .before .binding-of in
     let if1 = c .before .before .if1 in
     let if2 = c .before .if2 in
     agree-numbers (a .number) (a .binding) (nameAt (a .items .now) (a .work .now) (a .node) (a .w)) _ (binding-of .ensures) (if1 .left) (if2 .left) _
@@ -51,13 +36,4 @@ returns-3 c =
 
 pub agrees-spec : {M : Type 1} → statement M
 agrees-spec =
-    tie.close
-    (tie.spec
-    binding-of-requires
-    same-length
-    returns
-    same-length-2
-    returns-2
-    number-of-requires
-    same-length-3
-    returns-3)
+    tie.close (tie.spec binding-of-requires returns returns-2 number-of-requires returns-3)

@@ -20,7 +20,7 @@ cast-put-binder c = search needs
 
 put-binder-requires : tie.Need-put-binder-requires
 put-binder-requires c κs =
-    let entry = c .before .before .before .before .before .before .before .before .before .before .before .before .before .before in
+    let entry = c .before .before .before .before .before .before .before .before .before .before in
     let a = entry .args in
     let pre = entry .pre in
     let reference = c .before .before .reference in
@@ -29,14 +29,11 @@ put-binder-requires c κs =
 same-length : tie.Need-same-length
 same-length c = search needs
 
-same-length-2 : tie.Need-same-length-2
-same-length-2 c = search needs
-
 returns : tie.Need-returns
 returns c =
-    let a = c .before .before .before .before .before .before .before .before .before .before .before .before .before .before .before .before .before .args in
-    let number-of = c .before .before .before .before .before .before .before .before .before .before .before .before .number-of in
-    let summary-of = c .before .before .before .before .before .before .before .before .before .summary-of in
+    let a = c .before .before .before .before .before .before .before .before .before .before .before .before .before .args in
+    let number-of = c .before .before .before .before .before .before .before .before .before .number-of in
+    let summary-of = c .before .before .before .before .before .before .before .summary-of in
     let reference = c .before .before .before .before .before .reference in
     let put-binder = c .before .before .put-binder in
     binds-name (a .items .now) (a .node) (a .w) (a .key) (a .parent) _ _ _ _ _ (a .work .now) _ (a .top) _
@@ -53,5 +50,4 @@ bind-spec =
     cast-put-binder
     put-binder-requires
     same-length
-    same-length-2
     returns)

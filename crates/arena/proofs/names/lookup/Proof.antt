@@ -15,44 +15,29 @@ number-of-requires c κs = search needs
 unbound-requires : tie.Need-unbound-requires
 unbound-requires c κs = search needs
 
-same-length : tie.Need-same-length
-same-length c =
-    let binding-of = c .before .before .before .before .before .binding-of in
-    binding-of .kept .1 .1 .0
-
 returns : tie.Need-returns
 returns c =
-    let a = c .before .before .before .before .before .before .before .before .before .before .before .args in
-    let binding-of = c .before .before .before .before .before .binding-of in
+    let a = c .before .before .before .before .before .before .before .args in
+    let binding-of = c .before .before .before .binding-of in
     let if1 = c .before .before .if1 in
     let number-of = c .before .number-of in
     let x = nameAt (a .items .now) (a .work .now) (a .node) (a .w) in
     lookup-none (a .operations .now) x _ (binding-of .ensures) (if1 .taken) _ (number-of .ensures ∙ sym (nameAt-number (a .items .now) (a .work .now) (a .node) (a .w))) _ (c .unbound .ensures)
 
-same-length-2 : tie.Need-same-length-2
-same-length-2 c =
-    let binding-of = c .before .before .before .before .binding-of in
-    binding-of .kept .1 .1 .0
-
 returns-2 : tie.Need-returns-2
 returns-2 c =
-    let a = c .before .before .before .before .before .before .before .before .before .before .args in
-    let binding-of = c .before .before .before .before .binding-of in
+    let a = c .before .before .before .before .before .before .args in
+    let binding-of = c .before .before .binding-of in
     let if1 = c .before .if1 in
     lookup-variable (a .operations .now) (nameAt (a .items .now) (a .work .now) (a .node) (a .w)) _ (binding-of .ensures) (if1 .left) (c .if2 .taken)
 
-sub-t14 : tie.Need-sub-t14
-sub-t14 c = search needs
-
-same-length-3 : tie.Need-same-length-3
-same-length-3 c =
-    let binding-of = c .before .before .before .before .binding-of in
-    binding-of .kept .1 .1 .0
+sub-t11 : tie.Need-sub-t11
+sub-t11 c = search needs
 
 returns-3 : tie.Need-returns-3
 returns-3 c =
-    let a = c .before .before .before .before .before .before .before .before .before .before .args in
-    let binding-of = c .before .before .before .before .binding-of in
+    let a = c .before .before .before .before .before .before .args in
+    let binding-of = c .before .before .binding-of in
     let if1 = c .before .if1 in
     lookup-macro (a .operations .now) (nameAt (a .items .now) (a .work .now) (a .node) (a .w)) _ (binding-of .ensures) (if1 .left) (c .if2 .left)
 
@@ -63,10 +48,7 @@ lookup-spec =
     binding-of-requires
     number-of-requires
     unbound-requires
-    same-length
     returns
-    same-length-2
     returns-2
-    sub-t14
-    same-length-3
+    sub-t11
     returns-3)

@@ -7,52 +7,44 @@ use Rattle.expander.specs.StartLaws.{start-fits, start-lent, start-place
 
 lay-out-requires : tie.Need-lay-out-requires
 lay-out-requires c κs =
-    let entry = c .before .before .before .before .before .before .before in
+    let entry = c .before .before .before .before .before .before in
     let a = entry .args in
     let l = entry .pre .0 in
     (l .begun .layout, start-fits (a .items .now) (a .work .now) (a .core .now) (a .operations .now) (a .fuel) l)
 
 element-requires : tie.Need-element-requires
-element-requires c κs =
-    search needs
+element-requires c κs = search needs
 
 expression-requires : tie.Need-expression-requires
 unfolding atStart
 expression-requires c κs =
-    let entry = c .before .before .before .before .before .before .before .before .before .before .before .before .before .before .before .before in
+    let entry = c .before .before .before .before .before .before .before .before .before .before .before .before .before .before in
     let a = entry .args in
     let l = entry .pre .0 in
-    let laid = c .before .before .before .before .before .before .before .before .lay-out in
-    let second = c .before .before .before .before .element .ensures in (
-      start-lent (a .items .now) (a .work .now) (a .core .now) (a .operations .now) (a .fuel) l _ (entry .pre .2),
+    let laid = c .before .before .before .before .before .before .before .lay-out in
+    let second = c .before .before .before .element .ensures in (
+      start-lent (a .items .now) (a .work .now) (a .core .now) (a .operations .now) (a .fuel) l,
       start-placed (a .items .now) (a .work .now) (a .core .now) (a .operations .now) (a .fuel) l _ _ _ (laid .ensures) second,
       start-ready (a .items .now) (a .work .now) (a .core .now) (a .operations .now) (a .fuel) l _ _ _ (laid .ensures) second _ (laid .kept .1 .0) (entry .pre .1),
     )
 
 same-length : tie.Need-same-length
-same-length c =
-    search needs
+same-length c = search needs
 
 same-length-2 : tie.Need-same-length-2
-same-length-2 c =
-    search needs
+same-length-2 c = search needs
 
 same-length-3 : tie.Need-same-length-3
-same-length-3 c =
-    search needs
-
-same-length-4 : tie.Need-same-length-4
-same-length-4 c =
-    search needs
+same-length-3 c = search needs
 
 returns : tie.Need-returns
 unfolding atStart
 returns c =
-    let entry = c .before .before .before .before .before .before .before .before .before .before .before .before .before .before .before .before .before .before .before .before .before .before .before .before .before in
+    let entry = c .before .before .before .before .before .before .before .before .before .before .before .before .before .before .before .before .before .before .before .before .before in
     let a = entry .args in
-    let laid = c .before .before .before .before .before .before .before .before .before .before .before .before .before .before .before .before .before .lay-out .ensures in
-    let second = c .before .before .before .before .before .before .before .before .before .before .before .before .before .element .ensures in
-    start-expanded (a .items .now) (a .work .now) (a .core .now) (a .operations .now) (a .fuel) (entry .pre .0) _ _ _ laid second _ _ _ (c .before .before .before .before .before .before .before .before .expression .ensures)
+    let laid = c .before .before .before .before .before .before .before .before .before .before .before .before .before .before .lay-out .ensures in
+    let second = c .before .before .before .before .before .before .before .before .before .before .element .ensures in
+    start-expanded (a .items .now) (a .work .now) (a .core .now) (a .operations .now) (a .fuel) (entry .pre .0) _ _ _ laid second _ _ _ (c .before .before .before .before .before .before .expression .ensures)
 
 pub run-spec : {M : Type 1} → statement M
 run-spec =
@@ -64,5 +56,4 @@ run-spec =
     same-length
     same-length-2
     same-length-3
-    same-length-4
     returns)

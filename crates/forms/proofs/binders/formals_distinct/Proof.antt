@@ -11,25 +11,19 @@ use Rattle.forms.specs.Binders.{AllNames, namesIn}
 use Rattle.forms.specs.ScopeLaws.{lambda-names, formals-are}
 
 element-requires : tie.Need-element-requires
-element-requires c κs =
-    search needs
+element-requires c κs = search needs
 
 are-distinct-requires : tie.Need-are-distinct-requires
 are-distinct-requires c κs =
-    let a = c .before .before .before .before .before .args in
+    let a = c .before .before .before .args in
     let t : Tree = treeAt (a .items .now) (a .work .now) (a .node) (a .w) in
-    (c .before .before .before .before .before .pre .0, subst (AllNames false) (sym (c .before .element .ensures .is (a .items .now) (a .w))) (lambda-names t (c .before .before .before .before .before .pre .1)))
-
-same-length : tie.Need-same-length
-same-length c =
-    c .before .before .are-distinct .kept .1 .1 .0
+    subst (AllNames false) (sym (c .element .ensures .is (a .items .now) (a .w))) (lambda-names t (c .before .before .before .pre .0))
 
 returns : tie.Need-returns
 returns c =
-    let a = c .before .before .before .before .before .before .before .before .args in
+    let a = c .before .before .before .before .args in
     let t : Tree = treeAt (a .items .now) (a .work .now) (a .node) (a .w) in
-    c .before .before .are-distinct .ensures ∙ ap (λ (u : Tree). distinct (namesIn false u)) (c .before .before .before .before .element .ensures .is (a .items .now) (a .w)) ∙ ap distinct (formals-are t (c .before .before .before .before .before .before .before .before .pre .1) (c .before .before .before .before .before .before .before .before .pre .2))
+    c .are-distinct .ensures ∙ ap (λ (u : Tree). distinct (namesIn false u)) (c .before .element .ensures .is (a .items .now) (a .w)) ∙ ap distinct (formals-are t (c .before .before .before .before .pre .0) (c .before .before .before .before .pre .1))
 
 pub formals-distinct-spec : {M : Type 1} → statement M
-formals-distinct-spec =
-    tie.close (tie.spec element-requires are-distinct-requires same-length returns)
+formals-distinct-spec = tie.close (tie.spec element-requires are-distinct-requires returns)

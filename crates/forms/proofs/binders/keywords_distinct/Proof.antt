@@ -11,24 +11,18 @@ use Rattle.forms.specs.Binders.{AllNames, namesIn}
 use Rattle.forms.specs.ScopeLaws.{keywords-are}
 
 element-requires : tie.Need-element-requires
-element-requires c κs =
-    search needs
+element-requires c κs = search needs
 
 are-distinct-requires : tie.Need-are-distinct-requires
 are-distinct-requires c κs =
-    let a = c .before .before .before .before .before .args in
-    (c .before .before .before .before .before .pre .0, subst (AllNames true) (sym (c .before .element .ensures .is (a .items .now) (a .w))) (c .before .before .before .before .before .pre .1))
-
-same-length : tie.Need-same-length
-same-length c =
-    c .before .before .are-distinct .kept .1 .1 .0
+    let a = c .before .before .before .args in
+    subst (AllNames true) (sym (c .element .ensures .is (a .items .now) (a .w))) (c .before .before .before .pre)
 
 returns : tie.Need-returns
 returns c =
-    let a = c .before .before .before .before .before .before .before .before .args in
+    let a = c .before .before .before .before .args in
     let t : Tree = treeAt (a .items .now) (a .work .now) (a .node) (a .w) in
-    c .before .before .are-distinct .ensures ∙ ap (λ (u : Tree). distinct (namesIn true u)) (c .before .before .before .before .element .ensures .is (a .items .now) (a .w)) ∙ ap distinct (keywords-are t)
+    c .are-distinct .ensures ∙ ap (λ (u : Tree). distinct (namesIn true u)) (c .before .element .ensures .is (a .items .now) (a .w)) ∙ ap distinct (keywords-are t)
 
 pub keywords-distinct-spec : {M : Type 1} → statement M
-keywords-distinct-spec =
-    tie.close (tie.spec element-requires are-distinct-requires same-length returns)
+keywords-distinct-spec = tie.close (tie.spec element-requires are-distinct-requires returns)

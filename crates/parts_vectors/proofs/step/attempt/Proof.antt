@@ -2,11 +2,6 @@
 use borrow.Author.Needs.{needs}
 use Rattle.parts_vectors.proofs.step.attempt.Statement.{statement}
 use Rattle.parts_vectors.proofs.step.attempt.Tie as tie
-use Rattle.parts_vectors.proofs.step.attempt.Reads as reads
-use Rattle.parts_vectors.proofs.step.attempt.Lts as lts
-use Rattle.arena.proofs.item_nodes.lay_out.Reads as lay-out-reads
-use Rattle.layout.proofs.is_layout.Reads as is-layout-reads
-use Rattle.parts_vectors.proofs.step.first_step.Reads as first-step-reads
 use native.Mathlib.Omega.{arith}
 use mathlib.Core.Path.{_≡_, sym, _∙_}
 use mathlib.Core.Bool.{true}
@@ -14,44 +9,30 @@ use Rattle.recipe.specs.Table.{isLayout}
 use Rattle.arena.specs.LayOut.{whole, most}
 
 returns : tie.Need-returns
-returns c =
-    search needs
+returns c = search needs
 
 returns-2 : tie.Need-returns-2
-returns-2 c =
-    search needs
-
-returns-3 : tie.Need-returns-3
-returns-3 c =
-    search needs
+returns-2 c = search needs
 
 is-layout-requires : tie.Need-is-layout-requires
-is-layout-requires c κs =
-    search needs
+is-layout-requires c κs = search needs
 
 lay-out-requires : tie.Need-lay-out-requires
 lay-out-requires c κs =
-    let l : isLayout (c .before .before .before .before .before .before .before .before .before .args .items .now) ≡ true = sym (c .before .before .is-layout .ensures) ∙ c .before .if4 .taken in (l, omega (arith, c .before .before .before .before .before .if1 .left, whole (c .before .before .before .before .before .before .before .before .before .args .items .now) l, most (c .before .before .before .before .before .before .before .before .before .args .items .now) l))
+    let l : isLayout (c .before .before .before .before .before .before .before .args .items .now) ≡ true = sym (c .before .before .is-layout .ensures) ∙ c .before .if3 .taken in (l, omega (arith, c .before .before .before .before .if1 .left, whole (c .before .before .before .before .before .before .before .args .items .now) l, most (c .before .before .before .before .before .before .before .args .items .now) l))
 
 first-step-requires : tie.Need-first-step-requires
 first-step-requires c κs =
-    record { layout = sym (c .before .before .before .before .before .before .before .is-layout .ensures) ∙ c .before .before .before .before .before .before .if4 .taken; laid = c .before .before .before .before .lay-out .ensures; room = omega (arith, c .before .before .before .before .before .before .before .before .before .before .if1 .left, c .before .before .before .before .lay-out .kept .1 .0); hands = omega (arith, c .before .before .before .before .before .before .before .before .before .if2 .left); fuelled = omega (arith, c .before .before .before .before .before .before .before .before .if3 .left) }
+    record { layout = sym (c .before .before .before .before .before .before .is-layout .ensures) ∙ c .before .before .before .before .before .if3 .taken; laid = c .before .before .before .lay-out .ensures; room = omega (arith, c .before .before .before .before .before .before .before .before .if1 .left, c .before .before .before .lay-out .kept .1 .0); fuelled = omega (arith, c .before .before .before .before .before .before .before .if2 .left) }
 
 same-length : tie.Need-same-length
-same-length c =
-    search needs
+same-length c = search needs
 
-same-length-2 : tie.Need-same-length-2
-same-length-2 c =
-    search needs
+returns-3 : tie.Need-returns-3
+returns-3 c = search needs
 
 returns-4 : tie.Need-returns-4
-returns-4 c =
-    search needs
-
-returns-5 : tie.Need-returns-5
-returns-5 c =
-    search needs
+returns-4 c = search needs
 
 pub attempt-spec : {M : Type 1} → statement M
 attempt-spec =
@@ -59,11 +40,9 @@ attempt-spec =
     (tie.spec
     returns
     returns-2
-    returns-3
     is-layout-requires
     lay-out-requires
     first-step-requires
     same-length
-    same-length-2
-    returns-4
-    returns-5)
+    returns-3
+    returns-4)

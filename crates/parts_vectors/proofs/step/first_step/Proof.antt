@@ -2,126 +2,82 @@
 use borrow.Author.Needs.{needs}
 use Rattle.parts_vectors.proofs.step.first_step.Statement.{statement}
 use Rattle.parts_vectors.proofs.step.first_step.Tie as tie
-use Rattle.parts_vectors.proofs.step.first_step.Reads as reads
-use Rattle.parts_vectors.proofs.step.first_step.Lts as lts
-use Rattle.arena.proofs.cells.put_mark.Reads as put-mark-reads
-use Rattle.rule_cells.proofs.rules.rules.Reads as rules-reads
-use Rattle.steps.proofs.apply.apply.Reads as apply-reads
-use Rattle.arena.proofs.lists.element.Reads as element-reads
-use Rattle.arena.proofs.lists.rest.Reads as rest-reads
 use Rattle.parts_vectors.specs.StepLaws.{parse-asks, mark-asks, step-asks}
 
 element-requires : tie.Need-element-requires
-element-requires c κs =
-    search needs
+element-requires c κs = search needs
 
 element-requires-2 : tie.Need-element-requires-2
-element-requires-2 c κs =
-    search needs
+element-requires-2 c κs = search needs
 
 element-requires-3 : tie.Need-element-requires-3
-element-requires-3 c κs =
-    search needs
+element-requires-3 c κs = search needs
 
 rest-requires : tie.Need-rest-requires
-rest-requires c κs =
-    search needs
+rest-requires c κs = search needs
 
 rules-requires : tie.Need-rules-requires
 rules-requires c κs =
-    parse-asks (c .before .before .before .before .before .before .before .before .before .before .before .before .before .args .items .now) (c .before .before .before .before .before .before .before .before .before .before .before .before .before .args .work .now) (c .before .before .before .before .before .before .before .before .before .before .before .before .before .args .marks .now) (c .before .before .before .before .before .before .before .before .before .before .before .before .before .args .root) (c .before .before .before .before .before .before .before .before .before .before .before .before .before .args .fuel) (c .before .before .before .before .before .before .before .before .before .before .before .before .before .pre) _ _ (c .before .before .before .before .before .before .before .before .element .ensures) (c .before .before .before .before .before .before .element2 .ensures)
+    let a = c .before .before .before .before .before .before .before .before .before .before .before .args in
+    parse-asks (a .items .now) (a .work .now) (a .root) (a .fuel) (c .before .before .before .before .before .before .before .before .before .before .before .pre) _ _ (c .before .before .before .before .before .before .before .element .ensures) (c .before .before .before .before .before .element2 .ensures)
 
 enum-known-at : tie.Need-enum-known-at
-enum-known-at c =
-    search needs
+enum-known-at c = search needs
 
 enum-told : tie.Need-enum-told
-enum-told c =
-    search needs
+enum-told c = search needs
 
 same-length : tie.Need-same-length
-same-length c =
-    search needs
-
-same-length-2 : tie.Need-same-length-2
-same-length-2 c =
-    search needs
+same-length c = search needs
 
 returns : tie.Need-returns
-returns c =
-    search needs
+returns c = search needs
 
 put-mark-requires : tie.Need-put-mark-requires
 put-mark-requires c κs =
-    mark-asks (c .before .before .before .before .before .before .before .before .before .before .before .before .before .before .before .before .before .before .before .before .before .before .args .items .now) (c .before .before .before .before .before .before .before .before .before .before .before .before .before .before .before .before .before .before .before .before .before .before .args .work .now) (c .before .before .before .before .before .before .before .before .before .before .before .before .before .before .before .before .before .before .before .before .before .before .args .marks .now) (c .before .before .before .before .before .before .before .before .before .before .before .before .before .before .before .before .before .before .before .before .before .before .args .root) (c .before .before .before .before .before .before .before .before .before .before .before .before .before .before .before .before .before .before .before .before .before .before .args .fuel) (c .before .before .before .before .before .before .before .before .before .before .before .before .before .before .before .before .before .before .before .before .before .before .pre) _ _ (c .before .before .before .before .before .before .before .before .before .before .before .before .before .before .before .before .before .element .ensures) (c .before .before .before .before .before .before .before .before .before .before .before .before .before .before .before .element2 .ensures) (c .before .before .before .before .before .before .before .before .rules .last .1 .0) (c .before .before .before .before .before .before .before .before .rules .kept .1 .0) _ _ _ (c .before .before .at .given .1) (c .before .before .before .before .before .before .before .before .rules .ensures)
+    let a = c .before .before .before .before .before .before .before .before .before .before .before .before .before .before .before .before .before .before .args in
+    mark-asks (a .items .now) (a .work .now) (a .root) (a .fuel) (c .before .before .before .before .before .before .before .before .before .before .before .before .before .before .before .before .before .before .pre) _ _ (c .before .before .before .before .before .before .before .before .before .before .before .before .before .before .element .ensures) (c .before .before .before .before .before .before .before .before .before .before .before .before .element2 .ensures) (c .before .before .before .before .before .before .rules .last .1 .0) (c .before .before .before .before .before .before .rules .kept .1 .0) _ _ _ (c .before .before .at .given .1) (c .before .before .before .before .before .before .rules .ensures)
 
 apply-requires : tie.Need-apply-requires
 apply-requires c κs =
-    step-asks (c .before .before .before .before .before .before .before .before .before .before .before .before .before .before .before .before .before .before .before .before .before .before .before .before .before .before .before .args .items .now) (c .before .before .before .before .before .before .before .before .before .before .before .before .before .before .before .before .before .before .before .before .before .before .before .before .before .before .before .args .work .now) (c .before .before .before .before .before .before .before .before .before .before .before .before .before .before .before .before .before .before .before .before .before .before .before .before .before .before .before .args .marks .now) (c .before .before .before .before .before .before .before .before .before .before .before .before .before .before .before .before .before .before .before .before .before .before .before .before .before .before .before .args .root) (c .before .before .before .before .before .before .before .before .before .before .before .before .before .before .before .before .before .before .before .before .before .before .before .before .before .before .before .args .fuel) (c .before .before .before .before .before .before .before .before .before .before .before .before .before .before .before .before .before .before .before .before .before .before .before .before .before .before .before .pre) _ _ (c .before .before .before .before .before .before .before .before .before .before .before .before .before .before .before .before .before .before .before .before .before .before .element .ensures) (c .before .before .before .before .before .before .before .before .before .before .before .before .before .before .before .before .before .before .before .before .element2 .ensures) (c .before .before .before .before .before .before .before .before .before .before .before .before .before .rules .last .1 .0) (c .before .before .before .before .before .before .before .before .before .before .before .before .before .rules .kept .1 .0) _ _ _ (c .before .before .before .before .before .before .before .at .given .1) (c .before .before .before .before .before .before .before .before .before .before .before .before .before .rules .ensures) (c .before .before .before .before .put-mark .last .0) (c .before .before .before .before .before .before .before .before .before .before .before .before .before .rules .last .1 .1 .0) (c .before .before .before .before .put-mark .kept .0) (c .before .before .before .before .before .before .before .before .before .before .before .before .before .rules .kept .1 .1 .0) _ _ (c .before .before .before .before .put-mark .ensures) _ _ (c .before .before .before .before .before .before .before .before .before .before .before .before .before .before .before .before .before .before .element3 .ensures) (c .before .before .before .before .before .before .before .before .before .before .before .before .before .before .before .before .rest .ensures)
+    let a = c .before .before .before .before .before .before .before .before .before .before .before .before .before .before .before .before .before .before .before .before .before .before .args in
+    step-asks (a .items .now) (a .work .now) (a .root) (a .fuel) (c .before .before .before .before .before .before .before .before .before .before .before .before .before .before .before .before .before .before .before .before .before .before .pre) _ _ (c .before .before .before .before .before .before .before .before .before .before .before .before .before .before .before .before .before .before .element .ensures) (c .before .before .before .before .before .before .before .before .before .before .before .before .before .before .before .before .element2 .ensures) (c .before .before .before .before .before .before .before .before .before .before .rules .last .1 .0) (c .before .before .before .before .before .before .before .before .before .before .rules .kept .1 .0) _ _ _ (c .before .before .before .before .before .before .at .given .1) (c .before .before .before .before .before .before .before .before .before .before .rules .ensures) (c .before .before .before .put-mark .last .0) (c .before .before .before .put-mark .kept .0) _ _ (c .before .before .before .put-mark .ensures) _ _ (c .before .before .before .before .before .before .before .before .before .before .before .before .before .before .element3 .ensures) (c .before .before .before .before .before .before .before .before .before .before .before .before .rest .ensures)
 
 enum-told-2 : tie.Need-enum-told-2
-enum-told-2 c =
-    search needs
+enum-told-2 c = search needs
 
 enum-told-3 : tie.Need-enum-told-3
-enum-told-3 c =
-    search needs
+enum-told-3 c = search needs
 
 enum-told-4 : tie.Need-enum-told-4
-enum-told-4 c =
-    search needs
+enum-told-4 c = search needs
 
 enum-known-result : tie.Need-enum-known-result
-enum-known-result c =
-    search needs
+enum-known-result c = search needs
 
-same-length-3 : tie.Need-same-length-3
-same-length-3 c =
-    search needs
-
-same-length-4 : tie.Need-same-length-4
-same-length-4 c =
-    search needs
+same-length-2 : tie.Need-same-length-2
+same-length-2 c = search needs
 
 returns-2 : tie.Need-returns-2
-returns-2 c =
-    search needs
+returns-2 c = search needs
 
-same-length-5 : tie.Need-same-length-5
-same-length-5 c =
-    search needs
-
-same-length-6 : tie.Need-same-length-6
-same-length-6 c =
-    search needs
+same-length-3 : tie.Need-same-length-3
+same-length-3 c = search needs
 
 returns-3 : tie.Need-returns-3
-returns-3 c =
-    search needs
+returns-3 c = search needs
 
-same-length-7 : tie.Need-same-length-7
-same-length-7 c =
-    search needs
-
-same-length-8 : tie.Need-same-length-8
-same-length-8 c =
-    search needs
+same-length-4 : tie.Need-same-length-4
+same-length-4 c = search needs
 
 returns-4 : tie.Need-returns-4
-returns-4 c =
-    search needs
+returns-4 c = search needs
 
-same-length-9 : tie.Need-same-length-9
-same-length-9 c =
-    search needs
-
-same-length-10 : tie.Need-same-length-10
-same-length-10 c =
-    search needs
+same-length-5 : tie.Need-same-length-5
+same-length-5 c = search needs
 
 returns-5 : tie.Need-returns-5
-returns-5 c =
-    search needs
+returns-5 c = search needs
 
 pub first-step-spec : {M : Type 1} → statement M
 first-step-spec =
@@ -135,7 +91,6 @@ first-step-spec =
     enum-known-at
     enum-told
     same-length
-    same-length-2
     returns
     put-mark-requires
     apply-requires
@@ -143,15 +98,11 @@ first-step-spec =
     enum-told-3
     enum-told-4
     enum-known-result
-    same-length-3
-    same-length-4
+    same-length-2
     returns-2
-    same-length-5
-    same-length-6
+    same-length-3
     returns-3
-    same-length-7
-    same-length-8
+    same-length-4
     returns-4
-    same-length-9
-    same-length-10
+    same-length-5
     returns-5)

@@ -13,26 +13,21 @@ word-requires c κs = search needs
 
 pattern-name-requires : tie.Need-pattern-name-requires
 pattern-name-requires c κs =
-    let a = c .before .before .before .before .before .before .before .before .args in (c .before .before .before .before .before .before .before .before .pre .0, (room-leaf (a .items .now) (a .work .now) (a .node) (a .w) (a .top) (c .before .before .before .before .before .before .before .before .pre .1)), c .before .before .before .before .before .before .before .before .pre .1 .node-below, c .before .before .before .before .before .before .before .before .pre .1 .wrap-below, c .before .before .before .before .before .before .before .before .pre .2)
+    let a = c .before .before .before .before .before .before .args in ((room-leaf (a .items .now) (a .work .now) (a .node) (a .w) (a .top) (c .before .before .before .before .before .before .pre .0)), c .before .before .before .before .before .before .pre .0 .node-below, c .before .before .before .before .before .before .pre .0 .wrap-below, c .before .before .before .before .before .before .pre .1)
 
 same-length : tie.Need-same-length
-same-length c =
-    c .before .before .before .before .pattern-name .kept .1 .0
-
-same-length-2 : tie.Need-same-length-2
-same-length-2 c =
-    c .before .before .before .before .pattern-name .kept .1 .1 .0
+same-length c = search needs
 
 returns : tie.Need-returns
 returns c =
-    let a = c .before .before .before .before .before .before .before .before .before .before .before .before .before .args in left-name (names (treeAt (a .items .now) (a .work .now) (a .literals) (a .w))) (a .k) (a .items .now) (a .work .now) (a .node) (a .w) (a .top) (c .before .before .before .before .pattern-name .last .1 .0) (c .before .before .before .before .pattern-name .result) (sym (c .before .before .before .before .before .before .before .before .word .ensures) ∙ c .before .before .before .before .before .before .before .if1 .taken) (c .before .before .before .before .pattern-name .ensures)
+    let a = c .before .before .before .before .before .before .before .before .before .args in left-name (names (treeAt (a .items .now) (a .work .now) (a .literals) (a .w))) (a .k) (a .items .now) (a .work .now) (a .node) (a .w) (a .top) (c .before .before .pattern-name .last .1 .0) (c .before .before .pattern-name .result) (sym (c .before .before .before .before .before .word .ensures) ∙ c .before .before .before .before .if1 .taken) (c .before .before .pattern-name .ensures)
 
-same-length-3 : tie.Need-same-length-3
-same-length-3 c = search needs
+same-length-2 : tie.Need-same-length-2
+same-length-2 c = search needs
 
 returns-2 : tie.Need-returns-2
 returns-2 c =
-    let a = c .before .before .before .before .before .before .before .args in left-empty (names (treeAt (a .items .now) (a .work .now) (a .literals) (a .w))) (a .k) (a .items .now) (a .work .now) (a .node) (a .w) (a .top) (sym (c .before .before .word .ensures) ∙ c .if2 .taken)
+    let a = c .before .before .before .before .before .before .args in left-empty (names (treeAt (a .items .now) (a .work .now) (a .literals) (a .w))) (a .k) (a .items .now) (a .work .now) (a .node) (a .w) (a .top) (sym (c .before .before .word .ensures) ∙ c .if2 .taken)
 
 word-requires-2 : tie.Need-word-requires-2
 word-requires-2 c κs = search needs
@@ -42,14 +37,14 @@ word-requires-3 c κs = search needs
 
 put-constant-requires : tie.Need-put-constant-requires
 put-constant-requires c κs =
-    let a = c .before .before .before .before .before .before .before .before .before .before .before .before .args in (room-leaf (a .items .now) (a .work .now) (a .node) (a .w) (a .top) (c .before .before .before .before .before .before .before .before .before .before .before .before .pre .1))
+    let a = c .before .before .before .before .before .before .before .before .before .before .before .args in (room-leaf (a .items .now) (a .work .now) (a .node) (a .w) (a .top) (c .before .before .before .before .before .before .before .before .before .before .before .pre .0))
 
-same-length-4 : tie.Need-same-length-4
-same-length-4 c = search needs
+same-length-3 : tie.Need-same-length-3
+same-length-3 c = search needs
 
 returns-3 : tie.Need-returns-3
 returns-3 c =
-    let a = c .before .before .before .before .before .before .before .before .before .before .before .before .before .before .before .args in left-constant (names (treeAt (a .items .now) (a .work .now) (a .literals) (a .w))) (a .k) (a .items .now) (a .work .now) (a .node) (a .w) (a .top) _ _ _ _ _ (c .before .before .before .before .before .before .before .before .before .before .word .ensures) (c .before .before .before .before .before .before .word2 .ensures) (c .before .before .before .before .word3 .ensures) (λ z. c .before .before .before .before .before .before .before .before .if2 .left (c .before .before .before .before .before .before .before .before .before .before .word .ensures ∙ z)) (λ z. c .before .before .before .before .before .before .before .before .before .if1 .left (c .before .before .before .before .before .before .before .before .before .before .word .ensures ∙ z)) (c .before .before .before .before .before .before .before .before .before .before .before .before .before .before .before .pre .3) (c .before .before .put-constant .ensures)
+    let a = c .before .before .before .before .before .before .before .before .before .before .before .before .before .before .args in left-constant (names (treeAt (a .items .now) (a .work .now) (a .literals) (a .w))) (a .k) (a .items .now) (a .work .now) (a .node) (a .w) (a .top) _ _ _ _ _ (c .before .before .before .before .before .before .before .before .before .before .word .ensures) (c .before .before .before .before .before .before .word2 .ensures) (c .before .before .before .before .word3 .ensures) (λ z. c .before .before .before .before .before .before .before .before .if2 .left (c .before .before .before .before .before .before .before .before .before .before .word .ensures ∙ z)) (λ z. c .before .before .before .before .before .before .before .before .before .if1 .left (c .before .before .before .before .before .before .before .before .before .before .word .ensures ∙ z)) (c .before .before .before .before .before .before .before .before .before .before .before .before .before .before .pre .2) (c .before .before .put-constant .ensures)
 
 pub pattern-leaf-spec : {M : Type 1} → statement M
 pattern-leaf-spec =
@@ -58,12 +53,11 @@ pattern-leaf-spec =
     word-requires
     pattern-name-requires
     same-length
-    same-length-2
     returns
-    same-length-3
+    same-length-2
     returns-2
     word-requires-2
     word-requires-3
     put-constant-requires
-    same-length-4
+    same-length-3
     returns-3)

@@ -16,16 +16,16 @@ use Rattle.rule_cells.specs.RuleListLaws.{left-end, left-later, made-lat
 use mathlib.Core.Path.{sym, _∙_}
 use native.Mathlib.Omega.{arith}
 
-abbrev μ-rule-list : Measures 3 rule-list-kinds.ps ℕ
+abbrev μ-rule-list : Measures 2 rule-list-kinds.ps ℕ
 μ-rule-list κs a =
-    a .1 .1 .1 .1 .0
+    a .1 .1 .1 .0
 
-abbrev rule-list-at : ℕ → In 3 rule-list-kinds.ps
-rule-list-at t = and 3 rule-list-kinds.ps (is 3 rule-list-kinds.ps μ-rule-list t) rule-list.Pre
+abbrev rule-list-at : ℕ → In 2 rule-list-kinds.ps
+rule-list-at t = and 2 rule-list-kinds.ps (is 2 rule-list-kinds.ps μ-rule-list t) rule-list.Pre
 
-abbrev rule-list-below : ℕ → In 3 rule-list-kinds.ps
+abbrev rule-list-below : ℕ → In 2 rule-list-kinds.ps
 rule-list-below t =
-    and 3 rule-list-kinds.ps (falls 3 rule-list-kinds.ps _<_ μ-rule-list t) rule-list.Pre
+    and 2 rule-list-kinds.ps (falls 2 rule-list-kinds.ps _<_ μ-rule-list t) rule-list.Pre
 
 abbrev rule-list-claims : ℕ → rule-list-lts.Claims
 rule-list-claims t = (word-reads.Asked, word-reads.Learnt, reference-reads.Asked, reference-reads.Learnt, rule-list-below t, rule-list.Post, rule-reads.Asked, rule-reads.Learnt)
@@ -38,7 +38,7 @@ rule-list-same-length t c = search needs
 
 rule-list-returns : (t : ℕ) → rule-list-lts.Need-returns (rule-list-claims t) (rule-list-at t) rule-list.Post
 rule-list-returns t c =
-    let a = c .before .before .before .before .before .before .args in left-end (a .items .now) (a .work .now) (a .literals) (a .node) (a .w) (a .top) (c .before .before .before .before .before .before .pre .1 .1) (c .before .before .before .before .before .before .pre .1 .2) (λ z. c .if1 .taken (c .before .word .ensures ∙ z))
+    let a = c .before .before .before .before .before .args in left-end (a .items .now) (a .work .now) (a .literals) (a .node) (a .w) (a .top) (c .before .before .before .before .before .pre .1 .0) (c .before .before .before .before .before .pre .1 .1) (λ z. c .if1 .taken (c .before .word .ensures ∙ z))
 
 rule-list-reference-requires : (t : ℕ) → rule-list-lts.Need-reference-requires (rule-list-claims t) (rule-list-at t) rule-list.Post
 rule-list-reference-requires t c κs = search needs
@@ -48,7 +48,7 @@ rule-list-reference-requires-2 t c κs = search needs
 
 rule-list-rule-list-requires : (t : ℕ) → rule-list-lts.Need-rule-list-requires (rule-list-claims t) (rule-list-at t) rule-list.Post
 rule-list-rule-list-requires t c κs =
-    let a = c .before .before .before .before .before .before .before .before .before .before .before .before .args in (omega (arith, c .before .before .before .before .before .before .before .before .before .before .before .before .pre .0, rest-below (a .items .now) (a .work .now) (a .node) (a .w) (a .top) (c .before .before .before .before .before .before .before .before .before .before .before .before .pre .1 .1) _ _ (sym (c .before .before .before .before .before .before .before .word .ensures) ∙ c .before .before .before .before .before .before .if1 .left) (c .before .before .before .before .reference .ensures) (c .before .before .reference2 .ensures)), (c .before .before .before .before .before .before .before .before .before .before .before .before .pre .1 .0, asks-tail (a .items .now) (a .work .now) (a .node) (a .w) (a .top) (c .before .before .before .before .before .before .before .before .before .before .before .before .pre .1 .1) _ _ (sym (c .before .before .before .before .before .before .before .word .ensures) ∙ c .before .before .before .before .before .before .if1 .left) (c .before .before .before .before .reference .ensures) (c .before .before .reference2 .ensures), c .before .before .before .before .before .before .before .before .before .before .before .before .pre .1 .2))
+    let a = c .before .before .before .before .before .before .before .before .before .before .args in (omega (arith, c .before .before .before .before .before .before .before .before .before .before .pre .0, rest-below (a .items .now) (a .work .now) (a .node) (a .w) (a .top) (c .before .before .before .before .before .before .before .before .before .before .pre .1 .0) _ _ (sym (c .before .before .before .before .before .before .word .ensures) ∙ c .before .before .before .before .before .if1 .left) (c .before .before .before .reference .ensures) (c .before .reference2 .ensures)), (asks-tail (a .items .now) (a .work .now) (a .node) (a .w) (a .top) (c .before .before .before .before .before .before .before .before .before .before .pre .1 .0) _ _ (sym (c .before .before .before .before .before .before .word .ensures) ∙ c .before .before .before .before .before .if1 .left) (c .before .before .before .reference .ensures) (c .before .reference2 .ensures), c .before .before .before .before .before .before .before .before .before .before .pre .1 .1))
 
 rule-list-enum-known-next : (t : ℕ) → rule-list-lts.Need-enum-known-next (rule-list-claims t) (rule-list-at t) rule-list.Post
 rule-list-enum-known-next t c = search needs
@@ -57,35 +57,34 @@ rule-list-enum-told : (t : ℕ) → rule-list-lts.Need-enum-told (rule-list-clai
 rule-list-enum-told t c = search needs
 
 rule-list-same-length-2 : (t : ℕ) → rule-list-lts.Need-same-length-2 (rule-list-claims t) (rule-list-at t) rule-list.Post
-rule-list-same-length-2 t c =
-    c .before .before .before .before .before .before .rule-list .kept .1 .0
-
-rule-list-same-length-3 : (t : ℕ) → rule-list-lts.Need-same-length-3 (rule-list-claims t) (rule-list-at t) rule-list.Post
-rule-list-same-length-3 t c =
-    c .before .before .before .before .before .before .rule-list .kept .1 .1 .0
+rule-list-same-length-2 t c = search needs
 
 rule-list-returns-2 : (t : ℕ) → rule-list-lts.Need-returns-2 (rule-list-claims t) (rule-list-at t) rule-list.Post
 rule-list-returns-2 t c =
-    let a = c .before .before .before .before .before .before .before .before .before .before .before .before .before .before .before .before .before .before .before .args in left-later (a .items .now) (a .work .now) (a .literals) (a .node) (a .w) (a .top) (c .before .before .before .before .before .before .before .before .before .before .before .before .before .before .before .before .before .before .before .pre .1 .1) (c .before .before .before .before .before .before .before .before .before .before .before .before .before .before .before .before .before .before .before .pre .1 .2) _ _ (sym (c .before .before .before .before .before .before .before .before .before .before .before .before .before .before .word .ensures) ∙ c .before .before .before .before .before .before .before .before .before .before .before .before .before .if1 .left) (c .before .before .before .before .before .before .before .before .before .before .before .reference .ensures) (c .before .before .before .before .before .before .before .before .before .reference2 .ensures) (c .before .before .before .before .before .before .rule-list .last .1 .0) _ (c .enum-told .given .1) (c .before .before .before .before .before .before .rule-list .ensures)
+    let a = c .before .before .before .before .before .before .before .before .before .before .before .before .before .before .before .args in left-later (a .items .now) (a .work .now) (a .literals) (a .node) (a .w) (a .top) (c .before .before .before .before .before .before .before .before .before .before .before .before .before .before .before .pre .1 .0) (c .before .before .before .before .before .before .before .before .before .before .before .before .before .before .before .pre .1 .1) _ _ (sym (c .before .before .before .before .before .before .before .before .before .before .before .word .ensures) ∙ c .before .before .before .before .before .before .before .before .before .before .if1 .left) (c .before .before .before .before .before .before .before .before .reference .ensures) (c .before .before .before .before .before .before .reference2 .ensures) (c .before .before .before .before .rule-list .last .1 .0) _ (c .enum-told .given .1) (c .before .before .before .before .rule-list .ensures)
 
 rule-list-rule-requires : (t : ℕ) → rule-list-lts.Need-rule-requires (rule-list-claims t) (rule-list-at t) rule-list.Post
 rule-list-rule-requires t c κs =
-    let a = c .before .before .before .before .before .before .before .before .before .before .before .before .before .before .before .before .before .before .before .before .before .before .args in let m = (made-later (a .items .now) (a .work .now) (a .literals) (a .node) (a .w) (a .top) (c .before .before .before .before .before .before .before .before .before .before .before .before .before .before .before .before .before .before .before .before .before .before .pre .1 .1) (c .before .before .before .before .before .before .before .before .before .before .before .before .before .before .before .before .before .before .before .before .before .before .pre .1 .2) _ _ (sym (c .before .before .before .before .before .before .before .before .before .before .before .before .before .before .before .before .before .word .ensures) ∙ c .before .before .before .before .before .before .before .before .before .before .before .before .before .before .before .before .if1 .left) (c .before .before .before .before .before .before .before .before .before .before .before .before .before .before .reference .ensures) (c .before .before .before .before .before .before .before .before .before .before .before .before .reference2 .ensures) (c .before .before .before .before .before .before .before .before .before .rule-list .last .1 .0) _ _ _ (c .before .before .before .next .given .1) (c .before .before .before .before .before .before .before .before .before .rule-list .ensures)) in (omega (arith, c .before .before .before .before .before .before .before .before .before .before .before .before .before .before .before .before .before .before .before .before .before .before .pre .1 .0, c .before .before .before .before .before .before .before .before .before .rule-list .kept .1 .1 .0), asks-first (a .items .now) (a .work .now) (a .literals) (a .node) (a .w) (a .top) (c .before .before .before .before .before .before .before .before .before .before .before .before .before .before .before .before .before .before .before .before .before .before .pre .1 .1) (c .before .before .before .before .before .before .before .before .before .before .before .before .before .before .before .before .before .before .before .before .before .before .pre .1 .2) _ _ (sym (c .before .before .before .before .before .before .before .before .before .before .before .before .before .before .before .before .before .word .ensures) ∙ c .before .before .before .before .before .before .before .before .before .before .before .before .before .before .before .before .if1 .left) (c .before .before .before .before .before .before .before .before .before .before .before .before .before .before .reference .ensures) (c .before .before .before .before .before .before .before .before .before .before .before .before .reference2 .ensures) (c .before .before .before .before .before .before .before .before .before .rule-list .last .1 .0) _ _ (c .before .before .before .before .before .before .before .before .before .rule-list .kept .1 .0) (made-later (a .items .now) (a .work .now) (a .literals) (a .node) (a .w) (a .top) (c .before .before .before .before .before .before .before .before .before .before .before .before .before .before .before .before .before .before .before .before .before .before .pre .1 .1) (c .before .before .before .before .before .before .before .before .before .before .before .before .before .before .before .before .before .before .before .before .before .before .pre .1 .2) _ _ (sym (c .before .before .before .before .before .before .before .before .before .before .before .before .before .before .before .before .before .word .ensures) ∙ c .before .before .before .before .before .before .before .before .before .before .before .before .before .before .before .before .if1 .left) (c .before .before .before .before .before .before .before .before .before .before .before .before .before .before .reference .ensures) (c .before .before .before .before .before .before .before .before .before .before .before .before .reference2 .ensures) (c .before .before .before .before .before .before .before .before .before .rule-list .last .1 .0) _ _ _ (c .before .before .before .next .given .1) (c .before .before .before .before .before .before .before .before .before .rule-list .ensures)), literals-still (a .items .now) (a .work .now) (a .literals) (a .node) (a .w) (a .top) (c .before .before .before .before .before .before .before .before .before .before .before .before .before .before .before .before .before .before .before .before .before .before .pre .1 .1) (c .before .before .before .before .before .before .before .before .before .before .before .before .before .before .before .before .before .before .before .before .before .before .pre .1 .2) _ _ (sym (c .before .before .before .before .before .before .before .before .before .before .before .before .before .before .before .before .before .word .ensures) ∙ c .before .before .before .before .before .before .before .before .before .before .before .before .before .before .before .before .if1 .left) (c .before .before .before .before .before .before .before .before .before .before .before .before .before .before .reference .ensures) (c .before .before .before .before .before .before .before .before .before .before .before .before .reference2 .ensures) (c .before .before .before .before .before .before .before .before .before .rule-list .last .1 .0) _ _ (c .before .before .before .before .before .before .before .before .before .rule-list .kept .1 .0) (made-later (a .items .now) (a .work .now) (a .literals) (a .node) (a .w) (a .top) (c .before .before .before .before .before .before .before .before .before .before .before .before .before .before .before .before .before .before .before .before .before .before .pre .1 .1) (c .before .before .before .before .before .before .before .before .before .before .before .before .before .before .before .before .before .before .before .before .before .before .pre .1 .2) _ _ (sym (c .before .before .before .before .before .before .before .before .before .before .before .before .before .before .before .before .before .word .ensures) ∙ c .before .before .before .before .before .before .before .before .before .before .before .before .before .before .before .before .if1 .left) (c .before .before .before .before .before .before .before .before .before .before .before .before .before .before .reference .ensures) (c .before .before .before .before .before .before .before .before .before .before .before .before .reference2 .ensures) (c .before .before .before .before .before .before .before .before .before .rule-list .last .1 .0) _ _ _ (c .before .before .before .next .given .1) (c .before .before .before .before .before .before .before .before .before .rule-list .ensures)), m .at-most)
+    let a = c .before .before .before .before .before .before .before .before .before .before .before .before .before .before .before .before .before .args in let m = (made-later (a .items .now) (a .work .now) (a .literals) (a .node) (a .w) (a .top) (c .before .before .before .before .before .before .before .before .before .before .before .before .before .before .before .before .before .pre .1 .0) (c .before .before .before .before .before .before .before .before .before .before .before .before .before .before .before .before .before .pre .1 .1) _ _ (sym (c .before .before .before .before .before .before .before .before .before .before .before .before .before .word .ensures) ∙ c .before .before .before .before .before .before .before .before .before .before .before .before .if1 .left) (c .before .before .before .before .before .before .before .before .before .before .reference .ensures) (c .before .before .before .before .before .before .before .before .reference2 .ensures) (c .before .before .before .before .before .before .rule-list .last .1 .0) _ _ _ (c .before .before .next .given .1) (c .before .before .before .before .before .before .rule-list .ensures)) in (asks-first (a .items .now) (a .work .now) (a .literals) (a .node) (a .w) (a .top) (c .before .before .before .before .before .before .before .before .before .before .before .before .before .before .before .before .before .pre .1 .0) (c .before .before .before .before .before .before .before .before .before .before .before .before .before .before .before .before .before .pre .1 .1) _ _ (sym (c .before .before .before .before .before .before .before .before .before .before .before .before .before .word .ensures) ∙ c .before .before .before .before .before .before .before .before .before .before .before .before .if1 .left) (c .before .before .before .before .before .before .before .before .before .before .reference .ensures) (c .before .before .before .before .before .before .before .before .reference2 .ensures) (c .before .before .before .before .before .before .rule-list .last .1 .0) _ _ (c .before .before .before .before .before .before .rule-list .kept .1 .0) (made-later (a .items .now) (a .work .now) (a .literals) (a .node) (a .w) (a .top) (c .before .before .before .before .before .before .before .before .before .before .before .before .before .before .before .before .before .pre .1 .0) (c .before .before .before .before .before .before .before .before .before .before .before .before .before .before .before .before .before .pre .1 .1) _ _ (sym (c .before .before .before .before .before .before .before .before .before .before .before .before .before .word .ensures) ∙ c .before .before .before .before .before .before .before .before .before .before .before .before .if1 .left) (c .before .before .before .before .before .before .before .before .before .before .reference .ensures) (c .before .before .before .before .before .before .before .before .reference2 .ensures) (c .before .before .before .before .before .before .rule-list .last .1 .0) _ _ _ (c .before .before .next .given .1) (c .before .before .before .before .before .before .rule-list .ensures)), literals-still (a .items .now) (a .work .now) (a .literals) (a .node) (a .w) (a .top) (c .before .before .before .before .before .before .before .before .before .before .before .before .before .before .before .before .before .pre .1 .0) (c .before .before .before .before .before .before .before .before .before .before .before .before .before .before .before .before .before .pre .1 .1) _ _ (sym (c .before .before .before .before .before .before .before .before .before .before .before .before .before .word .ensures) ∙ c .before .before .before .before .before .before .before .before .before .before .before .before .if1 .left) (c .before .before .before .before .before .before .before .before .before .before .reference .ensures) (c .before .before .before .before .before .before .before .before .reference2 .ensures) (c .before .before .before .before .before .before .rule-list .last .1 .0) _ _ (c .before .before .before .before .before .before .rule-list .kept .1 .0) (made-later (a .items .now) (a .work .now) (a .literals) (a .node) (a .w) (a .top) (c .before .before .before .before .before .before .before .before .before .before .before .before .before .before .before .before .before .pre .1 .0) (c .before .before .before .before .before .before .before .before .before .before .before .before .before .before .before .before .before .pre .1 .1) _ _ (sym (c .before .before .before .before .before .before .before .before .before .before .before .before .before .word .ensures) ∙ c .before .before .before .before .before .before .before .before .before .before .before .before .if1 .left) (c .before .before .before .before .before .before .before .before .before .before .reference .ensures) (c .before .before .before .before .before .before .before .before .reference2 .ensures) (c .before .before .before .before .before .before .rule-list .last .1 .0) _ _ _ (c .before .before .next .given .1) (c .before .before .before .before .before .before .rule-list .ensures)), m .at-most)
 
-rule-list-same-length-4 : (t : ℕ) → rule-list-lts.Need-same-length-4 (rule-list-claims t) (rule-list-at t) rule-list.Post
-rule-list-same-length-4 t c =
-    c .before .before .before .before .rule .kept .1 .0 ∙ c .before .before .before .before .before .before .before .before .before .before .before .before .before .before .rule-list .kept .1 .0
-
-rule-list-same-length-5 : (t : ℕ) → rule-list-lts.Need-same-length-5 (rule-list-claims t) (rule-list-at t) rule-list.Post
-rule-list-same-length-5 t c =
-    c .before .before .before .before .rule .kept .1 .1 .0 ∙ c .before .before .before .before .before .before .before .before .before .before .before .before .before .before .rule-list .kept .1 .1 .0
+rule-list-same-length-3 : (t : ℕ) → rule-list-lts.Need-same-length-3 (rule-list-claims t) (rule-list-at t) rule-list.Post
+rule-list-same-length-3 t c = search needs
 
 rule-list-returns-3 : (t : ℕ) → rule-list-lts.Need-returns-3 (rule-list-claims t) (rule-list-at t) rule-list.Post
 rule-list-returns-3 t c =
-    let a = c .before .before .before .before .before .before .before .before .before .before .before .before .before .before .before .before .before .before .before .before .before .before .before .before .before .before .before .args in left-both (a .items .now) (a .work .now) (a .literals) (a .node) (a .w) (a .top) (c .before .before .before .before .before .before .before .before .before .before .before .before .before .before .before .before .before .before .before .before .before .before .before .before .before .before .before .pre .1 .1) (c .before .before .before .before .before .before .before .before .before .before .before .before .before .before .before .before .before .before .before .before .before .before .before .before .before .before .before .pre .1 .2) _ _ (sym (c .before .before .before .before .before .before .before .before .before .before .before .before .before .before .before .before .before .before .before .before .before .before .word .ensures) ∙ c .before .before .before .before .before .before .before .before .before .before .before .before .before .before .before .before .before .before .before .before .before .if1 .left) (c .before .before .before .before .before .before .before .before .before .before .before .before .before .before .before .before .before .before .before .reference .ensures) (c .before .before .before .before .before .before .before .before .before .before .before .before .before .before .before .before .before .reference2 .ensures) (c .before .before .before .before .before .before .before .before .before .before .before .before .before .before .rule-list .last .1 .0) _ _ (c .before .before .before .before .before .before .before .before .before .before .before .before .before .before .rule-list .kept .1 .0) (made-later (a .items .now) (a .work .now) (a .literals) (a .node) (a .w) (a .top) (c .before .before .before .before .before .before .before .before .before .before .before .before .before .before .before .before .before .before .before .before .before .before .before .before .before .before .before .pre .1 .1) (c .before .before .before .before .before .before .before .before .before .before .before .before .before .before .before .before .before .before .before .before .before .before .before .before .before .before .before .pre .1 .2) _ _ (sym (c .before .before .before .before .before .before .before .before .before .before .before .before .before .before .before .before .before .before .before .before .before .before .word .ensures) ∙ c .before .before .before .before .before .before .before .before .before .before .before .before .before .before .before .before .before .before .before .before .before .if1 .left) (c .before .before .before .before .before .before .before .before .before .before .before .before .before .before .before .before .before .before .before .reference .ensures) (c .before .before .before .before .before .before .before .before .before .before .before .before .before .before .before .before .before .reference2 .ensures) (c .before .before .before .before .before .before .before .before .before .before .before .before .before .before .rule-list .last .1 .0) _ _ _ (c .before .before .before .before .before .before .before .before .next .given .1) (c .before .before .before .before .before .before .before .before .before .before .before .before .before .before .rule-list .ensures)) (c .before .before .before .before .rule .last .1 .0) (c .before .before .before .before .rule .result) (c .before .before .before .before .rule .ensures)
+    let a = c .before .before .before .before .before .before .before .before .before .before .before .before .before .before .before .before .before .before .before .before .args in left-both (a .items .now) (a .work .now) (a .literals) (a .node) (a .w) (a .top) (c .before .before .before .before .before .before .before .before .before .before .before .before .before .before .before .before .before .before .before .before .pre .1 .0) (c .before .before .before .before .before .before .before .before .before .before .before .before .before .before .before .before .before .before .before .before .pre .1 .1) _ _ (sym (c .before .before .before .before .before .before .before .before .before .before .before .before .before .before .before .before .word .ensures) ∙ c .before .before .before .before .before .before .before .before .before .before .before .before .before .before .before .if1 .left) (c .before .before .before .before .before .before .before .before .before .before .before .before .before .reference .ensures) (c .before .before .before .before .before .before .before .before .before .before .before .reference2 .ensures) (c .before .before .before .before .before .before .before .before .before .rule-list .last .1 .0) _ _ (c .before .before .before .before .before .before .before .before .before .rule-list .kept .1 .0) (made-later (a .items .now) (a .work .now) (a .literals) (a .node) (a .w) (a .top) (c .before .before .before .before .before .before .before .before .before .before .before .before .before .before .before .before .before .before .before .before .pre .1 .0) (c .before .before .before .before .before .before .before .before .before .before .before .before .before .before .before .before .before .before .before .before .pre .1 .1) _ _ (sym (c .before .before .before .before .before .before .before .before .before .before .before .before .before .before .before .before .word .ensures) ∙ c .before .before .before .before .before .before .before .before .before .before .before .before .before .before .before .if1 .left) (c .before .before .before .before .before .before .before .before .before .before .before .before .before .reference .ensures) (c .before .before .before .before .before .before .before .before .before .before .before .reference2 .ensures) (c .before .before .before .before .before .before .before .before .before .rule-list .last .1 .0) _ _ _ (c .before .before .before .before .before .next .given .1) (c .before .before .before .before .before .before .before .before .before .rule-list .ensures)) (c .before .before .rule .last .1 .0) (c .before .before .rule .result) (c .before .before .rule .ensures)
 
 pub +rule-list-spec : {M : Type 1} → statement M
-+rule-list-spec = close μ-rule-list λ t. rule-list-lts.spec (rule-list-claims t)
++rule-list-spec = close μ-rule-list λ t. rule-list-lts.spec (
+  word-reads.Asked,
+  word-reads.Learnt,
+  reference-reads.Asked,
+  reference-reads.Learnt,
+  rule-list-below t,
+  rule-list.Post,
+  rule-reads.Asked,
+  rule-reads.Learnt,
+)
     (rule-list-at t)
     rule-list.Post
     (rule-list-word-requires t)
@@ -97,9 +96,7 @@ pub +rule-list-spec : {M : Type 1} → statement M
     (rule-list-enum-known-next t)
     (rule-list-enum-told t)
     (rule-list-same-length-2 t)
-    (rule-list-same-length-3 t)
     (rule-list-returns-2 t)
     (rule-list-rule-requires t)
-    (rule-list-same-length-4 t)
-    (rule-list-same-length-5 t)
+    (rule-list-same-length-3 t)
     (rule-list-returns-3 t)

@@ -22,26 +22,21 @@ first-requires-2 c κs = search needs
 
 rule-parts-requires : tie.Need-rule-parts-requires
 rule-parts-requires c κs =
-    let a = c .before .before .before .before .before .before .before .before .before .before .before .before .before .before .before .before .args in (c .before .before .before .before .before .before .before .before .before .before .before .before .before .before .before .before .pre .0, parts-ask (a .items .now) (a .work .now) (a .literals) (a .node) (a .w) (a .next) (a .top) (c .before .before .before .before .before .before .before .before .before .before .before .before .before .before .before .before .pre .1) (c .before .before .before .before .before .before .before .before .before .before .before .before .before .before .before .before .pre .2) (c .before .before .before .before .before .before .before .before .before .before .before .before .before .before .before .before .pre .3) _ _ _ _ (sym (c .before .before .before .before .before .before .before .before .before .before .if1 .taken) ∙ c .before .before .before .before .before .before .before .before .before .before .before .rule-shape .ensures (a .w)) (c .before .before .before .before .before .before .before .before .first .ensures) (c .before .before .before .before .before .before .rest .ensures) (c .before .before .before .before .rest2 .ensures) (c .before .before .first2 .ensures))
+    let a = c .before .before .before .before .before .before .before .before .before .before .before .before .before .before .args in parts-ask (a .items .now) (a .work .now) (a .literals) (a .node) (a .w) (a .next) (a .top) (c .before .before .before .before .before .before .before .before .before .before .before .before .before .before .pre .0) (c .before .before .before .before .before .before .before .before .before .before .before .before .before .before .pre .1) (c .before .before .before .before .before .before .before .before .before .before .before .before .before .before .pre .2) _ _ _ _ (sym (c .before .before .before .before .before .before .before .before .before .if1 .taken) ∙ c .before .before .before .before .before .before .before .before .before .before .rule-shape .ensures (a .w)) (c .before .before .before .before .before .before .before .first .ensures) (c .before .before .before .before .before .rest .ensures) (c .before .before .before .rest2 .ensures) (c .before .first2 .ensures)
 
 same-length : tie.Need-same-length
-same-length c =
-    c .before .before .before .before .rule-parts .kept .1 .0
-
-same-length-2 : tie.Need-same-length-2
-same-length-2 c =
-    c .before .before .before .before .rule-parts .kept .1 .1 .0
+same-length c = search needs
 
 returns : tie.Need-returns
 returns c =
-    let a = c .before .before .before .before .before .before .before .before .before .before .before .before .before .before .before .before .before .before .before .before .before .args in left-parts (a .items .now) (a .work .now) (a .literals) (a .node) (a .w) (a .next) (a .top) (c .before .before .before .before .before .before .before .before .before .before .before .before .before .before .before .before .before .before .before .before .before .pre .1) (c .before .before .before .before .before .before .before .before .before .before .before .before .before .before .before .before .before .before .before .before .before .pre .2) (c .before .before .before .before .before .before .before .before .before .before .before .before .before .before .before .before .before .before .before .before .before .pre .3) _ _ _ _ (sym (c .before .before .before .before .before .before .before .before .before .before .before .before .before .before .before .if1 .taken) ∙ c .before .before .before .before .before .before .before .before .before .before .before .before .before .before .before .before .rule-shape .ensures (a .w)) (c .before .before .before .before .before .before .before .before .before .before .before .before .before .first .ensures) (c .before .before .before .before .before .before .before .before .before .before .before .rest .ensures) (c .before .before .before .before .before .before .before .before .before .rest2 .ensures) (c .before .before .before .before .before .before .before .first2 .ensures) (c .before .before .before .before .rule-parts .last .1 .0) (c .before .before .before .before .rule-parts .result) (c .before .before .before .before .rule-parts .ensures)
+    let a = c .before .before .before .before .before .before .before .before .before .before .before .before .before .before .before .before .before .args in left-parts (a .items .now) (a .work .now) (a .literals) (a .node) (a .w) (a .next) (a .top) (c .before .before .before .before .before .before .before .before .before .before .before .before .before .before .before .before .before .pre .0) (c .before .before .before .before .before .before .before .before .before .before .before .before .before .before .before .before .before .pre .1) (c .before .before .before .before .before .before .before .before .before .before .before .before .before .before .before .before .before .pre .2) _ _ _ _ (sym (c .before .before .before .before .before .before .before .before .before .before .before .before .if1 .taken) ∙ c .before .before .before .before .before .before .before .before .before .before .before .before .before .rule-shape .ensures (a .w)) (c .before .before .before .before .before .before .before .before .before .before .first .ensures) (c .before .before .before .before .before .before .before .before .rest .ensures) (c .before .before .before .before .before .before .rest2 .ensures) (c .before .before .before .before .first2 .ensures) (c .before .before .rule-parts .last .1 .0) (c .before .before .rule-parts .result) (c .before .before .rule-parts .ensures)
 
-same-length-3 : tie.Need-same-length-3
-same-length-3 c = search needs
+same-length-2 : tie.Need-same-length-2
+same-length-2 c = search needs
 
 returns-2 : tie.Need-returns-2
 returns-2 c =
-    let a = c .before .before .before .before .before .before .args in left-shape (a .items .now) (a .work .now) (a .literals) (a .node) (a .w) (a .next) (a .top) (c .before .before .before .before .before .before .pre .1) (c .before .before .before .before .before .before .pre .2) (c .before .before .before .before .before .before .pre .3) (sym (c .if1 .left) ∙ c .before .rule-shape .ensures (a .w))
+    let a = c .before .before .before .before .before .args in left-shape (a .items .now) (a .work .now) (a .literals) (a .node) (a .w) (a .next) (a .top) (c .before .before .before .before .before .pre .0) (c .before .before .before .before .before .pre .1) (c .before .before .before .before .before .pre .2) (sym (c .if1 .left) ∙ c .before .rule-shape .ensures (a .w))
 
 pub rule-spec : {M : Type 1} → statement M
 rule-spec =
@@ -54,7 +49,6 @@ rule-spec =
     first-requires-2
     rule-parts-requires
     same-length
-    same-length-2
     returns
-    same-length-3
+    same-length-2
     returns-2)

@@ -4,11 +4,9 @@ use Rattle.rule_cells.proofs.rules.rules.Statement.{statement}
 use Rattle.rule_cells.proofs.rules.rules.Tie as tie
 use Rattle.rule_cells.specs.RuleListLaws.{left-no-form, asks-list, literals-under, left-form}
 use mathlib.Core.Path.{sym, _∙_}
-use native.Mathlib.Omega.{arith}
 
 is-rules-form-requires : tie.Need-is-rules-form-requires
-is-rules-form-requires c κs =
-    omega (arith, c .before .before .before .before .before .pre .0)
+is-rules-form-requires c κs = search needs
 
 rest-requires : tie.Need-rest-requires
 rest-requires c κs = search needs
@@ -21,29 +19,21 @@ rest-requires-2 c κs = search needs
 
 rule-list-requires : tie.Need-rule-list-requires
 rule-list-requires c κs =
-    let a = c .before .before .before .before .before .before .before .before .before .before .before .before .before .before .before .before .before .args in (omega (arith, c .before .before .before .before .before .before .before .before .before .before .before .before .before .before .before .before .before .pre .0, c .before .before .before .before .before .before .before .before .before .before .before .is-rules-form .kept .1 .1 .0), asks-list (a .items .now) (a .work .now) (a .node) (a .w) (a .top) (c .before .before .before .before .before .before .before .before .before .before .before .before .before .before .before .before .before .pre .1) _ _ _ (c .before .before .before .before .before .before .rest .ensures) (c .before .before .before .before .first .ensures) (c .before .before .rest2 .ensures), literals-under (a .items .now) (a .work .now) (a .node) (a .w) (a .top) (c .before .before .before .before .before .before .before .before .before .before .before .before .before .before .before .before .before .pre .1) _ _ _ (c .before .before .before .before .before .before .rest .ensures) (c .before .before .before .before .first .ensures) (c .before .before .rest2 .ensures))
+    let a = c .before .before .before .before .before .before .before .before .before .before .before .before .args in (asks-list (a .items .now) (a .work .now) (a .node) (a .w) (a .top) (c .before .before .before .before .before .before .before .before .before .before .before .before .pre) _ _ _ (c .before .before .before .before .before .rest .ensures) (c .before .before .before .first .ensures) (c .before .rest2 .ensures), literals-under (a .items .now) (a .work .now) (a .node) (a .w) (a .top) (c .before .before .before .before .before .before .before .before .before .before .before .before .pre) _ _ _ (c .before .before .before .before .before .rest .ensures) (c .before .before .before .first .ensures) (c .before .rest2 .ensures))
 
 same-length : tie.Need-same-length
-same-length c =
-    c .before .before .before .before .rule-list .kept .1 .0
-
-same-length-2 : tie.Need-same-length-2
-same-length-2 c =
-    c .before .before .before .before .rule-list .kept .1 .1 .0 ∙ c .before .before .before .before .before .before .before .before .before .before .before .before .before .before .before .before .is-rules-form .kept .1 .1 .0
+same-length c = search needs
 
 returns : tie.Need-returns
 returns c =
-    let a = c .before .before .before .before .before .before .before .before .before .before .before .before .before .before .before .before .before .before .before .before .before .before .args in left-form (a .items .now) (a .work .now) (a .node) (a .w) (a .top) (c .before .before .before .before .before .before .before .before .before .before .before .before .before .before .before .before .before .before .before .before .before .before .pre .1) _ _ _ (c .before .before .before .before .before .before .before .before .before .before .before .rest .ensures) (c .before .before .before .before .before .before .before .before .before .first .ensures) (c .before .before .before .before .before .before .before .rest2 .ensures) (c .before .before .before .before .rule-list .last .1 .0) (c .before .before .before .before .rule-list .result) (sym (c .before .before .before .before .before .before .before .before .before .before .before .before .before .if1 .taken) ∙ c .before .before .before .before .before .before .before .before .before .before .before .before .before .before .before .before .is-rules-form .ensures) (c .before .before .before .before .rule-list .ensures)
+    let a = c .before .before .before .before .before .before .before .before .before .before .before .before .before .before .before .args in left-form (a .items .now) (a .work .now) (a .node) (a .w) (a .top) (c .before .before .before .before .before .before .before .before .before .before .before .before .before .before .before .pre) _ _ _ (c .before .before .before .before .before .before .before .before .rest .ensures) (c .before .before .before .before .before .before .first .ensures) (c .before .before .before .before .rest2 .ensures) (c .before .before .rule-list .last .1 .0) (c .before .before .rule-list .result) (sym (c .before .before .before .before .before .before .before .before .before .before .if1 .taken) ∙ c .before .before .before .before .before .before .before .before .before .before .before .is-rules-form .ensures) (c .before .before .rule-list .ensures)
 
-same-length-3 : tie.Need-same-length-3
-same-length-3 c = search needs
-
-same-length-4 : tie.Need-same-length-4
-same-length-4 c = search needs
+same-length-2 : tie.Need-same-length-2
+same-length-2 c = search needs
 
 returns-2 : tie.Need-returns-2
 returns-2 c =
-    let a = c .before .before .before .before .before .before .before .before .before .args in left-no-form (a .items .now) (a .work .now) (a .node) (a .w) (a .top) (c .before .before .before .before .before .before .before .before .before .pre .1) (sym (c .if1 .left) ∙ c .before .before .before .is-rules-form .ensures)
+    let a = c .before .before .before .before .before .args in left-no-form (a .items .now) (a .work .now) (a .node) (a .w) (a .top) (c .before .before .before .before .before .pre) (sym (c .if1 .left) ∙ c .before .is-rules-form .ensures)
 
 pub rules-spec : {M : Type 1} → statement M
 rules-spec =
@@ -55,8 +45,6 @@ rules-spec =
     rest-requires-2
     rule-list-requires
     same-length
-    same-length-2
     returns
-    same-length-3
-    same-length-4
+    same-length-2
     returns-2)

@@ -12,26 +12,21 @@ word-requires c κs = search needs
 
 template-name-requires : tie.Need-template-name-requires
 template-name-requires c κs =
-    let a = c .before .before .before .before .before .before .before .before .before .args in (c .before .before .before .before .before .before .before .before .before .pre .0, (room-leaf (a .items .now) (a .work .now) (a .node) (a .w) (a .top) (c .before .before .before .before .before .before .before .before .before .pre .1)), c .before .before .before .before .before .before .before .before .before .pre .1 .node-below, c .before .before .before .before .before .before .before .before .before .pre .1 .wrap-below, c .before .before .before .before .before .before .before .before .before .pre .2, c .before .before .before .before .before .before .before .before .before .pre .3)
+    let a = c .before .before .before .before .before .before .before .args in ((room-leaf (a .items .now) (a .work .now) (a .node) (a .w) (a .top) (c .before .before .before .before .before .before .before .pre .0)), c .before .before .before .before .before .before .before .pre .0 .node-below, c .before .before .before .before .before .before .before .pre .0 .wrap-below, c .before .before .before .before .before .before .before .pre .1, c .before .before .before .before .before .before .before .pre .2)
 
 same-length : tie.Need-same-length
-same-length c =
-    c .before .before .before .before .template-name .kept .1 .0
-
-same-length-2 : tie.Need-same-length-2
-same-length-2 c =
-    c .before .before .before .before .template-name .kept .1 .1 .0
+same-length c = search needs
 
 returns : tie.Need-returns
 returns c =
-    let a = c .before .before .before .before .before .before .before .before .before .before .before .before .before .before .args in left-name (variablesFrom (a .items .now) (a .work .now) (a .w) (a .vars .now) 0 (a .count)) (a .d) (a .items .now) (a .work .now) (a .node) (a .w) (a .top) (c .before .before .before .before .template-name .last .1 .0) (c .before .before .before .before .template-name .result) (sym (c .before .before .before .before .before .before .before .before .word .ensures) ∙ c .before .before .before .before .before .before .before .if1 .taken) (c .before .before .before .before .template-name .ensures)
+    let a = c .before .before .before .before .before .before .before .before .before .before .args in left-name (variablesFrom (a .items .now) (a .work .now) (a .w) (a .vars .now) 0 (a .count)) (a .d) (a .items .now) (a .work .now) (a .node) (a .w) (a .top) (c .before .before .template-name .last .1 .0) (c .before .before .template-name .result) (sym (c .before .before .before .before .before .word .ensures) ∙ c .before .before .before .before .if1 .taken) (c .before .before .template-name .ensures)
 
-same-length-3 : tie.Need-same-length-3
-same-length-3 c = search needs
+same-length-2 : tie.Need-same-length-2
+same-length-2 c = search needs
 
 returns-2 : tie.Need-returns-2
 returns-2 c =
-    let a = c .before .before .before .before .before .before .before .before .args in left-empty (variablesFrom (a .items .now) (a .work .now) (a .w) (a .vars .now) 0 (a .count)) (a .d) (a .items .now) (a .work .now) (a .node) (a .w) (a .top) (sym (c .before .before .word .ensures) ∙ c .if2 .taken)
+    let a = c .before .before .before .before .before .before .before .args in left-empty (variablesFrom (a .items .now) (a .work .now) (a .w) (a .vars .now) 0 (a .count)) (a .d) (a .items .now) (a .work .now) (a .node) (a .w) (a .top) (sym (c .before .before .word .ensures) ∙ c .if2 .taken)
 
 word-requires-2 : tie.Need-word-requires-2
 word-requires-2 c κs = search needs
@@ -41,14 +36,14 @@ word-requires-3 c κs = search needs
 
 put-constant-template-requires : tie.Need-put-constant-template-requires
 put-constant-template-requires c κs =
-    let a = c .before .before .before .before .before .before .before .before .before .before .before .before .before .args in (room-leaf (a .items .now) (a .work .now) (a .node) (a .w) (a .top) (c .before .before .before .before .before .before .before .before .before .before .before .before .before .pre .1))
+    let a = c .before .before .before .before .before .before .before .before .before .before .before .before .args in (room-leaf (a .items .now) (a .work .now) (a .node) (a .w) (a .top) (c .before .before .before .before .before .before .before .before .before .before .before .before .pre .0))
 
-same-length-4 : tie.Need-same-length-4
-same-length-4 c = search needs
+same-length-3 : tie.Need-same-length-3
+same-length-3 c = search needs
 
 returns-3 : tie.Need-returns-3
 returns-3 c =
-    let a = c .before .before .before .before .before .before .before .before .before .before .before .before .before .before .before .before .args in left-constant (variablesFrom (a .items .now) (a .work .now) (a .w) (a .vars .now) 0 (a .count)) (a .d) (a .items .now) (a .work .now) (a .node) (a .w) (a .top) _ _ _ _ _ (c .before .before .before .before .before .before .before .before .before .before .word .ensures) (c .before .before .before .before .before .before .word2 .ensures) (c .before .before .before .before .word3 .ensures) (λ z. c .before .before .before .before .before .before .before .before .if2 .left (c .before .before .before .before .before .before .before .before .before .before .word .ensures ∙ z)) (λ z. c .before .before .before .before .before .before .before .before .before .if1 .left (c .before .before .before .before .before .before .before .before .before .before .word .ensures ∙ z)) (c .before .before .before .before .before .before .before .before .before .before .before .before .before .before .before .before .pre .4) (c .before .before .put-constant-template .ensures)
+    let a = c .before .before .before .before .before .before .before .before .before .before .before .before .before .before .before .args in left-constant (variablesFrom (a .items .now) (a .work .now) (a .w) (a .vars .now) 0 (a .count)) (a .d) (a .items .now) (a .work .now) (a .node) (a .w) (a .top) _ _ _ _ _ (c .before .before .before .before .before .before .before .before .before .before .word .ensures) (c .before .before .before .before .before .before .word2 .ensures) (c .before .before .before .before .word3 .ensures) (λ z. c .before .before .before .before .before .before .before .before .if2 .left (c .before .before .before .before .before .before .before .before .before .before .word .ensures ∙ z)) (λ z. c .before .before .before .before .before .before .before .before .before .if1 .left (c .before .before .before .before .before .before .before .before .before .before .word .ensures ∙ z)) (c .before .before .before .before .before .before .before .before .before .before .before .before .before .before .before .pre .3) (c .before .before .put-constant-template .ensures)
 
 pub template-leaf-spec : {M : Type 1} → statement M
 template-leaf-spec =
@@ -57,12 +52,11 @@ template-leaf-spec =
     word-requires
     template-name-requires
     same-length
-    same-length-2
     returns
-    same-length-3
+    same-length-2
     returns-2
     word-requires-2
     word-requires-3
     put-constant-template-requires
-    same-length-4
+    same-length-3
     returns-3)

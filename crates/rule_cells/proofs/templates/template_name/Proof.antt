@@ -17,7 +17,7 @@ same-length c = search needs
 
 returns : tie.Need-returns
 returns c =
-    let a = c .before .before .before .before .before .before .before .args in left-dots (variablesFrom (a .items .now) (a .work .now) (a .w) (a .vars .now) 0 (a .count)) (a .d) (nameAt (a .items .now) (a .work .now) (a .node) (a .w)) (a .items .now) (a .work .now) (a .top) (nameAt-number (a .items .now) (a .work .now) (a .node) (a .w) ∙ sym (c .before .number-of .ensures) ∙ c .if1 .taken)
+    let a = c .before .before .before .before .before .before .args in left-dots (variablesFrom (a .items .now) (a .work .now) (a .w) (a .vars .now) 0 (a .count)) (a .d) (nameAt (a .items .now) (a .work .now) (a .node) (a .w)) (a .items .now) (a .work .now) (a .top) (nameAt-number (a .items .now) (a .work .now) (a .node) (a .w) ∙ sym (c .before .number-of .ensures) ∙ c .if1 .taken)
 
 find-requires : tie.Need-find-requires
 find-requires c κs = search needs
@@ -34,22 +34,16 @@ put-variable-template-requires c κs = search needs
 same-length-2 : tie.Need-same-length-2
 same-length-2 c = search needs
 
+returns-2 : tie.Need-returns-2
+returns-2 c =
+    let a = c .before .before .before .before .before .before .before .before .before .before .before .before .before .before .before .before .before .args in left-variable (variablesFrom (a .items .now) (a .work .now) (a .w) (a .vars .now) 0 (a .count)) (a .d) (nameAt (a .items .now) (a .work .now) (a .node) (a .w)) (a .items .now) (a .work .now) (a .top) _ _ _ _ (λ z. c .before .before .before .before .before .before .before .before .before .before .before .if1 .left (c .before .before .before .before .before .before .before .before .before .before .before .before .number-of .ensures ∙ sym (nameAt-number (a .items .now) (a .work .now) (a .node) (a .w)) ∙ z)) (found-at _ _ _ _ (c .before .before .before .before .before .before .before .k .given .1) (c .before .before .before .before .before .before .before .before .before .find .ensures)) (sym (c .before .before .before .before .if2 .taken) ∙ c .before .before .before .before .before .depth-fits .ensures) (c .before .before .put-variable-template .ensures)
+
 same-length-3 : tie.Need-same-length-3
 same-length-3 c = search needs
 
-returns-2 : tie.Need-returns-2
-returns-2 c =
-    let a = c .before .before .before .before .before .before .before .before .before .before .before .before .before .before .before .before .before .before .before .before .before .args in left-variable (variablesFrom (a .items .now) (a .work .now) (a .w) (a .vars .now) 0 (a .count)) (a .d) (nameAt (a .items .now) (a .work .now) (a .node) (a .w)) (a .items .now) (a .work .now) (a .top) _ _ _ _ (λ z. c .before .before .before .before .before .before .before .before .before .before .before .before .before .before .if1 .left (c .before .before .before .before .before .before .before .before .before .before .before .before .before .before .before .number-of .ensures ∙ sym (nameAt-number (a .items .now) (a .work .now) (a .node) (a .w)) ∙ z)) (found-at _ _ _ _ (c .before .before .before .before .before .before .before .k .given .1) (c .before .before .before .before .before .before .before .before .before .before .before .find .ensures)) (sym (c .before .before .before .before .if2 .taken) ∙ c .before .before .before .before .before .depth-fits .ensures) (c .before .before .put-variable-template .ensures)
-
-same-length-4 : tie.Need-same-length-4
-same-length-4 c = search needs
-
-same-length-5 : tie.Need-same-length-5
-same-length-5 c = search needs
-
 returns-3 : tie.Need-returns-3
 returns-3 c =
-    let a = c .before .before .before .before .before .before .before .before .before .before .before .before .before .before .before .before .before .args in left-depth (variablesFrom (a .items .now) (a .work .now) (a .w) (a .vars .now) 0 (a .count)) (a .d) (nameAt (a .items .now) (a .work .now) (a .node) (a .w)) (a .items .now) (a .work .now) (a .top) _ _ (λ z. c .before .before .before .before .before .before .before .before .before .before .if1 .left (c .before .before .before .before .before .before .before .before .before .before .before .number-of .ensures ∙ sym (nameAt-number (a .items .now) (a .work .now) (a .node) (a .w)) ∙ z)) (found-at _ _ _ _ (c .before .before .before .k .given .1) (c .before .before .before .before .before .before .before .find .ensures)) (sym (c .if2 .left) ∙ c .before .depth-fits .ensures)
+    let a = c .before .before .before .before .before .before .before .before .before .before .before .before .before .args in left-depth (variablesFrom (a .items .now) (a .work .now) (a .w) (a .vars .now) 0 (a .count)) (a .d) (nameAt (a .items .now) (a .work .now) (a .node) (a .w)) (a .items .now) (a .work .now) (a .top) _ _ (λ z. c .before .before .before .before .before .before .before .if1 .left (c .before .before .before .before .before .before .before .before .number-of .ensures ∙ sym (nameAt-number (a .items .now) (a .work .now) (a .node) (a .w)) ∙ z)) (found-at _ _ _ _ (c .before .before .before .k .given .1) (c .before .before .before .before .before .find .ensures)) (sym (c .if2 .left) ∙ c .before .depth-fits .ensures)
 
 enum-told : tie.Need-enum-told
 enum-told c = search needs
@@ -57,15 +51,12 @@ enum-told c = search needs
 put-insert-requires : tie.Need-put-insert-requires
 put-insert-requires c κs = search needs
 
-same-length-6 : tie.Need-same-length-6
-same-length-6 c = search needs
-
-same-length-7 : tie.Need-same-length-7
-same-length-7 c = search needs
+same-length-4 : tie.Need-same-length-4
+same-length-4 c = search needs
 
 returns-4 : tie.Need-returns-4
 returns-4 c =
-    let a = c .before .before .before .before .before .before .before .before .before .before .before .before .before .before .before .before .before .before .args in left-insert (variablesFrom (a .items .now) (a .work .now) (a .w) (a .vars .now) 0 (a .count)) (a .d) (nameAt (a .items .now) (a .work .now) (a .node) (a .w)) (a .items .now) (a .work .now) (a .top) (a .node) (a .w) _ _ refl (λ z. c .before .before .before .before .before .before .before .before .before .before .before .if1 .left (c .before .before .before .before .before .before .before .before .before .before .before .before .number-of .ensures ∙ sym (nameAt-number (a .items .now) (a .work .now) (a .node) (a .w)) ∙ z)) (found-not _ _ (c .before .before .before .before .enum-told .given .1) (c .before .before .before .before .before .before .before .before .find .ensures)) (c .before .before .put-insert .ensures)
+    let a = c .before .before .before .before .before .before .before .before .before .before .before .before .before .before .args in left-insert (variablesFrom (a .items .now) (a .work .now) (a .w) (a .vars .now) 0 (a .count)) (a .d) (nameAt (a .items .now) (a .work .now) (a .node) (a .w)) (a .items .now) (a .work .now) (a .top) (a .node) (a .w) _ _ refl (λ z. c .before .before .before .before .before .before .before .before .if1 .left (c .before .before .before .before .before .before .before .before .before .number-of .ensures ∙ sym (nameAt-number (a .items .now) (a .work .now) (a .node) (a .w)) ∙ z)) (found-not _ _ (c .before .before .before .before .enum-told .given .1) (c .before .before .before .before .before .before .find .ensures)) (c .before .before .put-insert .ensures)
 
 pub template-name-spec : {M : Type 1} → statement M
 template-name-spec =
@@ -79,13 +70,10 @@ template-name-spec =
     depth-fits-requires
     put-variable-template-requires
     same-length-2
-    same-length-3
     returns-2
-    same-length-4
-    same-length-5
+    same-length-3
     returns-3
     enum-told
     put-insert-requires
-    same-length-6
-    same-length-7
+    same-length-4
     returns-4)

@@ -22,143 +22,131 @@ use Rattle.rule_cells.specs.declared.variables.Kept.the-variants.{Count,
 use Rattle.rule_cells.specs.Variables.{Gathering}
 use Rattle.rule_cells.specs.GatherLaws.{deeper-most, gathered-stored, gathered-name, gathered-other, gathered-bad, gathering-begins, gathering-more}
 
-abbrev μ-gather : Measures 4 gather-kinds.ps ℕ
+abbrev μ-gather : Measures 3 gather-kinds.ps ℕ
 μ-gather κs a =
-    a .1 .1 .1 .1 .1 .0
+    a .1 .1 .1 .1 .0
 
-abbrev gather-at : ℕ → In 4 gather-kinds.ps
-gather-at t = and 4 gather-kinds.ps (is 4 gather-kinds.ps μ-gather t) gather.Pre
+abbrev gather-at : ℕ → In 3 gather-kinds.ps
+gather-at t = and 3 gather-kinds.ps (is 3 gather-kinds.ps μ-gather t) gather.Pre
 
-abbrev gather-below : ℕ → In 4 gather-kinds.ps
-gather-below t = and 4 gather-kinds.ps (falls 4 gather-kinds.ps _<_ μ-gather t) gather.Pre
+abbrev gather-below : ℕ → In 3 gather-kinds.ps
+gather-below t = and 3 gather-kinds.ps (falls 3 gather-kinds.ps _<_ μ-gather t) gather.Pre
 
 abbrev gather-claims : ℕ → gather-lts.Claims
 gather-claims t = (word-reads.Asked, word-reads.Learnt, reference-reads.Asked, reference-reads.Learnt, depth-before-reads.Asked, depth-before-reads.Learnt, gather-below t, gather.Post, gather-name-reads.Asked, gather-name-reads.Learnt)
 
 abbrev gather-Inv-loop : gather-lts.InvT-loop
-gather-Inv-loop items work table₀ vars₀ literals node w d n at₀ m₀ table vars at m =
-    (length table ≡ length table₀) × (length vars ≡ length vars₀) × Gathering (names (treeAt items work literals w)) d items work w node n vars₀ at m vars
+gather-Inv-loop items work vars₀ literals node w d n at₀ m₀ vars at m =
+    (length vars ≡ length vars₀) × Gathering (names (treeAt items work literals w)) d items work w node n vars₀ at m vars
 
 abbrev gather-μ-loop : gather-lts.MeasureT-loop
-gather-μ-loop items work table₀ vars₀ literals node w d n at₀ m₀ table vars at m =
+gather-μ-loop items work vars₀ literals node w d n at₀ m₀ vars at m =
     at
 
 gather-loop-holds : (t : ℕ) → gather-lts.Need-loop-holds (gather-claims t) (gather-at t) gather.Post gather-Inv-loop gather-μ-loop
 gather-loop-holds t c =
-    let a = c .before .before .before .before .args in
-    (refl, refl, gathering-begins (a .items .now) (a .work .now) (a .w) (a .node) (a .n) (a .vars .now) (names (treeAt (a .items .now) (a .work .now) (a .literals) (a .w))) (a .d) (c .before .before .before .before .pre .1 .2))
+    let a = c .before .before .before .args in
+    (refl, gathering-begins (a .items .now) (a .work .now) (a .w) (a .node) (a .n) (a .vars .now) (names (treeAt (a .items .now) (a .work .now) (a .literals) (a .w))) (a .d) (c .before .before .before .pre .1 .1))
 
 gather-word-requires : (t : ℕ) → gather-lts.Need-word-requires (gather-claims t) (gather-at t) gather.Post gather-Inv-loop gather-μ-loop
-gather-word-requires t c κs =
-    search needs
+gather-word-requires t c κs = search needs
 
 gather-reference-requires : (t : ℕ) → gather-lts.Need-reference-requires (gather-claims t) (gather-at t) gather.Post gather-Inv-loop gather-μ-loop
-gather-reference-requires t c κs =
-    search needs
+gather-reference-requires t c κs = search needs
 
 gather-reference-requires-2 : (t : ℕ) → gather-lts.Need-reference-requires-2 (gather-claims t) (gather-at t) gather.Post gather-Inv-loop gather-μ-loop
-gather-reference-requires-2 t c κs =
-    search needs
+gather-reference-requires-2 t c κs = search needs
 
 gather-depth-before-requires : (t : ℕ) → gather-lts.Need-depth-before-requires (gather-claims t) (gather-at t) gather.Post gather-Inv-loop gather-μ-loop
 gather-depth-before-requires t c κs =
     let l = c .before .before .before .before .loop in
-    omega (arith, c .before .before .before .before .before .before .before .before .before .pre .1 .3, l .inv .2 .low, pair-falls (c .before .before .before .before .before .before .before .before .before .args .work .now) (l .at) 1 (sym (c .before .before .before .word .ensures) ∙ c .before .before .if1 .taken), c .reference2 .ensures)
+    omega (arith, c .before .before .before .before .before .before .before .before .pre .1 .2, l .inv .1 .low, pair-falls (c .before .before .before .before .before .before .before .before .args .work .now) (l .at) 1 (sym (c .before .before .before .word .ensures) ∙ c .before .before .if1 .taken), c .reference2 .ensures)
 
 gather-gather-requires : (t : ℕ) → gather-lts.Need-gather-requires (gather-claims t) (gather-at t) gather.Post gather-Inv-loop gather-μ-loop
 gather-gather-requires t c κs =
-    let p = c .before .before .before .before .before .before .before .before .before .before .before .before .pre in
-    let l = c .before .before .before .before .before .before .before .loop in
-    let h = pair-falls (c .before .before .before .before .before .before .before .before .before .before .before .before .args .work .now) (l .at) 2 (sym (c .before .before .before .before .before .before .word .ensures) ∙ c .before .before .before .before .before .if1 .taken) in (
-      omega (arith, p .0, l .inv .2 .low, h, c .before .before .before .before .reference .ensures),
+    let p = c .before .before .before .before .before .before .before .before .before .before .pre in
+    let l = c .before .before .before .before .before .before .loop in
+    let h = pair-falls (c .before .before .before .before .before .before .before .before .before .before .args .work .now) (l .at) 2 (sym (c .before .before .before .before .before .word .ensures) ∙ c .before .before .before .before .if1 .taken) in (
+      omega (arith, p .0, l .inv .1 .low, h, c .before .before .before .reference .ensures),
       (
         omega (arith, p .1 .0, l .inv .0),
-        omega (arith, p .1 .1, l .inv .1),
-        l .inv .2 .held,
-        omega (arith, p .1 .3, l .inv .2 .low, h, c .before .before .before .before .reference .ensures, deeper-most _ _ _ _ _ (c .before .before .depth-before .ensures)),
+        l .inv .1 .held,
+        omega (arith, p .1 .2, l .inv .1 .low, h, c .before .before .before .reference .ensures, deeper-most _ _ _ _ _ (c .before .depth-before .ensures)),
       ),
     )
 
 gather-enum-known-k : (t : ℕ) → gather-lts.Need-enum-known-k (gather-claims t) (gather-at t) gather.Post gather-Inv-loop gather-μ-loop
-gather-enum-known-k t c =
-    search needs
+gather-enum-known-k t c = search needs
 
 gather-enum-told : (t : ℕ) → gather-lts.Need-enum-told (gather-claims t) (gather-at t) gather.Post gather-Inv-loop gather-μ-loop
-gather-enum-told t c =
-    search needs
+gather-enum-told t c = search needs
 
 gather-same-length : (t : ℕ) → gather-lts.Need-same-length (gather-claims t) (gather-at t) gather.Post gather-Inv-loop gather-μ-loop
-gather-same-length t c =
-    c .before .before .before .before .before .before .gather .kept .1 .1 .0 ∙ c .before .before .before .before .before .before .before .before .before .before .before .before .before .before .loop .inv .0
-
-gather-same-length-2 : (t : ℕ) → gather-lts.Need-same-length-2 (gather-claims t) (gather-at t) gather.Post gather-Inv-loop gather-μ-loop
-gather-same-length-2 t c =
-    c .before .before .before .before .before .before .gather .kept .1 .1 .1 .0 ∙ c .before .before .before .before .before .before .before .before .before .before .before .before .before .before .loop .inv .1
+gather-same-length t c = search needs
 
 gather-returns : (t : ℕ) → gather-lts.Need-returns (gather-claims t) (gather-at t) gather.Post gather-Inv-loop gather-μ-loop
 gather-returns t c =
-    let a = c .before .before .before .before .before .before .before .before .before .before .before .before .before .before .before .before .before .before .before .args in
-    let l = c .before .before .before .before .before .before .before .before .before .before .before .before .before .before .loop in
-    l .inv .2 .all (c .before .before .before .before .before .before .gather .last .1 .1 .1 .0) Bad
-    (gathered-bad (a .items .now) (a .work .now) (a .w) (l .at) (l .m) (l .vars) (names (treeAt (a .items .now) (a .work .now) (a .literals) (a .w))) (a .d) _ _ _ (sym (c .before .before .before .before .before .before .before .before .before .before .before .before .before .word .ensures) ∙ c .before .before .before .before .before .before .before .before .before .before .before .before .if1 .taken) (c .before .before .before .before .before .before .before .before .before .before .before .reference .ensures) (c .before .before .before .before .before .before .before .before .before .before .reference2 .ensures) (c .before .before .before .before .before .before .before .before .before .depth-before .ensures) _ _ (c .enum-told .given .1) (c .before .before .before .before .before .before .gather .ensures))
+    let a = c .before .before .before .before .before .before .before .before .before .before .before .before .before .before .before .args in
+    let l = c .before .before .before .before .before .before .before .before .before .before .before .loop in
+    l .inv .1 .all (c .before .before .before .before .gather .last .1 .1 .0) Bad
+    (gathered-bad (a .items .now) (a .work .now) (a .w) (l .at) (l .m) (l .vars) (names (treeAt (a .items .now) (a .work .now) (a .literals) (a .w))) (a .d) _ _ _ (sym (c .before .before .before .before .before .before .before .before .before .before .word .ensures) ∙ c .before .before .before .before .before .before .before .before .before .if1 .taken) (c .before .before .before .before .before .before .before .before .reference .ensures) (c .before .before .before .before .before .before .before .reference2 .ensures) (c .before .before .before .before .before .before .depth-before .ensures) _ _ (c .enum-told .given .1) (c .before .before .before .before .gather .ensures))
 
 gather-loop-less : (t : ℕ) → gather-lts.Need-loop-less (gather-claims t) (gather-at t) gather.Post gather-Inv-loop gather-μ-loop
 gather-loop-less t c =
-    omega (arith, pair-falls (c .before .before .before .before .before .before .before .before .before .before .before .before .before .before .before .before .before .before .before .before .args .work .now) (c .before .before .before .before .before .before .before .before .before .before .before .before .before .before .before .loop .at) 1 (sym (c .before .before .before .before .before .before .before .before .before .before .before .before .before .before .word .ensures) ∙ c .before .before .before .before .before .before .before .before .before .before .before .before .before .if1 .taken), c .before .before .before .before .before .before .before .before .before .before .before .reference2 .ensures)
+    omega (arith, pair-falls (c .before .before .before .before .before .before .before .before .before .before .before .before .before .before .before .before .args .work .now) (c .before .before .before .before .before .before .before .before .before .before .before .before .loop .at) 1 (sym (c .before .before .before .before .before .before .before .before .before .before .before .word .ensures) ∙ c .before .before .before .before .before .before .before .before .before .before .if1 .taken), c .before .before .before .before .before .before .before .before .reference2 .ensures)
 
 gather-loop-again : (t : ℕ) → gather-lts.Need-loop-again (gather-claims t) (gather-at t) gather.Post gather-Inv-loop gather-μ-loop
 gather-loop-again t c =
-    let a = c .before .before .before .before .before .before .before .before .before .before .before .before .before .before .before .before .before .before .before .before .args in
-    let l = c .before .before .before .before .before .before .before .before .before .before .before .before .before .before .before .loop in (
-      c .before .before .before .before .before .before .before .gather .kept .1 .1 .0 ∙ l .inv .0,
-      c .before .before .before .before .before .before .before .gather .kept .1 .1 .1 .0 ∙ l .inv .1,
-      gathering-more (a .items .now) (a .work .now) (a .w) (l .at) (l .m) (l .vars) (names (treeAt (a .items .now) (a .work .now) (a .literals) (a .w))) (a .d) _ _ _ (sym (c .before .before .before .before .before .before .before .before .before .before .before .before .before .before .word .ensures) ∙ c .before .before .before .before .before .before .before .before .before .before .before .before .before .if1 .taken) (c .before .before .before .before .before .before .before .before .before .before .before .before .reference .ensures) (c .before .before .before .before .before .before .before .before .before .before .before .reference2 .ensures) (c .before .before .before .before .before .before .before .before .before .before .depth-before .ensures) _ _ _ _ _
-          (gathered-stored _ _ _ _ _ _ _ _ _ _ (c .before .k .given .1) (c .before .before .before .before .before .before .before .gather .ensures))
-          (l .inv .2),
+    let a = c .before .before .before .before .before .before .before .before .before .before .before .before .before .before .before .before .args in
+    let l = c .before .before .before .before .before .before .before .before .before .before .before .before .loop in (
+      c .before .before .before .before .before .gather .kept .1 .1 .0 ∙ l .inv .0,
+      gathering-more (a .items .now) (a .work .now) (a .w) (l .at) (l .m) (l .vars) (names (treeAt (a .items .now) (a .work .now) (a .literals) (a .w))) (a .d) _ _ _ (sym (c .before .before .before .before .before .before .before .before .before .before .before .word .ensures) ∙ c .before .before .before .before .before .before .before .before .before .before .if1 .taken) (c .before .before .before .before .before .before .before .before .before .reference .ensures) (c .before .before .before .before .before .before .before .before .reference2 .ensures) (c .before .before .before .before .before .before .before .depth-before .ensures) _ _ _ _ _
+          (gathered-stored _ _ _ _ _ _ _ _ _ _ (c .before .k .given .1) (c .before .before .before .before .before .gather .ensures))
+          (l .inv .1),
     )
 
 gather-word-requires-2 : (t : ℕ) → gather-lts.Need-word-requires-2 (gather-claims t) (gather-at t) gather.Post gather-Inv-loop gather-μ-loop
-gather-word-requires-2 t c κs =
-    search needs
+gather-word-requires-2 t c κs = search needs
 
 gather-gather-name-requires : (t : ℕ) → gather-lts.Need-gather-name-requires (gather-claims t) (gather-at t) gather.Post gather-Inv-loop gather-μ-loop
 gather-gather-name-requires t c κs =
-    let p = c .before .before .before .before .before .before .before .before .before .before .before .pre in
-    let l = c .before .before .before .before .before .before .loop in
-    (omega (arith, p .1 .0, l .inv .0), omega (arith, p .1 .1, l .inv .1), l .inv .2 .held)
+    let p = c .before .before .before .before .before .before .before .before .before .pre in
+    let l = c .before .before .before .before .before .loop in
+    (omega (arith, p .1 .0, l .inv .0), l .inv .1 .held)
 
-gather-same-length-3 : (t : ℕ) → gather-lts.Need-same-length-3 (gather-claims t) (gather-at t) gather.Post gather-Inv-loop gather-μ-loop
-gather-same-length-3 t c =
-    c .before .before .before .before .gather-name .kept .1 .1 .0 ∙ c .before .before .before .before .before .before .before .before .before .before .before .loop .inv .0
-
-gather-same-length-4 : (t : ℕ) → gather-lts.Need-same-length-4 (gather-claims t) (gather-at t) gather.Post gather-Inv-loop gather-μ-loop
-gather-same-length-4 t c =
-    c .before .before .before .before .gather-name .kept .1 .1 .1 .0 ∙ c .before .before .before .before .before .before .before .before .before .before .before .loop .inv .1
+gather-same-length-2 : (t : ℕ) → gather-lts.Need-same-length-2 (gather-claims t) (gather-at t) gather.Post gather-Inv-loop gather-μ-loop
+gather-same-length-2 t c = search needs
 
 gather-returns-2 : (t : ℕ) → gather-lts.Need-returns-2 (gather-claims t) (gather-at t) gather.Post gather-Inv-loop gather-μ-loop
 gather-returns-2 t c =
-    let a = c .before .before .before .before .before .before .before .before .before .before .before .before .before .before .before .before .args in
-    let l = c .before .before .before .before .before .before .before .before .before .before .before .loop in
-    l .inv .2 .all (c .before .before .before .before .gather-name .last .1 .1 .1 .0) (c .before .before .before .before .gather-name .result)
-    (gathered-name (a .items .now) (a .work .now) (a .w) (l .at) (l .m) (l .vars) (names (treeAt (a .items .now) (a .work .now) (a .literals) (a .w))) (a .d) (c .before .before .before .before .gather-name .last .1 .1 .1 .0) (c .before .before .before .before .gather-name .result) (sym (c .before .before .before .before .before .before .before .before .word2 .ensures) ∙ c .before .before .before .before .before .before .before .if2 .taken) (c .before .before .before .before .gather-name .ensures))
+    let a = c .before .before .before .before .before .before .before .before .before .before .before .before .args in
+    let l = c .before .before .before .before .before .before .before .before .loop in
+    l .inv .1 .all (c .before .before .gather-name .last .1 .1 .0) (c .before .before .gather-name .result)
+    (gathered-name (a .items .now) (a .work .now) (a .w) (l .at) (l .m) (l .vars) (names (treeAt (a .items .now) (a .work .now) (a .literals) (a .w))) (a .d) (c .before .before .gather-name .last .1 .1 .0) (c .before .before .gather-name .result) (sym (c .before .before .before .before .before .word2 .ensures) ∙ c .before .before .before .before .if2 .taken) (c .before .before .gather-name .ensures))
 
-gather-same-length-5 : (t : ℕ) → gather-lts.Need-same-length-5 (gather-claims t) (gather-at t) gather.Post gather-Inv-loop gather-μ-loop
-gather-same-length-5 t c =
-    c .before .before .before .before .loop .inv .0
-
-gather-same-length-6 : (t : ℕ) → gather-lts.Need-same-length-6 (gather-claims t) (gather-at t) gather.Post gather-Inv-loop gather-μ-loop
-gather-same-length-6 t c =
-    c .before .before .before .before .loop .inv .1
+gather-same-length-3 : (t : ℕ) → gather-lts.Need-same-length-3 (gather-claims t) (gather-at t) gather.Post gather-Inv-loop gather-μ-loop
+gather-same-length-3 t c = search needs
 
 gather-returns-3 : (t : ℕ) → gather-lts.Need-returns-3 (gather-claims t) (gather-at t) gather.Post gather-Inv-loop gather-μ-loop
 gather-returns-3 t c =
-    let a = c .before .before .before .before .before .before .before .before .before .args in
+    let a = c .before .before .before .before .before .before .before .before .args in
     let l = c .before .before .before .before .loop in
-    l .inv .2 .all (l .vars) (Count (l .m))
-    (gathered-other (a .items .now) (a .work .now) (a .w) (l .at) (l .m) (l .vars) (names (treeAt (a .items .now) (a .work .now) (a .literals) (a .w))) (a .d) (λ z. c .if2 .left (c .before .word2 .ensures ∙ z)) (λ z. c .before .before .if1 .left (c .before .before .before .word .ensures ∙ z)) (l .inv .2 .held))
+    l .inv .1 .all (l .vars) (Count (l .m))
+    (gathered-other (a .items .now) (a .work .now) (a .w) (l .at) (l .m) (l .vars) (names (treeAt (a .items .now) (a .work .now) (a .literals) (a .w))) (a .d) (λ z. c .if2 .left (c .before .word2 .ensures ∙ z)) (λ z. c .before .before .if1 .left (c .before .before .before .word .ensures ∙ z)) (l .inv .1 .held))
 
 pub +gather-spec : {M : Type 1} → statement M
-+gather-spec = close μ-gather λ t. gather-lts.spec (gather-claims t)
++gather-spec = close μ-gather λ t. gather-lts.spec (
+  word-reads.Asked,
+  word-reads.Learnt,
+  reference-reads.Asked,
+  reference-reads.Learnt,
+  depth-before-reads.Asked,
+  depth-before-reads.Learnt,
+  gather-below t,
+  gather.Post,
+  gather-name-reads.Asked,
+  gather-name-reads.Learnt,
+)
     (gather-at t)
     gather.Post
     gather-Inv-loop
@@ -172,15 +160,12 @@ pub +gather-spec : {M : Type 1} → statement M
     (gather-enum-known-k t)
     (gather-enum-told t)
     (gather-same-length t)
-    (gather-same-length-2 t)
     (gather-returns t)
     (gather-loop-less t)
     (gather-loop-again t)
     (gather-word-requires-2 t)
     (gather-gather-name-requires t)
-    (gather-same-length-3 t)
-    (gather-same-length-4 t)
+    (gather-same-length-2 t)
     (gather-returns-2 t)
-    (gather-same-length-5 t)
-    (gather-same-length-6 t)
+    (gather-same-length-3 t)
     (gather-returns-3 t)

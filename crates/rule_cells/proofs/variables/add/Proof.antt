@@ -8,29 +8,25 @@ use lib.ListN.{length-set}
 
 returns : tie.Need-returns
 returns c =
-    let a = c .before .before .before .before .before .args in add-deep (a .items .now) (a .work .now) (a .w) (a .vars .now) (a .n) (a .node) (a .d) (omega (arith, c .if1 .taken))
+    let a = c .before .before .before .before .args in add-deep (a .items .now) (a .work .now) (a .w) (a .vars .now) (a .n) (a .node) (a .d) (omega (arith, c .if1 .taken))
 
 returns-2 : tie.Need-returns-2
 returns-2 c =
-    let a = c .before .before .before .before .before .before .args in add-many (a .items .now) (a .work .now) (a .w) (a .vars .now) (a .n) (a .node) (a .d) (c .if2 .taken)
+    let a = c .before .before .before .before .before .args in add-many (a .items .now) (a .work .now) (a .w) (a .vars .now) (a .n) (a .node) (a .d) (c .if2 .taken)
 
 find-requires : tie.Need-find-requires
 find-requires c κs =
-    (c .before .before .before .before .before .before .before .before .pre .0, omega arith, c .before .before .before .before .before .before .before .before .pre .1)
+    (omega arith, c .before .before .before .before .before .before .pre .0)
 
 enum-known-k : tie.Need-enum-known-k
 enum-known-k c = search needs
 
 same-length : tie.Need-same-length
-same-length c =
-    c .before .before .before .before .before .find .kept .1 .1 .0
-
-same-length-2 : tie.Need-same-length-2
-same-length-2 c = search needs
+same-length c = search needs
 
 returns-3 : tie.Need-returns-3
 returns-3 c =
-    let a = c .before .before .before .before .before .before .before .before .before .before .before .before .before .before .args in add-twice (a .items .now) (a .work .now) (a .w) (a .vars .now) (a .n) (a .node) (a .d) _ (found-at _ _ _ _ (c .before .k .given .1) (c .before .before .before .before .before .find .ensures))
+    let a = c .before .before .before .before .before .before .before .before .before .before .args in add-twice (a .items .now) (a .work .now) (a .w) (a .vars .now) (a .n) (a .node) (a .d) _ (found-at _ _ _ _ (c .before .k .given .1) (c .before .before .before .find .ensures))
 
 enum-told : tie.Need-enum-told
 enum-told c = search needs
@@ -52,21 +48,17 @@ mul-vars-2 c = search needs
 
 slice-write-vars-2 : tie.Need-slice-write-vars-2
 slice-write-vars-2 c =
-    simp length-set (omega (arith, c .before .before .before .before .before .before .before .before .before .before .before .before .before .pre .1))
+    simp length-set (omega (arith, c .before .before .before .before .before .before .before .before .before .pre .0))
 
-add-t22 : tie.Need-add-t22
-add-t22 c = search needs
+add-t19 : tie.Need-add-t19
+add-t19 c = search needs
 
-same-length-3 : tie.Need-same-length-3
-same-length-3 c =
-    c .before .before .before .before .find .kept .1 .1 .0
-
-same-length-4 : tie.Need-same-length-4
-same-length-4 c = search needs
+same-length-2 : tie.Need-same-length-2
+same-length-2 c = search needs
 
 returns-4 : tie.Need-returns-4
 returns-4 c =
-    let a = c .before .before .before .before .before .before .before .before .before .before .before .before .before .args in add-one (a .items .now) (a .work .now) (a .w) (a .vars .now) (a .n) (a .node) (a .d) (omega (arith, c .before .before .before .before .before .before .before .before .before .before .before .before .before .pre .1)) (c .before .before .before .before .before .before .before .before .before .before .before .before .before .pre .2) (omega arith) (omega arith) (found-not _ _ (c .enum-told .given .1) (c .before .before .before .before .find .ensures))
+    let a = c .before .before .before .before .before .before .before .before .before .args in add-one (a .items .now) (a .work .now) (a .w) (a .vars .now) (a .n) (a .node) (a .d) (omega (arith, c .before .before .before .before .before .before .before .before .before .pre .0)) (c .before .before .before .before .before .before .before .before .before .pre .1) (omega arith) (omega arith) (found-not _ _ (c .enum-told .given .1) (c .before .before .find .ensures))
 
 pub add-spec : {M : Type 1} → statement M
 add-spec =
@@ -77,7 +69,6 @@ add-spec =
     find-requires
     enum-known-k
     same-length
-    same-length-2
     returns-3
     enum-told
     mul-at
@@ -86,7 +77,6 @@ add-spec =
     add-vars
     mul-vars-2
     slice-write-vars-2
-    add-t22
-    same-length-3
-    same-length-4
+    add-t19
+    same-length-2
     returns-4)

@@ -3,8 +3,7 @@ use Rattle.rule_cells.proofs.variables.find.Statement.{statement}
 use Rattle.rule_cells.proofs.variables.find.Tie as tie
 use borrow.Author.Needs.{needs}
 use Prim.Native.Nat.{_-_, _≤_}
-use mathlib.Core.Path.{_≡_, refl, sym, _∙_}
-use lib.ListN.{length}
+use mathlib.Core.Path.{_≡_, sym, _∙_}
 use native.Mathlib.Omega.{arith}
 use Rattle.expansion.specs.Rules.{variableFrom}
 use Rattle.arena.specs.Arena.{nameAt}
@@ -12,90 +11,70 @@ use Rattle.rule_cells.specs.Variables.{variablesFrom, knownFrom}
 use Rattle.rule_cells.specs.VariableLaws.{known-all, known-none, known-here, known-more}
 
 abbrev Inv-loop : tie.InvT-loop
-Inv-loop items work table₀ vars i left node w end k₀ table k =
-    (length table ≡ length table₀) × (k ≤ end) × (knownFrom items work w vars (nameAt items work node w) end k ≡ variableFrom i (variablesFrom items work w vars i left) (nameAt items work node w))
+Inv-loop items work vars i left node w end k₀ k =
+    (k ≤ end) × (knownFrom items work w vars (nameAt items work node w) end k ≡ variableFrom i (variablesFrom items work w vars i left) (nameAt items work node w))
 
 abbrev μ-loop : tie.MeasureT-loop
-μ-loop items work table₀ vars i left node w end k₀ table k =
+μ-loop items work vars i left node w end k₀ k =
     end - k
 
 add-end : tie.Need-add-end Inv-loop μ-loop
-add-end c =
-    search needs
+add-end c = search needs
 
 loop-holds : tie.Need-loop-holds Inv-loop μ-loop
 loop-holds c =
-    let a = c .before .before .before .before .args in
-    (refl, omega arith, known-all (a .items .now) (a .work .now) (a .w) (a .vars .now) (nameAt (a .items .now) (a .work .now) (a .node) (a .w)) (a .i) (a .left))
+    let a = c .before .before .before .args in
+    (omega arith, known-all (a .items .now) (a .work .now) (a .w) (a .vars .now) (nameAt (a .items .now) (a .work .now) (a .node) (a .w)) (a .i) (a .left))
 
 cast-at : tie.Need-cast-at Inv-loop μ-loop
-cast-at c =
-    search needs
+cast-at c = search needs
 
 mul-at : tie.Need-mul-at Inv-loop μ-loop
-mul-at c =
-    search needs
+mul-at c = search needs
 
 mul-same-names : tie.Need-mul-same-names Inv-loop μ-loop
-mul-same-names c =
-    search needs
+mul-same-names c = search needs
 
 shared-slice-read-same-names : tie.Need-shared-slice-read-same-names Inv-loop μ-loop
-shared-slice-read-same-names c =
-    search needs
+shared-slice-read-same-names c = search needs
 
 same-names-requires : tie.Need-same-names-requires Inv-loop μ-loop
-same-names-requires c κs =
-    search needs
+same-names-requires c κs = search needs
 
-add-t19 : tie.Need-add-t19 Inv-loop μ-loop
-add-t19 c =
-    search needs
+add-t16 : tie.Need-add-t16 Inv-loop μ-loop
+add-t16 c = search needs
 
-mul-t20 : tie.Need-mul-t20 Inv-loop μ-loop
-mul-t20 c =
-    search needs
+mul-t17 : tie.Need-mul-t17 Inv-loop μ-loop
+mul-t17 c = search needs
 
-shared-slice-read-t22 : tie.Need-shared-slice-read-t22 Inv-loop μ-loop
-shared-slice-read-t22 c =
-    search needs
-
-same-length : tie.Need-same-length Inv-loop μ-loop
-same-length c =
-    c .before .before .before .before .same-names .kept .1 .1 .0 ∙ c .before .before .before .before .before .before .before .before .loop .inv .0
+shared-slice-read-t19 : tie.Need-shared-slice-read-t19 Inv-loop μ-loop
+shared-slice-read-t19 c = search needs
 
 returns : tie.Need-returns Inv-loop μ-loop
 returns c =
-    let a = c .before .before .before .before .before .before .before .before .before .before .before .before .before .args in
-    let l = c .before .before .before .before .before .before .before .before .loop in
-    known-here (a .items .now) (a .work .now) (a .w) (a .vars .now) (nameAt (a .items .now) (a .work .now) (a .node) (a .w)) _ _ (c .before .before .before .before .before .before .before .loop-test .taken) (sym (c .before .if1 .taken) ∙ c .before .before .before .before .same-names .ensures) ∙ l .inv .2
+    let a = c .before .before .before .before .before .before .before .before .before .args in
+    let l = c .before .before .before .before .before .loop in
+    known-here (a .items .now) (a .work .now) (a .w) (a .vars .now) (nameAt (a .items .now) (a .work .now) (a .node) (a .w)) _ _ (c .before .before .before .before .loop-test .taken) (sym (c .before .if1 .taken) ∙ c .before .before .same-names .ensures) ∙ l .inv .1
 
 add-k : tie.Need-add-k Inv-loop μ-loop
-add-k c =
-    search needs
+add-k c = search needs
 
 loop-less : tie.Need-loop-less Inv-loop μ-loop
-loop-less c =
-    search needs
+loop-less c = search needs
 
 loop-again : tie.Need-loop-again Inv-loop μ-loop
 loop-again c =
-    let a = c .before .before .before .before .before .before .before .before .before .before .before .before .args in
-    let l = c .before .before .before .before .before .before .before .loop in
-    let s = c .before .before .before .same-names in (
-      s .kept .1 .1 .0 ∙ l .inv .0,
+    let a = c .before .before .before .before .before .before .before .before .args in
+    let l = c .before .before .before .before .loop in
+    let s = c .before .same-names in (
       omega arith,
-      known-more (a .items .now) (a .work .now) (a .w) (a .vars .now) (nameAt (a .items .now) (a .work .now) (a .node) (a .w)) _ _ (c .before .before .before .before .before .before .loop-test .taken) (sym (c .if1 .left) ∙ s .ensures) ∙ l .inv .2,
+      known-more (a .items .now) (a .work .now) (a .w) (a .vars .now) (nameAt (a .items .now) (a .work .now) (a .node) (a .w)) _ _ (c .before .before .before .loop-test .taken) (sym (c .if1 .left) ∙ s .ensures) ∙ l .inv .1,
     )
-
-same-length-2 : tie.Need-same-length-2 Inv-loop μ-loop
-same-length-2 c =
-    c .before .loop .inv .0
 
 returns-2 : tie.Need-returns-2 Inv-loop μ-loop
 returns-2 c =
-    let a = c .before .before .before .before .before .before .args in
-    known-none (a .items .now) (a .work .now) (a .w) (a .vars .now) (nameAt (a .items .now) (a .work .now) (a .node) (a .w)) _ _ (omega arith) ∙ c .before .loop .inv .2
+    let a = c .before .before .before .before .before .args in
+    known-none (a .items .now) (a .work .now) (a .w) (a .vars .now) (nameAt (a .items .now) (a .work .now) (a .node) (a .w)) _ _ (omega arith) ∙ c .before .loop .inv .1
 
 pub find-spec : {M : Type 1} → statement M
 find-spec =
@@ -110,13 +89,11 @@ find-spec =
     mul-same-names
     shared-slice-read-same-names
     same-names-requires
-    add-t19
-    mul-t20
-    shared-slice-read-t22
-    same-length
+    add-t16
+    mul-t17
+    shared-slice-read-t19
     returns
     add-k
     loop-less
     loop-again
-    same-length-2
     returns-2)

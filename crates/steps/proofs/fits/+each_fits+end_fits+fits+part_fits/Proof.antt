@@ -28,59 +28,73 @@ use Rattle.steps.specs.FitLaws.{fits-variable, fits-wildcard, fits-liter
 use Rattle.arena.specs.ArenaLaws.{referenceAt-falls}
 use native.Mathlib.Omega.{arith}
 use borrow.Author.Needs.{needs}
-use mathlib.Core.Path.{_≡_, refl, sym, _∙_}
-use lib.ListN.{length}
+use mathlib.Core.Path.{refl, sym, _∙_}
 
-abbrev μ-each-fits : Measures 3 each-fits-kinds.ps ℕ
-μ-each-fits κs a = 4 * a .1 .1 .1 .0 + 3
+abbrev μ-each-fits : Measures 2 each-fits-kinds.ps ℕ
+μ-each-fits κs a = 4 * a .1 .1 .0 + 3
 
-abbrev μ-end-fits : Measures 3 end-fits-kinds.ps ℕ
-μ-end-fits κs a = 4 * a .1 .1 .1 .0
+abbrev μ-end-fits : Measures 2 end-fits-kinds.ps ℕ
+μ-end-fits κs a = 4 * a .1 .1 .0
 
-abbrev μ-fits : Measures 3 fits-kinds.ps ℕ
-μ-fits κs a = 4 * a .1 .1 .1 .0 + 1
+abbrev μ-fits : Measures 2 fits-kinds.ps ℕ
+μ-fits κs a = 4 * a .1 .1 .0 + 1
 
-abbrev μ-part-fits : Measures 3 part-fits-kinds.ps ℕ
-μ-part-fits κs a = 4 * a .1 .1 .1 .0 + 2
+abbrev μ-part-fits : Measures 2 part-fits-kinds.ps ℕ
+μ-part-fits κs a = 4 * a .1 .1 .0 + 2
 
-abbrev each-fits-at : ℕ → In 3 each-fits-kinds.ps
-each-fits-at t = and 3 each-fits-kinds.ps (is 3 each-fits-kinds.ps μ-each-fits t) each-fits.Pre
+abbrev each-fits-at : ℕ → In 2 each-fits-kinds.ps
+each-fits-at t = and 2 each-fits-kinds.ps (is 2 each-fits-kinds.ps μ-each-fits t) each-fits.Pre
 
-abbrev each-fits-below : ℕ → In 3 each-fits-kinds.ps
+abbrev each-fits-below : ℕ → In 2 each-fits-kinds.ps
 each-fits-below t =
-    and 3 each-fits-kinds.ps (falls 3 each-fits-kinds.ps _<_ μ-each-fits t) each-fits.Pre
+    and 2 each-fits-kinds.ps (falls 2 each-fits-kinds.ps _<_ μ-each-fits t) each-fits.Pre
 
-abbrev end-fits-at : ℕ → In 3 end-fits-kinds.ps
-end-fits-at t = and 3 end-fits-kinds.ps (is 3 end-fits-kinds.ps μ-end-fits t) end-fits.Pre
+abbrev end-fits-at : ℕ → In 2 end-fits-kinds.ps
+end-fits-at t = and 2 end-fits-kinds.ps (is 2 end-fits-kinds.ps μ-end-fits t) end-fits.Pre
 
-abbrev end-fits-below : ℕ → In 3 end-fits-kinds.ps
+abbrev end-fits-below : ℕ → In 2 end-fits-kinds.ps
 end-fits-below t =
-    and 3 end-fits-kinds.ps (falls 3 end-fits-kinds.ps _<_ μ-end-fits t) end-fits.Pre
+    and 2 end-fits-kinds.ps (falls 2 end-fits-kinds.ps _<_ μ-end-fits t) end-fits.Pre
 
-abbrev fits-at : ℕ → In 3 fits-kinds.ps
-fits-at t = and 3 fits-kinds.ps (is 3 fits-kinds.ps μ-fits t) fits.Pre
+abbrev fits-at : ℕ → In 2 fits-kinds.ps
+fits-at t = and 2 fits-kinds.ps (is 2 fits-kinds.ps μ-fits t) fits.Pre
 
-abbrev fits-below : ℕ → In 3 fits-kinds.ps
-fits-below t = and 3 fits-kinds.ps (falls 3 fits-kinds.ps _<_ μ-fits t) fits.Pre
+abbrev fits-below : ℕ → In 2 fits-kinds.ps
+fits-below t = and 2 fits-kinds.ps (falls 2 fits-kinds.ps _<_ μ-fits t) fits.Pre
 
-abbrev part-fits-at : ℕ → In 3 part-fits-kinds.ps
-part-fits-at t = and 3 part-fits-kinds.ps (is 3 part-fits-kinds.ps μ-part-fits t) part-fits.Pre
+abbrev part-fits-at : ℕ → In 2 part-fits-kinds.ps
+part-fits-at t = and 2 part-fits-kinds.ps (is 2 part-fits-kinds.ps μ-part-fits t) part-fits.Pre
 
-abbrev part-fits-below : ℕ → In 3 part-fits-kinds.ps
+abbrev part-fits-below : ℕ → In 2 part-fits-kinds.ps
 part-fits-below t =
-    and 3 part-fits-kinds.ps (falls 3 part-fits-kinds.ps _<_ μ-part-fits t) part-fits.Pre
+    and 2 part-fits-kinds.ps (falls 2 part-fits-kinds.ps _<_ μ-part-fits t) part-fits.Pre
 
 abbrev each-fits-Inv-loop : each-fits-lts.InvT-loop
-each-fits-Inv-loop items work marks₀ e list w node₀ marks node = (length marks ≡ length marks₀) × Matched items work e list w node
+each-fits-Inv-loop items work e list w node₀ node = Matched items work e list w node
 
 abbrev each-fits-μ-loop : each-fits-lts.MeasureT-loop
-each-fits-μ-loop items work marks₀ e list w node₀ marks node = node
+each-fits-μ-loop items work e list w node₀ node = node
 
 abbrev each-fits-claims : ℕ → each-fits-lts.Claims
 each-fits-claims t = (word-reads.Asked, word-reads.Learnt, reference-reads.Asked, reference-reads.Learnt, part-fits-below t, part-fits.Post)
 
+abbrev end-fits-claims : ℕ → end-fits-lts.Claims
+end-fits-claims t = (word-reads.Asked, word-reads.Learnt, literal-fits-reads.Asked, literal-fits-reads.Learnt, constant-fits-reads.Asked, constant-fits-reads.Learnt, reference-reads.Asked, reference-reads.Learnt, each-fits-below t, each-fits.Post)
+
+abbrev fits-Inv-loop : fits-lts.InvT-loop
+fits-Inv-loop items work p u w at₀ node₀ at node = Along items work p u w at node
+
+abbrev fits-μ-loop : fits-lts.MeasureT-loop
+fits-μ-loop items work p u w at₀ node₀ at node = at
+
+abbrev fits-claims : ℕ → fits-lts.Claims
+fits-claims t = (word-reads.Asked, word-reads.Learnt, reference-reads.Asked, reference-reads.Learnt, part-fits-below t, part-fits.Post, end-fits-below t, end-fits.Post)
+
+abbrev part-fits-claims : ℕ → part-fits-lts.Claims
+part-fits-claims t = (word-reads.Asked, word-reads.Learnt, fits-below t, fits.Post)
+
 each-fits-loop-holds : (t : ℕ) → each-fits-lts.Need-loop-holds (each-fits-claims t) (each-fits-at t) each-fits.Post each-fits-Inv-loop each-fits-μ-loop
-each-fits-loop-holds t c = (refl, refl)
+each-fits-loop-holds t c = refl
 
 each-fits-word-requires : (t : ℕ) → each-fits-lts.Need-word-requires (each-fits-claims t) (each-fits-at t) each-fits.Post each-fits-Inv-loop each-fits-μ-loop
 each-fits-word-requires t c κs = search needs
@@ -90,96 +104,75 @@ each-fits-reference-requires t c κs = search needs
 
 each-fits-part-fits-requires : (t : ℕ) → each-fits-lts.Need-part-fits-requires (each-fits-claims t) (each-fits-at t) each-fits.Post each-fits-Inv-loop each-fits-μ-loop
 each-fits-part-fits-requires t c κs =
-    let loop = c .before .before .before .before .loop in
-    (omega arith, omega (arith, loop .inv .0))
-
-each-fits-same-length : (t : ℕ) → each-fits-lts.Need-same-length (each-fits-claims t) (each-fits-at t) each-fits.Post each-fits-Inv-loop each-fits-μ-loop
-each-fits-same-length t c =
-    let loop = c .before .before .before .before .before .before .before .before .loop in
-    let part-fits = c .before .before .before .part-fits in
-    part-fits .kept .1 .1 .0 ∙ loop .inv .0
+    let loop = c .before .before .before .loop in
+    omega arith
 
 each-fits-returns : (t : ℕ) → each-fits-lts.Need-returns (each-fits-claims t) (each-fits-at t) each-fits.Post each-fits-Inv-loop each-fits-μ-loop
 each-fits-returns t c =
-    let a = c .before .before .before .before .before .before .before .before .before .before .before .before .args in
-    let loop = c .before .before .before .before .before .before .before .before .loop in
-    let word = c .before .before .before .before .before .before .before .word in
-    let if1 = c .before .before .before .before .before .before .if1 in
-    let reference = c .before .before .before .before .before .reference in
-    let part-fits = c .before .before .before .part-fits in
-    each-no (a .items .now) (a .work .now) (a .e) (a .list) (a .w) (loop .node) _ (word .ensures) (loop .inv .1) _ _ (if1 .taken) (reference .ensures) (part-fits .ensures) (not-true _ (c .if2 .taken))
+    let a = c .before .before .before .before .before .before .before .before .args in
+    let loop = c .before .before .before .before .before .loop in
+    let word = c .before .before .before .before .word in
+    let if1 = c .before .before .before .if1 in
+    let reference = c .before .before .reference in
+    let part-fits = c .before .part-fits in
+    each-no (a .items .now) (a .work .now) (a .e) (a .list) (a .w) (loop .node) _ (word .ensures) (loop .inv) _ _ (if1 .taken) (reference .ensures) (part-fits .ensures) (not-true _ (c .if2 .taken))
 
 each-fits-reference-requires-2 : (t : ℕ) → each-fits-lts.Need-reference-requires-2 (each-fits-claims t) (each-fits-at t) each-fits.Post each-fits-Inv-loop each-fits-μ-loop
 each-fits-reference-requires-2 t c κs = search needs
 
 each-fits-loop-less : (t : ℕ) → each-fits-lts.Need-loop-less (each-fits-claims t) (each-fits-at t) each-fits.Post each-fits-Inv-loop each-fits-μ-loop
 each-fits-loop-less t c =
-    let a = c .before .before .before .before .before .before .before .before .before .before .before .before .before .args in
-    let loop = c .before .before .before .before .before .before .before .before .before .loop in
-    let word = c .before .before .before .before .before .before .before .before .word in
-    let if1 = c .before .before .before .before .before .before .before .if1 in
+    let a = c .before .before .before .before .before .before .before .before .before .args in
+    let loop = c .before .before .before .before .before .before .loop in
+    let word = c .before .before .before .before .before .word in
+    let if1 = c .before .before .before .before .if1 in
     omega (arith, c .reference2 .ensures, referenceAt-falls (a .work .now) (loop .node) 1 (kind-some (a .work .now) (loop .node) _ (word .ensures) (if1 .taken)))
 
 each-fits-loop-again : (t : ℕ) → each-fits-lts.Need-loop-again (each-fits-claims t) (each-fits-at t) each-fits.Post each-fits-Inv-loop each-fits-μ-loop
 each-fits-loop-again t c =
-    let a = c .before .before .before .before .before .before .before .before .before .before .before .before .before .args in
-    let loop = c .before .before .before .before .before .before .before .before .before .loop in
-    let word = c .before .before .before .before .before .before .before .before .word in
-    let if1 = c .before .before .before .before .before .before .before .if1 in
-    let reference = c .before .before .before .before .before .before .reference in
-    let part-fits = c .before .before .before .before .part-fits in
+    let a = c .before .before .before .before .before .before .before .before .before .args in
+    let loop = c .before .before .before .before .before .before .loop in
+    let word = c .before .before .before .before .before .word in
+    let if1 = c .before .before .before .before .if1 in
+    let reference = c .before .before .before .reference in
+    let part-fits = c .before .before .part-fits in
     let if2 = c .before .if2 in
-    (part-fits .kept .1 .1 .0 ∙ loop .inv .0, each-more (a .items .now) (a .work .now) (a .e) (a .list) (a .w) (loop .node) _ (word .ensures) (loop .inv .1) _ _ (if1 .taken) (reference .ensures) (part-fits .ensures) _ (not-false _ (if2 .left)) (c .reference2 .ensures))
+    each-more (a .items .now) (a .work .now) (a .e) (a .list) (a .w) (loop .node) _ (word .ensures) (loop .inv) _ _ (if1 .taken) (reference .ensures) (part-fits .ensures) _ (not-false _ (if2 .left)) (c .reference2 .ensures)
 
 each-fits-word-requires-2 : (t : ℕ) → each-fits-lts.Need-word-requires-2 (each-fits-claims t) (each-fits-at t) each-fits.Post each-fits-Inv-loop each-fits-μ-loop
 each-fits-word-requires-2 t c κs = search needs
 
-each-fits-same-length-2 : (t : ℕ) → each-fits-lts.Need-same-length-2 (each-fits-claims t) (each-fits-at t) each-fits.Post each-fits-Inv-loop each-fits-μ-loop
-each-fits-same-length-2 t c =
-    let loop = c .before .before .before .loop in
-    loop .inv .0
-
 each-fits-returns-2 : (t : ℕ) → each-fits-lts.Need-returns-2 (each-fits-claims t) (each-fits-at t) each-fits.Post each-fits-Inv-loop each-fits-μ-loop
 each-fits-returns-2 t c =
-    let a = c .before .before .before .before .before .before .before .args in
+    let a = c .before .before .before .before .before .before .args in
     let loop = c .before .before .before .loop in
     let word = c .before .before .word in
     let if1 = c .before .if1 in
-    each-ends (a .items .now) (a .work .now) (a .e) (a .list) (a .w) (loop .node) _ (c .word2 .ensures) (loop .inv .1) (λ z. if1 .left (word .ensures ∙ sym (c .word2 .ensures) ∙ z))
-
-abbrev end-fits-claims : ℕ → end-fits-lts.Claims
-end-fits-claims t = (word-reads.Asked, word-reads.Learnt, literal-fits-reads.Asked, literal-fits-reads.Learnt, constant-fits-reads.Asked, constant-fits-reads.Learnt, reference-reads.Asked, reference-reads.Learnt, each-fits-below t, each-fits.Post)
+    each-ends (a .items .now) (a .work .now) (a .e) (a .list) (a .w) (loop .node) _ (c .word2 .ensures) (loop .inv) (λ z. if1 .left (word .ensures ∙ sym (c .word2 .ensures) ∙ z))
 
 end-fits-word-requires : (t : ℕ) → end-fits-lts.Need-word-requires (end-fits-claims t) (end-fits-at t) end-fits.Post
 end-fits-word-requires t c κs = search needs
 
 end-fits-returns : (t : ℕ) → end-fits-lts.Need-returns (end-fits-claims t) (end-fits-at t) end-fits.Post
 end-fits-returns t c =
-    let a = c .before .before .before .before .before .args in
+    let a = c .before .before .before .before .args in
     let word = c .before .word in
     fits-variable (a .items .now) (a .work .now) (a .p) _ (word .ensures) (a .u) (a .w) (c .if1 .taken)
 
 end-fits-literal-fits-requires : (t : ℕ) → end-fits-lts.Need-literal-fits-requires (end-fits-claims t) (end-fits-at t) end-fits.Post
-end-fits-literal-fits-requires t c κs =
-    let pre = c .before .before .before .before .before .before .before .pre in
-    pre .1 .0
-
-end-fits-same-length : (t : ℕ) → end-fits-lts.Need-same-length (end-fits-claims t) (end-fits-at t) end-fits.Post
-end-fits-same-length t c =
-    let literal-fits = c .before .before .literal-fits in
-    literal-fits .kept .1 .1 .0
+end-fits-literal-fits-requires t c κs = search needs
 
 end-fits-returns-2 : (t : ℕ) → end-fits-lts.Need-returns-2 (end-fits-claims t) (end-fits-at t) end-fits.Post
 end-fits-returns-2 t c =
-    let a = c .before .before .before .before .before .before .before .before .before .before .args in
-    let word = c .before .before .before .before .before .before .word in
-    let if2 = c .before .before .before .before .if2 in
-    let literal-fits = c .before .before .literal-fits in
+    let a = c .before .before .before .before .before .before .args in
+    let word = c .before .before .before .word in
+    let if2 = c .before .if2 in
+    let literal-fits = c .literal-fits in
     fits-literal (a .items .now) (a .work .now) (a .p) _ (word .ensures) (a .u) (a .w) _ (if2 .taken) (literal-fits .ensures)
 
 end-fits-returns-3 : (t : ℕ) → end-fits-lts.Need-returns-3 (end-fits-claims t) (end-fits-at t) end-fits.Post
 end-fits-returns-3 t c =
-    let a = c .before .before .before .before .before .before .before .args in
+    let a = c .before .before .before .before .before .before .args in
     let word = c .before .before .before .word in
     fits-wildcard (a .items .now) (a .work .now) (a .p) _ (word .ensures) (a .u) (a .w) (c .if3 .taken)
 
@@ -188,7 +181,7 @@ end-fits-constant-fits-requires t c κs = search needs
 
 end-fits-returns-4 : (t : ℕ) → end-fits-lts.Need-returns-4 (end-fits-claims t) (end-fits-at t) end-fits.Post
 end-fits-returns-4 t c =
-    let a = c .before .before .before .before .before .before .before .before .before .args in
+    let a = c .before .before .before .before .before .before .before .before .args in
     let word = c .before .before .before .before .before .word in
     let if4 = c .before .if4 in
     fits-constant (a .items .now) (a .work .now) (a .p) _ (word .ensures) (a .u) (a .w) _ (if4 .taken) (c .constant-fits .ensures)
@@ -198,24 +191,19 @@ end-fits-reference-requires t c κs = search needs
 
 end-fits-each-fits-requires : (t : ℕ) → end-fits-lts.Need-each-fits-requires (end-fits-claims t) (end-fits-at t) end-fits.Post
 end-fits-each-fits-requires t c κs =
-    let a = c .before .before .before .before .before .before .before .before .before .before .before .args in
-    let pre = c .before .before .before .before .before .before .before .before .before .before .before .pre in
-    let word = c .before .before .before .before .before .before .before .word in
-    let reference = c .before .reference in
-    (omega (arith, tag-falls (a .work .now) (a .p) _ (word .ensures) 2 _ (λ z. omega arith) (reference .ensures)), pre .1 .0)
-
-end-fits-same-length-2 : (t : ℕ) → end-fits-lts.Need-same-length-2 (end-fits-claims t) (end-fits-at t) end-fits.Post
-end-fits-same-length-2 t c =
-    let each-fits = c .before .before .each-fits in
-    each-fits .kept .1 .1 .0
+    let a = c .before .before .before .before .before .before .before .before .before .args in
+    let pre = c .before .before .before .before .before .before .before .before .before .pre in
+    let word = c .before .before .before .before .before .before .word in
+    let reference = c .reference in
+    (omega (arith, tag-falls (a .work .now) (a .p) _ (word .ensures) 2 _ (λ z. omega arith) (reference .ensures)), tt)
 
 end-fits-returns-5 : (t : ℕ) → end-fits-lts.Need-returns-5 (end-fits-claims t) (end-fits-at t) end-fits.Post
 end-fits-returns-5 t c =
-    let a = c .before .before .before .before .before .before .before .before .before .before .before .before .before .before .args in
-    let word = c .before .before .before .before .before .before .before .before .before .before .word in
-    let if5 = c .before .before .before .before .before .if5 in
-    let reference = c .before .before .before .before .reference in
-    let each-fits = c .before .before .each-fits in
+    let a = c .before .before .before .before .before .before .before .before .before .before .args in
+    let word = c .before .before .before .before .before .before .before .word in
+    let if5 = c .before .before .if5 in
+    let reference = c .before .reference in
+    let each-fits = c .each-fits in
     fits-ellipsis (a .items .now) (a .work .now) (a .p) _ (word .ensures) (a .u) (a .w) _ _ (if5 .taken) (reference .ensures) (each-fits .ensures)
 
 end-fits-word-requires-2 : (t : ℕ) → end-fits-lts.Need-word-requires-2 (end-fits-claims t) (end-fits-at t) end-fits.Post
@@ -223,29 +211,20 @@ end-fits-word-requires-2 t c κs = search needs
 
 end-fits-returns-6 : (t : ℕ) → end-fits-lts.Need-returns-6 (end-fits-claims t) (end-fits-at t) end-fits.Post
 end-fits-returns-6 t c =
-    let a = c .before .before .before .before .before .before .before .before .before .before .args in
-    let pre = c .before .before .before .before .before .before .before .before .before .before .pre in
+    let a = c .before .before .before .before .before .before .before .before .before .args in
+    let pre = c .before .before .before .before .before .before .before .before .before .pre in
     let word = c .before .before .before .before .before .before .word in
     let if1 = c .before .before .before .before .before .if1 in
     let if2 = c .before .before .before .before .if2 in
     let if3 = c .before .before .before .if3 in
     let if4 = c .before .before .if4 in
     let if5 = c .before .if5 in
-    fits-empty (a .items .now) (a .work .now) (a .p) _ (word .ensures) (a .u) (a .w) _ (c .word2 .ensures) (if1 .left) (if2 .left) (if3 .left) (if4 .left) (pre .1 .1) (if5 .left)
-
-abbrev fits-Inv-loop : fits-lts.InvT-loop
-fits-Inv-loop items work marks₀ p u w at₀ node₀ marks at node = (length marks ≡ length marks₀) × Along items work p u w at node
-
-abbrev fits-μ-loop : fits-lts.MeasureT-loop
-fits-μ-loop items work marks₀ p u w at₀ node₀ marks at node = at
-
-abbrev fits-claims : ℕ → fits-lts.Claims
-fits-claims t = (word-reads.Asked, word-reads.Learnt, reference-reads.Asked, reference-reads.Learnt, part-fits-below t, part-fits.Post, end-fits-below t, end-fits.Post)
+    fits-empty (a .items .now) (a .work .now) (a .p) _ (word .ensures) (a .u) (a .w) _ (c .word2 .ensures) (if1 .left) (if2 .left) (if3 .left) (if4 .left) (pre .1) (if5 .left)
 
 fits-loop-holds : (t : ℕ) → fits-lts.Need-loop-holds (fits-claims t) (fits-at t) fits.Post fits-Inv-loop fits-μ-loop
 fits-loop-holds t c =
-    let a = c .before .before .before .args in
-    (refl, along-begins (a .items .now) (a .work .now) (a .p) (a .u) (a .w))
+    let a = c .before .before .args in
+    along-begins (a .items .now) (a .work .now) (a .p) (a .u) (a .w)
 
 fits-word-requires : (t : ℕ) → fits-lts.Need-word-requires (fits-claims t) (fits-at t) fits.Post fits-Inv-loop fits-μ-loop
 fits-word-requires t c κs = search needs
@@ -253,19 +232,14 @@ fits-word-requires t c κs = search needs
 fits-word-requires-2 : (t : ℕ) → fits-lts.Need-word-requires-2 (fits-claims t) (fits-at t) fits.Post fits-Inv-loop fits-μ-loop
 fits-word-requires-2 t c κs = search needs
 
-fits-same-length : (t : ℕ) → fits-lts.Need-same-length (fits-claims t) (fits-at t) fits.Post fits-Inv-loop fits-μ-loop
-fits-same-length t c =
-    let loop = c .before .before .before .before .loop in
-    loop .inv .0
-
 fits-returns : (t : ℕ) → fits-lts.Need-returns (fits-claims t) (fits-at t) fits.Post fits-Inv-loop fits-μ-loop
 fits-returns t c =
-    let a = c .before .before .before .before .before .before .before .before .args in
+    let a = c .before .before .before .before .before .before .before .args in
     let loop = c .before .before .before .before .loop in
     let word = c .before .before .before .word in
     let if1 = c .before .before .if1 in
     let word2 = c .before .word2 in
-    along-ends (a .items .now) (a .work .now) (a .p) (a .u) (a .w) (loop .at) (loop .node) (loop .inv .1) _ (fits-no-pair (a .items .now) (a .work .now) (loop .at) _ (word .ensures) (loop .node) (a .w) _ (word2 .ensures) (if1 .taken) (c .if2 .taken))
+    along-ends (a .items .now) (a .work .now) (a .p) (a .u) (a .w) (loop .at) (loop .node) (loop .inv) _ (fits-no-pair (a .items .now) (a .work .now) (loop .at) _ (word .ensures) (loop .node) (a .w) _ (word2 .ensures) (if1 .taken) (c .if2 .taken))
 
 fits-reference-requires : (t : ℕ) → fits-lts.Need-reference-requires (fits-claims t) (fits-at t) fits.Post fits-Inv-loop fits-μ-loop
 fits-reference-requires t c κs = search needs
@@ -275,30 +249,24 @@ fits-reference-requires-2 t c κs = search needs
 
 fits-part-fits-requires : (t : ℕ) → fits-lts.Need-part-fits-requires (fits-claims t) (fits-at t) fits.Post fits-Inv-loop fits-μ-loop
 fits-part-fits-requires t c κs =
-    let a = c .before .before .before .before .before .before .before .before .before .before .before .args in
-    let loop = c .before .before .before .before .before .before .before .loop in
-    let word = c .before .before .before .before .before .before .word in
-    let reference = c .before .before .reference in
-    (omega (arith, loop .inv .1 .low, tag-falls (a .work .now) (loop .at) _ (word .ensures) 3 _ (λ z. omega arith) (reference .ensures)), omega (arith, loop .inv .0))
-
-fits-same-length-2 : (t : ℕ) → fits-lts.Need-same-length-2 (fits-claims t) (fits-at t) fits.Post fits-Inv-loop fits-μ-loop
-fits-same-length-2 t c =
-    let loop = c .before .before .before .before .before .before .before .before .before .before .before .loop in
-    let part-fits = c .before .before .before .part-fits in
-    part-fits .kept .1 .1 .0 ∙ loop .inv .0
+    let a = c .before .before .before .before .before .before .before .before .before .args in
+    let loop = c .before .before .before .before .before .before .loop in
+    let word = c .before .before .before .before .before .word in
+    let reference = c .before .reference in
+    omega (arith, loop .inv .low, tag-falls (a .work .now) (loop .at) _ (word .ensures) 3 _ (λ z. omega arith) (reference .ensures))
 
 fits-returns-2 : (t : ℕ) → fits-lts.Need-returns-2 (fits-claims t) (fits-at t) fits.Post fits-Inv-loop fits-μ-loop
 fits-returns-2 t c =
-    let a = c .before .before .before .before .before .before .before .before .before .before .before .before .before .before .before .args in
-    let loop = c .before .before .before .before .before .before .before .before .before .before .before .loop in
-    let word = c .before .before .before .before .before .before .before .before .before .before .word in
-    let if1 = c .before .before .before .before .before .before .before .before .before .if1 in
-    let word2 = c .before .before .before .before .before .before .before .before .word2 in
-    let if2 = c .before .before .before .before .before .before .before .if2 in
-    let reference = c .before .before .before .before .before .before .reference in
-    let reference2 = c .before .before .before .before .before .reference2 in
-    let part-fits = c .before .before .before .part-fits in
-    along-ends (a .items .now) (a .work .now) (a .p) (a .u) (a .w) (loop .at) (loop .node) (loop .inv .1) _ (fits-head-no (a .items .now) (a .work .now) (loop .at) _ (word .ensures) (loop .node) (a .w) _ (word2 .ensures) _ _ _ (if1 .taken) (if2 .left) (reference .ensures) (reference2 .ensures) (part-fits .ensures) (not-true _ (c .if3 .taken)))
+    let a = c .before .before .before .before .before .before .before .before .before .before .before .args in
+    let loop = c .before .before .before .before .before .before .before .before .loop in
+    let word = c .before .before .before .before .before .before .before .word in
+    let if1 = c .before .before .before .before .before .before .if1 in
+    let word2 = c .before .before .before .before .before .word2 in
+    let if2 = c .before .before .before .before .if2 in
+    let reference = c .before .before .before .reference in
+    let reference2 = c .before .before .reference2 in
+    let part-fits = c .before .part-fits in
+    along-ends (a .items .now) (a .work .now) (a .p) (a .u) (a .w) (loop .at) (loop .node) (loop .inv) _ (fits-head-no (a .items .now) (a .work .now) (loop .at) _ (word .ensures) (loop .node) (a .w) _ (word2 .ensures) _ _ _ (if1 .taken) (if2 .left) (reference .ensures) (reference2 .ensures) (part-fits .ensures) (not-true _ (c .if3 .taken)))
 
 fits-reference-requires-3 : (t : ℕ) → fits-lts.Need-reference-requires-3 (fits-claims t) (fits-at t) fits.Post fits-Inv-loop fits-μ-loop
 fits-reference-requires-3 t c κs = search needs
@@ -308,77 +276,71 @@ fits-reference-requires-4 t c κs = search needs
 
 fits-loop-less : (t : ℕ) → fits-lts.Need-loop-less (fits-claims t) (fits-at t) fits.Post fits-Inv-loop fits-μ-loop
 fits-loop-less t c =
-    let a = c .before .before .before .before .before .before .before .before .before .before .before .before .before .before .before .before .before .args in
-    let loop = c .before .before .before .before .before .before .before .before .before .before .before .before .before .loop in
-    let word = c .before .before .before .before .before .before .before .before .before .before .before .before .word in
+    let a = c .before .before .before .before .before .before .before .before .before .before .before .before .before .args in
+    let loop = c .before .before .before .before .before .before .before .before .before .before .loop in
+    let word = c .before .before .before .before .before .before .before .before .before .word in
     let reference3 = c .before .reference3 in
     tag-falls (a .work .now) (loop .at) _ (word .ensures) 2 _ (λ z. omega arith) (reference3 .ensures)
 
 fits-loop-again : (t : ℕ) → fits-lts.Need-loop-again (fits-claims t) (fits-at t) fits.Post fits-Inv-loop fits-μ-loop
 fits-loop-again t c =
-    let a = c .before .before .before .before .before .before .before .before .before .before .before .before .before .before .before .before .before .args in
-    let loop = c .before .before .before .before .before .before .before .before .before .before .before .before .before .loop in
-    let word = c .before .before .before .before .before .before .before .before .before .before .before .before .word in
-    let if1 = c .before .before .before .before .before .before .before .before .before .before .before .if1 in
-    let word2 = c .before .before .before .before .before .before .before .before .before .before .word2 in
-    let if2 = c .before .before .before .before .before .before .before .before .before .if2 in
-    let reference = c .before .before .before .before .before .before .before .before .reference in
-    let reference2 = c .before .before .before .before .before .before .before .reference2 in
-    let part-fits = c .before .before .before .before .before .part-fits in
+    let a = c .before .before .before .before .before .before .before .before .before .before .before .before .before .args in
+    let loop = c .before .before .before .before .before .before .before .before .before .before .loop in
+    let word = c .before .before .before .before .before .before .before .before .before .word in
+    let if1 = c .before .before .before .before .before .before .before .before .if1 in
+    let word2 = c .before .before .before .before .before .before .before .word2 in
+    let if2 = c .before .before .before .before .before .before .if2 in
+    let reference = c .before .before .before .before .before .reference in
+    let reference2 = c .before .before .before .before .reference2 in
+    let part-fits = c .before .before .before .part-fits in
     let if3 = c .before .before .if3 in
     let reference3 = c .before .reference3 in
-    (part-fits .kept .1 .1 .0 ∙ loop .inv .0, along-more (a .items .now) (a .work .now) (a .p) (a .u) (a .w) (loop .at) (loop .node) (loop .inv .1) _ _ (reference3 .ensures) (fits-tail (a .items .now) (a .work .now) (loop .at) _ (word .ensures) (loop .node) (a .w) _ (word2 .ensures) _ _ _ (if1 .taken) (if2 .left) (reference .ensures) (reference2 .ensures) (part-fits .ensures) _ _ (not-false _ (if3 .left)) (reference3 .ensures) (c .reference4 .ensures)))
+    along-more (a .items .now) (a .work .now) (a .p) (a .u) (a .w) (loop .at) (loop .node) (loop .inv) _ _ (reference3 .ensures) (fits-tail (a .items .now) (a .work .now) (loop .at) _ (word .ensures) (loop .node) (a .w) _ (word2 .ensures) _ _ _ (if1 .taken) (if2 .left) (reference .ensures) (reference2 .ensures) (part-fits .ensures) _ _ (not-false _ (if3 .left)) (reference3 .ensures) (c .reference4 .ensures))
 
 fits-end-fits-requires : (t : ℕ) → fits-lts.Need-end-fits-requires (fits-claims t) (fits-at t) fits.Post fits-Inv-loop fits-μ-loop
 fits-end-fits-requires t c κs =
-    let loop = c .before .before .before .loop in
-    let word = c .before .before .word in
-    let if1 = c .before .if1 in
-    (omega (arith, loop .inv .1 .low), (omega (arith, loop .inv .0), λ z. if1 .left (word .ensures ∙ z)))
-
-fits-same-length-3 : (t : ℕ) → fits-lts.Need-same-length-3 (fits-claims t) (fits-at t) fits.Post fits-Inv-loop fits-μ-loop
-fits-same-length-3 t c =
-    let loop = c .before .before .before .before .before .before .loop in
-    let end-fits = c .before .before .end-fits in
-    end-fits .kept .1 .1 .0 ∙ loop .inv .0
+    let loop = c .before .before .loop in
+    let word = c .before .word in
+    let if1 = c .if1 in
+    (omega (arith, loop .inv .low), λ z. if1 .left (word .ensures ∙ z))
 
 fits-returns-3 : (t : ℕ) → fits-lts.Need-returns-3 (fits-claims t) (fits-at t) fits.Post fits-Inv-loop fits-μ-loop
 fits-returns-3 t c =
-    let a = c .before .before .before .before .before .before .before .before .before .before .args in
-    let loop = c .before .before .before .before .before .before .loop in
-    let end-fits = c .before .before .end-fits in
-    along-ends (a .items .now) (a .work .now) (a .p) (a .u) (a .w) (loop .at) (loop .node) (loop .inv .1) _ (end-fits .ensures)
-
-abbrev part-fits-claims : ℕ → part-fits-lts.Claims
-part-fits-claims t = (word-reads.Asked, word-reads.Learnt, fits-below t, fits.Post)
+    let a = c .before .before .before .before .before .before .args in
+    let loop = c .before .before .before .loop in
+    let end-fits = c .end-fits in
+    along-ends (a .items .now) (a .work .now) (a .p) (a .u) (a .w) (loop .at) (loop .node) (loop .inv) _ (end-fits .ensures)
 
 part-fits-word-requires : (t : ℕ) → part-fits-lts.Need-word-requires (part-fits-claims t) (part-fits-at t) part-fits.Post
 part-fits-word-requires t c κs = search needs
 
 part-fits-returns : (t : ℕ) → part-fits-lts.Need-returns (part-fits-claims t) (part-fits-at t) part-fits.Post
 part-fits-returns t c =
-    let a = c .before .before .before .before .before .args in
+    let a = c .before .before .before .before .args in
     let word = c .before .word in
     fits-variable (a .items .now) (a .work .now) (a .p) _ (word .ensures) (a .u) (a .w) (c .if1 .taken)
 
 part-fits-fits-requires : (t : ℕ) → part-fits-lts.Need-fits-requires (part-fits-claims t) (part-fits-at t) part-fits.Post
 part-fits-fits-requires t c κs =
-    let pre = c .before .before .before .before .before .before .pre in
+    let pre = c .before .before .before .before .pre in
     (omega arith, pre .1)
-
-part-fits-same-length : (t : ℕ) → part-fits-lts.Need-same-length (part-fits-claims t) (part-fits-at t) part-fits.Post
-part-fits-same-length t c =
-    let fits2 = c .before .before .fits2 in
-    fits2 .kept .1 .1 .0
 
 part-fits-returns-2 : (t : ℕ) → part-fits-lts.Need-returns-2 (part-fits-claims t) (part-fits-at t) part-fits.Post
 part-fits-returns-2 t c =
-    let fits2 = c .before .before .fits2 in
+    let fits2 = c .fits2 in
     fits2 .ensures
 
 pub +each-fits+end-fits+fits+part-fits-spec : {M : Type 1} → statement M
-+each-fits+end-fits+fits+part-fits-spec = close μ-each-fits μ-end-fits μ-fits μ-part-fits
-    (λ t. each-fits-lts.spec (each-fits-claims t) (each-fits-at t)
++each-fits+end-fits+fits+part-fits-spec =
+    close μ-each-fits μ-end-fits μ-fits μ-part-fits (λ t. each-fits-lts.spec (
+      word-reads.Asked,
+      word-reads.Learnt,
+      reference-reads.Asked,
+      reference-reads.Learnt,
+      part-fits-below t,
+      part-fits.Post,
+    )
+    (each-fits-at t)
     each-fits.Post
     each-fits-Inv-loop
     each-fits-μ-loop
@@ -386,55 +348,71 @@ pub +each-fits+end-fits+fits+part-fits-spec : {M : Type 1} → statement M
     (each-fits-word-requires t)
     (each-fits-reference-requires t)
     (each-fits-part-fits-requires t)
-    (each-fits-same-length t)
     (each-fits-returns t)
     (each-fits-reference-requires-2 t)
     (each-fits-loop-less t)
     (each-fits-loop-again t)
     (each-fits-word-requires-2 t)
-    (each-fits-same-length-2 t)
     (each-fits-returns-2 t))
-    (λ t. end-fits-lts.spec (end-fits-claims t) (end-fits-at t)
+    (λ t. end-fits-lts.spec (
+      word-reads.Asked,
+      word-reads.Learnt,
+      literal-fits-reads.Asked,
+      literal-fits-reads.Learnt,
+      constant-fits-reads.Asked,
+      constant-fits-reads.Learnt,
+      reference-reads.Asked,
+      reference-reads.Learnt,
+      each-fits-below t,
+      each-fits.Post,
+    )
+    (end-fits-at t)
     end-fits.Post
     (end-fits-word-requires t)
     (end-fits-returns t)
     (end-fits-literal-fits-requires t)
-    (end-fits-same-length t)
     (end-fits-returns-2 t)
     (end-fits-returns-3 t)
     (end-fits-constant-fits-requires t)
     (end-fits-returns-4 t)
     (end-fits-reference-requires t)
     (end-fits-each-fits-requires t)
-    (end-fits-same-length-2 t)
     (end-fits-returns-5 t)
     (end-fits-word-requires-2 t)
     (end-fits-returns-6 t))
-    (λ t. fits-lts.spec (fits-claims t) (fits-at t)
+    (λ t. fits-lts.spec (
+      word-reads.Asked,
+      word-reads.Learnt,
+      reference-reads.Asked,
+      reference-reads.Learnt,
+      part-fits-below t,
+      part-fits.Post,
+      end-fits-below t,
+      end-fits.Post,
+    )
+    (fits-at t)
     fits.Post
     fits-Inv-loop
     fits-μ-loop
     (fits-loop-holds t)
     (fits-word-requires t)
     (fits-word-requires-2 t)
-    (fits-same-length t)
     (fits-returns t)
     (fits-reference-requires t)
     (fits-reference-requires-2 t)
     (fits-part-fits-requires t)
-    (fits-same-length-2 t)
     (fits-returns-2 t)
     (fits-reference-requires-3 t)
     (fits-reference-requires-4 t)
     (fits-loop-less t)
     (fits-loop-again t)
     (fits-end-fits-requires t)
-    (fits-same-length-3 t)
     (fits-returns-3 t))
-    (λ t. part-fits-lts.spec (part-fits-claims t) (part-fits-at t)
+    λ t. part-fits-lts.spec
+    (word-reads.Asked, word-reads.Learnt, fits-below t, fits.Post)
+    (part-fits-at t)
     part-fits.Post
     (part-fits-word-requires t)
     (part-fits-returns t)
     (part-fits-fits-requires t)
-    (part-fits-same-length t)
-    (part-fits-returns-2 t))
+    (part-fits-returns-2 t)

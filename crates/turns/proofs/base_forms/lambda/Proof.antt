@@ -5,80 +5,51 @@ use Rattle.turns.proofs.base_forms.lambda.Tie as tie
 use mathlib.Core.Path.{sym, _∙_}
 use borrow.Author.Tests.{not-true, not-false}
 use Rattle.arena.specs.Arena.{treeAt}
-use Rattle.turns.specs.LambdaLaws.{lambda-proper, lambda-unshaped, lambda-alike, lambda-left, roomy-marks}
+use Rattle.turns.specs.LambdaLaws.{lambda-proper, lambda-unshaped, lambda-alike, lambda-left}
 
--- src/base_forms.rt:107:9
 is-lambda-requires : tie.Need-is-lambda-requires
-is-lambda-requires c κs =
-    search needs
+is-lambda-requires c κs = search needs
 
--- src/base_forms.rt:108:27
 refuse-requires : tie.Need-refuse-requires
-refuse-requires c κs =
-    search needs
+refuse-requires c κs = search needs
 
--- src/base_forms.rt:108:9
 same-length : tie.Need-same-length
-same-length c =
-    search needs
+same-length c = search needs
 
--- src/base_forms.rt:108:9
 returns : tie.Need-returns
 returns c =
-    let a = c .before .before .before .before .before .before .before .before .args in
+    let a = c .before .before .before .before .before .before .before .args in
     lambda-unshaped (treeAt (a .items .now) (a .work .now) (a .node) (a .wrap)) (a .reached) _ (sym (c .before .before .is-lambda .ensures (a .wrap)) ∙ not-true _ (c .before .if1 .taken)) (c .refuse .ensures)
 
--- src/base_forms.rt:110:9
 formals-distinct-requires : tie.Need-formals-distinct-requires
 formals-distinct-requires c κs =
-    let a = c .before .before .before .before .before .before .before .before .before .args in (c .before .before .before .before .before .before .before .before .before .pre .hands, (sym (c .before .before .before .is-lambda .ensures (a .wrap)) ∙ not-false _ (c .before .before .if1 .left)), lambda-proper (a .items .now) (a .work .now) (a .core .now) (a .marks .now) (a .node) (a .wrap) (a .reached) (c .before .before .before .before .before .before .before .before .before .pre) (sym (c .before .before .before .is-lambda .ensures (a .wrap)) ∙ not-false _ (c .before .before .if1 .left)))
+    let a = c .before .before .before .before .before .before .before .args in ((sym (c .before .before .is-lambda .ensures (a .wrap)) ∙ not-false _ (c .before .if1 .left)), lambda-proper (a .items .now) (a .work .now) (a .core .now) (a .node) (a .wrap) (a .reached) (c .before .before .before .before .before .before .before .pre) (sym (c .before .before .is-lambda .ensures (a .wrap)) ∙ not-false _ (c .before .if1 .left)))
 
--- src/base_forms.rt:111:27
 refuse-requires-2 : tie.Need-refuse-requires-2
-refuse-requires-2 c κs =
-    search needs
+refuse-requires-2 c κs = search needs
 
--- src/base_forms.rt:111:9
 same-length-2 : tie.Need-same-length-2
-same-length-2 c =
-    search needs
+same-length-2 c = search needs
 
--- src/base_forms.rt:111:9
-same-length-3 : tie.Need-same-length-3
-same-length-3 c =
-    search needs
-
--- src/base_forms.rt:111:9
 returns-2 : tie.Need-returns-2
 returns-2 c =
-    let a = c .before .before .before .before .before .before .before .before .before .before .before .before .before .before .args in
-    lambda-alike (treeAt (a .items .now) (a .work .now) (a .node) (a .wrap)) (a .reached) _ (sym (c .before .before .before .before .before .before .before .before .is-lambda .ensures (a .wrap)) ∙ not-false _ (c .before .before .before .before .before .before .before .if1 .left)) (sym (c .before .before .before .before .formals-distinct .ensures) ∙ not-true _ (c .before .if2 .taken)) (c .refuse2 .ensures)
+    let a = c .before .before .before .before .before .before .before .before .before .before .args in
+    lambda-alike (treeAt (a .items .now) (a .work .now) (a .node) (a .wrap)) (a .reached) _ (sym (c .before .before .before .before .before .is-lambda .ensures (a .wrap)) ∙ not-false _ (c .before .before .before .before .if1 .left)) (sym (c .before .before .formals-distinct .ensures) ∙ not-true _ (c .before .if2 .taken)) (c .refuse2 .ensures)
 
--- src/base_forms.rt:113:5
 lambda-body-requires : tie.Need-lambda-body-requires
 lambda-body-requires c κs =
-    let a = c .before .before .before .before .before .before .before .before .before .before .before .before .before .before .before .before .args in (roomy-marks (a .items .now) (a .work .now) (a .core .now) (a .marks .now) _ (a .node) (a .wrap) (a .reached) (c .before .before .before .before .before .before .formals-distinct .kept .1 .1 .0) (c .before .before .before .before .before .before .before .before .before .before .before .before .before .before .before .before .pre), (sym (c .before .before .before .before .before .before .before .before .before .before .is-lambda .ensures (a .wrap)) ∙ not-false _ (c .before .before .before .before .before .before .before .before .before .if1 .left)))
+    let a = c .before .before .before .before .before .before .before .before .before .before .before .args in (c .before .before .before .before .before .before .before .before .before .before .before .pre, sym (c .before .before .before .before .before .before .is-lambda .ensures (a .wrap)) ∙ not-false _ (c .before .before .before .before .before .if1 .left))
 
--- src/base_forms.rt:95:1
+same-length-3 : tie.Need-same-length-3
+same-length-3 c = search needs
+
 same-length-4 : tie.Need-same-length-4
-same-length-4 c =
-    search needs
+same-length-4 c = search needs
 
--- src/base_forms.rt:95:1
-same-length-5 : tie.Need-same-length-5
-same-length-5 c =
-    search needs
-
--- src/base_forms.rt:95:1
-same-length-6 : tie.Need-same-length-6
-same-length-6 c =
-    search needs
-
--- src/base_forms.rt:95:1
 returns-3 : tie.Need-returns-3
 returns-3 c =
-    let a = c .before .before .before .before .before .before .before .before .before .before .before .before .before .before .before .before .before .before .before .before .before .before .before .args in
-    lambda-left (treeAt (a .items .now) (a .work .now) (a .node) (a .wrap)) (a .reached) (a .items .now) (a .work .now) (c .before .before .before .before .before .before .lambda-body .last .1 .0) (a .core .now) (c .before .before .before .before .before .before .lambda-body .last .1 .1 .0) (c .before .before .before .before .before .before .lambda-body .result) (sym (c .before .before .before .before .before .before .before .before .before .before .before .before .before .before .before .before .before .is-lambda .ensures (a .wrap)) ∙ not-false _ (c .before .before .before .before .before .before .before .before .before .before .before .before .before .before .before .before .if1 .left)) (sym (c .before .before .before .before .before .before .before .before .before .before .before .before .before .formals-distinct .ensures) ∙ not-false _ (c .before .before .before .before .before .before .before .before .before .before .if2 .left)) (c .before .before .before .before .before .before .lambda-body .ensures)
+    let a = c .before .before .before .before .before .before .before .before .before .before .before .before .before .before .before .before .args in
+    lambda-left (treeAt (a .items .now) (a .work .now) (a .node) (a .wrap)) (a .reached) (a .items .now) (a .work .now) (c .before .before .before .before .lambda-body .last .1 .0) (a .core .now) (c .before .before .before .before .lambda-body .last .1 .1 .0) (c .before .before .before .before .lambda-body .result) (sym (c .before .before .before .before .before .before .before .before .before .before .before .is-lambda .ensures (a .wrap)) ∙ not-false _ (c .before .before .before .before .before .before .before .before .before .before .if1 .left)) (sym (c .before .before .before .before .before .before .before .before .formals-distinct .ensures) ∙ not-false _ (c .before .before .before .before .before .before .before .if2 .left)) (c .before .before .before .before .lambda-body .ensures)
 
 pub lambda-spec : {M : Type 1} → statement M
 lambda-spec =
@@ -91,10 +62,8 @@ lambda-spec =
     formals-distinct-requires
     refuse-requires-2
     same-length-2
-    same-length-3
     returns-2
     lambda-body-requires
+    same-length-3
     same-length-4
-    same-length-5
-    same-length-6
     returns-3)

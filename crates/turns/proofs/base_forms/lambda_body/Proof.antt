@@ -5,57 +5,38 @@ use Rattle.turns.proofs.base_forms.lambda_body.Tie as tie
 use Rattle.turns.specs.Scopes.{widened}
 use Rattle.turns.specs.LambdaLaws.{lambda-proper, lambda-space, lambda-core, lambda-few, bound-by}
 
--- src/base_forms.rt:76:36
 element-requires : tie.Need-element-requires
-element-requires c κs =
-    search needs
+element-requires c κs = search needs
 
--- src/base_forms.rt:76:9
 count-requires : tie.Need-count-requires
-count-requires c κs =
-    search needs
+count-requires c κs = search needs
 
--- src/base_forms.rt:77:9
 element-requires-2 : tie.Need-element-requires-2
-element-requires-2 c κs =
-    search needs
+element-requires-2 c κs = search needs
 
--- src/base_forms.rt:78:9
 bind-formals-requires : tie.Need-bind-formals-requires
 bind-formals-requires c κs =
-    let a = c .before .before .before .before .before .before .before .before .before .before .before .args in (c .before .before .before .before .before .before .before .before .before .before .before .pre .1, lambda-proper (a .items .now) (a .work .now) (a .core .now) (a .marks .now) (a .node) (a .wrap) (a .reached) (c .before .before .before .before .before .before .before .before .before .before .before .pre .0) (c .before .before .before .before .before .before .before .before .before .before .before .pre .1), lambda-space (a .items .now) (a .work .now) (a .core .now) (a .marks .now) (a .node) (a .wrap) (a .reached) (c .before .before .before .before .before .before .before .before .before .before .before .pre .0) (c .before .before .before .before .before .before .before .before .before .before .before .pre .1))
+    let a = c .before .before .before .before .before .before .before .before .before .args in (c .before .before .before .before .before .before .before .before .before .pre .1, lambda-proper (a .items .now) (a .work .now) (a .core .now) (a .node) (a .wrap) (a .reached) (c .before .before .before .before .before .before .before .before .before .pre .0) (c .before .before .before .before .before .before .before .before .before .pre .1), lambda-space (a .items .now) (a .work .now) (a .core .now) (a .node) (a .wrap) (a .reached) (c .before .before .before .before .before .before .before .before .before .pre .0) (c .before .before .before .before .before .before .before .before .before .pre .1))
 
--- src/base_forms.rt:79:9
 put-three-requires : tie.Need-put-three-requires
 put-three-requires c κs =
-    let a = c .before .before .before .before .before .before .before .before .before .before .before .before .before .before .before .before .before .args in lambda-core (a .items .now) (a .work .now) (a .core .now) (a .marks .now) (a .node) (a .wrap) (a .reached) (c .before .before .before .before .before .before .before .before .before .before .before .before .before .before .before .before .before .pre .0) (c .before .before .before .before .before .before .before .before .before .before .before .before .before .before .before .before .before .pre .1)
+    let a = c .before .before .before .before .before .before .before .before .before .before .before .before .before .args in lambda-core (a .items .now) (a .work .now) (a .core .now) (a .node) (a .wrap) (a .reached) (c .before .before .before .before .before .before .before .before .before .before .before .before .before .pre .0) (c .before .before .before .before .before .before .before .before .before .before .before .before .before .pre .1)
 
--- src/base_forms.rt:88:24
-add-t15 : tie.Need-add-t15
-add-t15 c =
-    let a = c .before .before .before .before .before .before .before .before .before .before .before .before .before .before .before .before .before .before .before .before .args in record { fits = lambda-few (a .items .now) (a .work .now) (a .core .now) (a .marks .now) (a .node) (a .wrap) (a .reached) (c .before .before .before .before .before .before .before .before .before .before .before .before .before .before .before .before .before .before .before .before .pre .0) (c .before .before .before .before .before .before .before .before .before .before .before .before .before .before .before .before .before .before .before .before .pre .1) _ _ (c .before .before .before .before .before .before .before .before .before .before .before .before .before .before .element .ensures) (c .before .before .before .before .before .before .before .before .before .before .before .before .before .count .ensures) }
+add-t14 : tie.Need-add-t14
+add-t14 c =
+    let a = c .before .before .before .before .before .before .before .before .before .before .before .before .before .before .before .before .args in record { fits = lambda-few (a .items .now) (a .work .now) (a .core .now) (a .node) (a .wrap) (a .reached) (c .before .before .before .before .before .before .before .before .before .before .before .before .before .before .before .before .pre .0) (c .before .before .before .before .before .before .before .before .before .before .before .before .before .before .before .before .pre .1) _ _ (c .before .before .before .before .before .before .before .before .before .before .before .element .ensures) (c .before .before .before .before .before .before .before .before .before .before .count .ensures) }
 
--- src/base_forms.rt:63:1
 same-length : tie.Need-same-length
-same-length c =
-    search needs
+same-length c = search needs
 
--- src/base_forms.rt:63:1
 same-length-2 : tie.Need-same-length-2
-same-length-2 c =
-    search needs
+same-length-2 c = search needs
 
--- src/base_forms.rt:63:1
-same-length-3 : tie.Need-same-length-3
-same-length-3 c =
-    search needs
-
--- src/base_forms.rt:63:1
 returns : tie.Need-returns
 unfolding widened
 returns c =
-    let a = c .before .before .before .before .before .before .before .before .before .before .before .before .before .before .before .before .before .before .before .before .args in
-    bound-by (a .items .now) (a .work .now) (a .core .now) (a .marks .now) (a .node) (a .wrap) (a .reached) (c .before .before .before .before .before .before .before .before .before .before .before .before .before .before .before .before .before .before .before .before .pre .0) (c .before .before .before .before .before .before .before .before .before .before .before .before .before .before .before .before .before .before .before .before .pre .1) _ _ (c .before .before .before .before .before .before .before .before .before .before .before .before .before .before .element .ensures) (c .before .before .before .before .before .before .before .before .before .before .before .before .before .count .ensures) _ _ _ _ _ _ (c .before .before .before .before .before .before .before .before .before .before .before .element2 .ensures) (c .before .before .before .before .before .before .before .before .bind-formals .ensures) (c .before .before .put-three .ensures)
+    let a = c .before .before .before .before .before .before .before .before .before .before .before .before .before .before .before .before .args in
+    bound-by (a .items .now) (a .work .now) (a .core .now) (a .node) (a .wrap) (a .reached) (c .before .before .before .before .before .before .before .before .before .before .before .before .before .before .before .before .pre .0) (c .before .before .before .before .before .before .before .before .before .before .before .before .before .before .before .before .pre .1) _ _ (c .before .before .before .before .before .before .before .before .before .before .before .element .ensures) (c .before .before .before .before .before .before .before .before .before .before .count .ensures) _ _ _ _ _ _ (c .before .before .before .before .before .before .before .before .element2 .ensures) (c .before .before .before .before .before .before .bind-formals .ensures) (c .before .before .put-three .ensures)
 
 pub lambda-body-spec : {M : Type 1} → statement M
 lambda-body-spec =
@@ -66,8 +47,7 @@ lambda-body-spec =
     element-requires-2
     bind-formals-requires
     put-three-requires
-    add-t15
+    add-t14
     same-length
     same-length-2
-    same-length-3
     returns)

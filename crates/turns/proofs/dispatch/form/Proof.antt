@@ -4,136 +4,83 @@ use Rattle.turns.proofs.dispatch.form.Statement.{statement}
 use Rattle.turns.proofs.dispatch.form.Tie as tie
 use Rattle.turns.specs.DispatchLaws.{quote-turned, if-turned, lambda-turned, let-syntax-turned, letrec-syntax-turned, auxiliary-turned}
 
--- src/dispatch.rt:38:27
 quoted-requires : tie.Need-quoted-requires
-quoted-requires c κs =
-    search needs
+quoted-requires c κs = search needs
 
--- src/dispatch.rt:38:9
 same-length : tie.Need-same-length
-same-length c =
-    search needs
+same-length c = search needs
 
--- src/dispatch.rt:38:9
 same-length-2 : tie.Need-same-length-2
-same-length-2 c =
-    search needs
+same-length-2 c = search needs
 
--- src/dispatch.rt:38:9
 returns : tie.Need-returns
 returns c =
-    let a = c .before .before .before .before .before .before .before .before .before .before .before .args in
-    quote-turned (a .items .now) (a .work .now) (a .core .now) (a .known .now) (a .node) (a .tail) (a .wrap) (a .k) (a .reached) (c .before .before .before .before .before .before .before .before .before .before .before .pre .0) _ _ (c .before .before .before .before .before .if1 .taken) (c .before .before .quoted .ensures)
+    let a = c .before .before .before .before .before .before .before .before .before .before .args in
+    quote-turned (a .items .now) (a .work .now) (a .core .now) (a .known .now) (a .node) (a .tail) (a .wrap) (a .k) (a .reached) (c .before .before .before .before .before .before .before .before .before .before .pre .0) _ _ (c .before .before .before .before .before .if1 .taken) (c .before .before .quoted .ensures)
 
--- src/dispatch.rt:41:9
 condition-requires : tie.Need-condition-requires
-condition-requires c κs =
-    search needs
+condition-requires c κs = search needs
 
--- src/dispatch.rt:41:9
 same-length-3 : tie.Need-same-length-3
-same-length-3 c =
-    search needs
+same-length-3 c = search needs
 
--- src/dispatch.rt:41:9
 same-length-4 : tie.Need-same-length-4
-same-length-4 c =
-    search needs
+same-length-4 c = search needs
 
--- src/dispatch.rt:41:9
 returns-2 : tie.Need-returns-2
 returns-2 c =
-    let a = c .before .before .before .before .before .before .before .before .before .before .before .before .args in
-    if-turned (a .items .now) (a .work .now) (a .core .now) (a .known .now) (a .node) (a .tail) (a .wrap) (a .k) (a .reached) (c .before .before .before .before .before .before .before .before .before .before .before .before .pre .0) (c .before .before .before .before .before .before .before .before .before .before .before .before .pre .1 .binds .placed) (c .before .before .condition .last .1 .0) (c .before .before .condition .result) (c .before .before .before .before .before .if2 .taken) (c .before .before .condition .ensures)
+    let a = c .before .before .before .before .before .before .before .before .before .before .before .args in
+    if-turned (a .items .now) (a .work .now) (a .core .now) (a .known .now) (a .node) (a .tail) (a .wrap) (a .k) (a .reached) (c .before .before .before .before .before .before .before .before .before .before .before .pre .0) (c .before .before .before .before .before .before .before .before .before .before .before .pre .1 .binds .placed) (c .before .before .condition .last .1 .0) (c .before .before .condition .result) (c .before .before .before .before .before .if2 .taken) (c .before .before .condition .ensures)
 
--- src/dispatch.rt:44:9
 lambda-requires : tie.Need-lambda-requires
-lambda-requires c κs =
-    search needs
+lambda-requires c κs = search needs
 
--- src/dispatch.rt:44:9
 same-length-5 : tie.Need-same-length-5
-same-length-5 c =
-    search needs
+same-length-5 c = search needs
 
--- src/dispatch.rt:44:9
 same-length-6 : tie.Need-same-length-6
-same-length-6 c =
-    search needs
+same-length-6 c = search needs
 
--- src/dispatch.rt:44:9
-same-length-7 : tie.Need-same-length-7
-same-length-7 c =
-    search needs
-
--- src/dispatch.rt:44:9
 returns-3 : tie.Need-returns-3
 returns-3 c =
-    let a = c .before .before .before .before .before .before .before .before .before .before .before .before .before .before .before .before .before .before .args in
-    lambda-turned (a .items .now) (a .work .now) (a .core .now) (a .known .now) (a .node) (a .tail) (a .wrap) (a .k) (a .reached) (c .before .before .before .before .before .before .before .before .before .before .before .before .before .before .before .before .before .before .pre .0) (c .before .before .before .before .before .before .before .before .before .before .before .before .before .before .before .before .before .before .pre .1 .binds .placed) (c .before .before .before .before .before .before .lambda .last .1 .0) (c .before .before .before .before .before .before .lambda .kept .1 .0) (c .before .before .before .before .before .before .lambda .last .1 .1 .0) (c .before .before .before .before .before .before .lambda .result) (c .before .before .before .before .before .before .before .before .before .before .if3 .taken) (c .before .before .before .before .before .before .lambda .ensures)
+    let a = c .before .before .before .before .before .before .before .before .before .before .before .before .before .before .args in
+    lambda-turned (a .items .now) (a .work .now) (a .core .now) (a .known .now) (a .node) (a .tail) (a .wrap) (a .k) (a .reached) (c .before .before .before .before .before .before .before .before .before .before .before .before .before .before .pre .0) (c .before .before .before .before .before .before .before .before .before .before .before .before .before .before .pre .1 .binds .placed) (c .before .before .before .before .lambda .last .1 .0) (c .before .before .before .before .lambda .kept .1 .0) (c .before .before .before .before .lambda .last .1 .1 .0) (c .before .before .before .before .lambda .result) (c .before .before .before .before .before .before .before .if3 .taken) (c .before .before .before .before .lambda .ensures)
 
--- src/dispatch.rt:47:9
 let-syntax-requires : tie.Need-let-syntax-requires
-let-syntax-requires c κs =
-    search needs
+let-syntax-requires c κs = search needs
 
--- src/dispatch.rt:47:9
+same-length-7 : tie.Need-same-length-7
+same-length-7 c = search needs
+
 same-length-8 : tie.Need-same-length-8
-same-length-8 c =
-    search needs
+same-length-8 c = search needs
 
--- src/dispatch.rt:47:9
-same-length-9 : tie.Need-same-length-9
-same-length-9 c =
-    search needs
-
--- src/dispatch.rt:47:9
-same-length-10 : tie.Need-same-length-10
-same-length-10 c =
-    search needs
-
--- src/dispatch.rt:47:9
 returns-4 : tie.Need-returns-4
 returns-4 c =
-    let a = c .before .before .before .before .before .before .before .before .before .before .before .before .before .before .before .before .before .before .before .args in
-    let-syntax-turned (a .items .now) (a .work .now) (a .core .now) (a .known .now) (a .node) (a .tail) (a .wrap) (a .k) (a .reached) (c .before .before .before .before .before .before .before .before .before .before .before .before .before .before .before .before .before .before .before .pre .0) (c .before .before .before .before .before .before .before .before .before .before .before .before .before .before .before .before .before .before .before .pre .1 .binds .placed) (c .before .before .before .before .before .before .let-syntax .last .1 .0) (c .before .before .before .before .before .before .let-syntax .kept .1 .0) (c .before .before .before .before .before .before .let-syntax .last .1 .1 .0) (c .before .before .before .before .before .before .let-syntax .kept .1 .1 .0) (c .before .before .before .before .before .before .let-syntax .result) (c .before .before .before .before .before .before .before .before .before .before .if4 .taken) (c .before .before .before .before .before .before .let-syntax .ensures)
+    let a = c .before .before .before .before .before .before .before .before .before .before .before .before .before .before .before .args in
+    let-syntax-turned (a .items .now) (a .work .now) (a .core .now) (a .known .now) (a .node) (a .tail) (a .wrap) (a .k) (a .reached) (c .before .before .before .before .before .before .before .before .before .before .before .before .before .before .before .pre .0) (c .before .before .before .before .before .before .before .before .before .before .before .before .before .before .before .pre .1 .binds .placed) (c .before .before .before .before .let-syntax .last .1 .0) (c .before .before .before .before .let-syntax .kept .1 .0) (c .before .before .before .before .let-syntax .last .1 .1 .0) (c .before .before .before .before .let-syntax .kept .1 .1 .0) (c .before .before .before .before .let-syntax .result) (c .before .before .before .before .before .before .before .if4 .taken) (c .before .before .before .before .let-syntax .ensures)
 
--- src/dispatch.rt:50:9
 let-syntax-requires-2 : tie.Need-let-syntax-requires-2
-let-syntax-requires-2 c κs =
-    search needs
+let-syntax-requires-2 c κs = search needs
 
--- src/dispatch.rt:50:9
-same-length-11 : tie.Need-same-length-11
-same-length-11 c =
-    search needs
+same-length-9 : tie.Need-same-length-9
+same-length-9 c = search needs
 
--- src/dispatch.rt:50:9
-same-length-12 : tie.Need-same-length-12
-same-length-12 c =
-    search needs
+same-length-10 : tie.Need-same-length-10
+same-length-10 c = search needs
 
--- src/dispatch.rt:50:9
-same-length-13 : tie.Need-same-length-13
-same-length-13 c =
-    search needs
-
--- src/dispatch.rt:50:9
 returns-5 : tie.Need-returns-5
 returns-5 c =
-    let a = c .before .before .before .before .before .before .before .before .before .before .before .before .before .before .before .before .before .before .before .before .args in
-    letrec-syntax-turned (a .items .now) (a .work .now) (a .core .now) (a .known .now) (a .node) (a .tail) (a .wrap) (a .k) (a .reached) (c .before .before .before .before .before .before .before .before .before .before .before .before .before .before .before .before .before .before .before .before .pre .0) (c .before .before .before .before .before .before .before .before .before .before .before .before .before .before .before .before .before .before .before .before .pre .1 .binds .placed) (c .before .before .before .before .before .before .let-syntax2 .last .1 .0) (c .before .before .before .before .before .before .let-syntax2 .kept .1 .0) (c .before .before .before .before .before .before .let-syntax2 .last .1 .1 .0) (c .before .before .before .before .before .before .let-syntax2 .kept .1 .1 .0) (c .before .before .before .before .before .before .let-syntax2 .result) (c .before .before .before .before .before .before .before .before .before .before .if5 .taken) (c .before .before .before .before .before .before .let-syntax2 .ensures)
+    let a = c .before .before .before .before .before .before .before .before .before .before .before .before .before .before .before .before .args in
+    letrec-syntax-turned (a .items .now) (a .work .now) (a .core .now) (a .known .now) (a .node) (a .tail) (a .wrap) (a .k) (a .reached) (c .before .before .before .before .before .before .before .before .before .before .before .before .before .before .before .before .pre .0) (c .before .before .before .before .before .before .before .before .before .before .before .before .before .before .before .before .pre .1 .binds .placed) (c .before .before .before .before .let-syntax2 .last .1 .0) (c .before .before .before .before .let-syntax2 .kept .1 .0) (c .before .before .before .before .let-syntax2 .last .1 .1 .0) (c .before .before .before .before .let-syntax2 .kept .1 .1 .0) (c .before .before .before .before .let-syntax2 .result) (c .before .before .before .before .before .before .before .if5 .taken) (c .before .before .before .before .let-syntax2 .ensures)
 
--- src/dispatch.rt:52:16
 refuse-requires : tie.Need-refuse-requires
-refuse-requires c κs =
-    search needs
+refuse-requires c κs = search needs
 
--- src/dispatch.rt:22:1
 returns-6 : tie.Need-returns-6
 returns-6 c =
-    let a = c .before .before .before .before .before .before .before .before .before .before .before .args in
-    auxiliary-turned (a .items .now) (a .work .now) (a .core .now) (a .known .now) (a .node) (a .tail) (a .wrap) (a .k) (a .reached) (c .before .before .before .before .before .before .before .before .before .before .before .pre .0) _ (c .before .before .before .before .before .if1 .left) (c .before .before .before .before .if2 .left) (c .before .before .before .if3 .left) (c .before .before .if4 .left) (c .before .if5 .left) (c .refuse .ensures)
+    let a = c .before .before .before .before .before .before .before .before .before .before .args in
+    auxiliary-turned (a .items .now) (a .work .now) (a .core .now) (a .known .now) (a .node) (a .tail) (a .wrap) (a .k) (a .reached) (c .before .before .before .before .before .before .before .before .before .before .pre .0) _ (c .before .before .before .before .before .if1 .left) (c .before .before .before .before .if2 .left) (c .before .before .before .if3 .left) (c .before .before .if4 .left) (c .before .if5 .left) (c .refuse .ensures)
 
 pub form-spec : {M : Type 1} → statement M
 form-spec =
@@ -150,17 +97,14 @@ form-spec =
     lambda-requires
     same-length-5
     same-length-6
-    same-length-7
     returns-3
     let-syntax-requires
+    same-length-7
     same-length-8
-    same-length-9
-    same-length-10
     returns-4
     let-syntax-requires-2
-    same-length-11
-    same-length-12
-    same-length-13
+    same-length-9
+    same-length-10
     returns-5
     refuse-requires
     returns-6)

@@ -3,197 +3,122 @@ use borrow.Author.Needs.{needs}
 use Rattle.turns.proofs.dispatch.named.Statement.{statement}
 use Rattle.turns.proofs.dispatch.named.Tie as tie
 use mathlib.Core.Path.{ap, sym, _∙_}
-use Prim.Native.Nat.{_*_, _<_}
-use native.Mathlib.Omega.{arith}
-use lib.ListN.{length}
 use Rattle.expansion.specs.Lookup.{lookup}
-use Rattle.arena.specs.Arena.{nameAt, markLimit}
+use Rattle.arena.specs.Arena.{nameAt}
 use Rattle.turns.specs.Turns.{operationsOf}
 use Rattle.turns.specs.Leaves.{knownOf}
 use Rattle.turns.specs.LeafLaws.{found-by, nothing-by}
 use Rattle.turns.specs.ReadyLaws.{ready-use}
 use Rattle.turns.specs.DispatchLaws.{application-room, form-room, nothing-turned, variable-turned, operation-turned, macro-turned, form-heads}
 
--- src/dispatch.rt:73:32
 look-requires : tie.Need-look-requires
-look-requires c κs =
-    search needs
+look-requires c κs = search needs
 
--- src/dispatch.rt:73:23
 enum-known-found : tie.Need-enum-known-found
-enum-known-found c =
-    search needs
+enum-known-found c = search needs
 
--- src/dispatch.rt:74:27
 enum-told : tie.Need-enum-told
-enum-told c =
-    search needs
+enum-told c = search needs
 
--- src/dispatch.rt:74:27
 refuse-requires : tie.Need-refuse-requires
-refuse-requires c κs =
-    search needs
+refuse-requires c κs = search needs
 
--- src/dispatch.rt:74:9
 same-length : tie.Need-same-length
-same-length c =
-    search needs
+same-length c = search needs
 
--- src/dispatch.rt:74:9
-same-length-2 : tie.Need-same-length-2
-same-length-2 c =
-    search needs
-
--- src/dispatch.rt:74:9
 returns : tie.Need-returns
 returns c =
-    let a = c .before .before .before .before .before .before .before .before .before .before .before .before .before .before .args in
+    let a = c .before .before .before .before .before .before .before .before .before .before .args in
     let x = nameAt (a .items .now) (a .work .now) (a .head) (a .wrap) in
-    nothing-turned (a .items .now) (a .work .now) (a .core .now) (a .known .now) (a .fuel) (a .node) (a .tail) (a .wrap) (a .reached) x (c .before .before .before .before .before .before .before .before .before .before .before .before .before .before .pre .3) (c .before .before .before .before .before .before .before .before .before .before .before .before .before .before .pre .1) (c .before .before .before .before .before .before .before .before .before .before .before .before .before .before .pre .2) _
-    (nothing-by (lookup (operationsOf (a .items .now)) x) _ (c .before .before .before .before .before .look .ensures) (c .before .enum-told .given .1)) (c .refuse .ensures)
+    nothing-turned (a .items .now) (a .work .now) (a .core .now) (a .known .now) (a .fuel) (a .node) (a .tail) (a .wrap) (a .reached) x (c .before .before .before .before .before .before .before .before .before .before .pre .3) (c .before .before .before .before .before .before .before .before .before .before .pre .1) (c .before .before .before .before .before .before .before .before .before .before .pre .2) _
+    (nothing-by (lookup (operationsOf (a .items .now)) x) _ (c .before .before .before .look .ensures) (c .before .enum-told .given .1)) (c .refuse .ensures)
 
--- src/dispatch.rt:77:25
 enum-known-found-2 : tie.Need-enum-known-found-2
-enum-known-found-2 c =
-    search needs
+enum-known-found-2 c = search needs
 
--- src/dispatch.rt:80:22
 put-application-requires : tie.Need-put-application-requires
 put-application-requires c κs =
-    let a = c .before .before .before .before .before .before .before .before .before .before .before .before .before .before .before .before .before .before .before .args in
-    application-room (a .items .now) (a .work .now) (a .core .now) (a .known .now) (a .marks .now) (a .fuel) (a .node) (a .wrap) (a .reached) (c .before .before .before .before .before .before .before .before .before .before .before .before .before .before .before .before .before .before .before .pre .2) (c .before .before .before .before .before .before .before .before .before .before .before .before .before .before .before .before .before .before .before .pre .1) (a .tail) _ (c .before .before .before .before .before .before .before .before .before .before .before .before .before .before .before .before .before .before .before .pre .3)
+    let a = c .before .before .before .before .before .before .before .before .before .before .before .before .before .before .before .args in
+    application-room (a .items .now) (a .work .now) (a .core .now) (a .known .now) (a .fuel) (a .node) (a .wrap) (a .reached) (c .before .before .before .before .before .before .before .before .before .before .before .before .before .before .before .pre .2) (c .before .before .before .before .before .before .before .before .before .before .before .before .before .before .before .pre .1) (a .tail) _ (c .before .before .before .before .before .before .before .before .before .before .before .before .before .before .before .pre .3)
 
--- src/dispatch.rt:82:26
 enum-known-found-3 : tie.Need-enum-known-found-3
-enum-known-found-3 c =
-    search needs
+enum-known-found-3 c = search needs
 
--- src/dispatch.rt:85:22
 put-application-requires-2 : tie.Need-put-application-requires-2
 put-application-requires-2 c κs =
-    let a = c .before .before .before .before .before .before .before .before .before .before .before .before .before .before .before .before .before .before .before .args in
-    application-room (a .items .now) (a .work .now) (a .core .now) (a .known .now) (a .marks .now) (a .fuel) (a .node) (a .wrap) (a .reached) (c .before .before .before .before .before .before .before .before .before .before .before .before .before .before .before .before .before .before .before .pre .2) (c .before .before .before .before .before .before .before .before .before .before .before .before .before .before .before .before .before .before .before .pre .1) (a .tail) _ (c .before .before .before .before .before .before .before .before .before .before .before .before .before .before .before .before .before .before .before .pre .3)
+    let a = c .before .before .before .before .before .before .before .before .before .before .before .before .before .before .before .args in
+    application-room (a .items .now) (a .work .now) (a .core .now) (a .known .now) (a .fuel) (a .node) (a .wrap) (a .reached) (c .before .before .before .before .before .before .before .before .before .before .before .before .before .before .before .pre .2) (c .before .before .before .before .before .before .before .before .before .before .before .before .before .before .before .pre .1) (a .tail) _ (c .before .before .before .before .before .before .before .before .before .before .before .before .before .before .before .pre .3)
 
--- src/dispatch.rt:87:22
 enum-known-found-4 : tie.Need-enum-known-found-4
-enum-known-found-4 c =
-    search needs
+enum-known-found-4 c = search needs
 
--- src/dispatch.rt:87:28
 macro-use-requires : tie.Need-macro-use-requires
 macro-use-requires c κs =
-    let a = c .before .before .before .before .before .before .before .before .before .before .before .before .before .before .before .before .before .before .before .before .args in
-    let hands : 3 * markLimit < length (c .before .before .before .before .before .before .before .before .before .before .before .look .last .1 .1 .1 .0) = omega (arith, c .before .before .before .before .before .before .before .before .before .before .before .before .before .before .before .before .before .before .before .before .pre .0 .hands, c .before .before .before .before .before .before .before .before .before .before .before .look .kept .1 .1 .1 .0) in
-    ready-use (a .items .now) (a .work .now) (a .core .now) (a .known .now) _ (a .fuel) (a .node) (a .wrap) (a .reached) (c .before .before .before .before .before .before .before .before .before .before .before .before .before .before .before .before .before .before .before .before .pre .2) (c .before .before .before .before .before .before .before .before .before .before .before .before .before .before .before .before .before .before .before .before .pre .1) hands
+    let a = c .before .before .before .before .before .before .before .before .before .before .before .before .before .before .before .args in
+    ready-use (a .items .now) (a .work .now) (a .core .now) (a .known .now) (a .fuel) (a .node) (a .wrap) (a .reached) (c .before .before .before .before .before .before .before .before .before .before .before .before .before .before .before .pre .2) (c .before .before .before .before .before .before .before .before .before .before .before .before .before .before .before .pre .1)
 
--- src/dispatch.rt:88:21
 enum-known-found-5 : tie.Need-enum-known-found-5
-enum-known-found-5 c =
-    search needs
+enum-known-found-5 c = search needs
 
--- src/dispatch.rt:88:27
 form-requires : tie.Need-form-requires
 form-requires c κs =
-    let a = c .before .before .before .before .before .before .before .before .before .before .before .before .before .before .before .before .before .before .before .before .before .args in
-    let x = nameAt (a .items .now) (a .work .now) (a .head) (a .wrap) in
-    let hands : 3 * markLimit < length (c .before .before .before .before .before .before .before .before .before .before .before .before .look .last .1 .1 .1 .0) = omega (arith, c .before .before .before .before .before .before .before .before .before .before .before .before .before .before .before .before .before .before .before .before .before .pre .0 .hands, c .before .before .before .before .before .before .before .before .before .before .before .before .look .kept .1 .1 .1 .0) in (
-      form-heads (a .items .now) (a .work .now) (a .node) (a .tail) (a .wrap) _ x (c .before .before .before .before .before .before .before .before .before .before .before .before .before .before .before .before .before .before .before .before .before .pre .3) (ap knownOf (sym (c .before .before .before .before .before .found5 .given .1)) ∙ found-by (lookup (operationsOf (a .items .now)) x) _ _ (c .before .before .before .before .before .before .before .before .before .before .before .before .look .ensures) (c .before .before .before .before .before .before .before .before .found .given .1)),
-      form-room (a .items .now) (a .work .now) (a .core .now) (a .known .now) _ (a .fuel) (a .node) (a .wrap) (a .reached) (c .before .before .before .before .before .before .before .before .before .before .before .before .before .before .before .before .before .before .before .before .before .pre .2) (c .before .before .before .before .before .before .before .before .before .before .before .before .before .before .before .before .before .before .before .before .before .pre .1) hands,
+    let a = c .before .before .before .before .before .before .before .before .before .before .before .before .before .before .before .before .args in
+    let x = nameAt (a .items .now) (a .work .now) (a .head) (a .wrap) in (
+      form-heads (a .items .now) (a .work .now) (a .node) (a .tail) (a .wrap) _ x (c .before .before .before .before .before .before .before .before .before .before .before .before .before .before .before .before .pre .3) (ap knownOf (sym (c .before .before .before .before .found5 .given .1)) ∙ found-by (lookup (operationsOf (a .items .now)) x) _ _ (c .before .before .before .before .before .before .before .before .before .look .ensures) (c .before .before .before .before .before .before .before .found .given .1)),
+      form-room (a .items .now) (a .work .now) (a .core .now) (a .known .now) (a .fuel) (a .node) (a .wrap) (a .reached) (c .before .before .before .before .before .before .before .before .before .before .before .before .before .before .before .before .pre .2) (c .before .before .before .before .before .before .before .before .before .before .before .before .before .before .before .before .pre .1),
     )
 
--- src/dispatch.rt:56:1
+same-length-2 : tie.Need-same-length-2
+same-length-2 c = search needs
+
 same-length-3 : tie.Need-same-length-3
-same-length-3 c =
-    search needs
+same-length-3 c = search needs
 
--- src/dispatch.rt:56:1
-same-length-4 : tie.Need-same-length-4
-same-length-4 c =
-    search needs
-
--- src/dispatch.rt:56:1
-same-length-5 : tie.Need-same-length-5
-same-length-5 c =
-    search needs
-
--- src/dispatch.rt:56:1
 returns-2 : tie.Need-returns-2
 returns-2 c =
-    let a = c .before .before .before .before .before .before .before .before .before .before .before .before .before .before .before .before .before .before .before .before .before .before .args in
+    let a = c .before .before .before .before .before .before .before .before .before .before .before .before .before .before .before .before .before .before .args in
     let x = nameAt (a .items .now) (a .work .now) (a .head) (a .wrap) in
-    variable-turned (a .items .now) (a .work .now) (a .core .now) (a .known .now) (a .fuel) (a .node) (a .tail) (a .wrap) (a .reached) x (c .before .before .before .before .before .before .before .before .before .before .before .before .before .before .before .before .before .before .before .before .before .before .pre .3) (c .before .before .before .before .before .before .before .before .before .before .before .before .before .before .before .before .before .before .before .before .before .before .pre .1) (c .before .before .before .before .before .before .before .before .before .before .before .before .before .before .before .before .before .before .before .before .before .before .pre .2) _ _ _
-    (ap knownOf (sym (c .before .before .before .before .before .before .found2 .given .1)) ∙ found-by (lookup (operationsOf (a .items .now)) x) _ _ (c .before .before .before .before .before .before .before .before .before .before .before .before .before .look .ensures) (c .before .before .before .before .before .before .before .before .before .found .given .1)) (c .before .before .put-application .ensures)
+    variable-turned (a .items .now) (a .work .now) (a .core .now) (a .known .now) (a .fuel) (a .node) (a .tail) (a .wrap) (a .reached) x (c .before .before .before .before .before .before .before .before .before .before .before .before .before .before .before .before .before .before .pre .3) (c .before .before .before .before .before .before .before .before .before .before .before .before .before .before .before .before .before .before .pre .1) (c .before .before .before .before .before .before .before .before .before .before .before .before .before .before .before .before .before .before .pre .2) _ _ _
+    (ap knownOf (sym (c .before .before .before .before .before .before .found2 .given .1)) ∙ found-by (lookup (operationsOf (a .items .now)) x) _ _ (c .before .before .before .before .before .before .before .before .before .before .before .look .ensures) (c .before .before .before .before .before .before .before .before .before .found .given .1)) (c .before .before .put-application .ensures)
 
--- src/dispatch.rt:56:1
-same-length-6 : tie.Need-same-length-6
-same-length-6 c =
-    search needs
+same-length-4 : tie.Need-same-length-4
+same-length-4 c = search needs
 
--- src/dispatch.rt:56:1
-same-length-7 : tie.Need-same-length-7
-same-length-7 c =
-    search needs
+same-length-5 : tie.Need-same-length-5
+same-length-5 c = search needs
 
--- src/dispatch.rt:56:1
-same-length-8 : tie.Need-same-length-8
-same-length-8 c =
-    search needs
-
--- src/dispatch.rt:56:1
 returns-3 : tie.Need-returns-3
 returns-3 c =
-    let a = c .before .before .before .before .before .before .before .before .before .before .before .before .before .before .before .before .before .before .before .before .before .before .args in
+    let a = c .before .before .before .before .before .before .before .before .before .before .before .before .before .before .before .before .before .before .args in
     let x = nameAt (a .items .now) (a .work .now) (a .head) (a .wrap) in
-    operation-turned (a .items .now) (a .work .now) (a .core .now) (a .known .now) (a .fuel) (a .node) (a .tail) (a .wrap) (a .reached) x (c .before .before .before .before .before .before .before .before .before .before .before .before .before .before .before .before .before .before .before .before .before .before .pre .3) (c .before .before .before .before .before .before .before .before .before .before .before .before .before .before .before .before .before .before .before .before .before .before .pre .1) (c .before .before .before .before .before .before .before .before .before .before .before .before .before .before .before .before .before .before .before .before .before .before .pre .2) _ _ _
-    (ap knownOf (sym (c .before .before .before .before .before .before .found3 .given .1)) ∙ found-by (lookup (operationsOf (a .items .now)) x) _ _ (c .before .before .before .before .before .before .before .before .before .before .before .before .before .look .ensures) (c .before .before .before .before .before .before .before .before .before .found .given .1)) (c .before .before .put-application2 .ensures)
+    operation-turned (a .items .now) (a .work .now) (a .core .now) (a .known .now) (a .fuel) (a .node) (a .tail) (a .wrap) (a .reached) x (c .before .before .before .before .before .before .before .before .before .before .before .before .before .before .before .before .before .before .pre .3) (c .before .before .before .before .before .before .before .before .before .before .before .before .before .before .before .before .before .before .pre .1) (c .before .before .before .before .before .before .before .before .before .before .before .before .before .before .before .before .before .before .pre .2) _ _ _
+    (ap knownOf (sym (c .before .before .before .before .before .before .found3 .given .1)) ∙ found-by (lookup (operationsOf (a .items .now)) x) _ _ (c .before .before .before .before .before .before .before .before .before .before .before .look .ensures) (c .before .before .before .before .before .before .before .before .before .found .given .1)) (c .before .before .put-application2 .ensures)
 
--- src/dispatch.rt:56:1
-same-length-9 : tie.Need-same-length-9
-same-length-9 c =
-    search needs
+same-length-6 : tie.Need-same-length-6
+same-length-6 c = search needs
 
--- src/dispatch.rt:56:1
-same-length-10 : tie.Need-same-length-10
-same-length-10 c =
-    search needs
+same-length-7 : tie.Need-same-length-7
+same-length-7 c = search needs
 
--- src/dispatch.rt:56:1
-same-length-11 : tie.Need-same-length-11
-same-length-11 c =
-    search needs
-
--- src/dispatch.rt:56:1
 returns-4 : tie.Need-returns-4
 returns-4 c =
-    let a = c .before .before .before .before .before .before .before .before .before .before .before .before .before .before .before .before .before .before .before .before .before .before .before .before .before .args in
+    let a = c .before .before .before .before .before .before .before .before .before .before .before .before .before .before .before .before .before .before .args in
     let x = nameAt (a .items .now) (a .work .now) (a .head) (a .wrap) in
-    macro-turned (a .items .now) (a .work .now) (a .core .now) (a .known .now) (a .fuel) (a .node) (a .tail) (a .wrap) (a .reached) x (c .before .before .before .before .before .before .before .before .before .before .before .before .before .before .before .before .before .before .before .before .before .before .before .before .before .pre .3) (c .before .before .before .before .before .before .before .before .before .before .before .before .before .before .before .before .before .before .before .before .before .before .before .before .before .pre .1) (c .before .before .before .before .before .before .before .before .before .before .before .before .before .before .before .before .before .before .before .before .before .before .before .before .before .pre .2) _ (c .before .before .before .before .macro-use .last .1 .0) (c .before .before .before .before .macro-use .result)
-    (ap knownOf (sym (c .before .before .before .before .before .before .before .before .before .found4 .given .1)) ∙ found-by (lookup (operationsOf (a .items .now)) x) _ _ (c .before .before .before .before .before .before .before .before .before .before .before .before .before .before .before .before .look .ensures) (c .before .before .before .before .before .before .before .before .before .before .before .before .found .given .1)) (c .before .before .before .before .macro-use .kept .1 .0) (c .before .before .before .before .macro-use .ensures)
+    macro-turned (a .items .now) (a .work .now) (a .core .now) (a .known .now) (a .fuel) (a .node) (a .tail) (a .wrap) (a .reached) x (c .before .before .before .before .before .before .before .before .before .before .before .before .before .before .before .before .before .before .pre .3) (c .before .before .before .before .before .before .before .before .before .before .before .before .before .before .before .before .before .before .pre .1) (c .before .before .before .before .before .before .before .before .before .before .before .before .before .before .before .before .before .before .pre .2) _ (c .before .before .macro-use .last .1 .0) (c .before .before .macro-use .result)
+    (ap knownOf (sym (c .before .before .before .before .before .before .found4 .given .1)) ∙ found-by (lookup (operationsOf (a .items .now)) x) _ _ (c .before .before .before .before .before .before .before .before .before .before .before .look .ensures) (c .before .before .before .before .before .before .before .before .before .found .given .1)) (c .before .before .macro-use .kept .1 .0) (c .before .before .macro-use .ensures)
 
--- src/dispatch.rt:56:1
-same-length-12 : tie.Need-same-length-12
-same-length-12 c =
-    search needs
+same-length-8 : tie.Need-same-length-8
+same-length-8 c = search needs
 
--- src/dispatch.rt:56:1
-same-length-13 : tie.Need-same-length-13
-same-length-13 c =
-    search needs
+same-length-9 : tie.Need-same-length-9
+same-length-9 c = search needs
 
--- src/dispatch.rt:56:1
-same-length-14 : tie.Need-same-length-14
-same-length-14 c =
-    search needs
+same-length-10 : tie.Need-same-length-10
+same-length-10 c = search needs
 
--- src/dispatch.rt:56:1
-same-length-15 : tie.Need-same-length-15
-same-length-15 c =
-    search needs
-
--- src/dispatch.rt:56:1
 returns-5 : tie.Need-returns-5
 returns-5 c =
-    c .before .before .before .before .before .before .before .before .form .ensures (c .before .before .before .before .before .before .before .before .before .before .before .before .before .before .before .before .before .before .before .before .before .before .before .before .before .before .before .before .before .before .args .fuel) (c .before .before .before .before .before .before .before .before .before .before .before .before .before .before .before .before .before .before .before .before .before .before .before .before .before .before .before .before .before .before .pre .2)
+    c .before .before .before .before .before .before .form .ensures (c .before .before .before .before .before .before .before .before .before .before .before .before .before .before .before .before .before .before .before .before .before .before .before .args .fuel) (c .before .before .before .before .before .before .before .before .before .before .before .before .before .before .before .before .before .before .before .before .before .before .before .pre .2)
 
 pub named-spec : {M : Type 1} → statement M
 named-spec =
@@ -204,7 +129,6 @@ named-spec =
     enum-told
     refuse-requires
     same-length
-    same-length-2
     returns
     enum-known-found-2
     put-application-requires
@@ -214,20 +138,16 @@ named-spec =
     macro-use-requires
     enum-known-found-5
     form-requires
+    same-length-2
     same-length-3
+    returns-2
     same-length-4
     same-length-5
-    returns-2
+    returns-3
     same-length-6
     same-length-7
+    returns-4
     same-length-8
-    returns-3
     same-length-9
     same-length-10
-    same-length-11
-    returns-4
-    same-length-12
-    same-length-13
-    same-length-14
-    same-length-15
     returns-5)

@@ -9,135 +9,77 @@ use Rattle.turns.specs.LeafLaws.{found-by, nothing-by, name-nothing, nam
 use mathlib.Core.Path.{ap, sym, _∙_}
 use Rattle.turns.specs.Leaves.{knownOf}
 
--- src/leaf.rt:74:32
 look-requires : tie.Need-look-requires
-look-requires c κs =
-    search needs
+look-requires c κs = search needs
 
--- src/leaf.rt:74:23
 enum-known-found : tie.Need-enum-known-found
-enum-known-found c =
-    search needs
+enum-known-found c = search needs
 
--- src/leaf.rt:75:9
 enum-told : tie.Need-enum-told
-enum-told c =
-    search needs
+enum-told c = search needs
 
--- src/leaf.rt:75:9
 refuse-requires : tie.Need-refuse-requires
-refuse-requires c κs =
-    search needs
+refuse-requires c κs = search needs
 
--- src/leaf.rt:75:9
-same-length : tie.Need-same-length
-same-length c =
-    search needs
-
--- src/leaf.rt:75:9
 returns : tie.Need-returns
 returns c =
-    let a = c .before .before .before .before .before .before .before .before .before .before .before .before .args in
+    let a = c .before .before .before .before .before .before .before .before .args in
     let found = lookup (operationsOf (a .items .now)) (nameAt (a .items .now) (a .work .now) (a .node) (a .wrap)) in
-    name-nothing found (a .reached) (a .core .now) (a .core .now) _ (nothing-by found _ (c .before .before .before .before .before .look .ensures) (c .before .enum-told .given .1)) (c .refuse .ensures)
+    name-nothing found (a .reached) (a .core .now) (a .core .now) _ (nothing-by found _ (c .before .before .before .look .ensures) (c .before .enum-told .given .1)) (c .refuse .ensures)
 
--- src/leaf.rt:78:25
 enum-known-found-2 : tie.Need-enum-known-found-2
-enum-known-found-2 c =
-    search needs
+enum-known-found-2 c = search needs
 
--- src/leaf.rt:78:43
 put-node-requires : tie.Need-put-node-requires
-put-node-requires c κs =
-    search needs
+put-node-requires c κs = search needs
 
--- src/leaf.rt:79:26
 enum-known-found-3 : tie.Need-enum-known-found-3
-enum-known-found-3 c =
-    search needs
+enum-known-found-3 c = search needs
 
--- src/leaf.rt:79:44
 put-node-requires-2 : tie.Need-put-node-requires-2
-put-node-requires-2 c κs =
-    search needs
+put-node-requires-2 c κs = search needs
 
--- src/leaf.rt:80:22
 enum-known-found-4 : tie.Need-enum-known-found-4
-enum-known-found-4 c =
-    search needs
+enum-known-found-4 c = search needs
 
--- src/leaf.rt:80:28
 refuse-requires-2 : tie.Need-refuse-requires-2
-refuse-requires-2 c κs =
-    search needs
+refuse-requires-2 c κs = search needs
 
--- src/leaf.rt:81:21
 enum-known-found-5 : tie.Need-enum-known-found-5
-enum-known-found-5 c =
-    search needs
+enum-known-found-5 c = search needs
 
--- src/leaf.rt:81:27
 refuse-requires-3 : tie.Need-refuse-requires-3
-refuse-requires-3 c κs =
-    search needs
+refuse-requires-3 c κs = search needs
 
--- src/leaf.rt:61:1
-same-length-2 : tie.Need-same-length-2
-same-length-2 c =
-    search needs
+same-length : tie.Need-same-length
+same-length c = search needs
 
--- src/leaf.rt:61:1
-same-length-3 : tie.Need-same-length-3
-same-length-3 c =
-    search needs
-
--- src/leaf.rt:61:1
 returns-2 : tie.Need-returns-2
 returns-2 c =
-    let a = c .before .before .before .before .before .before .before .before .before .before .before .before .before .before .before .before .before .before .before .args in
+    let a = c .before .before .before .before .before .before .before .before .before .before .before .before .before .before .before .args in
     let found = lookup (operationsOf (a .items .now)) (nameAt (a .items .now) (a .work .now) (a .node) (a .wrap)) in
-    name-variable found (a .reached) (a .core .now) _ _ _ (ap knownOf (sym (c .before .before .before .before .before .found2 .given .1)) ∙ found-by found _ _ (c .before .before .before .before .before .before .before .before .before .before .before .before .look .ensures) (c .before .before .before .before .before .before .before .before .found .given .1)) (c .before .before .put-node .ensures)
+    name-variable found (a .reached) (a .core .now) _ _ _ (ap knownOf (sym (c .before .before .before .before .before .found2 .given .1)) ∙ found-by found _ _ (c .before .before .before .before .before .before .before .before .before .before .look .ensures) (c .before .before .before .before .before .before .before .before .found .given .1)) (c .before .before .put-node .ensures)
 
--- src/leaf.rt:61:1
-same-length-4 : tie.Need-same-length-4
-same-length-4 c =
-    search needs
+same-length-2 : tie.Need-same-length-2
+same-length-2 c = search needs
 
--- src/leaf.rt:61:1
-same-length-5 : tie.Need-same-length-5
-same-length-5 c =
-    search needs
-
--- src/leaf.rt:61:1
 returns-3 : tie.Need-returns-3
 returns-3 c =
-    let a = c .before .before .before .before .before .before .before .before .before .before .before .before .before .before .before .before .before .before .before .args in
+    let a = c .before .before .before .before .before .before .before .before .before .before .before .before .before .before .before .args in
     let found = lookup (operationsOf (a .items .now)) (nameAt (a .items .now) (a .work .now) (a .node) (a .wrap)) in
-    name-operation found (a .reached) (a .core .now) _ _ _ (ap knownOf (sym (c .before .before .before .before .before .found3 .given .1)) ∙ found-by found _ _ (c .before .before .before .before .before .before .before .before .before .before .before .before .look .ensures) (c .before .before .before .before .before .before .before .before .found .given .1)) (c .before .before .put-node2 .ensures)
+    name-operation found (a .reached) (a .core .now) _ _ _ (ap knownOf (sym (c .before .before .before .before .before .found3 .given .1)) ∙ found-by found _ _ (c .before .before .before .before .before .before .before .before .before .before .look .ensures) (c .before .before .before .before .before .before .before .before .found .given .1)) (c .before .before .put-node2 .ensures)
 
--- src/leaf.rt:61:1
-same-length-6 : tie.Need-same-length-6
-same-length-6 c =
-    search needs
-
--- src/leaf.rt:61:1
 returns-4 : tie.Need-returns-4
 returns-4 c =
-    let a = c .before .before .before .before .before .before .before .before .before .before .before .before .before .before .before .before .args in
+    let a = c .before .before .before .before .before .before .before .before .before .before .before .before .args in
     let found = lookup (operationsOf (a .items .now)) (nameAt (a .items .now) (a .work .now) (a .node) (a .wrap)) in
-    name-macro found (a .reached) (a .core .now) (a .core .now) _ _ (ap knownOf (sym (c .before .before .found4 .given .1)) ∙ found-by found _ _ (c .before .before .before .before .before .before .before .before .before .look .ensures) (c .before .before .before .before .before .found .given .1)) (c .refuse2 .ensures)
+    name-macro found (a .reached) (a .core .now) (a .core .now) _ _ (ap knownOf (sym (c .before .before .found4 .given .1)) ∙ found-by found _ _ (c .before .before .before .before .before .before .before .look .ensures) (c .before .before .before .before .before .found .given .1)) (c .refuse2 .ensures)
 
--- src/leaf.rt:61:1
-same-length-7 : tie.Need-same-length-7
-same-length-7 c =
-    search needs
-
--- src/leaf.rt:61:1
 returns-5 : tie.Need-returns-5
 returns-5 c =
-    let a = c .before .before .before .before .before .before .before .before .before .before .before .before .before .before .before .before .args in
+    let a = c .before .before .before .before .before .before .before .before .before .before .before .before .args in
     let found = lookup (operationsOf (a .items .now)) (nameAt (a .items .now) (a .work .now) (a .node) (a .wrap)) in
-    name-form found (a .reached) (a .core .now) (a .core .now) _ _ (ap knownOf (sym (c .before .before .found5 .given .1)) ∙ found-by found _ _ (c .before .before .before .before .before .before .before .before .before .look .ensures) (c .before .before .before .before .before .found .given .1)) (c .refuse3 .ensures)
+    name-form found (a .reached) (a .core .now) (a .core .now) _ _ (ap knownOf (sym (c .before .before .found5 .given .1)) ∙ found-by found _ _ (c .before .before .before .before .before .before .before .look .ensures) (c .before .before .before .before .before .found .given .1)) (c .refuse3 .ensures)
 
 pub bare-name-spec : {M : Type 1} → statement M
 bare-name-spec =
@@ -147,7 +89,6 @@ bare-name-spec =
     enum-known-found
     enum-told
     refuse-requires
-    same-length
     returns
     enum-known-found-2
     put-node-requires
@@ -157,13 +98,9 @@ bare-name-spec =
     refuse-requires-2
     enum-known-found-5
     refuse-requires-3
-    same-length-2
-    same-length-3
+    same-length
     returns-2
-    same-length-4
-    same-length-5
+    same-length-2
     returns-3
-    same-length-6
     returns-4
-    same-length-7
     returns-5)

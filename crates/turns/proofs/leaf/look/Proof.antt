@@ -5,90 +5,48 @@ use Rattle.turns.proofs.leaf.look.Tie as tie
 use Rattle.arena.specs.Arena.{nameAt}
 use Rattle.turns.specs.LeafLaws.{look-variable, look-macro, look-form, look-operation, look-nothing}
 
--- src/leaf.rt:39:9
 lookup-requires : tie.Need-lookup-requires
-lookup-requires c κs =
-    search needs
+lookup-requires c κs = search needs
 
--- src/leaf.rt:41:27
 enum-known-found : tie.Need-enum-known-found
-enum-known-found c =
-    search needs
+enum-known-found c = search needs
 
--- src/leaf.rt:42:24
 enum-known-found-2 : tie.Need-enum-known-found-2
-enum-known-found-2 c =
-    search needs
+enum-known-found-2 c = search needs
 
--- src/leaf.rt:43:23
 enum-known-found-3 : tie.Need-enum-known-found-3
-enum-known-found-3 c =
-    search needs
+enum-known-found-3 c = search needs
 
--- src/leaf.rt:44:28
 enum-known-found-4 : tie.Need-enum-known-found-4
-enum-known-found-4 c =
-    search needs
+enum-known-found-4 c = search needs
 
--- src/leaf.rt:45:29
 enum-told : tie.Need-enum-told
-enum-told c =
-    search needs
+enum-told c = search needs
 
--- src/leaf.rt:28:1
-same-length : tie.Need-same-length
-same-length c =
-    search needs
-
--- src/leaf.rt:28:1
 returns : tie.Need-returns
 returns c =
-    let a = c .before .before .before .before .before .before .before .before .before .before .before .args in
-    look-variable (a .items .now) (a .operations .now) (a .marks .now) (nameAt (a .items .now) (a .work .now) (a .node) (a .wrap)) (c .before .before .before .before .before .before .before .before .before .before .before .pre) _ (c .before .before .before .before .before .lookup .ensures) _ (c .before .found .given .1)
+    let a = c .before .before .before .before .before .before .before .args in
+    look-variable (a .items .now) (a .operations .now) (nameAt (a .items .now) (a .work .now) (a .node) (a .wrap)) (c .before .before .before .before .before .before .before .pre) _ (c .before .before .before .lookup .ensures) _ (c .before .found .given .1)
 
--- src/leaf.rt:28:1
-same-length-2 : tie.Need-same-length-2
-same-length-2 c =
-    search needs
-
--- src/leaf.rt:28:1
 returns-2 : tie.Need-returns-2
 returns-2 c =
-    let a = c .before .before .before .before .before .before .before .before .before .before .before .args in
-    look-macro (a .items .now) (a .operations .now) (a .marks .now) (nameAt (a .items .now) (a .work .now) (a .node) (a .wrap)) (c .before .before .before .before .before .before .before .before .before .before .before .pre) _ (c .before .before .before .before .before .lookup .ensures) _ (c .before .found2 .given .1)
+    let a = c .before .before .before .before .before .before .before .args in
+    look-macro (a .items .now) (a .operations .now) (nameAt (a .items .now) (a .work .now) (a .node) (a .wrap)) (c .before .before .before .before .before .before .before .pre) _ (c .before .before .before .lookup .ensures) _ (c .before .found2 .given .1)
 
--- src/leaf.rt:28:1
-same-length-3 : tie.Need-same-length-3
-same-length-3 c =
-    search needs
-
--- src/leaf.rt:28:1
 returns-3 : tie.Need-returns-3
 returns-3 c =
-    let a = c .before .before .before .before .before .before .before .before .before .before .before .args in
-    look-form (a .items .now) (a .operations .now) (a .marks .now) (nameAt (a .items .now) (a .work .now) (a .node) (a .wrap)) (c .before .before .before .before .before .before .before .before .before .before .before .pre) _ (c .before .before .before .before .before .lookup .ensures) _ (c .before .found3 .given .1)
+    let a = c .before .before .before .before .before .before .before .args in
+    look-form (a .items .now) (a .operations .now) (nameAt (a .items .now) (a .work .now) (a .node) (a .wrap)) (c .before .before .before .before .before .before .before .pre) _ (c .before .before .before .lookup .ensures) _ (c .before .found3 .given .1)
 
--- src/leaf.rt:28:1
-same-length-4 : tie.Need-same-length-4
-same-length-4 c =
-    search needs
-
--- src/leaf.rt:28:1
 returns-4 : tie.Need-returns-4
 returns-4 c =
-    let a = c .before .before .before .before .before .before .before .before .before .before .before .args in
-    look-operation (a .items .now) (a .operations .now) (a .marks .now) (nameAt (a .items .now) (a .work .now) (a .node) (a .wrap)) (c .before .before .before .before .before .before .before .before .before .before .before .pre) _ (c .before .before .before .before .before .lookup .ensures) _ (c .before .found4 .given .1)
+    let a = c .before .before .before .before .before .before .before .args in
+    look-operation (a .items .now) (a .operations .now) (nameAt (a .items .now) (a .work .now) (a .node) (a .wrap)) (c .before .before .before .before .before .before .before .pre) _ (c .before .before .before .lookup .ensures) _ (c .before .found4 .given .1)
 
--- src/leaf.rt:28:1
-same-length-5 : tie.Need-same-length-5
-same-length-5 c =
-    search needs
-
--- src/leaf.rt:28:1
 returns-5 : tie.Need-returns-5
 returns-5 c =
-    let a = c .before .before .before .before .before .before .before .before .before .before .args in
-    look-nothing (a .items .now) (a .operations .now) (a .marks .now) (nameAt (a .items .now) (a .work .now) (a .node) (a .wrap)) (c .before .before .before .before .before .before .before .before .before .before .pre) _ (c .before .before .before .before .lookup .ensures) (c .enum-told .given .1)
+    let a = c .before .before .before .before .before .before .args in
+    look-nothing (a .items .now) (a .operations .now) (nameAt (a .items .now) (a .work .now) (a .node) (a .wrap)) (c .before .before .before .before .before .before .pre) _ (c .before .before .lookup .ensures) (c .enum-told .given .1)
 
 pub look-spec : {M : Type 1} → statement M
 look-spec =
@@ -100,13 +58,8 @@ look-spec =
     enum-known-found-3
     enum-known-found-4
     enum-told
-    same-length
     returns
-    same-length-2
     returns-2
-    same-length-3
     returns-3
-    same-length-4
     returns-4
-    same-length-5
     returns-5)

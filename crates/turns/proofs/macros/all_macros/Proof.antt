@@ -10,137 +10,110 @@ use Rattle.turns.specs.MacroRules.{Reading}
 use Rattle.turns.specs.MacroRuleLaws.{one-ask, count-small, reading-begins, reading-ends, reading-bad, reading-more}
 
 abbrev Inv-loop : tie.InvT-loop
-Inv-loop items work₀ macros₀ marks₀ list w count top at₀ n₀ end₀ work macros marks at n end =
-    (length work ≡ length work₀) × (length macros ≡ length macros₀) × (length marks ≡ length marks₀) × Reading items work₀ macros₀ list w count top work macros marks at n end
+Inv-loop items work₀ macros₀ list w count top at₀ n₀ end₀ work macros at n end =
+    (length work ≡ length work₀) × (length macros ≡ length macros₀) × Reading items work₀ macros₀ list w count top work macros at n end
 
 abbrev μ-loop : tie.MeasureT-loop
-μ-loop items work₀ macros₀ marks₀ list w count top at₀ n₀ end₀ work macros marks at n end =
+μ-loop items work₀ macros₀ list w count top at₀ n₀ end₀ work macros at n end =
     at
 
 loop-holds : tie.Need-loop-holds Inv-loop μ-loop
 loop-holds c =
-    let a = c .before .before .before .before .args in
-    let pre = c .before .before .before .before .pre in
-    (refl, refl, refl, reading-begins (a .items .now) (a .work .now) (a .macros .now) (a .list) (a .w) (a .count) (a .top) (a .marks .now) pre)
+    let a = c .before .before .before .args in
+    let pre = c .before .before .before .pre in
+    (refl, refl, reading-begins (a .items .now) (a .work .now) (a .macros .now) (a .list) (a .w) (a .count) (a .top) pre)
 
 word-requires : tie.Need-word-requires Inv-loop μ-loop
-word-requires c κs =
-    search needs
+word-requires c κs = search needs
 
 reference-requires : tie.Need-reference-requires Inv-loop μ-loop
-reference-requires c κs =
-    search needs
+reference-requires c κs = search needs
 
 element-requires : tie.Need-element-requires Inv-loop μ-loop
-element-requires c κs =
-    search needs
+element-requires c κs = search needs
 
 reference-requires-2 : tie.Need-reference-requires-2 Inv-loop μ-loop
-reference-requires-2 c κs =
-    search needs
+reference-requires-2 c κs = search needs
 
 one-macro-requires : tie.Need-one-macro-requires Inv-loop μ-loop
 one-macro-requires c κs =
-    let a = c .before .before .before .before .before .before .before .before .before .before .before .before .before .before .before .before .before .args in
-    let loop = c .before .before .before .before .before .before .before .before .before .before .before .before .loop in
-    let word = c .before .before .before .before .before .before .before .before .before .before .word in
-    let if1 = c .before .before .before .before .before .before .before .before .before .if1 in
-    let reference = c .before .before .before .before .before .before .before .reference in
-    let element = c .before .before .before .before .before .element in
-    let reference2 = c .before .before .before .reference2 in
-    one-ask (a .items .now) (loop .work) (loop .macros) (loop .marks) (loop .at) (a .w) (loop .n) (loop .end) (loop .inv .3 .ask) _ _ _ (sym (word .ensures) ∙ if1 .taken) (reference .ensures) (reference2 .ensures) (element .ensures)
+    let a = c .before .before .before .before .before .before .before .before .before .before .before .before .before .before .before .args in
+    let loop = c .before .before .before .before .before .before .before .before .before .before .before .loop in
+    let word = c .before .before .before .before .before .before .before .before .before .word in
+    let if1 = c .before .before .before .before .before .before .before .before .if1 in
+    let reference = c .before .before .before .before .before .before .reference in
+    let element = c .before .before .before .before .element in
+    let reference2 = c .before .before .reference2 in
+    one-ask (a .items .now) (loop .work) (loop .macros) (loop .at) (a .w) (loop .n) (loop .end) (loop .inv .2 .ask) _ _ _ (sym (word .ensures) ∙ if1 .taken) (reference .ensures) (reference2 .ensures) (element .ensures)
 
 enum-known-upper : tie.Need-enum-known-upper Inv-loop μ-loop
-enum-known-upper c =
-    search needs
+enum-known-upper c = search needs
 
 enum-told : tie.Need-enum-told Inv-loop μ-loop
-enum-told c =
-    search needs
+enum-told c = search needs
 
 same-length : tie.Need-same-length Inv-loop μ-loop
-same-length c =
-    let loop = c .before .before .before .before .before .before .before .before .before .before .before .before .before .before .before .before .before .before .before .before .before .loop in
-    let one-macro = c .before .before .before .before .before .before .before .before .one-macro in
-    one-macro .kept .1 .0 ∙ loop .inv .0
+same-length c = search needs
 
 same-length-2 : tie.Need-same-length-2 Inv-loop μ-loop
-same-length-2 c =
-    let loop = c .before .before .before .before .before .before .before .before .before .before .before .before .before .before .before .before .before .before .before .before .before .loop in
-    let one-macro = c .before .before .before .before .before .before .before .before .one-macro in
-    one-macro .kept .1 .1 .0 ∙ loop .inv .1
-
-same-length-3 : tie.Need-same-length-3 Inv-loop μ-loop
-same-length-3 c =
-    let loop = c .before .before .before .before .before .before .before .before .before .before .before .before .before .before .before .before .before .before .before .before .before .loop in
-    let one-macro = c .before .before .before .before .before .before .before .before .one-macro in
-    one-macro .kept .1 .1 .1 .0 ∙ loop .inv .2
+same-length-2 c = search needs
 
 returns : tie.Need-returns Inv-loop μ-loop
 returns c =
-    let a = c .before .before .before .before .before .before .before .before .before .before .before .before .before .before .before .before .before .before .before .before .before .before .before .before .before .before .args in
-    let loop = c .before .before .before .before .before .before .before .before .before .before .before .before .before .before .before .before .before .before .before .before .before .loop in
-    let word = c .before .before .before .before .before .before .before .before .before .before .before .before .before .before .before .before .before .before .before .word in
-    let if1 = c .before .before .before .before .before .before .before .before .before .before .before .before .before .before .before .before .before .before .if1 in
-    let reference = c .before .before .before .before .before .before .before .before .before .before .before .before .before .before .before .before .reference in
-    let element = c .before .before .before .before .before .before .before .before .before .before .before .before .before .before .element in
-    let reference2 = c .before .before .before .before .before .before .before .before .before .before .before .before .reference2 in
-    let one-macro = c .before .before .before .before .before .before .before .before .one-macro in
-    reading-bad (a .items .now) (a .work .now) (a .macros .now) (a .list) (a .w) (a .count) (a .top) (loop .work) (loop .macros) (loop .marks) (loop .at) (loop .n) (loop .end) (loop .inv .3) _ _ _ (sym (word .ensures) ∙ if1 .taken) (reference .ensures) (reference2 .ensures) (element .ensures) _ _ _ (one-macro .ensures) (c .enum-told .given .1)
+    let a = c .before .before .before .before .before .before .before .before .before .before .before .before .before .before .before .before .before .before .before .before .before .before .args in
+    let loop = c .before .before .before .before .before .before .before .before .before .before .before .before .before .before .before .before .before .before .loop in
+    let word = c .before .before .before .before .before .before .before .before .before .before .before .before .before .before .before .before .word in
+    let if1 = c .before .before .before .before .before .before .before .before .before .before .before .before .before .before .before .if1 in
+    let reference = c .before .before .before .before .before .before .before .before .before .before .before .before .before .reference in
+    let element = c .before .before .before .before .before .before .before .before .before .before .before .element in
+    let reference2 = c .before .before .before .before .before .before .before .before .before .reference2 in
+    let one-macro = c .before .before .before .before .before .before .one-macro in
+    reading-bad (a .items .now) (a .work .now) (a .macros .now) (a .list) (a .w) (a .count) (a .top) (loop .work) (loop .macros) (loop .at) (loop .n) (loop .end) (loop .inv .2) _ _ _ (sym (word .ensures) ∙ if1 .taken) (reference .ensures) (reference2 .ensures) (element .ensures) _ _ _ (one-macro .ensures) (c .enum-told .given .1)
 
 add-n : tie.Need-add-n Inv-loop μ-loop
 add-n c =
-    let a = c .before .before .before .before .before .before .before .before .before .before .before .before .before .before .before .before .before .before .before .before .before .before .before .before .before .before .before .args in
-    let loop = c .before .before .before .before .before .before .before .before .before .before .before .before .before .before .before .before .before .before .before .before .before .before .loop in
-    let word = c .before .before .before .before .before .before .before .before .before .before .before .before .before .before .before .before .before .before .before .before .word in
-    let if1 = c .before .before .before .before .before .before .before .before .before .before .before .before .before .before .before .before .before .before .before .if1 in
-    let reference = c .before .before .before .before .before .before .before .before .before .before .before .before .before .before .before .before .before .reference in
-    let element = c .before .before .before .before .before .before .before .before .before .before .before .before .before .before .before .element in
-    let reference2 = c .before .before .before .before .before .before .before .before .before .before .before .before .before .reference2 in
-    record { fits = count-small (a .items .now) (loop .work) (loop .macros) (loop .marks) (loop .at) (a .w) (loop .n) (loop .end) (loop .inv .3 .ask) _ _ _ (sym (word .ensures) ∙ if1 .taken) (reference .ensures) (reference2 .ensures) (element .ensures) }
+    let a = c .before .before .before .before .before .before .before .before .before .before .before .before .before .before .before .before .before .before .before .before .before .before .before .args in
+    let loop = c .before .before .before .before .before .before .before .before .before .before .before .before .before .before .before .before .before .before .before .loop in
+    let word = c .before .before .before .before .before .before .before .before .before .before .before .before .before .before .before .before .before .word in
+    let if1 = c .before .before .before .before .before .before .before .before .before .before .before .before .before .before .before .before .if1 in
+    let reference = c .before .before .before .before .before .before .before .before .before .before .before .before .before .before .reference in
+    let element = c .before .before .before .before .before .before .before .before .before .before .before .before .element in
+    let reference2 = c .before .before .before .before .before .before .before .before .before .before .reference2 in
+    record { fits = count-small (a .items .now) (loop .work) (loop .macros) (loop .at) (a .w) (loop .n) (loop .end) (loop .inv .2 .ask) _ _ _ (sym (word .ensures) ∙ if1 .taken) (reference .ensures) (reference2 .ensures) (element .ensures) }
 
 loop-less : tie.Need-loop-less Inv-loop μ-loop
 loop-less c =
-    let loop = c .before .before .before .before .before .before .before .before .before .before .before .before .before .before .before .before .before .before .before .before .before .before .loop in
-    let word = c .before .before .before .before .before .before .before .before .before .before .before .before .before .before .before .before .before .before .before .before .word in
-    let if1 = c .before .before .before .before .before .before .before .before .before .before .before .before .before .before .before .before .before .before .before .if1 in
-    let reference2 = c .before .before .before .before .before .before .before .before .before .before .before .before .before .reference2 in
+    let loop = c .before .before .before .before .before .before .before .before .before .before .before .before .before .before .before .before .before .before .before .loop in
+    let word = c .before .before .before .before .before .before .before .before .before .before .before .before .before .before .before .before .before .word in
+    let if1 = c .before .before .before .before .before .before .before .before .before .before .before .before .before .before .before .before .if1 in
+    let reference2 = c .before .before .before .before .before .before .before .before .before .before .reference2 in
     omega (arith, reference2 .ensures, pair-falls (loop .work) (loop .at) 1 (sym (word .ensures) ∙ if1 .taken))
 
 loop-again : tie.Need-loop-again Inv-loop μ-loop
 loop-again c =
-    let a = c .before .before .before .before .before .before .before .before .before .before .before .before .before .before .before .before .before .before .before .before .before .before .before .before .before .before .before .args in
-    let loop = c .before .before .before .before .before .before .before .before .before .before .before .before .before .before .before .before .before .before .before .before .before .before .loop in
-    let word = c .before .before .before .before .before .before .before .before .before .before .before .before .before .before .before .before .before .before .before .before .word in
-    let if1 = c .before .before .before .before .before .before .before .before .before .before .before .before .before .before .before .before .before .before .before .if1 in
-    let reference = c .before .before .before .before .before .before .before .before .before .before .before .before .before .before .before .before .before .reference in
-    let element = c .before .before .before .before .before .before .before .before .before .before .before .before .before .before .before .element in
-    let reference2 = c .before .before .before .before .before .before .before .before .before .before .before .before .before .reference2 in
-    let one-macro = c .before .before .before .before .before .before .before .before .before .one-macro in
+    let a = c .before .before .before .before .before .before .before .before .before .before .before .before .before .before .before .before .before .before .before .before .before .before .before .args in
+    let loop = c .before .before .before .before .before .before .before .before .before .before .before .before .before .before .before .before .before .before .before .loop in
+    let word = c .before .before .before .before .before .before .before .before .before .before .before .before .before .before .before .before .before .word in
+    let if1 = c .before .before .before .before .before .before .before .before .before .before .before .before .before .before .before .before .if1 in
+    let reference = c .before .before .before .before .before .before .before .before .before .before .before .before .before .before .reference in
+    let element = c .before .before .before .before .before .before .before .before .before .before .before .before .element in
+    let reference2 = c .before .before .before .before .before .before .before .before .before .before .reference2 in
+    let one-macro = c .before .before .before .before .before .before .before .one-macro in
     let upper = c .before .upper in
-    (one-macro .kept .1 .0 ∙ loop .inv .0, one-macro .kept .1 .1 .0 ∙ loop .inv .1, one-macro .kept .1 .1 .1 .0 ∙ loop .inv .2, reading-more (a .items .now) (a .work .now) (a .macros .now) (a .list) (a .w) (a .count) (a .top) (loop .work) (loop .macros) (loop .marks) (loop .at) (loop .n) (loop .end) (loop .inv .3) _ _ _ (sym (word .ensures) ∙ if1 .taken) (reference .ensures) (reference2 .ensures) (element .ensures) _ _ _ (one-macro .ensures) _ _ (upper .given .1) (one-macro .kept .1 .0) (one-macro .kept .1 .1 .0) (one-macro .kept .1 .1 .1 .0))
+    (one-macro .kept .1 .0 ∙ loop .inv .0, one-macro .kept .1 .1 .0 ∙ loop .inv .1, reading-more (a .items .now) (a .work .now) (a .macros .now) (a .list) (a .w) (a .count) (a .top) (loop .work) (loop .macros) (loop .at) (loop .n) (loop .end) (loop .inv .2) _ _ _ (sym (word .ensures) ∙ if1 .taken) (reference .ensures) (reference2 .ensures) (element .ensures) _ _ _ (one-macro .ensures) _ (upper .given .1) (one-macro .kept .1 .0) (one-macro .kept .1 .1 .0))
+
+same-length-3 : tie.Need-same-length-3 Inv-loop μ-loop
+same-length-3 c = search needs
 
 same-length-4 : tie.Need-same-length-4 Inv-loop μ-loop
-same-length-4 c =
-    let loop = c .before .before .before .loop in
-    loop .inv .0
-
-same-length-5 : tie.Need-same-length-5 Inv-loop μ-loop
-same-length-5 c =
-    let loop = c .before .before .before .loop in
-    loop .inv .1
-
-same-length-6 : tie.Need-same-length-6 Inv-loop μ-loop
-same-length-6 c =
-    let loop = c .before .before .before .loop in
-    loop .inv .2
+same-length-4 c = search needs
 
 returns-2 : tie.Need-returns-2 Inv-loop μ-loop
 returns-2 c =
-    let a = c .before .before .before .before .before .before .before .before .args in
+    let a = c .before .before .before .before .before .before .before .args in
     let loop = c .before .before .before .loop in
     let word = c .before .word in
-    reading-ends (a .items .now) (a .work .now) (a .macros .now) (a .list) (a .w) (a .count) (a .top) (loop .work) (loop .macros) (loop .marks) (loop .at) (loop .n) (loop .end) (loop .inv .3) (λ z. c .if1 .left (word .ensures ∙ z))
+    reading-ends (a .items .now) (a .work .now) (a .macros .now) (a .list) (a .w) (a .count) (a .top) (loop .work) (loop .macros) (loop .at) (loop .n) (loop .end) (loop .inv .2) (λ z. c .if1 .left (word .ensures ∙ z))
 
 pub all-macros-spec : {M : Type 1} → statement M
 all-macros-spec =
@@ -158,12 +131,10 @@ all-macros-spec =
     enum-told
     same-length
     same-length-2
-    same-length-3
     returns
     add-n
     loop-less
     loop-again
+    same-length-3
     same-length-4
-    same-length-5
-    same-length-6
     returns-2)

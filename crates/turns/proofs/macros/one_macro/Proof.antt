@@ -2,70 +2,39 @@
 use borrow.Author.Needs.{needs}
 use Rattle.turns.proofs.macros.one_macro.Statement.{statement}
 use Rattle.turns.proofs.macros.one_macro.Tie as tie
-use Rattle.turns.proofs.macros.one_macro.Reads as reads
-use Rattle.turns.proofs.macros.one_macro.Lts as lts
-use Rattle.rule_cells.proofs.rules.rules.Reads as rules-reads
 use Rattle.turns.specs.MacroRuleLaws.{one-bad, one-good}
 
--- src/macros.rt:42:34
 rules-requires : tie.Need-rules-requires
-rules-requires c κs =
-    search needs
+rules-requires c κs = search needs
 
--- src/macros.rt:42:21
 enum-known-at : tie.Need-enum-known-at
-enum-known-at c =
-    search needs
+enum-known-at c = search needs
 
--- src/macros.rt:43:9
 enum-told : tie.Need-enum-told
-enum-told c =
-    search needs
+enum-told c = search needs
 
--- src/macros.rt:43:9
 same-length : tie.Need-same-length
-same-length c =
-    search needs
+same-length c = search needs
 
--- src/macros.rt:43:9
-same-length-2 : tie.Need-same-length-2
-same-length-2 c =
-    search needs
-
--- src/macros.rt:43:9
 returns : tie.Need-returns
 returns c =
-    let a = c .before .before .before .before .before .before .before .before .before .before .before .before .before .args in one-bad (a .items .now) (a .work .now) (a .macros .now) (a .marks .now) (a .form) (a .w) (a .count) (a .top) (c .before .before .before .before .before .before .before .before .before .before .before .before .before .pre) (c .before .before .before .before .before .before .rules .last .1 .0) _ (c .before .before .before .before .before .before .rules .ensures) (a .macros .now) (c .enum-told .given .1)
+    let a = c .before .before .before .before .before .before .before .before .before .args in one-bad (a .items .now) (a .work .now) (a .macros .now) (a .form) (a .w) (a .count) (a .top) (c .before .before .before .before .before .before .before .before .before .pre) (c .before .before .before .before .rules .last .1 .0) _ (c .before .before .before .before .rules .ensures) (a .macros .now) (c .enum-told .given .1)
 
--- src/macros.rt:45:5
 mul-macros : tie.Need-mul-macros
-mul-macros c =
-    search needs
+mul-macros c = search needs
 
--- src/macros.rt:45:5
 slice-write-macros : tie.Need-slice-write-macros
-slice-write-macros c =
-    search needs
+slice-write-macros c = search needs
 
--- src/macros.rt:29:1
+same-length-2 : tie.Need-same-length-2
+same-length-2 c = search needs
+
 same-length-3 : tie.Need-same-length-3
-same-length-3 c =
-    search needs
+same-length-3 c = search needs
 
--- src/macros.rt:29:1
-same-length-4 : tie.Need-same-length-4
-same-length-4 c =
-    search needs
-
--- src/macros.rt:29:1
-same-length-5 : tie.Need-same-length-5
-same-length-5 c =
-    search needs
-
--- src/macros.rt:29:1
 returns-2 : tie.Need-returns-2
 returns-2 c =
-    let a = c .before .before .before .before .before .before .before .before .before .before .before .before .before .before .args in one-good (a .items .now) (a .work .now) (a .macros .now) (a .marks .now) (a .form) (a .w) (a .count) (a .top) (c .before .before .before .before .before .before .before .before .before .before .before .before .before .before .pre) (c .before .before .before .before .before .before .before .rules .last .1 .0) _ (c .before .before .before .before .before .before .before .rules .ensures) _ _ (c .before .at .given .1)
+    let a = c .before .before .before .before .before .before .before .before .before .before .args in one-good (a .items .now) (a .work .now) (a .macros .now) (a .form) (a .w) (a .count) (a .top) (c .before .before .before .before .before .before .before .before .before .before .pre) (c .before .before .before .before .before .rules .last .1 .0) _ (c .before .before .before .before .before .rules .ensures) _ _ (c .before .at .given .1)
 
 pub one-macro-spec : {M : Type 1} → statement M
 one-macro-spec =
@@ -75,11 +44,9 @@ one-macro-spec =
     enum-known-at
     enum-told
     same-length
-    same-length-2
     returns
     mul-macros
     slice-write-macros
+    same-length-2
     same-length-3
-    same-length-4
-    same-length-5
     returns-2)
