@@ -102,6 +102,10 @@ wrapAt work w = wrapFrom work w w
 unfoldable pub numberAt : List ℕ → ℕ → ℕ
 numberAt items i = getD items (3 * i + 1) 0
 
+-- the number of a name node
+unfoldable pub numberOf : (items work : List ℕ) → ℕ → ℕ
+numberOf items work node = numberAt items (wordAt work node 2)
+
 -- a node past those of the table's items has stood in a result
 unfoldable pub nodeName : (items work : List ℕ) → ℕ → Name
 nodeName items work node =

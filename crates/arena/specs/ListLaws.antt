@@ -11,11 +11,9 @@ use Rattle.datum.specs.Constant.{Constant}
 use Rattle.recipe.specs.Name.{Name, isOrdinary, isEllipsis, isWildcard}
 use Rattle.recipe.specs.Tree.{Tree, empty, constant, name, pair, onEmpty, onName, onPair, isName, isOrdinaryName, isList, isListOf, elements, element, tail}
 use Rattle.recipe.specs.TreeLaws.{element-tail}
-use Rattle.arena.specs.Arena.{wordAt, referenceAt, nameAt, constantAt, treeAt}
+use Rattle.arena.specs.Arena.{wordAt, referenceAt, nameAt, constantAt, treeAt, numberOf}
 use Rattle.arena.specs.ArenaLaws.{cases, wordAt-some, wordAt-out, referenceAt-most, referenceAt-falls}
-use Rattle.arena.specs.NodeLaws.{treeAt-empty, treeAt-name, treeAt-pair, treeAt-constant}
-use Rattle.arena.specs.Names.{numberOf}
-use Rattle.arena.specs.NameLaws.{nameAt-number}
+use Rattle.arena.specs.NodeLaws.{treeAt-empty, treeAt-name, treeAt-pair, treeAt-constant, nameAt-number}
 use Rattle.arena.specs.Lists.{Means, Counts, Tests, TestsIn, Counted, Walked}
 
 -- ---- what a node can be

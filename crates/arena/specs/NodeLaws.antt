@@ -1,7 +1,7 @@
 -- Laws of nodes: what a tree in the arena means depends on the words below it alone; what each kind of node means; and that
 -- waiting on a tree is carrying through it.
 use mathlib.Core.Path.{_≡_, refl, sym, ap, ap₂, _∙_}
-use mathlib.Core.List.{List, []}
+use mathlib.Core.List.{List}
 use Prim.Native.Nat.{ℕ, zero, suc, _≤_, _<_}
 use native.Mathlib.Omega.{arith}
 use lib.Dec.{eqb}
@@ -10,8 +10,13 @@ use borrow.Author.Tests.{ne-eqb}
 use Rattle.recipe.specs.Name.{Name}
 use Rattle.recipe.specs.Tree.{Tree, empty, constant, name, pair, onNames}
 use Rattle.recipe.specs.Table.{byKind}
-use Rattle.arena.specs.Arena.{wordAt, referenceAt, wrapAt, nodeName, nameAt, constantAt, treeStep, treeFrom, treeAt}
-use Rattle.arena.specs.ArenaLaws.{cases, wordAt-below, referenceAt-below, referenceAt-falls, take-less, wrapAt-below, wrapAt-none}
+use Rattle.arena.specs.Arena.{wordAt, referenceAt, wrapAt, numberOf, nodeName, nameAt, constantAt, treeStep, treeFrom, treeAt}
+use Rattle.arena.specs.ArenaLaws.{cases, wordAt-below, referenceAt-below, referenceAt-falls, take-less, wrapAt-below, wrapAt-none, wrapAt-number}
+
+-- a name's number is its node's, whatever waits on it
+pub nameAt-number : (items work : List ℕ) (node w : ℕ) → nameAt items work node w .number ≡ numberOf items work node
+unfolding nameAt numberOf nodeName
+nameAt-number items work node w = wrapAt-number work w _ ∙ wrapAt-number work _ _
 
 -- ---- what a node means depends on the words below it alone
 

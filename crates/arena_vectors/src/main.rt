@@ -3,8 +3,8 @@
 // no function asks anything of its caller.
 
 use arena::cells;
-use arena::names;
-use arena::names::Meaning;
+use resolution::names;
+use resolution::names::Meaning;
 
 fn wide(n: u32) -> u64 {
     n as u64

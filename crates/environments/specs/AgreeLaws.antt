@@ -1,6 +1,6 @@
 -- Laws of ground 17 on cells, one for each way through the code.
 use mathlib.Core.Path.{_≡_, refl, sym, ap, subst, _∙_}
-use mathlib.Core.Bool.{Bool, true, false, _&&_}
+use mathlib.Core.Bool.{Bool, true, false, _&&_, false≢true}
 use mathlib.Core.List.{List}
 use Prim.Native.Nat.{ℕ, zero, suc, _+_, _<_}
 use native.Mathlib.Omega.{arith}
@@ -48,9 +48,6 @@ module _ (items work : List ℕ) (t tag head rest : ℕ) (tag-is : tag ≡ wordA
   ellipsis-is e = templateAt-ellipsis items work t (sym tag-is ∙ e) ∙ rw (head-is, rest-is) refl
 
 -- ---- templates without an ellipsis
-
-pub false-true : false ≡ true → ⊥
-false-true e = let z : _≡_ {A = ℕ} 0 1 = cc in omega arith
 
 module _ (work : List ℕ) (t tag : ℕ) (tag-is : tag ≡ wordAt work t 1) where
   pub flat-leaf : (tag ≡ 6 → ⊥) → (tag ≡ 7 → ⊥) → Flat work t
@@ -127,7 +124,7 @@ below-cong f g zero h = refl
 below-cong f g (suc c) h = rw (below-cong f g c h, h c) refl
 
 pub below-at : (f : ℕ → Bool) (c k : ℕ) → k < c → allBelow f c ≡ true → f k ≡ true
-below-at f c k h e = cases (f k) (λ t. t) (λ t. absurd (false-true (sym (below-false f c k h t) ∙ e)))
+below-at f c k h e = cases (f k) (λ t. t) (λ t. absurd (false≢true (sym (below-false f c k h t) ∙ e)))
 
 module _ (work env : List ℕ) (e : ℕ) where
   pub begun-copies : CopiesAgree work env e 0 true

@@ -1,6 +1,6 @@
 -- Laws of the environment of a pattern and a use, as a table: one for each way through the code.
 use mathlib.Core.Path.{_≡_, refl, sym, ap, _∙_}
-use mathlib.Core.Bool.{Bool, true, false, cond, _||_}
+use mathlib.Core.Bool.{Bool, true, false, cond, _||_, true≢false, false≢true}
 use mathlib.Core.List.{List}
 use Prim.Native.Nat.{ℕ, _≤_}
 use native.Mathlib.Omega.{arith}
@@ -42,11 +42,8 @@ some-cell items work p k h e =
     let n : false ≡ holds k (patternAt items work p) = holds-none work p _ refl k (λ z. omega arith) (λ z. omega arith) (λ z. omega arith) items in
     let z : _≡_ {A = ℕ} 0 1 = ap (λ b. cond b 1 0) (n ∙ h) in omega arith
 
-false-true : (b : Bool) → b ≡ false → b ≡ true → ⊥
-false-true b f t = let z : _≡_ {A = ℕ} 0 1 = ap (λ b. cond b 1 0) (sym f ∙ t) in omega arith
-
 both-false : (a b : Bool) → a || b ≡ false → (a ≡ false) × (b ≡ false)
-both-false true b h = absurd (false-true true h refl)
+both-false true b h = absurd (true≢false h)
 both-false false b h = (refl, h)
 
 -- ---- the variables of an element, and of a pattern
@@ -56,7 +53,7 @@ module _ (work : List ℕ) (p tag : ℕ) (tag-is : tag ≡ wordAt work p 1) (old
     pub list-none : (tag ≡ 1 → ⊥) → (tag ≡ 6 → ⊥) → (tag ≡ 7 → ⊥) → BindsList work p list first second old old
     list-none a b c =
         record {
-          held = λ items k l h. absurd (false-true _ (sym (holds-none work p tag tag-is k a b c items)) h);
+          held = λ items k l h. absurd (false≢true (holds-none work p tag tag-is k a b c items ∙ h));
           other = λ items k h. refl;
           low = λ b p q r s u. u;
         }
@@ -138,7 +135,7 @@ module _ (work : List ℕ) (p tag : ℕ) (tag-is : tag ≡ wordAt work p 1) (old
     pub pattern-none : (tag ≡ 1 → ⊥) → (tag ≡ 6 → ⊥) → (tag ≡ 7 → ⊥) → Binds work p u old old
     pattern-none a b c =
         record {
-          held = λ items w k l h. absurd (false-true _ (sym (holds-none work p tag tag-is k a b c items)) h);
+          held = λ items w k l h. absurd (false≢true (holds-none work p tag tag-is k a b c items ∙ h));
           other = λ items k h. refl;
           low = λ b p q u. u;
         }

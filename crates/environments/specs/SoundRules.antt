@@ -1,13 +1,13 @@
 -- Rules that parsing makes of tidy trees are sound. Tails must be lists: a name in place of the list after `...` would be counted as
 -- a variable, and no pattern would hold it.
-use mathlib.Core.Path.{_≡_, refl, sym, ap, ap₂, _∙_}
+use mathlib.Core.Path.{_≡_, refl}
 use mathlib.Core.Bool.{Bool, true, false, not, _&&_, cond, false≢true}
 use mathlib.Core.List.{List, [], _∷_, map}
 use mathlib.Core.Option.{Option}
 use Prim.Native.Nat.{ℕ, zero, suc, _+_, _≤_, _<_}
 use native.Mathlib.Omega.{arith}
 use lib.Dec.{eqb, leb}
-use lib.ListN.{length, length-append}
+use lib.ListN.{length}
 use borrow.Author.Tests.{eqb-true, eq-eqb, leb-true, leb-false}
 use Rattle.words.specs.Limits.{patternVariablesMost, depthMost}
 use Rattle.words.specs.Lists.{all}
@@ -16,13 +16,14 @@ use Rattle.words.specs.Options.{guard, mapBoth}
 use Rattle.words.specs.Each.{Each, each-weaken, Given, missing, given, given-weaken, given-traverse, given-cond, given-guard, given-mapSome, given-mapBoth}
 use Rattle.datum.specs.Constant.{Constant, isConstant}
 use Rattle.recipe.specs.Name.{Name, same, distinct, isEllipsis}
-use Rattle.recipe.specs.Tree.{Tree, empty, constant, name, pair, onEmpty, onName, onPair, isList, isListOf, names, elements, element, tail}
+use Rattle.recipe.specs.Tree.{Tree, empty, constant, name, onEmpty, onName, onPair, isList, isListOf, names, elements, element, tail}
 use Rattle.recipe.specs.Tidy.{Tidy, tidyEmpty, tidyConstant, tidyName, tidyPair, tidy-elements, tidy-element, tidy-tail}
 use Rattle.recipe.specs.TableTidy.{IsConstant}
 use Rattle.expansion.specs.Rules.{Pattern, pairP, ellipsisP, Template, constantT, pairT, ellipsisT, depthFits, variableFrom, nameTemplate, areVariables, dotsNext, depthBefore, isVariable, variables, patternOf, templateOf, ruleOf, isRulesForm, rulesOf}
 use Rattle.expansion.specs.Match.{holds}
 use Rattle.arena.specs.Arena.{wordAt, referenceAt}
 use Rattle.arena.specs.ArenaLaws.{cases}
+use Rattle.rule_cells.specs.PatternLaws.{count-pair}
 use Rattle.rule_cells.specs.Cells.{templateStep, templateFrom, templateAt}
 use Rattle.environments.specs.Sound.{Sound, SoundRule, Plain}
 
@@ -50,29 +51,12 @@ abbrev HoldsFrom : (k n : ℕ) → Pattern → Type 0
 HoldsFrom k n p = (j : ℕ) → k ≤ j → j < k + n → holds j p ≡ true
 
 module _ (dots : Name → Bool) (literals : List Name) where
-  -- there are as many variables at any depth
-  variables-count : (d e : ℕ) (t : Tree) → length (variables dots literals d t) ≡ length (variables dots literals e t)
-  unfolding variables
-  variables-count d e empty = refl
-  variables-count d e (constant a) = refl
-  variables-count d e (name x) = cases (isVariable dots literals x) (λ v. rw v refl) (λ v. rw v refl)
-  variables-count d e (pair p ps) =
-      length-append (variables dots literals (depthBefore dots ps d) p) (variables dots literals d ps)
-      ∙ ap₂ _+_ (variables-count (depthBefore dots ps d) (depthBefore dots ps e) p) (variables-count d e ps)
-      ∙ sym (length-append (variables dots literals (depthBefore dots ps e) p) (variables dots literals e ps))
-
-  count : Tree → ℕ
+  abbrev count : Tree → ℕ
   count t = length (variables dots literals 0 t)
-
-  count-pair : (p ps : Tree) → count (pair p ps) ≡ count p + count ps
-  unfolding variables count
-  count-pair p ps =
-      length-append (variables dots literals (depthBefore dots ps 0) p) (variables dots literals 0 ps)
-      ∙ ap (λ (n : ℕ). n + length (variables dots literals 0 ps)) (variables-count (depthBefore dots ps 0) 0 p)
 
   module _ {N : Name → Type 0} {C : Constant → Type 0} where
     count-end : {t : Tree} → Tidy N C t → isList t ≡ true → length (elements t) ≡ 0 → count t ≡ 0
-    unfolding isList onEmpty onPair elements variables count
+    unfolding isList onEmpty onPair elements variables
     count-end tidyEmpty l e = refl
     count-end (tidyConstant c) l e = absurd (false≢true l)
     count-end (tidyName x) l e = absurd (false≢true l)
@@ -80,7 +64,7 @@ module _ (dots : Name → Bool) (literals : List Name) where
 
     -- `...` alone has no variable
     count-dots : {t : Tree} → Tidy N C t → dotsNext dots t ≡ true → isListOf 1 t ≡ true → count t ≡ 0
-    unfolding dotsNext onPair onName isListOf isList onEmpty elements variables isVariable count
+    unfolding dotsNext onPair onName isListOf isList onEmpty elements variables isVariable
     count-dots tidyEmpty d l = absurd (false≢true d)
     count-dots (tidyConstant c) d l = absurd (false≢true d)
     count-dots (tidyName x) d l = absurd (false≢true d)
@@ -93,7 +77,7 @@ module _ (dots : Name → Bool) (literals : List Name) where
 
     -- a pattern holds every variable that is counted
     patternOf-holds : (k : ℕ) {t : Tree} → Tidy N C t → Given (HoldsFrom k (count t)) (patternOf dots literals k t)
-    unfolding patternOf variables holds count
+    unfolding patternOf variables holds
     patternOf-holds k tidyEmpty = given (λ j a b. absurd (omega arith))
     patternOf-holds k (tidyConstant c) = given (λ j a b. absurd (omega arith))
     patternOf-holds k (tidyName {x} y) =
@@ -103,7 +87,7 @@ module _ (dots : Name → Bool) (literals : List Name) where
         (λ v. rw v (given (λ j a b. absurd (omega arith)))))
     patternOf-holds k (tidyPair {h} {t} p q l) =
         let first = patternOf-holds k p in
-        let both = count-pair h t in
+        let both = count-pair dots literals h t in
         given-tested (dotsNext dots t)
         (λ d. given-guarded (isListOf 1 t) (λ e. given-mapSome ellipsisP (λ a f j b c. f j b (omega (arith, both, count-dots q d e))) first))
         (λ d. given-mapBoth pairP (λ a b f g j c e. either a b f g j c (omega (arith, both, e))) first (patternOf-holds (k + count h) q))
@@ -169,7 +153,7 @@ module _ (dots : Name → Bool) (vs : List (Name × ℕ)) (good : areVariables v
 
 module _ {N : Name → Type 0} where
   ruleOf-sound : (dots : Name → Bool) (literals : List Name) {r : Tree} → Tidy N IsConstant r → Given SoundRule (ruleOf dots literals r)
-  unfolding ruleOf count
+  unfolding ruleOf
   ruleOf-sound dots literals {r} s =
       let vs : List (Name × ℕ) = variables dots literals 0 (tail (element 0 r)) in
       given-guarded _

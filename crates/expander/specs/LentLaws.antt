@@ -12,7 +12,7 @@ use Rattle.words.specs.Lists.{all}
 use Rattle.words.specs.TestLaws.{all-parts}
 use Rattle.expansion.specs.Lookup.{form, nothing, formOf, placeFrom, unboundMeaning}
 use Rattle.arena.specs.ArenaLaws.{cases}
-use Rattle.arena.specs.Names.{operationAt, unboundIn}
+use Rattle.resolution.specs.Names.{operationAt, unboundIn}
 use Rattle.layout.specs.Places.{placed, Places}
 
 placed-is : (p : ℕ) → operationAt p ≡ placed p

@@ -16,11 +16,9 @@ use Rattle.recipe.specs.Tree.{Tree, empty, constant, name, pair, size, isList, 
 use Rattle.recipe.specs.Tidy.{tidyConstant, tidyName, tidyPair, onNames-isList}
 use Rattle.core_term.specs.Node.{nodeWords}
 use Rattle.core_term.specs.Words.{datumWords, dataWords}
-use Rattle.arena.specs.Arena.{wordAt, referenceAt, wrapAt, constantAt, treeAt}
+use Rattle.arena.specs.Arena.{wordAt, referenceAt, wrapAt, constantAt, treeAt, numberOf}
 use Rattle.arena.specs.ArenaLaws.{wrapAt-number, wordAt-some, referenceAt-falls}
-use Rattle.arena.specs.NodeLaws.{treeAt-wrap, treeAt-empty, treeAt-name, treeAt-constant}
-use Rattle.arena.specs.Names.{numberOf}
-use Rattle.arena.specs.NameLaws.{nameAt-number}
+use Rattle.arena.specs.NodeLaws.{treeAt-wrap, treeAt-empty, treeAt-name, treeAt-constant, nameAt-number}
 use Rattle.arena.specs.Lists.{Counts}
 use Rattle.arena.specs.ListLaws.{no-pair, a-pair}
 use Rattle.forms.specs.Quotes.{quotedAt, elementsAt, Quotable, Written, Walked}

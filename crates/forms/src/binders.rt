@@ -14,7 +14,7 @@ ghost use Rattle.forms.specs.Binders.{AllNames, namesIn, Proper, bindsTo
 use crate::shapes;
 use arena::cells;
 use arena::lists;
-use arena::names;
+use resolution::names;
 
 // Whether a name is the same as one that the list binds.
 pub fn is_among(items: &[u32], work: &[u32], node: u32, list: u32, w: u32, macros: bool) -> bool

@@ -7,7 +7,7 @@ ghost use Rattle.arena.specs.Arena.{treeAt};
 ghost use Rattle.forms.specs.Quotes.{quotedAt, elementsAt, Quotable, Written};
 use arena::cells;
 use arena::lists;
-use arena::names;
+use resolution::names;
 
 // Codes of a quoted name and of a quoted list.
 pub const QUOTED_NAME: u32 = 4;

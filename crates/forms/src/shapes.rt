@@ -6,7 +6,7 @@ ghost use Rattle.arena.specs.Lists.{Means, TestsIn};
 ghost use Rattle.forms.specs.Shapes.{ownName, bindsOne, bindsAll};
 use arena::cells;
 use arena::lists;
-use arena::names;
+use resolution::names;
 
 // The most names of a lambda.
 pub const FORMALS_MOST: u32 = 8;

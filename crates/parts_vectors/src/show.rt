@@ -1,7 +1,7 @@
 // Trees of the arena as text. A name that a step has inserted, on which nothing waits, has a ' behind it.
 use arena::cells;
-use arena::names;
 use libc::STDOUT_FILENO;
+use resolution::names;
 
 pub fn write(bytes: &[u8]) {
     io::write_all(STDOUT_FILENO, bytes);

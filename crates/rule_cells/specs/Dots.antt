@@ -7,10 +7,8 @@ use lib.Dec.{eqb}
 use Rattle.recipe.specs.Name.{isEllipsis}
 use Rattle.recipe.specs.Tree.{Tree, onPair, onName}
 use Rattle.expansion.specs.Rules.{dotsNext}
-use Rattle.arena.specs.Arena.{wordAt, referenceAt}
-use Rattle.arena.specs.NodeLaws.{treeAt-name, treeAt-pair}
-use Rattle.arena.specs.Names.{numberOf}
-use Rattle.arena.specs.NameLaws.{nameAt-number}
+use Rattle.arena.specs.Arena.{wordAt, referenceAt, numberOf}
+use Rattle.arena.specs.NodeLaws.{treeAt-name, treeAt-pair, nameAt-number}
 use Rattle.arena.specs.Lists.{TestsIn}
 use Rattle.arena.specs.ListLaws.{no-name, no-pair}
 

@@ -14,10 +14,8 @@ use Rattle.recipe.specs.Tree.{Tree, onName, isOrdinaryName, isList, elements, e
 use Rattle.recipe.specs.TreeLaws.{element-tail}
 use Rattle.expansion.specs.Lookup.{isSyntaxRules}
 use Rattle.expansion.specs.Rules.{isRulesForm}
-use Rattle.arena.specs.Arena.{wordAt, referenceAt, nameAt, treeAt}
-use Rattle.arena.specs.NodeLaws.{treeAt-name, treeAt-pair}
-use Rattle.arena.specs.Names.{numberOf}
-use Rattle.arena.specs.NameLaws.{nameAt-number}
+use Rattle.arena.specs.Arena.{wordAt, referenceAt, nameAt, treeAt, numberOf}
+use Rattle.arena.specs.NodeLaws.{treeAt-name, treeAt-pair, nameAt-number}
 use Rattle.arena.specs.Lists.{Means, Counts, Tests, TestsIn}
 use Rattle.arena.specs.ListLaws.{no-name, no-elements}
 

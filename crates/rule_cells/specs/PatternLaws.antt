@@ -1,6 +1,6 @@
 -- Laws of parsing a pattern, one for each way through the code.
 use mathlib.Core.Path.{_≡_, refl, sym, ap, ap₂, subst, _∙_}
-use mathlib.Core.Bool.{true, false}
+use mathlib.Core.Bool.{Bool, true, false}
 use mathlib.Core.List.{List}
 use mathlib.Core.Option.{none, some}
 use Prim.Native.Nat.{ℕ, suc, _+_, _^_, _≤_, _<_}
@@ -113,6 +113,25 @@ one-only : (h s : Tree) → true ≡ isListOf 1 (pair h s) → length (elements 
 unfolding isListOf isList onEmpty onPair elements
 one-only h s l = let e : suc (length (elements s)) ≡ 1 = eqb-true (suc (length (elements s))) 1 (sym l) in omega arith
 
+-- variables of a pattern whose ellipses are the names that `dots` tells
+module _ (dots : Name → Bool) (literals : List Name) where
+  -- there are as many at any depth
+  variables-count : (d e : ℕ) (t : Tree) → length (variables dots literals d t) ≡ length (variables dots literals e t)
+  unfolding variables
+  variables-count d e empty = refl
+  variables-count d e (constant a) = refl
+  variables-count d e (name x) = cases (isVariable dots literals x) (λ v. rw v refl) (λ v. rw v refl)
+  variables-count d e (pair p ps) =
+      length-append (variables dots literals (depthBefore dots ps d) p) (variables dots literals d ps)
+      ∙ ap₂ _+_ (variables-count (depthBefore dots ps d) (depthBefore dots ps e) p) (variables-count d e ps)
+      ∙ sym (length-append (variables dots literals (depthBefore dots ps e) p) (variables dots literals e ps))
+
+  pub count-pair : (h s : Tree) → length (variables dots literals 0 (pair h s)) ≡ length (variables dots literals 0 h) + length (variables dots literals 0 s)
+  unfolding variables
+  count-pair h s =
+      length-append (variables dots literals (depthBefore dots s 0) h) (variables dots literals 0 s)
+      ∙ ap (λ (n : ℕ). n + length (variables dots literals 0 s)) (variables-count (depthBefore dots s 0) 0 h)
+
 module _ (literals : List Name) where
   variables-size : (d : ℕ) (t : Tree) → length (variables isEllipsis literals d t) ≤ size t
   unfolding variables size
@@ -121,23 +140,6 @@ module _ (literals : List Name) where
   variables-size d (name x) = cases (isVariable isEllipsis literals x) (λ v. rw v (omega arith)) (λ v. rw v (omega arith))
   variables-size d (pair p ps) =
       omega (arith, length-append (variables isEllipsis literals (depthBefore isEllipsis ps d) p) (variables isEllipsis literals d ps), variables-size (depthBefore isEllipsis ps d) p, variables-size d ps)
-
-  -- there are as many at any depth
-  variables-count : (d e : ℕ) (t : Tree) → length (variables isEllipsis literals d t) ≡ length (variables isEllipsis literals e t)
-  unfolding variables
-  variables-count d e empty = refl
-  variables-count d e (constant a) = refl
-  variables-count d e (name x) = cases (isVariable isEllipsis literals x) (λ v. rw v refl) (λ v. rw v refl)
-  variables-count d e (pair p ps) =
-      length-append (variables isEllipsis literals (depthBefore isEllipsis ps d) p) (variables isEllipsis literals d ps)
-      ∙ ap₂ _+_ (variables-count (depthBefore isEllipsis ps d) (depthBefore isEllipsis ps e) p) (variables-count d e ps)
-      ∙ sym (length-append (variables isEllipsis literals (depthBefore isEllipsis ps e) p) (variables isEllipsis literals e ps))
-
-  count-pair : (h s : Tree) → length (variables isEllipsis literals 0 (pair h s)) ≡ length (variables isEllipsis literals 0 h) + length (variables isEllipsis literals 0 s)
-  unfolding variables
-  count-pair h s =
-      length-append (variables isEllipsis literals (depthBefore isEllipsis s 0) h) (variables isEllipsis literals 0 s)
-      ∙ ap (λ (n : ℕ). n + length (variables isEllipsis literals 0 s)) (variables-count (depthBefore isEllipsis s 0) 0 h)
 
   -- what follows `...` where it is last in its list
   after-dots : (x : Name) (s : Tree) → isEllipsis x ≡ true → length (elements s) ≡ 0 → length (variables isEllipsis literals 0 (pair (name x) s)) ≡ leafCount literals s
@@ -216,7 +218,7 @@ module _ (items old : List ℕ) (literals node w k top : ℕ) (asks : Asks items
     left-ellipsis new r more d l c m =
         record {
           means = ap (patternOf isEllipsis listed k) whole-is ∙ pair-ellipsis listed k h s d l ∙ ap (mapSome ellipsisP) (made .means) ∙ ap some (sym (m .means items));
-          counts = rw (whole-is) (omega (arith, made .counts, count-pair listed h s, count-dots listed s d l));
+          counts = rw (whole-is) (omega (arith, made .counts, count-pair isEllipsis listed h s, count-dots listed s d l));
           grows = grows-over (treeAt items old node w) h old mid new top a t r (made .grows) (omega (arith, whole-size)) (m .end) (m .kept);
         }
 
@@ -262,6 +264,6 @@ module _ (items old : List ℕ) (literals node w k top : ℕ) (asks : Asks items
                 ∙ pair-plain listed k h s plain
                 ∙ ap₂ (mapBoth pairP) (made .means) (sym rest-means ∙ second .means)
                 ∙ ap some (ap (λ (p : Pattern). pairP p (patternAt items last b)) (sym (pattern-kept items mid last t (second .grows .kept) a (made .grows .at-most))) ∙ sym (c .means items));
-            counts = rw (whole-is) (let q : m ≡ n + length (variables isEllipsis listed 0 s) = (rw (same-listed, s-is) at (second .counts)) in omega (arith, made .counts, count-pair listed h s));
+            counts = rw (whole-is) (let q : m ≡ n + length (variables isEllipsis listed 0 s) = (rw (same-listed, s-is) at (second .counts)) in omega (arith, made .counts, count-pair isEllipsis listed h s));
             grows = grows-pair items old node w top asks head rest e f g mid a t same-length (made .grows) last new b u r (second .grows) (c .end) (c .kept);
           }

@@ -14,11 +14,9 @@ use Rattle.recipe.specs.Name.{Name, isEllipsis}
 use Rattle.recipe.specs.Tree.{Tree, empty, constant, name, pair, size, names, onName, onPair, isList, isListOf, elements, element, tail}
 use Rattle.recipe.specs.TreeLaws.{element-tail}
 use Rattle.expansion.specs.Rules.{Rule, ruleOf, isRulesForm, rulesOf}
-use Rattle.arena.specs.Arena.{wordAt, referenceAt, treeAt}
+use Rattle.arena.specs.Arena.{wordAt, referenceAt, treeAt, numberOf}
 use Rattle.arena.specs.ArenaLaws.{cases, take-less}
-use Rattle.arena.specs.NodeLaws.{treeAt-name}
-use Rattle.arena.specs.Names.{numberOf}
-use Rattle.arena.specs.NameLaws.{nameAt-number}
+use Rattle.arena.specs.NodeLaws.{treeAt-name, nameAt-number}
 use Rattle.arena.specs.CellLaws.{tree-kept}
 use Rattle.arena.specs.Lists.{Means}
 use Rattle.arena.specs.ListLaws.{no-name, no-elements}

@@ -5,7 +5,7 @@ ghost use Rattle.expansion.specs.Rules.{dotsNext};
 ghost use Rattle.arena.specs.Lists.{TestsIn};
 ghost use Rattle.rule_cells.specs.Dots.{isDots};
 use arena::cells;
-use arena::names;
+use resolution::names;
 
 // Whether a tree is `...`.
 pub fn is_dots(items: &[u32], work: &[u32], node: u32) -> bool

@@ -10,7 +10,7 @@ use crate::cells;
 use crate::dots;
 use crate::variables;
 use arena::lists;
-use arena::names;
+use resolution::names;
 
 // The reference of a pattern, the new top, and the number of the next variable.
 pub enum Parsed {

@@ -19,7 +19,7 @@ use crate::templates::Built;
 use crate::variables;
 use crate::variables::Kept;
 use arena::lists;
-use arena::names;
+use resolution::names;
 
 // A rule from the rest p of its pattern and its template q, before the rules at `next`.
 pub fn rule_parts(

@@ -10,7 +10,7 @@ ghost use Rattle.arena.specs.Lists.{TestsIn};
 ghost use Rattle.rule_cells.specs.Forms.{ordinaryAll, literalsGood};
 use arena::cells;
 use arena::lists;
-use arena::names;
+use resolution::names;
 
 // The number of syntax-rules; the most literals and rules of a form.
 pub const SYNTAX_RULES: u32 = 5;

@@ -18,7 +18,7 @@ use crate::cells;
 use crate::dots;
 use crate::variables;
 use crate::variables::Known;
-use arena::names;
+use resolution::names;
 
 // The reference of a template or of a list of rules, and the new top.
 pub enum Built {

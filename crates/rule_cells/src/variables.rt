@@ -13,7 +13,7 @@ ghost use Rattle.arena.specs.Arena.{nameAt, treeAt};
 ghost use Rattle.rule_cells.specs.Variables.{leafCount, variablesFrom, knownOf, Deeper, Held, Gathered};
 use crate::dots;
 use arena::cells;
-use arena::names;
+use resolution::names;
 
 // The most variables of a pattern, and the most ellipses over one.
 pub const MOST: u32 = 16;

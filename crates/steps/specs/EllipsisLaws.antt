@@ -1,6 +1,6 @@
 -- Laws of an element followed by `...`: the rest of its list is built first, then its copies before that.
 use mathlib.Core.Path.{_≡_, refl, sym, ap, subst, _∙_}
-use mathlib.Core.Bool.{Bool, true, false, _&&_}
+use mathlib.Core.Bool.{Bool, true, false, _&&_, false≢true}
 use mathlib.Core.List.{List}
 use Prim.Native.Nat.{ℕ, _+_}
 use native.Mathlib.Omega.{arith}
@@ -14,7 +14,7 @@ use Rattle.rule_cells.specs.Cells.{templateAt}
 use Rattle.environments.specs.Sound.{Plain}
 use Rattle.environments.specs.Environment.{agreeBy, resultBy}
 use Rattle.environments.specs.Lengths.{driving, AllOf, Copies}
-use Rattle.environments.specs.AgreeLaws.{false-true, ellipsis-is, below-cong}
+use Rattle.environments.specs.AgreeLaws.{ellipsis-is, below-cong}
 use Rattle.environments.specs.EnvironmentLaws.{copies-cong}
 use Rattle.steps.specs.declared.build.Built.{Built}
 use Rattle.steps.specs.declared.build.Built.the-variants.{At, Stopped}
@@ -45,7 +45,7 @@ module _ (old : List ℕ) (top fuel : ℕ) (env : List ℕ) (w t tag : ℕ) (tag
   agrees-ellipsis items = rw (template-is items, ← c-is items w, ← b-is items w) refl
 
   pub ellipsis-differs : b ≡ false → Made old old top fuel env w t Stopped
-  ellipsis-differs bad = record { over = λ items a. absurd (false-true (sym bad ∙ both b _ (sym (agrees-ellipsis items) ∙ a) .0)); kept = refl }
+  ellipsis-differs bad = record { over = λ items a. absurd (false≢true (sym bad ∙ both b _ (sym (agrees-ellipsis items) ∙ a) .0)); kept = refl }
 
   rest-agrees : (items : List ℕ) → agreesAt items old env w t ≡ true → (allBelow (copyAgrees items old env w head) c ≡ true) × (agreesAt items old env w rest ≡ true)
   rest-agrees items a = both (allBelow (copyAgrees items old env w head) c) _ (both b _ (sym (agrees-ellipsis items) ∙ a) .1)

@@ -16,7 +16,7 @@ use Rattle.expansion.specs.Match.{Fit, fitting, misfit, andThen, bothFit, eachF
 use Rattle.arena.specs.Arena.{wordAt, referenceAt, nameAt, constantAt, treeAt}
 use Rattle.arena.specs.ArenaLaws.{bindingKey-of, referenceAt-most}
 use Rattle.arena.specs.NodeLaws.{treeAt-empty, treeAt-name, treeAt-pair, treeAt-constant}
-use Rattle.arena.specs.Names.{Agrees}
+use Rattle.resolution.specs.Names.{Agrees}
 use Rattle.arena.specs.ListLaws.{tree-cases, no-pair}
 use Rattle.rule_cells.specs.Cells.{constantBefore, literalAt, patternAt, ruleAt, rulesAt}
 use Rattle.rule_cells.specs.CellLaws.{patternAt-variable, patternAt-literal, patternAt-wildcard, patternAt-constant, patternAt-pair, patternAt-ellipsis, patternAt-empty, rulesAt-none, rulesAt-more}

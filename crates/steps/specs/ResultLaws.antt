@@ -1,6 +1,6 @@
 -- Laws of building what a template gives in an environment, one for each way through the code.
 use mathlib.Core.Path.{_≡_, refl, sym, ap, subst, fun-ext, _∙_}
-use mathlib.Core.Bool.{Bool, true, false, _&&_}
+use mathlib.Core.Bool.{Bool, true, false, _&&_, false≢true}
 use mathlib.Core.List.{List, []}
 use Prim.Native.Nat.{ℕ, _+_, _*_, _-_, _≤_}
 use native.Mathlib.Omega.{arith}
@@ -20,7 +20,7 @@ use Rattle.environments.specs.Environment.{agreeBy, resultBy}
 use Rattle.environments.specs.Entries.{field, entryAt, takenIn, patternIn, takingOf, environmentAt, Under, Low}
 use Rattle.environments.specs.EntryLaws.{entry-low}
 use Rattle.environments.specs.LengthLaws.{taken-is}
-use Rattle.environments.specs.AgreeLaws.{flat-leaf, false-true, pair-is}
+use Rattle.environments.specs.AgreeLaws.{flat-leaf, pair-is}
 use Rattle.steps.specs.declared.build.Built.{Built}
 use Rattle.steps.specs.declared.build.Built.the-variants.{At, Stopped}
 use Rattle.steps.specs.Build.{nodeWords, Fresh, Paid, Pays, Waiting, resultAt, agreesAt, copyAt, copyAgrees, Buildable, Gives, Stops, Made}
@@ -78,7 +78,7 @@ stops-at old new top fuel env w t r e m = subst (Made old new top fuel env w t) 
 -- both of two tests
 pub both : (a b : Bool) → (a && b) ≡ true → (a ≡ true) × (b ≡ true)
 both true b e = (refl, e)
-both false b e = absurd (false-true e)
+both false b e = absurd (false≢true e)
 
 under-less : (env : List ℕ) (a b : ℕ) → a ≤ b → Under env a → Under env b
 under-less env a b h u i = omega (arith, u i)

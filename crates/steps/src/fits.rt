@@ -4,7 +4,7 @@ ghost use mathlib.Core.Path.{_≡_};
 ghost use Rattle.arena.specs.Arena.{wordAt};
 ghost use Rattle.steps.specs.Fits.{Fits, EachFits, LiteralFits, ConstantFits, FirstFit};
 use arena::cells;
-use arena::names;
+use resolution::names;
 
 // A literal fits a name whose lookup finds what its own has found.
 pub fn literal_fits(items: &[u32], work: &[u32], p: u32, u: u32, w: u32) -> bool

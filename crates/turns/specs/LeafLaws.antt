@@ -16,9 +16,9 @@ use Rattle.core_term.specs.Words.{datumWords, encode}
 use Rattle.expansion.specs.Lookup.{Found, bound, form, operation, nothing, lookup, orUnbound}
 use Rattle.expansion.specs.Computation.{State, M, give, refuse}
 use Rattle.expansion.specs.Forms.{expandName, expandList}
-use Rattle.arena.specs.Names.{meansOf, lookupIn}
-use Rattle.arena.specs.declared.names.Meaning.{Meaning}
-use Rattle.arena.specs.declared.names.Meaning.the-variants as M
+use Rattle.resolution.specs.Names.{meansOf, lookupIn}
+use Rattle.resolution.specs.declared.names.Meaning.{Meaning}
+use Rattle.resolution.specs.declared.names.Meaning.the-variants as M
 use Rattle.turns.specs.declared.leaf.Known.{Known}
 use Rattle.turns.specs.declared.leaf.Known.the-variants.{Variable, Macro, Form, Operation}
 use Rattle.turns.specs.declared.leaf.Looked.{Looked}

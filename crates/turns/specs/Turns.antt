@@ -13,7 +13,7 @@ use Rattle.expansion.specs.Computation.{State, M}
 use Rattle.expansion.specs.Forms.{expandTree, expandAll, expand}
 use Rattle.expansion.specs.Run.{operationNumbers}
 use Rattle.arena.specs.Arena.{treeAt}
-use Rattle.arena.specs.Names.{unboundIn}
+use Rattle.resolution.specs.Names.{unboundIn}
 use Rattle.turns.specs.declared.answers.Reached.{Reached}
 use Rattle.turns.specs.declared.answers.Ended.{Ended}
 use Rattle.turns.specs.declared.answers.Ended.the-variants.{Done, Refused}

@@ -9,8 +9,8 @@ ghost use Rattle.turns.specs.Leaves.{Looks, Refuses, Leaf, nameEnd, Cons
 use crate::answers::Ended;
 use crate::answers::Reached;
 use crate::output;
-use arena::names;
-use arena::names::Meaning;
+use resolution::names;
+use resolution::names::Meaning;
 
 // What a name that means something means.
 pub enum Known {

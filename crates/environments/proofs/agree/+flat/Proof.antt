@@ -11,7 +11,8 @@ use Rattle.environments.proofs.agree.+flat.{statement}
 use Rattle.environments.proofs.agree.+flat.Tie.{close}
 use borrow.Author.Tests.{not-false}
 use Rattle.environments.specs.PartLaws.{tag-falls}
-use Rattle.environments.specs.AgreeLaws.{false-true, flat-leaf, flat-pair}
+use mathlib.Core.Bool.{false≢true}
+use Rattle.environments.specs.AgreeLaws.{flat-leaf, flat-pair}
 use native.Mathlib.Omega.{arith}
 use borrow.Author.Needs.{needs}
 
@@ -34,7 +35,7 @@ flat-word-requires t c κs =
 
 flat-returns : (t : ℕ) → flat-lts.Need-returns (flat-claims t) (flat-at t) flat.Post
 flat-returns t c =
-    λ z. absurd (false-true z)
+    λ z. absurd (false≢true z)
 
 flat-returns-2 : (t : ℕ) → flat-lts.Need-returns-2 (flat-claims t) (flat-at t) flat.Post
 flat-returns-2 t c =
@@ -57,7 +58,7 @@ flat-flat-requires t c κs =
 
 flat-returns-3 : (t : ℕ) → flat-lts.Need-returns-3 (flat-claims t) (flat-at t) flat.Post
 flat-returns-3 t c =
-    λ z. absurd (false-true z)
+    λ z. absurd (false≢true z)
 
 flat-reference-requires-2 : (t : ℕ) → flat-lts.Need-reference-requires-2 (flat-claims t) (flat-at t) flat.Post
 flat-reference-requires-2 t c κs =

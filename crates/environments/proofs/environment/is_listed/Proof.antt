@@ -5,7 +5,7 @@ use Rattle.environments.proofs.environment.is_listed.Tie as tie
 use Rattle.environments.proofs.environment.is_listed.Reads as reads
 use Rattle.environments.proofs.environment.is_listed.Lts as lts
 use Rattle.arena.proofs.cells.word.Reads as word-reads
-use Rattle.environments.specs.AgreeLaws.{false-true}
+use mathlib.Core.Bool.{false≢true}
 use Rattle.environments.specs.EntryLaws.{listed-is}
 use native.Mathlib.Omega.{arith}
 
@@ -15,7 +15,7 @@ word-requires c κs =
 
 returns : tie.Need-returns
 returns c =
-    λ z. absurd (false-true z)
+    λ z. absurd (false≢true z)
 
 word-requires-2 : tie.Need-word-requires-2
 word-requires-2 c κs =
@@ -23,7 +23,7 @@ word-requires-2 c κs =
 
 returns-2 : tie.Need-returns-2
 returns-2 c =
-    λ z. absurd (false-true z)
+    λ z. absurd (false≢true z)
 
 word-requires-3 : tie.Need-word-requires-3
 word-requires-3 c κs =
@@ -31,7 +31,7 @@ word-requires-3 c κs =
 
 returns-3 : tie.Need-returns-3
 returns-3 c =
-    λ z. absurd (false-true z)
+    λ z. absurd (false≢true z)
 
 cast-q : tie.Need-cast-q
 cast-q c =

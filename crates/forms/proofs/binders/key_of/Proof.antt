@@ -4,8 +4,8 @@ use Rattle.forms.proofs.binders.key_of.Statement.{statement}
 use Rattle.forms.proofs.binders.key_of.Tie as tie
 use Rattle.forms.proofs.binders.key_of.Reads as reads
 use Rattle.forms.proofs.binders.key_of.Lts as lts
-use Rattle.arena.proofs.names.macro_key.Reads as macro-key-reads
-use Rattle.arena.proofs.names.variable_key.Reads as variable-key-reads
+use Rattle.resolution.proofs.names.macro_key.Reads as macro-key-reads
+use Rattle.resolution.proofs.names.variable_key.Reads as variable-key-reads
 use Rattle.forms.specs.Binders.{bindsTo}
 
 -- src/binders.rt:93:9

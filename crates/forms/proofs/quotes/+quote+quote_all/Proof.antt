@@ -10,7 +10,7 @@ use Rattle.forms.proofs.quotes.quote_all.Kinds as quote-all-kinds
 use Rattle.forms.proofs.quotes.+quote+quote_all.Lts-quote_all as quote-all-lts
 use Rattle.arena.proofs.cells.reference.Reads as reference-reads
 use Rattle.arena.proofs.cells.word.Reads as word-reads
-use Rattle.arena.proofs.names.number_of.Reads as number-of-reads
+use Rattle.resolution.proofs.names.number_of.Reads as number-of-reads
 use Rattle.arena.proofs.lists.count.Reads as count-reads
 use Rattle.forms.proofs.quotes.put_two.Reads as put-two-reads
 use Rattle.forms.proofs.quotes.+quote+quote_all.{statement}

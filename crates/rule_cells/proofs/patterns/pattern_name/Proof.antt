@@ -4,8 +4,8 @@ use Rattle.rule_cells.proofs.patterns.pattern_name.Statement.{statement
 use Rattle.rule_cells.proofs.patterns.pattern_name.Tie as tie
 use Rattle.rule_cells.specs.PatternLaws.{left-dots, left-wildcard, left-literal, left-variable}
 use Rattle.recipe.specs.Tree.{names}
+use Rattle.arena.specs.NodeLaws.{nameAt-number}
 use Rattle.arena.specs.Arena.{nameAt, treeAt}
-use Rattle.arena.specs.NameLaws.{nameAt-number}
 use mathlib.Core.Path.{refl, sym, _∙_}
 
 number-of-requires : tie.Need-number-of-requires

@@ -5,8 +5,8 @@ use Rattle.rule_cells.proofs.templates.template_name.Tie as tie
 use Rattle.rule_cells.specs.Variables.{variablesFrom}
 use Rattle.rule_cells.specs.VariableLaws.{found-at, found-not}
 use Rattle.rule_cells.specs.TemplateLaws.{left-dots, left-depth, left-variable, left-insert}
+use Rattle.arena.specs.NodeLaws.{nameAt-number}
 use Rattle.arena.specs.Arena.{nameAt}
-use Rattle.arena.specs.NameLaws.{nameAt-number}
 use mathlib.Core.Path.{refl, sym, _∙_}
 
 number-of-requires : tie.Need-number-of-requires

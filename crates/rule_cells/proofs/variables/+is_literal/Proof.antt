@@ -7,7 +7,7 @@ use Rattle.rule_cells.proofs.variables.is_literal.Kinds as is-literal-k
 use Rattle.rule_cells.proofs.variables.+is_literal.Lts-is_literal as is-literal-lts
 use Rattle.arena.proofs.cells.reference.Reads as reference-reads
 use Rattle.arena.proofs.cells.word.Reads as word-reads
-use Rattle.arena.proofs.names.same_names.Reads as same-names-reads
+use Rattle.resolution.proofs.names.same_names.Reads as same-names-reads
 use Rattle.rule_cells.proofs.variables.+is_literal.{statement}
 use Rattle.rule_cells.proofs.variables.+is_literal.Tie.{close}
 use borrow.Author.Needs.{needs}

@@ -4,8 +4,8 @@ use Rattle.rule_cells.proofs.variables.gather_name.Statement.{statement
 use Rattle.rule_cells.proofs.variables.gather_name.Tie as tie
 use Rattle.rule_cells.specs.GatherLaws.{dots-no-variable, wildcard-no-variable, literal-no-variable, a-variable, gathered-no, gathered-one}
 use Rattle.recipe.specs.Tree.{names}
+use Rattle.arena.specs.NodeLaws.{nameAt-number}
 use Rattle.arena.specs.Arena.{nameAt, treeAt}
-use Rattle.arena.specs.NameLaws.{nameAt-number}
 use mathlib.Core.Path.{sym, _∙_}
 
 number-of-requires : tie.Need-number-of-requires

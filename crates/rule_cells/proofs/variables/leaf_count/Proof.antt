@@ -4,8 +4,8 @@ use Rattle.rule_cells.proofs.variables.leaf_count.Statement.{statement}
 use Rattle.rule_cells.proofs.variables.leaf_count.Tie as tie
 use Rattle.rule_cells.specs.GatherLaws.{dots-no-variable, wildcard-no-variable, literal-no-variable, a-variable, leaf-no-name, leaf-none, leaf-one}
 use Rattle.recipe.specs.Tree.{names}
+use Rattle.arena.specs.NodeLaws.{nameAt-number}
 use Rattle.arena.specs.Arena.{nameAt, treeAt}
-use Rattle.arena.specs.NameLaws.{nameAt-number}
 use mathlib.Core.Path.{sym, _∙_}
 
 word-requires : tie.Need-word-requires

@@ -1,0 +1,48 @@
+-- `direct::binding`: the first binder of the pending wrap, else of the name's own.
+use borrow.Author.Needs.{needs}
+use Rattle.resolution.proofs.direct.binding.Statement.{statement}
+use Rattle.resolution.proofs.direct.binding.Tie as tie
+use Rattle.resolution.specs.DirectLaws.{finds-outer, finds-inner, finds-none}
+
+passed-requires : tie.Need-passed-requires
+passed-requires c κs =
+    search needs
+
+binding-by-requires : tie.Need-binding-by-requires
+binding-by-requires c κs =
+    search needs
+
+returns : tie.Need-returns
+returns c =
+    let a = c .before .before .before .before .args in
+    finds-outer (a .work .now) (a .number) (a .own) (a .w) _ (c .before .before .passed .ensures) _ (c .binding-by .ensures)
+
+passed-requires-2 : tie.Need-passed-requires-2
+passed-requires-2 c κs =
+    search needs
+
+binding-by-requires-2 : tie.Need-binding-by-requires-2
+binding-by-requires-2 c κs =
+    search needs
+
+returns-2 : tie.Need-returns-2
+returns-2 c =
+    let a = c .before .before .before .before .before .before .args in
+    finds-inner (a .work .now) (a .number) (a .own) (a .w) _ (c .before .before .before .before .passed .ensures) _ _ (c .before .before .before .if1 .left) (c .before .before .passed2 .ensures) (c .binding-by2 .ensures)
+
+returns-3 : tie.Need-returns-3
+returns-3 c =
+    let a = c .before .before .before .before .before .args in
+    finds-none (a .work .now) (a .number) (a .own) (a .w) _ (c .before .before .before .passed .ensures) _ (c .before .before .if1 .left) (c .before .passed2 .ensures) (c .if2 .left)
+
+pub binding-spec : {M : Type 1} → statement M
+binding-spec =
+    tie.close
+    (tie.spec
+    passed-requires
+    binding-by-requires
+    returns
+    passed-requires-2
+    binding-by-requires-2
+    returns-2
+    returns-3)

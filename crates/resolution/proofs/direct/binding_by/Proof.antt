@@ -1,0 +1,48 @@
+-- `direct::binding_by`: the one mark inside the binder, and what the binder gives a name with it.
+use borrow.Author.Needs.{needs}
+use Rattle.resolution.proofs.direct.binding_by.Statement.{statement}
+use Rattle.resolution.proofs.direct.binding_by.Tie as tie
+use Rattle.resolution.specs.DirectLaws.{finds-nothing, finds-binder}
+
+word-requires : tie.Need-word-requires
+word-requires c κs =
+    search needs
+
+returns : tie.Need-returns
+returns c =
+    let a = c .before .before .before .args in
+    finds-nothing (a .work .now) (a .number) (a .own) (a .at)
+
+reference-requires : tie.Need-reference-requires
+reference-requires c κs =
+    search needs
+
+only-mark-requires : tie.Need-only-mark-requires
+only-mark-requires c κs =
+    search needs
+
+returns-2 : tie.Need-returns-2
+returns-2 c =
+    let a = c .before .before .before .before .before .before .args in
+    finds-nothing (a .work .now) (a .number) (a .own) (a .at)
+
+given-key-requires : tie.Need-given-key-requires
+given-key-requires c κs =
+    search needs
+
+returns-3 : tie.Need-returns-3
+returns-3 c =
+    let a = c .before .before .before .before .before .before .before .args in
+    finds-binder (a .work .now) (a .number) (a .own) (a .at) _ _ _ _ (c .before .before .before .before .before .word .ensures) (c .before .before .before .before .if1 .left) (c .before .before .before .reference .ensures) (c .before .before .only-mark .ensures) (c .before .if2 .left) (c .given-key .ensures)
+
+pub binding-by-spec : {M : Type 1} → statement M
+binding-by-spec =
+    tie.close
+    (tie.spec
+    word-requires
+    returns
+    reference-requires
+    only-mark-requires
+    returns-2
+    given-key-requires
+    returns-3)

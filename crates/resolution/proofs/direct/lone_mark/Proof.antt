@@ -1,0 +1,63 @@
+-- `direct::lone_mark`: the mark so far stands around what is left.
+use Rattle.resolution.proofs.direct.lone_mark.Statement.{statement}
+use Rattle.resolution.proofs.direct.lone_mark.Tie as tie
+use borrow.Author.Needs.{needs}
+use native.Mathlib.Omega.{arith}
+use Rattle.arena.specs.ArenaLaws.{referenceAt-falls}
+use Rattle.resolution.specs.DirectLaws.{Around, around-begins, around-on, around-ends, no-lone-mark}
+
+abbrev Inv-loop : tie.InvT-loop
+Inv-loop work number w at₀ mark₀ at mark =
+    Around work number w at mark
+
+abbrev μ-loop : tie.MeasureT-loop
+μ-loop work number w at₀ mark₀ at mark =
+    at
+
+loop-holds : tie.Need-loop-holds Inv-loop μ-loop
+loop-holds c =
+    let a = c .before .args in
+    around-begins (a .work .now) (a .number) (a .w)
+
+one-mark-requires : tie.Need-one-mark-requires Inv-loop μ-loop
+one-mark-requires c κs =
+    search needs
+
+returns : tie.Need-returns Inv-loop μ-loop
+returns c =
+    let a = c .before .before .before .before .before .args in
+    no-lone-mark (a .work .now) (a .number) (a .w)
+
+reference-requires : tie.Need-reference-requires Inv-loop μ-loop
+reference-requires c κs =
+    search needs
+
+loop-less : tie.Need-loop-less Inv-loop μ-loop
+loop-less c =
+    omega (arith, c .reference .ensures, referenceAt-falls (c .before .before .before .before .before .before .args .work .now) (c .before .before .before .before .loop .at) 2 (omega (arith, c .before .before .before .loop-test .taken)))
+
+loop-again : tie.Need-loop-again Inv-loop μ-loop
+loop-again c =
+    let loop = c .before .before .before .before .loop in
+    let a = c .before .before .before .before .before .before .args in
+    around-on (a .work .now) (a .number) (a .w) (loop .at) (loop .mark) _ _ (loop .inv) (c .before .before .one-mark .ensures) (c .before .if1 .left) (c .reference .ensures)
+
+returns-2 : tie.Need-returns-2 Inv-loop μ-loop
+returns-2 c =
+    let loop = c .before .loop in
+    let a = c .before .before .before .args in
+    around-ends (a .work .now) (a .number) (a .w) (loop .at) (loop .mark) (loop .inv) (c .loop-test .left)
+
+pub lone-mark-spec : {M : Type 1} → statement M
+lone-mark-spec =
+    tie.close
+    (tie.spec
+    Inv-loop
+    μ-loop
+    loop-holds
+    one-mark-requires
+    returns
+    reference-requires
+    loop-less
+    loop-again
+    returns-2)

@@ -1,0 +1,64 @@
+-- `direct::passed`: what is passed changes no binding.
+use Rattle.resolution.proofs.direct.passed.Statement.{statement}
+use Rattle.resolution.proofs.direct.passed.Tie as tie
+use borrow.Author.Needs.{needs}
+use mathlib.Core.Path.{refl}
+use native.Mathlib.Omega.{arith}
+use borrow.Author.Tests.{not-false}
+use Rattle.arena.specs.ArenaLaws.{referenceAt-falls}
+use Rattle.resolution.specs.Direct.{Passes}
+use Rattle.resolution.specs.DirectLaws.{passes-on, passes-ends}
+
+abbrev Inv-loop : tie.InvT-loop
+Inv-loop work number w at₀ at =
+    Passes work number w at
+
+abbrev μ-loop : tie.MeasureT-loop
+μ-loop work number w at₀ at =
+    at
+
+loop-holds : tie.Need-loop-holds Inv-loop μ-loop
+loop-holds c =
+    λ x n. refl
+
+is-passed-requires : tie.Need-is-passed-requires Inv-loop μ-loop
+is-passed-requires c κs =
+    search needs
+
+returns : tie.Need-returns Inv-loop μ-loop
+returns c =
+    c .before .before .before .loop .inv
+
+reference-requires : tie.Need-reference-requires Inv-loop μ-loop
+reference-requires c κs =
+    search needs
+
+loop-less : tie.Need-loop-less Inv-loop μ-loop
+loop-less c =
+    omega (arith, c .reference .ensures, referenceAt-falls (c .before .before .before .before .before .before .args .work .now) (c .before .before .before .before .loop .at) 2 (omega (arith, c .before .before .before .loop-test .taken)))
+
+loop-again : tie.Need-loop-again Inv-loop μ-loop
+loop-again c =
+    let loop = c .before .before .before .before .loop in
+    let a = c .before .before .before .before .before .before .args in
+    passes-on (a .work .now) (a .number) (a .w) (loop .at) _ (loop .inv) (c .before .before .is-passed .ensures (not-false _ (c .before .if1 .left))) (c .reference .ensures)
+
+returns-2 : tie.Need-returns-2 Inv-loop μ-loop
+returns-2 c =
+    let loop = c .before .loop in
+    let a = c .before .before .before .args in
+    passes-ends (a .work .now) (a .number) (a .w) (loop .at) (loop .inv) (c .loop-test .left)
+
+pub passed-spec : {M : Type 1} → statement M
+passed-spec =
+    tie.close
+    (tie.spec
+    Inv-loop
+    μ-loop
+    loop-holds
+    is-passed-requires
+    returns
+    reference-requires
+    loop-less
+    loop-again
+    returns-2)

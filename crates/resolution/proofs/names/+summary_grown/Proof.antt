@@ -1,0 +1,79 @@
+-- The proof of the cycle {summary_grown}. The measure is what the table lacks to be the larger one, which is never full.
+use Prim.Native.Nat.{ℕ, _<_, _+_, _*_, _-_}
+use Rattle.arena.specs.Arena.{stepLimit}
+use borrow.Fn.Kinds.{In}
+use borrow.Fn.PlainCycle.{Measures, is, falls, and}
+use Rattle.resolution.proofs.names.summary_grown.Reads as summary-grown
+use Rattle.resolution.proofs.names.summary_grown.Kinds as summary-grown-kinds
+use Rattle.resolution.proofs.names.+summary_grown.Lts-summary_grown as summary-grown-lts
+use Rattle.resolution.proofs.names.summary_in.Reads as summary-in-reads
+use Rattle.resolution.proofs.names.+summary_grown.{statement}
+use Rattle.resolution.proofs.names.+summary_grown.Tie.{close}
+use lib.ListN.{length}
+use native.Mathlib.Omega.{arith}
+use borrow.Author.Needs.{needs}
+
+abbrev μ-summary-grown : Measures 3 summary-grown-kinds.ps ℕ
+μ-summary-grown κs a =
+    (3 * stepLimit + 1) - length (a .1 .1 .0 .now)
+
+abbrev summary-grown-at : ℕ → In 3 summary-grown-kinds.ps
+summary-grown-at t =
+    and 3 summary-grown-kinds.ps (is 3 summary-grown-kinds.ps μ-summary-grown t) summary-grown.Pre
+
+abbrev summary-grown-below : ℕ → In 3 summary-grown-kinds.ps
+summary-grown-below t =
+    and
+    3
+    summary-grown-kinds.ps
+    (falls 3 summary-grown-kinds.ps _<_ μ-summary-grown t)
+    summary-grown.Pre
+
+abbrev summary-grown-claims : ℕ → summary-grown-lts.Claims
+summary-grown-claims t = (summary-in-reads.Asked, summary-in-reads.Learnt, summary-grown-below t, summary-grown.Post)
+
+summary-grown-summary-in-requires : (t : ℕ) → summary-grown-lts.Need-summary-in-requires (summary-grown-claims t) (summary-grown-at t) summary-grown.Post
+summary-grown-summary-in-requires t c κs = search needs
+
+summary-grown-same-length : (t : ℕ) → summary-grown-lts.Need-same-length (summary-grown-claims t) (summary-grown-at t) summary-grown.Post
+summary-grown-same-length t c = search needs
+
+summary-grown-returns : (t : ℕ) → summary-grown-lts.Need-returns (summary-grown-claims t) (summary-grown-at t) summary-grown.Post
+summary-grown-returns t c =
+    let summary-in = c .before .before .before .before .summary-in in
+    summary-in .ensures .within (c .if1 .taken)
+
+summary-grown-slice-aggregate-summary-grown : (t : ℕ) → summary-grown-lts.Need-slice-aggregate-summary-grown (summary-grown-claims t) (summary-grown-at t) summary-grown.Post
+summary-grown-slice-aggregate-summary-grown t c = search needs
+
+summary-grown-summary-grown-requires : (t : ℕ) → summary-grown-lts.Need-summary-grown-requires (summary-grown-claims t) (summary-grown-at t) summary-grown.Post
+summary-grown-summary-grown-requires t c κs =
+    let pre = c .before .before .before .before .before .before .before .before .before .before .pre in
+    let summary-in = c .before .before .before .before .before .summary-in in
+    let if1 = c .before .if1 in
+    (omega (arith, pre .0, summary-in .ensures .full (if1 .left), summary-in .kept .1 .1 .0), tt)
+
+summary-grown-same-length-2 : (t : ℕ) → summary-grown-lts.Need-same-length-2 (summary-grown-claims t) (summary-grown-at t) summary-grown.Post
+summary-grown-same-length-2 t c = search needs
+
+summary-grown-returns-2 : (t : ℕ) → summary-grown-lts.Need-returns-2 (summary-grown-claims t) (summary-grown-at t) summary-grown.Post
+summary-grown-returns-2 t c =
+    let summary-grown = c .before .summary-grown in
+    summary-grown .ensures
+
+pub +summary-grown-spec : {M : Type 1} → statement M
++summary-grown-spec = close μ-summary-grown λ t. summary-grown-lts.spec (
+  summary-in-reads.Asked,
+  summary-in-reads.Learnt,
+  summary-grown-below t,
+  summary-grown.Post,
+)
+    (summary-grown-at t)
+    summary-grown.Post
+    (summary-grown-summary-in-requires t)
+    (summary-grown-same-length t)
+    (summary-grown-returns t)
+    (summary-grown-slice-aggregate-summary-grown t)
+    (summary-grown-summary-grown-requires t)
+    (summary-grown-same-length-2 t)
+    (summary-grown-returns-2 t)

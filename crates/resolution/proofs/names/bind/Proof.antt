@@ -1,0 +1,53 @@
+-- `names::bind`: the name's summary describes the binder's own name.
+use borrow.Author.Needs.{needs}
+use Rattle.resolution.proofs.names.bind.Statement.{statement}
+use Rattle.resolution.proofs.names.bind.Tie as tie
+use Rattle.arena.specs.ArenaLaws.{referenceAt-most}
+use Rattle.resolution.specs.NameLaws.{described, binds-name}
+use native.Mathlib.Omega.{arith}
+
+number-of-requires : tie.Need-number-of-requires
+number-of-requires c κs = search needs
+
+summary-of-requires : tie.Need-summary-of-requires
+summary-of-requires c κs = search needs
+
+reference-requires : tie.Need-reference-requires
+reference-requires c κs = search needs
+
+cast-put-binder : tie.Need-cast-put-binder
+cast-put-binder c = search needs
+
+put-binder-requires : tie.Need-put-binder-requires
+put-binder-requires c κs =
+    let entry = c .before .before .before .before .before .before .before .before .before .before in
+    let a = entry .args in
+    let pre = entry .pre in
+    let reference = c .before .before .reference in
+    (pre .0, omega (arith, pre .1, reference .ensures, referenceAt-most (a .work .now) (a .node) 1), pre .2, pre .3)
+
+same-length : tie.Need-same-length
+same-length c = search needs
+
+returns : tie.Need-returns
+returns c =
+    let a = c .before .before .before .before .before .before .before .before .before .before .before .before .before .args in
+    let number-of = c .before .before .before .before .before .before .before .before .before .number-of in
+    let summary-of = c .before .before .before .before .before .before .before .summary-of in
+    let reference = c .before .before .before .before .before .reference in
+    let put-binder = c .before .before .put-binder in
+    binds-name (a .items .now) (a .node) (a .w) (a .key) (a .parent) _ _ _ _ _ (a .work .now) _ (a .top) _
+    (described (a .items .now) (a .work .now) (a .node) (a .w) _ _ (reference .ensures) (number-of .ensures) _ _ _ (summary-of .ensures))
+    (put-binder .ensures)
+
+pub bind-spec : {M : Type 1} → statement M
+bind-spec =
+    tie.close
+    (tie.spec
+    number-of-requires
+    summary-of-requires
+    reference-requires
+    cast-put-binder
+    put-binder-requires
+    same-length
+    returns)

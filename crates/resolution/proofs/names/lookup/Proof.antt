@@ -1,0 +1,55 @@
+-- `names::lookup`: the binding by its key, else what the unbound name means.
+use borrow.Author.Needs.{needs}
+use Rattle.arena.specs.NodeLaws.{nameAt-number}
+use Rattle.resolution.proofs.names.lookup.Statement.{statement}
+use Rattle.resolution.proofs.names.lookup.Tie as tie
+use Rattle.arena.specs.Arena.{nameAt}
+use Rattle.resolution.specs.NameLaws.{lookup-none, lookup-variable, lookup-macro}
+use mathlib.Core.Path.{sym, _∙_}
+
+binding-of-requires : tie.Need-binding-of-requires
+binding-of-requires c κs = search needs
+
+number-of-requires : tie.Need-number-of-requires
+number-of-requires c κs = search needs
+
+unbound-requires : tie.Need-unbound-requires
+unbound-requires c κs = search needs
+
+returns : tie.Need-returns
+returns c =
+    let a = c .before .before .before .before .before .before .before .args in
+    let binding-of = c .before .before .before .binding-of in
+    let if1 = c .before .before .if1 in
+    let number-of = c .before .number-of in
+    let x = nameAt (a .items .now) (a .work .now) (a .node) (a .w) in
+    lookup-none (a .operations .now) x _ (binding-of .ensures) (if1 .taken) _ (number-of .ensures ∙ sym (nameAt-number (a .items .now) (a .work .now) (a .node) (a .w))) _ (c .unbound .ensures)
+
+returns-2 : tie.Need-returns-2
+returns-2 c =
+    let a = c .before .before .before .before .before .before .args in
+    let binding-of = c .before .before .binding-of in
+    let if1 = c .before .if1 in
+    lookup-variable (a .operations .now) (nameAt (a .items .now) (a .work .now) (a .node) (a .w)) _ (binding-of .ensures) (if1 .left) (c .if2 .taken)
+
+sub-t11 : tie.Need-sub-t11
+sub-t11 c = search needs
+
+returns-3 : tie.Need-returns-3
+returns-3 c =
+    let a = c .before .before .before .before .before .before .args in
+    let binding-of = c .before .before .binding-of in
+    let if1 = c .before .if1 in
+    lookup-macro (a .operations .now) (nameAt (a .items .now) (a .work .now) (a .node) (a .w)) _ (binding-of .ensures) (if1 .left) (c .if2 .left)
+
+pub lookup-spec : {M : Type 1} → statement M
+lookup-spec =
+    tie.close
+    (tie.spec
+    binding-of-requires
+    number-of-requires
+    unbound-requires
+    returns
+    returns-2
+    sub-t11
+    returns-3)

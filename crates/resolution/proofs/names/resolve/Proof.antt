@@ -1,0 +1,59 @@
+-- `names::resolve`: the node's own wrap, then the pending one.
+use borrow.Author.Needs.{needs}
+use Rattle.resolution.proofs.names.resolve.Statement.{statement}
+use Rattle.resolution.proofs.names.resolve.Tie as tie
+use Rattle.resolution.specs.HandLaws.{fits-on, fits-then, hand-none}
+use Rattle.resolution.specs.NameLaws.{resolved}
+
+number-of-requires : tie.Need-number-of-requires
+number-of-requires c κs = search needs
+
+reference-requires : tie.Need-reference-requires
+reference-requires c κs = search needs
+
+walked-requires : tie.Need-walked-requires
+walked-requires c κs =
+    let entry = c .before .before .before .before .before .before in
+    let a = entry .args in
+    let pre = entry .pre in
+    hand-none (a .table .now) (a .start) pre
+
+same-length : tie.Need-same-length
+same-length c = search needs
+
+returns : tie.Need-returns
+returns c =
+    let walked = c .before .before .before .walked in
+    fits-on (c .if1 .taken) (walked .ensures)
+
+walk-requires : tie.Need-walk-requires
+walk-requires c κs =
+    let walked = c .before .before .before .before .walked in
+    let if1 = c .before .if1 in
+    walked .ensures .within (if1 .left) .hand
+
+same-length-2 : tie.Need-same-length-2
+same-length-2 c = search needs
+
+returns-2 : tie.Need-returns-2
+returns-2 c =
+    let a = c .before .before .before .before .before .before .before .before .before .before .before .before .before .before .args in
+    let number-of = c .before .before .before .before .before .before .before .before .before .before .number-of in
+    let reference = c .before .before .before .before .before .before .before .before .before .reference in
+    let walked = c .before .before .before .before .before .before .before .walked in
+    let if1 = c .before .before .before .before .if1 in
+    let walk = c .before .before .walk in
+    fits-then (walk .ensures) (resolved (a .items .now) (a .work .now) (a .node) (a .w) _ _ (reference .ensures) (number-of .ensures) (a .table .now) _ _ (a .start) _ _ _ _ (walked .ensures .within (if1 .left)))
+
+pub resolve-spec : {M : Type 1} → statement M
+resolve-spec =
+    tie.close
+    (tie.spec
+    number-of-requires
+    reference-requires
+    walked-requires
+    same-length
+    returns
+    walk-requires
+    same-length-2
+    returns-2)

@@ -1,0 +1,210 @@
+-- The proof of the cycle {walk, walked}. The measure is twice the wrap's reference, one more where it may be none.
+use Prim.Native.Nat.{ℕ, _<_, _+_, _*_}
+use borrow.Fn.Kinds.{In}
+use borrow.Fn.PlainCycle.{Measures, is, falls, and}
+use Rattle.resolution.proofs.wraps.walk.Reads as walk
+use Rattle.resolution.proofs.wraps.walk.Kinds as walk-kinds
+use Rattle.resolution.proofs.wraps.+walk+walked.Lts-walk as walk-lts
+use Rattle.resolution.proofs.wraps.walked.Reads as walked
+use Rattle.resolution.proofs.wraps.walked.Kinds as walked-kinds
+use Rattle.resolution.proofs.wraps.+walk+walked.Lts-walked as walked-lts
+use Rattle.arena.proofs.cells.reference.Reads as reference-reads
+use Rattle.arena.proofs.cells.word.Reads as word-reads
+use Rattle.resolution.proofs.marks.mark.Reads as mark-reads
+use Rattle.resolution.proofs.wraps.rebind.Reads as rebind-reads
+use Rattle.resolution.proofs.wraps.+walk+walked.{statement}
+use Rattle.resolution.proofs.wraps.+walk+walked.Tie.{close}
+use Rattle.arena.specs.Arena.{stepLimit}
+use Rattle.resolution.specs.HandLaws.{fits-within, fits-on, fits-then, fits-wider, wrap-none, wrap-idle, wrap-falls}
+use Rattle.resolution.specs.WalkLaws.{name-idle, walk-mark, walk-join, walk-binder}
+use borrow.Author.Needs.{needs}
+use native.Mathlib.Omega.{arith}
+
+abbrev μ-walk : Measures 2 walk-kinds.ps ℕ
+μ-walk κs a =
+    2 * a .1 .1 .1 .1 .1 .1 .0
+
+abbrev μ-walked : Measures 2 walked-kinds.ps ℕ
+μ-walked κs a =
+    2 * a .1 .1 .1 .1 .1 .1 .0 + 1
+
+abbrev walk-at : ℕ → In 2 walk-kinds.ps
+walk-at t = and 2 walk-kinds.ps (is 2 walk-kinds.ps μ-walk t) walk.Pre
+
+abbrev walk-below : ℕ → In 2 walk-kinds.ps
+walk-below t = and 2 walk-kinds.ps (falls 2 walk-kinds.ps _<_ μ-walk t) walk.Pre
+
+abbrev walked-at : ℕ → In 2 walked-kinds.ps
+walked-at t = and 2 walked-kinds.ps (is 2 walked-kinds.ps μ-walked t) walked.Pre
+
+abbrev walked-below : ℕ → In 2 walked-kinds.ps
+walked-below t = and 2 walked-kinds.ps (falls 2 walked-kinds.ps _<_ μ-walked t) walked.Pre
+
+abbrev walk-claims : ℕ → walk-lts.Claims
+walk-claims t = (word-reads.Asked, word-reads.Learnt, reference-reads.Asked, reference-reads.Learnt, walked-below t, walked.Post, mark-reads.Asked, mark-reads.Learnt, rebind-reads.Asked, rebind-reads.Learnt)
+
+walk-word-requires : (t : ℕ) → walk-lts.Need-word-requires (walk-claims t) (walk-at t) walk.Post
+walk-word-requires t c κs = search needs
+
+walk-returns : (t : ℕ) → walk-lts.Need-returns (walk-claims t) (walk-at t) walk.Post
+walk-returns t c =
+    let entry = c .before .before .before .before in
+    let a = entry .args in
+    let pre = entry .pre in
+    let word = c .before .word in
+    fits-within (a .table .now) (a .start + stepLimit + stepLimit) (a .count) (omega (arith, pre .1 .room)) (name-idle _ (a .table .now) (a .start) (a .number) (a .count) (a .binding) (pre .1) (wrap-idle (a .work .now) (a .w) _ (word .ensures) (λ z. omega arith) (λ z. omega arith) (λ z. omega arith)))
+
+walk-returns-2 : (t : ℕ) → walk-lts.Need-returns-2 (walk-claims t) (walk-at t) walk.Post
+walk-returns-2 t c =
+    let entry = c .before .before .before .before .before in
+    let a = entry .args in
+    let pre = entry .pre in
+    let word = c .before .before .word in
+    fits-within (a .table .now) (a .start + stepLimit + stepLimit) (a .count) (omega (arith, pre .1 .room)) (name-idle _ (a .table .now) (a .start) (a .number) (a .count) (a .binding) (pre .1) (wrap-idle (a .work .now) (a .w) _ (word .ensures) (λ z. omega arith) (λ z. omega arith) (λ z. omega arith)))
+
+walk-reference-requires : (t : ℕ) → walk-lts.Need-reference-requires (walk-claims t) (walk-at t) walk.Post
+walk-reference-requires t c κs = search needs
+
+walk-walked-requires : (t : ℕ) → walk-lts.Need-walked-requires (walk-claims t) (walk-at t) walk.Post
+walk-walked-requires t c κs =
+    let entry = c .before .before .before .before .before .before .before in
+    let a = entry .args in
+    let pre = entry .pre in
+    let word = c .before .before .before .before .word in
+    let if1 = c .before .before .before .if1 in
+    let reference = c .before .reference in
+    (omega (arith, wrap-falls (a .work .now) (a .w) _ (word .ensures) 2 _ (if1 .left) (reference .ensures)), pre .1)
+
+walk-same-length : (t : ℕ) → walk-lts.Need-same-length (walk-claims t) (walk-at t) walk.Post
+walk-same-length t c = search needs
+
+walk-returns-3 : (t : ℕ) → walk-lts.Need-returns-3 (walk-claims t) (walk-at t) walk.Post
+walk-returns-3 t c =
+    let walked = c .before .before .before .walked in
+    fits-on (c .if3 .taken) (walked .ensures)
+
+walk-word-requires-2 : (t : ℕ) → walk-lts.Need-word-requires-2 (walk-claims t) (walk-at t) walk.Post
+walk-word-requires-2 t c κs = search needs
+
+walk-mark-requires : (t : ℕ) → walk-lts.Need-mark-requires (walk-claims t) (walk-at t) walk.Post
+walk-mark-requires t c κs =
+    let walked = c .before .before .before .before .before .before .walked in
+    let if3 = c .before .before .before .if3 in
+    walked .ensures .within (if3 .left) .hand
+
+walk-same-length-2 : (t : ℕ) → walk-lts.Need-same-length-2 (walk-claims t) (walk-at t) walk.Post
+walk-same-length-2 t c = search needs
+
+walk-returns-4 : (t : ℕ) → walk-lts.Need-returns-4 (walk-claims t) (walk-at t) walk.Post
+walk-returns-4 t c =
+    let a = c .before .before .before .before .before .before .before .before .before .before .before .before .before .before .before .before .before .args in
+    let word = c .before .before .before .before .before .before .before .before .before .before .before .before .before .before .word in
+    let reference = c .before .before .before .before .before .before .before .before .before .before .before .reference in
+    let walked = c .before .before .before .before .before .before .before .before .before .walked in
+    let if3 = c .before .before .before .before .before .before .if3 in
+    let if4 = c .before .before .before .before .before .if4 in
+    let word2 = c .before .before .before .before .word2 in
+    let mark = c .before .before .mark in
+    fits-wider (mark .last .0) (a .start + stepLimit) (a .start + stepLimit + stepLimit) (mark .result) (omega arith) (fits-then (mark .ensures) (walk-mark (a .work .now) (a .w) _ (word .ensures) _ (reference .ensures) (a .table .now) _ (a .start) (a .number) (a .count) (a .binding) _ _ (walked .ensures .within (if3 .left)) _ (if4 .taken) (word2 .ensures) _ _))
+
+walk-reference-requires-2 : (t : ℕ) → walk-lts.Need-reference-requires-2 (walk-claims t) (walk-at t) walk.Post
+walk-reference-requires-2 t c κs = search needs
+
+walk-walked-requires-2 : (t : ℕ) → walk-lts.Need-walked-requires-2 (walk-claims t) (walk-at t) walk.Post
+walk-walked-requires-2 t c κs =
+    let entry = c .before .before .before .before .before .before .before .before .before .before .before .before .before .before .before in
+    let a = entry .args in
+    let pre = entry .pre in
+    let word = c .before .before .before .before .before .before .before .before .before .before .before .before .word in
+    let if1 = c .before .before .before .before .before .before .before .before .before .before .before .if1 in
+    let walked = c .before .before .before .before .before .before .before .walked in
+    let if3 = c .before .before .before .before .if3 in
+    let reference2 = c .before .reference2 in
+    (omega (arith, wrap-falls (a .work .now) (a .w) _ (word .ensures) 3 _ (if1 .left) (reference2 .ensures), pre .0), walked .ensures .within (if3 .left) .hand)
+
+walk-same-length-3 : (t : ℕ) → walk-lts.Need-same-length-3 (walk-claims t) (walk-at t) walk.Post
+walk-same-length-3 t c = search needs
+
+walk-returns-5 : (t : ℕ) → walk-lts.Need-returns-5 (walk-claims t) (walk-at t) walk.Post
+walk-returns-5 t c =
+    let a = c .before .before .before .before .before .before .before .before .before .before .before .before .before .before .before .before .before .before .args in
+    let word = c .before .before .before .before .before .before .before .before .before .before .before .before .before .before .before .word in
+    let reference = c .before .before .before .before .before .before .before .before .before .before .before .before .reference in
+    let walked = c .before .before .before .before .before .before .before .before .before .before .walked in
+    let if3 = c .before .before .before .before .before .before .before .if3 in
+    let if5 = c .before .before .before .before .before .if5 in
+    let reference2 = c .before .before .before .before .reference2 in
+    let walked2 = c .before .before .walked2 in
+    fits-then (walked2 .ensures) (walk-join (a .work .now) (a .w) _ (word .ensures) _ (reference .ensures) (a .table .now) _ (a .start) (a .number) (a .count) (a .binding) _ _ (walked .ensures .within (if3 .left)) _ (if5 .taken) (reference2 .ensures) _ _ _)
+
+walk-rebind-requires : (t : ℕ) → walk-lts.Need-rebind-requires (walk-claims t) (walk-at t) walk.Post
+walk-rebind-requires t c κs =
+    let walked = c .before .before .before .before .before .before .walked in
+    let if3 = c .before .before .before .if3 in
+    walked .ensures .within (if3 .left) .hand
+
+walk-same-length-4 : (t : ℕ) → walk-lts.Need-same-length-4 (walk-claims t) (walk-at t) walk.Post
+walk-same-length-4 t c = search needs
+
+walk-returns-6 : (t : ℕ) → walk-lts.Need-returns-6 (walk-claims t) (walk-at t) walk.Post
+walk-returns-6 t c =
+    let a = c .before .before .before .before .before .before .before .before .before .before .before .before .before .before .before .before .before .args in
+    let word = c .before .before .before .before .before .before .before .before .before .before .before .before .before .before .word in
+    let if1 = c .before .before .before .before .before .before .before .before .before .before .before .before .before .if1 in
+    let if2 = c .before .before .before .before .before .before .before .before .before .before .before .before .if2 in
+    let reference = c .before .before .before .before .before .before .before .before .before .before .before .reference in
+    let walked = c .before .before .before .before .before .before .before .before .before .walked in
+    let if3 = c .before .before .before .before .before .before .if3 in
+    let if4 = c .before .before .before .before .before .if4 in
+    let if5 = c .before .before .before .before .if5 in
+    let rebind = c .before .before .rebind in
+    fits-then (rebind .ensures) (walk-binder (a .work .now) (a .w) _ (word .ensures) _ (reference .ensures) (a .table .now) _ (a .start) (a .number) (a .count) (a .binding) _ _ (walked .ensures .within (if3 .left)) (omega (arith, if1 .left, if2 .left, if4 .left, if5 .left)) _ _ _)
+
+abbrev walked-claims : ℕ → walked-lts.Claims
+walked-claims t = (walk-below t, walk.Post)
+
+walked-returns : (t : ℕ) → walked-lts.Need-returns (walked-claims t) (walked-at t) walked.Post
+walked-returns t c =
+    let entry = c .before .before .before in
+    let a = entry .args in
+    let pre = entry .pre in
+    fits-within (a .table .now) (a .start + stepLimit + stepLimit) (a .count) (omega (arith, pre .1 .room)) (name-idle _ (a .table .now) (a .start) (a .number) (a .count) (a .binding) (pre .1) (wrap-none (a .work .now) (a .w) (c .if1 .taken)))
+
+walked-walk-requires : (t : ℕ) → walked-lts.Need-walk-requires (walked-claims t) (walked-at t) walked.Post
+walked-walk-requires t c κs =
+    let pre = c .before .before .before .before .pre in
+    (omega (arith, pre .0), pre .1)
+
+walked-same-length : (t : ℕ) → walked-lts.Need-same-length (walked-claims t) (walked-at t) walked.Post
+walked-same-length t c = search needs
+
+walked-returns-2 : (t : ℕ) → walked-lts.Need-returns-2 (walked-claims t) (walked-at t) walked.Post
+walked-returns-2 t c = c .before .before .walk .ensures
+
+pub +walk+walked-spec : {M : Type 1} → statement M
++walk+walked-spec = close μ-walk μ-walked (λ t. walk-lts.spec (walk-claims t) (walk-at t)
+    walk.Post
+    (walk-word-requires t)
+    (walk-returns t)
+    (walk-returns-2 t)
+    (walk-reference-requires t)
+    (walk-walked-requires t)
+    (walk-same-length t)
+    (walk-returns-3 t)
+    (walk-word-requires-2 t)
+    (walk-mark-requires t)
+    (walk-same-length-2 t)
+    (walk-returns-4 t)
+    (walk-reference-requires-2 t)
+    (walk-walked-requires-2 t)
+    (walk-same-length-3 t)
+    (walk-returns-5 t)
+    (walk-rebind-requires t)
+    (walk-same-length-4 t)
+    (walk-returns-6 t))
+    λ t. walked-lts.spec (walked-claims t) (walked-at t)
+    walked.Post
+    (walked-returns t)
+    (walked-walk-requires t)
+    (walked-same-length t)
+    (walked-returns-2 t)

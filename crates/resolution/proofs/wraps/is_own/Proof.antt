@@ -1,0 +1,178 @@
+-- `wraps::is_own`: each test that fails tells another name; where all hold, it is the same.
+use borrow.Author.Needs.{needs}
+use Rattle.resolution.proofs.wraps.is_own.Statement.{statement}
+use Rattle.resolution.proofs.wraps.is_own.Tie as tie
+use Rattle.resolution.specs.Marks.{is-same, is-other, is-full}
+use Rattle.resolution.specs.HandLaws.{count-most}
+use Rattle.resolution.specs.BinderLaws.{other-number, other-binding, other-count, other-newest, other-length, other-marks, same-few, same-all}
+use native.Mathlib.Omega.{arith}
+use mathlib.Core.Path.{sym, _∙_}
+
+word-requires : tie.Need-word-requires
+word-requires c κs = search needs
+
+returns : tie.Need-returns
+returns c =
+    let a = c .before .before .before .before .args in
+    let word = c .before .word in
+    is-other (other-number (a .work .now) (a .w) (a .table .now) (a .start) (a .number) (a .count) (a .binding) _ (word .ensures) (c .if1 .taken))
+
+word-requires-2 : tie.Need-word-requires-2
+word-requires-2 c κs = search needs
+
+returns-2 : tie.Need-returns-2
+returns-2 c =
+    let a = c .before .before .before .before .before .before .args in
+    let word2 = c .before .word2 in
+    is-other (other-binding (a .work .now) (a .w) (a .table .now) (a .start) (a .number) (a .count) (a .binding) _ (word2 .ensures) (c .if2 .taken))
+
+word-requires-3 : tie.Need-word-requires-3
+word-requires-3 c κs = search needs
+
+cast-if3 : tie.Need-cast-if3
+cast-if3 c = search needs
+
+returns-3 : tie.Need-returns-3
+returns-3 c =
+    let a = c .before .before .before .before .before .before .before .before .args in
+    let word3 = c .before .word3 in
+    is-other (other-count (a .work .now) (a .w) (a .table .now) (a .start) (a .number) (a .count) (a .binding) _ (word3 .ensures) (c .if3 .taken))
+
+word-requires-4 : tie.Need-word-requires-4
+word-requires-4 c κs = search needs
+
+newest-of-requires : tie.Need-newest-of-requires
+newest-of-requires c κs =
+    let pre = c .before .before .before .before .before .before .before .before .before .before .pre in
+    pre .room
+
+same-length : tie.Need-same-length
+same-length c = search needs
+
+returns-4 : tie.Need-returns-4
+returns-4 c =
+    let a = c .before .before .before .before .before .before .before .before .before .before .before .before .args in
+    let word4 = c .before .before .before .word4 in
+    let newest-of = c .before .newest-of in
+    is-other (other-newest (a .work .now) (a .w) (a .table .now) (a .start) (a .number) (a .count) (a .binding) _ _ (word4 .ensures) (newest-of .ensures) (c .if4 .taken))
+
+same-length-2 : tie.Need-same-length-2
+same-length-2 c = search needs
+
+returns-5 : tie.Need-returns-5
+returns-5 c =
+    let a = c .before .before .before .before .before .before .before .before .before .before .before .before .before .args in
+    let word = c .before .before .before .before .before .before .before .before .before .before .word in
+    let if1 = c .before .before .before .before .before .before .before .before .before .if1 in
+    let word2 = c .before .before .before .before .before .before .before .before .word2 in
+    let if2 = c .before .before .before .before .before .before .before .if2 in
+    let word3 = c .before .before .before .before .before .before .word3 in
+    let if3 = c .before .before .before .before .before .if3 in
+    let word4 = c .before .before .before .before .word4 in
+    let newest-of = c .before .before .newest-of in
+    let if4 = c .before .if4 in
+    is-same (same-few (a .work .now) (a .w) (a .table .now) (a .start) (a .number) (a .count) (a .binding) _ _ _ _ _
+    (word .ensures) (if1 .left) (word2 .ensures) (if2 .left) (word3 .ensures) (if3 .left) (word4 .ensures) (newest-of .ensures) (if4 .left) (c .if5 .taken))
+
+add-behind : tie.Need-add-behind
+add-behind c = search needs
+
+own-marks-requires : tie.Need-own-marks-requires
+own-marks-requires c κs =
+    let pre = c .before .before .before .before .before .before .before .before .before .before .before .before .before .before .pre in
+    pre .room
+
+same-length-3 : tie.Need-same-length-3
+same-length-3 c = search needs
+
+returns-6 : tie.Need-returns-6
+returns-6 c =
+    let entry = c .before .before .before .before .before .before .before .before .before .before .before .before .before .before .before .before .before .before in
+    let a = entry .args in
+    let pre = entry .pre in
+    let own-marks = c .before .before .before .own-marks in
+    is-full (omega (arith, own-marks .ensures .full (c .if6 .taken), count-most (a .table .now) (a .start) (a .count) (pre .descends)))
+
+same-length-4 : tie.Need-same-length-4
+same-length-4 c = search needs
+
+returns-7 : tie.Need-returns-7
+returns-7 c =
+    let a = c .before .before .before .before .before .before .before .before .before .before .before .before .before .before .before .before .before .before .before .args in
+    let if5 = c .before .before .before .before .before .before .if5 in
+    let own-marks = c .before .before .before .before .own-marks in
+    let if6 = c .before .if6 in
+    is-other (other-length (a .work .now) (a .w) (a .table .now) (a .start) (a .number) (a .count) (a .binding) _ _ (own-marks .ensures .within (if6 .left)) (omega (arith, if5 .left)) (c .if7 .taken))
+
+equal-marks-requires : tie.Need-equal-marks-requires
+equal-marks-requires c κs =
+    let pre = c .before .before .before .before .before .before .before .before .before .before .before .before .before .before .before .before .before .before .before .before .pre in
+    let own-marks = c .before .before .before .before .before .own-marks in
+    let if6 = c .before .before .if6 in
+    let if7 = c .before .if7 in
+    (omega (arith, own-marks .ensures .within (if6 .left) .room, if7 .left), omega (arith, pre .room, own-marks .kept .1 .0))
+
+same-length-5 : tie.Need-same-length-5
+same-length-5 c = search needs
+
+returns-8 : tie.Need-returns-8
+returns-8 c =
+    let a = c .before .before .before .before .before .before .before .before .before .before .before .before .before .before .before .before .before .before .before .before .before .before .args in
+    let word = c .before .before .before .before .before .before .before .before .before .before .before .before .before .before .before .before .before .before .before .word in
+    let if1 = c .before .before .before .before .before .before .before .before .before .before .before .before .before .before .before .before .before .before .if1 in
+    let word2 = c .before .before .before .before .before .before .before .before .before .before .before .before .before .before .before .before .before .word2 in
+    let if2 = c .before .before .before .before .before .before .before .before .before .before .before .before .before .before .before .before .if2 in
+    let word3 = c .before .before .before .before .before .before .before .before .before .before .before .before .before .before .before .word3 in
+    let if3 = c .before .before .before .before .before .before .before .before .before .before .before .before .before .before .if3 in
+    let word4 = c .before .before .before .before .before .before .before .before .before .before .before .before .before .word4 in
+    let newest-of = c .before .before .before .before .before .before .before .before .before .before .before .newest-of in
+    let if4 = c .before .before .before .before .before .before .before .before .before .before .if4 in
+    let own-marks = c .before .before .before .before .before .before .before .own-marks in
+    let if6 = c .before .before .before .before .if6 in
+    let if7 = c .before .before .before .if7 in
+    let equal-marks = c .before .equal-marks in
+    is-same (same-all (a .work .now) (a .w) (a .table .now) (a .start) (a .number) (a .count) (a .binding) _ _ _ _ _
+    (word .ensures) (if1 .left) (word2 .ensures) (if2 .left) (word3 .ensures) (if3 .left) (word4 .ensures) (newest-of .ensures) (if4 .left)
+    _ _ (own-marks .ensures .within (if6 .left)) (if7 .left) (sym (c .if8 .taken) ∙ equal-marks .ensures))
+
+same-length-6 : tie.Need-same-length-6
+same-length-6 c = search needs
+
+returns-9 : tie.Need-returns-9
+returns-9 c =
+    let a = c .before .before .before .before .before .before .before .before .before .before .before .before .before .before .before .before .before .before .before .before .before .before .args in
+    let if5 = c .before .before .before .before .before .before .before .before .before .if5 in
+    let own-marks = c .before .before .before .before .before .before .before .own-marks in
+    let if6 = c .before .before .before .before .if6 in
+    let if7 = c .before .before .before .if7 in
+    let equal-marks = c .before .equal-marks in
+    is-other (other-marks (a .work .now) (a .w) (a .table .now) (a .start) (a .number) (a .count) (a .binding) _ _ (own-marks .ensures .within (if6 .left)) (omega (arith, if5 .left)) (if7 .left) (sym (c .if8 .left) ∙ equal-marks .ensures))
+
+pub is-own-spec : {M : Type 1} → statement M
+is-own-spec =
+    tie.close
+    (tie.spec
+    word-requires
+    returns
+    word-requires-2
+    returns-2
+    word-requires-3
+    cast-if3
+    returns-3
+    word-requires-4
+    newest-of-requires
+    same-length
+    returns-4
+    same-length-2
+    returns-5
+    add-behind
+    own-marks-requires
+    same-length-3
+    returns-6
+    same-length-4
+    returns-7
+    equal-marks-requires
+    same-length-5
+    returns-8
+    same-length-6
+    returns-9)

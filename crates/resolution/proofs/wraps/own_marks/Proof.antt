@@ -1,0 +1,59 @@
+-- `wraps::own_marks`: the own wrap, then the pending one, on a name with no marks.
+use borrow.Author.Needs.{needs}
+use Rattle.resolution.proofs.wraps.own_marks.Statement.{statement}
+use Rattle.resolution.proofs.wraps.own_marks.Tie as tie
+use Rattle.resolution.specs.HandLaws.{fits-on, fits-then, hand-none}
+use Rattle.resolution.specs.BinderLaws.{own-both}
+
+reference-requires : tie.Need-reference-requires
+reference-requires c κs = search needs
+
+marks-after-requires : tie.Need-marks-after-requires
+marks-after-requires c κs =
+    let entry = c .before .before .before .before in
+    let a = entry .args in
+    let pre = entry .pre in
+    hand-none (a .table .now) (a .start) pre
+
+same-length : tie.Need-same-length
+same-length c = search needs
+
+returns : tie.Need-returns
+returns c =
+    let marks-after = c .before .before .before .marks-after in
+    fits-on (c .if1 .taken) (marks-after .ensures)
+
+reference-requires-2 : tie.Need-reference-requires-2
+reference-requires-2 c κs = search needs
+
+marks-after-requires-2 : tie.Need-marks-after-requires-2
+marks-after-requires-2 c κs =
+    let marks-after = c .before .before .before .before .before .marks-after in
+    let if1 = c .before .before .if1 in
+    marks-after .ensures .within (if1 .left) .hand
+
+same-length-2 : tie.Need-same-length-2
+same-length-2 c = search needs
+
+returns-2 : tie.Need-returns-2
+returns-2 c =
+    let a = c .before .before .before .before .before .before .before .before .before .before .before .before .before .args in
+    let reference = c .before .before .before .before .before .before .before .before .before .before .reference in
+    let marks-after = c .before .before .before .before .before .before .before .before .marks-after in
+    let if1 = c .before .before .before .before .before .if1 in
+    let reference2 = c .before .before .before .before .reference2 in
+    let marks-after2 = c .before .before .marks-after2 in
+    fits-then (marks-after2 .ensures) (own-both (a .work .now) (a .w) _ _ (reference .ensures) (reference2 .ensures) (a .table .now) _ _ (a .start) _ _ (marks-after .ensures .within (if1 .left)))
+
+pub own-marks-spec : {M : Type 1} → statement M
+own-marks-spec =
+    tie.close
+    (tie.spec
+    reference-requires
+    marks-after-requires
+    same-length
+    returns
+    reference-requires-2
+    marks-after-requires-2
+    same-length-2
+    returns-2)
