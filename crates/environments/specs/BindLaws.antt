@@ -1,10 +1,12 @@
 -- Laws of the environment of a pattern and a use, as a table: one for each way through the code.
-use mathlib.Core.Path.{_≡_, refl, sym, ap, _∙_}
+use mathlib.Core.Path.{_≡_, refl, sym, ap, _∙_, subst}
 use mathlib.Core.Bool.{Bool, true, false, cond, _||_, true≢false, false≢true}
 use mathlib.Core.List.{List}
 use Prim.Native.Nat.{ℕ, _≤_}
 use native.Mathlib.Omega.{arith}
 use borrow.Author.Tests.{eqb-true, eqb-false, ne-eqb}
+use Rattle.words.specs.ListLaws.{rest-is}
+use Rattle.words.specs.Parts.{rest}
 use Rattle.words.specs.Limits.{patternVariablesMost}
 use Rattle.recipe.specs.Tree.{element, tail}
 use Rattle.expansion.specs.Rules.{pairP}
@@ -20,6 +22,14 @@ use Rattle.environments.specs.Environment.{entered, enteredNext, taking,
 use Rattle.environments.specs.Entries.{entryAt, patternIn, takingOf, Low, Stored}
 use Rattle.environments.specs.EntryLaws.{patternIn-some}
 use Rattle.environments.specs.Bind.{bound, BindsOne, secondOf, BindsList, Binds}
+
+-- ---- of a work table, what is so of the part that is all of it
+
+pub whole-list : (work : List ℕ) (p list first second : ℕ) (old new : List ℕ) → BindsList (rest 0 work) p list first second old new → BindsList work p list first second old new
+whole-list work p list first second old new = subst (λ (s : List ℕ). BindsList s p list first second old new) (rest-is 0 work)
+
+pub whole-binds : (work : List ℕ) (p u : ℕ) (old new : List ℕ) → Binds (rest 0 work) p u old new → Binds work p u old new
+whole-binds work p u old new = subst (λ (s : List ℕ). Binds s p u old new) (rest-is 0 work)
 
 -- ---- one variable
 

@@ -1,5 +1,5 @@
 -- Laws of driving lists on cells, one for each way through the code.
-use mathlib.Core.Path.{_≡_, refl, sym, ap, _∙_}
+use mathlib.Core.Path.{_≡_, refl, sym, ap, _∙_, subst}
 use mathlib.Core.Bool.{Bool, true, false, _&&_, cond}
 use mathlib.Core.List.{List, [], _∷_, _++_, map, map-append}
 use Prim.Native.Nat.{ℕ, zero, suc, _+_, _-_, _≤_, _<_}
@@ -7,6 +7,8 @@ use native.Mathlib.Omega.{arith}
 use lib.Dec.{eqb, ltb}
 use lib.ListN.{length, getD}
 use borrow.Author.Tests.{eq-eqb, eqb-true, eqb-false, lt-ltb, le-ltb}
+use Rattle.words.specs.ListLaws.{rest-is}
+use Rattle.words.specs.Parts.{rest}
 use Rattle.words.specs.Lists.{all}
 use Rattle.recipe.specs.Tree.{Tree, elements}
 use Rattle.expansion.specs.Rules.{drivers}
@@ -20,6 +22,14 @@ use Rattle.environments.specs.Entries.{entryAt, takingOf, environmentAt,
 use Rattle.environments.specs.Lengths.{driving, heading, lengthOr, Drives, AllOf, Copies, deeper}
 use Rattle.environments.specs.declared.lengths.Driving.{Driving}
 use Rattle.environments.specs.declared.lengths.Driving.the-variants.{None, Length}
+
+-- ---- of a work table, what is so of the part that is all of it
+
+pub whole-drives : (work env : List ℕ) (j t : ℕ) (r : Driving) → Drives (rest 0 work) env j t r → Drives work env j t r
+whole-drives work env j t r = subst (λ (s : List ℕ). Drives s env j t r) (rest-is 0 work)
+
+pub whole-all : (work env : List ℕ) (j t c : ℕ) (r : Bool) → AllOf (rest 0 work) env j t c r → AllOf work env j t c r
+whole-all work env j t c r = subst (λ (s : List ℕ). AllOf s env j t c r) (rest-is 0 work)
 
 -- ---- drivers of a template's cell
 

@@ -50,18 +50,18 @@ fn bind_list(
     let rest = cells::reference(work, p, 2);
     if tag == rule_cells::cells::ELLIPSIS {
         if second == 0 {
-            bind_list(work, env, rest, list, first, rest);
+            bind_list(&work[0..], env, rest, list, first, rest);
             return;
         }
-        bind_list(work, env, rest, list, first, second);
+        bind_list(&work[0..], env, rest, list, first, second);
         return;
     }
     if tag != rule_cells::cells::PAIR {
         return;
     }
     let head = cells::reference(work, p, 3);
-    bind_list(work, env, rest, list, first, second);
-    bind_list(work, env, head, list, first, second);
+    bind_list(&work[0..], env, rest, list, first, second);
+    bind_list(&work[0..], env, head, list, first, second);
 }
 
 // The variables of a pattern, each with what it takes from the use.
@@ -76,15 +76,15 @@ pub fn bind(work: &[u32], env: &mut [u32; environment::WORDS], p: u32, u: u32)
     }
     let rest = cells::reference(work, p, 2);
     if tag == rule_cells::cells::ELLIPSIS {
-        bind_list(work, env, rest, u, rest, 0);
+        bind_list(&work[0..], env, rest, u, rest, 0);
         return;
     }
     if tag != rule_cells::cells::PAIR {
         return;
     }
     let tail = lists::rest(work, u);
-    bind(work, env, rest, tail);
+    bind(&work[0..], env, rest, tail);
     let head = cells::reference(work, p, 3);
     let first = lists::first(work, u);
-    bind(work, env, head, first);
+    bind(&work[0..], env, head, first);
 }

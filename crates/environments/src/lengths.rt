@@ -47,14 +47,14 @@ pub fn driver(work: &[u32], env: &[u32; environment::WORDS], j: u32, t: u32) -> 
     }
     let head = cells::reference(work, t, 3);
     let i = deeper(tag, j);
-    match driver(work, env, i, head) {
+    match driver(&work[0..], env, i, head) {
         Driving::Length(c) => {
             return Driving::Length(c);
         }
         Driving::None => {}
     }
     let rest = cells::reference(work, t, 2);
-    driver(work, env, j, rest)
+    driver(&work[0..], env, j, rest)
 }
 
 // How many copies an element gets: as many as its first driving list has elements. A variable is driven by its own list.
@@ -70,7 +70,7 @@ pub fn copies(work: &[u32], env: &[u32; environment::WORDS], e: u32) -> u32
         let list = environment::taken(env, k, d - 1);
         return lists::count(work, list);
     }
-    match driver(work, env, 0, e) {
+    match driver(&work[0..], env, 0, e) {
         Driving::Length(c) => c,
         Driving::None => 0,
     }
@@ -99,11 +99,11 @@ pub fn all_of(work: &[u32], env: &[u32; environment::WORDS], j: u32, t: u32, c: 
     }
     let head = cells::reference(work, t, 3);
     let i = deeper(tag, j);
-    if !all_of(work, env, i, head, c) {
+    if !all_of(&work[0..], env, i, head, c) {
         return false;
     }
     let rest = cells::reference(work, t, 2);
-    all_of(work, env, j, rest, c)
+    all_of(&work[0..], env, j, rest, c)
 }
 
 // Whether all the lists that drive an element have as many elements as the first, c. A variable has no second.
@@ -114,5 +114,5 @@ pub fn one_length(work: &[u32], env: &[u32; environment::WORDS], e: u32, c: u32)
     if cells::word(work, e, cells::TAG) == rule_cells::cells::VARIABLE {
         return true;
     }
-    all_of(work, env, 0, e, c)
+    all_of(&work[0..], env, 0, e, c)
 }

@@ -137,7 +137,12 @@ fn binding_by(work: &[u32], number: u32, own: u32, at: u32) -> u32
     if cells::word(work, at, cells::TAG) != cells::BINDER {
         return UNKNOWN;
     }
-    let mark = only_mark(work, number, own, cells::reference(work, at, cells::INNER));
+    let mark = only_mark(
+        &work[0..],
+        number,
+        own,
+        cells::reference(work, at, cells::INNER),
+    );
     if marks::STEP_LIMIT <= mark {
         return UNKNOWN;
     }

@@ -14,7 +14,7 @@ use Rattle.environments.proofs.lengths.+all_of.{statement}
 use Rattle.environments.proofs.lengths.+all_of.Tie.{close}
 use borrow.Author.Tests.{not-true, not-false}
 use Rattle.environments.specs.PartLaws.{tag-falls}
-use Rattle.environments.specs.LengthLaws.{deeper-most, all-none, all-few, all-one, all-no, all-rest}
+use Rattle.environments.specs.LengthLaws.{deeper-most, all-none, all-few, all-one, all-no, all-rest, whole-all}
 use Rattle.arena.specs.Arena.{referenceAt}
 use native.Mathlib.Omega.{arith}
 use borrow.Author.Needs.{needs}
@@ -34,36 +34,29 @@ abbrev all-of-claims : ℕ → all-of-lts.Claims
 all-of-claims t = (word-reads.Asked, word-reads.Learnt, taken-reads.Asked, taken-reads.Learnt, count-reads.Asked, count-reads.Learnt, reference-reads.Asked, reference-reads.Learnt, deeper-reads.Asked, deeper-reads.Learnt, all-of-below t, all-of.Post)
 
 all-of-word-requires : (t : ℕ) → all-of-lts.Need-word-requires (all-of-claims t) (all-of-at t) all-of.Post
-all-of-word-requires t c κs =
-    search needs
+all-of-word-requires t c κs = search needs
 
 all-of-word-requires-2 : (t : ℕ) → all-of-lts.Need-word-requires-2 (all-of-claims t) (all-of-at t) all-of.Post
-all-of-word-requires-2 t c κs =
-    search needs
+all-of-word-requires-2 t c κs = search needs
 
 all-of-returns : (t : ℕ) → all-of-lts.Need-returns (all-of-claims t) (all-of-at t) all-of.Post
 all-of-returns t c =
     let a = c .before .before .before .before .before .args in all-few (a .work .now) (a .env .now) (a .t) _ (c .before .before .before .word .ensures) (a .j) (a .c) _ (c .before .before .if1 .taken) (c .before .word2 .ensures) (c .if2 .taken)
 
 all-of-word-requires-3 : (t : ℕ) → all-of-lts.Need-word-requires-3 (all-of-claims t) (all-of-at t) all-of.Post
-all-of-word-requires-3 t c κs =
-    search needs
+all-of-word-requires-3 t c κs = search needs
 
 all-of-sub-taken : (t : ℕ) → all-of-lts.Need-sub-taken (all-of-claims t) (all-of-at t) all-of.Post
-all-of-sub-taken t c =
-    search needs
+all-of-sub-taken t c = search needs
 
 all-of-sub-taken-2 : (t : ℕ) → all-of-lts.Need-sub-taken-2 (all-of-claims t) (all-of-at t) all-of.Post
-all-of-sub-taken-2 t c =
-    search needs
+all-of-sub-taken-2 t c = search needs
 
 all-of-taken-requires : (t : ℕ) → all-of-lts.Need-taken-requires (all-of-claims t) (all-of-at t) all-of.Post
-all-of-taken-requires t c κs =
-    search needs
+all-of-taken-requires t c κs = search needs
 
 all-of-count-requires : (t : ℕ) → all-of-lts.Need-count-requires (all-of-claims t) (all-of-at t) all-of.Post
-all-of-count-requires t c κs =
-    search needs
+all-of-count-requires t c κs = search needs
 
 all-of-returns-2 : (t : ℕ) → all-of-lts.Need-returns-2 (all-of-claims t) (all-of-at t) all-of.Post
 all-of-returns-2 t c =
@@ -78,35 +71,65 @@ all-of-returns-4 t c =
     let a = c .before .before .before .before .before .args in all-none (a .work .now) (a .env .now) (a .t) _ (c .before .before .before .word .ensures) (a .j) (a .c) (c .before .before .if1 .left) (λ z. omega arith) (λ z. omega arith)
 
 all-of-reference-requires : (t : ℕ) → all-of-lts.Need-reference-requires (all-of-claims t) (all-of-at t) all-of.Post
-all-of-reference-requires t c κs =
-    search needs
+all-of-reference-requires t c κs = search needs
 
 all-of-deeper-requires : (t : ℕ) → all-of-lts.Need-deeper-requires (all-of-claims t) (all-of-at t) all-of.Post
 all-of-deeper-requires t c κs =
     let a = c .before .before .before .before .before .before .args in let l = tag-falls (a .work .now) (a .t) _ (c .before .before .before .before .word .ensures) 3 _ (λ z. omega arith) (c .reference .ensures) in omega (arith, l, c .before .before .before .before .before .before .pre .1)
 
+all-of-sub-all-of : (t : ℕ) → all-of-lts.Need-sub-all-of (all-of-claims t) (all-of-at t) all-of.Post
+all-of-sub-all-of t c = search needs
+
+all-of-part-all-of-start : (t : ℕ) → all-of-lts.Need-part-all-of-start (all-of-claims t) (all-of-at t) all-of.Post
+all-of-part-all-of-start t c = search needs
+
+all-of-part-all-of-end : (t : ℕ) → all-of-lts.Need-part-all-of-end (all-of-claims t) (all-of-at t) all-of.Post
+all-of-part-all-of-end t c = search needs
+
 all-of-all-of-requires : (t : ℕ) → all-of-lts.Need-all-of-requires (all-of-claims t) (all-of-at t) all-of.Post
 all-of-all-of-requires t c κs =
-    let a = c .before .before .before .before .before .before .before .args in let l = tag-falls (a .work .now) (a .t) _ (c .before .before .before .before .before .word .ensures) 3 _ (λ z. omega arith) (c .before .reference .ensures) in (omega (arith, l, c .before .before .before .before .before .before .before .pre .0), omega (arith, l, c .before .before .before .before .before .before .before .pre .1, c .deeper .ensures, deeper-most (c .before .before .before .before .before .word .result) (a .j)))
+    let a = c .before .before .before .before .before .before .before .before .args in let l = tag-falls (a .work .now) (a .t) _ (c .before .before .before .before .before .before .word .ensures) 3 _ (λ z. omega arith) (c .before .before .reference .ensures) in (omega (arith, l, c .before .before .before .before .before .before .before .before .pre .0), omega (arith, l, c .before .before .before .before .before .before .before .before .pre .1, c .before .deeper .ensures, deeper-most (c .before .before .before .before .before .before .word .result) (a .j)))
 
 all-of-returns-5 : (t : ℕ) → all-of-lts.Need-returns-5 (all-of-claims t) (all-of-at t) all-of.Post
 all-of-returns-5 t c =
-    let a = c .before .before .before .before .before .before .before .before .before .args in all-no (a .work .now) (a .env .now) (a .t) _ (c .before .before .before .before .before .before .before .word .ensures) (a .j) _ _ (referenceAt (a .work .now) (a .t) 2) (omega arith) (omega arith) (c .before .before .deeper .ensures) (c .before .before .before .reference .ensures) refl (a .c) _ (c .before .all-of .ensures) (not-true _ (c .if5 .taken))
+    let a = c .before .before .before .before .before .before .before .before .before .before .args in all-no (a .work .now) (a .env .now) (a .t) _ (c .before .before .before .before .before .before .before .before .word .ensures) (a .j) _ _ (referenceAt (a .work .now) (a .t) 2) (omega arith) (omega arith) (c .before .before .before .deeper .ensures) (c .before .before .before .before .reference .ensures) refl (a .c) _ (whole-all (a .work .now) _ _ _ _ _ (c .before .all-of .ensures)) (not-true _ (c .if5 .taken))
 
 all-of-reference-requires-2 : (t : ℕ) → all-of-lts.Need-reference-requires-2 (all-of-claims t) (all-of-at t) all-of.Post
-all-of-reference-requires-2 t c κs =
-    search needs
+all-of-reference-requires-2 t c κs = search needs
+
+all-of-sub-all-of-2 : (t : ℕ) → all-of-lts.Need-sub-all-of-2 (all-of-claims t) (all-of-at t) all-of.Post
+all-of-sub-all-of-2 t c = search needs
+
+all-of-part-all-of-start-2 : (t : ℕ) → all-of-lts.Need-part-all-of-start-2 (all-of-claims t) (all-of-at t) all-of.Post
+all-of-part-all-of-start-2 t c = search needs
+
+all-of-part-all-of-end-2 : (t : ℕ) → all-of-lts.Need-part-all-of-end-2 (all-of-claims t) (all-of-at t) all-of.Post
+all-of-part-all-of-end-2 t c = search needs
 
 all-of-all-of-requires-2 : (t : ℕ) → all-of-lts.Need-all-of-requires-2 (all-of-claims t) (all-of-at t) all-of.Post
 all-of-all-of-requires-2 t c κs =
-    let a = c .before .before .before .before .before .before .before .before .before .before .args in let l = tag-falls (a .work .now) (a .t) _ (c .before .before .before .before .before .before .before .before .word .ensures) 2 _ (λ z. omega arith) (c .reference2 .ensures) in (omega (arith, l, c .before .before .before .before .before .before .before .before .before .before .pre .0), omega (arith, l, c .before .before .before .before .before .before .before .before .before .before .pre .1))
+    let a = c .before .before .before .before .before .before .before .before .before .before .before .before .args in let l = tag-falls (a .work .now) (a .t) _ (c .before .before .before .before .before .before .before .before .before .before .word .ensures) 2 _ (λ z. omega arith) (c .before .reference2 .ensures) in (omega (arith, l, c .before .before .before .before .before .before .before .before .before .before .before .before .pre .0), omega (arith, l, c .before .before .before .before .before .before .before .before .before .before .before .before .pre .1))
 
 all-of-returns-6 : (t : ℕ) → all-of-lts.Need-returns-6 (all-of-claims t) (all-of-at t) all-of.Post
 all-of-returns-6 t c =
-    let a = c .before .before .before .before .before .before .before .before .before .before .before .args in all-rest (a .work .now) (a .env .now) (a .t) _ (c .before .before .before .before .before .before .before .before .before .word .ensures) (a .j) _ _ _ (omega arith) (omega arith) (c .before .before .before .before .deeper .ensures) (c .before .before .before .before .before .reference .ensures) (c .before .reference2 .ensures) (a .c) _ _ (c .before .before .before .all-of .ensures) (not-false _ (c .before .before .if5 .left)) (c .all-of2 .ensures)
+    let a = c .before .before .before .before .before .before .before .before .before .before .before .before .before .args in all-rest (a .work .now) (a .env .now) (a .t) _ (c .before .before .before .before .before .before .before .before .before .before .before .word .ensures) (a .j) _ _ _ (omega arith) (omega arith) (c .before .before .before .before .before .before .deeper .ensures) (c .before .before .before .before .before .before .before .reference .ensures) (c .before .before .reference2 .ensures) (a .c) _ _ (whole-all (a .work .now) _ _ _ _ _ (c .before .before .before .before .all-of .ensures)) (not-false _ (c .before .before .before .if5 .left)) (whole-all (a .work .now) _ _ _ _ _ (c .all-of2 .ensures))
 
 pub +all-of-spec : {M : Type 1} → statement M
-+all-of-spec = close μ-all-of λ t. all-of-lts.spec (all-of-claims t) (all-of-at t)
++all-of-spec = close μ-all-of λ t. all-of-lts.spec (
+  word-reads.Asked,
+  word-reads.Learnt,
+  taken-reads.Asked,
+  taken-reads.Learnt,
+  count-reads.Asked,
+  count-reads.Learnt,
+  reference-reads.Asked,
+  reference-reads.Learnt,
+  deeper-reads.Asked,
+  deeper-reads.Learnt,
+  all-of-below t,
+  all-of.Post,
+)
+    (all-of-at t)
     all-of.Post
     (all-of-word-requires t)
     (all-of-word-requires-2 t)
@@ -121,8 +144,14 @@ pub +all-of-spec : {M : Type 1} → statement M
     (all-of-returns-4 t)
     (all-of-reference-requires t)
     (all-of-deeper-requires t)
+    (all-of-sub-all-of t)
+    (all-of-part-all-of-start t)
+    (all-of-part-all-of-end t)
     (all-of-all-of-requires t)
     (all-of-returns-5 t)
     (all-of-reference-requires-2 t)
+    (all-of-sub-all-of-2 t)
+    (all-of-part-all-of-start-2 t)
+    (all-of-part-all-of-end-2 t)
     (all-of-all-of-requires-2 t)
     (all-of-returns-6 t)

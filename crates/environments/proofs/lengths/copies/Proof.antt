@@ -2,35 +2,29 @@
 use borrow.Author.Needs.{needs}
 use Rattle.environments.proofs.lengths.copies.Statement.{statement}
 use Rattle.environments.proofs.lengths.copies.Tie as tie
-use Rattle.environments.specs.LengthLaws.{copies-some, copies-none, copies-unlisted, copies-own}
+use Rattle.environments.specs.LengthLaws.{copies-some, copies-none, copies-unlisted, copies-own, whole-drives}
 
 word-requires : tie.Need-word-requires
-word-requires c κs =
-    search needs
+word-requires c κs = search needs
 
 word-requires-2 : tie.Need-word-requires-2
-word-requires-2 c κs =
-    search needs
+word-requires-2 c κs = search needs
 
 returns : tie.Need-returns
 returns c =
     let a = c .before .before .before .before .before .args in copies-unlisted (a .work .now) (a .env .now) (a .e) _ (c .before .before .before .word .ensures) (c .before .before .if1 .taken) _ (c .before .word2 .ensures) (c .if2 .taken)
 
 word-requires-3 : tie.Need-word-requires-3
-word-requires-3 c κs =
-    search needs
+word-requires-3 c κs = search needs
 
 sub-taken : tie.Need-sub-taken
-sub-taken c =
-    search needs
+sub-taken c = search needs
 
 taken-requires : tie.Need-taken-requires
-taken-requires c κs =
-    search needs
+taken-requires c κs = search needs
 
 count-requires : tie.Need-count-requires
-count-requires c κs =
-    search needs
+count-requires c κs = search needs
 
 returns-2 : tie.Need-returns-2
 returns-2 c =
@@ -40,25 +34,31 @@ returns-2 c =
     let depth = c .before .before .before .before .word2 in
     copies-own (a .work .now) (a .env .now) (a .e) _ (tag .ensures) (if1 .taken) _ _ _ _ (depth .ensures) (c .before .before .word3 .ensures) (c .before .before .before .if2 .left) (c .before .taken .ensures) (c .count .ensures)
 
+sub-driver : tie.Need-sub-driver
+sub-driver c = search needs
+
+part-driver-start : tie.Need-part-driver-start
+part-driver-start c = search needs
+
+part-driver-end : tie.Need-part-driver-end
+part-driver-end c = search needs
+
 driver-requires : tie.Need-driver-requires
-driver-requires c κs =
-    search needs
+driver-requires c κs = search needs
 
 enum-known-c : tie.Need-enum-known-c
-enum-known-c c =
-    search needs
+enum-known-c c = search needs
 
 enum-told : tie.Need-enum-told
-enum-told c =
-    search needs
+enum-told c = search needs
 
 returns-3 : tie.Need-returns-3
 returns-3 c =
-    let a = c .before .before .before .before .before .before .before .args in copies-some (a .work .now) (a .env .now) (a .e) _ _ (c .before .c .given .1) (c .before .before .before .driver .ensures)
+    let a = c .before .before .before .before .before .before .before .before .args in copies-some (a .work .now) (a .env .now) (a .e) _ _ (c .before .c .given .1) (whole-drives (a .work .now) _ _ _ _ (c .before .before .before .driver .ensures))
 
 returns-4 : tie.Need-returns-4
 returns-4 c =
-    let a = c .before .before .before .before .before .before .args in copies-none (a .work .now) (a .env .now) (a .e) _ (c .enum-told .given .1) (c .before .before .driver .ensures)
+    let a = c .before .before .before .before .before .before .before .args in copies-none (a .work .now) (a .env .now) (a .e) _ (c .enum-told .given .1) (whole-drives (a .work .now) _ _ _ _ (c .before .before .driver .ensures))
 
 pub copies-spec : {M : Type 1} → statement M
 copies-spec =
@@ -72,6 +72,9 @@ copies-spec =
     taken-requires
     count-requires
     returns-2
+    sub-driver
+    part-driver-start
+    part-driver-end
     driver-requires
     enum-known-c
     enum-told

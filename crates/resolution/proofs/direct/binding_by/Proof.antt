@@ -2,38 +2,48 @@
 use borrow.Author.Needs.{needs}
 use Rattle.resolution.proofs.direct.binding_by.Statement.{statement}
 use Rattle.resolution.proofs.direct.binding_by.Tie as tie
+use mathlib.Core.Path.{subst}
+use mathlib.Core.List.{List}
+use Prim.Native.Nat.{ℕ}
+use Rattle.words.specs.ListLaws.{rest-is}
+use Rattle.resolution.specs.Direct.{OnlyMark}
 use Rattle.resolution.specs.DirectLaws.{finds-nothing, finds-binder}
 
 word-requires : tie.Need-word-requires
-word-requires c κs =
-    search needs
+word-requires c κs = search needs
 
 returns : tie.Need-returns
 returns c =
     let a = c .before .before .before .args in
     finds-nothing (a .work .now) (a .number) (a .own) (a .at)
 
+sub-only-mark : tie.Need-sub-only-mark
+sub-only-mark c = search needs
+
+part-only-mark-start : tie.Need-part-only-mark-start
+part-only-mark-start c = search needs
+
+part-only-mark-end : tie.Need-part-only-mark-end
+part-only-mark-end c = search needs
+
 reference-requires : tie.Need-reference-requires
-reference-requires c κs =
-    search needs
+reference-requires c κs = search needs
 
 only-mark-requires : tie.Need-only-mark-requires
-only-mark-requires c κs =
-    search needs
+only-mark-requires c κs = search needs
 
 returns-2 : tie.Need-returns-2
 returns-2 c =
-    let a = c .before .before .before .before .before .before .args in
+    let a = c .before .before .before .before .before .before .before .args in
     finds-nothing (a .work .now) (a .number) (a .own) (a .at)
 
 given-key-requires : tie.Need-given-key-requires
-given-key-requires c κs =
-    search needs
+given-key-requires c κs = search needs
 
 returns-3 : tie.Need-returns-3
 returns-3 c =
-    let a = c .before .before .before .before .before .before .before .args in
-    finds-binder (a .work .now) (a .number) (a .own) (a .at) _ _ _ _ (c .before .before .before .before .before .word .ensures) (c .before .before .before .before .if1 .left) (c .before .before .before .reference .ensures) (c .before .before .only-mark .ensures) (c .before .if2 .left) (c .given-key .ensures)
+    let a = c .before .before .before .before .before .before .before .before .args in
+    finds-binder (a .work .now) (a .number) (a .own) (a .at) _ _ _ _ (c .before .before .before .before .before .before .word .ensures) (c .before .before .before .before .before .if1 .left) (c .before .before .before .reference .ensures) (subst (λ (s : List ℕ). OnlyMark s (a .number) (a .own) (c .before .before .before .reference .result) (c .before .before .only-mark .result)) (rest-is 0 (a .work .now)) (c .before .before .only-mark .ensures)) (c .before .if2 .left) (c .given-key .ensures)
 
 pub binding-by-spec : {M : Type 1} → statement M
 binding-by-spec =
@@ -41,6 +51,9 @@ binding-by-spec =
     (tie.spec
     word-requires
     returns
+    sub-only-mark
+    part-only-mark-start
+    part-only-mark-end
     reference-requires
     only-mark-requires
     returns-2
