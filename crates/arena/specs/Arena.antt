@@ -8,7 +8,7 @@ use mathlib.Core.Option.{Option, none, some}
 use Prim.Native.Nat.{ℕ, zero, suc, _+_, _*_, _-_, _/_, _%_}
 use lib.Dec.{eqb, ltb}
 use lib.ListN.{length, getD}
-use Rattle.words.specs.Lists.{equal}
+use Rattle.words.specs.Lists.{within, equal}
 use Rattle.datum.specs.Constant.{Constant}
 use Rattle.recipe.specs.Name.{Binding, variable, macro, Name, plainName, bindingKey, markName}
 use Rattle.recipe.specs.Tree.{Tree, empty, constant, name, pair}
@@ -16,9 +16,12 @@ use Rattle.recipe.specs.Table.{byKind}
 
 -- ---- cells
 
--- word k of the cell that ends at `at`, counted back from its end
+-- word k of the cell that ends at `at`, counted back from its end; a cell's last three words are there together, or none of them is
 unfoldable pub wordAt : List ℕ → ℕ → ℕ → ℕ
-wordAt work at k = cond (ltb at k) 0 (getD work (at - k) 0)
+wordAt work at k =
+    cond (within 1 3 k)
+    (cond (within 3 (length work) at) (getD work (at - k) 0) 0)
+    (cond (ltb at k) 0 (getD work (at - k) 0))
 
 -- a cell refers to cells below it
 unfoldable pub falling : ℕ → ℕ → ℕ

@@ -1,49 +1,59 @@
 -- Laws of the arena: what a cell means depends on the words below its reference alone; what each kind of wrap and node means;
 -- and that waiting on a tree is carrying through it.
 use mathlib.Core.Path.{_≡_, refl, sym, ap, ap₂, _∙_}
-use mathlib.Core.Bool.{Bool, true, false, _&&_, _||_}
+use mathlib.Core.Bool.{Bool, true, false, _&&_, _||_, or-true}
 use mathlib.Core.List.{List, [], _∷_}
 use mathlib.Core.Option.{Option, none, some}
 use Prim.Native.Nat.{ℕ, zero, suc, _*_, _-_, _/_, _%_, _≤_, _<_}
 use native.Mathlib.Omega.{arith}
 use lib.Dec.{eqb, ltb}
-use lib.ListN.{length, getD, take}
+use lib.ListN.{length, getD, take, length-take}
 use lib.Seq.{getD-take, take-take}
-use borrow.Author.Tests.{lt-ltb, le-ltb, eq-eqb, ne-eqb, ltb-true, ltb-false, eqb-true, eqb-false}
-use Rattle.words.specs.Lists.{equal}
+use borrow.Author.Tests.{lt-ltb, le-ltb, eq-eqb, ne-eqb, ltb-true, eqb-true, eqb-false}
+use Rattle.words.specs.Lists.{within, equal}
+use Rattle.words.specs.TestLaws.{iff-eq, within-is, within-parts}
+use Rattle.words.specs.ListLaws.{either, equal-true}
 use Rattle.recipe.specs.Name.{Binding, variable, macro, Name, plainName, bindingKey, markName, bindName, giveBinding, same, toggle}
 use Rattle.arena.specs.Arena.{wordAt, falling, referenceAt, bindingOf, giveKey, stepLimit, marked, newest, byTag, markOn, joinOn, ownMarks, sameMarks, isOwn, rebound, binderOn, wrapStep, wrapFrom, wrapAt}
 
--- ---- tests
-
-pub cases : {A : Type 0} (b : Bool) → (b ≡ true → A) → (b ≡ false → A) → A
-cases true f g = f refl
-cases false f g = g refl
-
 -- ---- words and references
 
-pub wordAt-out : (work : List ℕ) (at k : ℕ) → at < k → wordAt work at k ≡ 0
+pub wordAt-in : (work : List ℕ) (at k : ℕ) → 3 ≤ at → k ≤ at → at ≤ length work → wordAt work at k ≡ getD work (at - k) 0
 unfolding wordAt
-wordAt-out work at k h = rw (lt-ltb at k h)
+wordAt-in work at k t h l = either (within 1 3 k) (λ e. rw (e, within-is 3 (length work) at t l)) (λ e. rw (e, le-ltb at k h))
 
-pub wordAt-in : (work : List ℕ) (at k : ℕ) → k ≤ at → wordAt work at k ≡ getD work (at - k) 0
+-- the last three words of no cell
+pub wordAt-past : (work : List ℕ) (at k : ℕ) → within 1 3 k ≡ true → within 3 (length work) at ≡ false → wordAt work at k ≡ 0
 unfolding wordAt
-wordAt-in work at k h = rw (le-ltb at k h)
+wordAt-past work at k e f = rw (e, f)
+
+pub wordAt-none : (work : List ℕ) (k : ℕ) → 0 < k → wordAt work 0 k ≡ 0
+unfolding wordAt within
+wordAt-none work k h = either (within 1 3 k) (λ e. rw e) (λ e. rw (e, lt-ltb 0 k h))
+
+-- tables that are the same below a place reach it both or neither
+reach-below : (a b : List ℕ) (least n : ℕ) → take n a ≡ take n b → within least (length a) n ≡ within least (length b) n
+reach-below a b least n e = iff-eq _ _ (reaches a b e) (reaches b a (sym e))
+  where
+    reaches : (x y : List ℕ) → take n x ≡ take n y → within least (length x) n ≡ true → within least (length y) n ≡ true
+    reaches x y f t =
+        let p = within-parts least (length x) n t in
+        within-is least (length y) n (p .0) (omega (arith, p .1, length-take n x, length-take n y, ap length f))
 
 -- the words below a place are the same in both tables
 pub wordAt-below : (a b : List ℕ) (at k : ℕ) → 0 < k → take at a ≡ take at b → wordAt a at k ≡ wordAt b at k
-wordAt-below a b at k p e =
-    cases (ltb at k)
-    (λ t. let h : at < k = ltb-true at k t in wordAt-out a at k h ∙ sym (wordAt-out b at k h))
-    (λ t.
-    let h : k ≤ at = ltb-false at k t in
+unfolding wordAt
+wordAt-below a b zero k p e = wordAt-none a k p ∙ sym (wordAt-none b k p)
+wordAt-below a b (suc n) k p e =
+    let at = suc n in
     let l : at - k < at = omega arith in
-    wordAt-in a at k h ∙ sym (getD-take at a (at - k) 0 l) ∙ ap (λ (s : List ℕ). getD s (at - k) 0) e ∙ getD-take at b (at - k) 0 l ∙ sym (wordAt-in b at k h))
+    let same : getD a (at - k) 0 ≡ getD b (at - k) 0 = sym (getD-take at a (at - k) 0 l) ∙ ap (λ (s : List ℕ). getD s (at - k) 0) e ∙ getD-take at b (at - k) 0 l in
+    rw (same, reach-below a b 3 at e)
 
 pub falling-falls : (at r : ℕ) → 0 < at → falling at r < at
 unfolding falling
 falling-falls at r h =
-    cases (ltb r at)
+    either (ltb r at)
     (λ t. rw t (ltb-true r at t))
     (λ t. rw t h)
 
@@ -57,7 +67,7 @@ referenceAt-falls work at k h = falling-falls at (wordAt work at k) h
 
 pub referenceAt-most : (work : List ℕ) (at k : ℕ) → referenceAt work at k ≤ at
 unfolding referenceAt falling
-referenceAt-most work at k = cases (ltb (wordAt work at k) at) (λ t. rw t (omega (arith, ltb-true (wordAt work at k) at t))) (λ t. rw t (omega arith))
+referenceAt-most work at k = either (ltb (wordAt work at k) at) (λ t. rw t (omega (arith, ltb-true (wordAt work at k) at t))) (λ t. rw t (omega arith))
 
 pub referenceAt-below : (a b : List ℕ) (at k : ℕ) → 0 < k → take at a ≡ take at b → referenceAt a at k ≡ referenceAt b at k
 unfolding referenceAt
@@ -71,9 +81,9 @@ take-less a b m n h e = sym (take-take m n a h) ∙ ap (take m) e ∙ take-take 
 byTag-cong : (t : ℕ) (f f′ g g′ h h′ : Name → Name) (x : Name) → f x ≡ f′ x → g x ≡ g′ x → h x ≡ h′ x → byTag t f g h (λ y. y) x ≡ byTag t f′ g′ h′ (λ y. y) x
 unfolding byTag
 byTag-cong t f f′ g g′ h h′ x p q r =
-    cases (eqb t 1)
+    either (eqb t 1)
     (λ a. rw a p)
-    (λ a. cases (eqb t 2) (λ b. rw (a, b) q) (λ b. cases (eqb t 3) (λ c. rw (a, b, c) r) (λ c. rw (a, b, c))))
+    (λ a. either (eqb t 2) (λ b. rw (a, b) q) (λ b. either (eqb t 3) (λ c. rw (a, b, c) r) (λ c. rw (a, b, c))))
 
 module _ (a b : List ℕ) (f g : ℕ → Name → Name) (w : ℕ) (some-word : 0 < w) (e : take w a ≡ take w b) (agree : (r : ℕ) → r < w → (x : Name) → f r x ≡ g r x) where
   inner-agree : (k : ℕ) → 0 < k → (x : Name) → f (referenceAt a w k) x ≡ g (referenceAt b w k) x
@@ -110,7 +120,7 @@ module _ (a b : List ℕ) (f g : ℕ → Name → Name) (w : ℕ) (some-word : 0
       (byTag-cong (wordAt b w 1) (markOn a f w) (markOn b g w) (joinOn a f w) (joinOn b g w) (binderOn a f w) (binderOn b g w) x (mark-agree x) (join-agree x) (binder-agree x))
 
 wrapFrom-none : (work : List ℕ) (gas : ℕ) (x : Name) → wrapFrom work gas 0 x ≡ x
-unfolding wrapFrom wrapStep byTag wordAt
+unfolding wrapFrom wrapStep byTag wordAt within
 wrapFrom-none work zero x = refl
 wrapFrom-none work (suc gas) x = refl
 
@@ -155,7 +165,7 @@ wrapAt-step work (suc w) x h =
 
 -- a cell with a word has words below its reference
 pub wordAt-some : (work : List ℕ) (at k : ℕ) → 0 < k → (wordAt work at k ≡ 0 → ⊥) → 0 < at
-wordAt-some work zero k p h = absurd (h (wordAt-out work 0 k p))
+wordAt-some work zero k p h = absurd (h (wordAt-none work k p))
 wordAt-some work (suc at) k p h = omega arith
 
 module _ (work : List ℕ) (w : ℕ) (some-word : 0 < w) where
@@ -180,10 +190,10 @@ module _ (work : List ℕ) (w : ℕ) (some-word : 0 < w) where
 pub bindingKey-of : (k : ℕ) → bindingKey (bindingOf k) ≡ k
 unfolding bindingKey bindingOf
 bindingKey-of k =
-    cases (eqb k 0)
+    either (eqb k 0)
     (λ a. rw a (sym (eqb-true k 0 a)))
     (λ a.
-    cases (eqb (k % 2) 1)
+    either (eqb (k % 2) 1)
     (λ b. rw (a, b) (omega (arith, eqb-true (k % 2) 1 b)))
     (λ b. rw (a, b) (let n : k ≡ 0 → ⊥ = eqb-false k 0 a in let m : k % 2 ≡ 1 → ⊥ = eqb-false (k % 2) 1 b in omega arith)))
 
@@ -203,23 +213,23 @@ bindingOf-key (some (macro n)) =
 
 pub rebound-marks : (work : List ℕ) (f : ℕ → Name → Name) (w : ℕ) (x : Name) → rebound work f w x .marks ≡ x .marks
 unfolding rebound giveKey
-rebound-marks work f w x = cases (isOwn work f w x) (λ t. rw t) (λ t. rw t)
+rebound-marks work f w x = either (isOwn work f w x) (λ t. rw t) (λ t. rw t)
 
 pub marked-marks : (m : ℕ) (x y : Name) → x .marks ≡ y .marks → marked m x .marks ≡ marked m y .marks
 unfolding marked markName
-marked-marks m x y e = cases (ltb m stepLimit) (λ t. rw t (ap (toggle m) e)) (λ t. rw t e)
+marked-marks m x y e = either (ltb m stepLimit) (λ t. rw t (ap (toggle m) e)) (λ t. rw t e)
 
 pub marked-number : (m : ℕ) (x : Name) → marked m x .number ≡ x .number
 unfolding marked markName
-marked-number m x = cases (ltb m stepLimit) (λ t. rw t) (λ t. rw t)
+marked-number m x = either (ltb m stepLimit) (λ t. rw t) (λ t. rw t)
 
 pub marked-binding : (m : ℕ) (x : Name) → marked m x .binding ≡ x .binding
 unfolding marked markName
-marked-binding m x = cases (ltb m stepLimit) (λ t. rw t) (λ t. rw t)
+marked-binding m x = either (ltb m stepLimit) (λ t. rw t) (λ t. rw t)
 
 pub rebound-number : (work : List ℕ) (f : ℕ → Name → Name) (w : ℕ) (x : Name) → rebound work f w x .number ≡ x .number
 unfolding rebound giveKey
-rebound-number work f w x = cases (isOwn work f w x) (λ t. rw t) (λ t. rw t)
+rebound-number work f w x = either (isOwn work f w x) (λ t. rw t) (λ t. rw t)
 
 -- what marking and binding keep of two names, every wrap keeps
 module _ (work : List ℕ) (R : Name → Name → Type 0) (by-mark : (m : ℕ) (x y : Name) → R x y → R (marked m x) (marked m y)) (by-binder : (f : ℕ → Name → Name) (w : ℕ) (x y : Name) → R x y → R (rebound work f w x) (rebound work f w y)) where
@@ -228,12 +238,12 @@ module _ (work : List ℕ) (R : Name → Name → Type 0) (by-mark : (m : ℕ) (
   wrapFrom-keeps zero w x y r = r
   wrapFrom-keeps (suc gas) w x y r =
       let once : (v : ℕ) → R (wrapFrom work gas v x) (wrapFrom work gas v y) = λ v. wrapFrom-keeps gas v x y r in
-      cases (eqb (wordAt work w 1) 1)
+      either (eqb (wordAt work w 1) 1)
       (λ a. rw a (by-mark (wordAt work w 3) _ _ (once (referenceAt work w 2))))
       (λ a.
-      cases (eqb (wordAt work w 1) 2)
+      either (eqb (wordAt work w 1) 2)
       (λ b. rw (a, b) (wrapFrom-keeps gas (referenceAt work w 3) _ _ (once (referenceAt work w 2))))
-      (λ b. cases (eqb (wordAt work w 1) 3) (λ c. rw (a, b, c) (by-binder (wrapFrom work gas) w _ _ (once (referenceAt work w 2)))) (λ c. rw (a, b, c) r)))
+      (λ b. either (eqb (wordAt work w 1) 3) (λ c. rw (a, b, c) (by-binder (wrapFrom work gas) w _ _ (once (referenceAt work w 2)))) (λ c. rw (a, b, c) r)))
 
   pub wrapAt-keeps : (w : ℕ) (x y : Name) → R x y → R (wrapAt work w x) (wrapAt work w y)
   unfolding wrapAt
@@ -254,20 +264,6 @@ wrapAt-number work w x =
 pub marked-is : (m : ℕ) (x : Name) → m < stepLimit → marked m x ≡ markName m x
 unfolding marked
 marked-is m x h = rw (lt-ltb m stepLimit h)
-
-pub equal-true : (a b : List ℕ) → equal a b ≡ true → a ≡ b
-unfolding equal
-equal-true [] [] e = refl
-equal-true [] (y ∷ ys) e = absurd (let z : _≡_ {A = ℕ} 0 1 = cc in omega arith)
-equal-true (x ∷ xs) [] e = absurd (let z : _≡_ {A = ℕ} 0 1 = cc in omega arith)
-equal-true (x ∷ xs) (y ∷ ys) e =
-    cases (eqb x y)
-    (λ t. ap₂ _∷_ (eqb-true x y t) (equal-true xs ys (rw t at e)))
-    (λ t. let d : false ≡ true = rw t at e in let z : _≡_ {A = ℕ} 0 1 = cc in absurd (omega arith))
-
-pub or-true : (a : Bool) → (a || true) ≡ true
-or-true true = refl
-or-true false = refl
 
 -- at most one mark is the newest
 few-equal : (a b : List ℕ) → ltb (length b) 2 ≡ true → eqb (length a) (length b) ≡ true → eqb (newest a) (newest b) ≡ true → equal a b ≡ true

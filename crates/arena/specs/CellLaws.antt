@@ -6,12 +6,11 @@ use native.Mathlib.Omega.{arith}
 use lib.Dec.{ltb}
 use lib.ListN.{length, getD, take, set, length-set}
 use lib.Seq.{getD-set-same, getD-set-other, take-set-le}
-use borrow.Author.Tests.{ltb-true, ltb-false}
 use Rattle.recipe.specs.Name.{Name, plainName, markName, bindName}
 use Rattle.recipe.specs.Tree.{empty, constant, name, pair, onNames, mark}
 use Rattle.recipe.specs.TreeLaws.{onNames-∘, onNames-cong}
 use Rattle.arena.specs.Arena.{wordAt, referenceAt, stepLimit, marked, ownMarks, wrapAt, nodeName, nameAt, constantAt, treeAt}
-use Rattle.arena.specs.ArenaLaws.{cases, wordAt-in, wordAt-out, wordAt-below, falling-is, take-less, wrapAt-below, wrapAt-mark, wrapAt-join, wrapAt-binder, marked-is, Own, rebound-is}
+use Rattle.arena.specs.ArenaLaws.{wordAt-in, wordAt-below, falling-is, take-less, wrapAt-below, wrapAt-mark, wrapAt-join, wrapAt-binder, marked-is, Own, rebound-is}
 use Rattle.arena.specs.NodeLaws.{treeAt-wrap, treeAt-below, treeAt-empty, treeAt-name, treeAt-pair, treeAt-constant}
 use Rattle.arena.specs.Cells.{itemName, Cell, Wrapped, Described, Bound, Grown}
 
@@ -36,15 +35,19 @@ module _ (t : List ℕ) (top a b c : ℕ) (fits : top + 3 ≤ length t) where
   stored-third : getD (stored t top a b c) (top + 2) 0 ≡ c
   stored-third = getD-set-same (set (set t top a) (top + 1) b) (top + 2) c 0 (simp length-set (omega arith))
 
+  stored-inside : top + 3 ≤ length (stored t top a b c)
+  stored-inside = simp length-set fits
+
   word-stored : (k i : ℕ) → k ≤ 3 → i + k ≡ top + 3 → wordAt (stored t top a b c) (top + 3) k ≡ getD (stored t top a b c) i 0
   word-stored k i h e =
       let d : top + 3 - k ≡ i = omega arith in
-      wordAt-in (stored t top a b c) (top + 3) k (omega arith) ∙ ap (λ (j : ℕ). getD (stored t top a b c) j 0) d
+      wordAt-in (stored t top a b c) (top + 3) k (omega arith) (omega arith) stored-inside ∙ ap (λ (j : ℕ). getD (stored t top a b c) j 0) d
 
   pub cell-stored : Cell a b c t (stored t top a b c) top (top + 3)
   cell-stored =
       record {
         end = refl;
+        inside = stored-inside;
         kept = stored-kept;
         first = word-stored 3 top (omega arith) (omega arith) ∙ stored-first;
         second = word-stored 2 (top + 1) (omega arith) (omega arith) ∙ stored-second;
@@ -88,19 +91,18 @@ module _ (old new : List ℕ) (top r : ℕ) where
             ∙ ap (wrapAt old outer) (wrap-kept old new top inner l (c .kept) x);
       }
 
--- the words of a cell that ends further up
-wordAt-up : (t : List ℕ) (at k j : ℕ) → 0 < k → wordAt t (at + j) (k + j) ≡ wordAt t at k
-wordAt-up t at k j p =
-    cases (ltb at k)
-    (λ e. wordAt-out t (at + j) (k + j) (omega (arith, ltb-true at k e)) ∙ sym (wordAt-out t at k (ltb-true at k e)))
-    (λ e.
-    let l : k ≤ at = ltb-false at k e in
-    let d : at + j - (k + j) ≡ at - k = omega arith in
-    wordAt-in t (at + j) (k + j) (omega arith) ∙ ap (λ (i : ℕ). getD t i 0) d ∙ sym (wordAt-in t at k l))
-
--- a word of a lower part of the cell
-word-lower : (old new : List ℕ) (at k j r v : ℕ) → 0 < k → r ≡ at + j → take at new ≡ take at old → wordAt old at k ≡ v → wordAt new r (k + j) ≡ v
-word-lower old new at k j r v p e f g = rw e (wordAt-up new at k j p ∙ wordAt-below new old at k p f ∙ g)
+-- the words of a lower part of a cell that ends further up
+lower-cell : (a b c : ℕ) (old part new : List ℕ) (top at j r : ℕ) → Cell a b c old part top at → r ≡ at + j → r ≤ length new → take at new ≡ take at part
+    → (wordAt new r (3 + j) ≡ a) × (wordAt new r (2 + j) ≡ b) × (wordAt new r (1 + j) ≡ c)
+lower-cell a b c old part new top at j r x e l f = (up 3 (omega arith) (omega arith) ∙ x .first, up 2 (omega arith) (omega arith) ∙ x .second, up 1 (omega arith) (omega arith) ∙ x .third)
+  where
+    up : (k : ℕ) → 0 < k → k ≤ 3 → wordAt new r (k + j) ≡ wordAt part at k
+    up k p h =
+        let d : r - (k + j) ≡ at - k = omega arith in
+        wordAt-in new r (k + j) (omega (arith, x .end)) (omega (arith, x .end)) l
+        ∙ ap (λ (i : ℕ). getD new i 0) d
+        ∙ sym (wordAt-in new at k (omega (arith, x .end)) (omega (arith, x .end)) (omega arith))
+        ∙ wordAt-below new part at k p f
 
 module _ (number binding count mark own pending key parent : ℕ) (old one two new : List ℕ) (top p q r : ℕ) (own-below : own ≤ top) (pending-below : pending ≤ top) (parent-below : parent ≤ top) (first : Cell own pending mark old one top p) (second : Cell count number binding one two p q) (third : Cell key parent 3 two new q r) where
   end-is : r ≡ top + 9
@@ -115,15 +117,17 @@ module _ (number binding count mark own pending key parent : ℕ) (old one two n
   own-described : (i : Name) → Described old i number binding count mark own pending → Own new r i
   unfolding ownMarks
   own-described i d =
+      let low = lower-cell own pending mark old one new top p 6 r first (omega (arith, second .end, third .end)) (third .inside) kept-one in
+      let high = lower-cell count number binding one two new p q 3 r second (third .end) (third .inside) (third .kept) in
       record {
-        number-is = word-lower two new q 2 3 r number (omega arith) (third .end) (third .kept) (second .second) ∙ d .number-is;
-        binding-is = word-lower two new q 1 3 r binding (omega arith) (third .end) (third .kept) (second .third) ∙ d .binding-is;
-        count-is = word-lower two new q 3 3 r count (omega arith) (third .end) (third .kept) (second .first) ∙ d .count-is;
-        newest-is = word-lower one new p 1 6 r mark (omega arith) (omega (arith, second .end, third .end)) kept-one (first .third) ∙ d .newest-is;
+        number-is = high .1 ∙ d .number-is;
+        binding-is = high .2 ∙ d .binding-is;
+        count-is = high .0 ∙ d .count-is;
+        newest-is = low .2 ∙ d .newest-is;
         marks-are =
             ap₂ (λ (a b : ℕ). wrapAt new a (wrapAt new b (plainName 0 0)) .marks)
-            (reference-is new r 8 pending (word-lower one new p 2 6 r pending (omega arith) (omega (arith, second .end, third .end)) kept-one (first .second)) (omega (arith, end-is)))
-            (reference-is new r 9 own (word-lower one new p 3 6 r own (omega arith) (omega (arith, second .end, third .end)) kept-one (first .first)) (omega (arith, end-is)))
+            (reference-is new r 8 pending (low .1) (omega (arith, end-is)))
+            (reference-is new r 9 own (low .0) (omega (arith, end-is)))
             ∙ ap (λ (x : Name). x .marks) (wrap-kept old new top pending pending-below kept-all _ ∙ ap (wrapAt old pending) (wrap-kept old new top own own-below kept-all _))
             ∙ d .marks-are;
       }

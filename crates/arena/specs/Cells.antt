@@ -17,6 +17,7 @@ pub record Room (work : List ℕ) (top n : ℕ) : Type 0 where
 -- three words at the top
 pub record Cell (a b c : ℕ) (old new : List ℕ) (top r : ℕ) : Type 0 where
   pub end : r ≡ top + 3
+  pub inside : r ≤ length new
   pub kept : take top new ≡ take top old
   pub first : wordAt new r 3 ≡ a
   pub second : wordAt new r 2 ≡ b

@@ -14,7 +14,8 @@ use Rattle.recipe.specs.Name.{plainName}
 use Rattle.recipe.specs.Tree.{Tree, empty, constant, name, pair}
 use Rattle.recipe.specs.Table.{Item, items, byKind, constantOf, isItem, isPairItem, kindAt, isLayout, trees, treeOf, itemCount}
 use Rattle.arena.specs.Arena.{wrapAt, treeAt, numberAt}
-use Rattle.arena.specs.ArenaLaws.{cases, wrapAt-none, take-less}
+use Rattle.words.specs.ListLaws.{either}
+use Rattle.arena.specs.ArenaLaws.{wrapAt-none, take-less}
 use Rattle.arena.specs.NodeLaws.{treeAt-below}
 use Rattle.arena.specs.Cells.{Room, itemName, Grown}
 
@@ -178,7 +179,7 @@ unfolding nodeOf
 laid-next ws old new j h l e t =
     record {
       means = λ i p q.
-          cases (eqb (i + j + 1) (itemCount ws))
+          either (eqb (i + j + 1) (itemCount ws))
           (λ c.
           let f : i + j + 1 ≡ itemCount ws = eqb-true _ _ c in
           let n : 3 * (itemCount ws - i) ≡ 3 * j + 3 = omega arith in

@@ -12,7 +12,8 @@ use Rattle.recipe.specs.Name.{Name, isOrdinary, isEllipsis, isWildcard}
 use Rattle.recipe.specs.Tree.{Tree, empty, constant, name, pair, onEmpty, onName, onPair, isName, isOrdinaryName, isList, isListOf, elements, element, tail}
 use Rattle.recipe.specs.TreeLaws.{element-tail}
 use Rattle.arena.specs.Arena.{wordAt, referenceAt, nameAt, constantAt, treeAt, numberOf}
-use Rattle.arena.specs.ArenaLaws.{cases, wordAt-some, wordAt-out, referenceAt-most, referenceAt-falls}
+use Rattle.words.specs.ListLaws.{either}
+use Rattle.arena.specs.ArenaLaws.{wordAt-some, wordAt-none, referenceAt-most, referenceAt-falls}
 use Rattle.arena.specs.NodeLaws.{treeAt-empty, treeAt-name, treeAt-pair, treeAt-constant, nameAt-number}
 use Rattle.arena.specs.Lists.{Means, Counts, Tests, TestsIn, Counted, Walked}
 
@@ -20,19 +21,19 @@ use Rattle.arena.specs.Lists.{Means, Counts, Tests, TestsIn, Counted, Wa
 
 -- node 0 is the empty list
 pub treeAt-none : (items work : List ℕ) (w : ℕ) → treeAt items work 0 w ≡ empty
-treeAt-none items work w = treeAt-empty items work 0 w (wordAt-out work 0 3 (omega arith))
+treeAt-none items work w = treeAt-empty items work 0 w (wordAt-none work 3 (omega arith))
 
 module _ (items work : List ℕ) (node w : ℕ) where
   pub tree-cases : (P : Tree → Type 0) → (wordAt work node 3 ≡ 0 → P empty) → (wordAt work node 3 ≡ 3 → P (name (nameAt items work node w))) → (wordAt work node 3 ≡ 4 → P (pair (treeAt items work (referenceAt work node 2) w) (treeAt items work (referenceAt work node 1) w))) → ((wordAt work node 3 ≡ 0 → ⊥) → (wordAt work node 3 ≡ 3 → ⊥) → (wordAt work node 3 ≡ 4 → ⊥) → P (constant (constantAt work node))) → P (treeAt items work node w)
   tree-cases P e n p c =
       let kind = wordAt work node 3 in
-      cases (eqb kind 0)
+      either (eqb kind 0)
       (λ t. subst P (sym (treeAt-empty items work node w (eqb-true kind 0 t))) (e (eqb-true kind 0 t)))
       (λ t.
-      cases (eqb kind 3)
+      either (eqb kind 3)
       (λ u. subst P (sym (treeAt-name items work node w (eqb-true kind 3 u))) (n (eqb-true kind 3 u)))
       (λ u.
-      cases (eqb kind 4)
+      either (eqb kind 4)
       (λ v. subst P (sym (treeAt-pair items work node w (eqb-true kind 4 v))) (p (eqb-true kind 4 v)))
       (λ v. subst P (sym (treeAt-constant items work node w (eqb-false kind 0 t) (eqb-false kind 3 u) (eqb-false kind 4 v))) (c (eqb-false kind 0 t) (eqb-false kind 3 u) (eqb-false kind 4 v)))))
 

@@ -7,11 +7,13 @@ use native.Mathlib.Omega.{arith}
 use lib.Dec.{eqb}
 use lib.ListN.{take}
 use borrow.Author.Tests.{ne-eqb}
+use Rattle.words.specs.Lists.{within}
 use Rattle.recipe.specs.Name.{Name}
 use Rattle.recipe.specs.Tree.{Tree, empty, constant, name, pair, onNames}
 use Rattle.recipe.specs.Table.{byKind}
 use Rattle.arena.specs.Arena.{wordAt, referenceAt, wrapAt, numberOf, nodeName, nameAt, constantAt, treeStep, treeFrom, treeAt}
-use Rattle.arena.specs.ArenaLaws.{cases, wordAt-below, referenceAt-below, referenceAt-falls, take-less, wrapAt-below, wrapAt-none, wrapAt-number}
+use Rattle.words.specs.ListLaws.{either}
+use Rattle.arena.specs.ArenaLaws.{wordAt-below, referenceAt-below, referenceAt-falls, take-less, wrapAt-below, wrapAt-none, wrapAt-number}
 
 -- a name's number is its node's, whatever waits on it
 pub nameAt-number : (items work : List ℕ) (node w : ℕ) → nameAt items work node w .number ≡ numberOf items work node
@@ -48,7 +50,7 @@ module _ (items a b : List ℕ) (node w : ℕ) (some-word : 0 < node) (e : take 
       (byKind-cong (wordAt b node 3) _ _ _ _ _ _ (ap name nameAt-agree) (ap₂ pair (child 2 (omega arith)) (child 1 (omega arith))) (ap constant constantAt-agree))
 
 treeFrom-none : (items work : List ℕ) (gas w : ℕ) → treeFrom items work gas 0 w ≡ empty
-unfolding treeFrom treeStep byKind wordAt
+unfolding treeFrom treeStep byKind wordAt within
 treeFrom-none items work zero w = refl
 treeFrom-none items work (suc gas) w = refl
 
@@ -79,7 +81,7 @@ treeAt-below items a b node w e d = treeFrom-agree items a b w d node node node 
 -- ---- what each node means
 
 treeAt-step : (items work : List ℕ) (node w : ℕ) → treeAt items work node w ≡ treeStep items work (treeAt items work) node w
-unfolding treeAt treeFrom treeStep byKind wordAt
+unfolding treeAt treeFrom treeStep byKind wordAt within
 treeAt-step items work zero w = refl
 treeAt-step items work (suc node) w =
     treeStep-agree items work work (suc node) w (omega arith) refl refl (treeFrom items work node) (treeAt items work)
@@ -112,7 +114,7 @@ nameAt-wrap items work node w = ap (wrapAt work w) (sym (wrapAt-none work _))
 onNames-byKind : (f : Name → Name) (k : ℕ) (n p c : Tree) → onNames f (byKind k empty n p c) ≡ byKind k empty (onNames f n) (onNames f p) (onNames f c)
 unfolding byKind onNames
 onNames-byKind f k n p c =
-    cases (eqb k 0) (λ t. rw t refl) (λ t. cases (eqb k 3) (λ u. rw (t, u) refl) (λ u. cases (eqb k 4) (λ v. rw (t, u, v) refl) (λ v. rw (t, u, v) refl)))
+    either (eqb k 0) (λ t. rw t refl) (λ t. either (eqb k 3) (λ u. rw (t, u) refl) (λ u. either (eqb k 4) (λ v. rw (t, u, v) refl) (λ v. rw (t, u, v) refl)))
 
 treeFrom-wrap : (items work : List ℕ) (gas node w : ℕ) → treeFrom items work gas node w ≡ onNames (wrapAt work w) (treeFrom items work gas node 0)
 unfolding treeFrom treeStep onNames

@@ -2,9 +2,11 @@
 // A cell is referred to by its end. Nothing else knows where its words stand.
 
 ghost use mathlib.Core.Path.{_≡_};
-ghost use Prim.Native.Nat.{_+_, _≤_, _<_};
+ghost use mathlib.Core.Bool.{true, false};
+ghost use Prim.Native.Nat.{_+_, _-_, _≤_, _<_};
 ghost use lib.Dec.{ltb};
 ghost use lib.ListN.{length};
+ghost use Rattle.words.specs.Lists.{within};
 ghost use Rattle.recipe.specs.Name.{markName};
 ghost use Rattle.recipe.specs.Tree.{empty, constant, name, pair};
 ghost use Rattle.arena.specs.Arena.{wordAt, referenceAt, stepLimit, wrapAt, treeAt};
@@ -65,9 +67,17 @@ pub const BOUND_PENDING: u32 = 8;
 
 pub const BOUND_OWN: u32 = 9;
 
-// Word k of the cell that ends at `at`, counted back from its end. Counted back past the table's start, it wraps to an index that no
-// table has, so that one test is enough.
-pub fn word(work: &[u32], at: u32, k: u32) -> u32
+// Whether word k is one of the last three.
+fn is_last(k: u32) -> bool
+    ensures { λ r. ⌜ r ≡ within 1 3 k ⌝ }
+{
+    1 <= k && k <= 3
+}
+
+// A word before the last three. Counted back past the table's start, it wraps to an index that no table has, so that one test is
+// enough.
+fn further_word(work: &[u32], at: u32, k: u32) -> u32
+    requires { ⌜ within 1 3 k ≡ false ⌝ }
     ensures { λ r. ⌜ r ≡ wordAt (now (work .entry)) at k ⌝ }
 {
     let i = num::wrapping_sub_usize(at as usize, k as usize);
@@ -75,6 +85,39 @@ pub fn word(work: &[u32], at: u32, k: u32) -> u32
         return work[i];
     }
     0
+}
+
+// How many places there are for three words.
+fn places(work: &[u32]) -> usize
+    ensures { λ r. ⌜ r ≡ length (now (work .entry)) - 2 ⌝ }
+{
+    let end = work.len();
+    if end < 2 {
+        return 0;
+    }
+    end - 2
+}
+
+// One of the last three words. The test is the same for each of them, so that who has found one gets the others without a test.
+fn last_word(work: &[u32], at: u32, k: u32) -> u32
+    requires { ⌜ within 1 3 k ≡ true ⌝ }
+    ensures { λ r. ⌜ r ≡ wordAt (now (work .entry)) at k ⌝ }
+{
+    let i = num::wrapping_sub_usize(at as usize, 3);
+    if i < places(work) {
+        return work[i + (3 - k as usize)];
+    }
+    0
+}
+
+// Word k of the cell that ends at `at`, counted back from its end.
+pub fn word(work: &[u32], at: u32, k: u32) -> u32
+    ensures { λ r. ⌜ r ≡ wordAt (now (work .entry)) at k ⌝ }
+{
+    if is_last(k) {
+        return last_word(work, at, k);
+    }
+    further_word(work, at, k)
 }
 
 // A reference that the cell holds, where it falls.

@@ -7,8 +7,8 @@ use native.Mathlib.Omega.{arith}
 use lib.Dec.{eqb, ltb, leb}
 use lib.ListN.{length, drop, length-append, length-take}
 use borrow.Author.Tests.{ltb-true, ltb-false, leb-true, eqb-true, lt-ltb}
-use Rattle.words.specs.ListLaws.{either, within-high}
-use Rattle.words.specs.TestLaws.{and-parts, and-both}
+use Rattle.words.specs.ListLaws.{either}
+use Rattle.words.specs.TestLaws.{and-parts, and-both, within-most}
 use Rattle.words.specs.Text.{bytes}
 use Rattle.datum.specs.Constant.{Constant, constantWords}
 use Rattle.datum.specs.Datum.{Datum, constantD, nameD, listD, Data, noneD, moreD}
@@ -84,7 +84,7 @@ name-room : (names : List ℕ) (n : ℕ) → hasName names n ≡ true → length
 unfolding hasName nameAt
 name-room names n h =
     let p = and-parts (ltb n 1024) _ h .1 in
-    let q = within-high 1 63 (lengthAt names n) (and-parts (leb (64 * suc n) (length names)) _ p .1) in
+    let q = within-most 1 63 (lengthAt names n) (and-parts (leb (64 * suc n) (length names)) _ p .1) in
     omega (arith, length-take (lengthAt names n) (drop (suc (64 * n)) names))
 
 -- ---- what is asked of a node: numbers of at most ten digits, names that have slots, eight variables

@@ -10,7 +10,7 @@ use lib.Seq.{take-at, drop-append-add, getD-append-add}
 use borrow.Author.Tests.{leb-true}
 use Rattle.words.specs.Limits.{nameLengthMost}
 use Rattle.words.specs.Lists.{all}
-use Rattle.words.specs.ListLaws.{and-left, and-right}
+use Rattle.words.specs.TestLaws.{and-left, and-right}
 use Rattle.datum.specs.NameTable.{slot, slots, lengthAt, nameAt}
 
 -- at most 63 bytes

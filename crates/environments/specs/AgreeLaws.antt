@@ -10,7 +10,7 @@ use Rattle.words.specs.Lists.{all}
 use Rattle.expansion.specs.Rules.{Template, variableT, insertT, constantT, emptyT, pairT, ellipsisT}
 use Rattle.expansion.specs.Transcribe.{allBelow}
 use Rattle.arena.specs.Arena.{wordAt, referenceAt}
-use Rattle.arena.specs.ArenaLaws.{cases}
+use Rattle.words.specs.ListLaws.{either}
 use Rattle.rule_cells.specs.Cells.{templateAt}
 use Rattle.rule_cells.specs.CellLaws.{templateAt-variable, templateAt-insert, templateAt-constant, templateAt-pair, templateAt-ellipsis, templateAt-empty}
 use Rattle.environments.specs.Environment.{enter, lengthsBy, countBy, agreeBy}
@@ -21,10 +21,10 @@ use Rattle.environments.specs.Lengths.{driving, AllOf, Copies, Flat, Len
 pub leaf-other : (P : Template → Type 0) → ((x : _) → P (insertT x)) → ((a : _) → P (constantT a)) → P emptyT
     → (items work : List ℕ) (t tag : ℕ) → tag ≡ wordAt work t 1 → (tag ≡ 1 → ⊥) → (tag ≡ 6 → ⊥) → (tag ≡ 7 → ⊥) → P (templateAt items work t)
 leaf-other P forInsert forConstant forEmpty items work t tag tag-is n1 n6 n7 =
-    cases (eqb tag 2)
+    either (eqb tag 2)
     (λ b. subst P (sym (templateAt-insert items work t (sym tag-is ∙ eqb-true tag 2 b))) (forInsert _))
     (λ b.
-    cases (eqb tag 4)
+    either (eqb tag 4)
     (λ c. subst P (sym (templateAt-constant items work t (sym tag-is ∙ eqb-true tag 4 c))) (forConstant _))
     (λ c.
     subst P
@@ -34,7 +34,7 @@ leaf-other P forInsert forConstant forEmpty items work t tag tag-is n1 n6 n7 =
 pub leaf-cell : (P : Template → Type 0) → ((k d : ℕ) → P (variableT k d)) → ((x : _) → P (insertT x)) → ((a : _) → P (constantT a)) → P emptyT
     → (items work : List ℕ) (t tag : ℕ) → tag ≡ wordAt work t 1 → (tag ≡ 6 → ⊥) → (tag ≡ 7 → ⊥) → P (templateAt items work t)
 leaf-cell P forVariable forInsert forConstant forEmpty items work t tag tag-is n6 n7 =
-    cases (eqb tag 1)
+    either (eqb tag 1)
     (λ a. subst P (sym (templateAt-variable items work t (sym tag-is ∙ eqb-true tag 1 a))) (forVariable _ _))
     (λ a. leaf-other P forInsert forConstant forEmpty items work t tag tag-is (eqb-false tag 1 a) n6 n7)
 
@@ -110,7 +110,7 @@ below-false : (f : ℕ → Bool) (c k : ℕ) → k < c → f k ≡ false → all
 unfolding allBelow
 below-false f zero k h e = absurd (omega arith)
 below-false f (suc c) k h e =
-    cases (eqb k c)
+    either (eqb k c)
     (λ t. let z : f c ≡ false = ap f (sym (eqb-true k c t)) ∙ e in rw z (and-false (allBelow f c)))
     (λ t. let n : k ≡ c → ⊥ = eqb-false k c t in rw (below-false f c k (omega arith) e) refl)
   where
@@ -124,7 +124,7 @@ below-cong f g zero h = refl
 below-cong f g (suc c) h = rw (below-cong f g c h, h c) refl
 
 pub below-at : (f : ℕ → Bool) (c k : ℕ) → k < c → allBelow f c ≡ true → f k ≡ true
-below-at f c k h e = cases (f k) (λ t. t) (λ t. absurd (false≢true (sym (below-false f c k h t) ∙ e)))
+below-at f c k h e = either (f k) (λ t. t) (λ t. absurd (false≢true (sym (below-false f c k h t) ∙ e)))
 
 module _ (work env : List ℕ) (e : ℕ) where
   pub begun-copies : CopiesAgree work env e 0 true

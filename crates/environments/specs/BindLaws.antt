@@ -1,18 +1,18 @@
 -- Laws of the environment of a pattern and a use, as a table: one for each way through the code.
-use mathlib.Core.Path.{_≡_, refl, sym, ap, _∙_, subst}
+use mathlib.Core.Path.{_≡_, refl, sym, ap, _∙_}
 use mathlib.Core.Bool.{Bool, true, false, cond, _||_, true≢false, false≢true}
 use mathlib.Core.List.{List}
 use Prim.Native.Nat.{ℕ, _≤_}
 use native.Mathlib.Omega.{arith}
 use borrow.Author.Tests.{eqb-true, eqb-false, ne-eqb}
-use Rattle.words.specs.ListLaws.{rest-is}
+use Rattle.words.specs.ListLaws.{whole, either}
 use Rattle.words.specs.Parts.{rest}
 use Rattle.words.specs.Limits.{patternVariablesMost}
 use Rattle.recipe.specs.Tree.{element, tail}
 use Rattle.expansion.specs.Rules.{pairP}
 use Rattle.expansion.specs.Match.{holds, part}
 use Rattle.arena.specs.Arena.{wordAt, referenceAt}
-use Rattle.arena.specs.ArenaLaws.{cases, wordAt-out, referenceAt-most}
+use Rattle.arena.specs.ArenaLaws.{wordAt-none, referenceAt-most}
 use Rattle.arena.specs.Lists.{Means}
 use Rattle.rule_cells.specs.Cells.{patternAt}
 use Rattle.rule_cells.specs.CellLaws.{patternAt-variable, patternAt-pair, patternAt-ellipsis}
@@ -26,10 +26,10 @@ use Rattle.environments.specs.Bind.{bound, BindsOne, secondOf, BindsList
 -- ---- of a work table, what is so of the part that is all of it
 
 pub whole-list : (work : List ℕ) (p list first second : ℕ) (old new : List ℕ) → BindsList (rest 0 work) p list first second old new → BindsList work p list first second old new
-whole-list work p list first second old new = subst (λ (s : List ℕ). BindsList s p list first second old new) (rest-is 0 work)
+whole-list work p list first second old new = whole (λ s. BindsList s p list first second old new) work
 
 pub whole-binds : (work : List ℕ) (p u : ℕ) (old new : List ℕ) → Binds (rest 0 work) p u old new → Binds work p u old new
-whole-binds work p u old new = subst (λ (s : List ℕ). Binds s p u old new) (rest-is 0 work)
+whole-binds work p u old new = whole (λ s. Binds s p u old new) work
 
 -- ---- one variable
 
@@ -48,7 +48,7 @@ bound-low node first second b p q r =
 -- a cell that holds a variable is no cell 0
 some-cell : (items work : List ℕ) (p k : ℕ) → holds k (patternAt items work p) ≡ true → p ≡ 0 → ⊥
 some-cell items work p k h e =
-    let tag-none : wordAt work p 1 ≡ 0 = wordAt-out work p 1 (omega arith) in
+    let tag-none : wordAt work p 1 ≡ 0 = ap (λ (n : ℕ). wordAt work n 1) e ∙ wordAt-none work 1 (omega arith) in
     let n : false ≡ holds k (patternAt items work p) = holds-none work p _ refl k (λ z. omega arith) (λ z. omega arith) (λ z. omega arith) items in
     let z : _≡_ {A = ℕ} 0 1 = ap (λ b. cond b 1 0) (n ∙ h) in omega arith
 
@@ -120,7 +120,7 @@ module _ (work : List ℕ) (p tag : ℕ) (tag-is : tag ≡ wordAt work p 1) (old
     list-pair list first second c d =
         record {
           held = λ items k l h.
-              cases (holds k (patternAt items work head))
+              either (holds k (patternAt items work head))
               (λ t. let e = d .held items k l t in (e .0, e .1 ∙ rw (pair-is items, t) refl))
               (λ t.
               let e = c .held items k l (rw (pair-is items, t) at h) in
@@ -134,7 +134,7 @@ module _ (work : List ℕ) (p tag : ℕ) (tag-is : tag ≡ wordAt work p 1) (old
     pattern-pair u later first m c f d =
         record {
           held = λ items w k l h.
-              cases (holds k (patternAt items work head))
+              either (holds k (patternAt items work head))
               (λ t. d .held items w k l t ∙ rw (pair-is items, t, f .is items w) refl)
               (λ t. ap (takingOf items work w) (d .other items k t) ∙ c .held items w k l (rw (pair-is items, t) at h) ∙ rw (pair-is items, t, m .is items w) refl);
           other = λ items k h. let n = neither items k h in d .other items k (n .0) ∙ c .other items k (n .1);

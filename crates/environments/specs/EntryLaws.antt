@@ -16,7 +16,7 @@ use Rattle.recipe.specs.Tree.{element, tail}
 use Rattle.recipe.specs.TreeLaws.{element-tail}
 use Rattle.expansion.specs.Match.{part}
 use Rattle.arena.specs.Arena.{wordAt, treeAt}
-use Rattle.arena.specs.ArenaLaws.{cases}
+use Rattle.words.specs.ListLaws.{either}
 use Rattle.arena.specs.Lists.{Means}
 use Rattle.rule_cells.specs.Cells.{patternAt}
 use Rattle.environments.specs.declared.environment.Entry.{Entry}
@@ -129,7 +129,7 @@ module _ (k : ℕ) (x : Entry) (env : List ℕ) where
     unfolding storing field
     storing-here zero f h l = absurd (omega arith)
     storing-here (suc n) f h l =
-        cases (eqb f n)
+        either (eqb f n)
         (λ t. rw (eqb-true f n t, ← place-is k n) (getD-set-same (storing k x env n) (place k n) _ 0 (omega (arith, storing-length n, place-is k n))))
         (λ t.
         getD-set-other (storing k x env n) (place k n) (entryWords * k + f) _ 0 (λ z. eqb-false f n t (omega (arith, place-is k n)))
@@ -154,7 +154,7 @@ module _ (k : ℕ) (x : Entry) (env : List ℕ) (some-entry : k < patternVariabl
         other = stored-other;
         low = λ b h u.
             under-low _ b (λ m.
-            cases (eqb m k)
+            either (eqb m k)
             (λ t. low-same _ x b (ap (entryAt (storing k x env entryWords)) (eqb-true m k t) ∙ stored-here) h)
             (λ t. low-same _ _ b (stored-other m (eqb-false m k t)) (entry-low env b u m)));
       }
@@ -236,7 +236,7 @@ module _ (outer : List ℕ) where
   module _ (n : ℕ) (inner : List ℕ) (p : length outer ≡ tableWords) (q : length inner ≡ tableWords) (past : patternVariablesMost ≤ n) (h : BegunBelow outer n inner) where
     all-begun : (k : ℕ) → entryAt inner k ≡ begun (entryAt outer k)
     all-begun k =
-        cases (ltb k n)
+        either (ltb k n)
         (λ t. h k (ltb-true k n t))
         (λ t. let l : patternVariablesMost ≤ k = omega (arith, ltb-false k n t) in entry-out inner k q l ∙ sym begun-blank ∙ ap begun (sym (entry-out outer k p l)))
 
@@ -269,7 +269,7 @@ module _ (env : List ℕ) where
       record {
         among = omega (arith, f .among);
         others = λ m h.
-            cases (ltb m k)
+            either (ltb m k)
             (λ t. f .others m (ltb-true m k t) h)
             (λ t. ap (λ x. x .first) (entry-out env m room (omega (arith, ltb-false m k t))) ∙ blank-first);
       }
@@ -345,7 +345,7 @@ module _ (work : List ℕ) (k : ℕ) (x : Entry) (one two along across : ℕ) (s
       next-two : treeAt items work two w ≡ within k i (patternIn items work (o .second)) (treeAt items work (o .one) w)
       unfolding within
       next-two =
-          cases (eqb (o .second) 0)
+          either (eqb (o .second) 0)
           (λ t. let e = eqb-true (o .second) 0 t in rw (patternIn-none items work (o .second) e, next-narrow e))
           (λ t.
           let h = eqb-false (o .second) 0 t in
@@ -383,7 +383,7 @@ pub record Follows (work : List ℕ) (k : ℕ) (x y : Entry) : Type 0 where
 
 follows-low : (work : List ℕ) (k : ℕ) (x y : Entry) (b : ℕ) → Follows work k x y → Low x b → Low y b
 follows-low work k x y b f l =
-    cases (eqb (x .first) 0)
+    either (eqb (x .first) 0)
     (λ t. low-same y x b (f .flat (eqb-true _ 0 t)) l)
     (λ t. f .next (eqb-false _ 0 t) .low b l)
 
@@ -408,7 +408,7 @@ flat-goes work k x o i e a =
 follows-goes : (work : List ℕ) (k : ℕ) (x y : Entry) → Follows work k x y → (o : Entry) (i : ℕ) → Along work o i x
     → (Along work o (i + 1) y) × ((items : List ℕ) (w : ℕ) → takingOf items work w y ≡ entering k i (patternIn items work (o .first)) (takingOf items work w o))
 follows-goes work k x y f o i a =
-    cases (eqb (x .first) 0)
+    either (eqb (x .first) 0)
     (λ t. let e = eqb-true _ 0 t in rw (f .flat e) (flat-goes work k x o i e a))
     (λ t. f .next (eqb-false _ 0 t) .goes o i a)
 
@@ -445,7 +445,7 @@ module _ (work old : List ℕ) where
   module _ (moving n : ℕ) (new : List ℕ) (still : Moving old moving) (past : moving ≤ n) (all : Entering work old n new) where
     all-follow : (k : ℕ) → Follows work k (entryAt old k) (entryAt new k)
     all-follow k =
-        cases (ltb k n)
+        either (ltb k n)
         (λ t. all .done k (ltb-true k n t))
         (λ t.
         let l = ltb-false k n t in

@@ -14,7 +14,7 @@ use Rattle.recipe.specs.Tree.{Tree, pair, elements}
 use Rattle.expansion.specs.Rules.{Pattern, variableP, literalP, wildcardP, constantP, emptyP, pairP, ellipsisP, Template, drivers}
 use Rattle.expansion.specs.Match.{holds, part}
 use Rattle.expansion.specs.Transcribe.{copies, allBelow, taken, lengths, copyCount, equalLengths, transcribe}
-use Rattle.arena.specs.ArenaLaws.{cases}
+use Rattle.words.specs.ListLaws.{either}
 use Rattle.environments.specs.Environment.{Taking, Environment, takes, within, entering, enter, lengthsBy, countBy, agreeBy, resultBy, entered, enteredNext, taking, environment}
 use Rattle.environments.specs.Sound.{Sound, variable, insert, constant, empty, pairs, ellipsis}
 
@@ -27,7 +27,7 @@ part-one (literalP x) k i t = refl
 part-one wildcardP k i t = refl
 part-one (constantP a) k i t = refl
 part-one emptyP k i t = refl
-part-one (pairP p q) k i t = cases (holds k p) (λ h. rw h (part-one p k i _)) (λ h. rw h (part-one q k i _))
+part-one (pairP p q) k i t = either (holds k p) (λ h. rw h (part-one p k i _)) (λ h. rw h (part-one q k i _))
 part-one (ellipsisP p) k i t = refl
 
 part-two : (p : Pattern) (k j i : ℕ) (t : Tree) → part p k (j ∷ i ∷ []) t ≡ within k i (enteredNext k p) (part p k (j ∷ []) t)
@@ -37,7 +37,7 @@ part-two (literalP x) k j i t = refl
 part-two wildcardP k j i t = refl
 part-two (constantP a) k j i t = refl
 part-two emptyP k j i t = refl
-part-two (pairP p q) k j i t = cases (holds k p) (λ h. rw h (part-two p k j i _)) (λ h. rw h (part-two q k j i _))
+part-two (pairP p q) k j i t = either (holds k p) (λ h. rw h (part-two p k j i _)) (λ h. rw h (part-two q k j i _))
 part-two (ellipsisP p) k j i t = part-one p k i _
 
 -- ---- entering a copy
@@ -60,7 +60,7 @@ entering-two (literalP y) k i x e = refl
 entering-two wildcardP k i x e = refl
 entering-two (constantP a) k i x e = refl
 entering-two emptyP k i x e = refl
-entering-two (pairP p q) k i x e = cases (holds k p) (λ h. rw h (entering-two p k i x (rw h at e))) (λ h. rw h (entering-two q k i x (rw h at e)))
+entering-two (pairP p q) k i x e = either (holds k p) (λ h. rw h (entering-two p k i x (rw h at e))) (λ h. rw h (entering-two q k i x (rw h at e)))
 entering-two (ellipsisP p) k i x e = ap (λ (o : Option Pattern). within k i o (x .one)) e
 
 entering-first : (k i : ℕ) (o : Option Pattern) (x : Taking) → entering k i o x .first ≡ x .first
@@ -127,7 +127,7 @@ module _ (p : Pattern) (used : Tree) where
       → map (longBy v) (drivers j t) ≡ map (long is) (drivers j t)
   unfolding drivers
   drivers-is is v j s b (variable {k = k} {d = d} l h m f) =
-      cases (ltb j d)
+      either (ltb j d)
       (λ t. rw t (ap (λ (x : Tree). length (elements x) ∷ []) (s k l h .takes-is (d - suc j) (omega arith) (omega arith))))
       (λ t. rw t refl)
   drivers-is is v j s b insert = refl

@@ -1,5 +1,5 @@
 -- Laws of driving lists on cells, one for each way through the code.
-use mathlib.Core.Path.{_≡_, refl, sym, ap, _∙_, subst}
+use mathlib.Core.Path.{_≡_, refl, sym, ap, _∙_}
 use mathlib.Core.Bool.{Bool, true, false, _&&_, cond}
 use mathlib.Core.List.{List, [], _∷_, _++_, map, map-append}
 use Prim.Native.Nat.{ℕ, zero, suc, _+_, _-_, _≤_, _<_}
@@ -7,13 +7,12 @@ use native.Mathlib.Omega.{arith}
 use lib.Dec.{eqb, ltb}
 use lib.ListN.{length, getD}
 use borrow.Author.Tests.{eq-eqb, eqb-true, eqb-false, lt-ltb, le-ltb}
-use Rattle.words.specs.ListLaws.{rest-is}
+use Rattle.words.specs.ListLaws.{whole, either}
 use Rattle.words.specs.Parts.{rest}
 use Rattle.words.specs.Lists.{all}
 use Rattle.recipe.specs.Tree.{Tree, elements}
 use Rattle.expansion.specs.Rules.{drivers}
 use Rattle.arena.specs.Arena.{wordAt, referenceAt, treeAt}
-use Rattle.arena.specs.ArenaLaws.{cases}
 use Rattle.rule_cells.specs.Cells.{templateAt}
 use Rattle.rule_cells.specs.CellLaws.{templateAt-variable, templateAt-insert, templateAt-constant, templateAt-pair, templateAt-ellipsis, templateAt-empty}
 use Rattle.arena.specs.Lists.{Counts}
@@ -26,25 +25,25 @@ use Rattle.environments.specs.declared.lengths.Driving.the-variants.{Non
 -- ---- of a work table, what is so of the part that is all of it
 
 pub whole-drives : (work env : List ℕ) (j t : ℕ) (r : Driving) → Drives (rest 0 work) env j t r → Drives work env j t r
-whole-drives work env j t r = subst (λ (s : List ℕ). Drives s env j t r) (rest-is 0 work)
+whole-drives work env j t r = whole (λ s. Drives s env j t r) work
 
 pub whole-all : (work env : List ℕ) (j t c : ℕ) (r : Bool) → AllOf (rest 0 work) env j t c r → AllOf work env j t c r
-whole-all work env j t c r = subst (λ (s : List ℕ). AllOf s env j t c r) (rest-is 0 work)
+whole-all work env j t c r = whole (λ s. AllOf s env j t c r) work
 
 -- ---- drivers of a template's cell
 
 pub deeper-most : (tag j : ℕ) → deeper tag j ≤ j + 1
 unfolding deeper
-deeper-most tag j = cases (eqb tag 7) (λ e. rw e (omega arith)) (λ e. rw e (omega arith))
+deeper-most tag j = either (eqb tag 7) (λ e. rw e (omega arith)) (λ e. rw e (omega arith))
 
 module _ (items work : List ℕ) (t tag : ℕ) (tag-is : tag ≡ wordAt work t 1) (j : ℕ) where
   drivers-none : (tag ≡ 1 → ⊥) → (tag ≡ 6 → ⊥) → (tag ≡ 7 → ⊥) → drivers j (templateAt items work t) ≡ []
   unfolding drivers
   drivers-none a b c =
-      cases (eqb tag 2)
+      either (eqb tag 2)
       (λ i. rw (templateAt-insert items work t (sym tag-is ∙ eqb-true tag 2 i)) refl)
       (λ i.
-      cases (eqb tag 4)
+      either (eqb tag 4)
       (λ k. rw (templateAt-constant items work t (sym tag-is ∙ eqb-true tag 4 k)) refl)
       (λ k. rw (templateAt-empty items work t (λ z. a (tag-is ∙ z)) (λ z. eqb-false tag 2 i (tag-is ∙ z)) (λ z. eqb-false tag 4 k (tag-is ∙ z)) (λ z. b (tag-is ∙ z)) (λ z. c (tag-is ∙ z))) refl))
 
@@ -61,7 +60,7 @@ module _ (items work : List ℕ) (t tag : ℕ) (tag-is : tag ≡ wordAt work t 1
   drivers-both : (i head rest : ℕ) → 6 ≤ tag → tag ≤ 7 → i ≡ deeper tag j → head ≡ referenceAt work t 3 → rest ≡ referenceAt work t 2 → drivers j (templateAt items work t) ≡ drivers i (templateAt items work head) ++ drivers j (templateAt items work rest)
   unfolding drivers deeper
   drivers-both i head rest l h i-is head-is rest-is =
-      cases (eqb tag 7)
+      either (eqb tag 7)
       (λ e. rw (templateAt-ellipsis items work t (sym tag-is ∙ eqb-true tag 7 e), ← head-is, ← rest-is, i-is, e) refl)
       (λ e. let s : tag ≡ 6 = omega (arith, eqb-false tag 7 e) in rw (templateAt-pair items work t (sym tag-is ∙ s), ← head-is, ← rest-is, i-is, e) refl)
 

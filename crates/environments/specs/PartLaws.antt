@@ -10,7 +10,8 @@ use Rattle.recipe.specs.Tree.{Tree, empty, element, tail}
 use Rattle.expansion.specs.Rules.{Pattern}
 use Rattle.expansion.specs.Match.{holds, part}
 use Rattle.arena.specs.Arena.{wordAt, referenceAt}
-use Rattle.arena.specs.ArenaLaws.{cases, wordAt-some, referenceAt-falls}
+use Rattle.words.specs.ListLaws.{either}
+use Rattle.arena.specs.ArenaLaws.{wordAt-some, referenceAt-falls}
 use Rattle.rule_cells.specs.Cells.{patternAt}
 use Rattle.rule_cells.specs.CellLaws.{patternAt-variable, patternAt-literal, patternAt-wildcard, patternAt-constant, patternAt-pair, patternAt-ellipsis, patternAt-empty}
 use Rattle.arena.specs.Lists.{Means}
@@ -31,13 +32,13 @@ module _ (work : List ℕ) (p tag : ℕ) (tag-is : tag ≡ wordAt work p 1) wher
   bare : (items : List ℕ) → (tag ≡ 1 → ⊥) → (tag ≡ 6 → ⊥) → (tag ≡ 7 → ⊥) → Bare (patternAt items work p)
   unfolding holds part
   bare items a b c =
-      cases (eqb tag 2)
+      either (eqb tag 2)
       (λ t. rw (patternAt-literal items work p (sym tag-is ∙ eqb-true tag 2 t)) (λ k. (refl, λ is t. refl)))
       (λ t.
-      cases (eqb tag 3)
+      either (eqb tag 3)
       (λ u. rw (patternAt-wildcard items work p (sym tag-is ∙ eqb-true tag 3 u)) (λ k. (refl, λ is t. refl)))
       (λ u.
-      cases (eqb tag 4)
+      either (eqb tag 4)
       (λ v. rw (patternAt-constant items work p (sym tag-is ∙ eqb-true tag 4 v)) (λ k. (refl, λ is t. refl)))
       (λ v.
       rw (patternAt-empty items work p (λ z. a (tag-is ∙ z)) (λ z. eqb-false tag 2 t (tag-is ∙ z)) (λ z. eqb-false tag 3 u (tag-is ∙ z)) (λ z. eqb-false tag 4 v (tag-is ∙ z)) (λ z. b (tag-is ∙ z)) (λ z. c (tag-is ∙ z)))

@@ -22,7 +22,7 @@ use Rattle.recipe.specs.TableTidy.{IsConstant}
 use Rattle.expansion.specs.Rules.{Pattern, pairP, ellipsisP, Template, constantT, pairT, ellipsisT, depthFits, variableFrom, nameTemplate, areVariables, dotsNext, depthBefore, isVariable, variables, patternOf, templateOf, ruleOf, isRulesForm, rulesOf}
 use Rattle.expansion.specs.Match.{holds}
 use Rattle.arena.specs.Arena.{wordAt, referenceAt}
-use Rattle.arena.specs.ArenaLaws.{cases}
+use Rattle.words.specs.ListLaws.{either}
 use Rattle.rule_cells.specs.PatternLaws.{count-pair}
 use Rattle.rule_cells.specs.Cells.{templateStep, templateFrom, templateAt}
 use Rattle.environments.specs.Sound.{Sound, SoundRule, Plain}
@@ -82,7 +82,7 @@ module _ (dots : Name → Bool) (literals : List Name) where
     patternOf-holds k (tidyConstant c) = given (λ j a b. absurd (omega arith))
     patternOf-holds k (tidyName {x} y) =
         given-guard (not (dots x))
-        (cases (isVariable dots literals x)
+        (either (isVariable dots literals x)
         (λ v. rw v (given (λ j a b. eq-eqb j k (omega arith))))
         (λ v. rw v (given (λ j a b. absurd (omega arith)))))
     patternOf-holds k (tidyPair {h} {t} p q l) =
@@ -90,11 +90,11 @@ module _ (dots : Name → Bool) (literals : List Name) where
         let both = count-pair dots literals h t in
         given-tested (dotsNext dots t)
         (λ d. given-guarded (isListOf 1 t) (λ e. given-mapSome ellipsisP (λ a f j b c. f j b (omega (arith, both, count-dots q d e))) first))
-        (λ d. given-mapBoth pairP (λ a b f g j c e. either a b f g j c (omega (arith, both, e))) first (patternOf-holds (k + count h) q))
+        (λ d. given-mapBoth pairP (λ a b f g j c e. both-hold a b f g j c (omega (arith, both, e))) first (patternOf-holds (k + count h) q))
       where
-        either : (a b : Pattern) → HoldsFrom k (count h) a → HoldsFrom (k + count h) (count t) b → HoldsFrom k (count h + count t) (pairP a b)
-        either a b f g j c e =
-            cases (leb (k + count h) j)
+        both-hold : (a b : Pattern) → HoldsFrom k (count h) a → HoldsFrom (k + count h) (count t) b → HoldsFrom k (count h + count t) (pairP a b)
+        both-hold a b f g j c e =
+            either (leb (k + count h) j)
             (λ o. or-right (holds j a) (holds j b) (g j (leb-true (k + count h) j o) (omega arith)))
             (λ o. or-left (holds j a) (holds j b) (f j c (leb-false (k + count h) j o)))
 
@@ -106,7 +106,7 @@ constant-sound p d a c = Sound.constant {a = a} (λ z. false≢true (rw z at c))
 
 depthFits-most : (d here : ℕ) → depthFits d here ≡ true → d ≤ here
 unfolding depthFits
-depthFits-most d here e = cases (eqb d 0) (λ z. omega (arith, eqb-true d 0 z)) (λ z. omega (arith, eqb-true d here (rw z at e)))
+depthFits-most d here e = either (eqb d 0) (λ z. omega (arith, eqb-true d 0 z)) (λ z. omega (arith, eqb-true d here (rw z at e)))
 
 -- a number below k + n, under at most two ellipses
 record Known (k n : ℕ) (v : ℕ × ℕ) : Type 0 where
@@ -172,19 +172,19 @@ plain-from : (a b work : List ℕ) (gas at : ℕ) → Plain (templateFrom a work
 unfolding templateFrom templateStep
 plain-from a b work zero at = λ x. x
 plain-from a b work (suc gas) at =
-    cases (eqb (wordAt work at 1) 1)
+    either (eqb (wordAt work at 1) 1)
     (λ t1. rw t1 (λ x. x))
     (λ t1.
-    cases (eqb (wordAt work at 1) 2)
+    either (eqb (wordAt work at 1) 2)
     (λ t2. rw (t1, t2) (λ x. Plain.insert))
     (λ t2.
-    cases (eqb (wordAt work at 1) 4)
+    either (eqb (wordAt work at 1) 4)
     (λ t4. rw (t1, t2, t4) (λ x. x))
     (λ t4.
-    cases (eqb (wordAt work at 1) 6)
+    either (eqb (wordAt work at 1) 6)
     (λ t6. rw (t1, t2, t4, t6) (in-pair _ _ _ _ (plain-from a b work gas (referenceAt work at 3)) (plain-from a b work gas (referenceAt work at 2))))
     (λ t6.
-    cases (eqb (wordAt work at 1) 7)
+    either (eqb (wordAt work at 1) 7)
     (λ t7. rw (t1, t2, t4, t6, t7) (in-ellipsis _ _ _ _ (plain-from a b work gas (referenceAt work at 3)) (plain-from a b work gas (referenceAt work at 2))))
     (λ t7. rw (t1, t2, t4, t6, t7) (λ x. x))))))
   where

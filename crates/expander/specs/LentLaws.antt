@@ -11,7 +11,7 @@ use Rattle.words.specs.Limits.{namesMost, baseNameCount}
 use Rattle.words.specs.Lists.{all}
 use Rattle.words.specs.TestLaws.{all-parts}
 use Rattle.expansion.specs.Lookup.{form, nothing, formOf, placeFrom, unboundMeaning}
-use Rattle.arena.specs.ArenaLaws.{cases}
+use Rattle.words.specs.ListLaws.{either}
 use Rattle.resolution.specs.Names.{operationAt, unboundIn}
 use Rattle.layout.specs.Places.{placed, Places}
 
@@ -39,7 +39,7 @@ places-lent table ops p long small n = ap (cond (ltb n baseNameCount) (form (for
   where
     later : operationAt (getD table n 0) ≡ placeFrom 0 n ops
     later =
-        cases (ltb n namesMost)
+        either (ltb n namesMost)
         (λ t. placed-is (getD table n 0) ∙ p n (ltb-true n namesMost t))
         (λ t.
         let h : namesMost ≤ n = ltb-false n namesMost t in

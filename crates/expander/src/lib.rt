@@ -40,7 +40,7 @@ pub fn expand(items: &[u32], fuel: u32, work: &mut [u32], core: &mut [u32]) -> E
     if !layout::tables_fit(items.len() / 3, fuel, work.len(), core.len()) {
         return refused(9);
     }
-    let mut operations = [0u32; words::NAMES];
+    let mut operations = [0u16; words::NAMES];
     if !operation::operations(items, &mut operations) {
         return refused(10);
     }

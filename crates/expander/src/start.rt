@@ -25,7 +25,7 @@ fn run(
     work: &mut [u32],
     core: &mut [u32],
     known: &mut [u32],
-    operations: &[u32],
+    operations: &[u16],
     fuel: u32,
 ) -> Ended
     requires { ⌜ (Lends (now items) (now work) (now core) (now operations) fuel) × (itemCount (now items) + fuel ≤ macroItems * length (now known)) ⌝ }
@@ -49,7 +49,7 @@ pub fn expand_recipe(
     items: &[u32],
     work: &mut [u32],
     core: &mut [u32],
-    operations: &[u32],
+    operations: &[u16],
     fuel: u32,
 ) -> Ended
     requires { ⌜ Lends (now items) (now work) (now core) (now operations) fuel ⌝ }

@@ -10,8 +10,7 @@ use Rattle.datum.specs.NameTable.{hasName}
 use Rattle.core_term.specs.Check.{termOf}
 use Rattle.expansion.specs.Run.{Run}
 use Rattle.output.specs.Output.{header, acceptance, printed}
-use Rattle.writer.specs.declared.bytes.Put.{Put}
-use Rattle.writer.specs.declared.bytes.Put.the-variants.{Done, Full}
+use Rattle.writer.specs.Put.{Put, Done, Full}
 use Rattle.writer.specs.Laid.{laid}
 use Rattle.writer.specs.Writing.{textOf}
 

@@ -14,12 +14,11 @@ use Rattle.core_term.specs.Check.{termOf, isTerm, isSome}
 use Rattle.core_term.specs.CheckLaws.{isTerm-some}
 use Rattle.core_term.specs.Text.{spacedAfter, spaced, text}
 use Rattle.output.specs.Output.{line, refusal, header, acceptance}
-use Rattle.writer.specs.declared.bytes.Put.{Put}
-use Rattle.writer.specs.declared.bytes.Put.the-variants.{Done, Full}
+use Rattle.writer.specs.Put.{Put, Done, Full, noPlace, putOf}
 use Rattle.writer.specs.declared.Writing.{Writing}
 use Rattle.writer.specs.declared.Writing.the-variants.{Written, NoTerm, NoRoom}
 use Rattle.writer.specs.Laid.{laid, Left}
-use Rattle.writer.specs.LaidLaws.{laid-length, laid-append, laid-before, laid-part, laid-first, done-is, full-is, left-done}
+use Rattle.writer.specs.LaidLaws.{laid-length, laid-append, laid-before, laid-part, laid-first, done-is, full-is, left-done, put-done}
 use Rattle.writer.specs.Writing.{textFor, textOf}
 use Rattle.writer.specs.Written.{Wrote, wrote-all, wrote-none, written-fits, written-is, no-room-is, not-no-term, measured-full, measured-is}
 use Rattle.filing.specs.File.{Spared, spared, crowded, Accepted}
@@ -73,6 +72,14 @@ module _ {x : List ℕ} {at : ℕ} {d e : List ℕ} where
 
   crowded-is : Spared x at d e Full → (length d ≤ at + length x) × (e ≡ d)
   crowded-is (crowded p q) = (p, q)
+
+  -- the place's number
+  pub spared-no-place : Spared x at d e Full → Spared x at d e (putOf noPlace)
+  unfolding putOf
+  spared-no-place s = s
+
+  pub spared-place : {to : ℕ} → length d < noPlace → Spared x at d e (Done to) → Spared x at d e (putOf to)
+  spared-place {to} h s = let k = spared-is s in subst (λ (z : Put). Spared x at d e z) (sym (put-done to (λ g. omega arith))) s
 
 -- ---- an accepted term
 

@@ -9,6 +9,7 @@ ghost use Rattle.datum.specs.NameTable.{hasName};
 ghost use Rattle.core_term.specs.Check.{termOf};
 ghost use Rattle.expansion.specs.Run.{run};
 ghost use Rattle.output.specs.Output.{refusal, acceptance, filed};
+ghost use Rattle.writer.specs.Put.{putOf};
 ghost use Rattle.writer.specs.Writing.{textOf};
 ghost use Rattle.writer.specs.Written.{Wrote};
 ghost use Rattle.filing.specs.File.{Spared, printedRun};
@@ -22,7 +23,7 @@ use reader::read;
 use words::OPERATIONS;
 use words::SLOT;
 use writer::Writing;
-use writer::bytes::Put;
+use writer::bytes::FULL;
 use writer::bytes::byte;
 use writer::numbers::wide;
 use writer::write;
@@ -34,25 +35,27 @@ const ITEM: usize = 3;
 fn refused(ground: u32, steps: u32, sum: u32, out: &mut [u8]) -> Writing
     ensures { λ r. ⌜ Wrote (some (refusal ground steps sum)) (now (out .entry)) (now (out .exit)) r ⌝ }
 {
-    let Put::Done(length) = refused_line(ground, steps, sum, out, 0, false) else {
+    let length = refused_line(ground, steps, sum, out, 0, false);
+    if length == FULL {
         return Writing::NoRoom;
-    };
-    let Put::Done(to) = refused_line(ground, steps, sum, out, 0, true) else {
+    }
+    let to = refused_line(ground, steps, sum, out, 0, true);
+    if to == FULL {
         return Writing::NoRoom;
-    };
+    }
     Writing::Written(to)
 }
 
 // The text of the words' term from a place on, where it and one byte more fit.
-fn term_at(words: &[u32], names: &[u8], out: &mut [u8], from: usize) -> Put
+fn term_at(words: &[u32], names: &[u8], out: &mut [u8], from: usize) -> usize
     requires { ⌜ from < length (now out) ⌝ }
-    ensures { λ r. ⌜ ((x : List ℕ) → textOf (now (words .entry)) operationsMost (now (names .entry)) ≡ some x → Spared x from (now (out .entry)) (now (out .exit)) r) ⌝ }
+    ensures { λ r. ⌜ ((x : List ℕ) → textOf (now (words .entry)) operationsMost (now (names .entry)) ≡ some x → Spared x from (now (out .entry)) (now (out .exit)) (putOf r)) ⌝ }
 {
     let last = out.len() - 1;
     match write(words, OPERATIONS, names, &mut out[from..last]) {
-        Writing::Written(length) => Put::Done(from + length),
-        Writing::NoTerm => Put::Full,
-        Writing::NoRoom => Put::Full,
+        Writing::Written(length) => from + length,
+        Writing::NoTerm => FULL,
+        Writing::NoRoom => FULL,
     }
 }
 
@@ -63,21 +66,25 @@ fn accepted(words: &[u32], names: &[u8], steps: u32, sum: u32, out: &mut [u8]) -
     if !is_term(words, OPERATIONS, names) {
         return refused(19, 0, 0, out);
     }
-    let Put::Done(from) = accepted_line(steps, sum, out, 0, false) else {
+    let from = accepted_line(steps, sum, out, 0, false);
+    if from == FULL {
         return Writing::NoRoom;
-    };
+    }
     if from >= out.len() {
         return Writing::NoRoom;
     }
-    let Put::Done(to) = term_at(words, names, out, from) else {
+    let to = term_at(words, names, out, from);
+    if to == FULL {
         return Writing::NoRoom;
-    };
-    let Put::Done(end) = byte(b'\n', out, to, true) else {
+    }
+    let end = byte(b'\n', out, to, true);
+    if end == FULL {
         return Writing::NoRoom;
-    };
-    let Put::Done(again) = accepted_line(steps, sum, out, 0, true) else {
+    }
+    let again = accepted_line(steps, sum, out, 0, true);
+    if again == FULL {
         return Writing::NoRoom;
-    };
+    }
     Writing::Written(end)
 }
 

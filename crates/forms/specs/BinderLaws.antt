@@ -7,13 +7,13 @@ use native.Mathlib.Omega.{arith}
 use lib.Dec.{eqb}
 use borrow.Author.Tests.{eqb-true, eqb-false}
 use Rattle.words.specs.Lists.{any}
-use Rattle.words.specs.ListLaws.{never}
+use Rattle.words.specs.ListLaws.{never, either}
 use Rattle.words.specs.TestLaws.{and-right, all-parts}
 use Rattle.recipe.specs.Name.{Name, same, distinct}
 use Rattle.recipe.specs.Tree.{Tree, name, pair, names, isOrdinaryName, isListOf, elements, element}
 use Rattle.expansion.specs.Forms.{isMacro}
 use Rattle.arena.specs.Arena.{wordAt, referenceAt, nameAt, treeAt}
-use Rattle.arena.specs.ArenaLaws.{cases, wordAt-some, referenceAt-falls}
+use Rattle.arena.specs.ArenaLaws.{wordAt-some, referenceAt-falls}
 use Rattle.arena.specs.NodeLaws.{treeAt-name}
 use Rattle.arena.specs.Lists.{Means}
 use Rattle.arena.specs.ListLaws.{no-pair, a-pair, ordinary-other}
@@ -24,7 +24,7 @@ use Rattle.forms.specs.Binders.{AllNames, ownNames, namesIn, Opened}
 
 ordinary-name : (items work : List ℕ) (node w : ℕ) → isOrdinaryName (treeAt items work node w) ≡ true → treeAt items work node w ≡ name (nameAt items work node w)
 ordinary-name items work node w h =
-    cases (eqb (wordAt work node 3) 3)
+    either (eqb (wordAt work node 3) 3)
     (λ t. treeAt-name items work node w (eqb-true (wordAt work node 3) 3 t))
     (λ t. never h (sym (ordinary-other items work node (wordAt work node 3) refl (eqb-false (wordAt work node 3) 3 t) w)))
 

@@ -1,19 +1,21 @@
 -- Laws of counting references (ground 7): every item but item 0 is referred to by exactly one word.
-use mathlib.Core.Path.{_≡_, refl, _∙_}
-use mathlib.Core.Bool.{Bool, true, false, cond}
+use mathlib.Core.Path.{_≡_, refl, sym, _∙_}
+use mathlib.Core.Bool.{Bool, true, false, cond, _&&_, _||_, and-true, and-assoc}
 use mathlib.Core.List.{List, [], _∷_}
-use Prim.Native.Nat.{ℕ, suc, _+_, _*_, _<_, _≤_}
+use Prim.Native.Nat.{ℕ, zero, suc, _+_, _*_, _<_, _≤_}
 use native.Mathlib.Omega.{arith}
 use native.Mathlib.Numerals.{add-one}
+use lib.Bits.{bitOr, or-add-and, bitXor, xor-add-and, xor-self, and-le-l, and-le-r}
 use lib.Dec.{eqb}
 use lib.ListN.{length, getD, set, drop, replicate, length-replicate, getD-replicate, drop-of-length-le}
 use lib.Seq.{getD-set-same, getD-set-other}
 use borrow.Author.Tests.{eqb-true, eqb-false, eq-eqb, ne-eqb}
 use Rattle.words.specs.Lists.{all}
-use Rattle.recipe.specs.Table.{Item, items, references, occurrences, kindAt, isReferredOnce}
+use Rattle.words.specs.TestLaws.{iff-eq, and-parts, and-both}
+use Rattle.recipe.specs.Table.{Item, items, references, occurrences, kindAt, isItem, isReferredOnce}
 use Rattle.recipe.specs.ItemLaws.{itemAt, items-length, items-drop}
 use Rattle.recipe.specs.TreeFrom.{headAt, tailAt}
-use Rattle.layout.specs.ItemTests.{all-more}
+use Rattle.layout.specs.ItemTests.{all-step, all-end}
 
 -- after has one more at each place for each time that it is among the references
 abbrev pub Counted : (before after refs : List ℕ) → Type 0
@@ -26,6 +28,15 @@ AtMost m counts = (k : ℕ) → k < length counts → getD counts k 0 ≤ m
 -- each count is that of the table's references
 abbrev pub Referred : (ws counts : List ℕ) → Type 0
 Referred ws counts = (k : ℕ) → k < length counts → getD counts k 0 ≡ occurrences k (references (items 0 ws))
+
+-- each count of the first n but the very first is 1
+unfoldable pub areOnes : List ℕ → ℕ → Bool
+areOnes counts zero = true
+areOnes counts (suc i) = areOnes counts i && (eqb i 0 || eqb (getD counts i 0) 1)
+
+-- each item's words are those of its kind, and each item but item 0 is referred to by exactly one word
+abbrev pub itemsGood : List ℕ → ℕ → Bool
+itemsGood ws n = all (isItem ws n) (items 0 ws) && all (isReferredOnce (references (items 0 ws))) (items 0 ws)
 
 -- ---- one reference
 
@@ -54,11 +65,6 @@ counted-one counts x l k h = by (eqb k x) refl
         let q : k ≡ x = eqb-true k x e in
         rw (e, q) (getD-set-same counts x (getD counts x 0 + 1) 0 l)
     by false e = rw e (getD-set-other counts x k (getD counts x 0 + 1) 0 (eqb-false k x e) ∙ omega arith)
-
--- past the table there is no count
-pub counted-past : (counts : List ℕ) (x : ℕ) → length counts ≤ x → Counted counts counts (x ∷ [])
-unfolding occurrences
-counted-past counts x l k h = let n : k ≡ x → ⊥ = λ e. omega arith in rw (ne-eqb k x n) (omega arith)
 
 pub counted-none : (counts : List ℕ) → Counted counts counts []
 unfolding occurrences
@@ -136,19 +142,51 @@ module _ (ws : List ℕ) (n : ℕ) (e : length ws ≡ 3 * n) where
       let s : getD counts k 0 + occurrences k (references []) ≡ occurrences k (references (items 0 ws)) = rw d at (c k h) in
       omega (arith, s)
 
-  -- ---- the test of each count
+-- ---- the test of each count
 
-  pub once-first : 0 < n → all (isReferredOnce (references (items 0 ws))) (items 0 ws) ≡ all (isReferredOnce (references (items 0 ws))) (drop 1 (items 0 ws))
+-- no bit is set in either of two numbers only where both are 0
+bitOr-zero : (a b : ℕ) → eqb (bitOr a b) 0 ≡ (eqb a 0 && eqb b 0)
+bitOr-zero a b = iff-eq (eqb (bitOr a b) 0) (eqb a 0 && eqb b 0) (λ e. apart (eqb-true (bitOr a b) 0 e)) (λ e. together (and-parts (eqb a 0) (eqb b 0) e))
+  where
+    apart : bitOr a b ≡ 0 → (eqb a 0 && eqb b 0) ≡ true
+    apart e =
+        let p : a ≡ 0 = omega (arith, or-add-and a b, and-le-r a b) in
+        let q : b ≡ 0 = omega (arith, or-add-and a b, and-le-l a b) in
+        and-both (eqb a 0) (eqb b 0) (eq-eqb a 0 p) (eq-eqb b 0 q)
+
+    together : (eqb a 0 ≡ true) × (eqb b 0 ≡ true) → eqb (bitOr a b) 0 ≡ true
+    together p = rw (eqb-true a 0 (p .0), eqb-true b 0 (p .1))
+
+-- no bit differs only where two numbers are equal
+bitXor-zero : (a b : ℕ) → eqb (bitXor a b) 0 ≡ eqb a b
+bitXor-zero a b =
+    iff-eq (eqb (bitXor a b) 0) (eqb a b)
+    (λ e. let z : bitXor a b ≡ 0 = eqb-true (bitXor a b) 0 e in eq-eqb a b (omega (arith, xor-add-and a b, and-le-l a b, and-le-r a b)))
+    (λ e. rw (eqb-true a b e) (eq-eqb (bitXor b b) 0 (xor-self b)))
+
+-- the bits by which the counts passed are wrong, and of one count more
+pub ones-more : (wrong i : ℕ) (counts : List ℕ) → 0 < i → eqb wrong 0 ≡ areOnes counts i → eqb (bitOr wrong (bitXor (getD counts i 0) 1)) 0 ≡ areOnes counts (i + 1)
+unfolding areOnes
+ones-more wrong i counts z e =
+    let nz : i ≡ 0 → ⊥ = λ q. omega arith in
+    rw (add-one, bitOr-zero, bitXor-zero, e, ne-eqb i 0 nz)
+
+module _ (ws : List ℕ) (n : ℕ) (e : length ws ≡ 3 * n) (counts : List ℕ) (c : Referred ws counts) (l : n ≤ length counts) where
+  once : (i : ℕ) → i < n → isReferredOnce (references (items 0 ws)) (itemAt ws i) ≡ (eqb i 0 || eqb (getD counts i 0) 1)
   unfolding isReferredOnce itemAt
-  once-first h = all-more (isReferredOnce (references (items 0 ws))) ws n e 0 h refl
+  once i h = let k : i < length counts = omega arith in rw (c i k)
 
-  module _ (counts : List ℕ) (c : Referred ws counts) (i : ℕ) (z : 0 < i) (l : i < length counts) where
-    once-is : isReferredOnce (references (items 0 ws)) (itemAt ws i) ≡ eqb (getD counts i 0) 1
-    unfolding isReferredOnce itemAt
-    once-is = let nz : i ≡ 0 → ⊥ = λ q. omega arith in rw (ne-eqb i 0 nz, c i l)
+  once-below : (i : ℕ) → i ≤ n → all (isReferredOnce (references (items 0 ws))) (items 0 ws) ≡ (areOnes counts i && all (isReferredOnce (references (items 0 ws))) (drop i (items 0 ws)))
+  unfolding areOnes
+  once-below zero h = refl
+  once-below (suc i) h =
+      let F = isReferredOnce (references (items 0 ws)) in
+      let k : i < n = omega arith in
+      let s : all F (drop i (items 0 ws)) ≡ ((eqb i 0 || eqb (getD counts i 0) 1) && all F (drop (suc i) (items 0 ws))) = rw (add-one, once i k) at (all-step F ws n e i k) in
+      once-below i (omega arith) ∙ rw s (sym (and-assoc (areOnes counts i) (eqb i 0 || eqb (getD counts i 0) 1) (all F (drop (suc i) (items 0 ws)))))
 
-    pub once-not : (getD counts i 0 ≡ 1 → ⊥) → isReferredOnce (references (items 0 ws)) (itemAt ws i) ≡ false
-    once-not h = once-is ∙ ne-eqb (getD counts i 0) 1 h
-
-    pub once-so : getD counts i 0 ≡ 1 → isReferredOnce (references (items 0 ws)) (itemAt ws i) ≡ true
-    once-so h = once-is ∙ eq-eqb (getD counts i 0) 1 h
+  pub once-each : all (isReferredOnce (references (items 0 ws))) (items 0 ws) ≡ areOnes counts n
+  once-each =
+      let F = isReferredOnce (references (items 0 ws)) in
+      let k : n ≤ n = omega arith in
+      once-below n k ∙ rw (all-end F ws n e) (and-true (areOnes counts n))

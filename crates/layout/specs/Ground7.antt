@@ -1,6 +1,6 @@
 -- Laws of ground 7 as a whole, one for each way through `is_layout`.
-use mathlib.Core.Path.{_≡_}
-use mathlib.Core.Bool.{true, false, _&&_, and-false}
+use mathlib.Core.Path.{_≡_, sym, _∙_}
+use mathlib.Core.Bool.{true, false, _&&_, and-false, and-assoc}
 use mathlib.Core.List.{List}
 use Prim.Native.Nat.{ℕ, _*_, _<_, _≤_}
 use lib.Dec.{eqb}
@@ -10,7 +10,9 @@ use Rattle.words.specs.Limits.{itemsLeast, itemsMost}
 use Rattle.words.specs.Lists.{all}
 use Rattle.recipe.specs.Tree.{isList, isListOf, element}
 use Rattle.recipe.specs.Table.{items, references, isItem, isReferredOnce, treeOf, itemCount, isLayout}
-use Rattle.layout.specs.ItemTests.{outside-below, outside-above, inside}
+use Rattle.words.specs.TestLaws.{within-is}
+use Rattle.layout.specs.ItemTests.{outside-below, outside-above}
+use Rattle.layout.specs.Counts.{itemsGood}
 
 module _ (ws : List ℕ) where
   pub uneven : (length ws ≡ 3 * itemCount ws → ⊥) → isLayout ws ≡ false
@@ -26,15 +28,15 @@ module _ (ws : List ℕ) where
   too-many h = rw (outside-above itemsLeast itemsMost (itemCount ws) h) (and-false (eqb (length ws) (3 * itemCount ws)))
 
   module _ (e : length ws ≡ 3 * itemCount ws) (a : itemsLeast ≤ itemCount ws) (b : itemCount ws ≤ itemsMost) where
-    pub unfit : all (isItem ws (itemCount ws)) (items 0 ws) ≡ false → isLayout ws ≡ false
+    -- what is left to test
+    then : isLayout ws ≡ (itemsGood ws (itemCount ws) && (isListOf 2 (treeOf ws) && isList (element 0 (treeOf ws))))
     unfolding isLayout
-    unfit f = rw (eq-eqb (length ws) (3 * itemCount ws) e, inside itemsLeast itemsMost (itemCount ws) a b, f)
+    then =
+        rw (eq-eqb (length ws) (3 * itemCount ws) e, within-is itemsLeast itemsMost (itemCount ws) a b)
+        (sym (and-assoc (all (isItem ws (itemCount ws)) (items 0 ws)) (all (isReferredOnce (references (items 0 ws))) (items 0 ws)) (isListOf 2 (treeOf ws) && isList (element 0 (treeOf ws)))))
 
-    module _ (f : all (isItem ws (itemCount ws)) (items 0 ws) ≡ true) where
-      pub not-once : all (isReferredOnce (references (items 0 ws))) (items 0 ws) ≡ false → isLayout ws ≡ false
-      unfolding isLayout
-      not-once r = rw (eq-eqb (length ws) (3 * itemCount ws) e, inside itemsLeast itemsMost (itemCount ws) a b, f, r)
+    pub unfit : itemsGood ws (itemCount ws) ≡ false → isLayout ws ≡ false
+    unfit f = then ∙ rw f
 
-      pub by-item-0 : all (isReferredOnce (references (items 0 ws))) (items 0 ws) ≡ true → isLayout ws ≡ (isListOf 2 (treeOf ws) && isList (element 0 (treeOf ws)))
-      unfolding isLayout
-      by-item-0 r = rw (eq-eqb (length ws) (3 * itemCount ws) e, inside itemsLeast itemsMost (itemCount ws) a b, f, r)
+    pub by-item-0 : itemsGood ws (itemCount ws) ≡ true → isLayout ws ≡ (isListOf 2 (treeOf ws) && isList (element 0 (treeOf ws)))
+    by-item-0 f = then ∙ rw f

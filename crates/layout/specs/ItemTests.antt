@@ -1,4 +1,4 @@
--- Laws of the test of one item (ground 7), one for each way through `is_pair`, `is_item` and `items_fit`.
+-- Laws of the test of one item (ground 7), one for each way through `is_pair`, `is_leaf`, `takes_item` and `items_fit`.
 use mathlib.Core.Path.{_≡_, refl, _∙_}
 use mathlib.Core.Bool.{Bool, true, false, _&&_, and-true, and-false}
 use mathlib.Core.List.{List}
@@ -7,10 +7,10 @@ use native.Mathlib.Omega.{arith}
 use native.Mathlib.Numerals.{add-one}
 use lib.Dec.{eqb, ltb, leb}
 use lib.ListN.{length, drop, drop-of-length-le}
-use borrow.Author.Tests.{ne-eqb, le-leb, lt-leb}
+use borrow.Author.Tests.{ne-eqb, lt-leb}
 use Rattle.words.specs.Limits.{namesMost}
 use Rattle.words.specs.Lists.{within, all}
-use Rattle.words.specs.TestLaws.{and-none-left, and-none-right}
+use Rattle.words.specs.TestLaws.{and-none-left, and-none-right, within-is}
 use Rattle.datum.specs.Constant.{isConstant}
 use Rattle.recipe.specs.Table.{Item, items, byKind, constantOf, kindAt, isPairItem, isItem}
 use Rattle.recipe.specs.ItemLaws.{itemAt, items-length, items-drop}
@@ -26,10 +26,6 @@ outside-below a b n h = and-none-left (leb a n) (leb n b) (lt-leb a n h)
 pub outside-above : (a b n : ℕ) → b < n → within a b n ≡ false
 unfolding within
 outside-above a b n h = and-none-right (leb a n) (leb n b) (lt-leb n b h)
-
-pub inside : (a b n : ℕ) → a ≤ n → n ≤ b → within a b n ≡ true
-unfolding within
-inside a b n h k = rw (le-leb a n h, le-leb n b k)
 
 -- ---- a pair's references
 
@@ -53,7 +49,7 @@ module _ (ws : List ℕ) (n i : ℕ) where
 
   pub references-good : i < headAt ws i → headAt ws i < n → i < tailAt ws i → tailAt ws i < n → isPairItem ws n (itemAt ws i) ≡ isListKind (kindAt ws (tailAt ws i))
   references-good a b c d =
-      pair-words ∙ rw (inside (suc i) (n - 1) (headAt ws i) (omega arith) (omega arith), inside (suc i) (n - 1) (tailAt ws i) (omega arith) (omega arith))
+      pair-words ∙ rw (within-is (suc i) (n - 1) (headAt ws i) (omega arith) (omega arith), within-is (suc i) (n - 1) (tailAt ws i) (omega arith) (omega arith))
 
 -- ---- an item by its kind
 
@@ -115,7 +111,7 @@ module _ (ws : List ℕ) (n i : ℕ) where
 -- ---- a test of all items, as a loop makes it
 
 module _ (f : Item → Bool) (ws : List ℕ) (n : ℕ) (e : length ws ≡ 3 * n) where
-  all-step : (i : ℕ) → i < n → all f (drop i (items 0 ws)) ≡ (f (itemAt ws i) && all f (drop (i + 1) (items 0 ws)))
+  pub all-step : (i : ℕ) → i < n → all f (drop i (items 0 ws)) ≡ (f (itemAt ws i) && all f (drop (i + 1) (items 0 ws)))
   unfolding all
   all-step i h = rw (add-one, items-drop ws n i e h)
 

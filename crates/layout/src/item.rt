@@ -1,10 +1,8 @@
 // One item of a table: its three words, and whether they are those of its kind.
 ghost use mathlib.Core.Path.{_≡_};
-ghost use mathlib.Core.Bool.{true};
-ghost use Prim.Native.Nat.{_+_, _*_, _<_};
+ghost use Prim.Native.Nat.{ℕ, _+_, _*_, _<_};
 ghost use lib.ListN.{length};
-ghost use Rattle.words.specs.Lists.{all};
-ghost use Rattle.recipe.specs.Table.{items, kindAt, isPairItem, isItem};
+ghost use Rattle.recipe.specs.Table.{kindAt, isPairItem, isItem};
 ghost use Rattle.recipe.specs.ItemLaws.{itemAt};
 ghost use Rattle.recipe.specs.TreeFrom.{headAt, tailAt};
 ghost use Rattle.recipe.specs.Layout.{isListKind};
@@ -42,7 +40,7 @@ pub fn is_list_kind(k: u32) -> bool
 }
 
 // A pair's references point to higher items of the n, and its tail is a list.
-fn is_pair(table: &[u32], n: usize, i: usize) -> bool
+pub fn is_pair(table: &[u32], n: usize, i: usize) -> bool
     requires { ⌜ (length (now table) ≡ 3 * n) × (i < n) ⌝ }
     ensures { λ r. ⌜ r ≡ isPairItem (now (table .entry)) n (itemAt (now (table .entry)) i) ⌝ }
 {
@@ -63,18 +61,15 @@ fn is_pair(table: &[u32], n: usize, i: usize) -> bool
     is_list_kind(kind(table, t))
 }
 
-// Item i's words are those of its kind, unused ones 0; n items in all.
-fn is_item(table: &[u32], n: usize, i: usize) -> bool
-    requires { ⌜ (length (now table) ≡ 3 * n) × (i < n) ⌝ }
-    ensures { λ r. ⌜ r ≡ isItem (now (table .entry)) n (itemAt (now (table .entry)) i) ⌝ }
+// Item i, which is no pair, has the words of its kind, unused ones 0.
+pub fn is_leaf(table: &[u32], i: usize) -> bool
+    requires { ⌜ (3 * i + 2 < length (now table)) × (kindAt (now table) i ≡ 4 → ⊥) ⌝ }
+    ensures { λ r. ⌜ ((n : ℕ) → r ≡ isItem (now (table .entry)) n (itemAt (now (table .entry)) i)) ⌝ }
 {
-    let k = kind(table, i);
-    if k == 4 {
-        return is_pair(table, n, i);
-    }
     if tail(table, i) != 0 {
         return false;
     }
+    let k = kind(table, i);
     let word = head(table, i);
     if k == 0 {
         return word == 0;
@@ -89,19 +84,4 @@ fn is_item(table: &[u32], n: usize, i: usize) -> bool
         return word < words::NAMES;
     }
     false
-}
-
-// Every item's words are those of its kind.
-pub fn items_fit(table: &[u32], n: usize) -> bool
-    requires { ⌜ length (now table) ≡ 3 * n ⌝ }
-    ensures { λ r. ⌜ r ≡ all (isItem (now (table .entry)) n) (items 0 (now (table .entry))) ⌝ }
-{
-    let mut i = 0;
-    while i < n {
-        if !is_item(table, n, i) {
-            return false;
-        }
-        i += 1;
-    }
-    true
 }

@@ -48,10 +48,7 @@ pub fn is_layout(table: &[u32]) -> bool
     if words::MOST_ITEMS < n {
         return false;
     }
-    if !item::items_fit(table, n) {
-        return false;
-    }
-    if !reference::referred_once(table, n) {
+    if !reference::every_item(table, n) {
         return false;
     }
     begins_two(table, n)

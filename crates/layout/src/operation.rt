@@ -31,7 +31,7 @@ fn operation_number(table: &[u32], i: usize) -> usize
 
 // Ground 10 of a table that passed ground 7, which its caller has just tested. Where it passes, `places` has the
 // place + 1 of each operation by its number, 0 for every other name; where it does not, `places` is of no use.
-pub fn operations(table: &[u32], places: &mut [u32]) -> bool
+pub fn operations(table: &[u32], places: &mut [u16]) -> bool
     requires { ⌜ (isLayout (now table) ≡ true) × (length (now places) ≡ namesMost) × (Places (now places) []) ⌝ }
     ensures passes { λ r. ⌜ r ≡ areOperations (treeOf (now (table .entry))) ⌝ }
     ensures places { λ r. ⌜ (r ≡ true → Places (now (places .exit)) (operationNumbers (treeOf (now (table .entry))))) ⌝ }
@@ -50,7 +50,7 @@ pub fn operations(table: &[u32], places: &mut [u32]) -> bool
             return false;
         }
         place += 1;
-        places[number] = place;
+        places[number] = place as u16;
         i = tail(table, i);
     }
     true

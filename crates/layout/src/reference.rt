@@ -1,63 +1,58 @@
-// Every item but item 0 is referred to by exactly one word: references are counted, then each count is tested.
+// All items in one pass: each is tested, and its references are counted. Then each count is tested: every item but
+// item 0 is referred to by exactly one word.
 use crate::item::head;
+use crate::item::is_leaf;
+use crate::item::is_pair;
 use crate::item::kind;
 use crate::item::tail;
 ghost use mathlib.Core.Path.{_≡_};
+ghost use mathlib.Core.Bool.{true};
 ghost use mathlib.Core.List.{[], _∷_};
-ghost use Prim.Native.Nat.{_+_, _*_, _≤_, _<_};
+ghost use Prim.Native.Nat.{_*_, _≤_, _<_};
 ghost use lib.ListN.{length};
 ghost use Rattle.words.specs.Limits.{itemsMost};
 ghost use Rattle.words.specs.Lists.{all};
-ghost use Rattle.recipe.specs.Table.{items, references, isReferredOnce};
+ghost use Rattle.recipe.specs.Table.{items, references, isItem};
 ghost use Rattle.recipe.specs.ItemLaws.{itemAt};
-ghost use Rattle.layout.specs.Counts.{Counted, AtMost, Referred};
+ghost use Rattle.layout.specs.Counts.{Counted, AtMost, Referred, areOnes, itemsGood};
 
 // Most recipes have at most so many items.
 const FEW_ITEMS: usize = 512;
 
-// One reference more to item k; past the table there is no count.
+// One reference more to item k.
 fn count(counts: &mut [u16], k: usize)
-    requires { ⌜ AtMost 65534 (now counts) ⌝ }
+    requires { ⌜ (k < length (now counts)) × (AtMost 65534 (now counts)) ⌝ }
     ensures { λ _. ⌜ Counted (now (counts .entry)) (now (counts .exit)) (k ∷ []) ⌝ }
 {
-    if k < counts.len() {
-        counts[k] = counts[k] + 1;
-    }
+    counts[k] = counts[k] + 1;
 }
 
-// The references of item i.
-fn count_item(table: &[u32], i: usize, counts: &mut [u16])
-    requires { ⌜ (3 * i + 2 < length (now table)) × (AtMost 65533 (now counts)) ⌝ }
-    ensures { λ _. ⌜ Counted (now (counts .entry)) (now (counts .exit)) (references (itemAt (now (table .entry)) i ∷ [])) ⌝ }
+// Item i's words are those of its kind, n items in all; a pair's references are counted.
+fn takes_item(table: &[u32], n: usize, i: usize, counts: &mut [u16]) -> bool
+    requires { ⌜ (length (now table) ≡ 3 * n) × (i < n) × (n ≤ length (now counts)) × (AtMost 65533 (now counts)) ⌝ }
+    ensures fits { λ r. ⌜ r ≡ isItem (now (table .entry)) n (itemAt (now (table .entry)) i) ⌝ }
+    ensures counts { λ r. ⌜ (r ≡ true → Counted (now (counts .entry)) (now (counts .exit)) (references (itemAt (now (table .entry)) i ∷ []))) ⌝ }
 {
     if kind(table, i) != 4 {
-        return;
+        return is_leaf(table, i);
+    }
+    if !is_pair(table, n, i) {
+        return false;
     }
     count(counts, head(table, i));
     count(counts, tail(table, i));
+    true
 }
 
-// The references of all n items.
-fn count_items(table: &[u32], n: usize, counts: &mut [u16])
-    requires { ⌜ (length (now table) ≡ 3 * n) × (n ≤ itemsMost) × (AtMost 0 (now counts)) ⌝ }
-    ensures { λ _. ⌜ Referred (now (table .entry)) (now (counts .exit)) ⌝ }
+// The same of all n items.
+fn items_fit(table: &[u32], n: usize, counts: &mut [u16]) -> bool
+    requires { ⌜ (length (now table) ≡ 3 * n) × (n ≤ itemsMost) × (n ≤ length (now counts)) × (AtMost 0 (now counts)) ⌝ }
+    ensures fit { λ r. ⌜ r ≡ all (isItem (now (table .entry)) n) (items 0 (now (table .entry))) ⌝ }
+    ensures counts { λ r. ⌜ (r ≡ true → Referred (now (table .entry)) (now (counts .exit))) ⌝ }
 {
     let mut i = 0;
     while i < n {
-        count_item(table, i, counts);
-        i += 1;
-    }
-}
-
-// Every item but item 0 is referred to exactly once, by a table of zeros with a count for each item.
-fn once_each(table: &[u32], n: usize, counts: &mut [u16]) -> bool
-    requires { ⌜ (length (now table) ≡ 3 * n) × (0 < n) × (n ≤ itemsMost) × (n ≤ length (now counts)) × (AtMost 0 (now counts)) ⌝ }
-    ensures { λ r. ⌜ r ≡ all (isReferredOnce (references (items 0 (now (table .entry))))) (items 0 (now (table .entry))) ⌝ }
-{
-    count_items(table, n, counts);
-    let mut i = 1;
-    while i < n {
-        if counts[i] != 1 {
+        if !takes_item(table, n, i, counts) {
             return false;
         }
         i += 1;
@@ -65,15 +60,40 @@ fn once_each(table: &[u32], n: usize, counts: &mut [u16]) -> bool
     true
 }
 
-// Every item but item 0 is referred to exactly once.
-pub fn referred_once(table: &[u32], n: usize) -> bool
+// Every count of the n but the first is 1. No early exit: the loop is vectorised.
+fn ones(counts: &[u16], n: usize) -> bool
+    requires { ⌜ (0 < n) × (n ≤ length (now counts)) ⌝ }
+    ensures { λ r. ⌜ r ≡ areOnes (now (counts .entry)) n ⌝ }
+{
+    let mut wrong = 0;
+    let mut i = 1;
+    while i < n {
+        wrong |= counts[i] ^ 1;
+        i += 1;
+    }
+    wrong == 0
+}
+
+// Both tests, by a table of zeros with a count for each item.
+fn items_good(table: &[u32], n: usize, counts: &mut [u16]) -> bool
+    requires { ⌜ (length (now table) ≡ 3 * n) × (0 < n) × (n ≤ itemsMost) × (n ≤ length (now counts)) × (AtMost 0 (now counts)) ⌝ }
+    ensures { λ r. ⌜ r ≡ itemsGood (now (table .entry)) n ⌝ }
+{
+    if !items_fit(table, n, counts) {
+        return false;
+    }
+    ones(counts, n)
+}
+
+// Every item's words are those of its kind, and every item but item 0 is referred to exactly once.
+pub fn every_item(table: &[u32], n: usize) -> bool
     requires { ⌜ (length (now table) ≡ 3 * n) × (0 < n) × (n ≤ itemsMost) ⌝ }
-    ensures { λ r. ⌜ r ≡ all (isReferredOnce (references (items 0 (now (table .entry))))) (items 0 (now (table .entry))) ⌝ }
+    ensures { λ r. ⌜ r ≡ itemsGood (now (table .entry)) n ⌝ }
 {
     if n <= FEW_ITEMS {
         let mut few = [0u16; FEW_ITEMS];
-        return once_each(table, n, &mut few);
+        return items_good(table, n, &mut few);
     }
     let mut counts = [0u16; words::MOST_ITEMS];
-    once_each(table, n, &mut counts)
+    items_good(table, n, &mut counts)
 }

@@ -17,7 +17,7 @@ fn ground(table: &[u32], fuel: u32, work: usize, core: usize) -> u32 {
     if !layout::tables_fit(n, fuel, work, core) {
         return 9;
     }
-    let mut places = [0u32; words::NAMES];
+    let mut places = [0u16; words::NAMES];
     if !layout::operation::operations(table, &mut places) {
         return 10;
     }

@@ -15,7 +15,8 @@ use mir.Facts.{toZ-pos, toZ-ofZ}
 use borrow.Author.Tests.{le-leb, lt-leb, leb-true, leb-false, eq-eqb, ne-eqb}
 use Rattle.words.specs.Lists.{within, all}
 use Rattle.words.specs.Parts.{rest}
-use Rattle.words.specs.ListLaws.{either, and-left, and-right, within-low, within-high, rest-is}
+use Rattle.words.specs.TestLaws.{and-left, and-right, within-least, within-most}
+use Rattle.words.specs.ListLaws.{either, rest-is}
 use Rattle.datum.specs.Constant.{integer}
 use Rattle.reading.specs.Token.{isDigit}
 use Rattle.reading.specs.Meaning.{Meaning, constant, refused, isNegative, unsigned, isNumeral, valueFrom, size, signed, integerOf}
@@ -30,7 +31,7 @@ all-at (c ∷ cs) (suc i) h l = all-at cs i (and-right (isDigit c) (all isDigit 
 
 pub digit-range : (c : ℕ) → isDigit c ≡ true → (48 ≤ c) × (c ≤ 57)
 unfolding isDigit
-digit-range c h = (within-low 48 57 c h, within-high 48 57 c h)
+digit-range c h = (within-least 48 57 c h, within-most 48 57 c h)
 
 module _ (l : List ℕ) (i : ℕ) (h : i < length l) where
   -- all from i on, and from i + 1 on

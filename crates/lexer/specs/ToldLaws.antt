@@ -8,13 +8,14 @@ use native.Mathlib.Numerals.{add-one}
 use lib.Dec.{eqb}
 use lib.ListN.{length, getD, take, drop}
 use lib.Seq.{drop-cons, drop-length}
-use borrow.Author.Tests.{le-leb, lt-leb, ne-eqb, eqb-true, eqb-false}
+use borrow.Author.Tests.{le-leb, lt-leb, ne-eqb}
 use Rattle.words.specs.Lists.{within, all, any, equal}
 use Rattle.words.specs.Parts.{part}
-use Rattle.words.specs.ListLaws.{either, never, and-left, and-right, within-high, all-append, part-more, part-split, length-part}
+use Rattle.words.specs.TestLaws.{and-left, and-right, within-most}
+use Rattle.words.specs.ListLaws.{all-append, part-more, part-split, length-part}
 use Rattle.words.specs.Text.{bytes}
 use Rattle.datum.specs.Constant.{boolean}
-use Rattle.reading.specs.Token.{foreign, Token, run, nothing, hash, isDigit, isRunning, isSeparating, classOf, flagOf, alone, completed, begun, next, ended, tokensAfter}
+use Rattle.reading.specs.Token.{foreign, run, nothing, hash, isDigit, isRunning, isSeparating, classOf, flagOf, alone, completed, begun, next, ended, tokensAfter}
 use Rattle.reading.specs.Meaning.{Meaning, begins, ends, constant, refused, meaningOf, isName}
 use Rattle.reading.specs.RecipeText.{EndsRun, atEnd, before}
 use Rattle.reading.specs.Offset.{leading, widthOf, firstWidth, startAt, nextAt}
@@ -50,7 +51,7 @@ name-many (c ∷ d ∷ cs) h k l =
 
 pub name-short : (cs : List ℕ) → isName cs ≡ true → length cs ≤ 63
 unfolding isName
-name-short cs h = within-high 1 63 (length cs) (and-left (within 1 63 (length cs)) (not (equal cs (46 ∷ []))) h)
+name-short cs h = within-most 1 63 (length cs) (and-left (within 1 63 (length cs)) (not (equal cs (46 ∷ []))) h)
 
 -- ---- bytes
 
@@ -161,16 +162,13 @@ width-run [] bs h a e = absurd (omega arith)
 width-run (c ∷ cs) bs h a e =
     rw (class-running c (and-left (isRunning c) (all isRunning cs) a)) (ap suc (leading-run cs bs (and-right (isRunning c) (all isRunning cs) a) e))
 
-no-run : {b : ℕ} {bs : List ℕ} → isRunning b ≡ true → EndsRun (b ∷ bs) → ⊥
-no-run h (before k) = never h k
+first-stops : {b : ℕ} {bs : List ℕ} → EndsRun (b ∷ bs) → isRunning b ≡ false
+first-stops (before k) = k
 
 module _ (text : List ℕ) (at to : ℕ) (r : RunTo text at to) where
-  -- a run with a first byte is longer than none
-  pub run-longer : at < length text → isRunning (getD text at 0) ≡ true → at < to
-  run-longer h b =
-      either (eqb at to)
-      (λ e. absurd (no-run b (subst EndsRun (here text at h) (subst (λ n. EndsRun (drop n text)) (sym (eqb-true at to e)) (r .stops)))))
-      (λ e. omega (arith, r .low, eqb-false at to e))
+  -- the byte where a run ends as it starts is none of a run
+  pub run-none : at < length text → to ≡ at → isRunning (getD text at 0) ≡ false
+  run-none h e = first-stops (subst EndsRun (here text at h) (subst (λ n. EndsRun (drop n text)) e (r .stops)))
 
   pub run-means : at < to → meaningsFrom text at ≡ meaningOf (run (part at to text)) ∷ meaningsFrom text to
   unfolding meaningsFrom

@@ -11,8 +11,12 @@ pub fn is_digit(b: u8) -> bool
 pub fn is_running(b: u8) -> bool
     ensures { λ r. ⌜ r ≡ isRunning b ⌝ }
 {
+    // Letters first: most bytes of a name are letters, and two tests settle them.
+    if b'a' <= b && b <= b'z' {
+        return true;
+    }
     match b {
-        b'a'..=b'z' | b'0'..=b'9' => true,
+        b'0'..=b'9' => true,
         b'!' | b'?' | b'*' | b'<' | b'=' | b'>' | b'/' | b'+' | b'-' | b'.' | b'_' => true,
         _ => false,
     }

@@ -128,8 +128,9 @@ pub fn token_at(text: &[u8], cursor: Cursor) -> Token
     if b == b'#' {
         return flag_at(text, at + 1);
     }
-    if !is_running(b) {
+    let to = run_end(text, at);
+    if to == at {
         return Token::Refused(3, Cursor { at: at + 1 });
     }
-    run_token(text, at, run_end(text, at))
+    run_token(text, at, to)
 }

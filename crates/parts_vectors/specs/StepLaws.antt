@@ -21,8 +21,7 @@ use Rattle.rule_cells.specs.Cells.{rulesAt}
 use Rattle.rule_cells.specs.CellLaws.{rulesAt-below}
 use Rattle.rule_cells.specs.Parse.{Asks}
 use Rattle.rule_cells.specs.RuleParse.{RulesMade, RulesLeft}
-use Rattle.rule_cells.specs.declared.templates.Built.{Built}
-use Rattle.rule_cells.specs.declared.templates.Built.the-variants.{Good}
+use Rattle.rule_cells.specs.Built.{Built, Good}
 use Rattle.arena.specs.Lists.{Means}
 use Rattle.environments.specs.Sound.{SoundRule}
 use Rattle.environments.specs.SoundRules.{rulesOf-sound}

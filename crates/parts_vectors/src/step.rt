@@ -4,9 +4,9 @@ use arena::cells;
 use arena::item_nodes;
 use arena::lists;
 use rule_cells::rules;
-use rule_cells::templates::Built;
 use steps::apply;
 use steps::apply::Applied;
+use words::packed;
 
 // The items have no layout, or there is too much fuel for the tables; grounds 15 to 18; or the result's root and its items.
 pub enum Tried {
@@ -26,11 +26,12 @@ fn first_step(items: &[u32], work: &mut [u32], root: u32, fuel: u32) -> Tried
     let form = lists::element(work, both, 0);
     let whole = lists::element(work, both, 1);
     let used = lists::rest(work, whole);
-    let Built::Good(at, top) = rules::rules(items, work, form, 0, root) else {
+    let built = rules::rules(items, work, form, 0, root);
+    if built == packed::NONE {
         return Tried::BadRules;
-    };
-    let marked = cells::put_mark(work, top, 1, 0);
-    match apply::apply(items, work, marked, at, used, marked, fuel) {
+    }
+    let marked = cells::put_mark(work, packed::low(built), 1, 0);
+    match apply::apply(items, work, marked, packed::high(built), used, marked, fuel) {
         Applied::NoRule => Tried::NoRule,
         Applied::Differ => Tried::Differ,
         Applied::Costly => Tried::Costly,

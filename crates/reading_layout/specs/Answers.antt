@@ -9,7 +9,8 @@ use lib.ListN.{length}
 use borrow.Author.Tests.{le-leb}
 use Rattle.words.specs.Limits.{itemWordsLeast, nameBytesLeast, textBytesMost}
 use Rattle.words.specs.Lists.{within, all, equal}
-use Rattle.words.specs.ListLaws.{either, and-left, within-high, all-append}
+use Rattle.words.specs.TestLaws.{and-left, within-most}
+use Rattle.words.specs.ListLaws.{either, all-append}
 use Rattle.datum.specs.Datum.{Datum, constantD}
 use Rattle.datum.specs.NameTableLaws.{isShort, length-slots}
 use Rattle.reading.specs.Token.{Token, open′, close′, bad, flag, run, isDigit, tokens}
@@ -49,7 +50,7 @@ integer-short cs = either (all isDigit (unsigned cs)) (λ e. rw e (signed-short 
 
 is-short : (cs : List ℕ) → isName cs ≡ true → isShort cs ≡ true
 unfolding isName isShort
-is-short cs e = le-leb _ _ (within-high 1 63 (length cs) (and-left (within 1 63 (length cs)) (not (equal cs (46 ∷ []))) e))
+is-short cs e = le-leb _ _ (within-most 1 63 (length cs) (and-left (within 1 63 (length cs)) (not (equal cs (46 ∷ []))) e))
 
 name-short : (cs : List ℕ) → Short (nameOf cs)
 unfolding nameOf

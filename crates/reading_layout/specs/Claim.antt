@@ -9,7 +9,7 @@ use lib.ListN.{length, drop}
 use borrow.Author.Tests.{eq-eqb}
 use Rattle.words.specs.Limits.{itemsLeast, itemsMost}
 use Rattle.words.specs.Lists.{within, all}
-use Rattle.words.specs.TestLaws.{and-parts}
+use Rattle.words.specs.TestLaws.{and-parts, within-is}
 use Rattle.datum.specs.Datum.{Datum, Data, noneD, moreD, dataItems}
 use Rattle.recipe.specs.Tree.{isList, isListOf, element}
 use Rattle.recipe.specs.Table.{items, references, isItem, isReferredOnce, treeOf, itemCount, isLayout}
@@ -21,7 +21,7 @@ use Rattle.reading.specs.Accepts.{accepted-only}
 use Rattle.reading.specs.AcceptedLaws.{items-few}
 use Rattle.reading_layout.specs.Items.{fits, fitAll, data-length, datum-positive, items-are}
 use Rattle.reading_layout.specs.Places.{data-referred}
-use Rattle.reading_layout.specs.Good.{within-is, data-good}
+use Rattle.reading_layout.specs.Good.{data-good}
 use Rattle.reading_layout.specs.Fit.{recipe-fits}
 use Rattle.reading_layout.specs.Root.{isListDatum, isListData, is-two, first-list}
 

@@ -4,22 +4,17 @@ use mathlib.Core.Bool.{true, false, _||_}
 use mathlib.Core.List.{List, [], _∷_, _++_, append-assoc}
 use Prim.Native.Nat.{ℕ, suc, _+_, _-_, _*_, _≤_, _<_}
 use native.Mathlib.Omega.{arith}
-use lib.Dec.{eqb, leb}
+use lib.Dec.{eqb}
 use lib.ListN.{length, getD, drop}
 use lib.Seq.{getD-drop, drop-drop, drop-at}
-use borrow.Author.Tests.{le-leb}
-use Rattle.words.specs.Lists.{within, all}
+use Rattle.words.specs.Lists.{all}
 use Rattle.words.specs.ListLaws.{all-append}
-use Rattle.words.specs.TestLaws.{and-parts, and-both}
+use Rattle.words.specs.TestLaws.{and-parts, and-both, within-is}
 use Rattle.datum.specs.Constant.{isConstant}
 use Rattle.datum.specs.Datum.{Datum, Data, constantD, nameD, listD, noneD, moreD, datumItems, dataItems}
 use Rattle.recipe.specs.Table.{byKind, constantOf, kindAt, isPairItem, isItem}
 use Rattle.reading.specs.Numbering.{datumWords, dataWords}
 use Rattle.reading_layout.specs.Items.{fits, fitAll, by-kind, item, itemsOf, itemsOfAll, datum-length, datum-positive, data-positive}
-
-pub within-is : (a b n : ℕ) → a ≤ n → n ≤ b → within a b n ≡ true
-unfolding within
-within-is a b n p q = and-both (leb a n) (leb n b) (le-leb a n p) (le-leb n b q)
 
 module _ (ws : List ℕ) where
   -- ---- words from place i on

@@ -1,6 +1,6 @@
 -- Laws of a binder that is met by the name in hand, one for each way through the code.
 use mathlib.Core.Path.{_≡_, refl, sym, ap, ap₂, _∙_}
-use mathlib.Core.Bool.{Bool, true, false, _&&_}
+use mathlib.Core.Bool.{Bool, true, false, _&&_, or-true}
 use mathlib.Core.List.{List}
 use Prim.Native.Nat.{ℕ, _+_, _-_, _≤_, _<_}
 use native.Mathlib.Omega.{arith}
@@ -10,7 +10,8 @@ use borrow.Author.Tests.{eq-eqb, ne-eqb, lt-ltb, le-ltb}
 use Rattle.words.specs.Lists.{equal}
 use Rattle.recipe.specs.Name.{Name, bindingKey, plainName}
 use Rattle.arena.specs.Arena.{wordAt, referenceAt, newest, giveKey, ownMarks, sameMarks, isOwn, rebound, wrapAt}
-use Rattle.arena.specs.ArenaLaws.{cases, take-less, bindingKey-of, equal-true, or-true}
+use Rattle.words.specs.ListLaws.{either, equal-true}
+use Rattle.arena.specs.ArenaLaws.{take-less, bindingKey-of}
 use Rattle.resolution.specs.Marks.{marksIn, Hand, MarksAfter, Holds, NameAfter, OwnMarks, OwnIs}
 use Rattle.resolution.specs.MarkLaws.{marksIn-length, marksIn-below}
 
@@ -51,7 +52,7 @@ fifth-fails e true false c d h = refl
 fifth-fails e false b c d h = refl
 
 pub equal-lengths : (a b : List ℕ) → (length a ≡ length b → ⊥) → equal a b ≡ false
-equal-lengths a b h = cases (equal a b) (λ t. absurd (h (ap length (equal-true a b t)))) (λ t. t)
+equal-lengths a b h = either (equal a b) (λ t. absurd (h (ap length (equal-true a b t)))) (λ t. t)
 
 module _ (work : List ℕ) (w : ℕ) (x : Name) where
   abbrev pub Not-own : Type 0

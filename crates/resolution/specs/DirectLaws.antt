@@ -10,7 +10,8 @@ use lib.ListN.{length}
 use borrow.Author.Tests.{ne-eqb, eqb-true}
 use Rattle.recipe.specs.Name.{Name, bindingKey, markName, toggle}
 use Rattle.arena.specs.Arena.{wordAt, referenceAt, stepLimit, newest, giveKey, marked, isOwn, rebound, wrapAt, nodeName, nameAt, numberOf}
-use Rattle.arena.specs.ArenaLaws.{cases, wordAt-some, wrapAt-none, wrapAt-mark, wrapAt-binder, wrapAt-number, marked-is, marked-binding, bindingKey-of}
+use Rattle.words.specs.ListLaws.{either}
+use Rattle.arena.specs.ArenaLaws.{wordAt-some, wrapAt-none, wrapAt-mark, wrapAt-binder, wrapAt-number, marked-is, marked-binding, bindingKey-of}
 use Rattle.resolution.specs.BinderLaws.{own-number, own-binding, own-count, own-newest, few-same, own-all}
 use Rattle.resolution.specs.Names.{Summed}
 use Rattle.resolution.specs.Direct.{SkipsTo, Passes, MarkCell, OneMark, markOnce, countOf, LoneMark, OnlyMark, Bare, Gives, Finds, unknown}
@@ -24,23 +25,23 @@ markOnce-some m x h = rw (ne-eqb m 0 h)
 module _ (number m : ℕ) (x : Name) (bare : Bare number x) where
   once-number : markOnce m x .number ≡ number
   unfolding markOnce markName
-  once-number = cases (eqb m 0) (λ t. rw t (bare .number-is)) (λ t. rw t (bare .number-is))
+  once-number = either (eqb m 0) (λ t. rw t (bare .number-is)) (λ t. rw t (bare .number-is))
 
   once-binding : markOnce m x .binding ≡ none
   unfolding markOnce markName
-  once-binding = cases (eqb m 0) (λ t. rw t (bare .no-binding)) (λ t. rw t (bare .no-binding))
+  once-binding = either (eqb m 0) (λ t. rw t (bare .no-binding)) (λ t. rw t (bare .no-binding))
 
   once-count : length (markOnce m x .marks) ≡ countOf m
   unfolding markOnce markName countOf toggle
-  once-count = cases (eqb m 0) (λ t. rw (t, bare .no-marks)) (λ t. rw (t, bare .no-marks))
+  once-count = either (eqb m 0) (λ t. rw (t, bare .no-marks)) (λ t. rw (t, bare .no-marks))
 
   once-newest : newest (markOnce m x .marks) ≡ m
   unfolding markOnce markName newest toggle
-  once-newest = cases (eqb m 0) (λ t. rw (t, bare .no-marks) (sym (eqb-true m 0 t))) (λ t. rw (t, bare .no-marks))
+  once-newest = either (eqb m 0) (λ t. rw (t, bare .no-marks) (sym (eqb-true m 0 t))) (λ t. rw (t, bare .no-marks))
 
   once-few : length (markOnce m x .marks) < 2
   unfolding countOf
-  once-few = rw once-count (cases (eqb m 0) (λ t. rw t (omega arith)) (λ t. rw t (omega arith)))
+  once-few = rw once-count (either (eqb m 0) (λ t. rw t (omega arith)) (λ t. rw t (omega arith)))
 
 -- ---- cells that are passed
 

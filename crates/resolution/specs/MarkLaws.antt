@@ -12,7 +12,8 @@ use borrow.Author.Tests.{lt-ltb, le-ltb, eq-eqb, ne-eqb, ltb-true, ltb-false, eq
 use Rattle.words.specs.Lists.{equal}
 use Rattle.recipe.specs.Name.{toggle}
 use Rattle.arena.specs.Arena.{newest}
-use Rattle.arena.specs.ArenaLaws.{cases, take-less}
+use Rattle.words.specs.ListLaws.{either}
+use Rattle.arena.specs.ArenaLaws.{take-less}
 use Rattle.resolution.specs.Marks.{marksIn, Descends, none, more, Toggled}
 
 -- ---- marksIn
@@ -104,10 +105,10 @@ pub descends-toggle : {b : ℕ} {l : List ℕ} (m : ℕ) → m < b → Descends 
 unfolding toggle
 descends-toggle m h none = more h none
 descends-toggle {b} m h (more {m = x} {ms = xs} p d) =
-    cases (eqb m x)
+    either (eqb m x)
     (λ t. rw t (descends-wider b (omega arith) d))
     (λ t.
-    cases (ltb x m)
+    either (ltb x m)
     (λ u. rw (t, u) (more h (more (ltb-true x m u) d)))
     (λ u. rw (t, u) (let ne : m ≡ x → ⊥ = eqb-false m x t in let le : m ≤ x = ltb-false x m u in let lt : m < x = omega arith in more p (descends-toggle m lt d))))
 

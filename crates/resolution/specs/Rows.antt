@@ -2,7 +2,7 @@
 use mathlib.Core.Path.{_≡_, refl}
 use mathlib.Core.List.{List, [], _∷_}
 use Prim.Native.Nat.{ℕ}
-use Rattle.words.specs.Lists.{equal}
+use Rattle.words.specs.Lists.{within, equal}
 use Rattle.recipe.specs.Name.{variable, plainName, bindingKey, markName, toggle}
 use Rattle.expansion.specs.Lookup.{Found, bound, operation, orUnbound}
 use Rattle.arena.specs.Arena.{wordAt, falling, referenceAt, bindingOf, giveKey, marked, newest, byTag, markOn, joinOn, ownMarks, sameMarks, isOwn, rebound, binderOn, wrapStep, wrapFrom, wrapAt, numberAt, nodeName, nameAt}
@@ -17,7 +17,7 @@ places = 0 ∷ 0 ∷ 0 ∷ 0 ∷ 0 ∷ 0 ∷ 0 ∷ 0 ∷ 1 ∷ []
 
 -- what the name of a node finds under a wrap
 finds : List ℕ → ℕ → ℕ → Found
-unfolding lookupIn orUnbound unboundIn operationAt nameAt nodeName numberAt wrapAt wrapFrom wrapStep byTag wordAt referenceAt falling markOn joinOn binderOn rebound isOwn sameMarks ownMarks marked markName toggle giveKey bindingOf newest bindingKey equal plainName
+unfolding lookupIn orUnbound unboundIn operationAt nameAt nodeName numberAt wrapAt wrapFrom wrapStep byTag wordAt within referenceAt falling markOn joinOn binderOn rebound isOwn sameMarks ownMarks marked markName toggle giveKey bindingOf newest bindingKey equal plainName
 finds work node w = lookupIn places (nameAt oneName work node w)
 
 -- E25: x at 3; a binder of it to variable 0, 12; x again with that as its own wrap, 15; mark 1, 18

@@ -309,7 +309,7 @@ pub fn bind(
 }
 
 // What a name without a binding means: a base form, an operation by the table of their places, or nothing.
-pub fn unbound(operations: &[u32], number: u32) -> Meaning
+pub fn unbound(operations: &[u16], number: u32) -> Meaning
     ensures { λ r. ⌜ meansOf r ≡ unboundIn (now (operations .entry)) number ⌝ }
 {
     if number < 8 {
@@ -319,7 +319,7 @@ pub fn unbound(operations: &[u32], number: u32) -> Meaning
     if operations.len() <= i {
         return Meaning::Nothing;
     }
-    let place = operations[i];
+    let place = operations[i] as u32;
     if place == 0 {
         return Meaning::Nothing;
     }
@@ -327,7 +327,7 @@ pub fn unbound(operations: &[u32], number: u32) -> Meaning
 }
 
 // A lookup finds the binding; without one, a base form, an operation, or nothing.
-pub fn lookup(items: &[u32], work: &[u32], operations: &[u32], node: u32, w: u32) -> Meaning
+pub fn lookup(items: &[u32], work: &[u32], operations: &[u16], node: u32, w: u32) -> Meaning
     ensures { λ r. ⌜ meansOf r ≡ lookupIn (now (operations .entry)) (nameAt (now (items .entry)) (now (work .entry)) node w) ⌝ }
 {
     let b = binding_of(items, work, node, w);

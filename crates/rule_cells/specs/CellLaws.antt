@@ -12,12 +12,13 @@ use Rattle.expansion.specs.Rules.{Pattern, variableP, literalP, wildcardP, cons
 use Rattle.arena.specs.Arena.{wordAt, falling, referenceAt, wrapAt, wrapFrom, nodeName, nameAt}
 use Rattle.arena.specs.ArenaLaws.{wordAt-below, referenceAt-below, referenceAt-falls, take-less, wrapAt-below}
 use Rattle.arena.specs.NodeLaws.{nameAt-agree}
+use Rattle.words.specs.Lists.{within}
 use Rattle.rule_cells.specs.Cells.{constantBefore, literalAt, patternStep, patternFrom, patternAt, templateStep, templateFrom, templateAt, ruleAt, rulesFrom, rulesAt}
 
 -- ---- names and constants
 
 pub nameAt-below : (items a b : List ℕ) (node w : ℕ) → take node a ≡ take node b → take w a ≡ take w b → nameAt items a node w ≡ nameAt items b node w
-unfolding nameAt nodeName referenceAt wordAt falling wrapFrom wrapAt
+unfolding nameAt nodeName referenceAt wordAt within falling wrapFrom wrapAt
 nameAt-below items a b zero w e d = wrapAt-below a b w d _
 nameAt-below items a b (suc node) w e d = nameAt-agree items a b (suc node) w (omega arith) e d
 
@@ -94,7 +95,7 @@ module _ (items : List ℕ) where
   patternFrom-step w g at = refl
 
   patternFrom-none : (w : List ℕ) (g : ℕ) → patternFrom items w g 0 ≡ emptyP
-  unfolding patternFrom patternStep wordAt
+  unfolding patternFrom patternStep wordAt within
   patternFrom-none w zero = refl
   patternFrom-none w (suc g) = refl
 
@@ -107,7 +108,7 @@ module _ (items : List ℕ) where
   patternAt-whole = from-whole (patternFrom items) (patternStep items) emptyP patternFrom-step patternFrom-none (patternStep-agree items)
 
   patternAt-step : (w : List ℕ) (at : ℕ) → patternAt items w at ≡ patternStep items w (patternAt items w) at
-  unfolding patternAt patternFrom patternStep wordAt
+  unfolding patternAt patternFrom patternStep wordAt within
   patternAt-step w zero = refl
   patternAt-step w (suc at) = patternAt-whole w (suc at) (omega arith)
 
@@ -116,7 +117,7 @@ module _ (items : List ℕ) where
   templateFrom-step w g at = refl
 
   templateFrom-none : (w : List ℕ) (g : ℕ) → templateFrom items w g 0 ≡ emptyT
-  unfolding templateFrom templateStep wordAt
+  unfolding templateFrom templateStep wordAt within
   templateFrom-none w zero = refl
   templateFrom-none w (suc g) = refl
 
@@ -129,7 +130,7 @@ module _ (items : List ℕ) where
   templateAt-whole = from-whole (templateFrom items) (templateStep items) emptyT templateFrom-step templateFrom-none (templateStep-agree items)
 
   templateAt-step : (w : List ℕ) (at : ℕ) → templateAt items w at ≡ templateStep items w (templateAt items w) at
-  unfolding templateAt templateFrom templateStep wordAt
+  unfolding templateAt templateFrom templateStep wordAt within
   templateAt-step w zero = refl
   templateAt-step w (suc at) = templateAt-whole w (suc at) (omega arith)
 

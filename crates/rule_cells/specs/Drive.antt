@@ -9,7 +9,8 @@ use lib.ListN.{length}
 use borrow.Author.Tests.{lt-ltb, ne-eqb, eqb-true, eqb-false}
 use Rattle.expansion.specs.Rules.{Template, variableT, emptyT, pairT, ellipsisT, drivers, depthFits}
 use Rattle.arena.specs.Arena.{wordAt, referenceAt}
-use Rattle.arena.specs.ArenaLaws.{cases, wordAt-some, referenceAt-falls}
+use Rattle.words.specs.ListLaws.{either}
+use Rattle.arena.specs.ArenaLaws.{wordAt-some, referenceAt-falls}
 use Rattle.rule_cells.specs.Cells.{templateAt}
 use Rattle.rule_cells.specs.CellLaws.{templateAt-variable, templateAt-insert, templateAt-constant, templateAt-pair, templateAt-ellipsis, templateAt-empty}
 use Rattle.rule_cells.specs.Made.{Made}
@@ -28,19 +29,19 @@ Accepts work dots at r = (items : List ℕ) → r ≡ (not dots || drives 0 (tem
 
 drives-variable : (j k d : ℕ) → ltb j d ≡ drives j (variableT k d)
 unfolding drives drivers
-drives-variable j k d = cases (ltb j d) (λ t. rw t refl) (λ t. rw t refl)
+drives-variable j k d = either (ltb j d) (λ t. rw t refl) (λ t. rw t refl)
 
-either : {A : Type 0} (a b : List A) → ltb 0 (length (a ++ b)) ≡ (ltb 0 (length a) || ltb 0 (length b))
-either [] b = refl
-either (x ∷ a) b = lt-ltb 0 (length (x ∷ a ++ b)) (omega arith) ∙ sym (ap (λ (t : Bool). t || ltb 0 (length b)) (lt-ltb 0 (length (x ∷ a)) (omega arith)))
+some-of : {A : Type 0} (a b : List A) → ltb 0 (length (a ++ b)) ≡ (ltb 0 (length a) || ltb 0 (length b))
+some-of [] b = refl
+some-of (x ∷ a) b = lt-ltb 0 (length (x ∷ a ++ b)) (omega arith) ∙ sym (ap (λ (t : Bool). t || ltb 0 (length b)) (lt-ltb 0 (length (x ∷ a)) (omega arith)))
 
 drives-pair : (j : ℕ) (e r : Template) → drives j (pairT e r) ≡ (drives j e || drives j r)
 unfolding drives drivers
-drives-pair j e r = either (drivers j e) (drivers j r)
+drives-pair j e r = some-of (drivers j e) (drivers j r)
 
 drives-ellipsis : (j : ℕ) (e r : Template) → drives j (ellipsisT e r) ≡ (drives (suc j) e || drives j r)
 unfolding drives drivers
-drives-ellipsis j e r = either (drivers (suc j) e) (drivers j r)
+drives-ellipsis j e r = some-of (drivers (suc j) e) (drivers j r)
 
 module _ (work : List ℕ) (at j : ℕ) where
   pub driven-variable : (d : ℕ) → wordAt work at 1 ≡ 1 → d ≡ wordAt work at 2 → Drives work at j (ltb j d)
@@ -55,10 +56,10 @@ module _ (work : List ℕ) (at j : ℕ) where
       let m1 : wordAt work at 1 ≡ 1 → ⊥ = λ z. n1 (g ∙ z) in
       let m6 : wordAt work at 1 ≡ 6 → ⊥ = λ z. n6 (g ∙ z) in
       let m7 : wordAt work at 1 ≡ 7 → ⊥ = λ z. n7 (g ∙ z) in
-      cases (eqb (wordAt work at 1) 2)
+      either (eqb (wordAt work at 1) 2)
       (λ t. driven-leaf _ items (templateAt-insert items work at (eqb-true (wordAt work at 1) 2 t)) refl)
       (λ t.
-      cases (eqb (wordAt work at 1) 4)
+      either (eqb (wordAt work at 1) 4)
       (λ u. driven-leaf _ items (templateAt-constant items work at (eqb-true (wordAt work at 1) 4 u)) refl)
       (λ u. driven-leaf emptyT items (templateAt-empty items work at m1 (eqb-false (wordAt work at 1) 2 t) (eqb-false (wordAt work at 1) 4 u) m6 m7) refl))
 
@@ -71,7 +72,7 @@ module _ (work : List ℕ) (at j : ℕ) where
 
     driven-parts : (items : List ℕ) → drives j (templateAt items work at) ≡ (drives (j + (tag - 6)) (templateAt items work first) || drives j (templateAt items work rest))
     driven-parts items =
-        cases (eqb tag 6)
+        either (eqb tag 6)
         (λ t.
         let e : tag ≡ 6 = eqb-true tag 6 t in
         let z : j + (tag - 6) ≡ j = omega arith in

@@ -10,12 +10,10 @@ use Rattle.recipe.specs.Name.{Name, same, isEllipsis, isWildcard}
 use Rattle.recipe.specs.Tree.{name, onName}
 use Rattle.expansion.specs.Rules.{areVariables, dotsNext, depthBefore, isVariable, variables}
 use Rattle.arena.specs.Arena.{wordAt, referenceAt, nameAt, treeAt}
-use Rattle.arena.specs.ArenaLaws.{cases}
+use Rattle.words.specs.ListLaws.{either}
 use Rattle.arena.specs.NodeLaws.{treeAt-name, treeAt-pair}
 use Rattle.arena.specs.ListLaws.{tree-cases, no-name, pair-falls}
-use Rattle.rule_cells.specs.Variables.{leafCount, variablesFrom, Held, Stored, Gathered, Gathering, Deeper}
-use Rattle.rule_cells.specs.declared.variables.Kept.{Kept}
-use Rattle.rule_cells.specs.declared.variables.Kept.the-variants.{Count, Bad}
+use Rattle.rule_cells.specs.Variables.{leafCount, variablesFrom, Kept, Count, Bad, keptOf, Held, Stored, Gathered, Gathering, Deeper}
 
 -- ---- which names are variables
 
@@ -63,9 +61,25 @@ module _ (items work : List ℕ) (node w : ℕ) (literals : List Name) where
 pub deeper-most : (items work : List ℕ) (rest d r : ℕ) → Deeper items work rest d r → r ≤ d + 1
 unfolding depthBefore
 deeper-most items work rest d r h =
-    cases (dotsNext isEllipsis (treeAt items work rest 0))
+    either (dotsNext isEllipsis (treeAt items work rest 0))
     (λ t. let e : r ≡ suc d = rw t at (h 0) in omega arith)
     (λ t. let e : r ≡ d = rw t at (h 0) in omega arith)
+
+-- ---- the word of what is gathered
+
+pub kept-bad : (n : ℕ) → n ≡ 4294967295 → keptOf n ≡ Bad
+unfolding keptOf
+kept-bad n e = rw e refl
+
+pub kept-count : (n : ℕ) → (n ≡ 4294967295 → ⊥) → keptOf n ≡ Count n
+unfolding keptOf
+kept-count n h = rw (ne-eqb _ _ h) refl
+
+-- a count is at most 16
+pub gathered-count : (more : List (Name × ℕ)) (items work : List ℕ) (w node n : ℕ) (old new : List ℕ) (m : ℕ) → Gathered more items work w node n old new (Count m) → Gathered more items work w node n old new (keptOf m)
+gathered-count more items work w node n old new m s =
+    let small : m ≡ 4294967295 → ⊥ = λ z. omega (arith, s .held .most) in
+    subst (λ (k : Kept). Gathered more items work w node n old new k) (sym (kept-count m small)) s
 
 -- ---- what is gathered
 

@@ -7,6 +7,7 @@ pub mod Dots
 pub mod Variables
 pub mod VariableLaws
 pub mod GatherLaws
+pub mod Built
 pub mod Parse
 pub mod ParseLaws
 pub mod PatternLaws

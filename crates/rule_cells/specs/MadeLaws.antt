@@ -42,7 +42,7 @@ module _ (t : List ℕ) (top a b c d e : ℕ) (fits : top + 5 ≤ length t) wher
   stored-word : (k i v : ℕ) → k ≤ 5 → i + k ≡ top + 5 → getD (stored t top a b c d e) i 0 ≡ v → wordAt (stored t top a b c d e) (top + 5) k ≡ v
   stored-word k i v h s g =
       let m : top + 5 - k ≡ i = omega arith in
-      wordAt-in (stored t top a b c d e) (top + 5) k (omega arith) ∙ ap (λ (j : ℕ). getD (stored t top a b c d e) j 0) m ∙ g
+      wordAt-in (stored t top a b c d e) (top + 5) k (omega arith) (omega arith) (simp length-set fits) ∙ ap (λ (j : ℕ). getD (stored t top a b c d e) j 0) m ∙ g
 
   above-four : (j x : ℕ) → j < top + 4 → getD four j 0 ≡ x → getD (stored t top a b c d e) j 0 ≡ x
   above-four j x h g = left four (top + 4) j e x (λ z. omega arith) g

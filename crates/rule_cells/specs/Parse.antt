@@ -13,14 +13,14 @@ use Rattle.arena.specs.Cells.{Room}
 use Rattle.rule_cells.specs.Cells.{patternAt, templateAt}
 use Rattle.rule_cells.specs.declared.patterns.Parsed.{Parsed}
 use Rattle.rule_cells.specs.declared.patterns.Parsed.the-variants.{Good, Bad}
-use Rattle.rule_cells.specs.declared.templates.Built.{Built}
-use Rattle.rule_cells.specs.declared.templates.Built.the-variants as built
+use Rattle.rule_cells.specs.Built.{Built}
+use Rattle.rule_cells.specs.Built as built
 
--- a tree below the top, with room for its cells
+-- a tree below the top, with room for its cells and a word to spare, so that no top is the largest word (`words::packed`)
 pub record Asks (items work : List ℕ) (node w top : ℕ) : Type 0 where
   pub node-below : node ≤ top
   pub wrap-below : w ≤ top
-  pub room : Room work top (5 * size (treeAt items work node w))
+  pub room : Room work top (5 * size (treeAt items work node w) + 1)
 
 -- new cells for a tree: reference `at`, top `upper`
 pub record Grows (t : Tree) (old new : List ℕ) (top at upper : ℕ) : Type 0 where

@@ -34,6 +34,13 @@ kept-both h old mid new top a upper g e = take-less new mid top upper (g .up) e 
 -- ---- what is asked of the parts of a pair
 
 module _ (items work : List ℕ) (node w top : ℕ) (asks : Asks items work node w top) where
+  -- no top of its cells is the largest word
+  pub packs : top + 5 * size (treeAt items work node w) < 4294967295
+  packs = omega (arith, asks .room .small)
+
+  pub leaf-packs : top + 5 < 4294967295
+  leaf-packs = omega (arith, packs, size-positive (treeAt items work node w))
+
   -- room for a leaf's cell
   pub room-leaf : Room work top 5
   room-leaf = let l = size-positive (treeAt items work node w) in record { fits = omega (arith, asks .room .fits); small = omega (arith, asks .room .small) }

@@ -14,7 +14,7 @@ use Rattle.recipe.specs.Name.{Name, same, isEllipsis, isWildcard, bindingKey}
 use Rattle.recipe.specs.Tree.{Tree, empty, constant, name, pair, size, names, onEmpty, onName, onPair, isList, isListOf, elements, tail}
 use Rattle.expansion.specs.Rules.{Pattern, variableP, literalP, wildcardP, constantP, emptyP, pairP, ellipsisP, dotsNext, depthBefore, isVariable, variables, patternOf}
 use Rattle.arena.specs.Arena.{wordAt, referenceAt, nameAt, constantAt, treeAt}
-use Rattle.arena.specs.ArenaLaws.{cases}
+use Rattle.words.specs.ListLaws.{either}
 use Rattle.arena.specs.NodeLaws.{treeAt-empty, treeAt-name, treeAt-constant}
 use Rattle.arena.specs.CellLaws.{tree-kept}
 use Rattle.rule_cells.specs.Cells.{patternAt, patternFrom}
@@ -120,7 +120,7 @@ module _ (dots : Name → Bool) (literals : List Name) where
   unfolding variables
   variables-count d e empty = refl
   variables-count d e (constant a) = refl
-  variables-count d e (name x) = cases (isVariable dots literals x) (λ v. rw v refl) (λ v. rw v refl)
+  variables-count d e (name x) = either (isVariable dots literals x) (λ v. rw v refl) (λ v. rw v refl)
   variables-count d e (pair p ps) =
       length-append (variables dots literals (depthBefore dots ps d) p) (variables dots literals d ps)
       ∙ ap₂ _+_ (variables-count (depthBefore dots ps d) (depthBefore dots ps e) p) (variables-count d e ps)
@@ -137,7 +137,7 @@ module _ (literals : List Name) where
   unfolding variables size
   variables-size d empty = omega arith
   variables-size d (constant a) = omega arith
-  variables-size d (name x) = cases (isVariable isEllipsis literals x) (λ v. rw v (omega arith)) (λ v. rw v (omega arith))
+  variables-size d (name x) = either (isVariable isEllipsis literals x) (λ v. rw v (omega arith)) (λ v. rw v (omega arith))
   variables-size d (pair p ps) =
       omega (arith, length-append (variables isEllipsis literals (depthBefore isEllipsis ps d) p) (variables isEllipsis literals d ps), variables-size (depthBefore isEllipsis ps d) p, variables-size d ps)
 
@@ -146,7 +146,7 @@ module _ (literals : List Name) where
   unfolding variables leafCount elements onName isVariable
   after-dots x empty e l = rw e refl
   after-dots x (constant a) e l = rw e refl
-  after-dots x (name y) e l = rw e (cases (isVariable isEllipsis literals y) (λ v. rw v refl) (λ v. rw v refl))
+  after-dots x (name y) e l = rw e (either (isVariable isEllipsis literals y) (λ v. rw v refl) (λ v. rw v refl))
   after-dots x (pair h t) e l = absurd (omega arith)
 
   count-dots : (s : Tree) → true ≡ dotsNext isEllipsis s → true ≡ isListOf 1 s → length (variables isEllipsis literals 0 s) ≡ leafCount literals (tail s)
@@ -177,8 +177,8 @@ module _ (literals : List Name) (k : ℕ) (h s : Tree) where
   pair-bad : patternOf isEllipsis literals k h ≡ none → patternOf isEllipsis literals k (pair h s) ≡ none
   unfolding patternOf guard mapSome mapBoth
   pair-bad e =
-      cases (dotsNext isEllipsis s)
-      (λ d. cases (isListOf 1 s) (λ l. rw (d, l, e) refl) (λ l. rw (d, l) refl))
+      either (dotsNext isEllipsis s)
+      (λ d. either (isListOf 1 s) (λ l. rw (d, l, e) refl) (λ l. rw (d, l) refl))
       (λ d. rw (d, e) refl)
 
 -- what is left after each way through a pair

@@ -8,26 +8,26 @@ use native.Mathlib.Omega.{arith}
 use lib.ListN.{length, take}
 use Rattle.words.specs.Lists.{all}
 use Rattle.words.specs.Options.{guard, mapSome, mapBoth}
+use Rattle.words.specs.Packed.{packed}
 use Rattle.recipe.specs.Name.{Name, distinct, isEllipsis}
 use Rattle.recipe.specs.Tree.{Tree, size, names}
 use Rattle.expansion.specs.Rules.{Pattern, Template, Rule, areVariables, variables, patternOf, templateOf}
 use Rattle.arena.specs.Arena.{treeAt}
-use Rattle.arena.specs.ArenaLaws.{cases, take-less}
+use Rattle.words.specs.ListLaws.{either}
+use Rattle.arena.specs.ArenaLaws.{take-less}
 use Rattle.arena.specs.Cells.{Room}
 use Rattle.arena.specs.CellLaws.{tree-kept}
 use Rattle.rule_cells.specs.Cells.{patternAt, templateAt, rulesAt}
 use Rattle.rule_cells.specs.Made.{Made}
 use Rattle.rule_cells.specs.MadeLaws.{pattern-kept, rules-kept}
-use Rattle.rule_cells.specs.Variables.{variablesFrom, Held, Under, Stored, Gathered}
+use Rattle.rule_cells.specs.Variables as kept-is
+use Rattle.rule_cells.specs.Variables.{variablesFrom, Kept, Held, Under, Stored, Gathered}
+use Rattle.rule_cells.specs.Built.{Built, Good, Bad, builtOf, built-packed}
 use Rattle.rule_cells.specs.Parse.{Asks, PatternMade, PatternLeft, TemplateMade, TemplateLeft}
 use Rattle.rule_cells.specs.TemplateLaws.{variables-kept}
 use Rattle.rule_cells.specs.RuleParse.{partsOf, PartsAsk, RuleLeft}
-use Rattle.rule_cells.specs.declared.variables.Kept.{Kept}
-use Rattle.rule_cells.specs.declared.variables.Kept.the-variants as kept-is
 use Rattle.rule_cells.specs.declared.patterns.Parsed.{Parsed}
 use Rattle.rule_cells.specs.declared.patterns.Parsed.the-variants as parsed
-use Rattle.rule_cells.specs.declared.templates.Built.{Built}
-use Rattle.rule_cells.specs.declared.templates.Built.the-variants.{Good, Bad}
 
 -- ---- a rule's parts
 
@@ -41,15 +41,20 @@ module _ (literals : List Name) (p q : Tree) where
 
   parts-pattern : patternOf isEllipsis literals 0 p ≡ none → partsOf literals p q ≡ none
   unfolding partsOf guard mapBoth
-  parts-pattern e = rw e (cases (areVariables vs) (λ t. rw t refl) (λ t. rw t refl))
+  parts-pattern e = rw e (either (areVariables vs) (λ t. rw t refl) (λ t. rw t refl))
 
   parts-template : (x : Pattern) → patternOf isEllipsis literals 0 p ≡ some x → templateOf isEllipsis vs 0 false q ≡ none → partsOf literals p q ≡ none
   unfolding partsOf guard mapBoth mapSome
-  parts-template x e f = rw (e, f) (cases (areVariables vs) (λ t. rw t refl) (λ t. rw t refl))
+  parts-template x e f = rw (e, f) (either (areVariables vs) (λ t. rw t refl) (λ t. rw t refl))
 
   parts-both : (x : Pattern) (y : Template) → areVariables vs ≡ true → patternOf isEllipsis literals 0 p ≡ some x → templateOf isEllipsis vs 0 false q ≡ some y → partsOf literals p q ≡ some (record { pattern = x; template = y })
   unfolding partsOf guard mapBoth mapSome
   parts-both x y v e f = rw (v, e, f) refl
+
+-- the word of what is left
+pub rule-packed : (o : Option Rule) (s : ℕ) (items old new : List ℕ) (next top at upper p : ℕ) → top + 5 * s < 4294967295 → p ≡ packed at upper → RuleLeft o s items old new next top (Good at upper) → RuleLeft o s items old new next top (builtOf p)
+rule-packed o s items old new next top at upper p l e m =
+    subst (λ (z : Built). RuleLeft o s items old new next top z) (sym (built-packed p at upper e (omega (arith, m .words)))) m
 
 -- the table holds nothing at first
 pub held-none : (items work : List ℕ) (w : ℕ) (vars : List ℕ) → Held items work w vars 0
@@ -71,6 +76,9 @@ module _ (items old : List ℕ) (literals p q w next top : ℕ) (ask : PartsAsk 
 
   abbrev o : Option Rule
   o = partsOf listed pt qt
+
+  pub packs-rule : top + 5 * s < 4294967295
+  packs-rule = omega (arith, ask .room .small)
 
   pub small-p : 0 + p < 2 ^ 32
   small-p = omega (arith, ask .p-below, ask .room .small)

@@ -3,29 +3,30 @@ use mathlib.Core.Path.{_≡_, refl, sym, ap, ap₂, subst, _∙_}
 use mathlib.Core.Bool.{true, false, not, _&&_}
 use mathlib.Core.List.{List, _∷_}
 use mathlib.Core.Option.{Option, none, some}
-use Prim.Native.Nat.{ℕ, suc, _+_, _*_, _≤_}
+use Prim.Native.Nat.{ℕ, suc, _+_, _*_, _≤_, _<_}
 use native.Mathlib.Omega.{arith}
 use lib.Dec.{eqb}
 use lib.ListN.{length}
 use borrow.Author.Tests.{ne-eqb, eqb-true}
 use Rattle.words.specs.Options.{guard, mapSome, mapBoth, traverse}
+use Rattle.words.specs.Packed.{packed}
 use Rattle.words.specs.TestLaws.{and-left, and-right}
 use Rattle.recipe.specs.Name.{Name, isEllipsis}
 use Rattle.recipe.specs.Tree.{Tree, empty, constant, name, pair, size, names, onName, onPair, isList, isListOf, elements, element, tail}
 use Rattle.recipe.specs.TreeLaws.{element-tail}
 use Rattle.expansion.specs.Rules.{Rule, ruleOf, isRulesForm, rulesOf}
 use Rattle.arena.specs.Arena.{wordAt, referenceAt, treeAt, numberOf}
-use Rattle.arena.specs.ArenaLaws.{cases, take-less}
+use Rattle.words.specs.ListLaws.{either}
+use Rattle.arena.specs.ArenaLaws.{take-less}
 use Rattle.arena.specs.NodeLaws.{treeAt-name, nameAt-number}
 use Rattle.arena.specs.CellLaws.{tree-kept}
 use Rattle.arena.specs.Lists.{Means}
 use Rattle.arena.specs.ListLaws.{no-name, no-elements}
 use Rattle.rule_cells.specs.CellLaws.{rulesAt-none}
+use Rattle.rule_cells.specs.Built.{Built, Good, Bad, builtOf, built-packed}
 use Rattle.rule_cells.specs.Parse.{Asks}
 use Rattle.rule_cells.specs.ParseLaws.{tree-is, size-is, head-below}
 use Rattle.rule_cells.specs.RuleParse.{ruleShape, partsOf, PartsAsk, RuleLeft, RulesMade, RulesLeft}
-use Rattle.rule_cells.specs.declared.templates.Built.{Built}
-use Rattle.rule_cells.specs.declared.templates.Built.the-variants.{Good, Bad}
 
 -- ---- a rule's shape
 
@@ -55,7 +56,7 @@ module _ (items work : List ℕ) (node w : ℕ) where
 rule-none : (literals : List Name) (t : Tree) → false ≡ ruleShape t → ruleOf isEllipsis literals t ≡ none
 unfolding ruleOf guard ruleShape
 rule-none literals t e =
-    cases (isListOf 2 t)
+    either (isListOf 2 t)
     (λ a. let b : false ≡ onName (λ x. not (isEllipsis x)) false (element 0 (element 0 t)) = rw a at e in rw (a, ← b) refl)
     (λ a. rw a refl)
 
@@ -133,6 +134,11 @@ module _ (items old : List ℕ) (literals node w next top : ℕ) (asks : Asks it
     left-parts new r m = rule-as _ _ _ _ items old new next top r (rw (p-is, q-is) (rule-is listed t shape)) fits m
 
 -- ---- lists of rules
+
+-- the word of what is left
+pub rules-packed : (o : Option (List Rule)) (s : ℕ) (items old new : List ℕ) (top at upper p : ℕ) → top + 5 * s < 4294967295 → p ≡ packed at upper → RulesLeft o s items old new top (Good at upper) → RulesLeft o s items old new top (builtOf p)
+rules-packed o s items old new top at upper p l e m =
+    subst (λ (z : Built). RulesLeft o s items old new top z) (sym (built-packed p at upper e (omega (arith, m .words)))) m
 
 traverse-bad : (f : Tree → Option Rule) (x : Option Rule) (ys : Option (List Rule)) → ys ≡ none → mapBoth _∷_ x ys ≡ none
 unfolding mapBoth mapSome

@@ -12,8 +12,7 @@ use Rattle.expansion.specs.Rules.{Rule, areVariables, variables, patternOf, tem
 use Rattle.arena.specs.Arena.{treeAt}
 use Rattle.arena.specs.Cells.{Room}
 use Rattle.rule_cells.specs.Cells.{rulesAt}
-use Rattle.rule_cells.specs.declared.templates.Built.{Built}
-use Rattle.rule_cells.specs.declared.templates.Built.the-variants.{Good, Bad}
+use Rattle.rule_cells.specs.Built.{Built, Good, Bad}
 
 -- (pattern template); a pattern's first place is a name other than `...`
 unfoldable pub ruleShape : Tree → Bool
@@ -31,7 +30,7 @@ pub record PartsAsk (items work : List ℕ) (literals p q w next top : ℕ) : Ty
   pub q-below : q ≤ top
   pub wrap-below : w ≤ top
   pub next-below : next ≤ top
-  pub room : Room work top (5 * (size (treeAt items work p w) + size (treeAt items work q w) + 1))
+  pub room : Room work top (5 * (size (treeAt items work p w) + size (treeAt items work q w) + 1) + 1)
 
 -- a rule's cell before those at `next`, for a tree of `items` s
 pub record RuleMade (o : Option Rule) (s : ℕ) (items old new : List ℕ) (next top at upper : ℕ) : Type 0 where

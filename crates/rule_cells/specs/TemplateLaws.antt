@@ -9,12 +9,13 @@ use lib.Dec.{ltb}
 use lib.ListN.{length, take, getD}
 use borrow.Author.Tests.{ne-eqb}
 use Rattle.words.specs.Options.{guard, mapSome, mapBoth}
+use Rattle.words.specs.Packed.{packed}
 use Rattle.datum.specs.Constant.{Constant}
 use Rattle.recipe.specs.Name.{Name, isEllipsis}
 use Rattle.recipe.specs.Tree.{Tree, empty, constant, name, pair, size}
 use Rattle.expansion.specs.Rules.{Template, variableT, insertT, constantT, emptyT, pairT, ellipsisT, drivers, isDriven, depthFits, variableFrom, nameTemplate, dotsNext, depthBefore, templateOf}
 use Rattle.arena.specs.Arena.{wordAt, referenceAt, nameAt, constantAt, treeAt}
-use Rattle.arena.specs.ArenaLaws.{cases}
+use Rattle.words.specs.ListLaws.{either}
 use Rattle.arena.specs.NodeLaws.{treeAt-empty, treeAt-name, treeAt-constant}
 use Rattle.rule_cells.specs.Cells.{templateAt, templateFrom}
 use Rattle.rule_cells.specs.Made.{Made}
@@ -22,15 +23,20 @@ use Rattle.rule_cells.specs.MadeLaws.{template-kept, name-kept}
 use Rattle.arena.specs.ListLaws.{tree-cases}
 use Rattle.rule_cells.specs.Variables.{variableAt, variablesFrom, Under, Deeper}
 use Rattle.rule_cells.specs.Drive.{drives}
+use Rattle.rule_cells.specs.Built.{Built, Good, Bad, builtOf, built-packed}
 use Rattle.rule_cells.specs.Parse.{Asks, TemplateMade, TemplateLeft}
 use Rattle.rule_cells.specs.ParseLaws.{grows-nothing, grows-leaf, kept-both, tree-is, size-is, rest-kept, grows-pair}
-use Rattle.rule_cells.specs.declared.templates.Built.{Built}
-use Rattle.rule_cells.specs.declared.templates.Built.the-variants.{Good, Bad}
 
 -- the empty template is reference 0
 pub templateAt-none : (items work : List ℕ) → templateAt items work 0 ≡ emptyT
 unfolding templateAt templateFrom
 templateAt-none items work = refl
+
+-- ---- the word of what is left
+
+pub left-packed : (vs : List (Name × ℕ)) (d : ℕ) (taken : Bool) (t : Tree) (items old new : List ℕ) (top at upper p : ℕ) → top + 5 * size t < 4294967295 → p ≡ packed at upper → TemplateLeft vs d taken t items old new top (Good at upper) → TemplateLeft vs d taken t items old new top (builtOf p)
+left-packed vs d taken t items old new top at upper p l e m =
+    subst (λ (z : Built). TemplateLeft vs d taken t items old new top z) (sym (built-packed p at upper e (omega (arith, m .grows .words)))) m
 
 -- ---- names
 
@@ -116,7 +122,7 @@ module _ (vs : List (Name × ℕ)) (d : ℕ) (h s : Tree) where
 
   pair-bad : firstOf ≡ none → templateOf isEllipsis vs d false (pair h s) ≡ none
   unfolding guard mapBoth isDriven
-  pair-bad e = pair-is ∙ rw e (cases (dotsNext isEllipsis s) (λ t. rw t refl) (λ t. rw t refl))
+  pair-bad e = pair-is ∙ rw e (either (dotsNext isEllipsis s) (λ t. rw t refl) (λ t. rw t refl))
 
   module _ (x : Template) (f : firstOf ≡ some x) where
     pair-undriven : false ≡ (not (dotsNext isEllipsis s) || drives 0 x) → templateOf isEllipsis vs d false (pair h s) ≡ none
@@ -124,7 +130,7 @@ module _ (vs : List (Name × ℕ)) (d : ℕ) (h s : Tree) where
     pair-undriven u =
         pair-is
         ∙ rw f
-        (cases (dotsNext isEllipsis s)
+        (either (dotsNext isEllipsis s)
         (λ t. let v : false ≡ ltb 0 (length (drivers 0 x)) = rw t at u in rw (t, ← v) refl)
         (λ t. let v : false ≡ true = rw t at u in absurd (let z : _≡_ {A = ℕ} 0 1 = cc in omega arith)))
 
@@ -133,8 +139,8 @@ module _ (vs : List (Name × ℕ)) (d : ℕ) (h s : Tree) where
     pair-bad-rest e =
         pair-is
         ∙ rw (f, e)
-        (cases (dotsNext isEllipsis s)
-        (λ t. cases (isDriven (some x)) (λ v. rw (t, v) refl) (λ v. rw (t, v) refl))
+        (either (dotsNext isEllipsis s)
+        (λ t. either (isDriven (some x)) (λ v. rw (t, v) refl) (λ v. rw (t, v) refl))
         (λ t. rw t refl))
 
     pair-both : (y : Template) → true ≡ (not (dotsNext isEllipsis s) || drives 0 x) → laterOf ≡ some y → templateOf isEllipsis vs d false (pair h s) ≡ some (cond (dotsNext isEllipsis s) (ellipsisT x y) (pairT x y))
@@ -142,7 +148,7 @@ module _ (vs : List (Name × ℕ)) (d : ℕ) (h s : Tree) where
     pair-both y u e =
         pair-is
         ∙ rw (f, e)
-        (cases (dotsNext isEllipsis s)
+        (either (dotsNext isEllipsis s)
         (λ t. let v : true ≡ ltb 0 (length (drivers 0 x)) = rw t at u in rw (t, ← v) refl)
         (λ t. rw t refl))
 

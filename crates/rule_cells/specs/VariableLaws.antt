@@ -16,7 +16,7 @@ use Rattle.recipe.specs.Name.{Name, same, distinct, isEllipsis}
 use Rattle.recipe.specs.Tree.{names}
 use Rattle.expansion.specs.Rules.{variableFrom, areVariables, dotsNext, depthBefore}
 use Rattle.arena.specs.Arena.{wordAt, referenceAt, nameAt, treeAt}
-use Rattle.arena.specs.ArenaLaws.{cases}
+use Rattle.words.specs.ListLaws.{either}
 use Rattle.arena.specs.NodeLaws.{treeAt-name, treeAt-pair}
 use Rattle.arena.specs.ListLaws.{tree-cases}
 use Rattle.rule_cells.specs.Variables.{variableAt, variablesFrom, knownOf, knownFrom, Held, Under, Stored, Deeper}
@@ -103,7 +103,7 @@ distinct-twice : (k : ℕ) (vs : List (Name × ℕ)) (x : Name) (d : ℕ) (rest 
 unfolding variableFrom distinct
 distinct-twice k [] x d rest p e = absurd (let z : _≡_ {A = ℕ} 0 1 = cc in omega arith)
 distinct-twice k (v ∷ vs) x d rest p e =
-    cases (same (v .0) x)
+    either (same (v .0) x)
     (λ t. rw (any-middle (same (v .0)) x d vs rest t) refl)
     (λ t. and-none-right (not (any (same (v .0)) (named (vs ++ ((x, d) ∷ rest))))) (distinct (named (vs ++ ((x, d) ∷ rest)))) (distinct-twice (suc k) vs x d rest p (rw t at e)))
 
@@ -111,7 +111,7 @@ distinct-new : (k : ℕ) (vs : List (Name × ℕ)) (x : Name) (d : ℕ) → vari
 unfolding variableFrom distinct any
 distinct-new k [] x d e h = refl
 distinct-new k (v ∷ vs) x d e h =
-    cases (same (v .0) x)
+    either (same (v .0) x)
     (λ t. let s : some (k, v .1) ≡ none = rw t at e in absurd (let z : _≡_ {A = ℕ} 0 1 = cc in omega arith))
     (λ t.
     let fresh = not (any (same (v .0)) (named vs)) in
@@ -213,7 +213,7 @@ module _ (items work : List ℕ) (w : ℕ) where
 
     added-under : (b : ℕ) → node ≤ b → Under vars n b → Under added (n + 1) b
     added-under b h u i l =
-        cases (eqb i n)
+        either (eqb i n)
         (λ t. rw (eqb-true i n t, added-node) h)
         (λ t. let e : i ≡ n → ⊥ = eqb-false i n t in rw (added-below (2 * i) (omega arith)) (u i (omega arith)))
 
@@ -250,10 +250,6 @@ found-not r o h g = sym g ∙ ap knownOf h
 -- ---- depths
 
 module _ (items work : List ℕ) (rest d : ℕ) where
-  pub deeper-dots : ((w : ℕ) → true ≡ dotsNext isEllipsis (treeAt items work rest w)) → Deeper items work rest d (d + 1)
+  pub deeper-by : (dots : Bool) (r : ℕ) → r ≡ cond dots (d + 1) d → ((w : ℕ) → dots ≡ dotsNext isEllipsis (treeAt items work rest w)) → Deeper items work rest d r
   unfolding depthBefore
-  deeper-dots h w = rw (← h w) (let e : d + 1 ≡ suc d = omega arith in e)
-
-  pub deeper-not : ((w : ℕ) → false ≡ dotsNext isEllipsis (treeAt items work rest w)) → Deeper items work rest d d
-  unfolding depthBefore
-  deeper-not h w = rw (← h w) refl
+  deeper-by dots r e h w = let one : d + 1 ≡ suc d = omega arith in e ∙ rw (← h w, one) refl

@@ -4,6 +4,7 @@ use mathlib.Core.Bool.{true, false, cond}
 use mathlib.Core.List.{List, [], _∷_, _++_}
 use mathlib.Core.Option.{Option, none, some}
 use Prim.Native.Nat.{ℕ, zero, suc, _+_, _*_, _-_, _≤_, _<_}
+use lib.Dec.{eqb}
 use lib.ListN.{getD}
 use Rattle.recipe.specs.Name.{Name, isEllipsis}
 use Rattle.recipe.specs.Tree.{Tree, onName}
@@ -11,8 +12,6 @@ use Rattle.expansion.specs.Rules.{areVariables, depthBefore, isVariable, variab
 use Rattle.arena.specs.Arena.{nameAt, treeAt}
 use Rattle.rule_cells.specs.declared.variables.Known.{Known}
 use Rattle.rule_cells.specs.declared.variables.Known.the-variants.{At, Not}
-use Rattle.rule_cells.specs.declared.variables.Kept.{Kept}
-use Rattle.rule_cells.specs.declared.variables.Kept.the-variants.{Count, Bad}
 
 -- a leaf is a variable or none
 unfoldable pub leafCount : List Name → Tree → ℕ
@@ -40,6 +39,15 @@ abbrev pub Deeper : (items work : List ℕ) (rest d r : ℕ) → Type 0
 Deeper items work rest d r = (w : ℕ) → r ≡ depthBefore isEllipsis (treeAt items work rest w) d
 
 -- ---- gathering
+
+-- how many variables the table holds, or bad: more than 16, two the same, or one under three ellipses
+pub data Kept : Type 0 where
+  Count : ℕ → Kept
+  Bad : Kept
+
+-- what a word holds; the largest is bad
+unfoldable pub keptOf : ℕ → Kept
+keptOf n = cond (eqb n 4294967295) Bad (Count n)
 
 -- the table's variables keep the limits
 pub record Held (items work : List ℕ) (w : ℕ) (vars : List ℕ) (n : ℕ) : Type 0 where

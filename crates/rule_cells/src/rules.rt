@@ -1,5 +1,6 @@
 // Rules, parsed once, when their form is reached: (syntax-rules (literal ...) (pattern template) ...). Bad is ground 15.
-// The last rule is parsed first, so that each cell refers to lower ones.
+// The last rule is parsed first, so that each cell refers to lower ones. An answer is one word: the reference of the list of
+// rules and the new top, or `packed::NONE` where it is bad.
 
 ghost use Prim.Native.Nat.{_+_, _≤_};
 ghost use Rattle.recipe.specs.Tree.{names, size, elements};
@@ -8,6 +9,7 @@ ghost use Rattle.recipe.specs.Name.{isEllipsis};
 ghost use Rattle.expansion.specs.Rules.{ruleOf, rulesOf};
 ghost use Rattle.arena.specs.Arena.{treeAt};
 ghost use Rattle.arena.specs.Lists.{TestsIn};
+ghost use Rattle.rule_cells.specs.Built.{builtOf};
 ghost use Rattle.rule_cells.specs.Parse.{Asks};
 ghost use Rattle.rule_cells.specs.RuleParse.{ruleShape, partsOf, PartsAsk, RuleLeft, RulesLeft};
 use crate::cells;
@@ -15,11 +17,10 @@ use crate::patterns;
 use crate::patterns::Parsed;
 use crate::rules_form;
 use crate::templates;
-use crate::templates::Built;
 use crate::variables;
-use crate::variables::Kept;
 use arena::lists;
 use resolution::names;
+use words::packed;
 
 // A rule from the rest p of its pattern and its template q, before the rules at `next`.
 pub fn rule_parts(
@@ -31,22 +32,24 @@ pub fn rule_parts(
     w: u32,
     next: u32,
     top: u32,
-) -> Built
+) -> u64
     requires { ⌜ PartsAsk (now items) (now work) literals p q w next top ⌝ }
-    ensures { λ r. ⌜ RuleLeft (partsOf (names (treeAt (now (items .entry)) (now (work .entry)) literals w)) (treeAt (now (items .entry)) (now (work .entry)) p w) (treeAt (now (items .entry)) (now (work .entry)) q w)) (size (treeAt (now (items .entry)) (now (work .entry)) p w) + size (treeAt (now (items .entry)) (now (work .entry)) q w) + 1) (now (items .entry)) (now (work .entry)) (now (work .exit)) next top r ⌝ }
+    ensures { λ r. ⌜ RuleLeft (partsOf (names (treeAt (now (items .entry)) (now (work .entry)) literals w)) (treeAt (now (items .entry)) (now (work .entry)) p w) (treeAt (now (items .entry)) (now (work .entry)) q w)) (size (treeAt (now (items .entry)) (now (work .entry)) p w) + size (treeAt (now (items .entry)) (now (work .entry)) q w) + 1) (now (items .entry)) (now (work .entry)) (now (work .exit)) next top (builtOf r) ⌝ }
 {
     let mut vars = [0u32; 32];
-    let Kept::Count(n) = variables::gather(items, work, &mut vars, literals, p, w, 0, 0) else {
-        return Built::Bad;
-    };
+    let n = variables::gather(items, work, &mut vars, literals, p, w, 0, 0);
+    if n == variables::BAD {
+        return packed::NONE;
+    }
     let Parsed::Good(a, t, m) = patterns::pattern(items, work, literals, p, w, 0, top) else {
-        return Built::Bad;
+        return packed::NONE;
     };
-    let Built::Good(b, u) = templates::template(items, work, &vars, n, q, w, 0, false, t) else {
-        return Built::Bad;
-    };
-    let r = cells::put_rule(work, u, a, b, next);
-    Built::Good(r, r)
+    let b = templates::template(items, work, &vars, n, q, w, 0, false, t);
+    if b == packed::NONE {
+        return packed::NONE;
+    }
+    let r = cells::put_rule(work, packed::low(b), a, packed::high(b), next);
+    packed::pair(r, r)
 }
 
 // Whether a tree is a list of two whose first begins with a name other than `...`.
@@ -76,9 +79,9 @@ pub fn rule(
     w: u32,
     next: u32,
     top: u32,
-) -> Built
+) -> u64
     requires { ⌜ (Asks (now items) (now work) node w top) × (literals ≤ top) × (next ≤ top) ⌝ }
-    ensures { λ r. ⌜ RuleLeft (ruleOf isEllipsis (names (treeAt (now (items .entry)) (now (work .entry)) literals w)) (treeAt (now (items .entry)) (now (work .entry)) node w)) (size (treeAt (now (items .entry)) (now (work .entry)) node w)) (now (items .entry)) (now (work .entry)) (now (work .exit)) next top r ⌝ }
+    ensures { λ r. ⌜ RuleLeft (ruleOf isEllipsis (names (treeAt (now (items .entry)) (now (work .entry)) literals w)) (treeAt (now (items .entry)) (now (work .entry)) node w)) (size (treeAt (now (items .entry)) (now (work .entry)) node w)) (now (items .entry)) (now (work .entry)) (now (work .exit)) next top (builtOf r) ⌝ }
 {
     if rule_shape(items, work, node) {
         let pattern = lists::first(work, node);
@@ -87,36 +90,38 @@ pub fn rule(
         let q = lists::first(work, after);
         return rule_parts(items, work, literals, p, q, w, next, top);
     }
-    Built::Bad
+    packed::NONE
 }
 
 // A list of rules, the last first.
-pub fn rule_list(
-    items: &[u32],
-    work: &mut [u32],
-    literals: u32,
-    node: u32,
-    w: u32,
-    top: u32,
-) -> Built
+pub fn rule_list(items: &[u32], work: &mut [u32], literals: u32, node: u32, w: u32, top: u32) -> u64
     requires { ⌜ (Asks (now items) (now work) node w top) × (literals ≤ top) ⌝ }
-    ensures { λ r. ⌜ RulesLeft (traverse (ruleOf isEllipsis (names (treeAt (now (items .entry)) (now (work .entry)) literals w))) (elements (treeAt (now (items .entry)) (now (work .entry)) node w))) (size (treeAt (now (items .entry)) (now (work .entry)) node w)) (now (items .entry)) (now (work .entry)) (now (work .exit)) top r ⌝ }
+    ensures { λ r. ⌜ RulesLeft (traverse (ruleOf isEllipsis (names (treeAt (now (items .entry)) (now (work .entry)) literals w))) (elements (treeAt (now (items .entry)) (now (work .entry)) node w))) (size (treeAt (now (items .entry)) (now (work .entry)) node w)) (now (items .entry)) (now (work .entry)) (now (work .exit)) top (builtOf r) ⌝ }
 {
     if arena::cells::word(work, node, 3) != arena::cells::PAIR {
-        return Built::Good(0, top);
+        return packed::pair(0, top);
     }
     let head = arena::cells::reference(work, node, 2);
     let rest = arena::cells::reference(work, node, 1);
-    let Built::Good(next, t) = rule_list(items, work, literals, rest, w, top) else {
-        return Built::Bad;
-    };
-    rule(items, work, literals, head, w, next, t)
+    let later = rule_list(items, work, literals, rest, w, top);
+    if later == packed::NONE {
+        return packed::NONE;
+    }
+    rule(
+        items,
+        work,
+        literals,
+        head,
+        w,
+        packed::high(later),
+        packed::low(later),
+    )
 }
 
 // The rules of a form.
-pub fn rules(items: &[u32], work: &mut [u32], node: u32, w: u32, top: u32) -> Built
+pub fn rules(items: &[u32], work: &mut [u32], node: u32, w: u32, top: u32) -> u64
     requires { ⌜ Asks (now items) (now work) node w top ⌝ }
-    ensures { λ r. ⌜ RulesLeft (rulesOf (treeAt (now (items .entry)) (now (work .entry)) node w)) (size (treeAt (now (items .entry)) (now (work .entry)) node w)) (now (items .entry)) (now (work .entry)) (now (work .exit)) top r ⌝ }
+    ensures { λ r. ⌜ RulesLeft (rulesOf (treeAt (now (items .entry)) (now (work .entry)) node w)) (size (treeAt (now (items .entry)) (now (work .entry)) node w)) (now (items .entry)) (now (work .entry)) (now (work .exit)) top (builtOf r) ⌝ }
 {
     if rules_form::is_rules_form(items, work, node, w) {
         let after = lists::rest(work, node);
@@ -124,5 +129,5 @@ pub fn rules(items: &[u32], work: &mut [u32], node: u32, w: u32, top: u32) -> Bu
         let list = lists::rest(work, after);
         return rule_list(items, work, literals, list, w, top);
     }
-    Built::Bad
+    packed::NONE
 }

@@ -1,5 +1,6 @@
 // Templates, parsed to cells under the variables of their rule's pattern: children first, so that every reference falls.
-// A part that breaks the rules makes the whole bad.
+// A part that breaks the rules makes the whole bad. An answer is one word: the reference of the template and the new top, or
+// `packed::NONE` where it is bad.
 
 ghost use mathlib.Core.Path.{_≡_};
 ghost use mathlib.Core.Bool.{false, cond};
@@ -13,29 +14,14 @@ ghost use Rattle.rule_cells.specs.Cells.{templateAt};
 ghost use Rattle.rule_cells.specs.Made.{Made};
 ghost use Rattle.rule_cells.specs.Drive.{Drives, Accepts};
 ghost use Rattle.rule_cells.specs.Variables.{variablesFrom, Under};
+ghost use Rattle.rule_cells.specs.Built.{builtOf};
 ghost use Rattle.rule_cells.specs.Parse.{Asks, TemplateLeft};
 use crate::cells;
 use crate::dots;
 use crate::variables;
 use crate::variables::Known;
 use resolution::names;
-
-// The reference of a template or of a list of rules, and the new top.
-pub enum Built {
-    Good(u32, u32),
-    Bad,
-}
-
-// The same answer, taken apart and put together. Handed on as it is, it would be copied through memory in larger pieces than it was
-// written in, for which the processor waits.
-pub fn again(b: Built) -> Built
-    ensures { λ r. ⌜ r ≡ b ⌝ }
-{
-    match b {
-        Built::Good(at, top) => Built::Good(at, top),
-        Built::Bad => Built::Bad,
-    }
-}
+use words::packed;
 
 // Whether a template holds a variable that drives its copies: one under more ellipses than the j inside the element.
 pub fn driven(work: &[u32], at: u32, j: u32) -> bool
@@ -102,25 +88,25 @@ pub fn template_name(
     w: u32,
     d: u32,
     top: u32,
-) -> Built
-    requires { ⌜ (Room (now work) top 5) × (node ≤ top) × (w ≤ top) × (count ≤ 16) × (32 ≤ length (now vars)) ⌝ }
-    ensures { λ r. ⌜ TemplateLeft (variablesFrom (now (items .entry)) (now (work .entry)) w (now (vars .entry)) 0 count) d false (name (nameAt (now (items .entry)) (now (work .entry)) node w)) (now (items .entry)) (now (work .entry)) (now (work .exit)) top r ⌝ }
+) -> u64
+    requires { ⌜ (Room (now work) top 5) × (top + 5 < 4294967295) × (node ≤ top) × (w ≤ top) × (count ≤ 16) × (32 ≤ length (now vars)) ⌝ }
+    ensures { λ r. ⌜ TemplateLeft (variablesFrom (now (items .entry)) (now (work .entry)) w (now (vars .entry)) 0 count) d false (name (nameAt (now (items .entry)) (now (work .entry)) node w)) (now (items .entry)) (now (work .entry)) (now (work .exit)) top (builtOf r) ⌝ }
 {
     if names::number_of(items, work, node) == names::ELLIPSIS {
-        return Built::Bad;
+        return packed::NONE;
     }
     match variables::find(items, work, vars, 0, count, node, w) {
         Known::At(k, e) => {
             if depth_fits(e, d) {
                 let r = cells::put_variable_template(work, top, k, e);
-                return Built::Good(r, r);
+                return packed::pair(r, r);
             }
-            return Built::Bad;
+            return packed::NONE;
         }
         Known::Not => {}
     }
     let r = cells::put_insert(work, top, node, w);
-    Built::Good(r, r)
+    packed::pair(r, r)
 }
 
 // A part of a template that is no pair.
@@ -133,21 +119,21 @@ pub fn template_leaf(
     w: u32,
     d: u32,
     top: u32,
-) -> Built
+) -> u64
     requires { ⌜ (Asks (now items) (now work) node w top) × (count ≤ 16) × (32 ≤ length (now vars)) × (wordAt (now work) node 3 ≡ 4 → ⊥) ⌝ }
-    ensures { λ r. ⌜ TemplateLeft (variablesFrom (now (items .entry)) (now (work .entry)) w (now (vars .entry)) 0 count) d false (treeAt (now (items .entry)) (now (work .entry)) node w) (now (items .entry)) (now (work .entry)) (now (work .exit)) top r ⌝ }
+    ensures { λ r. ⌜ TemplateLeft (variablesFrom (now (items .entry)) (now (work .entry)) w (now (vars .entry)) 0 count) d false (treeAt (now (items .entry)) (now (work .entry)) node w) (now (items .entry)) (now (work .entry)) (now (work .exit)) top (builtOf r) ⌝ }
 {
     let kind = arena::cells::word(work, node, 3);
     if kind == arena::cells::NAME {
         return template_name(items, work, vars, count, node, w, d, top);
     }
     if kind == arena::cells::EMPTY {
-        return Built::Good(0, top);
+        return packed::pair(0, top);
     }
     let first = arena::cells::word(work, node, 2);
     let second = arena::cells::word(work, node, 1);
     let r = cells::put_constant_template(work, top, kind, first, second);
-    Built::Good(r, r)
+    packed::pair(r, r)
 }
 
 // A part of a template under d ellipses; `taken` where it begins with the `...` that the element before it has taken.
@@ -161,29 +147,32 @@ pub fn template(
     d: u32,
     taken: bool,
     top: u32,
-) -> Built
+) -> u64
     requires { ⌜ (Asks (now items) (now work) node w top) × (count ≤ 16) × (32 ≤ length (now vars)) × (Under (now vars) count top) × (d + node < 2 ^ 32) ⌝ }
-    ensures { λ r. ⌜ TemplateLeft (variablesFrom (now (items .entry)) (now (work .entry)) w (now (vars .entry)) 0 count) d taken (treeAt (now (items .entry)) (now (work .entry)) node w) (now (items .entry)) (now (work .entry)) (now (work .exit)) top r ⌝ }
+    ensures { λ r. ⌜ TemplateLeft (variablesFrom (now (items .entry)) (now (work .entry)) w (now (vars .entry)) 0 count) d taken (treeAt (now (items .entry)) (now (work .entry)) node w) (now (items .entry)) (now (work .entry)) (now (work .exit)) top (builtOf r) ⌝ }
 {
     if arena::cells::word(work, node, 3) != arena::cells::PAIR {
-        return again(template_leaf(items, work, vars, count, node, w, d, top));
+        return template_leaf(items, work, vars, count, node, w, d, top);
     }
     let head = arena::cells::reference(work, node, 2);
     let rest = arena::cells::reference(work, node, 1);
     if taken {
-        return again(template(items, work, vars, count, rest, w, d, false, top));
+        return template(items, work, vars, count, rest, w, d, false, top);
     }
     let dots = dots::dots_next(items, work, rest);
-    let inner = variables::depth_before(items, work, rest, d);
-    let Built::Good(a, t) = template(items, work, vars, count, head, w, inner, false, top) else {
-        return Built::Bad;
-    };
-    if accepted(work, dots, a) {
-        let Built::Good(b, u) = template(items, work, vars, count, rest, w, d, dots, t) else {
-            return Built::Bad;
-        };
-        let r = put_list(work, u, dots, a, b);
-        return Built::Good(r, r);
+    let inner = variables::element_depth(dots, d);
+    let b = template(items, work, vars, count, head, w, inner, false, top);
+    if b == packed::NONE {
+        return packed::NONE;
     }
-    Built::Bad
+    let a = packed::high(b);
+    if accepted(work, dots, a) {
+        let l = template(items, work, vars, count, rest, w, d, dots, packed::low(b));
+        if l == packed::NONE {
+            return packed::NONE;
+        }
+        let r = put_list(work, packed::low(l), dots, a, packed::high(l));
+        return packed::pair(r, r);
+    }
+    packed::NONE
 }

@@ -2,6 +2,7 @@
 // node and depth of each. specs/Variables.antt says what the table holds. All names here lie under one pending wrap.
 
 ghost use mathlib.Core.Path.{_≡_};
+ghost use mathlib.Core.Bool.{cond};
 ghost use mathlib.Core.List.{[], _∷_};
 ghost use Prim.Native.Nat.{_+_, _*_, _^_, _≤_, _<_};
 ghost use lib.ListN.{length};
@@ -10,7 +11,7 @@ ghost use Rattle.recipe.specs.Name.{same, isEllipsis};
 ghost use Rattle.recipe.specs.Tree.{name, names};
 ghost use Rattle.expansion.specs.Rules.{variableFrom, variables};
 ghost use Rattle.arena.specs.Arena.{nameAt, treeAt};
-ghost use Rattle.rule_cells.specs.Variables.{leafCount, variablesFrom, knownOf, Deeper, Held, Gathered};
+ghost use Rattle.rule_cells.specs.Variables.{leafCount, variablesFrom, knownOf, Deeper, keptOf, Held, Gathered};
 use crate::dots;
 use arena::cells;
 use resolution::names;
@@ -91,10 +92,18 @@ pub fn find(
     Known::Not
 }
 
-// How many variables the table holds, or none where there are more than 16, two the same, or one under three ellipses.
-pub enum Kept {
-    Count(u32),
-    Bad,
+// The answer in place of how many variables the table holds: more than 16, two the same, or one under three ellipses.
+pub const BAD: u32 = 4294967295;
+
+// The depth of an element of a list at depth d: one more before `...`.
+pub fn element_depth(dots: bool, d: u32) -> u32
+    requires { ⌜ d + 1 < 2 ^ 32 ⌝ }
+    ensures { λ r. ⌜ r ≡ cond dots (d + 1) d ⌝ }
+{
+    if dots {
+        return d + 1;
+    }
+    d
 }
 
 // The depth of an element before this rest of its list.
@@ -102,36 +111,33 @@ pub fn depth_before(items: &[u32], work: &[u32], rest: u32, d: u32) -> u32
     requires { ⌜ d + 1 < 2 ^ 32 ⌝ }
     ensures { λ r. ⌜ Deeper (now (items .entry)) (now (work .entry)) rest d r ⌝ }
 {
-    if dots::dots_next(items, work, rest) {
-        return d + 1;
-    }
-    d
+    element_depth(dots::dots_next(items, work, rest), d)
 }
 
-// One more variable behind the n of the table, under d ellipses.
-pub fn add(items: &[u32], work: &[u32], vars: &mut [u32], node: u32, w: u32, d: u32, n: u32) -> Kept
+// One more variable behind the n of the table, under d ellipses: how many the table then holds, or BAD.
+pub fn add(items: &[u32], work: &[u32], vars: &mut [u32], node: u32, w: u32, d: u32, n: u32) -> u32
     requires { ⌜ (32 ≤ length (now vars)) × (Held (now items) (now work) w (now vars) n) ⌝ }
-    ensures { λ r. ⌜ Gathered ((nameAt (now (items .entry)) (now (work .entry)) node w, d) ∷ []) (now (items .entry)) (now (work .entry)) w node n (now (vars .entry)) (now (vars .exit)) r ⌝ }
+    ensures { λ r. ⌜ Gathered ((nameAt (now (items .entry)) (now (work .entry)) node w, d) ∷ []) (now (items .entry)) (now (work .entry)) w node n (now (vars .entry)) (now (vars .exit)) (keptOf r) ⌝ }
 {
     if DEPTH < d {
-        return Kept::Bad;
+        return BAD;
     }
     if MOST <= n {
-        return Kept::Bad;
+        return BAD;
     }
     match find(items, work, vars, 0, n, node, w) {
         Known::At(k, e) => {
-            return Kept::Bad;
+            return BAD;
         }
         Known::Not => {}
     }
     let at = 2 * (n as usize);
     vars[at] = node;
     vars[at + 1] = d;
-    Kept::Count(n + 1)
+    n + 1
 }
 
-// The variable of a pattern's name, where it is one.
+// The variable of a pattern's name, where it is one: how many the table then holds, or BAD.
 pub fn gather_name(
     items: &[u32],
     work: &[u32],
@@ -141,24 +147,25 @@ pub fn gather_name(
     w: u32,
     d: u32,
     n: u32,
-) -> Kept
+) -> u32
     requires { ⌜ (32 ≤ length (now vars)) × (Held (now items) (now work) w (now vars) n) ⌝ }
-    ensures { λ r. ⌜ Gathered (variables isEllipsis (names (treeAt (now (items .entry)) (now (work .entry)) literals w)) d (name (nameAt (now (items .entry)) (now (work .entry)) node w))) (now (items .entry)) (now (work .entry)) w node n (now (vars .entry)) (now (vars .exit)) r ⌝ }
+    ensures { λ r. ⌜ Gathered (variables isEllipsis (names (treeAt (now (items .entry)) (now (work .entry)) literals w)) d (name (nameAt (now (items .entry)) (now (work .entry)) node w))) (now (items .entry)) (now (work .entry)) w node n (now (vars .entry)) (now (vars .exit)) (keptOf r) ⌝ }
 {
     let number = names::number_of(items, work, node);
     if number == names::ELLIPSIS {
-        return Kept::Count(n);
+        return n;
     }
     if number == names::WILDCARD {
-        return Kept::Count(n);
+        return n;
     }
     if is_literal(items, work, literals, node, w) {
-        return Kept::Count(n);
+        return n;
     }
     add(items, work, vars, node, w, d, n)
 }
 
-// The variables of a pattern from the left, each with the number of ellipses it lies under, behind the n of the table.
+// The variables of a pattern from the left, each with the number of ellipses it lies under, behind the n of the table: how many
+// the table then holds, or BAD.
 pub fn gather(
     items: &[u32],
     work: &[u32],
@@ -168,9 +175,9 @@ pub fn gather(
     w: u32,
     d: u32,
     n: u32,
-) -> Kept
+) -> u32
     requires { ⌜ (32 ≤ length (now vars)) × (Held (now items) (now work) w (now vars) n) × (d + node < 2 ^ 32) ⌝ }
-    ensures { λ r. ⌜ Gathered (variables isEllipsis (names (treeAt (now (items .entry)) (now (work .entry)) literals w)) d (treeAt (now (items .entry)) (now (work .entry)) node w)) (now (items .entry)) (now (work .entry)) w node n (now (vars .entry)) (now (vars .exit)) r ⌝ }
+    ensures { λ r. ⌜ Gathered (variables isEllipsis (names (treeAt (now (items .entry)) (now (work .entry)) literals w)) d (treeAt (now (items .entry)) (now (work .entry)) node w)) (now (items .entry)) (now (work .entry)) w node n (now (vars .entry)) (now (vars .exit)) (keptOf r) ⌝ }
 {
     let mut at = node;
     let mut m = n;
@@ -178,14 +185,15 @@ pub fn gather(
         let head = cells::reference(work, at, 2);
         let rest = cells::reference(work, at, 1);
         let inner = depth_before(items, work, rest, d);
-        let Kept::Count(k) = gather(items, work, vars, literals, head, w, inner, m) else {
-            return Kept::Bad;
-        };
+        let k = gather(items, work, vars, literals, head, w, inner, m);
+        if k == BAD {
+            return BAD;
+        }
         m = k;
         at = rest;
     }
     if cells::word(work, at, 3) == cells::NAME {
         return gather_name(items, work, vars, literals, at, w, d, m);
     }
-    Kept::Count(m)
+    m
 }

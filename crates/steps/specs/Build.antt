@@ -12,8 +12,7 @@ use Rattle.rule_cells.specs.Cells.{templateAt}
 use Rattle.environments.specs.Sound.{Plain}
 use Rattle.environments.specs.Environment.{enter, agreeBy, resultBy}
 use Rattle.environments.specs.Entries.{environmentAt, Under}
-use Rattle.steps.specs.declared.build.Built.{Built}
-use Rattle.steps.specs.declared.build.Built.the-variants.{At, Stopped}
+use Rattle.steps.specs.Built.{Built, At, Stopped}
 
 -- a node is three words, and a name's may have a join of three more
 abbrev pub nodeWords : ℕ

@@ -1,8 +1,8 @@
 -- Laws of building, one for each way through the code: fresh nodes, and trees whose items are paid for one by one.
 use mathlib.Core.Path.{_≡_, refl, sym, ap, ap₂, subst, _∙_}
 use mathlib.Core.Bool.{Bool, true}
-use mathlib.Core.List.{List}
-use Prim.Native.Nat.{ℕ, _+_, _*_, _-_, _≤_}
+use mathlib.Core.List.{List, []}
+use Prim.Native.Nat.{ℕ, _+_, _*_, _-_, _≤_, _<_}
 use native.Mathlib.Omega.{arith}
 use lib.Dec.{ltb}
 use lib.ListN.{length, take}
@@ -11,23 +11,24 @@ use Rattle.recipe.specs.Name.{Name, markName, produceName}
 use Rattle.recipe.specs.Tree.{Tree, empty, constant, name, pair, size, onNames, produce}
 use Rattle.recipe.specs.TreeLaws.{size-positive}
 use Rattle.arena.specs.Arena.{wordAt, referenceAt, stepLimit, marked, giveKey, isOwn, rebound, wrapAt, nodeName, nameAt, constantAt, treeAt}
-use Rattle.arena.specs.ArenaLaws.{cases, take-less, referenceAt-most, wrapAt-none, wrapAt-keeps}
+use Rattle.words.specs.ListLaws.{either}
+use Rattle.words.specs.Packed.{packed}
+use Rattle.arena.specs.ArenaLaws.{take-less, referenceAt-most, wrapAt-none, wrapAt-keeps}
 use Rattle.arena.specs.NodeLaws.{treeAt-empty, treeAt-name, treeAt-pair, treeAt-constant}
 use Rattle.arena.specs.Cells.{Room, Wrapped, itemName, Grown}
 use Rattle.arena.specs.CellLaws.{tree-kept}
-use Rattle.steps.specs.declared.build.Built.{Built}
-use Rattle.steps.specs.declared.build.Built.the-variants.{At, Stopped}
+use Rattle.steps.specs.Built.{Built, At, Stopped, builtOf, built-packed}
 use Rattle.steps.specs.Build.{nodeWords, Fresh, Paid, Unpaid, Pays, Waiting}
 
 -- ---- names are produced before or after what waits on them
 
 marked-produce : (m : ℕ) (x y : Name) → x ≡ produceName y → marked m x ≡ produceName (marked m y)
 unfolding marked markName produceName
-marked-produce m x y e = rw e (cases (ltb m stepLimit) (λ t. rw t refl) (λ t. rw t refl))
+marked-produce m x y e = rw e (either (ltb m stepLimit) (λ t. rw t refl) (λ t. rw t refl))
 
 rebound-produce : (work : List ℕ) (f : ℕ → Name → Name) (w : ℕ) (x y : Name) → x ≡ produceName y → rebound work f w x ≡ produceName (rebound work f w y)
 unfolding rebound isOwn giveKey produceName
-rebound-produce work f w x y e = rw e (cases (isOwn work f w y) (λ t. rw t refl) (λ t. rw t refl))
+rebound-produce work f w x y e = rw e (either (isOwn work f w y) (λ t. rw t refl) (λ t. rw t refl))
 
 wrapAt-produce : (work : List ℕ) (w : ℕ) (x : Name) → wrapAt work w (produceName x) ≡ produceName (wrapAt work w x)
 wrapAt-produce work w x = wrapAt-keeps work (λ a b. a ≡ produceName b) marked-produce (rebound-produce work) w (produceName x) x refl
@@ -96,6 +97,12 @@ room-node work top fuel h r = record { fits = omega (arith, r .fits); small = om
 pub room-left : (old new : List ℕ) (top fuel r left n : ℕ) → length new ≡ length old → r + n ≤ top + nodeWords * fuel → Room old top (nodeWords * fuel) → Room new r n
 room-left old new top fuel r left n long h room = record { fits = omega (arith, room .fits); small = omega (arith, room .small) }
 
+-- a root and what is left, in one word: no more is left than there was, and the room for that is below 2 ^ 32
+pub built-at : (P : Built → Type 0) (work : List ℕ) (top fuel p root left : ℕ) → Room work top (nodeWords * fuel) → left ≤ fuel → p ≡ packed root left → P (At root left) → P (builtOf p)
+built-at P work top fuel p root left room h e x =
+    let small : left < 4294967295 = omega (arith, room .small) in
+    subst P (sym (built-packed p root left e small)) x
+
 -- ---- trees whose items are paid for
 
 module _ (A B : List ℕ → Tree) (old new : List ℕ) (top fuel : ℕ) (e : (items : List ℕ) → A items ≡ B items) where
@@ -116,6 +123,9 @@ paid-at A old new top fuel r root left e p = subst (Pays A old new top fuel) e p
 
 pub unpaid-at : (A : List ℕ → Tree) (old new : List ℕ) (top fuel : ℕ) (r : Built) → r ≡ Stopped → Pays A old new top fuel r → Unpaid A old new top fuel
 unpaid-at A old new top fuel r e p = subst (Pays A old new top fuel) e p
+
+pub pays-packed : (A : List ℕ → Tree) (old new : List ℕ) (top fuel p root left : ℕ) → Room old top (nodeWords * fuel) → p ≡ packed root left → Paid A old new top fuel root left → Pays A old new top fuel (builtOf p)
+pays-packed A old new top fuel p root left room e x = built-at (Pays A old new top fuel) old top fuel p root left room (omega (arith, x .spent [])) e x
 
 -- every tree has an item
 pub unpaid-none : (A : List ℕ → Tree) (old : List ℕ) (top fuel : ℕ) → fuel ≡ 0 → Unpaid A old old top fuel

@@ -1,7 +1,7 @@
 -- Laws of the copies of an element: built the last first along the lists that drive them, then put before the rest of their list.
 use mathlib.Core.Path.{_≡_, refl, sym, ap, ap₂, subst, _∙_}
 use mathlib.Core.Bool.{true}
-use mathlib.Core.List.{List}
+use mathlib.Core.List.{List, []}
 use mathlib.Core.Option.{some}
 use Prim.Native.Nat.{ℕ, zero, suc, _+_, _*_, _-_, _≤_, _<_}
 use native.Mathlib.Omega.{arith}
@@ -17,16 +17,17 @@ use Rattle.arena.specs.ArenaLaws.{take-less}
 use Rattle.arena.specs.NodeLaws.{treeAt-wrap}
 use Rattle.arena.specs.Cells.{Room, Grown}
 use Rattle.arena.specs.CellLaws.{tree-kept}
+use Rattle.words.specs.Lists.{within}
+use Rattle.words.specs.Packed.{packed}
 use Rattle.arena.specs.Lists.{Means}
 use Rattle.rule_cells.specs.CellLaws.{patternAt-variable, templateAt-variable}
 use Rattle.environments.specs.Environment.{takes, entering, enter, resultBy}
 use Rattle.environments.specs.Entries.{field, entryAt, patternIn, takingOf, environmentAt, level, takenIn, Listed, Under, Low, Ahead, Along, AlongAll, Enters}
 use Rattle.environments.specs.EntryLaws.{entry-low}
 use Rattle.environments.specs.AgreeLaws.{flat-leaf, copies-flat, below-at}
-use Rattle.steps.specs.declared.build.Built.{Built}
-use Rattle.steps.specs.declared.build.Built.the-variants.{At, Stopped}
+use Rattle.steps.specs.Built.{Built, At, Stopped, builtOf}
 use Rattle.steps.specs.Build.{nodeWords, Paid, Unpaid, Waiting, resultAt, agreesAt, copyAt, copyAgrees, Buildable, Gives, Stops, added, Turned, elementsAt, ElementsUnpaid, ElementsBackwards, copiesAt, CopiesAgreed, CopiesStop, Backwards, Reversed, Copied}
-use Rattle.steps.specs.BuildLaws.{room-left, pays-is}
+use Rattle.steps.specs.BuildLaws.{room-left, built-at, pays-is}
 use Rattle.steps.specs.ResultLaws.{copy-kept, copy-agrees-kept, buildable-left}
 
 -- ---- lists of copies
@@ -238,6 +239,9 @@ module _ (old : List ℕ) (top fuel : ℕ) (env : List ℕ) (w e c : ℕ) (ok : 
       let z : k ≡ c = omega (arith, inv .among) in
       (subst (λ (n : ℕ). Turned (copiesAt old env w e) old cur top fuel n list left) z (inv .turned), subst (λ (n : ℕ). CopiesAgreed old env w e n) z (inv .agreed))
 
+  pub backwards-packed : (new : List ℕ) (p list left : ℕ) → p ≡ packed list left → Backwards old new top fuel env w e c (At list left) → Backwards old new top fuel env w e c (builtOf p)
+  backwards-packed new p list left q b = built-at (Backwards old new top fuel env w e c) old top fuel p list left (ok .room) (omega (arith, b .0 .spent [])) q b
+
 -- ---- elements of a list
 
 -- k of c elements are copied, and node is the list after them
@@ -309,6 +313,9 @@ module _ (old : List ℕ) (top fuel list w c : ℕ) (ok : Waiting old top fuel l
                 among = omega arith;
                 long = end ∙ far ∙ inv .long;
               })
+
+  pub elements-packed : (new : List ℕ) (p at left : ℕ) → p ≡ packed at left → Turned (elementsAt old list w) old new top fuel c at left → ElementsBackwards old new top fuel list w c (builtOf p)
+  elements-packed new p at left q t = built-at (ElementsBackwards old new top fuel list w c) old top fuel p at left (ok .room) (omega (arith, t .spent [])) q t
 
 -- ---- a list turned round before a tail
 
@@ -399,7 +406,7 @@ module _ (old : List ℕ) (top fuel : ℕ) (env : List ℕ) (w e c : ℕ) (ok : 
   pub reversed-asks : (Room mid list (3 * c)) × (list ≤ list) × (top ≤ list)
   reversed-asks = (room-left old mid top fuel list left (3 * c) long (omega (arith, b .0 .most)) (ok .room), omega arith, b .0 .above)
 
-  pub copied : (new : List ℕ) (r : ℕ) → Reversed mid new list list top c r → Copied old new top fuel env w e c (At r left)
+  copied : (new : List ℕ) (r : ℕ) → Reversed mid new list list top c r → Copied old new top fuel env w e c (At r left)
   copied new r a =
       record {
         spent = b .0 .spent;
@@ -416,6 +423,9 @@ module _ (old : List ℕ) (top fuel : ℕ) (env : List ℕ) (w e c : ℕ) (ok : 
         agreed = b .1;
       }
 
+  pub copied-packed : (new : List ℕ) (r p : ℕ) → p ≡ packed r left → Reversed mid new list list top c r → Copied old new top fuel env w e c (builtOf p)
+  copied-packed new r p q a = built-at (Copied old new top fuel env w e c) old top fuel p r left (ok .room) (omega (arith, b .0 .spent [])) q (copied new r a)
+
 -- ---- a variable that takes a list's elements
 
 module _ (old : List ℕ) (top fuel : ℕ) (env : List ℕ) (w e c : ℕ) (ok : Buildable old top fuel env w e) (listed : Listed old env e) (k list : ℕ) (k-is : k ≡ wordAt old e 3) (list-is : list ≡ takenIn env k 0) where
@@ -424,7 +434,7 @@ module _ (old : List ℕ) (top fuel : ℕ) (env : List ℕ) (w e c : ℕ) (ok : 
   listed-waits = record { room = ok .room; node-below = rw list-is (ok .under _); wrap-below = ok .wrap-below }
 
   none-tag : wordAt old 0 1 ≡ 1 → ⊥
-  unfolding wordAt
+  unfolding wordAt within
   none-tag h = omega (arith, h)
 
   pattern-some : (items : List ℕ) → patternIn items old (field env k 3) ≡ some (variableP (wordAt old (field env k 3) 2))

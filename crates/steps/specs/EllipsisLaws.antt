@@ -16,8 +16,7 @@ use Rattle.environments.specs.Environment.{agreeBy, resultBy}
 use Rattle.environments.specs.Lengths.{driving, AllOf, Copies}
 use Rattle.environments.specs.AgreeLaws.{ellipsis-is, below-cong}
 use Rattle.environments.specs.EnvironmentLaws.{copies-cong}
-use Rattle.steps.specs.declared.build.Built.{Built}
-use Rattle.steps.specs.declared.build.Built.the-variants.{At, Stopped}
+use Rattle.steps.specs.Built.{Built, At, Stopped}
 use Rattle.steps.specs.Build.{resultAt, agreesAt, copyAt, copyAgrees, Buildable, Gives, Stops, Made, added, Copied}
 use Rattle.steps.specs.ResultLaws.{both, plain-ellipsis, copy-kept, copy-agrees-kept, buildable-left}
 use Rattle.steps.specs.CopyLaws.{produce-copies, size-all-copies, added-cong}

@@ -12,6 +12,7 @@ use Rattle.arena.specs.Arena.{wordAt, referenceAt, nameAt, treeAt}
 use Rattle.arena.specs.ArenaLaws.{take-less, referenceAt-most}
 use Rattle.arena.specs.Cells.{Room, Grown}
 use Rattle.arena.specs.CellLaws.{tree-kept}
+use Rattle.words.specs.Packed.{packed}
 use Rattle.rule_cells.specs.Cells.{constantBefore, templateAt}
 use Rattle.rule_cells.specs.CellLaws.{patternAt-below, templateAt-below, templateAt-variable, templateAt-insert, templateAt-constant, templateAt-empty}
 use Rattle.environments.specs.declared.environment.Entry.{Entry}
@@ -21,10 +22,9 @@ use Rattle.environments.specs.Entries.{field, entryAt, takenIn, patternIn, taki
 use Rattle.environments.specs.EntryLaws.{entry-low}
 use Rattle.environments.specs.LengthLaws.{taken-is}
 use Rattle.environments.specs.AgreeLaws.{flat-leaf, pair-is}
-use Rattle.steps.specs.declared.build.Built.{Built}
-use Rattle.steps.specs.declared.build.Built.the-variants.{At, Stopped}
+use Rattle.steps.specs.Built.{Built, At, Stopped, builtOf}
 use Rattle.steps.specs.Build.{nodeWords, Fresh, Paid, Pays, Waiting, resultAt, agreesAt, copyAt, copyAgrees, Buildable, Gives, Stops, Made}
-use Rattle.steps.specs.BuildLaws.{Whole, fresh-empty, fresh-constant, room-left, pays-is, unpaid-none, paid-one, pair-most, paid-pair}
+use Rattle.steps.specs.BuildLaws.{Whole, fresh-empty, fresh-constant, room-left, built-at, pays-is, unpaid-none, paid-one, pair-most, paid-pair}
 
 -- ---- what stands below the top
 
@@ -74,6 +74,9 @@ gives-at old new top fuel env w t r root left e m = subst (Made old new top fuel
 
 pub stops-at : (old new : List ℕ) (top fuel : ℕ) (env : List ℕ) (w t : ℕ) (r : Built) → r ≡ Stopped → Made old new top fuel env w t r → Stops old new top fuel env w t
 stops-at old new top fuel env w t r e m = subst (Made old new top fuel env w t) e m
+
+pub made-packed : (old new : List ℕ) (top fuel : ℕ) (env : List ℕ) (w t p root left : ℕ) → Buildable old top fuel env w t → p ≡ packed root left → Gives old new top fuel env w t root left → Made old new top fuel env w t (builtOf p)
+made-packed old new top fuel env w t p root left ok e g = built-at (Made old new top fuel env w t) old top fuel p root left (ok .room) (omega (arith, g .paid .spent [])) e g
 
 -- both of two tests
 pub both : (a b : Bool) → (a && b) ≡ true → (a ≡ true) × (b ≡ true)

@@ -2,12 +2,12 @@
 
 ghost use Rattle.steps.specs.Apply.{Transcribing, Transcribed, Stepping, Stepped};
 use crate::build;
-use crate::build::Built;
 use crate::fits;
 use arena::cells;
 use environments::agree;
 use environments::bind;
 use environments::environment;
+use words::packed;
 
 // Grounds 16, 17 and 18, or the result's root and its items.
 pub enum Applied {
@@ -30,15 +30,14 @@ fn transcribe(
     requires { ⌜ Transcribing (now work) top (now env) w t limit ⌝ }
     ensures { λ r. ⌜ Transcribed (now (work .entry)) (now (work .exit)) top (now (env .entry)) w t limit r ⌝ }
 {
-    match build::build(work, top, limit as usize, env, w, t) {
-        Built::At(root, left) => Applied::Done(root, limit - left as u32),
-        Built::Stopped => {
-            if agree::lengths_agree(work, env, t) {
-                return Applied::Costly;
-            }
-            Applied::Differ
+    let b = build::build(work, top, limit, env, w, t);
+    if b == packed::NONE {
+        if agree::lengths_agree(work, env, t) {
+            return Applied::Costly;
         }
+        return Applied::Differ;
     }
+    Applied::Done(packed::high(b), limit - packed::low(b))
 }
 
 // The rules at a use, which waits under w with the step's mark; `limit` is the fuel left.

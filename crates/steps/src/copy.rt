@@ -1,16 +1,16 @@
 // Trees of the use, copied into fresh nodes above the top while there is fuel for each item (ground 18), and lists turned round.
-// A name from the use gets the use's pending wrap, joined with its own.
+// A name from the use gets the use's pending wrap, joined with its own. The answer is one word, as in `build`.
 
 ghost use mathlib.Core.Path.{_≡_};
 ghost use Prim.Native.Nat.{_*_, _≤_};
 ghost use Rattle.recipe.specs.Tree.{name};
 ghost use Rattle.arena.specs.Arena.{wordAt, nameAt, treeAt};
 ghost use Rattle.arena.specs.Cells.{Room};
+ghost use Rattle.steps.specs.Built.{builtOf};
 ghost use Rattle.steps.specs.Build.{Fresh, Waiting, Pays, ElementsBackwards, Reversed};
-use crate::build;
-use crate::build::Built;
 use arena::cells;
 use arena::lists;
+use words::packed;
 
 // A fresh name from a name's node and a wrap that waits on it.
 pub fn copy_name(work: &mut [u32], top: u32, node: u32, w: u32) -> u32
@@ -27,30 +27,30 @@ pub fn copy_name(work: &mut [u32], top: u32, node: u32, w: u32) -> u32
 }
 
 // A fresh copy of a node that is no pair.
-pub fn copy_leaf(work: &mut [u32], top: u32, fuel: usize, node: u32, w: u32) -> Built
+pub fn copy_leaf(work: &mut [u32], top: u32, fuel: u32, node: u32, w: u32) -> u64
     requires { ⌜ (Waiting (now work) top fuel node w) × (wordAt (now work) node 3 ≡ 4 → ⊥) ⌝ }
-    ensures { λ r. ⌜ Pays (λ items. treeAt items (now (work .entry)) node w) (now (work .entry)) (now (work .exit)) top fuel r ⌝ }
+    ensures { λ r. ⌜ Pays (λ items. treeAt items (now (work .entry)) node w) (now (work .entry)) (now (work .exit)) top fuel (builtOf r) ⌝ }
 {
     if fuel == 0 {
-        return Built::Stopped;
+        return packed::NONE;
     }
     let left = fuel - 1;
     let kind = cells::word(work, node, cells::KIND);
     if kind == cells::EMPTY {
-        return Built::At(cells::put_empty(work, top), left);
+        return packed::pair(cells::put_empty(work, top), left);
     }
     if kind == cells::NAME {
-        return Built::At(copy_name(work, top, node, w), left);
+        return packed::pair(copy_name(work, top, node, w), left);
     }
     let a = cells::word(work, node, cells::FIRST);
     let b = cells::word(work, node, cells::SECOND);
-    Built::At(cells::put_constant(work, top, kind, a, b), left)
+    packed::pair(cells::put_constant(work, top, kind, a, b), left)
 }
 
 // A fresh copy of a part of a tree. A part that is no pair is copied in place, without a call more.
-pub fn copy_part(work: &mut [u32], top: u32, fuel: usize, node: u32, w: u32) -> Built
+pub fn copy_part(work: &mut [u32], top: u32, fuel: u32, node: u32, w: u32) -> u64
     requires { ⌜ Waiting (now work) top fuel node w ⌝ }
-    ensures { λ r. ⌜ Pays (λ items. treeAt items (now (work .entry)) node w) (now (work .entry)) (now (work .exit)) top fuel r ⌝ }
+    ensures { λ r. ⌜ Pays (λ items. treeAt items (now (work .entry)) node w) (now (work .entry)) (now (work .exit)) top fuel (builtOf r) ⌝ }
 {
     if cells::word(work, node, cells::KIND) == cells::PAIR {
         return copy_tree(work, top, fuel, node, w);
@@ -59,31 +59,35 @@ pub fn copy_part(work: &mut [u32], top: u32, fuel: usize, node: u32, w: u32) -> 
 }
 
 // A fresh copy of a tree, its tail before its head.
-pub fn copy_tree(work: &mut [u32], top: u32, fuel: usize, node: u32, w: u32) -> Built
+pub fn copy_tree(work: &mut [u32], top: u32, fuel: u32, node: u32, w: u32) -> u64
     requires { ⌜ Waiting (now work) top fuel node w ⌝ }
-    ensures { λ r. ⌜ Pays (λ items. treeAt items (now (work .entry)) node w) (now (work .entry)) (now (work .exit)) top fuel r ⌝ }
+    ensures { λ r. ⌜ Pays (λ items. treeAt items (now (work .entry)) node w) (now (work .entry)) (now (work .exit)) top fuel (builtOf r) ⌝ }
 {
     if cells::word(work, node, cells::KIND) != cells::PAIR {
-        return build::again(copy_leaf(work, top, fuel, node, w));
+        return copy_leaf(work, top, fuel, node, w);
     }
     if fuel == 0 {
-        return Built::Stopped;
+        return packed::NONE;
     }
     let first = cells::reference(work, node, cells::HEAD);
     let rest = cells::reference(work, node, cells::TAIL);
-    let Built::At(tail, f) = copy_part(work, top, fuel - 1, rest, w) else {
-        return Built::Stopped;
-    };
-    let Built::At(head, g) = copy_part(work, tail, f, first, w) else {
-        return Built::Stopped;
-    };
-    Built::At(cells::put_pair(work, head, head, tail), g)
+    let b = copy_part(work, top, fuel - 1, rest, w);
+    if b == packed::NONE {
+        return packed::NONE;
+    }
+    let tail = packed::high(b);
+    let a = copy_part(work, tail, packed::low(b), first, w);
+    if a == packed::NONE {
+        return packed::NONE;
+    }
+    let head = packed::high(a);
+    packed::pair(cells::put_pair(work, head, head, tail), packed::low(a))
 }
 
 // The first c elements of a list, copied, the last first.
-pub fn copy_elements(work: &mut [u32], top: u32, fuel: usize, list: u32, w: u32, c: u32) -> Built
+pub fn copy_elements(work: &mut [u32], top: u32, fuel: u32, list: u32, w: u32, c: u32) -> u64
     requires { ⌜ Waiting (now work) top fuel list w ⌝ }
-    ensures { λ r. ⌜ ElementsBackwards (now (work .entry)) (now (work .exit)) top fuel list w c r ⌝ }
+    ensures { λ r. ⌜ ElementsBackwards (now (work .entry)) (now (work .exit)) top fuel list w c (builtOf r) ⌝ }
 {
     let mut at = top;
     let mut node = list;
@@ -91,18 +95,20 @@ pub fn copy_elements(work: &mut [u32], top: u32, fuel: usize, list: u32, w: u32,
     let mut k = 0;
     while k < c {
         if left == 0 {
-            return Built::Stopped;
+            return packed::NONE;
         }
         let first = lists::first(work, node);
-        let Built::At(head, g) = copy_part(work, at, left - 1, first, w) else {
-            return Built::Stopped;
-        };
+        let b = copy_part(work, at, left - 1, first, w);
+        if b == packed::NONE {
+            return packed::NONE;
+        }
         node = lists::rest(work, node);
+        let head = packed::high(b);
         at = cells::put_pair(work, head, head, at);
-        left = g;
+        left = packed::low(b);
         k += 1;
     }
-    Built::At(at, left)
+    packed::pair(at, left)
 }
 
 // The first c elements of a list, each in front of the ones before it and of a tail.

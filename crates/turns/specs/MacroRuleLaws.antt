@@ -14,14 +14,15 @@ use Rattle.recipe.specs.Tree.{Tree, size, elements, element}
 use Rattle.recipe.specs.TreeLaws.{element-size}
 use Rattle.expansion.specs.Rules.{Rule, rulesOf}
 use Rattle.arena.specs.Arena.{wordAt, referenceAt, treeAt}
-use Rattle.arena.specs.ArenaLaws.{cases, take-less}
+use Rattle.words.specs.ListLaws.{either}
+use Rattle.arena.specs.ArenaLaws.{take-less}
 use Rattle.arena.specs.CellLaws.{tree-kept}
 use Rattle.rule_cells.specs.Cells.{rulesAt}
 use Rattle.rule_cells.specs.ParseLaws.{tree-is, size-is, head-below, rest-below}
 use Rattle.arena.specs.ListLaws.{no-elements}
 use Rattle.rule_cells.specs.RuleParse.{RulesMade, RulesLeft}
-use Rattle.rule_cells.specs.declared.templates.Built.{Built}
-use Rattle.rule_cells.specs.declared.templates.Built.the-variants as built
+use Rattle.rule_cells.specs.Built.{Built}
+use Rattle.rule_cells.specs.Built as built
 use Rattle.arena.specs.Lists.{Means}
 use Rattle.turns.specs.declared.macros.Read.{Read}
 use Rattle.turns.specs.declared.macros.Read.the-variants.{Good, Bad}
@@ -55,7 +56,7 @@ module _ (items work macros : List ℕ) (form w count top : ℕ) (ask : OneAsk i
               (macrosAt-settled items work work′ macros (set macros count at) top (m .kept) count known (ask .below))
               (getD-set-same macros count at 0 (ask .slot));
           below = λ k h.
-              cases (ltb k count)
+              either (ltb k count)
               (λ t.
               let l : k < count = ltb-true k count t in
               let g : getD (set macros count at) k 0 ≡ getD macros k 0 = getD-set-other macros count k at 0 (λ z. omega arith) in

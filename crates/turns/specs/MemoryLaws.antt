@@ -13,7 +13,8 @@ use Rattle.rule_cells.specs.Cells.{rulesAt}
 use Rattle.rule_cells.specs.CellLaws.{rulesAt-below}
 use Rattle.recipe.specs.Tree.{elements}
 use Rattle.arena.specs.Arena.{treeAt}
-use Rattle.arena.specs.ArenaLaws.{cases, take-less}
+use Rattle.words.specs.ListLaws.{either}
+use Rattle.arena.specs.ArenaLaws.{take-less}
 use Rattle.turns.specs.declared.answers.Reached.{Reached}
 use Rattle.turns.specs.Memory.{Tables, tables, macrosAt, stateAt, Put, moved, Moved, workNeed, coreNeed, variableNeed, macroNeed, Macros, Ready, Kept, HeaderMoved}
 
@@ -170,7 +171,7 @@ unfolding macrosAt
 macrosAt-one items work macros zero n h = absurd (omega arith)
 macrosAt-one items work macros (suc k) n h =
     let long : length (macrosAt items work macros k) ≡ k = macrosAt-length items work macros k in
-    cases (ltb n k)
+    either (ltb n k)
     (λ t.
     let l : n < k = ltb-true n k t in
     List·getD-append (macrosAt items work macros k) (rulesAt items work (getD macros k 0) ∷ []) [] n (omega arith) ∙ macrosAt-one items work macros k n l)

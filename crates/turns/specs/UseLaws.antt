@@ -15,7 +15,8 @@ use Rattle.recipe.specs.TreeLaws.{onNames-∘}
 use Rattle.expansion.specs.Rules.{Rule}
 use Rattle.expansion.specs.Match.{firstFit}
 use Rattle.arena.specs.Arena.{treeAt, wrapAt, stepLimit}
-use Rattle.arena.specs.ArenaLaws.{cases, take-less}
+use Rattle.words.specs.ListLaws.{either}
+use Rattle.arena.specs.ArenaLaws.{take-less}
 use Rattle.arena.specs.Cells.{Room, Wrapped}
 use Rattle.arena.specs.CellLaws.{tree-mark}
 use Rattle.rule_cells.specs.Cells.{rulesAt}
@@ -45,13 +46,13 @@ rules-unknown macros count n h = rw (le-ltb n count h)
 word-rules : (items work macros : List ℕ) (count n : ℕ) → rulesAt items work (rulesWord macros count n) ≡ getD (macrosAt items work macros count) n []
 unfolding rulesWord
 word-rules items work macros count n =
-    cases (ltb n count)
+    either (ltb n count)
     (λ t. rw t (sym (macrosAt-one items work macros count n (ltb-true n count t))))
     (λ t. rw t (rulesAt-none items work 0 refl ∙ sym (macrosAt-past items work macros count n (ltb-false n count t))))
 
 word-below : (macros : List ℕ) (count n top : ℕ) → ((k : ℕ) → k < count → getD macros k 0 ≤ top) → rulesWord macros count n ≤ top
 unfolding rulesWord
-word-below macros count n top h = cases (ltb n count) (λ t. rw t (h n (ltb-true n count t))) (λ t. rw t (omega arith))
+word-below macros count n top h = either (ltb n count) (λ t. rw t (h n (ltb-true n count t))) (λ t. rw t (omega arith))
 
 -- ---- trees
 

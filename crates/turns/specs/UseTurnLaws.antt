@@ -24,7 +24,7 @@ use Rattle.expansion.specs.TidyRules.{TidyTemplate, firstFit-tidy, transcribe-t
 use Rattle.expansion.specs.Computation.{State, M}
 use Rattle.expansion.specs.Forms.{expandUse}
 use Rattle.arena.specs.Arena.{treeAt}
-use Rattle.arena.specs.ArenaLaws.{cases}
+use Rattle.words.specs.ListLaws.{either}
 use Rattle.steps.specs.Apply.{Outcome, refused, result, applied, stepOf}
 use Rattle.turns.specs.declared.answers.Reached.{Reached}
 use Rattle.turns.specs.declared.answers.Ended.{Ended}
@@ -45,7 +45,7 @@ outcomeEnd expand s (result t) = endOf (expand (produce (mark (suc (s .steps)) t
 
 leb-left : (n s f : ℕ) → s ≤ f → leb (s + n) f ≡ leb n (f - s)
 leb-left n s f h =
-    cases (leb n (f - s))
+    either (leb n (f - s))
     (λ t. let l : n ≤ f - s = leb-true n (f - s) t in le-leb (s + n) f (omega arith) ∙ sym t)
     (λ t. let l : f - s < n = leb-false n (f - s) t in lt-leb (s + n) f (omega arith) ∙ sym t)
 

@@ -26,7 +26,7 @@ pub enum Looked {
     Nothing,
 }
 
-pub fn look(items: &[u32], work: &[u32], operations: &[u32], node: u32, wrap: u32) -> Looked
+pub fn look(items: &[u32], work: &[u32], operations: &[u16], node: u32, wrap: u32) -> Looked
     requires { ⌜ Lent (now items) (now operations) ⌝ }
     ensures { λ r. ⌜ Looks (lookup (operationsOf (now (items .entry))) (nameAt (now (items .entry)) (now (work .entry)) node wrap)) r ⌝ }
 {
@@ -64,7 +64,7 @@ pub fn bare_name(
     items: &[u32],
     work: &[u32],
     core: &mut [u32],
-    operations: &[u32],
+    operations: &[u16],
     node: u32,
     wrap: u32,
     reached: Reached,

@@ -14,7 +14,7 @@ use arena::lists;
 use forms::binders;
 use forms::shapes;
 use rule_cells::rules;
-use rule_cells::templates::Built;
+use words::packed;
 
 // The most macros of one form.
 pub const MACROS_MOST: u32 = 16;
@@ -38,11 +38,12 @@ pub fn one_macro(
     requires { ⌜ OneAsk (now items) (now work) (now macros) form w count top ⌝ }
     ensures { λ r. ⌜ OneLeft (treeAt (now (items .entry)) (now (work .entry)) form w) (now (items .entry)) (now (work .entry)) (now (work .exit)) (now (macros .entry)) (now (macros .exit)) count top r ⌝ }
 {
-    let Built::Good(at, upper) = rules::rules(items, work, form, w, top) else {
+    let built = rules::rules(items, work, form, w, top);
+    if built == packed::NONE {
         return Read::Bad;
-    };
-    macros[count as usize] = at;
-    Read::Good(upper)
+    }
+    macros[count as usize] = packed::high(built);
+    Read::Good(packed::low(built))
 }
 
 // The rules of each (name rules) of a list, as macros from `count` on.

@@ -6,12 +6,13 @@ use mathlib.Core.Logic.{_⊎_, inl, inr}
 use Prim.Native.Nat.{ℕ, zero, suc, _+_, _-_, _≤_, _<_}
 use native.Mathlib.Omega.{arith}
 use native.Mathlib.Numerals.{add-one}
-use lib.Dec.{eqb, leb}
+use lib.Dec.{eqb}
 use lib.ListN.{length, getD, drop, set, length-drop, take-append-drop}
 use lib.Seq.{length-take-le, take-all, take-suc, getD-drop, drop-drop, paste, paste-suc}
-use borrow.Author.Tests.{eqb-true, eqb-false, eq-eqb, ne-eqb, leb-true}
-use Rattle.words.specs.Lists.{within, all, any, equal}
+use borrow.Author.Tests.{eqb-true, eqb-false, eq-eqb, ne-eqb}
+use Rattle.words.specs.Lists.{all, any, equal}
 use Rattle.words.specs.Parts.{rest, part}
+use Rattle.words.specs.TestLaws.{and-left, and-right}
 
 -- ---- tests
 
@@ -24,24 +25,6 @@ module _ {P : Type 0} where
   -- no test is both
   pub never : {t : Bool} → t ≡ true → t ≡ false → P
   never h k = let z : _≡_ {A = Bool} true false = sym h ∙ k in let e : _≡_ {A = ℕ} 0 1 = cc in absurd (omega arith)
-
-pub and-left : (a b : Bool) → a && b ≡ true → a ≡ true
-and-left true b h = refl
-and-left false b h = h
-
-pub and-right : (a b : Bool) → a && b ≡ true → b ≡ true
-and-right true b h = h
-and-right false b h = never h refl
-
--- ---- within
-
-pub within-low : (a b n : ℕ) → within a b n ≡ true → a ≤ n
-unfolding within
-within-low a b n h = leb-true a n (and-left (leb a n) (leb n b) h)
-
-pub within-high : (a b n : ℕ) → within a b n ≡ true → n ≤ b
-unfolding within
-within-high a b n h = leb-true n b (and-right (leb a n) (leb n b) h)
 
 -- ---- any
 
@@ -117,6 +100,10 @@ equal-true (x ∷ a) (y ∷ b) h =
 
 pub rest-is : {A : Type 0} (a : ℕ) (s : List A) → rest a s ≡ drop a s
 rest-is a s = let h : length (drop a s) ≤ length s - a = omega (arith, length-drop a s) in take-all (length s - a) (drop a s) h
+
+-- what holds of the part that is all of a list holds of the list
+pub whole : {A : Type 0} (P : List A → Type 0) (s : List A) → P (rest 0 s) → P s
+whole P s = subst P (rest-is 0 s)
 
 -- a part that goes on for one element
 pub part-more : (from to : ℕ) (s : List ℕ) → from ≤ to → to < length s → part from (to + 1) s ≡ part from to s ++ (getD s to 0 ∷ [])

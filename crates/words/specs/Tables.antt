@@ -1,18 +1,12 @@
 -- Lent tables.
 use mathlib.Core.Path.{_≡_}
-use mathlib.Core.Bool.{Bool}
 use mathlib.Core.List.{List, _++_}
 use Prim.Native.Nat.{ℕ, _-_, _≤_}
-use lib.Dec.{eqb}
 use lib.ListN.{length, drop, replicate}
-use Rattle.words.specs.Lists.{all}
 
 -- words, then zeros to the end of a table
 unfoldable pub filled : List ℕ → List ℕ → List ℕ
 filled ws table = ws ++ replicate (length table - length ws) 0
-
-unfoldable pub allZero : List ℕ → Bool
-allZero ws = all (λ w. eqb w 0) ws
 
 -- a table while it is zeroed: what was passed is zero, and the rest is as it was
 pub record Zeroed (passed : ℕ) (lent table : List ℕ) : Type 0 where

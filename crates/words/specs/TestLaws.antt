@@ -6,7 +6,7 @@ use mathlib.Core.List.{List, [], _∷_, _++_}
 use Prim.Native.Nat.{ℕ, zero, suc, _≤_}
 use lib.Dec.{leb}
 use lib.ListN.{drop}
-use borrow.Author.Tests.{leb-true}
+use borrow.Author.Tests.{leb-true, le-leb}
 use Rattle.words.specs.Lists.{within, all, any}
 
 -- ---- conjunctions
@@ -65,6 +65,10 @@ unfolding within
 within-parts a b n e =
     let p = and-parts (leb a n) (leb n b) e in
     (leb-true a n (p .0), leb-true n b (p .1))
+
+pub within-is : (a b n : ℕ) → a ≤ n → n ≤ b → within a b n ≡ true
+unfolding within
+within-is a b n h l = and-both (leb a n) (leb n b) (le-leb a n h) (le-leb n b l)
 
 pub within-least : (a b n : ℕ) → within a b n ≡ true → a ≤ n
 within-least a b n e = within-parts a b n e .0

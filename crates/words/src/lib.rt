@@ -1,4 +1,5 @@
 // The limits of document 01, for code; specs/Limits.antt has the same numbers for definitions.
+pub mod packed;
 pub mod signed;
 pub mod tables;
 

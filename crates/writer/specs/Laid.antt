@@ -4,8 +4,7 @@ use mathlib.Core.Bool.{Bool, true, false}
 use mathlib.Core.List.{List, _++_}
 use Prim.Native.Nat.{ℕ, _+_, _≤_, _<_}
 use lib.ListN.{length, take, drop}
-use Rattle.writer.specs.declared.bytes.Put.{Put}
-use Rattle.writer.specs.declared.bytes.Put.the-variants.{Done, Full}
+use Rattle.writer.specs.Put.{Put, Done, Full}
 
 -- the output with a text at a place, where there is ink
 unfoldable pub laid : Bool → List ℕ → ℕ → List ℕ → List ℕ

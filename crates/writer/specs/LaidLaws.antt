@@ -8,8 +8,8 @@ use native.Mathlib.Numerals.{add-one}
 use native.Mathlib.Nat.{zero-add, add-zero}
 use lib.ListN.{length, take, drop, set, getD, length-append, take-append-drop, length-drop}
 use lib.Seq.{set-split, append-snoc, paste, paste-suc, take-length, length-take-le, take-at, drop-at, take-take, drop-drop, take-append-le, drop-append-le}
-use Rattle.writer.specs.declared.bytes.Put.{Put}
-use Rattle.writer.specs.declared.bytes.Put.the-variants.{Done, Full}
+use borrow.Author.Tests.{ne-eqb}
+use Rattle.writer.specs.Put.{Put, Done, Full, noPlace, putOf}
 use Rattle.writer.specs.Laid.{laid, Left, done, full}
 
 -- ---- one text
@@ -132,3 +132,35 @@ module _ {ink : Bool} {x : List ℕ} {at : ℕ} {d e : List ℕ} where
 -- nothing laid
 pub left-none : (ink : Bool) (at : ℕ) (d : List ℕ) → at ≤ length d → Left ink [] at d d (Done at)
 left-none ink at d h = done (sym (add-zero at)) h (sym (laid-none ink at d))
+
+-- ---- a place's number
+
+pub put-done : (n : ℕ) → (n ≡ noPlace → ⊥) → putOf n ≡ Done n
+unfolding putOf
+put-done n h = rw (ne-eqb n noPlace h)
+
+pub put-full : (n : ℕ) → n ≡ noPlace → putOf n ≡ Full
+unfolding putOf
+put-full n h = rw h
+
+pub left-no-place : {ink : Bool} {x : List ℕ} {at : ℕ} {d e : List ℕ} → Left ink x at d e Full → Left ink x at d e (putOf noPlace)
+unfolding putOf
+left-no-place l = l
+
+module _ {ink : Bool} {x : List ℕ} {at : ℕ} {d e : List ℕ} where
+  -- a place within an output that is shorter
+  pub left-place : {to : ℕ} → length d < noPlace → Left ink x at d e (Done to) → Left ink x at d e (putOf to)
+  left-place {to} h l = let k = done-is l in subst (λ (z : Put). Left ink x at d e z) (sym (put-done to (λ g. omega arith))) l
+
+  module _ {n : ℕ} (l : Left ink x at d e (putOf n)) where
+    -- the place is within the output
+    pub place-room : (n ≡ noPlace → ⊥) → n ≤ length e
+    place-room h = left-room l n (put-done n h)
+
+    -- the first of two texts does not fit
+    pub place-full : (y : List ℕ) → n ≡ noPlace → Left ink (x ++ y) at d e (putOf noPlace)
+    place-full y h = left-no-place (left-full l y (put-full n h))
+
+    -- a second text after it
+    pub place-then : {y f : List ℕ} {s : Put} → (n ≡ noPlace → ⊥) → Left ink y n e f s → Left ink (x ++ y) at d f s
+    place-then h m = left-then l n (put-done n h) m

@@ -1,4 +1,5 @@
 -- Writing: the text of a term laid into an output, byte by byte.
+pub mod Put
 pub mod Laid
 pub mod LaidLaws
 pub mod Pieces

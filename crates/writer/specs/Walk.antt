@@ -9,7 +9,7 @@ use Rattle.core_term.specs.Term.{Plain}
 use Rattle.core_term.specs.Words.{encode}
 use Rattle.core_term.specs.Every.{Asked, every}
 use Rattle.core_term.specs.Parts.{isDatum}
-use Rattle.writer.specs.declared.bytes.Put.the-variants as P
+use Rattle.writer.specs.Put as P
 use Rattle.writer.specs.declared.term.Step.{Step}
 use Rattle.writer.specs.declared.term.Step.the-variants as S
 use Rattle.writer.specs.declared.term.Shape.{Shape}

@@ -19,8 +19,7 @@ use Rattle.core_term.specs.Check.{Scope, outside, known, asked, allKnown, termO
 use Rattle.core_term.specs.CheckLaws.{Accepted, accepted, isTerm-some}
 use Rattle.core_term.specs.Text.{text}
 use Rattle.core_term.specs.TextRoom.{textRate, textWordsMost, text-room}
-use Rattle.writer.specs.declared.bytes.Put.{Put}
-use Rattle.writer.specs.declared.bytes.Put.the-variants.{Done, Full}
+use Rattle.writer.specs.Put.{Put, Done, Full}
 use Rattle.writer.specs.declared.term.Step.{Step}
 use Rattle.writer.specs.declared.term.Step.the-variants as S
 use Rattle.writer.specs.declared.Writing.{Writing}

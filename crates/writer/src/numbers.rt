@@ -4,9 +4,10 @@ ghost use mathlib.Core.List.{_∷_};
 ghost use Prim.Native.Nat.{_+_, _≤_, _<_};
 ghost use lib.ListN.{length};
 ghost use Rattle.core_term.specs.Decimal.{decimal, integerText};
+ghost use Rattle.writer.specs.Put.{putOf};
 ghost use Rattle.writer.specs.Laid.{Left};
 ghost use Rattle.writer.specs.Pieces.{gapText, formalsText};
-use crate::bytes::Put;
+use crate::bytes::FULL;
 use crate::bytes::byte;
 
 pub fn wide(n: u32) -> usize
@@ -16,34 +17,36 @@ pub fn wide(n: u32) -> usize
 }
 
 // The digits of n.
-pub fn digits(n: usize, out: &mut [u8], at: usize, ink: bool) -> Put
+pub fn digits(n: usize, out: &mut [u8], at: usize, ink: bool) -> usize
     requires { ⌜ at ≤ length (now out) ⌝ }
-    ensures { λ r. ⌜ Left ink (decimal n) at (now (out .entry)) (now (out .exit)) r ⌝ }
+    ensures { λ r. ⌜ Left ink (decimal n) at (now (out .entry)) (now (out .exit)) (putOf r) ⌝ }
 {
     if n < 10 {
         return byte(48 + n as u8, out, at, ink);
     }
-    let Put::Done(to) = digits(n / 10, out, at, ink) else {
-        return Put::Full;
-    };
+    let to = digits(n / 10, out, at, ink);
+    if to == FULL {
+        return FULL;
+    }
     byte(48 + (n % 10) as u8, out, to, ink)
 }
 
 // A letter and the digits of n, as v0.
-pub fn numbered(letter: u8, n: usize, out: &mut [u8], at: usize, ink: bool) -> Put
+pub fn numbered(letter: u8, n: usize, out: &mut [u8], at: usize, ink: bool) -> usize
     requires { ⌜ at ≤ length (now out) ⌝ }
-    ensures { λ r. ⌜ Left ink (letter ∷ decimal n) at (now (out .entry)) (now (out .exit)) r ⌝ }
+    ensures { λ r. ⌜ Left ink (letter ∷ decimal n) at (now (out .entry)) (now (out .exit)) (putOf r) ⌝ }
 {
-    let Put::Done(to) = byte(letter, out, at, ink) else {
-        return Put::Full;
-    };
+    let to = byte(letter, out, at, ink);
+    if to == FULL {
+        return FULL;
+    }
     digits(n, out, to, ink)
 }
 
 // The integer with the two's complement bits w.
-pub fn integer(w: u32, out: &mut [u8], at: usize, ink: bool) -> Put
+pub fn integer(w: u32, out: &mut [u8], at: usize, ink: bool) -> usize
     requires { ⌜ at ≤ length (now out) ⌝ }
-    ensures { λ r. ⌜ Left ink (integerText w) at (now (out .entry)) (now (out .exit)) r ⌝ }
+    ensures { λ r. ⌜ Left ink (integerText w) at (now (out .entry)) (now (out .exit)) (putOf r) ⌝ }
 {
     if w < 0x8000_0000 {
         return digits(wide(w), out, at, ink);
@@ -52,12 +55,12 @@ pub fn integer(w: u32, out: &mut [u8], at: usize, ink: bool) -> Put
 }
 
 // A space, where one is wanted.
-pub fn gap(wanted: bool, out: &mut [u8], at: usize, ink: bool) -> Put
+pub fn gap(wanted: bool, out: &mut [u8], at: usize, ink: bool) -> usize
     requires { ⌜ at ≤ length (now out) ⌝ }
-    ensures { λ r. ⌜ Left ink (gapText wanted) at (now (out .entry)) (now (out .exit)) r ⌝ }
+    ensures { λ r. ⌜ Left ink (gapText wanted) at (now (out .entry)) (now (out .exit)) (putOf r) ⌝ }
 {
     if !wanted {
-        return Put::Done(at);
+        return at;
     }
     byte(b' ', out, at, ink)
 }
@@ -70,18 +73,20 @@ pub fn formals(
     out: &mut [u8],
     at: usize,
     ink: bool,
-) -> Put
+) -> usize
     requires { ⌜ (at ≤ length (now out)) × (first + count < 18446744073709551616) ⌝ }
-    ensures { λ r. ⌜ Left ink (formalsText wanted first count) at (now (out .entry)) (now (out .exit)) r ⌝ }
+    ensures { λ r. ⌜ Left ink (formalsText wanted first count) at (now (out .entry)) (now (out .exit)) (putOf r) ⌝ }
 {
     if count == 0 {
-        return Put::Done(at);
+        return at;
     }
-    let Put::Done(a) = gap(wanted, out, at, ink) else {
-        return Put::Full;
-    };
-    let Put::Done(b) = numbered(b'v', first, out, a, ink) else {
-        return Put::Full;
-    };
+    let a = gap(wanted, out, at, ink);
+    if a == FULL {
+        return FULL;
+    }
+    let b = numbered(b'v', first, out, a, ink);
+    if b == FULL {
+        return FULL;
+    }
     formals(true, first + 1, count - 1, out, b, ink)
 }

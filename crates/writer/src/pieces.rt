@@ -7,10 +7,11 @@ ghost use lib.ListN.{length, getD};
 ghost use Rattle.words.specs.Text.{bytes};
 ghost use Rattle.datum.specs.NameTable.{nameAt, hasName};
 ghost use Rattle.core_term.specs.Node.{Node, nodeAt, got, nameN};
+ghost use Rattle.writer.specs.Put.{putOf};
 ghost use Rattle.writer.specs.Laid.{Left};
 ghost use Rattle.writer.specs.Pieces.{formalsText, opening, closing};
 ghost use Rattle.writer.specs.Opened.{Opened};
-use crate::bytes::Put;
+use crate::bytes::FULL;
 use crate::bytes::byte;
 use crate::bytes::copy;
 use crate::numbers::formals;
@@ -26,9 +27,9 @@ fn size(n: u8) -> usize
 }
 
 // The spelling of name n.
-fn name(n: usize, names: &[u8], out: &mut [u8], at: usize, ink: bool) -> Put
+fn name(n: usize, names: &[u8], out: &mut [u8], at: usize, ink: bool) -> usize
     requires { ⌜ (at ≤ length (now out)) × (hasName (now names) n ≡ true) ⌝ }
-    ensures { λ r. ⌜ Left ink (nameAt (now (names .entry)) n) at (now (out .entry)) (now (out .exit)) r ⌝ }
+    ensures { λ r. ⌜ Left ink (nameAt (now (names .entry)) n) at (now (out .entry)) (now (out .exit)) (putOf r) ⌝ }
 {
     let start = SLOT * n;
     let from = start + 1;
@@ -37,33 +38,37 @@ fn name(n: usize, names: &[u8], out: &mut [u8], at: usize, ink: bool) -> Put
 }
 
 // A name inside quote, or (quote name).
-fn name_opening(n: usize, names: &[u8], out: &mut [u8], at: usize, inner: bool, ink: bool) -> Put
+fn name_opening(n: usize, names: &[u8], out: &mut [u8], at: usize, inner: bool, ink: bool) -> usize
     requires { ⌜ (at ≤ length (now out)) × (hasName (now names) n ≡ true) ⌝ }
-    ensures { λ r. ⌜ Left ink (opening (nameAt (now (names .entry))) inner (nameN n)) at (now (out .entry)) (now (out .exit)) r ⌝ }
+    ensures { λ r. ⌜ Left ink (opening (nameAt (now (names .entry))) inner (nameN n)) at (now (out .entry)) (now (out .exit)) (putOf r) ⌝ }
 {
     if inner {
         return name(n, names, out, at, ink);
     }
-    let Put::Done(a) = copy(b"(quote ", out, at, ink) else {
-        return Put::Full;
-    };
-    let Put::Done(b) = name(n, names, out, a, ink) else {
-        return Put::Full;
-    };
+    let a = copy(b"(quote ", out, at, ink);
+    if a == FULL {
+        return FULL;
+    }
+    let b = name(n, names, out, a, ink);
+    if b == FULL {
+        return FULL;
+    }
     byte(b')', out, b, ink)
 }
 
 // (lambda (v0 v1)
-fn lambda_opening(first: usize, count: usize, out: &mut [u8], at: usize, ink: bool) -> Put
+fn lambda_opening(first: usize, count: usize, out: &mut [u8], at: usize, ink: bool) -> usize
     requires { ⌜ (at ≤ length (now out)) × (first + count < 18446744073709551616) ⌝ }
-    ensures { λ r. ⌜ Left ink (bytes "(lambda (" ++ (formalsText false first count ++ bytes ")")) at (now (out .entry)) (now (out .exit)) r ⌝ }
+    ensures { λ r. ⌜ Left ink (bytes "(lambda (" ++ (formalsText false first count ++ bytes ")")) at (now (out .entry)) (now (out .exit)) (putOf r) ⌝ }
 {
-    let Put::Done(a) = copy(b"(lambda (", out, at, ink) else {
-        return Put::Full;
-    };
-    let Put::Done(b) = formals(false, first, count, out, a, ink) else {
-        return Put::Full;
-    };
+    let a = copy(b"(lambda (", out, at, ink);
+    if a == FULL {
+        return FULL;
+    }
+    let b = formals(false, first, count, out, a, ink);
+    if b == FULL {
+        return FULL;
+    }
     byte(b')', out, b, ink)
 }
 
@@ -75,9 +80,9 @@ fn datum_opening(
     at: usize,
     inner: bool,
     ink: bool,
-) -> Put
+) -> usize
     requires { ⌜ (at ≤ length (now out)) × Opened (now names) (now words) × (2 ≤ getD (now words) 0 0) × (getD (now words) 0 0 ≤ 5) ⌝ }
-    ensures { λ r. ⌜ ((x : Node) (left : List ℕ) → nodeAt (now (words .entry)) ≡ got x left → Left ink (opening (nameAt (now (names .entry))) inner x) at (now (out .entry)) (now (out .exit)) r) ⌝ }
+    ensures { λ r. ⌜ ((x : Node) (left : List ℕ) → nodeAt (now (words .entry)) ≡ got x left → Left ink (opening (nameAt (now (names .entry))) inner x) at (now (out .entry)) (now (out .exit)) (putOf r)) ⌝ }
 {
     let code = words[0];
     let a = words[1];
@@ -100,9 +105,9 @@ fn datum_opening(
 }
 
 // The text of the leaf at the beginning of words, a node of codes 0 to 4.
-pub fn leaf(words: &[u32], names: &[u8], out: &mut [u8], at: usize, inner: bool, ink: bool) -> Put
+pub fn leaf(words: &[u32], names: &[u8], out: &mut [u8], at: usize, inner: bool, ink: bool) -> usize
     requires { ⌜ (at ≤ length (now out)) × Opened (now names) (now words) × (getD (now words) 0 0 < 5) ⌝ }
-    ensures { λ r. ⌜ ((x : Node) (left : List ℕ) → nodeAt (now (words .entry)) ≡ got x left → Left ink (opening (nameAt (now (names .entry))) inner x) at (now (out .entry)) (now (out .exit)) r) ⌝ }
+    ensures { λ r. ⌜ ((x : Node) (left : List ℕ) → nodeAt (now (words .entry)) ≡ got x left → Left ink (opening (nameAt (now (names .entry))) inner x) at (now (out .entry)) (now (out .exit)) (putOf r)) ⌝ }
 {
     let code = words[0];
     let a = wide(words[1]);
@@ -116,9 +121,16 @@ pub fn leaf(words: &[u32], names: &[u8], out: &mut [u8], at: usize, inner: bool,
 }
 
 // What opens the node at the beginning of words.
-pub fn begin(words: &[u32], names: &[u8], out: &mut [u8], at: usize, inner: bool, ink: bool) -> Put
+pub fn begin(
+    words: &[u32],
+    names: &[u8],
+    out: &mut [u8],
+    at: usize,
+    inner: bool,
+    ink: bool,
+) -> usize
     requires { ⌜ (at ≤ length (now out)) × Opened (now names) (now words) ⌝ }
-    ensures { λ r. ⌜ ((x : Node) (left : List ℕ) → nodeAt (now (words .entry)) ≡ got x left → Left ink (opening (nameAt (now (names .entry))) inner x) at (now (out .entry)) (now (out .exit)) r) ⌝ }
+    ensures { λ r. ⌜ ((x : Node) (left : List ℕ) → nodeAt (now (words .entry)) ≡ got x left → Left ink (opening (nameAt (now (names .entry))) inner x) at (now (out .entry)) (now (out .exit)) (putOf r)) ⌝ }
 {
     let code = words[0];
     if code == 6 {
@@ -141,13 +153,13 @@ pub fn begin(words: &[u32], names: &[u8], out: &mut [u8], at: usize, inner: bool
 }
 
 // What closes it.
-pub fn finish(words: &[u32], out: &mut [u8], at: usize, inner: bool, ink: bool) -> Put
+pub fn finish(words: &[u32], out: &mut [u8], at: usize, inner: bool, ink: bool) -> usize
     requires { ⌜ (at ≤ length (now out)) × (1 ≤ length (now words)) ⌝ }
-    ensures { λ r. ⌜ ((x : Node) (left : List ℕ) → nodeAt (now (words .entry)) ≡ got x left → Left ink (closing inner x) at (now (out .entry)) (now (out .exit)) r) ⌝ }
+    ensures { λ r. ⌜ ((x : Node) (left : List ℕ) → nodeAt (now (words .entry)) ≡ got x left → Left ink (closing inner x) at (now (out .entry)) (now (out .exit)) (putOf r)) ⌝ }
 {
     let code = words[0];
     if code < 5 {
-        return Put::Done(at);
+        return at;
     }
     if code > 5 {
         return byte(b')', out, at, ink);

@@ -10,7 +10,7 @@ ghost use Rattle.core_term.specs.Words.{encode};
 ghost use Rattle.writer.specs.Pieces.{textIn};
 ghost use Rattle.writer.specs.Opened.{Opened};
 ghost use Rattle.writer.specs.Walk.{Shaped, Fits, Begins, Walked};
-use crate::bytes::Put;
+use crate::bytes::FULL;
 use crate::numbers::gap;
 use crate::numbers::wide;
 use crate::pieces::begin;
@@ -82,9 +82,10 @@ pub fn term(words: &[u32], names: &[u8], out: &mut [u8], at: usize, inner: bool,
     requires { ⌜ (at ≤ length (now out)) × Begins (now names) inner (now words) ⌝ }
     ensures { λ r. ⌜ ((t : Plain) (left : List ℕ) → Fits (now (names .entry)) inner t → now (words .entry) ≡ encode t ++ left → Walked ink (textIn (nameAt (now (names .entry))) inner t) (length (encode t)) at (now (out .entry)) (now (out .exit)) r) ⌝ }
 {
-    let Put::Done(opened) = begin(words, names, out, at, inner, ink) else {
+    let opened = begin(words, names, out, at, inner, ink);
+    if opened == FULL {
         return Step::Full;
-    };
+    }
     let shape = parts_of(words, names);
     let quoted = shape.quoted;
     let mut from = shape.own;
@@ -92,9 +93,10 @@ pub fn term(words: &[u32], names: &[u8], out: &mut [u8], at: usize, inner: bool,
     let mut wanted = shape.wanted;
     let mut to = opened;
     while left > 0 {
-        let Put::Done(start) = gap(wanted, out, to, ink) else {
+        let start = gap(wanted, out, to, ink);
+        if start == FULL {
             return Step::Full;
-        };
+        }
         let Step::Done(used, behind) = part(&words[from..], names, out, start, quoted, ink) else {
             return Step::Full;
         };
@@ -103,9 +105,10 @@ pub fn term(words: &[u32], names: &[u8], out: &mut [u8], at: usize, inner: bool,
         wanted = true;
         left = left - 1;
     }
-    let Put::Done(end) = finish(words, out, to, inner, ink) else {
+    let end = finish(words, out, to, inner, ink);
+    if end == FULL {
         return Step::Full;
-    };
+    }
     Step::Done(from, end)
 }
 
@@ -115,9 +118,10 @@ fn part(words: &[u32], names: &[u8], out: &mut [u8], at: usize, inner: bool, ink
     ensures { λ r. ⌜ ((t : Plain) (left : List ℕ) → Fits (now (names .entry)) inner t → now (words .entry) ≡ encode t ++ left → Walked ink (textIn (nameAt (now (names .entry))) inner t) (length (encode t)) at (now (out .entry)) (now (out .exit)) r) ⌝ }
 {
     if words[0] < 5 {
-        let Put::Done(to) = leaf(words, names, out, at, inner, ink) else {
+        let to = leaf(words, names, out, at, inner, ink);
+        if to == FULL {
             return Step::Full;
-        };
+        }
         return Step::Done(2, to);
     }
     term(words, names, out, at, inner, ink)

@@ -11,92 +11,74 @@ use Rattle.filing.proofs.name_table.Reads as name-table-reads
 use Rattle.filing.proofs.work_table.Reads as work-table-reads
 use Rattle.filing.specs.Room.{output-told, output-known, output-fits}
 
--- src/main.rt:45:21
 item-table-requires : tie.Need-item-table-requires
 item-table-requires c κs =
     search needs
 
--- src/main.rt:46:21
 name-table-requires : tie.Need-name-table-requires
 name-table-requires c κs =
     search needs
 
--- src/main.rt:47:20
 work-table-requires : tie.Need-work-table-requires
 work-table-requires c κs =
     search needs
 
--- src/main.rt:48:20
 core-table-requires : tie.Need-core-table-requires
 core-table-requires c κs =
     search needs
 
--- src/main.rt:52:9
 slice-aggregate-file : tie.Need-slice-aggregate-file
 slice-aggregate-file c =
     search needs
 
--- src/main.rt:53:9
 slice-aggregate-file-2 : tie.Need-slice-aggregate-file-2
 slice-aggregate-file-2 c =
     search needs
 
--- src/main.rt:54:9
 slice-aggregate-file-3 : tie.Need-slice-aggregate-file-3
 slice-aggregate-file-3 c =
     search needs
 
--- src/main.rt:55:9
 slice-aggregate-file-4 : tie.Need-slice-aggregate-file-4
 slice-aggregate-file-4 c =
     search needs
 
--- src/main.rt:49:11
 file-requires : tie.Need-file-requires
 file-requires c κs =
     search needs
 
--- src/main.rt:58:26
 enum-known-length : tie.Need-enum-known-length
 enum-known-length c =
     search needs
 
--- src/main.rt:59:28
 enum-told : tie.Need-enum-told
 enum-told c =
     search needs
 
--- src/main.rt:60:28
 enum-told-2 : tie.Need-enum-told-2
 enum-told-2 c =
     search needs
 
--- src/main.rt:40:1
 same-length : tie.Need-same-length
 same-length c =
     search needs
 
--- src/main.rt:40:1
 returns : tie.Need-returns
 returns c =
     output-told _ _ _ _ _ _ _ _ (c .before .before .before .before .before .before .before .before .before .file .ensures) (search needs) (search needs) (search needs) (search needs) (c .before .before .before .before .before .before .before .before .before .before .before .before .before .before .before .before .before .before .before .before .before .pre) _ (c .before .length .given .1)
 
--- src/main.rt:40:1
 same-length-2 : tie.Need-same-length-2
 same-length-2 c =
     search needs
 
--- src/main.rt:40:1
 returns-2 : tie.Need-returns-2
 returns-2 c =
     absurd (output-known _ _ _ _ _ _ _ _ (c .before .before .before .before .before .before .before .before .file .ensures) (search needs) (search needs) (search needs) (search needs) (c .before .before .before .before .before .before .before .before .before .before .before .before .before .before .before .before .before .before .before .before .pre) (c .enum-told .given .1))
 
--- src/main.rt:40:1
 same-length-3 : tie.Need-same-length-3
 same-length-3 c =
     search needs
 
--- src/main.rt:40:1
 returns-3 : tie.Need-returns-3
 returns-3 c =
     absurd (output-fits _ _ _ _ _ _ _ _ (c .before .before .before .before .before .before .before .before .file .ensures) (search needs) (search needs) (search needs) (search needs) (c .before .before .before .before .before .before .before .before .before .before .before .before .before .before .before .before .before .before .before .before .pre) (c .enum-told2 .given .1))

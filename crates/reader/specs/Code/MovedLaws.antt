@@ -6,7 +6,8 @@ use Prim.Native.Nat.{ℕ, _+_, _≤_}
 use native.Mathlib.Omega.{arith}
 use lib.Dec.{eqb}
 use lib.ListN.{length, length-append}
-use Rattle.words.specs.ListLaws.{either, never, and-left}
+use Rattle.words.specs.TestLaws.{and-left}
+use Rattle.words.specs.ListLaws.{either, never}
 use Rattle.datum.specs.Constant.{Constant}
 use Rattle.datum.specs.Datum.{Datum, constantD, noneD, dataItems, datumItems}
 use Rattle.lexer.specs.declared.token.Cursor.{Cursor}

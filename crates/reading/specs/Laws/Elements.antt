@@ -9,7 +9,8 @@ use lib.ListN.{length, length-append}
 use lib.Seq.{append-snoc}
 use borrow.Author.Tests.{leb-true, le-leb}
 use Rattle.words.specs.Limits.{elementsMost, namesMost, openListsMost}
-use Rattle.words.specs.ListLaws.{either, never, and-left, and-right}
+use Rattle.words.specs.TestLaws.{and-left, and-right}
+use Rattle.words.specs.ListLaws.{either, never}
 use Rattle.datum.specs.Constant.{Constant}
 use Rattle.datum.specs.Datum.{Datum, constantD, noneD}
 use Rattle.reading.specs.Meaning.{Meaning, begins, ends, constant, name, refused}

@@ -12,7 +12,8 @@ use mir.Val.{ofZ}
 use borrow.Author.Tests.{eqb-true, ne-eqb, leb-true, le-leb, not-true}
 use Rattle.words.specs.Limits.{nameLengthMost}
 use Rattle.words.specs.Lists.{within, all, equal}
-use Rattle.words.specs.ListLaws.{either, never, and-left, and-right, within-low, within-high, equal-true, equal-refl}
+use Rattle.words.specs.TestLaws.{and-left, and-right, within-least, within-most}
+use Rattle.words.specs.ListLaws.{either, never, equal-true, equal-refl}
 use Rattle.datum.specs.Constant.{integer}
 use Rattle.reading.specs.Token.{Token, open′, close′, bad, flag, run, isDigit}
 use Rattle.reading.specs.Meaning.{
@@ -51,7 +52,7 @@ use Rattle.reading.specs.RecipeText.{
 -- a digit is no minus
 digit-no-minus : (c : ℕ) → isDigit c ≡ true → eqb c 45 ≡ false
 unfolding isDigit
-digit-no-minus c h = ne-eqb c 45 (λ e. omega (arith, within-low 48 57 c h))
+digit-no-minus c h = ne-eqb c 45 (λ e. omega (arith, within-least 48 57 c h))
 
 unsigned-plain : (c : ℕ) (cs : List ℕ) → eqb c 45 ≡ false → unsigned (c ∷ cs) ≡ c ∷ cs
 unfolding unsigned isNegative
@@ -195,7 +196,7 @@ module _ (cs : List ℕ) where
       either (isName cs)
       (λ k. let l = and-left w (not d) k in
       rw (name-is cs k)
-      (named (λ s. never (starts-numeral s) n) (within-low 1 63 (length cs) l) (within-high 1 63 (length cs) l)
+      (named (λ s. never (starts-numeral s) n) (within-least 1 63 (length cs) l) (within-most 1 63 (length cs) l)
       (λ e. never (subst (λ l. equal l (46 ∷ []) ≡ true) (sym e) (equal-refl (46 ∷ []))) (not-true d (and-right w (not d) k)))))
       (λ k. never refl (rw (name-malformed cs k) at h))
 

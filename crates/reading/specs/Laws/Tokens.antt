@@ -8,7 +8,8 @@ use lib.Dec.{eqb}
 use lib.Seq.{append-snoc}
 use borrow.Author.Tests.{eqb-true}
 use Rattle.words.specs.Lists.{within, all, any}
-use Rattle.words.specs.ListLaws.{either, never, and-left, and-right, Each, any-each, all-append}
+use Rattle.words.specs.TestLaws.{and-left, and-right}
+use Rattle.words.specs.ListLaws.{either, never, Each, any-each, all-append}
 use Rattle.words.specs.Text.{bytes}
 use Rattle.reading.specs.Token.{
   Class,

@@ -13,82 +13,66 @@ use lib.Seq.{length-take-le}
 use Rattle.filing.specs.FileLaws.{wrote-is}
 use Rattle.filing.specs.RunLaws.{term-front, accepted-printed, refused-printed}
 
--- src/file.rt:95:11
 expand-requires : tie.Need-expand-requires
 expand-requires c κs =
     search needs
 
--- src/file.rt:97:20
 enum-known-n : tie.Need-enum-known-n
 enum-known-n c =
     search needs
 
--- src/file.rt:101:17
 wide-requires : tie.Need-wide-requires
 wide-requires c κs =
     search needs
 
--- src/file.rt:102:22
 slice-reshare-prefix-accepted : tie.Need-slice-reshare-prefix-accepted
 slice-reshare-prefix-accepted c =
     term-front _ _ _ _ _ (c .before .before .before .before .before .before .before .before .expand .ensures .numbers) _ _ _ (c .before .before .n .given .1) _ (c .wide .ensures) _ _ (c .before .before .before .before .before .before .before .before .expand .ensures .core-after) .0
 
--- src/file.rt:102:22
 slice-aggregate-accepted : tie.Need-slice-aggregate-accepted
 slice-aggregate-accepted c =
     sym (length-take-le _ _ (term-front _ _ _ _ _ (c .before .before .before .before .before .before .before .before .before .expand .ensures .numbers) _ _ _ (c .before .before .before .n .given .1) _ (c .before .wide .ensures) _ _ (c .before .before .before .before .before .before .before .before .before .expand .ensures .core-after) .0))
 
--- src/file.rt:102:13
 accepted-requires : tie.Need-accepted-requires
 accepted-requires c κs =
     search needs
 
--- src/file.rt:105:21
 enum-known-g : tie.Need-enum-known-g
 enum-known-g c =
     search needs
 
--- src/file.rt:108:14
 refused-requires : tie.Need-refused-requires
 refused-requires c κs =
     search needs
 
--- src/file.rt:85:1
 same-length : tie.Need-same-length
 same-length c =
     search needs
 
--- src/file.rt:85:1
 same-length-2 : tie.Need-same-length-2
 same-length-2 c =
     search needs
 
--- src/file.rt:85:1
 same-length-3 : tie.Need-same-length-3
 same-length-3 c =
     search needs
 
--- src/file.rt:85:1
 returns : tie.Need-returns
 returns c =
     wrote-is (accepted-printed _ _ _ _ _ (c .before .before .before .before .before .before .before .before .before .before .before .before .before .expand .ensures .numbers) _ _ _ (c .before .before .before .before .before .before .before .n .given .1) _ (c .before .before .before .before .before .wide .ensures) _ _ (c .before .before .before .before .before .before .before .before .before .before .before .before .before .expand .ensures .core-after) _) (c .before .before .accepted .ensures)
 
--- src/file.rt:85:1
 same-length-4 : tie.Need-same-length-4
 same-length-4 c =
     search needs
 
--- src/file.rt:85:1
 same-length-5 : tie.Need-same-length-5
 same-length-5 c =
     search needs
 
--- src/file.rt:85:1
 same-length-6 : tie.Need-same-length-6
 same-length-6 c =
     search needs
 
--- src/file.rt:85:1
 returns-2 : tie.Need-returns-2
 returns-2 c =
     wrote-is (refused-printed _ _ _ _ _ (c .before .before .before .before .before .before .before .before .before .before .before .expand .ensures .numbers) _ _ _ (c .before .before .before .before .before .g .given .1) _) (c .before .before .refused .ensures)

@@ -8,82 +8,67 @@ use Rattle.writer.proofs.write.Reads as write-reads
 use native.Mathlib.Omega.{arith}
 use Prim.Native.Nat.{_+_, _<_}
 use lib.ListN.{length}
-use Rattle.filing.specs.FileLaws.{term-end, term-spared, term-crowded, term-known}
+use Rattle.filing.specs.FileLaws.{term-end, term-spared, term-crowded, term-known, spared-place, spared-no-place}
 
--- src/file.rt:41:16
 sub-last : tie.Need-sub-last
 sub-last c =
     search needs
 
--- src/file.rt:42:43
 sub-write : tie.Need-sub-write
 sub-write c =
     search needs
 
--- src/file.rt:42:43
 part-write-start : tie.Need-part-write-start
 part-write-start c =
     search needs
 
--- src/file.rt:42:43
 part-write-end : tie.Need-part-write-end
 part-write-end c =
     search needs
 
--- src/file.rt:42:11
 write-requires : tie.Need-write-requires
 write-requires c κs =
     search needs
 
--- src/file.rt:43:26
 enum-known-length : tie.Need-enum-known-length
 enum-known-length c =
     search needs
 
--- src/file.rt:43:47
-add-t13 : tie.Need-add-t13
-add-t13 c =
+add-result : tie.Need-add-result
+add-result c =
     let h : c .before .before .before .before .before .before .before .before .before .before .args .from + c .before .length .given .0 .0 < length (c .before .before .before .before .before .before .before .before .before .before .args .out .now) = term-end _ (c .before .before .before .before .before .before .before .before .before .before .args .out .now) (c .before .before .before .before .before .before .before .before .before .before .pre) _ _ _ (c .before .before .before .before .before .write .ensures) _ (c .before .length .given .1) in record { fits = omega arith }
 
--- src/file.rt:44:28
 enum-told : tie.Need-enum-told
 enum-told c =
     search needs
 
--- src/file.rt:45:28
 enum-told-2 : tie.Need-enum-told-2
 enum-told-2 c =
     search needs
 
--- src/file.rt:37:1
 same-length : tie.Need-same-length
 same-length c =
     search needs
 
--- src/file.rt:37:1
 returns : tie.Need-returns
 returns c =
-    λ x e. term-spared _ _ (c .before .before .before .before .before .before .before .before .before .before .pre) _ _ _ (c .before .before .before .before .before .write .ensures) x e _ (c .before .length .given .1)
+    λ x e. spared-place (omega arith) (term-spared _ _ (c .before .before .before .before .before .before .before .before .before .before .pre) _ _ _ (c .before .before .before .before .before .write .ensures) x e _ (c .before .length .given .1))
 
--- src/file.rt:37:1
 same-length-2 : tie.Need-same-length-2
 same-length-2 c =
     search needs
 
--- src/file.rt:37:1
 returns-2 : tie.Need-returns-2
 returns-2 c =
-    λ x e. term-known _ _ (c .before .before .before .before .before .before .before .before .before .pre) _ _ _ (c .before .before .before .before .write .ensures) x e (c .enum-told .given .1)
+    λ x e. spared-no-place (term-known _ _ (c .before .before .before .before .before .before .before .before .before .pre) _ _ _ (c .before .before .before .before .write .ensures) x e (c .enum-told .given .1))
 
--- src/file.rt:37:1
 same-length-3 : tie.Need-same-length-3
 same-length-3 c =
     search needs
 
--- src/file.rt:37:1
 returns-3 : tie.Need-returns-3
 returns-3 c =
-    λ x e. term-crowded _ _ (c .before .before .before .before .before .before .before .before .before .pre) _ _ _ (c .before .before .before .before .write .ensures) x e (c .enum-told2 .given .1)
+    λ x e. spared-no-place (term-crowded _ _ (c .before .before .before .before .before .before .before .before .before .pre) _ _ _ (c .before .before .before .before .write .ensures) x e (c .enum-told2 .given .1))
 
 pub term-at-spec : {M : Type 1} → statement M
 term-at-spec =
@@ -95,7 +80,7 @@ term-at-spec =
     part-write-end
     write-requires
     enum-known-length
-    add-t13
+    add-result
     enum-told
     enum-told-2
     same-length

@@ -12,22 +12,18 @@ use Prim.Native.Nat.{ℕ}
 use Rattle.core_term.specs.Decimal.{decimal}
 use Rattle.writer.specs.LaidLaws.{left-is}
 
--- src/lines.rt:21:20
 wide-requires : tie.Need-wide-requires
 wide-requires c κs =
     search needs
 
--- src/lines.rt:21:5
 numbered-requires : tie.Need-numbered-requires
 numbered-requires c κs =
     search needs
 
--- src/lines.rt:17:1
 same-length : tie.Need-same-length
 same-length c =
     search needs
 
--- src/lines.rt:17:1
 returns : tie.Need-returns
 returns c =
     left-is (ap (λ (k : ℕ). 32 ∷ decimal k) (c .before .before .before .before .wide .ensures)) (c .before .before .numbered .ensures)

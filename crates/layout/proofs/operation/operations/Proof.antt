@@ -2,8 +2,8 @@
 use Rattle.layout.proofs.operation.operations.Statement.{statement}
 use Rattle.layout.proofs.operation.operations.Tie as tie
 use mathlib.Core.Path.{_≡_, ap, sym, subst, _∙_}
-use mathlib.Core.Bool.{true, false}
-use Prim.Native.Nat.{ℕ, _<_, _-_}
+use mathlib.Core.Bool.{false≢true}
+use Prim.Native.Nat.{_<_, _-_}
 use native.Mathlib.Omega.{arith}
 use Rattle.recipe.specs.Table.{kindAt, itemCount}
 use Rattle.recipe.specs.TreeFrom.{treeFrom}
@@ -52,16 +52,13 @@ turn c =
       below = c .operation-number .ensures .1;
     }
 
-refused : {A : Type 0} → false ≡ true → A
-refused q = let z : _≡_ {A = ℕ} 0 1 = cc in absurd (omega arith)
-
 same-length : tie.Need-same-length Inv-loop μ-loop
 same-length c =
     c .before .before .before .before .before .loop .inv .long ∙ sym (c .before .before .before .before .before .before .before .before .before .pre .1)
 
 returns : tie.Need-returns Inv-loop μ-loop
 returns c =
-    (sym (turn-bad (turn (c .before)) (c .if2 .taken)), refused)
+    (sym (turn-bad (turn (c .before)) (c .if2 .taken)), λ q. absurd (false≢true q))
 
 same-length-2 : tie.Need-same-length-2 Inv-loop μ-loop
 same-length-2 c =
@@ -69,7 +66,7 @@ same-length-2 c =
 
 returns-2 : tie.Need-returns-2 Inv-loop μ-loop
 returns-2 c =
-    (sym (turn-full (turn (c .before .before)) (c .before .if2 .left) (c .if3 .taken)), refused)
+    (sym (turn-full (turn (c .before .before)) (c .before .if2 .left) (c .if3 .taken)), λ q. absurd (false≢true q))
 
 mul-if4 : tie.Need-mul-if4 Inv-loop μ-loop
 mul-if4 c =
@@ -85,10 +82,14 @@ same-length-3 c =
 
 returns-3 : tie.Need-returns-3 Inv-loop μ-loop
 returns-3 c =
-    (sym (turn-twice (turn (c .before .before .before .before)) (c .before .before .before .if2 .left) (c .if4 .taken)), refused)
+    (sym (turn-twice (turn (c .before .before .before .before)) (c .before .before .before .if2 .left) (c .if4 .taken)), λ q. absurd (false≢true q))
 
 add-place : tie.Need-add-place Inv-loop μ-loop
 add-place c =
+    omega (arith, c .before .before .before .before .before .before .before .before .loop .inv .walked .few)
+
+cast-places : tie.Need-cast-places Inv-loop μ-loop
+cast-places c =
     omega (arith, c .before .before .before .before .before .before .before .before .loop .inv .walked .few)
 
 mul-places : tie.Need-mul-places Inv-loop μ-loop
@@ -140,6 +141,7 @@ operations-spec =
     same-length-3
     returns-3
     add-place
+    cast-places
     mul-places
     slice-write-places
     tail-requires

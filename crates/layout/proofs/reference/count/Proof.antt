@@ -3,7 +3,7 @@ use borrow.Author.Needs.{needs}
 use Rattle.layout.proofs.reference.count.Statement.{statement}
 use Rattle.layout.proofs.reference.count.Tie as tie
 use native.Mathlib.Omega.{arith}
-use Rattle.layout.specs.Counts.{counted-one, counted-past}
+use Rattle.layout.specs.Counts.{counted-one}
 
 mul-counts : tie.Need-mul-counts
 mul-counts c =
@@ -15,7 +15,7 @@ slice-read-counts c =
 
 add-counts : tie.Need-add-counts
 add-counts c =
-    omega (arith, c .before .before .pre (c .before .before .args .k) (c .before .if1 .taken))
+    omega (arith, c .before .pre .1 (c .before .args .k) (c .before .pre .0))
 
 mul-counts-2 : tie.Need-mul-counts-2
 mul-counts-2 c =
@@ -31,11 +31,7 @@ same-length c =
 
 returns : tie.Need-returns
 returns c =
-    counted-one (c .before .before .args .counts .now) (c .before .before .args .k) (c .before .if1 .taken)
-
-returns-2 : tie.Need-returns-2
-returns-2 c =
-    counted-past (c .before .args .counts .now) (c .before .args .k) (c .if1 .left)
+    counted-one (c .before .args .counts .now) (c .before .args .k) (c .before .pre .0)
 
 pub count-spec : {M : Type 1} → statement M
 count-spec =
@@ -47,5 +43,4 @@ count-spec =
     mul-counts-2
     slice-write-counts
     same-length
-    returns
-    returns-2)
+    returns)

@@ -2,12 +2,11 @@ use borrow.Author.Needs.{needs}
 use Rattle.lexer.proofs.token.token_at.Statement.{statement}
 use Rattle.lexer.proofs.token.token_at.Tie as tie
 use native.Mathlib.Omega.{arith}
-use mathlib.Core.Path.{sym, _∙_}
+use mathlib.Core.Path.{_∙_}
 use Prim.Native.Nat.{_<_}
-use borrow.Author.Tests.{not-true, not-false}
 use lib.ListN.{length}
 use Rattle.reading.specs.Meaning.{begins, ends, refused}
-use Rattle.lexer.specs.ToldLaws.{end-taken, opening-taken, closing-taken, foreign-taken, run-longer, byte-skipped, run-told, flag-told}
+use Rattle.lexer.specs.ToldLaws.{end-taken, opening-taken, closing-taken, foreign-taken, run-none, byte-skipped, run-told, flag-told}
 
 skip-requires : tie.Need-skip-requires
 skip-requires c κs =
@@ -24,8 +23,8 @@ shared-slice-read-b c =
     let skip = c .before .before .skip in
     omega (arith, skip .ensures .high, c .before .if1 .left)
 
-add-t9 : tie.Need-add-t9
-add-t9 c =
+add-t10 : tie.Need-add-t10
+add-t10 c =
     search needs
 
 returns-2 : tie.Need-returns-2
@@ -38,8 +37,8 @@ returns-2 c =
     let h : at < length text = omega (arith, skip .ensures .high, if1 .left) in
     byte-skipped text (args .cursor .at) at (skip .ensures) begins h (opening-taken text at h (c .if2 .taken))
 
-add-t11 : tie.Need-add-t11
-add-t11 c =
+add-t12 : tie.Need-add-t12
+add-t12 c =
     search needs
 
 returns-3 : tie.Need-returns-3
@@ -72,9 +71,10 @@ returns-4 c =
     let h : at < length text = omega (arith, skip .ensures .high, if1 .left) in
     flag-told text (args .cursor .at) at (skip .ensures) h (c .before .if4 .taken) (c .flag-at .result) (c .flag-at .ensures)
 
-is-running-requires : tie.Need-is-running-requires
-is-running-requires c κs =
-    search needs
+run-end-requires : tie.Need-run-end-requires
+run-end-requires c κs =
+    let skip = c .before .before .before .before .before .skip in
+    skip .ensures .high
 
 add-t15 : tie.Need-add-t15
 add-t15 c =
@@ -87,48 +87,31 @@ returns-5 c =
     let args = c .before .before .before .before .before .before .before .before .before .args in
     let skip = c .before .before .before .before .before .before .before .skip in
     let if1 = c .before .before .before .before .before .before .if1 in
-    let is-running = c .before .is-running in
     let if2 = c .before .before .before .before .if2 in
     let if3 = c .before .before .before .if3 in
     let if4 = c .before .before .if4 in
-    let text = args .text .now in
-    let at = skip .result in
-    let h : at < length text = omega (arith, skip .ensures .high, if1 .left) in
-    let r = sym (is-running .ensures) ∙ not-true (is-running .result) (c .if5 .taken) in
-    byte-skipped text (args .cursor .at) at (skip .ensures) (refused 3) h
-    (foreign-taken text at h r (skip .ensures .stops h) (if2 .left) (if3 .left) (if4 .left))
-
-run-end-requires : tie.Need-run-end-requires
-run-end-requires c κs =
-    let skip = c .before .before .before .before .before .before .before .skip in
-    skip .ensures .high
-
-run-token-requires : tie.Need-run-token-requires
-run-token-requires c κs =
-    let args = c .before .before .before .before .before .before .before .before .before .before .args in
-    let skip = c .before .before .before .before .before .before .before .before .skip in
-    let if1 = c .before .before .before .before .before .before .before .if1 in
-    let is-running = c .before .before .is-running in
-    let text = args .text .now in
-    let at = skip .result in
-    let h : at < length text = omega (arith, skip .ensures .high, if1 .left) in
-    let r = sym (is-running .ensures) ∙ not-false (is-running .result) (c .before .if5 .left) in
-    (run-longer text at (c .run-end .result) (c .run-end .ensures) h r, c .run-end .ensures .high)
-
-returns-6 : tie.Need-returns-6
-returns-6 c =
-    let args = c .before .before .before .before .before .before .before .before .before .before .before .args in
-    let skip = c .before .before .before .before .before .before .before .before .before .skip in
-    let if1 = c .before .before .before .before .before .before .before .before .if1 in
-    let is-running = c .before .before .before .is-running in
-    let if5 = c .before .before .if5 in
     let run-end = c .before .run-end in
     let text = args .text .now in
     let at = skip .result in
     let h : at < length text = omega (arith, skip .ensures .high, if1 .left) in
-    let r = sym (is-running .ensures) ∙ not-false (is-running .result) (if5 .left) in
-    run-told text (args .cursor .at) at (skip .ensures) (run-end .result) (run-end .ensures)
-    (run-longer text at (run-end .result) (run-end .ensures) h r) (c .run-token .result) (c .run-token .ensures)
+    let r = run-none text at (run-end .result) (run-end .ensures) h (c .if5 .taken) in
+    byte-skipped text (args .cursor .at) at (skip .ensures) (refused 3) h
+    (foreign-taken text at h r (skip .ensures .stops h) (if2 .left) (if3 .left) (if4 .left))
+
+run-token-requires : tie.Need-run-token-requires
+run-token-requires c κs =
+    let run-end = c .before .run-end in
+    (omega (arith, run-end .ensures .low, c .if5 .left), run-end .ensures .high)
+
+returns-6 : tie.Need-returns-6
+returns-6 c =
+    let args = c .before .before .before .before .before .before .before .before .before .before .args in
+    let skip = c .before .before .before .before .before .before .before .before .skip in
+    let run-end = c .before .before .run-end in
+    let text = args .text .now in
+    let at = skip .result in
+    let longer : at < run-end .result = omega (arith, run-end .ensures .low, c .before .if5 .left) in
+    run-told text (args .cursor .at) at (skip .ensures) (run-end .result) (run-end .ensures) longer (c .run-token .result) (c .run-token .ensures)
 
 pub token-at-spec : {M : Type 1} → statement M
 token-at-spec =
@@ -137,16 +120,15 @@ token-at-spec =
     skip-requires
     returns
     shared-slice-read-b
-    add-t9
+    add-t10
     returns-2
-    add-t11
+    add-t12
     returns-3
     add-flag-at
     flag-at-requires
     returns-4
-    is-running-requires
+    run-end-requires
     add-t15
     returns-5
-    run-end-requires
     run-token-requires
     returns-6)

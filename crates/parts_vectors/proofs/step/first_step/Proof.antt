@@ -2,7 +2,9 @@
 use borrow.Author.Needs.{needs}
 use Rattle.parts_vectors.proofs.step.first_step.Statement.{statement}
 use Rattle.parts_vectors.proofs.step.first_step.Tie as tie
+use Rattle.rule_cells.specs.Built.{builtOf, built-good}
 use Rattle.parts_vectors.specs.StepLaws.{parse-asks, mark-asks, step-asks}
+use mathlib.Core.Path.{refl}
 
 element-requires : tie.Need-element-requires
 element-requires c κs = search needs
@@ -21,36 +23,38 @@ rules-requires c κs =
     let a = c .before .before .before .before .before .before .before .before .before .before .before .args in
     parse-asks (a .items .now) (a .work .now) (a .root) (a .fuel) (c .before .before .before .before .before .before .before .before .before .before .before .pre) _ _ (c .before .before .before .before .before .before .before .element .ensures) (c .before .before .before .before .before .element2 .ensures)
 
-enum-known-at : tie.Need-enum-known-at
-enum-known-at c = search needs
-
-enum-told : tie.Need-enum-told
-enum-told c = search needs
-
 same-length : tie.Need-same-length
 same-length c = search needs
 
 returns : tie.Need-returns
 returns c = search needs
 
+low-requires : tie.Need-low-requires
+low-requires c κs = search needs
+
 put-mark-requires : tie.Need-put-mark-requires
 put-mark-requires c κs =
-    let a = c .before .before .before .before .before .before .before .before .before .before .before .before .before .before .before .before .before .before .args in
-    mark-asks (a .items .now) (a .work .now) (a .root) (a .fuel) (c .before .before .before .before .before .before .before .before .before .before .before .before .before .before .before .before .before .before .pre) _ _ (c .before .before .before .before .before .before .before .before .before .before .before .before .before .before .element .ensures) (c .before .before .before .before .before .before .before .before .before .before .before .before .element2 .ensures) (c .before .before .before .before .before .before .rules .last .1 .0) (c .before .before .before .before .before .before .rules .kept .1 .0) _ _ _ (c .before .before .at .given .1) (c .before .before .before .before .before .before .rules .ensures)
+    let a = c .before .before .before .before .before .before .before .before .before .before .before .before .before .before .before .before .before .args in
+    let r = c .before .before .before .before .before .rules in
+    mark-asks (a .items .now) (a .work .now) (a .root) (a .fuel) (c .before .before .before .before .before .before .before .before .before .before .before .before .before .before .before .before .before .pre) _ _ (c .before .before .before .before .before .before .before .before .before .before .before .before .before .element .ensures) (c .before .before .before .before .before .before .before .before .before .before .before .element2 .ensures) (r .last .1 .0) (r .kept .1 .0) (builtOf (r .result)) _ _ (built-good (r .result) _ _ (c .before .before .if1 .left) refl (c .low .ensures)) (r .ensures)
+
+high-requires : tie.Need-high-requires
+high-requires c κs = search needs
 
 apply-requires : tie.Need-apply-requires
 apply-requires c κs =
     let a = c .before .before .before .before .before .before .before .before .before .before .before .before .before .before .before .before .before .before .before .before .before .before .args in
-    step-asks (a .items .now) (a .work .now) (a .root) (a .fuel) (c .before .before .before .before .before .before .before .before .before .before .before .before .before .before .before .before .before .before .before .before .before .before .pre) _ _ (c .before .before .before .before .before .before .before .before .before .before .before .before .before .before .before .before .before .before .element .ensures) (c .before .before .before .before .before .before .before .before .before .before .before .before .before .before .before .before .element2 .ensures) (c .before .before .before .before .before .before .before .before .before .before .rules .last .1 .0) (c .before .before .before .before .before .before .before .before .before .before .rules .kept .1 .0) _ _ _ (c .before .before .before .before .before .before .at .given .1) (c .before .before .before .before .before .before .before .before .before .before .rules .ensures) (c .before .before .before .put-mark .last .0) (c .before .before .before .put-mark .kept .0) _ _ (c .before .before .before .put-mark .ensures) _ _ (c .before .before .before .before .before .before .before .before .before .before .before .before .before .before .element3 .ensures) (c .before .before .before .before .before .before .before .before .before .before .before .before .rest .ensures)
+    let r = c .before .before .before .before .before .before .before .before .before .before .rules in
+    step-asks (a .items .now) (a .work .now) (a .root) (a .fuel) (c .before .before .before .before .before .before .before .before .before .before .before .before .before .before .before .before .before .before .before .before .before .before .pre) _ _ (c .before .before .before .before .before .before .before .before .before .before .before .before .before .before .before .before .before .before .element .ensures) (c .before .before .before .before .before .before .before .before .before .before .before .before .before .before .before .before .element2 .ensures) (r .last .1 .0) (r .kept .1 .0) (builtOf (r .result)) _ _ (built-good (r .result) _ _ (c .before .before .before .before .before .before .before .if1 .left) (c .high .ensures) (c .before .before .before .before .before .low .ensures)) (r .ensures) (c .before .before .before .before .put-mark .last .0) (c .before .before .before .before .put-mark .kept .0) _ _ (c .before .before .before .before .put-mark .ensures) _ _ (c .before .before .before .before .before .before .before .before .before .before .before .before .before .before .element3 .ensures) (c .before .before .before .before .before .before .before .before .before .before .before .before .rest .ensures)
+
+enum-told : tie.Need-enum-told
+enum-told c = search needs
 
 enum-told-2 : tie.Need-enum-told-2
 enum-told-2 c = search needs
 
 enum-told-3 : tie.Need-enum-told-3
 enum-told-3 c = search needs
-
-enum-told-4 : tie.Need-enum-told-4
-enum-told-4 c = search needs
 
 enum-known-result : tie.Need-enum-known-result
 enum-known-result c = search needs
@@ -88,15 +92,15 @@ first-step-spec =
     element-requires-3
     rest-requires
     rules-requires
-    enum-known-at
-    enum-told
     same-length
     returns
+    low-requires
     put-mark-requires
+    high-requires
     apply-requires
+    enum-told
     enum-told-2
     enum-told-3
-    enum-told-4
     enum-known-result
     same-length-2
     returns-2

@@ -2,10 +2,7 @@
 use borrow.Author.Needs.{needs}
 use Rattle.resolution.proofs.direct.binding_by.Statement.{statement}
 use Rattle.resolution.proofs.direct.binding_by.Tie as tie
-use mathlib.Core.Path.{subst}
-use mathlib.Core.List.{List}
-use Prim.Native.Nat.{ℕ}
-use Rattle.words.specs.ListLaws.{rest-is}
+use Rattle.words.specs.ListLaws.{whole}
 use Rattle.resolution.specs.Direct.{OnlyMark}
 use Rattle.resolution.specs.DirectLaws.{finds-nothing, finds-binder}
 
@@ -43,7 +40,7 @@ given-key-requires c κs = search needs
 returns-3 : tie.Need-returns-3
 returns-3 c =
     let a = c .before .before .before .before .before .before .before .before .args in
-    finds-binder (a .work .now) (a .number) (a .own) (a .at) _ _ _ _ (c .before .before .before .before .before .before .word .ensures) (c .before .before .before .before .before .if1 .left) (c .before .before .before .reference .ensures) (subst (λ (s : List ℕ). OnlyMark s (a .number) (a .own) (c .before .before .before .reference .result) (c .before .before .only-mark .result)) (rest-is 0 (a .work .now)) (c .before .before .only-mark .ensures)) (c .before .if2 .left) (c .given-key .ensures)
+    finds-binder (a .work .now) (a .number) (a .own) (a .at) _ _ _ _ (c .before .before .before .before .before .before .word .ensures) (c .before .before .before .before .before .if1 .left) (c .before .before .before .reference .ensures) (whole (λ s. OnlyMark s (a .number) (a .own) (c .before .before .before .reference .result) (c .before .before .only-mark .result)) (a .work .now) (c .before .before .only-mark .ensures)) (c .before .if2 .left) (c .given-key .ensures)
 
 pub binding-by-spec : {M : Type 1} → statement M
 binding-by-spec =

@@ -9,10 +9,14 @@ use Rattle.rule_cells.proofs.rules.+rule_list.Lts-rule_list as rule-lis
 use Rattle.arena.proofs.cells.reference.Reads as reference-reads
 use Rattle.arena.proofs.cells.word.Reads as word-reads
 use Rattle.rule_cells.proofs.rules.rule.Reads as rule-reads
+use Rattle.words.proofs.packed.high.Reads as high-reads
+use Rattle.words.proofs.packed.low.Reads as low-reads
+use Rattle.words.proofs.packed.pair.Reads as pair-reads
 use Rattle.rule_cells.proofs.rules.+rule_list.{statement}
 use Rattle.rule_cells.proofs.rules.+rule_list.Tie.{close}
-use Rattle.rule_cells.specs.ParseLaws.{asks-tail, rest-below}
-use Rattle.rule_cells.specs.RuleListLaws.{left-end, left-later, made-later, asks-first, literals-still, left-both}
+use Rattle.rule_cells.specs.Built.{builtOf, built-bad, built-good}
+use Rattle.rule_cells.specs.ParseLaws.{packs, asks-tail, rest-below}
+use Rattle.rule_cells.specs.RuleListLaws.{rules-packed, left-end, left-later, made-later, asks-first, literals-still, left-both}
 use mathlib.Core.Path.{sym, _∙_}
 use native.Mathlib.Omega.{arith}
 
@@ -28,17 +32,23 @@ rule-list-below t =
     and 2 rule-list-kinds.ps (falls 2 rule-list-kinds.ps _<_ μ-rule-list t) rule-list.Pre
 
 abbrev rule-list-claims : ℕ → rule-list-lts.Claims
-rule-list-claims t = (word-reads.Asked, word-reads.Learnt, reference-reads.Asked, reference-reads.Learnt, rule-list-below t, rule-list.Post, rule-reads.Asked, rule-reads.Learnt)
+rule-list-claims t = (word-reads.Asked, word-reads.Learnt, pair-reads.Asked, pair-reads.Learnt, reference-reads.Asked, reference-reads.Learnt, rule-list-below t, rule-list.Post, high-reads.Asked, high-reads.Learnt, low-reads.Asked, low-reads.Learnt, rule-reads.Asked, rule-reads.Learnt)
 
 rule-list-word-requires : (t : ℕ) → rule-list-lts.Need-word-requires (rule-list-claims t) (rule-list-at t) rule-list.Post
 rule-list-word-requires t c κs = search needs
+
+rule-list-pair-requires : (t : ℕ) → rule-list-lts.Need-pair-requires (rule-list-claims t) (rule-list-at t) rule-list.Post
+rule-list-pair-requires t c κs = search needs
 
 rule-list-same-length : (t : ℕ) → rule-list-lts.Need-same-length (rule-list-claims t) (rule-list-at t) rule-list.Post
 rule-list-same-length t c = search needs
 
 rule-list-returns : (t : ℕ) → rule-list-lts.Need-returns (rule-list-claims t) (rule-list-at t) rule-list.Post
 rule-list-returns t c =
-    let a = c .before .before .before .before .before .args in left-end (a .items .now) (a .work .now) (a .literals) (a .node) (a .w) (a .top) (c .before .before .before .before .before .pre .1 .0) (c .before .before .before .before .before .pre .1 .1) (λ z. c .if1 .taken (c .before .word .ensures ∙ z))
+    let a = c .before .before .before .before .before .before .args in
+    let p = c .before .before .before .before .before .before .pre in
+    rules-packed _ _ _ _ _ _ _ _ _ (packs (a .items .now) (a .work .now) (a .node) (a .w) (a .top) (p .1 .0)) (c .pair .ensures)
+    (left-end (a .items .now) (a .work .now) (a .literals) (a .node) (a .w) (a .top) (p .1 .0) (p .1 .1) (λ z. c .before .if1 .taken (c .before .before .word .ensures ∙ z)))
 
 rule-list-reference-requires : (t : ℕ) → rule-list-lts.Need-reference-requires (rule-list-claims t) (rule-list-at t) rule-list.Post
 rule-list-reference-requires t c κs = search needs
@@ -48,55 +58,75 @@ rule-list-reference-requires-2 t c κs = search needs
 
 rule-list-rule-list-requires : (t : ℕ) → rule-list-lts.Need-rule-list-requires (rule-list-claims t) (rule-list-at t) rule-list.Post
 rule-list-rule-list-requires t c κs =
-    let a = c .before .before .before .before .before .before .before .before .before .before .args in (omega (arith, c .before .before .before .before .before .before .before .before .before .before .pre .0, rest-below (a .items .now) (a .work .now) (a .node) (a .w) (a .top) (c .before .before .before .before .before .before .before .before .before .before .pre .1 .0) _ _ (sym (c .before .before .before .before .before .before .word .ensures) ∙ c .before .before .before .before .before .if1 .left) (c .before .before .before .reference .ensures) (c .before .reference2 .ensures)), (asks-tail (a .items .now) (a .work .now) (a .node) (a .w) (a .top) (c .before .before .before .before .before .before .before .before .before .before .pre .1 .0) _ _ (sym (c .before .before .before .before .before .before .word .ensures) ∙ c .before .before .before .before .before .if1 .left) (c .before .before .before .reference .ensures) (c .before .reference2 .ensures), c .before .before .before .before .before .before .before .before .before .before .pre .1 .1))
-
-rule-list-enum-known-next : (t : ℕ) → rule-list-lts.Need-enum-known-next (rule-list-claims t) (rule-list-at t) rule-list.Post
-rule-list-enum-known-next t c = search needs
-
-rule-list-enum-told : (t : ℕ) → rule-list-lts.Need-enum-told (rule-list-claims t) (rule-list-at t) rule-list.Post
-rule-list-enum-told t c = search needs
+    let a = c .before .before .before .before .before .before .before .before .before .before .args in
+    let p = c .before .before .before .before .before .before .before .before .before .before .pre in
+    let asks = p .1 .0 in
+    let is-pair = sym (c .before .before .before .before .before .before .word .ensures) ∙ c .before .before .before .before .before .if1 .left in
+    let head-is = c .before .before .before .reference .ensures in
+    let rest-is = c .before .reference2 .ensures in
+    (omega (arith, p .0, rest-below (a .items .now) (a .work .now) (a .node) (a .w) (a .top) asks _ _ is-pair head-is rest-is), (asks-tail (a .items .now) (a .work .now) (a .node) (a .w) (a .top) asks _ _ is-pair head-is rest-is, p .1 .1))
 
 rule-list-same-length-2 : (t : ℕ) → rule-list-lts.Need-same-length-2 (rule-list-claims t) (rule-list-at t) rule-list.Post
 rule-list-same-length-2 t c = search needs
 
 rule-list-returns-2 : (t : ℕ) → rule-list-lts.Need-returns-2 (rule-list-claims t) (rule-list-at t) rule-list.Post
+unfolding builtOf
 rule-list-returns-2 t c =
-    let a = c .before .before .before .before .before .before .before .before .before .before .before .before .before .before .before .args in left-later (a .items .now) (a .work .now) (a .literals) (a .node) (a .w) (a .top) (c .before .before .before .before .before .before .before .before .before .before .before .before .before .before .before .pre .1 .0) (c .before .before .before .before .before .before .before .before .before .before .before .before .before .before .before .pre .1 .1) _ _ (sym (c .before .before .before .before .before .before .before .before .before .before .before .word .ensures) ∙ c .before .before .before .before .before .before .before .before .before .before .if1 .left) (c .before .before .before .before .before .before .before .before .reference .ensures) (c .before .before .before .before .before .before .reference2 .ensures) (c .before .before .before .before .rule-list .last .1 .0) _ (c .enum-told .given .1) (c .before .before .before .before .rule-list .ensures)
+    let a = c .before .before .before .before .before .before .before .before .before .before .before .before .before .before .args in
+    let p = c .before .before .before .before .before .before .before .before .before .before .before .before .before .before .pre in
+    let asks = p .1 .0 in
+    let is-pair = sym (c .before .before .before .before .before .before .before .before .before .before .word .ensures) ∙ c .before .before .before .before .before .before .before .before .before .if1 .left in
+    let head-is = c .before .before .before .before .before .before .before .reference .ensures in
+    let rest-is = c .before .before .before .before .before .reference2 .ensures in
+    let l = c .before .before .before .rule-list in
+    left-later (a .items .now) (a .work .now) (a .literals) (a .node) (a .w) (a .top) asks (p .1 .1) _ _ is-pair head-is rest-is (l .last .1 .0) (builtOf (l .result)) (built-bad (l .result) (c .if2 .taken)) (l .ensures)
+
+rule-list-high-requires : (t : ℕ) → rule-list-lts.Need-high-requires (rule-list-claims t) (rule-list-at t) rule-list.Post
+rule-list-high-requires t c κs = search needs
+
+rule-list-low-requires : (t : ℕ) → rule-list-lts.Need-low-requires (rule-list-claims t) (rule-list-at t) rule-list.Post
+rule-list-low-requires t c κs = search needs
 
 rule-list-rule-requires : (t : ℕ) → rule-list-lts.Need-rule-requires (rule-list-claims t) (rule-list-at t) rule-list.Post
 rule-list-rule-requires t c κs =
-    let a = c .before .before .before .before .before .before .before .before .before .before .before .before .before .before .before .before .before .args in let m = (made-later (a .items .now) (a .work .now) (a .literals) (a .node) (a .w) (a .top) (c .before .before .before .before .before .before .before .before .before .before .before .before .before .before .before .before .before .pre .1 .0) (c .before .before .before .before .before .before .before .before .before .before .before .before .before .before .before .before .before .pre .1 .1) _ _ (sym (c .before .before .before .before .before .before .before .before .before .before .before .before .before .word .ensures) ∙ c .before .before .before .before .before .before .before .before .before .before .before .before .if1 .left) (c .before .before .before .before .before .before .before .before .before .before .reference .ensures) (c .before .before .before .before .before .before .before .before .reference2 .ensures) (c .before .before .before .before .before .before .rule-list .last .1 .0) _ _ _ (c .before .before .next .given .1) (c .before .before .before .before .before .before .rule-list .ensures)) in (asks-first (a .items .now) (a .work .now) (a .literals) (a .node) (a .w) (a .top) (c .before .before .before .before .before .before .before .before .before .before .before .before .before .before .before .before .before .pre .1 .0) (c .before .before .before .before .before .before .before .before .before .before .before .before .before .before .before .before .before .pre .1 .1) _ _ (sym (c .before .before .before .before .before .before .before .before .before .before .before .before .before .word .ensures) ∙ c .before .before .before .before .before .before .before .before .before .before .before .before .if1 .left) (c .before .before .before .before .before .before .before .before .before .before .reference .ensures) (c .before .before .before .before .before .before .before .before .reference2 .ensures) (c .before .before .before .before .before .before .rule-list .last .1 .0) _ _ (c .before .before .before .before .before .before .rule-list .kept .1 .0) (made-later (a .items .now) (a .work .now) (a .literals) (a .node) (a .w) (a .top) (c .before .before .before .before .before .before .before .before .before .before .before .before .before .before .before .before .before .pre .1 .0) (c .before .before .before .before .before .before .before .before .before .before .before .before .before .before .before .before .before .pre .1 .1) _ _ (sym (c .before .before .before .before .before .before .before .before .before .before .before .before .before .word .ensures) ∙ c .before .before .before .before .before .before .before .before .before .before .before .before .if1 .left) (c .before .before .before .before .before .before .before .before .before .before .reference .ensures) (c .before .before .before .before .before .before .before .before .reference2 .ensures) (c .before .before .before .before .before .before .rule-list .last .1 .0) _ _ _ (c .before .before .next .given .1) (c .before .before .before .before .before .before .rule-list .ensures)), literals-still (a .items .now) (a .work .now) (a .literals) (a .node) (a .w) (a .top) (c .before .before .before .before .before .before .before .before .before .before .before .before .before .before .before .before .before .pre .1 .0) (c .before .before .before .before .before .before .before .before .before .before .before .before .before .before .before .before .before .pre .1 .1) _ _ (sym (c .before .before .before .before .before .before .before .before .before .before .before .before .before .word .ensures) ∙ c .before .before .before .before .before .before .before .before .before .before .before .before .if1 .left) (c .before .before .before .before .before .before .before .before .before .before .reference .ensures) (c .before .before .before .before .before .before .before .before .reference2 .ensures) (c .before .before .before .before .before .before .rule-list .last .1 .0) _ _ (c .before .before .before .before .before .before .rule-list .kept .1 .0) (made-later (a .items .now) (a .work .now) (a .literals) (a .node) (a .w) (a .top) (c .before .before .before .before .before .before .before .before .before .before .before .before .before .before .before .before .before .pre .1 .0) (c .before .before .before .before .before .before .before .before .before .before .before .before .before .before .before .before .before .pre .1 .1) _ _ (sym (c .before .before .before .before .before .before .before .before .before .before .before .before .before .word .ensures) ∙ c .before .before .before .before .before .before .before .before .before .before .before .before .if1 .left) (c .before .before .before .before .before .before .before .before .before .before .reference .ensures) (c .before .before .before .before .before .before .before .before .reference2 .ensures) (c .before .before .before .before .before .before .rule-list .last .1 .0) _ _ _ (c .before .before .next .given .1) (c .before .before .before .before .before .before .rule-list .ensures)), m .at-most)
+    let a = c .before .before .before .before .before .before .before .before .before .before .before .before .before .before .before .before .before .args in
+    let p = c .before .before .before .before .before .before .before .before .before .before .before .before .before .before .before .before .before .pre in
+    let asks = p .1 .0 in
+    let is-pair = sym (c .before .before .before .before .before .before .before .before .before .before .before .before .before .word .ensures) ∙ c .before .before .before .before .before .before .before .before .before .before .before .before .if1 .left in
+    let head-is = c .before .before .before .before .before .before .before .before .before .before .reference .ensures in
+    let rest-is = c .before .before .before .before .before .before .before .before .reference2 .ensures in
+    let l = c .before .before .before .before .before .before .rule-list in
+    let later = made-later (a .items .now) (a .work .now) (a .literals) (a .node) (a .w) (a .top) asks (p .1 .1) _ _ is-pair head-is rest-is (l .last .1 .0) (builtOf (l .result)) _ _ (built-good (l .result) _ _ (c .before .before .before .if2 .left) (c .before .high .ensures) (c .low .ensures)) (l .ensures) in
+    (asks-first (a .items .now) (a .work .now) (a .literals) (a .node) (a .w) (a .top) asks (p .1 .1) _ _ is-pair head-is rest-is (l .last .1 .0) _ _ (l .kept .1 .0) later, literals-still (a .items .now) (a .work .now) (a .literals) (a .node) (a .w) (a .top) asks (p .1 .1) _ _ is-pair head-is rest-is (l .last .1 .0) _ _ (l .kept .1 .0) later, later .at-most)
 
 rule-list-same-length-3 : (t : ℕ) → rule-list-lts.Need-same-length-3 (rule-list-claims t) (rule-list-at t) rule-list.Post
 rule-list-same-length-3 t c = search needs
 
 rule-list-returns-3 : (t : ℕ) → rule-list-lts.Need-returns-3 (rule-list-claims t) (rule-list-at t) rule-list.Post
 rule-list-returns-3 t c =
-    let a = c .before .before .before .before .before .before .before .before .before .before .before .before .before .before .before .before .before .before .before .before .args in left-both (a .items .now) (a .work .now) (a .literals) (a .node) (a .w) (a .top) (c .before .before .before .before .before .before .before .before .before .before .before .before .before .before .before .before .before .before .before .before .pre .1 .0) (c .before .before .before .before .before .before .before .before .before .before .before .before .before .before .before .before .before .before .before .before .pre .1 .1) _ _ (sym (c .before .before .before .before .before .before .before .before .before .before .before .before .before .before .before .before .word .ensures) ∙ c .before .before .before .before .before .before .before .before .before .before .before .before .before .before .before .if1 .left) (c .before .before .before .before .before .before .before .before .before .before .before .before .before .reference .ensures) (c .before .before .before .before .before .before .before .before .before .before .before .reference2 .ensures) (c .before .before .before .before .before .before .before .before .before .rule-list .last .1 .0) _ _ (c .before .before .before .before .before .before .before .before .before .rule-list .kept .1 .0) (made-later (a .items .now) (a .work .now) (a .literals) (a .node) (a .w) (a .top) (c .before .before .before .before .before .before .before .before .before .before .before .before .before .before .before .before .before .before .before .before .pre .1 .0) (c .before .before .before .before .before .before .before .before .before .before .before .before .before .before .before .before .before .before .before .before .pre .1 .1) _ _ (sym (c .before .before .before .before .before .before .before .before .before .before .before .before .before .before .before .before .word .ensures) ∙ c .before .before .before .before .before .before .before .before .before .before .before .before .before .before .before .if1 .left) (c .before .before .before .before .before .before .before .before .before .before .before .before .before .reference .ensures) (c .before .before .before .before .before .before .before .before .before .before .before .reference2 .ensures) (c .before .before .before .before .before .before .before .before .before .rule-list .last .1 .0) _ _ _ (c .before .before .before .before .before .next .given .1) (c .before .before .before .before .before .before .before .before .before .rule-list .ensures)) (c .before .before .rule .last .1 .0) (c .before .before .rule .result) (c .before .before .rule .ensures)
+    let a = c .before .before .before .before .before .before .before .before .before .before .before .before .before .before .before .before .before .before .before .before .args in
+    let p = c .before .before .before .before .before .before .before .before .before .before .before .before .before .before .before .before .before .before .before .before .pre in
+    let asks = p .1 .0 in
+    let is-pair = sym (c .before .before .before .before .before .before .before .before .before .before .before .before .before .before .before .before .word .ensures) ∙ c .before .before .before .before .before .before .before .before .before .before .before .before .before .before .before .if1 .left in
+    let head-is = c .before .before .before .before .before .before .before .before .before .before .before .before .before .reference .ensures in
+    let rest-is = c .before .before .before .before .before .before .before .before .before .before .before .reference2 .ensures in
+    let l = c .before .before .before .before .before .before .before .before .before .rule-list in
+    let later = made-later (a .items .now) (a .work .now) (a .literals) (a .node) (a .w) (a .top) asks (p .1 .1) _ _ is-pair head-is rest-is (l .last .1 .0) (builtOf (l .result)) _ _ (built-good (l .result) _ _ (c .before .before .before .before .before .before .if2 .left) (c .before .before .before .before .high .ensures) (c .before .before .before .low .ensures)) (l .ensures) in
+    left-both (a .items .now) (a .work .now) (a .literals) (a .node) (a .w) (a .top) asks (p .1 .1) _ _ is-pair head-is rest-is (l .last .1 .0) _ _ (l .kept .1 .0) later (c .before .before .rule .last .1 .0) (builtOf (c .before .before .rule .result)) (c .before .before .rule .ensures)
 
 pub +rule-list-spec : {M : Type 1} → statement M
-+rule-list-spec = close μ-rule-list λ t. rule-list-lts.spec (
-  word-reads.Asked,
-  word-reads.Learnt,
-  reference-reads.Asked,
-  reference-reads.Learnt,
-  rule-list-below t,
-  rule-list.Post,
-  rule-reads.Asked,
-  rule-reads.Learnt,
-)
-    (rule-list-at t)
-    rule-list.Post
++rule-list-spec = close μ-rule-list λ t. rule-list-lts.spec (rule-list-claims t) (rule-list-at t) rule-list.Post
     (rule-list-word-requires t)
+    (rule-list-pair-requires t)
     (rule-list-same-length t)
     (rule-list-returns t)
     (rule-list-reference-requires t)
     (rule-list-reference-requires-2 t)
     (rule-list-rule-list-requires t)
-    (rule-list-enum-known-next t)
-    (rule-list-enum-told t)
     (rule-list-same-length-2 t)
     (rule-list-returns-2 t)
+    (rule-list-high-requires t)
+    (rule-list-low-requires t)
     (rule-list-rule-requires t)
     (rule-list-same-length-3 t)
     (rule-list-returns-3 t)

@@ -2,6 +2,7 @@
 use borrow.Author.Needs.{needs}
 use Rattle.rule_cells.proofs.rules.rule.Statement.{statement}
 use Rattle.rule_cells.proofs.rules.rule.Tie as tie
+use Rattle.rule_cells.specs.Built.{builtOf}
 use Rattle.rule_cells.specs.RuleListLaws.{left-shape, parts-ask, left-parts}
 use mathlib.Core.Path.{sym, _∙_}
 
@@ -29,12 +30,13 @@ same-length c = search needs
 
 returns : tie.Need-returns
 returns c =
-    let a = c .before .before .before .before .before .before .before .before .before .before .before .before .before .before .before .before .before .args in left-parts (a .items .now) (a .work .now) (a .literals) (a .node) (a .w) (a .next) (a .top) (c .before .before .before .before .before .before .before .before .before .before .before .before .before .before .before .before .before .pre .0) (c .before .before .before .before .before .before .before .before .before .before .before .before .before .before .before .before .before .pre .1) (c .before .before .before .before .before .before .before .before .before .before .before .before .before .before .before .before .before .pre .2) _ _ _ _ (sym (c .before .before .before .before .before .before .before .before .before .before .before .before .if1 .taken) ∙ c .before .before .before .before .before .before .before .before .before .before .before .before .before .rule-shape .ensures (a .w)) (c .before .before .before .before .before .before .before .before .before .before .first .ensures) (c .before .before .before .before .before .before .before .before .rest .ensures) (c .before .before .before .before .before .before .rest2 .ensures) (c .before .before .before .before .first2 .ensures) (c .before .before .rule-parts .last .1 .0) (c .before .before .rule-parts .result) (c .before .before .rule-parts .ensures)
+    let a = c .before .before .before .before .before .before .before .before .before .before .before .before .before .before .before .before .before .args in left-parts (a .items .now) (a .work .now) (a .literals) (a .node) (a .w) (a .next) (a .top) (c .before .before .before .before .before .before .before .before .before .before .before .before .before .before .before .before .before .pre .0) (c .before .before .before .before .before .before .before .before .before .before .before .before .before .before .before .before .before .pre .1) (c .before .before .before .before .before .before .before .before .before .before .before .before .before .before .before .before .before .pre .2) _ _ _ _ (sym (c .before .before .before .before .before .before .before .before .before .before .before .before .if1 .taken) ∙ c .before .before .before .before .before .before .before .before .before .before .before .before .before .rule-shape .ensures (a .w)) (c .before .before .before .before .before .before .before .before .before .before .first .ensures) (c .before .before .before .before .before .before .before .before .rest .ensures) (c .before .before .before .before .before .before .rest2 .ensures) (c .before .before .before .before .first2 .ensures) (c .before .before .rule-parts .last .1 .0) (builtOf (c .before .before .rule-parts .result)) (c .before .before .rule-parts .ensures)
 
 same-length-2 : tie.Need-same-length-2
 same-length-2 c = search needs
 
 returns-2 : tie.Need-returns-2
+unfolding builtOf
 returns-2 c =
     let a = c .before .before .before .before .before .args in left-shape (a .items .now) (a .work .now) (a .literals) (a .node) (a .w) (a .next) (a .top) (c .before .before .before .before .before .pre .0) (c .before .before .before .before .before .pre .1) (c .before .before .before .before .before .pre .2) (sym (c .if1 .left) ∙ c .before .rule-shape .ensures (a .w))
 

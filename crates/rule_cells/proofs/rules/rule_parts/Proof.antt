@@ -2,8 +2,10 @@
 use borrow.Author.Needs.{needs}
 use Rattle.rule_cells.proofs.rules.rule_parts.Statement.{statement}
 use Rattle.rule_cells.proofs.rules.rule_parts.Tie as tie
-use Rattle.rule_cells.specs.GatherLaws.{gathered-stored}
-use Rattle.rule_cells.specs.RuleLaws.{held-none, small-p, asks-p, small-size, left-variables, left-pattern, made-pattern, under-top, asks-q, small-q, left-template, made-template, rule-asks, left-rule}
+use Rattle.rule_cells.specs.Built.{builtOf, built-bad, built-good}
+use Rattle.rule_cells.specs.Variables.{keptOf}
+use Rattle.rule_cells.specs.GatherLaws.{kept-bad, kept-count, gathered-stored}
+use Rattle.rule_cells.specs.RuleLaws.{rule-packed, packs-rule, held-none, small-p, asks-p, small-size, left-variables, left-pattern, made-pattern, under-top, asks-q, small-q, left-template, made-template, rule-asks, left-rule}
 use native.Mathlib.Omega.{arith}
 
 slice-aggregate-gather : tie.Need-slice-aggregate-gather
@@ -11,68 +13,107 @@ slice-aggregate-gather c = search needs
 
 gather-requires : tie.Need-gather-requires
 gather-requires c κs =
-    let a = c .before .before .before .before .args in (omega arith, held-none (a .items .now) (a .work .now) (a .w) _, small-p (a .items .now) (a .work .now) (a .literals) (a .p) (a .q) (a .w) (a .next) (a .top) (c .before .before .before .before .pre))
-
-enum-known-n : tie.Need-enum-known-n
-enum-known-n c = search needs
-
-enum-told : tie.Need-enum-told
-enum-told c = search needs
+    let a = c .before .before .before .before .args in
+    let ask = c .before .before .before .before .pre in
+    (omega arith, held-none (a .items .now) (a .work .now) (a .w) _, small-p (a .items .now) (a .work .now) (a .literals) (a .p) (a .q) (a .w) (a .next) (a .top) ask)
 
 same-length : tie.Need-same-length
 same-length c = search needs
 
 returns : tie.Need-returns
+unfolding builtOf
 returns c =
-    let a = c .before .before .before .before .before .before .before .before .args in left-variables (a .items .now) (a .work .now) (a .literals) (a .p) (a .q) (a .w) (a .next) (a .top) (c .before .before .before .before .before .before .before .before .pre) _ (c .before .before .before .gather .last .1 .1 .0) _ (c .enum-told .given .1) (c .before .before .before .gather .ensures)
+    let a = c .before .before .before .before .before .before .before .args in
+    let ask = c .before .before .before .before .before .before .before .pre in
+    let g = c .before .before .gather in
+    left-variables (a .items .now) (a .work .now) (a .literals) (a .p) (a .q) (a .w) (a .next) (a .top) ask _ (g .last .1 .1 .0) (keptOf (g .result)) (kept-bad (g .result) (c .if1 .taken)) (g .ensures)
 
 pattern-requires : tie.Need-pattern-requires
 pattern-requires c κs =
-    let a = c .before .before .before .before .before .before .before .before .before .before .args in (asks-p (a .items .now) (a .work .now) (a .literals) (a .p) (a .q) (a .w) (a .next) (a .top) (c .before .before .before .before .before .before .before .before .before .before .pre), c .before .before .before .before .before .before .before .before .before .before .pre .literals-below, small-size (a .items .now) (a .work .now) (a .literals) (a .p) (a .q) (a .w) (a .next) (a .top) (c .before .before .before .before .before .before .before .before .before .before .pre))
+    let a = c .before .before .before .before .before .before .before .before .args in
+    let ask = c .before .before .before .before .before .before .before .before .pre in
+    (asks-p (a .items .now) (a .work .now) (a .literals) (a .p) (a .q) (a .w) (a .next) (a .top) ask, ask .literals-below, small-size (a .items .now) (a .work .now) (a .literals) (a .p) (a .q) (a .w) (a .next) (a .top) ask)
 
 enum-known-a : tie.Need-enum-known-a
 enum-known-a c = search needs
 
-enum-told-2 : tie.Need-enum-told-2
-enum-told-2 c = search needs
+enum-told : tie.Need-enum-told
+enum-told c = search needs
 
 same-length-2 : tie.Need-same-length-2
 same-length-2 c = search needs
 
 returns-2 : tie.Need-returns-2
+unfolding builtOf
 returns-2 c =
-    let a = c .before .before .before .before .before .before .before .before .before .before .before .before .before .before .before .args in left-pattern (a .items .now) (a .work .now) (a .literals) (a .p) (a .q) (a .w) (a .next) (a .top) (c .before .before .before .before .before .before .before .before .before .before .before .before .before .before .before .pre) (c .before .before .before .before .pattern .last .1 .0) _ (c .enum-told2 .given .1) (c .before .before .before .before .pattern .ensures)
+    let a = c .before .before .before .before .before .before .before .before .before .before .before .before .before .args in
+    let ask = c .before .before .before .before .before .before .before .before .before .before .before .before .before .pre in
+    left-pattern (a .items .now) (a .work .now) (a .literals) (a .p) (a .q) (a .w) (a .next) (a .top) ask (c .before .before .before .before .pattern .last .1 .0) _ (c .enum-told .given .1) (c .before .before .before .before .pattern .ensures)
 
 slice-aggregate-template : tie.Need-slice-aggregate-template
 slice-aggregate-template c = search needs
 
 template-requires : tie.Need-template-requires
 template-requires c κs =
-    let a = c .before .before .before .before .before .before .before .before .before .before .before .before .before .before .before .before .before .before .args in (asks-q (a .items .now) (a .work .now) (a .literals) (a .p) (a .q) (a .w) (a .next) (a .top) (c .before .before .before .before .before .before .before .before .before .before .before .before .before .before .before .before .before .before .pre) _ (c .before .before .before .before .before .before .before .before .before .before .before .before .before .gather .last .1 .1 .0) _ (gathered-stored _ _ _ _ _ _ _ (c .before .before .before .before .before .before .before .before .before .before .before .before .before .gather .last .1 .1 .0) _ _ (c .before .before .before .before .before .before .before .before .before .before .n .given .1) (c .before .before .before .before .before .before .before .before .before .before .before .before .before .gather .ensures)) (c .before .before .before .before .before .before .before .pattern .last .1 .0) _ _ _ (c .before .before .before .before .before .before .before .pattern .kept .1 .0) (made-pattern (a .items .now) (a .work .now) (a .literals) (a .p) (a .q) (a .w) (a .next) (a .top) (c .before .before .before .before .before .before .before .before .before .before .before .before .before .before .before .before .before .before .pre) (c .before .before .before .before .before .before .before .pattern .last .1 .0) _ _ _ _ (c .before .before .before .a .given .1) (c .before .before .before .before .before .before .before .pattern .ensures)), (gathered-stored _ _ _ _ _ _ _ (c .before .before .before .before .before .before .before .before .before .before .before .before .before .gather .last .1 .1 .0) _ _ (c .before .before .before .before .before .before .before .before .before .before .n .given .1) (c .before .before .before .before .before .before .before .before .before .before .before .before .before .gather .ensures)) .held .most, omega (arith, c .before .before .before .before .before .before .before .before .before .before .before .before .before .gather .kept .1 .1 .0), under-top (a .items .now) (a .work .now) (a .literals) (a .p) (a .q) (a .w) (a .next) (a .top) (c .before .before .before .before .before .before .before .before .before .before .before .before .before .before .before .before .before .before .pre) _ (c .before .before .before .before .before .before .before .before .before .before .before .before .before .gather .last .1 .1 .0) _ (gathered-stored _ _ _ _ _ _ _ (c .before .before .before .before .before .before .before .before .before .before .before .before .before .gather .last .1 .1 .0) _ _ (c .before .before .before .before .before .before .before .before .before .before .n .given .1) (c .before .before .before .before .before .before .before .before .before .before .before .before .before .gather .ensures)) (c .before .before .before .before .before .before .before .pattern .last .1 .0) _ _ _ (c .before .before .before .before .before .before .before .pattern .kept .1 .0) (made-pattern (a .items .now) (a .work .now) (a .literals) (a .p) (a .q) (a .w) (a .next) (a .top) (c .before .before .before .before .before .before .before .before .before .before .before .before .before .before .before .before .before .before .pre) (c .before .before .before .before .before .before .before .pattern .last .1 .0) _ _ _ _ (c .before .before .before .a .given .1) (c .before .before .before .before .before .before .before .pattern .ensures)), small-q (a .items .now) (a .work .now) (a .literals) (a .p) (a .q) (a .w) (a .next) (a .top) (c .before .before .before .before .before .before .before .before .before .before .before .before .before .before .before .before .before .before .pre) _ (c .before .before .before .before .before .before .before .before .before .before .before .before .before .gather .last .1 .1 .0) _ (gathered-stored _ _ _ _ _ _ _ (c .before .before .before .before .before .before .before .before .before .before .before .before .before .gather .last .1 .1 .0) _ _ (c .before .before .before .before .before .before .before .before .before .before .n .given .1) (c .before .before .before .before .before .before .before .before .before .before .before .before .before .gather .ensures)) (c .before .before .before .before .before .before .before .pattern .last .1 .0) _ _ _ (c .before .before .before .before .before .before .before .pattern .kept .1 .0) (made-pattern (a .items .now) (a .work .now) (a .literals) (a .p) (a .q) (a .w) (a .next) (a .top) (c .before .before .before .before .before .before .before .before .before .before .before .before .before .before .before .before .before .before .pre) (c .before .before .before .before .before .before .before .pattern .last .1 .0) _ _ _ _ (c .before .before .before .a .given .1) (c .before .before .before .before .before .before .before .pattern .ensures)))
-
-enum-known-b : tie.Need-enum-known-b
-enum-known-b c = search needs
-
-enum-told-3 : tie.Need-enum-told-3
-enum-told-3 c = search needs
+    let a = c .before .before .before .before .before .before .before .before .before .before .before .before .before .before .before .before .args in
+    let ask = c .before .before .before .before .before .before .before .before .before .before .before .before .before .before .before .before .pre in
+    let g = c .before .before .before .before .before .before .before .before .before .before .before .gather in
+    let stored = gathered-stored _ _ _ _ _ _ _ (g .last .1 .1 .0) (keptOf (g .result)) _ (kept-count (g .result) (c .before .before .before .before .before .before .before .before .before .if1 .left)) (g .ensures) in
+    let p = c .before .before .before .before .before .before .before .pattern in
+    let pattern = made-pattern (a .items .now) (a .work .now) (a .literals) (a .p) (a .q) (a .w) (a .next) (a .top) ask (p .last .1 .0) _ _ _ _ (c .before .before .before .a .given .1) (p .ensures) in
+    (asks-q (a .items .now) (a .work .now) (a .literals) (a .p) (a .q) (a .w) (a .next) (a .top) ask _ (g .last .1 .1 .0) _ stored (p .last .1 .0) _ _ _ (p .kept .1 .0) pattern, stored .held .most, omega (arith, g .kept .1 .1 .0), under-top (a .items .now) (a .work .now) (a .literals) (a .p) (a .q) (a .w) (a .next) (a .top) ask _ (g .last .1 .1 .0) _ stored (p .last .1 .0) _ _ _ (p .kept .1 .0) pattern, small-q (a .items .now) (a .work .now) (a .literals) (a .p) (a .q) (a .w) (a .next) (a .top) ask _ (g .last .1 .1 .0) _ stored (p .last .1 .0) _ _ _ (p .kept .1 .0) pattern)
 
 same-length-3 : tie.Need-same-length-3
 same-length-3 c = search needs
 
 returns-3 : tie.Need-returns-3
+unfolding builtOf
 returns-3 c =
-    let a = c .before .before .before .before .before .before .before .before .before .before .before .before .before .before .before .before .before .before .before .before .before .before .before .args in left-template (a .items .now) (a .work .now) (a .literals) (a .p) (a .q) (a .w) (a .next) (a .top) (c .before .before .before .before .before .before .before .before .before .before .before .before .before .before .before .before .before .before .before .before .before .before .before .pre) _ (c .before .before .before .before .before .before .before .before .before .before .before .before .before .before .before .before .before .before .gather .last .1 .1 .0) _ (gathered-stored _ _ _ _ _ _ _ (c .before .before .before .before .before .before .before .before .before .before .before .before .before .before .before .before .before .before .gather .last .1 .1 .0) _ _ (c .before .before .before .before .before .before .before .before .before .before .before .before .before .before .before .n .given .1) (c .before .before .before .before .before .before .before .before .before .before .before .before .before .before .before .before .before .before .gather .ensures)) (c .before .before .before .before .before .before .before .before .before .before .before .before .pattern .last .1 .0) _ _ _ (c .before .before .before .before .before .before .before .before .before .before .before .before .pattern .kept .1 .0) (made-pattern (a .items .now) (a .work .now) (a .literals) (a .p) (a .q) (a .w) (a .next) (a .top) (c .before .before .before .before .before .before .before .before .before .before .before .before .before .before .before .before .before .before .before .before .before .before .before .pre) (c .before .before .before .before .before .before .before .before .before .before .before .before .pattern .last .1 .0) _ _ _ _ (c .before .before .before .before .before .before .before .before .a .given .1) (c .before .before .before .before .before .before .before .before .before .before .before .before .pattern .ensures)) (c .before .before .before .before .template .last .1 .0) _ (c .enum-told3 .given .1) (c .before .before .before .before .template .ensures)
+    let a = c .before .before .before .before .before .before .before .before .before .before .before .before .before .before .before .before .before .before .before .before .args in
+    let ask = c .before .before .before .before .before .before .before .before .before .before .before .before .before .before .before .before .before .before .before .before .pre in
+    let g = c .before .before .before .before .before .before .before .before .before .before .before .before .before .before .before .gather in
+    let stored = gathered-stored _ _ _ _ _ _ _ (g .last .1 .1 .0) (keptOf (g .result)) _ (kept-count (g .result) (c .before .before .before .before .before .before .before .before .before .before .before .before .before .if1 .left)) (g .ensures) in
+    let p = c .before .before .before .before .before .before .before .before .before .before .before .pattern in
+    let pattern = made-pattern (a .items .now) (a .work .now) (a .literals) (a .p) (a .q) (a .w) (a .next) (a .top) ask (p .last .1 .0) _ _ _ _ (c .before .before .before .before .before .before .before .a .given .1) (p .ensures) in
+    let q = c .before .before .before .template in
+    left-template (a .items .now) (a .work .now) (a .literals) (a .p) (a .q) (a .w) (a .next) (a .top) ask _ (g .last .1 .1 .0) _ stored (p .last .1 .0) _ _ _ (p .kept .1 .0) pattern (q .last .1 .0) (builtOf (q .result)) (built-bad (q .result) (c .if2 .taken)) (q .ensures)
+
+low-requires : tie.Need-low-requires
+low-requires c κs = search needs
+
+high-requires : tie.Need-high-requires
+high-requires c κs = search needs
 
 put-rule-requires : tie.Need-put-rule-requires
 put-rule-requires c κs =
-    let a = c .before .before .before .before .before .before .before .before .before .before .before .before .before .before .before .before .before .before .before .before .before .before .before .before .before .args in rule-asks (a .items .now) (a .work .now) (a .literals) (a .p) (a .q) (a .w) (a .next) (a .top) (c .before .before .before .before .before .before .before .before .before .before .before .before .before .before .before .before .before .before .before .before .before .before .before .before .before .pre) _ (c .before .before .before .before .before .before .before .before .before .before .before .before .before .before .before .before .before .before .before .before .gather .last .1 .1 .0) _ (gathered-stored _ _ _ _ _ _ _ (c .before .before .before .before .before .before .before .before .before .before .before .before .before .before .before .before .before .before .before .before .gather .last .1 .1 .0) _ _ (c .before .before .before .before .before .before .before .before .before .before .before .before .before .before .before .before .before .n .given .1) (c .before .before .before .before .before .before .before .before .before .before .before .before .before .before .before .before .before .before .before .before .gather .ensures)) (c .before .before .before .before .before .before .before .before .before .before .before .before .before .before .pattern .last .1 .0) _ _ _ (c .before .before .before .before .before .before .before .before .before .before .before .before .before .before .pattern .kept .1 .0) (made-pattern (a .items .now) (a .work .now) (a .literals) (a .p) (a .q) (a .w) (a .next) (a .top) (c .before .before .before .before .before .before .before .before .before .before .before .before .before .before .before .before .before .before .before .before .before .before .before .before .before .pre) (c .before .before .before .before .before .before .before .before .before .before .before .before .before .before .pattern .last .1 .0) _ _ _ _ (c .before .before .before .before .before .before .before .before .before .before .a .given .1) (c .before .before .before .before .before .before .before .before .before .before .before .before .before .before .pattern .ensures)) (c .before .before .before .before .before .before .template .last .1 .0) _ _ (c .before .before .before .before .before .before .template .kept .1 .0) (made-template (a .items .now) (a .work .now) (a .literals) (a .p) (a .q) (a .w) (a .next) (a .top) (c .before .before .before .before .before .before .before .before .before .before .before .before .before .before .before .before .before .before .before .before .before .before .before .before .before .pre) _ (c .before .before .before .before .before .before .before .before .before .before .before .before .before .before .before .before .before .before .before .before .gather .last .1 .1 .0) _ (gathered-stored _ _ _ _ _ _ _ (c .before .before .before .before .before .before .before .before .before .before .before .before .before .before .before .before .before .before .before .before .gather .last .1 .1 .0) _ _ (c .before .before .before .before .before .before .before .before .before .before .before .before .before .before .before .before .before .n .given .1) (c .before .before .before .before .before .before .before .before .before .before .before .before .before .before .before .before .before .before .before .before .gather .ensures)) (c .before .before .before .before .before .before .before .before .before .before .before .before .before .before .pattern .last .1 .0) _ _ _ (c .before .before .before .before .before .before .before .before .before .before .before .before .before .before .pattern .kept .1 .0) (made-pattern (a .items .now) (a .work .now) (a .literals) (a .p) (a .q) (a .w) (a .next) (a .top) (c .before .before .before .before .before .before .before .before .before .before .before .before .before .before .before .before .before .before .before .before .before .before .before .before .before .pre) (c .before .before .before .before .before .before .before .before .before .before .before .before .before .before .pattern .last .1 .0) _ _ _ _ (c .before .before .before .before .before .before .before .before .before .before .a .given .1) (c .before .before .before .before .before .before .before .before .before .before .before .before .before .before .pattern .ensures)) (c .before .before .before .before .before .before .template .last .1 .0) _ _ _ (c .before .before .b .given .1) (c .before .before .before .before .before .before .template .ensures))
+    let a = c .before .before .before .before .before .before .before .before .before .before .before .before .before .before .before .before .before .before .before .before .before .before .before .args in
+    let ask = c .before .before .before .before .before .before .before .before .before .before .before .before .before .before .before .before .before .before .before .before .before .before .before .pre in
+    let g = c .before .before .before .before .before .before .before .before .before .before .before .before .before .before .before .before .before .before .gather in
+    let stored = gathered-stored _ _ _ _ _ _ _ (g .last .1 .1 .0) (keptOf (g .result)) _ (kept-count (g .result) (c .before .before .before .before .before .before .before .before .before .before .before .before .before .before .before .before .if1 .left)) (g .ensures) in
+    let p = c .before .before .before .before .before .before .before .before .before .before .before .before .before .before .pattern in
+    let pattern = made-pattern (a .items .now) (a .work .now) (a .literals) (a .p) (a .q) (a .w) (a .next) (a .top) ask (p .last .1 .0) _ _ _ _ (c .before .before .before .before .before .before .before .before .before .before .a .given .1) (p .ensures) in
+    let q = c .before .before .before .before .before .before .template in
+    let template = made-template (a .items .now) (a .work .now) (a .literals) (a .p) (a .q) (a .w) (a .next) (a .top) ask _ (g .last .1 .1 .0) _ stored (p .last .1 .0) _ _ _ (p .kept .1 .0) pattern (q .last .1 .0) (builtOf (q .result)) _ _ (built-good (q .result) _ _ (c .before .before .before .if2 .left) (c .high .ensures) (c .before .low .ensures)) (q .ensures) in
+    rule-asks (a .items .now) (a .work .now) (a .literals) (a .p) (a .q) (a .w) (a .next) (a .top) ask _ (g .last .1 .1 .0) _ stored (p .last .1 .0) _ _ _ (p .kept .1 .0) pattern (q .last .1 .0) _ _ (q .kept .1 .0) template
+
+pair-requires : tie.Need-pair-requires
+pair-requires c κs = search needs
 
 same-length-4 : tie.Need-same-length-4
 same-length-4 c = search needs
 
 returns-4 : tie.Need-returns-4
 returns-4 c =
-    let a = c .before .before .before .before .before .before .before .before .before .before .before .before .before .before .before .before .before .before .before .before .before .before .before .before .before .before .before .before .args in left-rule (a .items .now) (a .work .now) (a .literals) (a .p) (a .q) (a .w) (a .next) (a .top) (c .before .before .before .before .before .before .before .before .before .before .before .before .before .before .before .before .before .before .before .before .before .before .before .before .before .before .before .before .pre) _ (c .before .before .before .before .before .before .before .before .before .before .before .before .before .before .before .before .before .before .before .before .before .before .before .gather .last .1 .1 .0) _ (gathered-stored _ _ _ _ _ _ _ (c .before .before .before .before .before .before .before .before .before .before .before .before .before .before .before .before .before .before .before .before .before .before .before .gather .last .1 .1 .0) _ _ (c .before .before .before .before .before .before .before .before .before .before .before .before .before .before .before .before .before .before .before .before .n .given .1) (c .before .before .before .before .before .before .before .before .before .before .before .before .before .before .before .before .before .before .before .before .before .before .before .gather .ensures)) (c .before .before .before .before .before .before .before .before .before .before .before .before .before .before .before .before .before .pattern .last .1 .0) _ _ _ (c .before .before .before .before .before .before .before .before .before .before .before .before .before .before .before .before .before .pattern .kept .1 .0) (made-pattern (a .items .now) (a .work .now) (a .literals) (a .p) (a .q) (a .w) (a .next) (a .top) (c .before .before .before .before .before .before .before .before .before .before .before .before .before .before .before .before .before .before .before .before .before .before .before .before .before .before .before .before .pre) (c .before .before .before .before .before .before .before .before .before .before .before .before .before .before .before .before .before .pattern .last .1 .0) _ _ _ _ (c .before .before .before .before .before .before .before .before .before .before .before .before .before .a .given .1) (c .before .before .before .before .before .before .before .before .before .before .before .before .before .before .before .before .before .pattern .ensures)) (c .before .before .before .before .before .before .before .before .before .template .last .1 .0) _ _ (c .before .before .before .before .before .before .before .before .before .template .kept .1 .0) (made-template (a .items .now) (a .work .now) (a .literals) (a .p) (a .q) (a .w) (a .next) (a .top) (c .before .before .before .before .before .before .before .before .before .before .before .before .before .before .before .before .before .before .before .before .before .before .before .before .before .before .before .before .pre) _ (c .before .before .before .before .before .before .before .before .before .before .before .before .before .before .before .before .before .before .before .before .before .before .before .gather .last .1 .1 .0) _ (gathered-stored _ _ _ _ _ _ _ (c .before .before .before .before .before .before .before .before .before .before .before .before .before .before .before .before .before .before .before .before .before .before .before .gather .last .1 .1 .0) _ _ (c .before .before .before .before .before .before .before .before .before .before .before .before .before .before .before .before .before .before .before .before .n .given .1) (c .before .before .before .before .before .before .before .before .before .before .before .before .before .before .before .before .before .before .before .before .before .before .before .gather .ensures)) (c .before .before .before .before .before .before .before .before .before .before .before .before .before .before .before .before .before .pattern .last .1 .0) _ _ _ (c .before .before .before .before .before .before .before .before .before .before .before .before .before .before .before .before .before .pattern .kept .1 .0) (made-pattern (a .items .now) (a .work .now) (a .literals) (a .p) (a .q) (a .w) (a .next) (a .top) (c .before .before .before .before .before .before .before .before .before .before .before .before .before .before .before .before .before .before .before .before .before .before .before .before .before .before .before .before .pre) (c .before .before .before .before .before .before .before .before .before .before .before .before .before .before .before .before .before .pattern .last .1 .0) _ _ _ _ (c .before .before .before .before .before .before .before .before .before .before .before .before .before .a .given .1) (c .before .before .before .before .before .before .before .before .before .before .before .before .before .before .before .before .before .pattern .ensures)) (c .before .before .before .before .before .before .before .before .before .template .last .1 .0) _ _ _ (c .before .before .before .before .before .b .given .1) (c .before .before .before .before .before .before .before .before .before .template .ensures)) _ _ (c .before .before .put-rule .ensures)
+    let a = c .before .before .before .before .before .before .before .before .before .before .before .before .before .before .before .before .before .before .before .before .before .before .before .before .before .before .before .args in
+    let ask = c .before .before .before .before .before .before .before .before .before .before .before .before .before .before .before .before .before .before .before .before .before .before .before .before .before .before .before .pre in
+    let g = c .before .before .before .before .before .before .before .before .before .before .before .before .before .before .before .before .before .before .before .before .before .before .gather in
+    let stored = gathered-stored _ _ _ _ _ _ _ (g .last .1 .1 .0) (keptOf (g .result)) _ (kept-count (g .result) (c .before .before .before .before .before .before .before .before .before .before .before .before .before .before .before .before .before .before .before .before .if1 .left)) (g .ensures) in
+    let p = c .before .before .before .before .before .before .before .before .before .before .before .before .before .before .before .before .before .before .pattern in
+    let pattern = made-pattern (a .items .now) (a .work .now) (a .literals) (a .p) (a .q) (a .w) (a .next) (a .top) ask (p .last .1 .0) _ _ _ _ (c .before .before .before .before .before .before .before .before .before .before .before .before .before .before .a .given .1) (p .ensures) in
+    let q = c .before .before .before .before .before .before .before .before .before .before .template in
+    let template = made-template (a .items .now) (a .work .now) (a .literals) (a .p) (a .q) (a .w) (a .next) (a .top) ask _ (g .last .1 .1 .0) _ stored (p .last .1 .0) _ _ _ (p .kept .1 .0) pattern (q .last .1 .0) (builtOf (q .result)) _ _ (built-good (q .result) _ _ (c .before .before .before .before .before .before .before .if2 .left) (c .before .before .before .before .high .ensures) (c .before .before .before .before .before .low .ensures)) (q .ensures) in
+    rule-packed _ _ _ _ _ _ _ _ _ _ (packs-rule (a .items .now) (a .work .now) (a .literals) (a .p) (a .q) (a .w) (a .next) (a .top) ask) (c .pair .ensures)
+    (left-rule (a .items .now) (a .work .now) (a .literals) (a .p) (a .q) (a .w) (a .next) (a .top) ask _ (g .last .1 .1 .0) _ stored (p .last .1 .0) _ _ _ (p .kept .1 .0) pattern (q .last .1 .0) _ _ (q .kept .1 .0) template _ _ (c .before .before .before .put-rule .ensures))
 
 pub rule-parts-spec : {M : Type 1} → statement M
 rule-parts-spec =
@@ -80,21 +121,20 @@ rule-parts-spec =
     (tie.spec
     slice-aggregate-gather
     gather-requires
-    enum-known-n
-    enum-told
     same-length
     returns
     pattern-requires
     enum-known-a
-    enum-told-2
+    enum-told
     same-length-2
     returns-2
     slice-aggregate-template
     template-requires
-    enum-known-b
-    enum-told-3
     same-length-3
     returns-3
+    low-requires
+    high-requires
     put-rule-requires
+    pair-requires
     same-length-4
     returns-4)

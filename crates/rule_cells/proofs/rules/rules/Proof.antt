@@ -2,6 +2,7 @@
 use borrow.Author.Needs.{needs}
 use Rattle.rule_cells.proofs.rules.rules.Statement.{statement}
 use Rattle.rule_cells.proofs.rules.rules.Tie as tie
+use Rattle.rule_cells.specs.Built.{builtOf}
 use Rattle.rule_cells.specs.RuleListLaws.{left-no-form, asks-list, literals-under, left-form}
 use mathlib.Core.Path.{sym, _∙_}
 
@@ -26,12 +27,13 @@ same-length c = search needs
 
 returns : tie.Need-returns
 returns c =
-    let a = c .before .before .before .before .before .before .before .before .before .before .before .before .before .before .before .args in left-form (a .items .now) (a .work .now) (a .node) (a .w) (a .top) (c .before .before .before .before .before .before .before .before .before .before .before .before .before .before .before .pre) _ _ _ (c .before .before .before .before .before .before .before .before .rest .ensures) (c .before .before .before .before .before .before .first .ensures) (c .before .before .before .before .rest2 .ensures) (c .before .before .rule-list .last .1 .0) (c .before .before .rule-list .result) (sym (c .before .before .before .before .before .before .before .before .before .before .if1 .taken) ∙ c .before .before .before .before .before .before .before .before .before .before .before .is-rules-form .ensures) (c .before .before .rule-list .ensures)
+    let a = c .before .before .before .before .before .before .before .before .before .before .before .before .before .before .before .args in left-form (a .items .now) (a .work .now) (a .node) (a .w) (a .top) (c .before .before .before .before .before .before .before .before .before .before .before .before .before .before .before .pre) _ _ _ (c .before .before .before .before .before .before .before .before .rest .ensures) (c .before .before .before .before .before .before .first .ensures) (c .before .before .before .before .rest2 .ensures) (c .before .before .rule-list .last .1 .0) (builtOf (c .before .before .rule-list .result)) (sym (c .before .before .before .before .before .before .before .before .before .before .if1 .taken) ∙ c .before .before .before .before .before .before .before .before .before .before .before .is-rules-form .ensures) (c .before .before .rule-list .ensures)
 
 same-length-2 : tie.Need-same-length-2
 same-length-2 c = search needs
 
 returns-2 : tie.Need-returns-2
+unfolding builtOf
 returns-2 c =
     let a = c .before .before .before .before .before .args in left-no-form (a .items .now) (a .work .now) (a .node) (a .w) (a .top) (c .before .before .before .before .before .pre) (sym (c .if1 .left) ∙ c .before .is-rules-form .ensures)
 

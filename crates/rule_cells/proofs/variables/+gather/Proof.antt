@@ -1,4 +1,5 @@
 -- The proof of the cycle {gather}. The measure is the node; the loop goes along its list.
+use borrow.Author.Needs.{needs}
 use Prim.Native.Nat.{ℕ, _<_}
 use borrow.Fn.Kinds.{In}
 use borrow.Fn.PlainCycle.{Measures, is, falls, and}
@@ -11,16 +12,14 @@ use Rattle.rule_cells.proofs.variables.depth_before.Reads as depth-befo
 use Rattle.rule_cells.proofs.variables.gather_name.Reads as gather-name-reads
 use Rattle.rule_cells.proofs.variables.+gather.{statement}
 use Rattle.rule_cells.proofs.variables.+gather.Tie.{close}
-use borrow.Author.Needs.{needs}
 use mathlib.Core.Path.{_≡_, refl, sym, _∙_}
 use lib.ListN.{length}
 use native.Mathlib.Omega.{arith}
 use Rattle.recipe.specs.Tree.{names}
 use Rattle.arena.specs.Arena.{treeAt}
 use Rattle.arena.specs.ListLaws.{pair-falls}
-use Rattle.rule_cells.specs.declared.variables.Kept.the-variants.{Count, Bad}
-use Rattle.rule_cells.specs.Variables.{Gathering}
-use Rattle.rule_cells.specs.GatherLaws.{deeper-most, gathered-stored, gathered-name, gathered-other, gathered-bad, gathering-begins, gathering-more}
+use Rattle.rule_cells.specs.Variables.{Count, Bad, keptOf, Gathering}
+use Rattle.rule_cells.specs.GatherLaws.{deeper-most, kept-bad, kept-count, gathered-count, gathered-stored, gathered-name, gathered-other, gathered-bad, gathering-begins, gathering-more}
 
 abbrev μ-gather : Measures 3 gather-kinds.ps ℕ
 μ-gather κs a =
@@ -75,33 +74,30 @@ gather-gather-requires t c κs =
       ),
     )
 
-gather-enum-known-k : (t : ℕ) → gather-lts.Need-enum-known-k (gather-claims t) (gather-at t) gather.Post gather-Inv-loop gather-μ-loop
-gather-enum-known-k t c = search needs
-
-gather-enum-told : (t : ℕ) → gather-lts.Need-enum-told (gather-claims t) (gather-at t) gather.Post gather-Inv-loop gather-μ-loop
-gather-enum-told t c = search needs
-
 gather-same-length : (t : ℕ) → gather-lts.Need-same-length (gather-claims t) (gather-at t) gather.Post gather-Inv-loop gather-μ-loop
 gather-same-length t c = search needs
 
 gather-returns : (t : ℕ) → gather-lts.Need-returns (gather-claims t) (gather-at t) gather.Post gather-Inv-loop gather-μ-loop
+unfolding keptOf
 gather-returns t c =
-    let a = c .before .before .before .before .before .before .before .before .before .before .before .before .before .before .before .args in
-    let l = c .before .before .before .before .before .before .before .before .before .before .before .loop in
-    l .inv .1 .all (c .before .before .before .before .gather .last .1 .1 .0) Bad
-    (gathered-bad (a .items .now) (a .work .now) (a .w) (l .at) (l .m) (l .vars) (names (treeAt (a .items .now) (a .work .now) (a .literals) (a .w))) (a .d) _ _ _ (sym (c .before .before .before .before .before .before .before .before .before .before .word .ensures) ∙ c .before .before .before .before .before .before .before .before .before .if1 .taken) (c .before .before .before .before .before .before .before .before .reference .ensures) (c .before .before .before .before .before .before .before .reference2 .ensures) (c .before .before .before .before .before .before .depth-before .ensures) _ _ (c .enum-told .given .1) (c .before .before .before .before .gather .ensures))
+    let a = c .before .before .before .before .before .before .before .before .before .before .before .before .before .before .args in
+    let l = c .before .before .before .before .before .before .before .before .before .before .loop in
+    let g = c .before .before .before .gather in
+    l .inv .1 .all (g .last .1 .1 .0) Bad
+    (gathered-bad (a .items .now) (a .work .now) (a .w) (l .at) (l .m) (l .vars) (names (treeAt (a .items .now) (a .work .now) (a .literals) (a .w))) (a .d) _ _ _ (sym (c .before .before .before .before .before .before .before .before .before .word .ensures) ∙ c .before .before .before .before .before .before .before .before .if1 .taken) (c .before .before .before .before .before .before .before .reference .ensures) (c .before .before .before .before .before .before .reference2 .ensures) (c .before .before .before .before .before .depth-before .ensures) _ (keptOf (g .result)) (kept-bad (g .result) (c .if2 .taken)) (g .ensures))
 
 gather-loop-less : (t : ℕ) → gather-lts.Need-loop-less (gather-claims t) (gather-at t) gather.Post gather-Inv-loop gather-μ-loop
 gather-loop-less t c =
-    omega (arith, pair-falls (c .before .before .before .before .before .before .before .before .before .before .before .before .before .before .before .before .args .work .now) (c .before .before .before .before .before .before .before .before .before .before .before .before .loop .at) 1 (sym (c .before .before .before .before .before .before .before .before .before .before .before .word .ensures) ∙ c .before .before .before .before .before .before .before .before .before .before .if1 .taken), c .before .before .before .before .before .before .before .before .reference2 .ensures)
+    omega (arith, pair-falls (c .before .before .before .before .before .before .before .before .before .before .before .before .before .before .args .work .now) (c .before .before .before .before .before .before .before .before .before .before .loop .at) 1 (sym (c .before .before .before .before .before .before .before .before .before .word .ensures) ∙ c .before .before .before .before .before .before .before .before .if1 .taken), c .before .before .before .before .before .before .reference2 .ensures)
 
 gather-loop-again : (t : ℕ) → gather-lts.Need-loop-again (gather-claims t) (gather-at t) gather.Post gather-Inv-loop gather-μ-loop
 gather-loop-again t c =
-    let a = c .before .before .before .before .before .before .before .before .before .before .before .before .before .before .before .before .args in
-    let l = c .before .before .before .before .before .before .before .before .before .before .before .before .loop in (
-      c .before .before .before .before .before .gather .kept .1 .1 .0 ∙ l .inv .0,
-      gathering-more (a .items .now) (a .work .now) (a .w) (l .at) (l .m) (l .vars) (names (treeAt (a .items .now) (a .work .now) (a .literals) (a .w))) (a .d) _ _ _ (sym (c .before .before .before .before .before .before .before .before .before .before .before .word .ensures) ∙ c .before .before .before .before .before .before .before .before .before .before .if1 .taken) (c .before .before .before .before .before .before .before .before .before .reference .ensures) (c .before .before .before .before .before .before .before .before .reference2 .ensures) (c .before .before .before .before .before .before .before .depth-before .ensures) _ _ _ _ _
-          (gathered-stored _ _ _ _ _ _ _ _ _ _ (c .before .k .given .1) (c .before .before .before .before .before .gather .ensures))
+    let a = c .before .before .before .before .before .before .before .before .before .before .before .before .before .before .args in
+    let l = c .before .before .before .before .before .before .before .before .before .before .loop in
+    let g = c .before .before .before .gather in (
+      g .kept .1 .1 .0 ∙ l .inv .0,
+      gathering-more (a .items .now) (a .work .now) (a .w) (l .at) (l .m) (l .vars) (names (treeAt (a .items .now) (a .work .now) (a .literals) (a .w))) (a .d) _ _ _ (sym (c .before .before .before .before .before .before .before .before .before .word .ensures) ∙ c .before .before .before .before .before .before .before .before .if1 .taken) (c .before .before .before .before .before .before .before .reference .ensures) (c .before .before .before .before .before .before .reference2 .ensures) (c .before .before .before .before .before .depth-before .ensures) _ _ _ _ _
+          (gathered-stored _ _ _ _ _ _ _ _ (keptOf (g .result)) _ (kept-count (g .result) (c .if2 .left)) (g .ensures))
           (l .inv .1),
     )
 
@@ -121,8 +117,9 @@ gather-returns-2 : (t : ℕ) → gather-lts.Need-returns-2 (gather-claims t) (ga
 gather-returns-2 t c =
     let a = c .before .before .before .before .before .before .before .before .before .before .before .before .args in
     let l = c .before .before .before .before .before .before .before .before .loop in
-    l .inv .1 .all (c .before .before .gather-name .last .1 .1 .0) (c .before .before .gather-name .result)
-    (gathered-name (a .items .now) (a .work .now) (a .w) (l .at) (l .m) (l .vars) (names (treeAt (a .items .now) (a .work .now) (a .literals) (a .w))) (a .d) (c .before .before .gather-name .last .1 .1 .0) (c .before .before .gather-name .result) (sym (c .before .before .before .before .before .word2 .ensures) ∙ c .before .before .before .before .if2 .taken) (c .before .before .gather-name .ensures))
+    let g = c .before .before .gather-name in
+    l .inv .1 .all (g .last .1 .1 .0) (keptOf (g .result))
+    (gathered-name (a .items .now) (a .work .now) (a .w) (l .at) (l .m) (l .vars) (names (treeAt (a .items .now) (a .work .now) (a .literals) (a .w))) (a .d) (g .last .1 .1 .0) (keptOf (g .result)) (sym (c .before .before .before .before .before .word2 .ensures) ∙ c .before .before .before .before .if3 .taken) (g .ensures))
 
 gather-same-length-3 : (t : ℕ) → gather-lts.Need-same-length-3 (gather-claims t) (gather-at t) gather.Post gather-Inv-loop gather-μ-loop
 gather-same-length-3 t c = search needs
@@ -131,24 +128,12 @@ gather-returns-3 : (t : ℕ) → gather-lts.Need-returns-3 (gather-claims t) (ga
 gather-returns-3 t c =
     let a = c .before .before .before .before .before .before .before .before .args in
     let l = c .before .before .before .before .loop in
-    l .inv .1 .all (l .vars) (Count (l .m))
-    (gathered-other (a .items .now) (a .work .now) (a .w) (l .at) (l .m) (l .vars) (names (treeAt (a .items .now) (a .work .now) (a .literals) (a .w))) (a .d) (λ z. c .if2 .left (c .before .word2 .ensures ∙ z)) (λ z. c .before .before .if1 .left (c .before .before .before .word .ensures ∙ z)) (l .inv .1 .held))
+    gathered-count _ _ _ _ _ _ _ _ _
+    (l .inv .1 .all (l .vars) (Count (l .m))
+    (gathered-other (a .items .now) (a .work .now) (a .w) (l .at) (l .m) (l .vars) (names (treeAt (a .items .now) (a .work .now) (a .literals) (a .w))) (a .d) (λ z. c .if3 .left (c .before .word2 .ensures ∙ z)) (λ z. c .before .before .if1 .left (c .before .before .before .word .ensures ∙ z)) (l .inv .1 .held)))
 
 pub +gather-spec : {M : Type 1} → statement M
-+gather-spec = close μ-gather λ t. gather-lts.spec (
-  word-reads.Asked,
-  word-reads.Learnt,
-  reference-reads.Asked,
-  reference-reads.Learnt,
-  depth-before-reads.Asked,
-  depth-before-reads.Learnt,
-  gather-below t,
-  gather.Post,
-  gather-name-reads.Asked,
-  gather-name-reads.Learnt,
-)
-    (gather-at t)
-    gather.Post
++gather-spec = close μ-gather λ t. gather-lts.spec (gather-claims t) (gather-at t) gather.Post
     gather-Inv-loop
     gather-μ-loop
     (gather-loop-holds t)
@@ -157,8 +142,6 @@ pub +gather-spec : {M : Type 1} → statement M
     (gather-reference-requires-2 t)
     (gather-depth-before-requires t)
     (gather-gather-requires t)
-    (gather-enum-known-k t)
-    (gather-enum-told t)
     (gather-same-length t)
     (gather-returns t)
     (gather-loop-less t)

@@ -2,15 +2,19 @@
 use borrow.Author.Needs.{needs}
 use Rattle.rule_cells.proofs.variables.add.Statement.{statement}
 use Rattle.rule_cells.proofs.variables.add.Tie as tie
+use Rattle.rule_cells.specs.Variables.{keptOf}
 use Rattle.rule_cells.specs.VariableLaws.{add-one, add-deep, add-many, add-twice, found-at, found-not}
+use Rattle.rule_cells.specs.GatherLaws.{gathered-count}
 use native.Mathlib.Omega.{arith}
 use lib.ListN.{length-set}
 
 returns : tie.Need-returns
+unfolding keptOf
 returns c =
     let a = c .before .before .before .before .args in add-deep (a .items .now) (a .work .now) (a .w) (a .vars .now) (a .n) (a .node) (a .d) (omega (arith, c .if1 .taken))
 
 returns-2 : tie.Need-returns-2
+unfolding keptOf
 returns-2 c =
     let a = c .before .before .before .before .before .args in add-many (a .items .now) (a .work .now) (a .w) (a .vars .now) (a .n) (a .node) (a .d) (c .if2 .taken)
 
@@ -25,6 +29,7 @@ same-length : tie.Need-same-length
 same-length c = search needs
 
 returns-3 : tie.Need-returns-3
+unfolding keptOf
 returns-3 c =
     let a = c .before .before .before .before .before .before .before .before .before .before .args in add-twice (a .items .now) (a .work .now) (a .w) (a .vars .now) (a .n) (a .node) (a .d) _ (found-at _ _ _ _ (c .before .k .given .1) (c .before .before .before .find .ensures))
 
@@ -50,15 +55,16 @@ slice-write-vars-2 : tie.Need-slice-write-vars-2
 slice-write-vars-2 c =
     simp length-set (omega (arith, c .before .before .before .before .before .before .before .before .before .pre .0))
 
-add-t19 : tie.Need-add-t19
-add-t19 c = search needs
+add-result : tie.Need-add-result
+add-result c = search needs
 
 same-length-2 : tie.Need-same-length-2
 same-length-2 c = search needs
 
 returns-4 : tie.Need-returns-4
 returns-4 c =
-    let a = c .before .before .before .before .before .before .before .before .before .args in add-one (a .items .now) (a .work .now) (a .w) (a .vars .now) (a .n) (a .node) (a .d) (omega (arith, c .before .before .before .before .before .before .before .before .before .pre .0)) (c .before .before .before .before .before .before .before .before .before .pre .1) (omega arith) (omega arith) (found-not _ _ (c .enum-told .given .1) (c .before .before .find .ensures))
+    let a = c .before .before .before .before .before .before .before .before .before .args in
+    gathered-count _ _ _ _ _ _ _ _ _ (add-one (a .items .now) (a .work .now) (a .w) (a .vars .now) (a .n) (a .node) (a .d) (omega (arith, c .before .before .before .before .before .before .before .before .before .pre .0)) (c .before .before .before .before .before .before .before .before .before .pre .1) (omega arith) (omega arith) (found-not _ _ (c .enum-told .given .1) (c .before .before .find .ensures)))
 
 pub add-spec : {M : Type 1} → statement M
 add-spec =
@@ -77,6 +83,6 @@ add-spec =
     add-vars
     mul-vars-2
     slice-write-vars-2
-    add-t19
+    add-result
     same-length-2
     returns-4)

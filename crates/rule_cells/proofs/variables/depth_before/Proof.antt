@@ -2,22 +2,16 @@
 use borrow.Author.Needs.{needs}
 use Rattle.rule_cells.proofs.variables.depth_before.Statement.{statement}
 use Rattle.rule_cells.proofs.variables.depth_before.Tie as tie
-use Rattle.rule_cells.specs.VariableLaws.{deeper-dots, deeper-not}
-use mathlib.Core.Path.{sym, _∙_}
+use Rattle.rule_cells.specs.VariableLaws.{deeper-by}
 
 dots-next-requires : tie.Need-dots-next-requires
 dots-next-requires c κs = search needs
 
-add-result : tie.Need-add-result
-add-result c = search needs
+element-depth-requires : tie.Need-element-depth-requires
+element-depth-requires c κs = search needs
 
 returns : tie.Need-returns
-returns c =
-    let a = c .before .before .before .before .args in deeper-dots (a .items .now) (a .work .now) (a .rest) (a .d) (λ w. sym (c .if1 .taken) ∙ c .before .dots-next .ensures w)
-
-returns-2 : tie.Need-returns-2
-returns-2 c =
-    let a = c .before .before .before .before .args in deeper-not (a .items .now) (a .work .now) (a .rest) (a .d) (λ w. sym (c .if1 .left) ∙ c .before .dots-next .ensures w)
+returns c = deeper-by _ _ _ _ _ _ (c .element-depth .ensures) (c .before .dots-next .ensures)
 
 pub depth-before-spec : {M : Type 1} → statement M
-depth-before-spec = tie.close (tie.spec dots-next-requires add-result returns returns-2)
+depth-before-spec = tie.close (tie.spec dots-next-requires element-depth-requires returns)

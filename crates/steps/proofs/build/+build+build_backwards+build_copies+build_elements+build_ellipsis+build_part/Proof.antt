@@ -30,7 +30,9 @@ use Rattle.environments.proofs.environment.is_listed.Reads as is-listed-reads
 use Rattle.environments.proofs.environment.taken.Reads as taken-reads
 use Rattle.environments.proofs.lengths.one_length.Reads as one-length-reads
 use Rattle.environments.proofs.lengths.copies.Reads as copies-reads
-use Rattle.steps.proofs.build.again.Reads as again-reads
+use Rattle.words.proofs.packed.high.Reads as high-reads
+use Rattle.words.proofs.packed.low.Reads as low-reads
+use Rattle.words.proofs.packed.pair.Reads as pair-reads
 use Rattle.steps.proofs.build.build_leaf.Reads as build-leaf-reads
 use Rattle.steps.proofs.copy.copy_elements.Reads as copy-elements-reads
 use Rattle.steps.proofs.copy.put_reversed.Reads as put-reversed-reads
@@ -38,9 +40,10 @@ use Rattle.steps.proofs.build.+build+build_backwards+build_copies+build
 use Rattle.steps.proofs.build.+build+build_backwards+build_copies+build_elements+build_ellipsis+build_part.Tie.{close}
 use Rattle.environments.specs.PartLaws.{tag-falls}
 use Rattle.environments.specs.EntryLaws.{moving-along}
-use Rattle.steps.specs.Build.{Made, Backwards}
-use Rattle.steps.specs.ResultLaws.{gives-at, stops-at, made-none, pair-tail, pair-tail-costly, pair-head, pair-head-costly, pair-room, made-pair}
-use Rattle.steps.specs.CopyLaws.{Turning, turning-begins, copies-none, copy-buildable, copy-costly, copy-room, turning-more, turning-ends, reversed-asks, copied, listed-waits, listed-backwards}
+use Rattle.steps.specs.Built.{builtOf, built-none, built-some}
+use Rattle.steps.specs.Build.{Backwards}
+use Rattle.steps.specs.ResultLaws.{gives-at, stops-at, made-packed, made-none, pair-tail, pair-tail-costly, pair-head, pair-head-costly, pair-room, made-pair}
+use Rattle.steps.specs.CopyLaws.{Turning, turning-begins, copies-none, copy-buildable, copy-costly, copy-room, turning-more, turning-ends, backwards-packed, reversed-asks, copied-packed, listed-waits, listed-backwards}
 use Rattle.steps.specs.EllipsisLaws.{ellipsis-differs, ellipsis-rest, ellipsis-rest-costly, ellipsis-copies, made-copies}
 use native.Mathlib.Omega.{arith}
 use borrow.Author.Needs.{needs}
@@ -146,19 +149,19 @@ build-part-below t =
     and 2 build-part-kinds.ps (falls 2 build-part-kinds.ps _<_ μ-build-part t) build-part.Pre
 
 abbrev build-claims : ℕ → build-lts.Claims
-build-claims t = (word-reads.Asked, word-reads.Learnt, build-ellipsis-below t, build-ellipsis.Post, again-reads.Asked, again-reads.Learnt, build-leaf-reads.Asked, build-leaf-reads.Learnt, reference-reads.Asked, reference-reads.Learnt, build-part-below t, build-part.Post, put-pair-reads.Asked, put-pair-reads.Learnt)
+build-claims t = (word-reads.Asked, word-reads.Learnt, build-ellipsis-below t, build-ellipsis.Post, build-leaf-reads.Asked, build-leaf-reads.Learnt, reference-reads.Asked, reference-reads.Learnt, build-part-below t, build-part.Post, high-reads.Asked, high-reads.Learnt, low-reads.Asked, low-reads.Learnt, put-pair-reads.Asked, put-pair-reads.Learnt, pair-reads.Asked, pair-reads.Learnt)
 
 abbrev build-backwards-claims : ℕ → build-backwards-lts.Claims
-build-backwards-claims t = (begin-reads.Asked, begin-reads.Learnt, enter-reads.Asked, enter-reads.Learnt, build-part-below t, build-part.Post, put-pair-reads.Asked, put-pair-reads.Learnt)
+build-backwards-claims t = (begin-reads.Asked, begin-reads.Learnt, enter-reads.Asked, enter-reads.Learnt, build-part-below t, build-part.Post, high-reads.Asked, high-reads.Learnt, put-pair-reads.Asked, put-pair-reads.Learnt, low-reads.Asked, low-reads.Learnt, pair-reads.Asked, pair-reads.Learnt)
 
 abbrev build-copies-claims : ℕ → build-copies-lts.Claims
-build-copies-claims t = (build-elements-below t, build-elements.Post, put-reversed-reads.Asked, put-reversed-reads.Learnt)
+build-copies-claims t = (build-elements-below t, build-elements.Post, high-reads.Asked, high-reads.Learnt, put-reversed-reads.Asked, put-reversed-reads.Learnt, low-reads.Asked, low-reads.Learnt, pair-reads.Asked, pair-reads.Learnt)
 
 abbrev build-elements-claims : ℕ → build-elements-lts.Claims
 build-elements-claims t = (is-listed-reads.Asked, is-listed-reads.Learnt, build-backwards-below t, build-backwards.Post, word-reads.Asked, word-reads.Learnt, taken-reads.Asked, taken-reads.Learnt, copy-elements-reads.Asked, copy-elements-reads.Learnt)
 
 abbrev build-ellipsis-claims : ℕ → build-ellipsis-lts.Claims
-build-ellipsis-claims t = (reference-reads.Asked, reference-reads.Learnt, copies-reads.Asked, copies-reads.Learnt, one-length-reads.Asked, one-length-reads.Learnt, build-part-below t, build-part.Post, build-copies-below t, build-copies.Post)
+build-ellipsis-claims t = (reference-reads.Asked, reference-reads.Learnt, copies-reads.Asked, copies-reads.Learnt, one-length-reads.Asked, one-length-reads.Learnt, build-part-below t, build-part.Post, high-reads.Asked, high-reads.Learnt, low-reads.Asked, low-reads.Learnt, build-copies-below t, build-copies.Post)
 
 abbrev build-part-claims : ℕ → build-part-lts.Claims
 build-part-claims t = (word-reads.Asked, word-reads.Learnt, build-leaf-reads.Asked, build-leaf-reads.Learnt, build-below t, build.Post)
@@ -171,39 +174,32 @@ build-build-ellipsis-requires : (t : ℕ) → build-lts.Need-build-ellipsis-requ
 build-build-ellipsis-requires t c κs =
     (omega (arith, c .before .before .before .before .before .pre .0), (c .before .before .before .before .before .pre .1, sym (c .before .before .word .ensures) ∙ c .before .if1 .taken))
 
-build-again-requires : (t : ℕ) → build-lts.Need-again-requires (build-claims t) (build-at t) build.Post
-build-again-requires t c κs =
-    search needs
-
 build-same-length : (t : ℕ) → build-lts.Need-same-length (build-claims t) (build-at t) build.Post
 build-same-length t c =
-    c .before .before .before .build-ellipsis .kept .0
+    c .before .before .build-ellipsis .kept .0
 
 build-returns : (t : ℕ) → build-lts.Need-returns (build-claims t) (build-at t) build.Post
 build-returns t c =
-    let a = c .before .before .before .before .before .before .before .before .before .args in subst (Made (a .work .now) (c .before .before .before .build-ellipsis .last .0) (a .top) (a .fuel) (a .env .now) (a .w) (a .t)) (sym (c .again .ensures)) (c .before .before .before .build-ellipsis .ensures)
+    c .before .before .build-ellipsis .ensures
 
 build-build-leaf-requires : (t : ℕ) → build-lts.Need-build-leaf-requires (build-claims t) (build-at t) build.Post
 build-build-leaf-requires t c κs =
     (c .before .before .before .before .before .before .pre .1, λ z. c .before .if2 .taken (c .before .before .before .word .ensures ∙ z), λ z. c .before .before .if1 .left (c .before .before .before .word .ensures ∙ z))
 
-build-again-requires-2 : (t : ℕ) → build-lts.Need-again-requires-2 (build-claims t) (build-at t) build.Post
-build-again-requires-2 t c κs =
-    search needs
-
 build-same-length-2 : (t : ℕ) → build-lts.Need-same-length-2 (build-claims t) (build-at t) build.Post
 build-same-length-2 t c =
-    c .before .before .before .build-leaf .kept .0
+    c .before .before .build-leaf .kept .0
 
 build-returns-2 : (t : ℕ) → build-lts.Need-returns-2 (build-claims t) (build-at t) build.Post
 build-returns-2 t c =
-    let a = c .before .before .before .before .before .before .before .before .before .before .args in subst (Made (a .work .now) (c .before .before .before .build-leaf .last .0) (a .top) (a .fuel) (a .env .now) (a .w) (a .t)) (sym (c .again2 .ensures)) (c .before .before .before .build-leaf .ensures)
+    c .before .before .build-leaf .ensures
 
 build-same-length-3 : (t : ℕ) → build-lts.Need-same-length-3 (build-claims t) (build-at t) build.Post
 build-same-length-3 t c =
     search needs
 
 build-returns-3 : (t : ℕ) → build-lts.Need-returns-3 (build-claims t) (build-at t) build.Post
+unfolding builtOf
 build-returns-3 t c =
     let a = c .before .before .before .before .before .before .args in made-none (a .work .now) (a .top) (a .fuel) (a .env .now) (a .w) (a .t) _ (c .before .before .before .word .ensures) (c .before .before .before .before .before .before .pre .1) (c .if3 .taken)
 
@@ -223,53 +219,59 @@ build-build-part-requires : (t : ℕ) → build-lts.Need-build-part-requires (bu
 build-build-part-requires t c κs =
     let a = c .before .before .before .before .before .before .before .before .before .before .before .args in let l = tag-falls (a .work .now) (a .t) _ (c .before .before .before .before .before .before .before .before .word .ensures) 2 _ (λ z. omega (arith, c .before .before .before .before .before .before .if2 .left)) (c .before .reference2 .ensures) in (omega (arith, l, c .before .before .before .before .before .before .before .before .before .before .before .pre .0), pair-tail (a .work .now) (a .top) (a .fuel) (a .env .now) (a .w) (a .t) _ (c .before .before .before .before .before .before .before .before .word .ensures) (c .before .before .before .before .before .before .before .before .before .before .before .pre .1) _ _ (c .before .before .before .reference .ensures) (c .before .reference2 .ensures) (c .before .before .before .before .before .before .if2 .left) _ (c .before .before .before .before .before .if3 .left) refl)
 
-build-enum-known-tail : (t : ℕ) → build-lts.Need-enum-known-tail (build-claims t) (build-at t) build.Post
-build-enum-known-tail t c =
-    search needs
-
-build-enum-told : (t : ℕ) → build-lts.Need-enum-told (build-claims t) (build-at t) build.Post
-build-enum-told t c =
-    search needs
-
 build-same-length-4 : (t : ℕ) → build-lts.Need-same-length-4 (build-claims t) (build-at t) build.Post
 build-same-length-4 t c =
-    c .before .before .before .before .build-part .kept .0
+    c .before .before .before .build-part .kept .0
 
 build-returns-4 : (t : ℕ) → build-lts.Need-returns-4 (build-claims t) (build-at t) build.Post
+unfolding builtOf
 build-returns-4 t c =
-    let a = c .before .before .before .before .before .before .before .before .before .before .before .before .before .before .before .before .args in pair-tail-costly (a .work .now) (a .top) (a .fuel) (a .env .now) (a .w) (a .t) _ (c .before .before .before .before .before .before .before .before .before .before .before .before .before .word .ensures) (c .before .before .before .before .before .before .before .before .before .before .before .before .before .before .before .before .pre .1) _ _ (c .before .before .before .before .before .before .before .before .reference .ensures) (c .before .before .before .before .before .before .reference2 .ensures) (c .before .before .before .before .before .before .before .before .before .before .before .if2 .left) _ (c .before .before .before .before .before .before .before .before .before .before .if3 .left) refl _ (stops-at (a .work .now) (c .before .before .before .before .build-part .last .0) (a .top) (a .fuel - 1) (a .env .now) (a .w) (c .before .before .before .before .before .before .reference2 .result) _ (c .enum-told .given .1) (c .before .before .before .before .build-part .ensures))
+    let a = c .before .before .before .before .before .before .before .before .before .before .before .before .before .before .before .args in pair-tail-costly (a .work .now) (a .top) (a .fuel) (a .env .now) (a .w) (a .t) _ (c .before .before .before .before .before .before .before .before .before .before .before .before .word .ensures) (c .before .before .before .before .before .before .before .before .before .before .before .before .before .before .before .pre .1) _ _ (c .before .before .before .before .before .before .before .reference .ensures) (c .before .before .before .before .before .reference2 .ensures) (c .before .before .before .before .before .before .before .before .before .before .if2 .left) _ (c .before .before .before .before .before .before .before .before .before .if3 .left) refl _ (stops-at (a .work .now) (c .before .before .before .build-part .last .0) (a .top) (a .fuel - 1) (a .env .now) (a .w) (c .before .before .before .before .before .reference2 .result) _ (built-none _ (c .if4 .taken)) (c .before .before .before .build-part .ensures))
+
+build-high-requires : (t : ℕ) → build-lts.Need-high-requires (build-claims t) (build-at t) build.Post
+build-high-requires t c κs =
+    search needs
+
+build-low-requires : (t : ℕ) → build-lts.Need-low-requires (build-claims t) (build-at t) build.Post
+build-low-requires t c κs =
+    search needs
 
 build-build-part-requires-2 : (t : ℕ) → build-lts.Need-build-part-requires-2 (build-claims t) (build-at t) build.Post
 build-build-part-requires-2 t c κs =
-    let a = c .before .before .before .before .before .before .before .before .before .before .before .before .before .before .before .before .before .before .args in let l = tag-falls (a .work .now) (a .t) _ (c .before .before .before .before .before .before .before .before .before .before .before .before .before .before .before .word .ensures) 3 _ (λ z. omega (arith, c .before .before .before .before .before .before .before .before .before .before .before .before .before .if2 .left)) (c .before .before .before .before .before .before .before .before .before .before .reference .ensures) in (omega (arith, l, c .before .before .before .before .before .before .before .before .before .before .before .before .before .before .before .before .before .before .pre .0), pair-head (a .work .now) (a .top) (a .fuel) (a .env .now) (a .w) (a .t) _ (c .before .before .before .before .before .before .before .before .before .before .before .before .before .before .before .word .ensures) (c .before .before .before .before .before .before .before .before .before .before .before .before .before .before .before .before .before .before .pre .1) _ _ (c .before .before .before .before .before .before .before .before .before .before .reference .ensures) (c .before .before .before .before .before .before .before .before .reference2 .ensures) (c .before .before .before .before .before .before .before .before .before .before .before .before .before .if2 .left) _ (c .before .before .before .before .before .before .before .before .before .before .before .before .if3 .left) refl _ _ _ (gives-at (a .work .now) (c .before .before .before .before .before .before .build-part .last .0) (a .top) (a .fuel - 1) (a .env .now) (a .w) (c .before .before .before .before .before .before .before .before .reference2 .result) _ _ _ (c .before .before .tail .given .1) (c .before .before .before .before .before .before .build-part .ensures)) (c .before .before .before .before .before .before .build-part .kept .0))
-
-build-enum-known-head : (t : ℕ) → build-lts.Need-enum-known-head (build-claims t) (build-at t) build.Post
-build-enum-known-head t c =
-    search needs
-
-build-enum-told-2 : (t : ℕ) → build-lts.Need-enum-told-2 (build-claims t) (build-at t) build.Post
-build-enum-told-2 t c =
-    search needs
+    let a = c .before .before .before .before .before .before .before .before .before .before .before .before .before .before .before .before .before .before .args in let l = tag-falls (a .work .now) (a .t) _ (c .before .before .before .before .before .before .before .before .before .before .before .before .before .before .before .word .ensures) 3 _ (λ z. omega (arith, c .before .before .before .before .before .before .before .before .before .before .before .before .before .if2 .left)) (c .before .before .before .before .before .before .before .before .before .before .reference .ensures) in (omega (arith, l, c .before .before .before .before .before .before .before .before .before .before .before .before .before .before .before .before .before .before .pre .0), pair-head (a .work .now) (a .top) (a .fuel) (a .env .now) (a .w) (a .t) _ (c .before .before .before .before .before .before .before .before .before .before .before .before .before .before .before .word .ensures) (c .before .before .before .before .before .before .before .before .before .before .before .before .before .before .before .before .before .before .pre .1) _ _ (c .before .before .before .before .before .before .before .before .before .before .reference .ensures) (c .before .before .before .before .before .before .before .before .reference2 .ensures) (c .before .before .before .before .before .before .before .before .before .before .before .before .before .if2 .left) _ (c .before .before .before .before .before .before .before .before .before .before .before .before .if3 .left) refl _ _ _ (gives-at (a .work .now) (c .before .before .before .before .before .before .build-part .last .0) (a .top) (a .fuel - 1) (a .env .now) (a .w) (c .before .before .before .before .before .before .before .before .reference2 .result) _ _ _ (built-some _ _ _ (c .before .before .before .if4 .left) (c .before .before .high .ensures) (c .low .ensures)) (c .before .before .before .before .before .before .build-part .ensures)) (c .before .before .before .before .before .before .build-part .kept .0))
 
 build-same-length-5 : (t : ℕ) → build-lts.Need-same-length-5 (build-claims t) (build-at t) build.Post
 build-same-length-5 t c =
-    c .before .before .before .before .build-part2 .kept .0 ∙ c .before .before .before .before .before .before .before .before .before .before .before .build-part .kept .0
+    c .before .before .before .build-part2 .kept .0 ∙ c .before .before .before .before .before .before .before .before .before .before .build-part .kept .0
 
 build-returns-5 : (t : ℕ) → build-lts.Need-returns-5 (build-claims t) (build-at t) build.Post
+unfolding builtOf
 build-returns-5 t c =
-    let a = c .before .before .before .before .before .before .before .before .before .before .before .before .before .before .before .before .before .before .before .before .before .before .before .args in pair-head-costly (a .work .now) (a .top) (a .fuel) (a .env .now) (a .w) (a .t) _ (c .before .before .before .before .before .before .before .before .before .before .before .before .before .before .before .before .before .before .before .before .word .ensures) (c .before .before .before .before .before .before .before .before .before .before .before .before .before .before .before .before .before .before .before .before .before .before .before .pre .1) _ _ (c .before .before .before .before .before .before .before .before .before .before .before .before .before .before .before .reference .ensures) (c .before .before .before .before .before .before .before .before .before .before .before .before .before .reference2 .ensures) (c .before .before .before .before .before .before .before .before .before .before .before .before .before .before .before .before .before .before .if2 .left) _ (c .before .before .before .before .before .before .before .before .before .before .before .before .before .before .before .before .before .if3 .left) refl _ _ _ (gives-at (a .work .now) (c .before .before .before .before .before .before .before .before .before .before .before .build-part .last .0) (a .top) (a .fuel - 1) (a .env .now) (a .w) (c .before .before .before .before .before .before .before .before .before .before .before .before .before .reference2 .result) _ _ _ (c .before .before .before .before .before .before .before .tail .given .1) (c .before .before .before .before .before .before .before .before .before .before .before .build-part .ensures)) (c .before .before .before .before .before .before .before .before .before .before .before .build-part .kept .0) _ (stops-at (c .before .before .before .before .before .before .before .before .before .before .before .build-part .last .0) (c .before .before .before .before .build-part2 .last .0) _ _ (a .env .now) (a .w) (c .before .before .before .before .before .before .before .before .before .before .before .before .before .before .before .reference .result) _ (c .enum-told2 .given .1) (c .before .before .before .before .build-part2 .ensures))
+    let a = c .before .before .before .before .before .before .before .before .before .before .before .before .before .before .before .before .before .before .before .before .before .before .args in pair-head-costly (a .work .now) (a .top) (a .fuel) (a .env .now) (a .w) (a .t) _ (c .before .before .before .before .before .before .before .before .before .before .before .before .before .before .before .before .before .before .before .word .ensures) (c .before .before .before .before .before .before .before .before .before .before .before .before .before .before .before .before .before .before .before .before .before .before .pre .1) _ _ (c .before .before .before .before .before .before .before .before .before .before .before .before .before .before .reference .ensures) (c .before .before .before .before .before .before .before .before .before .before .before .before .reference2 .ensures) (c .before .before .before .before .before .before .before .before .before .before .before .before .before .before .before .before .before .if2 .left) _ (c .before .before .before .before .before .before .before .before .before .before .before .before .before .before .before .before .if3 .left) refl _ _ _ (gives-at (a .work .now) (c .before .before .before .before .before .before .before .before .before .before .build-part .last .0) (a .top) (a .fuel - 1) (a .env .now) (a .w) (c .before .before .before .before .before .before .before .before .before .before .before .before .reference2 .result) _ _ _ (built-some _ _ _ (c .before .before .before .before .before .before .before .if4 .left) (c .before .before .before .before .before .before .high .ensures) (c .before .before .before .before .low .ensures)) (c .before .before .before .before .before .before .before .before .before .before .build-part .ensures)) (c .before .before .before .before .before .before .before .before .before .before .build-part .kept .0) _ (stops-at (c .before .before .before .before .before .before .before .before .before .before .build-part .last .0) (c .before .before .before .build-part2 .last .0) _ _ (a .env .now) (a .w) (c .before .before .before .before .before .before .before .before .before .before .before .before .before .before .reference .result) _ (built-none _ (c .if5 .taken)) (c .before .before .before .build-part2 .ensures))
+
+build-high-requires-2 : (t : ℕ) → build-lts.Need-high-requires-2 (build-claims t) (build-at t) build.Post
+build-high-requires-2 t c κs =
+    search needs
 
 build-put-pair-requires : (t : ℕ) → build-lts.Need-put-pair-requires (build-claims t) (build-at t) build.Post
 build-put-pair-requires t c κs =
-    let a = c .before .before .before .before .before .before .before .before .before .before .before .before .before .before .before .before .before .before .before .before .before .before .before .before .before .args in let h = gives-at (c .before .before .before .before .before .before .before .before .before .before .before .before .before .build-part .last .0) (c .before .before .before .before .before .before .build-part2 .last .0) _ _ (a .env .now) (a .w) (c .before .before .before .before .before .before .before .before .before .before .before .before .before .before .before .before .before .reference .result) _ _ _ (c .before .before .head .given .1) (c .before .before .before .before .before .before .build-part2 .ensures) in (pair-room (a .work .now) (a .top) (a .fuel) (a .env .now) (a .w) (a .t) _ (c .before .before .before .before .before .before .before .before .before .before .before .before .before .before .before .before .before .before .before .before .before .before .word .ensures) (c .before .before .before .before .before .before .before .before .before .before .before .before .before .before .before .before .before .before .before .before .before .before .before .before .before .pre .1) _ _ (c .before .before .before .before .before .before .before .before .before .before .before .before .before .before .before .before .before .reference .ensures) (c .before .before .before .before .before .before .before .before .before .before .before .before .before .before .before .reference2 .ensures) (c .before .before .before .before .before .before .before .before .before .before .before .before .before .before .before .before .before .before .before .before .if2 .left) _ (c .before .before .before .before .before .before .before .before .before .before .before .before .before .before .before .before .before .before .before .if3 .left) refl _ _ _ (gives-at (a .work .now) (c .before .before .before .before .before .before .before .before .before .before .before .before .before .build-part .last .0) (a .top) (a .fuel - 1) (a .env .now) (a .w) (c .before .before .before .before .before .before .before .before .before .before .before .before .before .before .before .reference2 .result) _ _ _ (c .before .before .before .before .before .before .before .before .before .tail .given .1) (c .before .before .before .before .before .before .before .before .before .before .before .before .before .build-part .ensures)) (c .before .before .before .before .before .before .before .before .before .before .before .before .before .build-part .kept .0) _ _ _ h (c .before .before .before .before .before .before .build-part2 .kept .0), omega arith, h .paid .above)
+    let a = c .before .before .before .before .before .before .before .before .before .before .before .before .before .before .before .before .before .before .before .before .before .before .before .before .args in let h = gives-at (c .before .before .before .before .before .before .before .before .before .before .before .before .build-part .last .0) (c .before .before .before .before .before .build-part2 .last .0) _ _ (a .env .now) (a .w) (c .before .before .before .before .before .before .before .before .before .before .before .before .before .before .before .before .reference .result) _ _ _ (built-some _ _ _ (c .before .before .if5 .left) (c .before .high2 .ensures) refl) (c .before .before .before .before .before .build-part2 .ensures) in (pair-room (a .work .now) (a .top) (a .fuel) (a .env .now) (a .w) (a .t) _ (c .before .before .before .before .before .before .before .before .before .before .before .before .before .before .before .before .before .before .before .before .before .word .ensures) (c .before .before .before .before .before .before .before .before .before .before .before .before .before .before .before .before .before .before .before .before .before .before .before .before .pre .1) _ _ (c .before .before .before .before .before .before .before .before .before .before .before .before .before .before .before .before .reference .ensures) (c .before .before .before .before .before .before .before .before .before .before .before .before .before .before .reference2 .ensures) (c .before .before .before .before .before .before .before .before .before .before .before .before .before .before .before .before .before .before .before .if2 .left) _ (c .before .before .before .before .before .before .before .before .before .before .before .before .before .before .before .before .before .before .if3 .left) refl _ _ _ (gives-at (a .work .now) (c .before .before .before .before .before .before .before .before .before .before .before .before .build-part .last .0) (a .top) (a .fuel - 1) (a .env .now) (a .w) (c .before .before .before .before .before .before .before .before .before .before .before .before .before .before .reference2 .result) _ _ _ (built-some _ _ _ (c .before .before .before .before .before .before .before .before .before .if4 .left) (c .before .before .before .before .before .before .before .before .high .ensures) (c .before .before .before .before .before .before .low .ensures)) (c .before .before .before .before .before .before .before .before .before .before .before .before .build-part .ensures)) (c .before .before .before .before .before .before .before .before .before .before .before .before .build-part .kept .0) _ _ _ h (c .before .before .before .before .before .build-part2 .kept .0), omega arith, h .paid .above)
+
+build-low-requires-2 : (t : ℕ) → build-lts.Need-low-requires-2 (build-claims t) (build-at t) build.Post
+build-low-requires-2 t c κs =
+    search needs
+
+build-pair-requires : (t : ℕ) → build-lts.Need-pair-requires (build-claims t) (build-at t) build.Post
+build-pair-requires t c κs =
+    search needs
 
 build-same-length-6 : (t : ℕ) → build-lts.Need-same-length-6 (build-claims t) (build-at t) build.Post
 build-same-length-6 t c =
-    c .before .before .put-pair .kept .0 ∙ c .before .before .before .before .before .before .before .before .before .build-part2 .kept .0 ∙ c .before .before .before .before .before .before .before .before .before .before .before .before .before .before .before .before .build-part .kept .0
+    c .before .before .before .before .put-pair .kept .0 ∙ c .before .before .before .before .before .before .before .before .before .before .build-part2 .kept .0 ∙ c .before .before .before .before .before .before .before .before .before .before .before .before .before .before .before .before .before .build-part .kept .0
 
 build-returns-6 : (t : ℕ) → build-lts.Need-returns-6 (build-claims t) (build-at t) build.Post
 build-returns-6 t c =
-    let a = c .before .before .before .before .before .before .before .before .before .before .before .before .before .before .before .before .before .before .before .before .before .before .before .before .before .before .before .before .args in made-pair (a .work .now) (a .top) (a .fuel) (a .env .now) (a .w) (a .t) _ (c .before .before .before .before .before .before .before .before .before .before .before .before .before .before .before .before .before .before .before .before .before .before .before .before .before .word .ensures) (c .before .before .before .before .before .before .before .before .before .before .before .before .before .before .before .before .before .before .before .before .before .before .before .before .before .before .before .before .pre .1) _ _ (c .before .before .before .before .before .before .before .before .before .before .before .before .before .before .before .before .before .before .before .before .reference .ensures) (c .before .before .before .before .before .before .before .before .before .before .before .before .before .before .before .before .before .before .reference2 .ensures) (c .before .before .before .before .before .before .before .before .before .before .before .before .before .before .before .before .before .before .before .before .before .before .before .if2 .left) _ (c .before .before .before .before .before .before .before .before .before .before .before .before .before .before .before .before .before .before .before .before .before .before .if3 .left) refl _ _ _ (gives-at (a .work .now) (c .before .before .before .before .before .before .before .before .before .before .before .before .before .before .before .before .build-part .last .0) (a .top) (a .fuel - 1) (a .env .now) (a .w) (c .before .before .before .before .before .before .before .before .before .before .before .before .before .before .before .before .before .before .reference2 .result) _ _ _ (c .before .before .before .before .before .before .before .before .before .before .before .before .tail .given .1) (c .before .before .before .before .before .before .before .before .before .before .before .before .before .before .before .before .build-part .ensures)) (c .before .before .before .before .before .before .before .before .before .before .before .before .before .before .before .before .build-part .kept .0) _ _ _ (gives-at (c .before .before .before .before .before .before .before .before .before .before .before .before .before .before .before .before .build-part .last .0) (c .before .before .before .before .before .before .before .before .before .build-part2 .last .0) _ _ (a .env .now) (a .w) (c .before .before .before .before .before .before .before .before .before .before .before .before .before .before .before .before .before .before .before .before .reference .result) _ _ _ (c .before .before .before .before .before .head .given .1) (c .before .before .before .before .before .before .before .before .before .build-part2 .ensures)) _ _ (c .before .before .put-pair .ensures)
+    let a = c .before .before .before .before .before .before .before .before .before .before .before .before .before .before .before .before .before .before .before .before .before .before .before .before .before .before .before .before .before .args in made-packed (a .work .now) _ (a .top) (a .fuel) (a .env .now) (a .w) (a .t) _ _ _ (c .before .before .before .before .before .before .before .before .before .before .before .before .before .before .before .before .before .before .before .before .before .before .before .before .before .before .before .before .before .pre .1) (c .pair .ensures) (made-pair (a .work .now) (a .top) (a .fuel) (a .env .now) (a .w) (a .t) _ (c .before .before .before .before .before .before .before .before .before .before .before .before .before .before .before .before .before .before .before .before .before .before .before .before .before .before .word .ensures) (c .before .before .before .before .before .before .before .before .before .before .before .before .before .before .before .before .before .before .before .before .before .before .before .before .before .before .before .before .before .pre .1) _ _ (c .before .before .before .before .before .before .before .before .before .before .before .before .before .before .before .before .before .before .before .before .before .reference .ensures) (c .before .before .before .before .before .before .before .before .before .before .before .before .before .before .before .before .before .before .before .reference2 .ensures) (c .before .before .before .before .before .before .before .before .before .before .before .before .before .before .before .before .before .before .before .before .before .before .before .before .if2 .left) _ (c .before .before .before .before .before .before .before .before .before .before .before .before .before .before .before .before .before .before .before .before .before .before .before .if3 .left) refl _ _ _ (gives-at (a .work .now) (c .before .before .before .before .before .before .before .before .before .before .before .before .before .before .before .before .before .build-part .last .0) (a .top) (a .fuel - 1) (a .env .now) (a .w) (c .before .before .before .before .before .before .before .before .before .before .before .before .before .before .before .before .before .before .before .reference2 .result) _ _ _ (built-some _ _ _ (c .before .before .before .before .before .before .before .before .before .before .before .before .before .before .if4 .left) (c .before .before .before .before .before .before .before .before .before .before .before .before .before .high .ensures) (c .before .before .before .before .before .before .before .before .before .before .before .low .ensures)) (c .before .before .before .before .before .before .before .before .before .before .before .before .before .before .before .before .before .build-part .ensures)) (c .before .before .before .before .before .before .before .before .before .before .before .before .before .before .before .before .before .build-part .kept .0) _ _ _ (gives-at (c .before .before .before .before .before .before .before .before .before .before .before .before .before .before .before .before .before .build-part .last .0) (c .before .before .before .before .before .before .before .before .before .before .build-part2 .last .0) _ _ (a .env .now) (a .w) (c .before .before .before .before .before .before .before .before .before .before .before .before .before .before .before .before .before .before .before .before .before .reference .result) _ _ _ (built-some _ _ _ (c .before .before .before .before .before .before .before .if5 .left) (c .before .before .before .before .before .before .high2 .ensures) (c .before .low2 .ensures)) (c .before .before .before .before .before .before .before .before .before .before .build-part2 .ensures)) _ _ (c .before .before .before .before .put-pair .ensures))
 
 abbrev build-backwards-Inv-loop : build-backwards-lts.InvT-loop
 build-backwards-Inv-loop work₀ top fuel env w e c moving table₀ list₀ left₀ k₀ work table list left k =
@@ -292,6 +294,7 @@ build-backwards-same-length t c =
     c .before .before .loop .inv .long
 
 build-backwards-returns : (t : ℕ) → build-backwards-lts.Need-returns (build-backwards-claims t) (build-backwards-at t) build-backwards.Post build-backwards-Inv-loop build-backwards-μ-loop
+unfolding builtOf
 build-backwards-returns t c =
     let a = c .before .before .before .before .before .before .args in copies-none (a .work .now) (a .top) (a .fuel) (a .env .now) (a .w) (a .e) (a .c) (c .before .before .before .before .before .before .pre .1) _ _ _ _ _ (c .before .before .loop .inv) (c .before .loop-test .taken) (c .if1 .taken)
 
@@ -310,25 +313,26 @@ build-backwards-build-part-requires : (t : ℕ) → build-backwards-lts.Need-bui
 build-backwards-build-part-requires t c κs =
     let a = c .before .before .before .before .before .before .before .before .before .before .before .args in (omega (arith, c .before .before .before .before .before .before .before .before .before .before .before .pre .0), copy-buildable (a .work .now) (a .top) (a .fuel) (a .env .now) (a .w) (a .e) (a .c) (c .before .before .before .before .before .before .before .before .before .before .before .pre .1) _ _ _ _ _ (c .before .before .before .before .before .before .before .loop .inv) (c .before .before .before .before .before .before .loop-test .taken) (c .before .before .before .before .before .if1 .left) _ (c .before .before .enter .ensures))
 
-build-backwards-enum-known-head : (t : ℕ) → build-backwards-lts.Need-enum-known-head (build-backwards-claims t) (build-backwards-at t) build-backwards.Post build-backwards-Inv-loop build-backwards-μ-loop
-build-backwards-enum-known-head t c =
-    search needs
-
-build-backwards-enum-told : (t : ℕ) → build-backwards-lts.Need-enum-told (build-backwards-claims t) (build-backwards-at t) build-backwards.Post build-backwards-Inv-loop build-backwards-μ-loop
-build-backwards-enum-told t c =
-    search needs
-
 build-backwards-same-length-2 : (t : ℕ) → build-backwards-lts.Need-same-length-2 (build-backwards-claims t) (build-backwards-at t) build-backwards.Post build-backwards-Inv-loop build-backwards-μ-loop
 build-backwards-same-length-2 t c =
-    c .before .before .before .before .build-part .kept .0 ∙ c .before .before .before .before .before .before .before .before .before .before .before .before .loop .inv .long
+    c .before .before .before .build-part .kept .0 ∙ c .before .before .before .before .before .before .before .before .before .before .before .loop .inv .long
 
 build-backwards-returns-2 : (t : ℕ) → build-backwards-lts.Need-returns-2 (build-backwards-claims t) (build-backwards-at t) build-backwards.Post build-backwards-Inv-loop build-backwards-μ-loop
+unfolding builtOf
 build-backwards-returns-2 t c =
-    let a = c .before .before .before .before .before .before .before .before .before .before .before .before .before .before .before .before .args in copy-costly (a .work .now) (a .top) (a .fuel) (a .env .now) (a .w) (a .e) (a .c) (c .before .before .before .before .before .before .before .before .before .before .before .before .before .before .before .before .pre .1) _ _ _ _ _ (c .before .before .before .before .before .before .before .before .before .before .before .before .loop .inv) (c .before .before .before .before .before .before .before .before .before .before .before .loop-test .taken) (c .before .before .before .before .before .before .before .before .before .before .if1 .left) _ (c .before .before .before .before .before .before .before .enter .ensures) _ (stops-at (c .before .before .before .before .before .before .before .before .before .before .before .before .loop .work) (c .before .before .before .before .build-part .last .0) (c .before .before .before .before .before .before .before .before .before .before .before .before .loop .list) (c .before .before .before .before .before .before .before .before .before .before .before .before .loop .left - 1) (c .before .before .before .before .before .before .before .enter .last .1 .0) (a .w) (a .e) _ (c .enum-told .given .1) (c .before .before .before .before .build-part .ensures))
+    let a = c .before .before .before .before .before .before .before .before .before .before .before .before .before .before .before .args in copy-costly (a .work .now) (a .top) (a .fuel) (a .env .now) (a .w) (a .e) (a .c) (c .before .before .before .before .before .before .before .before .before .before .before .before .before .before .before .pre .1) _ _ _ _ _ (c .before .before .before .before .before .before .before .before .before .before .before .loop .inv) (c .before .before .before .before .before .before .before .before .before .before .loop-test .taken) (c .before .before .before .before .before .before .before .before .before .if1 .left) _ (c .before .before .before .before .before .before .enter .ensures) _ (stops-at (c .before .before .before .before .before .before .before .before .before .before .before .loop .work) (c .before .before .before .build-part .last .0) (c .before .before .before .before .before .before .before .before .before .before .before .loop .list) (c .before .before .before .before .before .before .before .before .before .before .before .loop .left - 1) (c .before .before .before .before .before .before .enter .last .1 .0) (a .w) (a .e) _ (built-none _ (c .if2 .taken)) (c .before .before .before .build-part .ensures))
+
+build-backwards-high-requires : (t : ℕ) → build-backwards-lts.Need-high-requires (build-backwards-claims t) (build-backwards-at t) build-backwards.Post build-backwards-Inv-loop build-backwards-μ-loop
+build-backwards-high-requires t c κs =
+    search needs
 
 build-backwards-put-pair-requires : (t : ℕ) → build-backwards-lts.Need-put-pair-requires (build-backwards-claims t) (build-backwards-at t) build-backwards.Post build-backwards-Inv-loop build-backwards-μ-loop
 build-backwards-put-pair-requires t c κs =
-    let a = c .before .before .before .before .before .before .before .before .before .before .before .before .before .before .before .before .before .before .args in let b = gives-at (c .before .before .before .before .before .before .before .before .before .before .before .before .before .before .loop .work) (c .before .before .before .before .before .before .build-part .last .0) (c .before .before .before .before .before .before .before .before .before .before .before .before .before .before .loop .list) (c .before .before .before .before .before .before .before .before .before .before .before .before .before .before .loop .left - 1) (c .before .before .before .before .before .before .before .before .before .enter .last .1 .0) (a .w) (a .e) _ _ _ (c .before .before .head .given .1) (c .before .before .before .before .before .before .build-part .ensures) in (copy-room (a .work .now) (a .top) (a .fuel) (a .env .now) (a .w) (a .e) (a .c) (c .before .before .before .before .before .before .before .before .before .before .before .before .before .before .before .before .before .before .pre .1) _ _ _ _ _ (c .before .before .before .before .before .before .before .before .before .before .before .before .before .before .loop .inv) (c .before .before .before .before .before .before .before .before .before .before .before .before .before .loop-test .taken) (c .before .before .before .before .before .before .before .before .before .before .before .before .if1 .left) _ (c .before .before .before .before .before .before .before .before .before .enter .ensures) _ _ _ b (c .before .before .before .before .before .before .build-part .kept .0), omega arith, b .paid .above)
+    let a = c .before .before .before .before .before .before .before .before .before .before .before .before .before .before .before .before .before .args in let b = gives-at (c .before .before .before .before .before .before .before .before .before .before .before .before .before .loop .work) (c .before .before .before .before .before .build-part .last .0) (c .before .before .before .before .before .before .before .before .before .before .before .before .before .loop .list) (c .before .before .before .before .before .before .before .before .before .before .before .before .before .loop .left - 1) (c .before .before .before .before .before .before .before .before .enter .last .1 .0) (a .w) (a .e) _ _ _ (built-some _ _ _ (c .before .before .if2 .left) (c .before .high .ensures) refl) (c .before .before .before .before .before .build-part .ensures) in (copy-room (a .work .now) (a .top) (a .fuel) (a .env .now) (a .w) (a .e) (a .c) (c .before .before .before .before .before .before .before .before .before .before .before .before .before .before .before .before .before .pre .1) _ _ _ _ _ (c .before .before .before .before .before .before .before .before .before .before .before .before .before .loop .inv) (c .before .before .before .before .before .before .before .before .before .before .before .before .loop-test .taken) (c .before .before .before .before .before .before .before .before .before .before .before .if1 .left) _ (c .before .before .before .before .before .before .before .before .enter .ensures) _ _ _ b (c .before .before .before .before .before .build-part .kept .0), omega arith, b .paid .above)
+
+build-backwards-low-requires : (t : ℕ) → build-backwards-lts.Need-low-requires (build-backwards-claims t) (build-backwards-at t) build-backwards.Post build-backwards-Inv-loop build-backwards-μ-loop
+build-backwards-low-requires t c κs =
+    search needs
 
 build-backwards-add-k : (t : ℕ) → build-backwards-lts.Need-add-k (build-backwards-claims t) (build-backwards-at t) build-backwards.Post build-backwards-Inv-loop build-backwards-μ-loop
 build-backwards-add-k t c =
@@ -340,47 +344,56 @@ build-backwards-loop-less t c =
 
 build-backwards-loop-again : (t : ℕ) → build-backwards-lts.Need-loop-again (build-backwards-claims t) (build-backwards-at t) build-backwards.Post build-backwards-Inv-loop build-backwards-μ-loop
 build-backwards-loop-again t c =
-    let a = c .before .before .before .before .before .before .before .before .before .before .before .before .before .before .before .before .before .before .before .before .before .args in turning-more (a .work .now) (a .top) (a .fuel) (a .env .now) (a .w) (a .e) (a .c) (c .before .before .before .before .before .before .before .before .before .before .before .before .before .before .before .before .before .before .before .before .before .pre .1) _ _ _ _ _ (c .before .before .before .before .before .before .before .before .before .before .before .before .before .before .before .before .before .loop .inv) (c .before .before .before .before .before .before .before .before .before .before .before .before .before .before .before .before .loop-test .taken) (c .before .before .before .before .before .before .before .before .before .before .before .before .before .before .before .if1 .left) _ (c .before .before .before .before .before .before .before .before .before .before .before .before .enter .ensures) _ _ _ (gives-at (c .before .before .before .before .before .before .before .before .before .before .before .before .before .before .before .before .before .loop .work) (c .before .before .before .before .before .before .before .before .before .build-part .last .0) (c .before .before .before .before .before .before .before .before .before .before .before .before .before .before .before .before .before .loop .list) (c .before .before .before .before .before .before .before .before .before .before .before .before .before .before .before .before .before .loop .left - 1) (c .before .before .before .before .before .before .before .before .before .before .before .before .enter .last .1 .0) (a .w) (a .e) _ _ _ (c .before .before .before .before .before .head .given .1) (c .before .before .before .before .before .before .before .before .before .build-part .ensures)) (c .before .before .before .before .before .before .before .before .before .build-part .kept .0) _ _ (c .before .before .put-pair .ensures) (c .before .before .put-pair .kept .0)
+    let a = c .before .before .before .before .before .before .before .before .before .before .before .before .before .before .before .before .before .before .before .before .before .args in turning-more (a .work .now) (a .top) (a .fuel) (a .env .now) (a .w) (a .e) (a .c) (c .before .before .before .before .before .before .before .before .before .before .before .before .before .before .before .before .before .before .before .before .before .pre .1) _ _ _ _ _ (c .before .before .before .before .before .before .before .before .before .before .before .before .before .before .before .before .before .loop .inv) (c .before .before .before .before .before .before .before .before .before .before .before .before .before .before .before .before .loop-test .taken) (c .before .before .before .before .before .before .before .before .before .before .before .before .before .before .before .if1 .left) _ (c .before .before .before .before .before .before .before .before .before .before .before .before .enter .ensures) _ _ _ (gives-at (c .before .before .before .before .before .before .before .before .before .before .before .before .before .before .before .before .before .loop .work) (c .before .before .before .before .before .before .before .before .before .build-part .last .0) (c .before .before .before .before .before .before .before .before .before .before .before .before .before .before .before .before .before .loop .list) (c .before .before .before .before .before .before .before .before .before .before .before .before .before .before .before .before .before .loop .left - 1) (c .before .before .before .before .before .before .before .before .before .before .before .before .enter .last .1 .0) (a .w) (a .e) _ _ _ (built-some _ _ _ (c .before .before .before .before .before .before .if2 .left) (c .before .before .before .before .before .high .ensures) (c .low .ensures)) (c .before .before .before .before .before .before .before .before .before .build-part .ensures)) (c .before .before .before .before .before .before .before .before .before .build-part .kept .0) _ _ (c .before .before .before .put-pair .ensures) (c .before .before .before .put-pair .kept .0)
+
+build-backwards-pair-requires : (t : ℕ) → build-backwards-lts.Need-pair-requires (build-backwards-claims t) (build-backwards-at t) build-backwards.Post build-backwards-Inv-loop build-backwards-μ-loop
+build-backwards-pair-requires t c κs =
+    search needs
 
 build-backwards-same-length-3 : (t : ℕ) → build-backwards-lts.Need-same-length-3 (build-backwards-claims t) (build-backwards-at t) build-backwards.Post build-backwards-Inv-loop build-backwards-μ-loop
 build-backwards-same-length-3 t c =
-    c .before .loop .inv .long
+    c .before .before .loop .inv .long
 
 build-backwards-returns-3 : (t : ℕ) → build-backwards-lts.Need-returns-3 (build-backwards-claims t) (build-backwards-at t) build-backwards.Post build-backwards-Inv-loop build-backwards-μ-loop
 build-backwards-returns-3 t c =
-    let a = c .before .before .before .before .before .args in turning-ends (a .work .now) (a .top) (a .fuel) (a .env .now) (a .w) (a .e) (a .c) (c .before .before .before .before .before .pre .1) _ _ _ _ _ (c .before .loop .inv) (omega (arith, c .loop-test .left))
+    let a = c .before .before .before .before .before .before .args in backwards-packed (a .work .now) (a .top) (a .fuel) (a .env .now) (a .w) (a .e) (a .c) (c .before .before .before .before .before .before .pre .1) _ _ _ _ (c .pair .ensures) (turning-ends (a .work .now) (a .top) (a .fuel) (a .env .now) (a .w) (a .e) (a .c) (c .before .before .before .before .before .before .pre .1) _ _ _ _ _ (c .before .before .loop .inv) (omega (arith, c .before .loop-test .left)))
 
 build-copies-build-elements-requires : (t : ℕ) → build-copies-lts.Need-build-elements-requires (build-copies-claims t) (build-copies-at t) build-copies.Post
 build-copies-build-elements-requires t c κs =
     (omega (arith, c .before .before .pre .0), c .before .before .pre .1)
 
-build-copies-enum-known-list : (t : ℕ) → build-copies-lts.Need-enum-known-list (build-copies-claims t) (build-copies-at t) build-copies.Post
-build-copies-enum-known-list t c =
-    search needs
-
-build-copies-enum-told : (t : ℕ) → build-copies-lts.Need-enum-told (build-copies-claims t) (build-copies-at t) build-copies.Post
-build-copies-enum-told t c =
-    search needs
-
 build-copies-same-length : (t : ℕ) → build-copies-lts.Need-same-length (build-copies-claims t) (build-copies-at t) build-copies.Post
 build-copies-same-length t c =
-    c .before .before .before .before .build-elements .kept .0
+    c .before .before .before .build-elements .kept .0
 
 build-copies-returns : (t : ℕ) → build-copies-lts.Need-returns (build-copies-claims t) (build-copies-at t) build-copies.Post
+unfolding builtOf
 build-copies-returns t c =
-    let a = c .before .before .before .before .before .before .before .args in subst (Backwards (a .work .now) (c .before .before .before .before .build-elements .last .0) (a .top) (a .fuel) (a .env .now) (a .w) (a .e) (a .c)) (c .enum-told .given .1) (c .before .before .before .before .build-elements .ensures)
+    let a = c .before .before .before .before .before .before .args in subst (Backwards (a .work .now) (c .before .before .before .build-elements .last .0) (a .top) (a .fuel) (a .env .now) (a .w) (a .e) (a .c)) (built-none _ (c .if1 .taken)) (c .before .before .before .build-elements .ensures)
+
+build-copies-high-requires : (t : ℕ) → build-copies-lts.Need-high-requires (build-copies-claims t) (build-copies-at t) build-copies.Post
+build-copies-high-requires t c κs =
+    search needs
 
 build-copies-put-reversed-requires : (t : ℕ) → build-copies-lts.Need-put-reversed-requires (build-copies-claims t) (build-copies-at t) build-copies.Post
 build-copies-put-reversed-requires t c κs =
-    let a = c .before .before .before .before .before .before .before .before .before .args in reversed-asks (a .work .now) (a .top) (a .fuel) (a .env .now) (a .w) (a .e) (a .c) (c .before .before .before .before .before .before .before .before .before .pre .1) _ _ _ (subst (Backwards (a .work .now) (c .before .before .before .before .before .before .build-elements .last .0) (a .top) (a .fuel) (a .env .now) (a .w) (a .e) (a .c)) (c .before .before .list .given .1) (c .before .before .before .before .before .before .build-elements .ensures)) (c .before .before .before .before .before .before .build-elements .kept .0)
+    let a = c .before .before .before .before .before .before .before .before .args in reversed-asks (a .work .now) (a .top) (a .fuel) (a .env .now) (a .w) (a .e) (a .c) (c .before .before .before .before .before .before .before .before .pre .1) _ _ _ (subst (Backwards (a .work .now) (c .before .before .before .before .before .build-elements .last .0) (a .top) (a .fuel) (a .env .now) (a .w) (a .e) (a .c)) (built-some _ _ _ (c .before .before .if1 .left) (c .before .high .ensures) refl) (c .before .before .before .before .before .build-elements .ensures)) (c .before .before .before .before .before .build-elements .kept .0)
+
+build-copies-low-requires : (t : ℕ) → build-copies-lts.Need-low-requires (build-copies-claims t) (build-copies-at t) build-copies.Post
+build-copies-low-requires t c κs =
+    search needs
+
+build-copies-pair-requires : (t : ℕ) → build-copies-lts.Need-pair-requires (build-copies-claims t) (build-copies-at t) build-copies.Post
+build-copies-pair-requires t c κs =
+    search needs
 
 build-copies-same-length-2 : (t : ℕ) → build-copies-lts.Need-same-length-2 (build-copies-claims t) (build-copies-at t) build-copies.Post
 build-copies-same-length-2 t c =
-    c .before .before .put-reversed .kept .0 ∙ c .before .before .before .before .before .before .before .before .before .build-elements .kept .0
+    c .before .before .before .before .put-reversed .kept .0 ∙ c .before .before .before .before .before .before .before .before .before .before .build-elements .kept .0
 
 build-copies-returns-2 : (t : ℕ) → build-copies-lts.Need-returns-2 (build-copies-claims t) (build-copies-at t) build-copies.Post
 build-copies-returns-2 t c =
-    let a = c .before .before .before .before .before .before .before .before .before .before .before .before .args in copied (a .work .now) (a .top) (a .fuel) (a .env .now) (a .w) (a .e) (a .c) (c .before .before .before .before .before .before .before .before .before .before .before .before .pre .1) _ _ _ (subst (Backwards (a .work .now) (c .before .before .before .before .before .before .before .before .before .build-elements .last .0) (a .top) (a .fuel) (a .env .now) (a .w) (a .e) (a .c)) (c .before .before .before .before .before .list .given .1) (c .before .before .before .before .before .before .before .before .before .build-elements .ensures)) (c .before .before .before .before .before .before .before .before .before .build-elements .kept .0) _ _ (c .before .before .put-reversed .ensures)
+    let a = c .before .before .before .before .before .before .before .before .before .before .before .before .before .args in copied-packed (a .work .now) (a .top) (a .fuel) (a .env .now) (a .w) (a .e) (a .c) (c .before .before .before .before .before .before .before .before .before .before .before .before .before .pre .1) _ _ _ (subst (Backwards (a .work .now) (c .before .before .before .before .before .before .before .before .before .before .build-elements .last .0) (a .top) (a .fuel) (a .env .now) (a .w) (a .e) (a .c)) (built-some _ _ _ (c .before .before .before .before .before .before .before .if1 .left) (c .before .before .before .before .before .before .high .ensures) (c .before .low .ensures)) (c .before .before .before .before .before .before .before .before .before .before .build-elements .ensures)) (c .before .before .before .before .before .before .before .before .before .before .build-elements .kept .0) _ _ _ (c .pair .ensures) (c .before .before .before .before .put-reversed .ensures)
 
 build-elements-is-listed-requires : (t : ℕ) → build-elements-lts.Need-is-listed-requires (build-elements-claims t) (build-elements-at t) build-elements.Post
 build-elements-is-listed-requires t c κs =
@@ -417,7 +430,7 @@ build-elements-same-length-2 t c =
 
 build-elements-returns-2 : (t : ℕ) → build-elements-lts.Need-returns-2 (build-elements-claims t) (build-elements-at t) build-elements.Post
 build-elements-returns-2 t c =
-    let a = c .before .before .before .before .before .before .before .before .before .before .before .args in listed-backwards (a .work .now) (a .top) (a .fuel) (a .env .now) (a .w) (a .e) (a .c) (c .before .before .before .before .before .before .before .before .before .before .before .pre .1) (c .before .before .before .before .before .before .before .before .is-listed .ensures (not-false _ (c .before .before .before .before .before .before .before .if1 .left))) _ _ (c .before .before .before .before .before .word .ensures) (c .before .before .before .before .taken .ensures) (c .before .before .copy-elements .last .0) (c .before .before .copy-elements .result) (c .before .before .copy-elements .ensures)
+    let a = c .before .before .before .before .before .before .before .before .before .before .before .args in listed-backwards (a .work .now) (a .top) (a .fuel) (a .env .now) (a .w) (a .e) (a .c) (c .before .before .before .before .before .before .before .before .before .before .before .pre .1) (c .before .before .before .before .before .before .before .before .is-listed .ensures (not-false _ (c .before .before .before .before .before .before .before .if1 .left))) _ _ (c .before .before .before .before .before .word .ensures) (c .before .before .before .before .taken .ensures) (c .before .before .copy-elements .last .0) (builtOf (c .before .before .copy-elements .result)) (c .before .before .copy-elements .ensures)
 
 build-ellipsis-reference-requires : (t : ℕ) → build-ellipsis-lts.Need-reference-requires (build-ellipsis-claims t) (build-ellipsis-at t) build-ellipsis.Post
 build-ellipsis-reference-requires t c κs =
@@ -440,6 +453,7 @@ build-ellipsis-same-length t c =
     search needs
 
 build-ellipsis-returns : (t : ℕ) → build-ellipsis-lts.Need-returns (build-ellipsis-claims t) (build-ellipsis-at t) build-ellipsis.Post
+unfolding builtOf
 build-ellipsis-returns t c =
     let a = c .before .before .before .before .before .before .before .before .before .before .args in ellipsis-differs (a .work .now) (a .top) (a .fuel) (a .env .now) (a .w) (a .t) _ refl (c .before .before .before .before .before .before .before .before .before .before .pre .1 .0) _ _ (c .before .before .before .before .before .before .before .reference .ensures) (c .before .before .before .before .before .reference2 .ensures) (c .before .before .before .before .before .before .before .before .before .before .pre .1 .1) _ (c .before .before .before .copies .ensures) _ (c .before .one-length .ensures) (not-true _ (c .if1 .taken))
 
@@ -447,25 +461,26 @@ build-ellipsis-build-part-requires : (t : ℕ) → build-ellipsis-lts.Need-build
 build-ellipsis-build-part-requires t c κs =
     let a = c .before .before .before .before .before .before .before .before .before .before .before .args in let l = tag-falls (a .work .now) (a .t) _ refl 2 _ (λ z. omega (arith, c .before .before .before .before .before .before .before .before .before .before .before .pre .1 .1)) (c .before .before .before .before .before .before .reference2 .ensures) in (omega (arith, l, c .before .before .before .before .before .before .before .before .before .before .before .pre .0), ellipsis-rest (a .work .now) (a .top) (a .fuel) (a .env .now) (a .w) (a .t) _ refl (c .before .before .before .before .before .before .before .before .before .before .before .pre .1 .0) _ _ (c .before .before .before .before .before .before .before .before .reference .ensures) (c .before .before .before .before .before .before .reference2 .ensures) (c .before .before .before .before .before .before .before .before .before .before .before .pre .1 .1) _ (c .before .before .before .before .copies .ensures) _ (c .before .before .one-length .ensures))
 
-build-ellipsis-enum-known-tail : (t : ℕ) → build-ellipsis-lts.Need-enum-known-tail (build-ellipsis-claims t) (build-ellipsis-at t) build-ellipsis.Post
-build-ellipsis-enum-known-tail t c =
-    search needs
-
-build-ellipsis-enum-told : (t : ℕ) → build-ellipsis-lts.Need-enum-told (build-ellipsis-claims t) (build-ellipsis-at t) build-ellipsis.Post
-build-ellipsis-enum-told t c =
-    search needs
-
 build-ellipsis-same-length-2 : (t : ℕ) → build-ellipsis-lts.Need-same-length-2 (build-ellipsis-claims t) (build-ellipsis-at t) build-ellipsis.Post
 build-ellipsis-same-length-2 t c =
-    c .before .before .before .before .build-part .kept .0
+    c .before .before .before .build-part .kept .0
 
 build-ellipsis-returns-2 : (t : ℕ) → build-ellipsis-lts.Need-returns-2 (build-ellipsis-claims t) (build-ellipsis-at t) build-ellipsis.Post
+unfolding builtOf
 build-ellipsis-returns-2 t c =
-    let a = c .before .before .before .before .before .before .before .before .before .before .before .before .before .before .before .before .args in ellipsis-rest-costly (a .work .now) (a .top) (a .fuel) (a .env .now) (a .w) (a .t) _ refl (c .before .before .before .before .before .before .before .before .before .before .before .before .before .before .before .before .pre .1 .0) _ _ (c .before .before .before .before .before .before .before .before .before .before .before .before .before .reference .ensures) (c .before .before .before .before .before .before .before .before .before .before .before .reference2 .ensures) (c .before .before .before .before .before .before .before .before .before .before .before .before .before .before .before .before .pre .1 .1) _ (c .before .before .before .before .before .before .before .before .before .copies .ensures) _ (c .before .before .before .before .before .before .before .one-length .ensures) _ (stops-at (a .work .now) (c .before .before .before .before .build-part .last .0) (a .top) (a .fuel) (a .env .now) (a .w) (c .before .before .before .before .before .before .before .before .before .before .before .reference2 .result) _ (c .enum-told .given .1) (c .before .before .before .before .build-part .ensures))
+    let a = c .before .before .before .before .before .before .before .before .before .before .before .before .before .before .before .args in ellipsis-rest-costly (a .work .now) (a .top) (a .fuel) (a .env .now) (a .w) (a .t) _ refl (c .before .before .before .before .before .before .before .before .before .before .before .before .before .before .before .pre .1 .0) _ _ (c .before .before .before .before .before .before .before .before .before .before .before .before .reference .ensures) (c .before .before .before .before .before .before .before .before .before .before .reference2 .ensures) (c .before .before .before .before .before .before .before .before .before .before .before .before .before .before .before .pre .1 .1) _ (c .before .before .before .before .before .before .before .before .copies .ensures) _ (c .before .before .before .before .before .before .one-length .ensures) _ (stops-at (a .work .now) (c .before .before .before .build-part .last .0) (a .top) (a .fuel) (a .env .now) (a .w) (c .before .before .before .before .before .before .before .before .before .before .reference2 .result) _ (built-none _ (c .if2 .taken)) (c .before .before .before .build-part .ensures))
+
+build-ellipsis-high-requires : (t : ℕ) → build-ellipsis-lts.Need-high-requires (build-ellipsis-claims t) (build-ellipsis-at t) build-ellipsis.Post
+build-ellipsis-high-requires t c κs =
+    search needs
+
+build-ellipsis-low-requires : (t : ℕ) → build-ellipsis-lts.Need-low-requires (build-ellipsis-claims t) (build-ellipsis-at t) build-ellipsis.Post
+build-ellipsis-low-requires t c κs =
+    search needs
 
 build-ellipsis-build-copies-requires : (t : ℕ) → build-ellipsis-lts.Need-build-copies-requires (build-ellipsis-claims t) (build-ellipsis-at t) build-ellipsis.Post
 build-ellipsis-build-copies-requires t c κs =
-    let a = c .before .before .before .before .before .before .before .before .before .before .before .before .before .before .before .before .before .before .args in let l = tag-falls (a .work .now) (a .t) _ refl 3 _ (λ z. omega (arith, c .before .before .before .before .before .before .before .before .before .before .before .before .before .before .before .before .before .before .pre .1 .1)) (c .before .before .before .before .before .before .before .before .before .before .before .before .before .before .before .reference .ensures) in (omega (arith, l, c .before .before .before .before .before .before .before .before .before .before .before .before .before .before .before .before .before .before .pre .0), ellipsis-copies (a .work .now) (a .top) (a .fuel) (a .env .now) (a .w) (a .t) _ refl (c .before .before .before .before .before .before .before .before .before .before .before .before .before .before .before .before .before .before .pre .1 .0) _ _ (c .before .before .before .before .before .before .before .before .before .before .before .before .before .before .before .reference .ensures) (c .before .before .before .before .before .before .before .before .before .before .before .before .before .reference2 .ensures) (c .before .before .before .before .before .before .before .before .before .before .before .before .before .before .before .before .before .before .pre .1 .1) _ (c .before .before .before .before .before .before .before .before .before .before .before .copies .ensures) _ (c .before .before .before .before .before .before .before .before .before .one-length .ensures) (not-false _ (c .before .before .before .before .before .before .before .before .if1 .left)) _ _ _ (gives-at (a .work .now) (c .before .before .before .before .before .before .build-part .last .0) (a .top) (a .fuel) (a .env .now) (a .w) (c .before .before .before .before .before .before .before .before .before .before .before .before .before .reference2 .result) _ _ _ (c .before .before .tail .given .1) (c .before .before .before .before .before .before .build-part .ensures)) (c .before .before .before .before .before .before .build-part .kept .0))
+    let a = c .before .before .before .before .before .before .before .before .before .before .before .before .before .before .before .before .before .before .args in let l = tag-falls (a .work .now) (a .t) _ refl 3 _ (λ z. omega (arith, c .before .before .before .before .before .before .before .before .before .before .before .before .before .before .before .before .before .before .pre .1 .1)) (c .before .before .before .before .before .before .before .before .before .before .before .before .before .before .before .reference .ensures) in (omega (arith, l, c .before .before .before .before .before .before .before .before .before .before .before .before .before .before .before .before .before .before .pre .0), ellipsis-copies (a .work .now) (a .top) (a .fuel) (a .env .now) (a .w) (a .t) _ refl (c .before .before .before .before .before .before .before .before .before .before .before .before .before .before .before .before .before .before .pre .1 .0) _ _ (c .before .before .before .before .before .before .before .before .before .before .before .before .before .before .before .reference .ensures) (c .before .before .before .before .before .before .before .before .before .before .before .before .before .reference2 .ensures) (c .before .before .before .before .before .before .before .before .before .before .before .before .before .before .before .before .before .before .pre .1 .1) _ (c .before .before .before .before .before .before .before .before .before .before .before .copies .ensures) _ (c .before .before .before .before .before .before .before .before .before .one-length .ensures) (not-false _ (c .before .before .before .before .before .before .before .before .if1 .left)) _ _ _ (gives-at (a .work .now) (c .before .before .before .before .before .before .build-part .last .0) (a .top) (a .fuel) (a .env .now) (a .w) (c .before .before .before .before .before .before .before .before .before .before .before .before .before .reference2 .result) _ _ _ (built-some _ _ _ (c .before .before .before .if2 .left) (c .before .high .ensures) (c .low .ensures)) (c .before .before .before .before .before .before .build-part .ensures)) (c .before .before .before .before .before .before .build-part .kept .0))
 
 build-ellipsis-same-length-3 : (t : ℕ) → build-ellipsis-lts.Need-same-length-3 (build-ellipsis-claims t) (build-ellipsis-at t) build-ellipsis.Post
 build-ellipsis-same-length-3 t c =
@@ -473,7 +488,7 @@ build-ellipsis-same-length-3 t c =
 
 build-ellipsis-returns-3 : (t : ℕ) → build-ellipsis-lts.Need-returns-3 (build-ellipsis-claims t) (build-ellipsis-at t) build-ellipsis.Post
 build-ellipsis-returns-3 t c =
-    let a = c .before .before .before .before .before .before .before .before .before .before .before .before .before .before .before .before .before .before .before .before .before .args in made-copies (a .work .now) (a .top) (a .fuel) (a .env .now) (a .w) (a .t) _ refl (c .before .before .before .before .before .before .before .before .before .before .before .before .before .before .before .before .before .before .before .before .before .pre .1 .0) _ _ (c .before .before .before .before .before .before .before .before .before .before .before .before .before .before .before .before .before .before .reference .ensures) (c .before .before .before .before .before .before .before .before .before .before .before .before .before .before .before .before .reference2 .ensures) (c .before .before .before .before .before .before .before .before .before .before .before .before .before .before .before .before .before .before .before .before .before .pre .1 .1) _ (c .before .before .before .before .before .before .before .before .before .before .before .before .before .before .copies .ensures) _ (c .before .before .before .before .before .before .before .before .before .before .before .before .one-length .ensures) (not-false _ (c .before .before .before .before .before .before .before .before .before .before .before .if1 .left)) _ _ _ (gives-at (a .work .now) (c .before .before .before .before .before .before .before .before .before .build-part .last .0) (a .top) (a .fuel) (a .env .now) (a .w) (c .before .before .before .before .before .before .before .before .before .before .before .before .before .before .before .before .reference2 .result) _ _ _ (c .before .before .before .before .before .tail .given .1) (c .before .before .before .before .before .before .before .before .before .build-part .ensures)) (c .before .before .before .before .before .before .before .before .before .build-part .kept .0) (c .before .before .build-copies .last .0) (c .before .before .build-copies .result) (c .before .before .build-copies .ensures)
+    let a = c .before .before .before .before .before .before .before .before .before .before .before .before .before .before .before .before .before .before .before .before .before .args in made-copies (a .work .now) (a .top) (a .fuel) (a .env .now) (a .w) (a .t) _ refl (c .before .before .before .before .before .before .before .before .before .before .before .before .before .before .before .before .before .before .before .before .before .pre .1 .0) _ _ (c .before .before .before .before .before .before .before .before .before .before .before .before .before .before .before .before .before .before .reference .ensures) (c .before .before .before .before .before .before .before .before .before .before .before .before .before .before .before .before .reference2 .ensures) (c .before .before .before .before .before .before .before .before .before .before .before .before .before .before .before .before .before .before .before .before .before .pre .1 .1) _ (c .before .before .before .before .before .before .before .before .before .before .before .before .before .before .copies .ensures) _ (c .before .before .before .before .before .before .before .before .before .before .before .before .one-length .ensures) (not-false _ (c .before .before .before .before .before .before .before .before .before .before .before .if1 .left)) _ _ _ (gives-at (a .work .now) (c .before .before .before .before .before .before .before .before .before .build-part .last .0) (a .top) (a .fuel) (a .env .now) (a .w) (c .before .before .before .before .before .before .before .before .before .before .before .before .before .before .before .before .reference2 .result) _ _ _ (built-some _ _ _ (c .before .before .before .before .before .before .if2 .left) (c .before .before .before .before .high .ensures) (c .before .before .before .low .ensures)) (c .before .before .before .before .before .before .before .before .before .build-part .ensures)) (c .before .before .before .before .before .before .before .before .before .build-part .kept .0) (c .before .before .build-copies .last .0) (builtOf (c .before .before .build-copies .result)) (c .before .before .build-copies .ensures)
 
 build-part-word-requires : (t : ℕ) → build-part-lts.Need-word-requires (build-part-claims t) (build-part-at t) build-part.Post
 build-part-word-requires t c κs =
@@ -530,11 +545,9 @@ pub +build+build-backwards+build-copies+build-elements+build-ellipsis+build-part
     build.Post
     (build-word-requires t)
     (build-build-ellipsis-requires t)
-    (build-again-requires t)
     (build-same-length t)
     (build-returns t)
     (build-build-leaf-requires t)
-    (build-again-requires-2 t)
     (build-same-length-2 t)
     (build-returns-2 t)
     (build-same-length-3 t)
@@ -543,16 +556,17 @@ pub +build+build-backwards+build-copies+build-elements+build-ellipsis+build-part
     (build-reference-requires-2 t)
     (build-sub-build-part t)
     (build-build-part-requires t)
-    (build-enum-known-tail t)
-    (build-enum-told t)
     (build-same-length-4 t)
     (build-returns-4 t)
+    (build-high-requires t)
+    (build-low-requires t)
     (build-build-part-requires-2 t)
-    (build-enum-known-head t)
-    (build-enum-told-2 t)
     (build-same-length-5 t)
     (build-returns-5 t)
+    (build-high-requires-2 t)
     (build-put-pair-requires t)
+    (build-low-requires-2 t)
+    (build-pair-requires t)
     (build-same-length-6 t)
     (build-returns-6 t))
     (λ t. build-backwards-lts.spec (build-backwards-claims t)
@@ -567,25 +581,27 @@ pub +build+build-backwards+build-copies+build-elements+build-ellipsis+build-part
     (build-backwards-enter-requires t)
     (build-backwards-sub-build-part t)
     (build-backwards-build-part-requires t)
-    (build-backwards-enum-known-head t)
-    (build-backwards-enum-told t)
     (build-backwards-same-length-2 t)
     (build-backwards-returns-2 t)
+    (build-backwards-high-requires t)
     (build-backwards-put-pair-requires t)
+    (build-backwards-low-requires t)
     (build-backwards-add-k t)
     (build-backwards-loop-less t)
     (build-backwards-loop-again t)
+    (build-backwards-pair-requires t)
     (build-backwards-same-length-3 t)
     (build-backwards-returns-3 t))
     (λ t. build-copies-lts.spec (build-copies-claims t)
     (build-copies-at t)
     build-copies.Post
     (build-copies-build-elements-requires t)
-    (build-copies-enum-known-list t)
-    (build-copies-enum-told t)
     (build-copies-same-length t)
     (build-copies-returns t)
+    (build-copies-high-requires t)
     (build-copies-put-reversed-requires t)
+    (build-copies-low-requires t)
+    (build-copies-pair-requires t)
     (build-copies-same-length-2 t)
     (build-copies-returns-2 t))
     (λ t. build-elements-lts.spec (build-elements-claims t)
@@ -610,10 +626,10 @@ pub +build+build-backwards+build-copies+build-elements+build-ellipsis+build-part
     (build-ellipsis-same-length t)
     (build-ellipsis-returns t)
     (build-ellipsis-build-part-requires t)
-    (build-ellipsis-enum-known-tail t)
-    (build-ellipsis-enum-told t)
     (build-ellipsis-same-length-2 t)
     (build-ellipsis-returns-2 t)
+    (build-ellipsis-high-requires t)
+    (build-ellipsis-low-requires t)
     (build-ellipsis-build-copies-requires t)
     (build-ellipsis-same-length-3 t)
     (build-ellipsis-returns-3 t))

@@ -11,16 +11,18 @@ use Rattle.steps.proofs.copy.+copy_part+copy_tree.Lts-copy_tree as copy
 use Rattle.arena.proofs.cells.put_pair.Reads as put-pair-reads
 use Rattle.arena.proofs.cells.reference.Reads as reference-reads
 use Rattle.arena.proofs.cells.word.Reads as word-reads
-use Rattle.steps.proofs.build.again.Reads as again-reads
+use Rattle.words.proofs.packed.high.Reads as high-reads
+use Rattle.words.proofs.packed.low.Reads as low-reads
+use Rattle.words.proofs.packed.pair.Reads as pair-reads
 use Rattle.steps.proofs.copy.copy_leaf.Reads as copy-leaf-reads
 use Rattle.steps.proofs.copy.+copy_part+copy_tree.{statement}
 use Rattle.steps.proofs.copy.+copy_part+copy_tree.Tie.{close}
 use borrow.Author.Needs.{needs}
 use Rattle.arena.specs.ListLaws.{pair-falls}
-use Rattle.steps.specs.Build.{Pays}
-use Rattle.steps.specs.BuildLaws.{Whole, paid-at, unpaid-at, unpaid-none, waiting-tail, waiting-head, copied-tail-costly, copied-head-costly, copied-room, copied-pair}
+use Rattle.steps.specs.Built.{builtOf, built-none, built-some}
+use Rattle.steps.specs.BuildLaws.{Whole, paid-at, pays-packed, unpaid-at, unpaid-none, waiting-tail, waiting-head, copied-tail-costly, copied-head-costly, copied-room, copied-pair}
 use native.Mathlib.Omega.{arith}
-use mathlib.Core.Path.{refl, sym, subst, _∙_}
+use mathlib.Core.Path.{refl, sym, _∙_}
 
 abbrev μ-copy-part : Measures 1 copy-part-kinds.ps ℕ
 μ-copy-part κs a =
@@ -79,7 +81,7 @@ copy-part-returns-2 t c =
     c .before .before .copy-leaf .ensures
 
 abbrev copy-tree-claims : ℕ → copy-tree-lts.Claims
-copy-tree-claims t = (word-reads.Asked, word-reads.Learnt, copy-leaf-reads.Asked, copy-leaf-reads.Learnt, again-reads.Asked, again-reads.Learnt, reference-reads.Asked, reference-reads.Learnt, copy-part-below t, copy-part.Post, put-pair-reads.Asked, put-pair-reads.Learnt)
+copy-tree-claims t = (word-reads.Asked, word-reads.Learnt, copy-leaf-reads.Asked, copy-leaf-reads.Learnt, reference-reads.Asked, reference-reads.Learnt, copy-part-below t, copy-part.Post, high-reads.Asked, high-reads.Learnt, low-reads.Asked, low-reads.Learnt, put-pair-reads.Asked, put-pair-reads.Learnt, pair-reads.Asked, pair-reads.Learnt)
 
 copy-tree-word-requires : (t : ℕ) → copy-tree-lts.Need-word-requires (copy-tree-claims t) (copy-tree-at t) copy-tree.Post
 copy-tree-word-requires t c κs = search needs
@@ -91,23 +93,19 @@ copy-tree-copy-leaf-requires t c κs =
     let if1 = c .before .if1 in
     (pre .1, λ z. if1 .taken (word .ensures ∙ z))
 
-copy-tree-again-requires : (t : ℕ) → copy-tree-lts.Need-again-requires (copy-tree-claims t) (copy-tree-at t) copy-tree.Post
-copy-tree-again-requires t c κs = search needs
-
 copy-tree-same-length : (t : ℕ) → copy-tree-lts.Need-same-length (copy-tree-claims t) (copy-tree-at t) copy-tree.Post
 copy-tree-same-length t c =
-    c .before .before .before .copy-leaf .kept .0
+    c .before .before .copy-leaf .kept .0
 
 copy-tree-returns : (t : ℕ) → copy-tree-lts.Need-returns (copy-tree-claims t) (copy-tree-at t) copy-tree.Post
 copy-tree-returns t c =
-    let a = c .before .before .before .before .before .before .before .before .before .args in
-    let copy-leaf = c .before .before .before .copy-leaf in
-    subst (Pays (Whole (a .work .now) (a .node) (a .w)) (a .work .now) (copy-leaf .last .0) (a .top) (a .fuel)) (sym (c .again .ensures)) (copy-leaf .ensures)
+    c .before .before .copy-leaf .ensures
 
 copy-tree-same-length-2 : (t : ℕ) → copy-tree-lts.Need-same-length-2 (copy-tree-claims t) (copy-tree-at t) copy-tree.Post
 copy-tree-same-length-2 t c = search needs
 
 copy-tree-returns-2 : (t : ℕ) → copy-tree-lts.Need-returns-2 (copy-tree-claims t) (copy-tree-at t) copy-tree.Post
+unfolding builtOf
 copy-tree-returns-2 t c =
     let a = c .before .before .before .before .before .args in
     unpaid-none (Whole (a .work .now) (a .node) (a .w)) (a .work .now) (a .top) (a .fuel) (c .if2 .taken)
@@ -135,29 +133,30 @@ copy-tree-copy-part-requires t c κs =
       waiting-tail (a .work .now) (a .top) (a .fuel) (a .node) (a .w) _ (if2 .left) refl _ (word .ensures) _ _ (if1 .left) (reference .ensures) (reference2 .ensures) (pre .1),
     )
 
-copy-tree-enum-known-tail : (t : ℕ) → copy-tree-lts.Need-enum-known-tail (copy-tree-claims t) (copy-tree-at t) copy-tree.Post
-copy-tree-enum-known-tail t c = search needs
-
-copy-tree-enum-told : (t : ℕ) → copy-tree-lts.Need-enum-told (copy-tree-claims t) (copy-tree-at t) copy-tree.Post
-copy-tree-enum-told t c = search needs
-
 copy-tree-same-length-3 : (t : ℕ) → copy-tree-lts.Need-same-length-3 (copy-tree-claims t) (copy-tree-at t) copy-tree.Post
 copy-tree-same-length-3 t c =
-    c .before .before .before .before .copy-part .kept .0
+    c .before .before .before .copy-part .kept .0
 
 copy-tree-returns-3 : (t : ℕ) → copy-tree-lts.Need-returns-3 (copy-tree-claims t) (copy-tree-at t) copy-tree.Post
+unfolding builtOf
 copy-tree-returns-3 t c =
-    let entry = c .before .before .before .before .before .before .before .before .before .before .before .before .before .before .before in
+    let entry = c .before .before .before .before .before .before .before .before .before .before .before .before .before .before in
     let a = entry .args in
     let pre = entry .pre in
-    let word = c .before .before .before .before .before .before .before .before .before .before .before .before .word in
-    let if1 = c .before .before .before .before .before .before .before .before .before .before .before .if1 in
-    let if2 = c .before .before .before .before .before .before .before .before .before .before .if2 in
-    let reference = c .before .before .before .before .before .before .before .before .reference in
-    let reference2 = c .before .before .before .before .before .before .reference2 in
-    let copy-part = c .before .before .before .before .copy-part in
+    let word = c .before .before .before .before .before .before .before .before .before .before .before .word in
+    let if1 = c .before .before .before .before .before .before .before .before .before .before .if1 in
+    let if2 = c .before .before .before .before .before .before .before .before .before .if2 in
+    let reference = c .before .before .before .before .before .before .before .reference in
+    let reference2 = c .before .before .before .before .before .reference2 in
+    let copy-part = c .before .before .before .copy-part in
     copied-tail-costly (a .work .now) (a .top) (a .fuel) (a .node) (a .w) _ (if2 .left) refl _ (word .ensures) _ _ (if1 .left) (reference .ensures) (reference2 .ensures) (pre .1) _
-    (unpaid-at (Whole (a .work .now) (reference2 .result) (a .w)) (a .work .now) (copy-part .last .0) (a .top) (a .fuel - 1) _ (c .enum-told .given .1) (copy-part .ensures))
+    (unpaid-at (Whole (a .work .now) (reference2 .result) (a .w)) (a .work .now) (copy-part .last .0) (a .top) (a .fuel - 1) _ (built-none _ (c .if3 .taken)) (copy-part .ensures))
+
+copy-tree-high-requires : (t : ℕ) → copy-tree-lts.Need-high-requires (copy-tree-claims t) (copy-tree-at t) copy-tree.Post
+copy-tree-high-requires t c κs = search needs
+
+copy-tree-low-requires : (t : ℕ) → copy-tree-lts.Need-low-requires (copy-tree-claims t) (copy-tree-at t) copy-tree.Post
+copy-tree-low-requires t c κs = search needs
 
 copy-tree-copy-part-requires-2 : (t : ℕ) → copy-tree-lts.Need-copy-part-requires-2 (copy-tree-claims t) (copy-tree-at t) copy-tree.Post
 copy-tree-copy-part-requires-2 t c κs =
@@ -170,87 +169,92 @@ copy-tree-copy-part-requires-2 t c κs =
     let reference = c .before .before .before .before .before .before .before .before .before .before .reference in
     let reference2 = c .before .before .before .before .before .before .before .before .reference2 in
     let copy-part = c .before .before .before .before .before .before .copy-part in
-    let tail = c .before .before .tail in
-    let b = paid-at (Whole (a .work .now) (reference2 .result) (a .w)) (a .work .now) (copy-part .last .0) (a .top) (a .fuel - 1) _ _ _ (tail .given .1) (copy-part .ensures) in (
+    let tail-is = built-some _ _ _ (c .before .before .before .if3 .left) (c .before .before .high .ensures) (c .low .ensures) in
+    let b = paid-at (Whole (a .work .now) (reference2 .result) (a .w)) (a .work .now) (copy-part .last .0) (a .top) (a .fuel - 1) _ _ _ tail-is (copy-part .ensures) in (
       omega (arith, pre .0, reference .ensures, pair-falls (a .work .now) (a .node) 2 (sym (word .ensures) ∙ if1 .left)),
       waiting-head (a .work .now) (a .top) (a .fuel) (a .node) (a .w) _ (if2 .left) refl _ (word .ensures) _ _ (if1 .left) (reference .ensures) (reference2 .ensures) (pre .1) _ _ _ b (copy-part .kept .0),
     )
 
-copy-tree-enum-known-head : (t : ℕ) → copy-tree-lts.Need-enum-known-head (copy-tree-claims t) (copy-tree-at t) copy-tree.Post
-copy-tree-enum-known-head t c = search needs
-
-copy-tree-enum-told-2 : (t : ℕ) → copy-tree-lts.Need-enum-told-2 (copy-tree-claims t) (copy-tree-at t) copy-tree.Post
-copy-tree-enum-told-2 t c = search needs
-
 copy-tree-same-length-4 : (t : ℕ) → copy-tree-lts.Need-same-length-4 (copy-tree-claims t) (copy-tree-at t) copy-tree.Post
 copy-tree-same-length-4 t c =
-    let copy-part = c .before .before .before .before .before .before .before .before .before .before .before .copy-part in
-    let copy-part2 = c .before .before .before .before .copy-part2 in
+    let copy-part = c .before .before .before .before .before .before .before .before .before .before .copy-part in
+    let copy-part2 = c .before .before .before .copy-part2 in
     copy-part2 .kept .0 ∙ copy-part .kept .0
 
 copy-tree-returns-4 : (t : ℕ) → copy-tree-lts.Need-returns-4 (copy-tree-claims t) (copy-tree-at t) copy-tree.Post
+unfolding builtOf
 copy-tree-returns-4 t c =
-    let entry = c .before .before .before .before .before .before .before .before .before .before .before .before .before .before .before .before .before .before .before .before .before .before in
+    let entry = c .before .before .before .before .before .before .before .before .before .before .before .before .before .before .before .before .before .before .before .before .before in
     let a = entry .args in
     let pre = entry .pre in
-    let word = c .before .before .before .before .before .before .before .before .before .before .before .before .before .before .before .before .before .before .before .word in
-    let if1 = c .before .before .before .before .before .before .before .before .before .before .before .before .before .before .before .before .before .before .if1 in
-    let if2 = c .before .before .before .before .before .before .before .before .before .before .before .before .before .before .before .before .before .if2 in
-    let reference = c .before .before .before .before .before .before .before .before .before .before .before .before .before .before .before .reference in
-    let reference2 = c .before .before .before .before .before .before .before .before .before .before .before .before .before .reference2 in
-    let copy-part = c .before .before .before .before .before .before .before .before .before .before .before .copy-part in
-    let tail = c .before .before .before .before .before .before .before .tail in
-    let copy-part2 = c .before .before .before .before .copy-part2 in
-    let b = paid-at (Whole (a .work .now) (reference2 .result) (a .w)) (a .work .now) (copy-part .last .0) (a .top) (a .fuel - 1) _ _ _ (tail .given .1) (copy-part .ensures) in
+    let word = c .before .before .before .before .before .before .before .before .before .before .before .before .before .before .before .before .before .before .word in
+    let if1 = c .before .before .before .before .before .before .before .before .before .before .before .before .before .before .before .before .before .if1 in
+    let if2 = c .before .before .before .before .before .before .before .before .before .before .before .before .before .before .before .before .if2 in
+    let reference = c .before .before .before .before .before .before .before .before .before .before .before .before .before .before .reference in
+    let reference2 = c .before .before .before .before .before .before .before .before .before .before .before .before .reference2 in
+    let copy-part = c .before .before .before .before .before .before .before .before .before .before .copy-part in
+    let tail-is = built-some _ _ _ (c .before .before .before .before .before .before .before .if3 .left) (c .before .before .before .before .before .before .high .ensures) (c .before .before .before .before .low .ensures) in
+    let copy-part2 = c .before .before .before .copy-part2 in
+    let b = paid-at (Whole (a .work .now) (reference2 .result) (a .w)) (a .work .now) (copy-part .last .0) (a .top) (a .fuel - 1) _ _ _ tail-is (copy-part .ensures) in
     copied-head-costly (a .work .now) (a .top) (a .fuel) (a .node) (a .w) _ (if2 .left) refl _ (word .ensures) _ _ (if1 .left) (reference .ensures) (reference2 .ensures) (pre .1) _ _ _ b (copy-part .kept .0) _
-    (unpaid-at (Whole (copy-part .last .0) (reference .result) (a .w)) (copy-part .last .0) (copy-part2 .last .0) _ _ _ (c .enum-told2 .given .1) (copy-part2 .ensures))
+    (unpaid-at (Whole (copy-part .last .0) (reference .result) (a .w)) (copy-part .last .0) (copy-part2 .last .0) _ _ _ (built-none _ (c .if4 .taken)) (copy-part2 .ensures))
+
+copy-tree-high-requires-2 : (t : ℕ) → copy-tree-lts.Need-high-requires-2 (copy-tree-claims t) (copy-tree-at t) copy-tree.Post
+copy-tree-high-requires-2 t c κs = search needs
 
 copy-tree-put-pair-requires : (t : ℕ) → copy-tree-lts.Need-put-pair-requires (copy-tree-claims t) (copy-tree-at t) copy-tree.Post
 copy-tree-put-pair-requires t c κs =
-    let entry = c .before .before .before .before .before .before .before .before .before .before .before .before .before .before .before .before .before .before .before .before .before .before .before .before in
+    let entry = c .before .before .before .before .before .before .before .before .before .before .before .before .before .before .before .before .before .before .before .before .before .before .before in
     let a = entry .args in
     let pre = entry .pre in
-    let word = c .before .before .before .before .before .before .before .before .before .before .before .before .before .before .before .before .before .before .before .before .before .word in
-    let if1 = c .before .before .before .before .before .before .before .before .before .before .before .before .before .before .before .before .before .before .before .before .if1 in
-    let if2 = c .before .before .before .before .before .before .before .before .before .before .before .before .before .before .before .before .before .before .before .if2 in
-    let reference = c .before .before .before .before .before .before .before .before .before .before .before .before .before .before .before .before .before .reference in
-    let reference2 = c .before .before .before .before .before .before .before .before .before .before .before .before .before .before .before .reference2 in
-    let copy-part = c .before .before .before .before .before .before .before .before .before .before .before .before .before .copy-part in
-    let tail = c .before .before .before .before .before .before .before .before .before .tail in
-    let copy-part2 = c .before .before .before .before .before .before .copy-part2 in
-    let head = c .before .before .head in
-    let b = paid-at (Whole (a .work .now) (reference2 .result) (a .w)) (a .work .now) (copy-part .last .0) (a .top) (a .fuel - 1) _ _ _ (tail .given .1) (copy-part .ensures) in
-    let h = paid-at (Whole (copy-part .last .0) (reference .result) (a .w)) (copy-part .last .0) (copy-part2 .last .0) _ _ _ _ _ (head .given .1) (copy-part2 .ensures) in (
+    let word = c .before .before .before .before .before .before .before .before .before .before .before .before .before .before .before .before .before .before .before .before .word in
+    let if1 = c .before .before .before .before .before .before .before .before .before .before .before .before .before .before .before .before .before .before .before .if1 in
+    let if2 = c .before .before .before .before .before .before .before .before .before .before .before .before .before .before .before .before .before .before .if2 in
+    let reference = c .before .before .before .before .before .before .before .before .before .before .before .before .before .before .before .before .reference in
+    let reference2 = c .before .before .before .before .before .before .before .before .before .before .before .before .before .before .reference2 in
+    let copy-part = c .before .before .before .before .before .before .before .before .before .before .before .before .copy-part in
+    let tail-is = built-some _ _ _ (c .before .before .before .before .before .before .before .before .before .if3 .left) (c .before .before .before .before .before .before .before .before .high .ensures) (c .before .before .before .before .before .before .low .ensures) in
+    let copy-part2 = c .before .before .before .before .before .copy-part2 in
+    let head-is = built-some _ _ _ (c .before .before .if4 .left) (c .before .high2 .ensures) refl in
+    let b = paid-at (Whole (a .work .now) (reference2 .result) (a .w)) (a .work .now) (copy-part .last .0) (a .top) (a .fuel - 1) _ _ _ tail-is (copy-part .ensures) in
+    let h = paid-at (Whole (copy-part .last .0) (reference .result) (a .w)) (copy-part .last .0) (copy-part2 .last .0) _ _ _ _ _ head-is (copy-part2 .ensures) in (
       copied-room (a .work .now) (a .top) (a .fuel) (a .node) (a .w) _ (if2 .left) refl _ (word .ensures) _ _ (if1 .left) (reference .ensures) (reference2 .ensures) (pre .1) _ _ _ b (copy-part .kept .0) _ _ _ h (copy-part2 .kept .0),
       omega arith,
       h .above,
     )
 
+copy-tree-low-requires-2 : (t : ℕ) → copy-tree-lts.Need-low-requires-2 (copy-tree-claims t) (copy-tree-at t) copy-tree.Post
+copy-tree-low-requires-2 t c κs = search needs
+
+copy-tree-pair-requires : (t : ℕ) → copy-tree-lts.Need-pair-requires (copy-tree-claims t) (copy-tree-at t) copy-tree.Post
+copy-tree-pair-requires t c κs = search needs
+
 copy-tree-same-length-5 : (t : ℕ) → copy-tree-lts.Need-same-length-5 (copy-tree-claims t) (copy-tree-at t) copy-tree.Post
 copy-tree-same-length-5 t c =
-    let copy-part = c .before .before .before .before .before .before .before .before .before .before .before .before .before .before .before .before .copy-part in
-    let copy-part2 = c .before .before .before .before .before .before .before .before .before .copy-part2 in
-    let put-pair = c .before .before .put-pair in
+    let copy-part = c .before .before .before .before .before .before .before .before .before .before .before .before .before .before .before .before .before .copy-part in
+    let copy-part2 = c .before .before .before .before .before .before .before .before .before .before .copy-part2 in
+    let put-pair = c .before .before .before .before .put-pair in
     put-pair .kept .0 ∙ copy-part2 .kept .0 ∙ copy-part .kept .0
 
 copy-tree-returns-5 : (t : ℕ) → copy-tree-lts.Need-returns-5 (copy-tree-claims t) (copy-tree-at t) copy-tree.Post
 copy-tree-returns-5 t c =
-    let entry = c .before .before .before .before .before .before .before .before .before .before .before .before .before .before .before .before .before .before .before .before .before .before .before .before .before .before .before in
+    let entry = c .before .before .before .before .before .before .before .before .before .before .before .before .before .before .before .before .before .before .before .before .before .before .before .before .before .before .before .before in
     let a = entry .args in
     let pre = entry .pre in
-    let word = c .before .before .before .before .before .before .before .before .before .before .before .before .before .before .before .before .before .before .before .before .before .before .before .before .word in
-    let if1 = c .before .before .before .before .before .before .before .before .before .before .before .before .before .before .before .before .before .before .before .before .before .before .before .if1 in
-    let if2 = c .before .before .before .before .before .before .before .before .before .before .before .before .before .before .before .before .before .before .before .before .before .before .if2 in
-    let reference = c .before .before .before .before .before .before .before .before .before .before .before .before .before .before .before .before .before .before .before .before .reference in
-    let reference2 = c .before .before .before .before .before .before .before .before .before .before .before .before .before .before .before .before .before .before .reference2 in
-    let copy-part = c .before .before .before .before .before .before .before .before .before .before .before .before .before .before .before .before .copy-part in
-    let tail = c .before .before .before .before .before .before .before .before .before .before .before .before .tail in
-    let copy-part2 = c .before .before .before .before .before .before .before .before .before .copy-part2 in
-    let head = c .before .before .before .before .before .head in
-    let put-pair = c .before .before .put-pair in
-    let b = paid-at (Whole (a .work .now) (reference2 .result) (a .w)) (a .work .now) (copy-part .last .0) (a .top) (a .fuel - 1) _ _ _ (tail .given .1) (copy-part .ensures) in
-    let h = paid-at (Whole (copy-part .last .0) (reference .result) (a .w)) (copy-part .last .0) (copy-part2 .last .0) _ _ _ _ _ (head .given .1) (copy-part2 .ensures) in
-    copied-pair (a .work .now) (a .top) (a .fuel) (a .node) (a .w) _ (if2 .left) refl _ (word .ensures) _ _ (if1 .left) (reference .ensures) (reference2 .ensures) (pre .1) _ _ _ b (copy-part .kept .0) _ _ _ h _ _ (put-pair .ensures)
+    let word = c .before .before .before .before .before .before .before .before .before .before .before .before .before .before .before .before .before .before .before .before .before .before .before .before .before .word in
+    let if1 = c .before .before .before .before .before .before .before .before .before .before .before .before .before .before .before .before .before .before .before .before .before .before .before .before .if1 in
+    let if2 = c .before .before .before .before .before .before .before .before .before .before .before .before .before .before .before .before .before .before .before .before .before .before .before .if2 in
+    let reference = c .before .before .before .before .before .before .before .before .before .before .before .before .before .before .before .before .before .before .before .before .before .reference in
+    let reference2 = c .before .before .before .before .before .before .before .before .before .before .before .before .before .before .before .before .before .before .before .reference2 in
+    let copy-part = c .before .before .before .before .before .before .before .before .before .before .before .before .before .before .before .before .before .copy-part in
+    let tail-is = built-some _ _ _ (c .before .before .before .before .before .before .before .before .before .before .before .before .before .before .if3 .left) (c .before .before .before .before .before .before .before .before .before .before .before .before .before .high .ensures) (c .before .before .before .before .before .before .before .before .before .before .before .low .ensures) in
+    let copy-part2 = c .before .before .before .before .before .before .before .before .before .before .copy-part2 in
+    let head-is = built-some _ _ _ (c .before .before .before .before .before .before .before .if4 .left) (c .before .before .before .before .before .before .high2 .ensures) (c .before .low2 .ensures) in
+    let put-pair = c .before .before .before .before .put-pair in
+    let b = paid-at (Whole (a .work .now) (reference2 .result) (a .w)) (a .work .now) (copy-part .last .0) (a .top) (a .fuel - 1) _ _ _ tail-is (copy-part .ensures) in
+    let h = paid-at (Whole (copy-part .last .0) (reference .result) (a .w)) (copy-part .last .0) (copy-part2 .last .0) _ _ _ _ _ head-is (copy-part2 .ensures) in
+    pays-packed (Whole (a .work .now) (a .node) (a .w)) (a .work .now) _ (a .top) (a .fuel) _ _ _ (pre .1 .room) (c .pair .ensures)
+    (copied-pair (a .work .now) (a .top) (a .fuel) (a .node) (a .w) _ (if2 .left) refl _ (word .ensures) _ _ (if1 .left) (reference .ensures) (reference2 .ensures) (pre .1) _ _ _ b (copy-part .kept .0) _ _ _ h _ _ (put-pair .ensures))
 
 pub +copy-part+copy-tree-spec : {M : Type 1} → statement M
 +copy-part+copy-tree-spec = close μ-copy-part μ-copy-tree (λ t. copy-part-lts.spec (copy-part-claims t)
@@ -268,7 +272,6 @@ pub +copy-part+copy-tree-spec : {M : Type 1} → statement M
     copy-tree.Post
     (copy-tree-word-requires t)
     (copy-tree-copy-leaf-requires t)
-    (copy-tree-again-requires t)
     (copy-tree-same-length t)
     (copy-tree-returns t)
     (copy-tree-same-length-2 t)
@@ -277,15 +280,16 @@ pub +copy-part+copy-tree-spec : {M : Type 1} → statement M
     (copy-tree-reference-requires-2 t)
     (copy-tree-sub-copy-part t)
     (copy-tree-copy-part-requires t)
-    (copy-tree-enum-known-tail t)
-    (copy-tree-enum-told t)
     (copy-tree-same-length-3 t)
     (copy-tree-returns-3 t)
+    (copy-tree-high-requires t)
+    (copy-tree-low-requires t)
     (copy-tree-copy-part-requires-2 t)
-    (copy-tree-enum-known-head t)
-    (copy-tree-enum-told-2 t)
     (copy-tree-same-length-4 t)
     (copy-tree-returns-4 t)
+    (copy-tree-high-requires-2 t)
     (copy-tree-put-pair-requires t)
+    (copy-tree-low-requires-2 t)
+    (copy-tree-pair-requires t)
     (copy-tree-same-length-5 t)
     (copy-tree-returns-5 t)

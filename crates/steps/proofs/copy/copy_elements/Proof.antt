@@ -1,19 +1,14 @@
 -- `copy::copy_elements`: along the list, each element behind those before it.
 use Rattle.steps.proofs.copy.copy_elements.Statement.{statement}
 use Rattle.steps.proofs.copy.copy_elements.Tie as tie
-use Rattle.steps.proofs.copy.copy_elements.Reads as reads
-use Rattle.steps.proofs.copy.copy_elements.Lts as lts
-use Rattle.arena.proofs.cells.put_pair.Reads as put-pair-reads
-use Rattle.arena.proofs.lists.first.Reads as first-reads
-use Rattle.arena.proofs.lists.rest.Reads as rest-reads
-use Rattle.steps.proofs.copy.copy_part.Reads as copy-part-reads
 use Prim.Native.Nat.{_-_}
 use Rattle.arena.specs.Arena.{treeAt}
+use Rattle.steps.specs.Built.{builtOf, built-none, built-some}
 use Rattle.steps.specs.BuildLaws.{paid-at, unpaid-at}
-use Rattle.steps.specs.CopyLaws.{Going, going-begins, going-ends, elements-none, element-waits, element-costly, element-room, going-more}
+use Rattle.steps.specs.CopyLaws.{Going, going-begins, going-ends, elements-none, element-waits, element-costly, element-room, going-more, elements-packed}
 use native.Mathlib.Omega.{arith}
 use borrow.Author.Needs.{needs}
-use mathlib.Core.Path.{_∙_}
+use mathlib.Core.Path.{refl, _∙_}
 
 abbrev Inv-loop : tie.InvT-loop
 Inv-loop work₀ top fuel list w c at₀ node₀ left₀ k₀ work at node left k =
@@ -32,6 +27,7 @@ same-length c =
     c .before .before .loop .inv .long
 
 returns : tie.Need-returns Inv-loop μ-loop
+unfolding builtOf
 returns c =
     let a = c .before .before .before .before .args in elements-none (a .work .now) (a .top) (a .fuel) (a .list) (a .w) (a .c) (c .before .before .before .before .pre) _ _ _ _ _ (c .before .before .loop .inv) (c .before .loop-test .taken) (c .if1 .taken)
 
@@ -47,29 +43,30 @@ copy-part-requires : tie.Need-copy-part-requires Inv-loop μ-loop
 copy-part-requires c κs =
     let a = c .before .before .before .before .before .before .before .args in element-waits (a .work .now) (a .top) (a .fuel) (a .list) (a .w) (a .c) (c .before .before .before .before .before .before .before .pre) _ _ _ _ _ (c .before .before .before .before .before .loop .inv) (c .before .before .before .before .loop-test .taken) (c .before .before .before .if1 .left) _ (c .before .first .ensures)
 
-enum-known-head : tie.Need-enum-known-head Inv-loop μ-loop
-enum-known-head c =
-    search needs
-
-enum-told : tie.Need-enum-told Inv-loop μ-loop
-enum-told c =
-    search needs
-
 same-length-2 : tie.Need-same-length-2 Inv-loop μ-loop
 same-length-2 c =
-    c .before .before .before .before .copy-part .kept .0 ∙ c .before .before .before .before .before .before .before .before .before .before .loop .inv .long
+    c .before .before .before .copy-part .kept .0 ∙ c .before .before .before .before .before .before .before .before .before .loop .inv .long
 
 returns-2 : tie.Need-returns-2 Inv-loop μ-loop
+unfolding builtOf
 returns-2 c =
-    let a = c .before .before .before .before .before .before .before .before .before .before .before .before .args in element-costly (a .work .now) (a .top) (a .fuel) (a .list) (a .w) (a .c) (c .before .before .before .before .before .before .before .before .before .before .before .before .pre) _ _ _ _ _ (c .before .before .before .before .before .before .before .before .before .before .loop .inv) (c .before .before .before .before .before .before .before .before .before .loop-test .taken) (c .before .before .before .before .before .before .before .before .if1 .left) _ (c .before .before .before .before .before .before .first .ensures) _ (unpaid-at (λ items. treeAt items (c .before .before .before .before .before .before .before .before .before .before .loop .work) (c .before .before .before .before .before .before .first .result) (a .w)) (c .before .before .before .before .before .before .before .before .before .before .loop .work) (c .before .before .before .before .copy-part .last .0) (c .before .before .before .before .before .before .before .before .before .before .loop .at) (c .before .before .before .before .before .before .before .before .before .before .loop .left - 1) _ (c .enum-told .given .1) (c .before .before .before .before .copy-part .ensures))
+    let a = c .before .before .before .before .before .before .before .before .before .before .before .args in element-costly (a .work .now) (a .top) (a .fuel) (a .list) (a .w) (a .c) (c .before .before .before .before .before .before .before .before .before .before .before .pre) _ _ _ _ _ (c .before .before .before .before .before .before .before .before .before .loop .inv) (c .before .before .before .before .before .before .before .before .loop-test .taken) (c .before .before .before .before .before .before .before .if1 .left) _ (c .before .before .before .before .before .first .ensures) _ (unpaid-at (λ items. treeAt items (c .before .before .before .before .before .before .before .before .before .loop .work) (c .before .before .before .before .before .first .result) (a .w)) (c .before .before .before .before .before .before .before .before .before .loop .work) (c .before .before .before .copy-part .last .0) (c .before .before .before .before .before .before .before .before .before .loop .at) (c .before .before .before .before .before .before .before .before .before .loop .left - 1) _ (built-none _ (c .if2 .taken)) (c .before .before .before .copy-part .ensures))
 
 rest-requires : tie.Need-rest-requires Inv-loop μ-loop
 rest-requires c κs =
     search needs
 
+high-requires : tie.Need-high-requires Inv-loop μ-loop
+high-requires c κs =
+    search needs
+
 put-pair-requires : tie.Need-put-pair-requires Inv-loop μ-loop
 put-pair-requires c κs =
-    let a = c .before .before .before .before .before .before .before .before .before .before .before .before .before .before .before .before .args in let b = paid-at (λ items. treeAt items (c .before .before .before .before .before .before .before .before .before .before .before .before .before .before .loop .work) (c .before .before .before .before .before .before .before .before .before .before .first .result) (a .w)) (c .before .before .before .before .before .before .before .before .before .before .before .before .before .before .loop .work) (c .before .before .before .before .before .before .before .before .copy-part .last .0) (c .before .before .before .before .before .before .before .before .before .before .before .before .before .before .loop .at) (c .before .before .before .before .before .before .before .before .before .before .before .before .before .before .loop .left - 1) _ _ _ (c .before .before .before .before .head .given .1) (c .before .before .before .before .before .before .before .before .copy-part .ensures) in (element-room (a .work .now) (a .top) (a .fuel) (a .list) (a .w) (a .c) (c .before .before .before .before .before .before .before .before .before .before .before .before .before .before .before .before .pre) _ _ _ _ _ (c .before .before .before .before .before .before .before .before .before .before .before .before .before .before .loop .inv) (c .before .before .before .before .before .before .before .before .before .before .before .before .before .loop-test .taken) (c .before .before .before .before .before .before .before .before .before .before .before .before .if1 .left) _ (c .before .before .before .before .before .before .before .before .before .before .first .ensures) _ _ _ b (c .before .before .before .before .before .before .before .before .copy-part .kept .0), omega arith, b .above)
+    let a = c .before .before .before .before .before .before .before .before .before .before .before .before .before .before .before .args in let b = paid-at (λ items. treeAt items (c .before .before .before .before .before .before .before .before .before .before .before .before .before .loop .work) (c .before .before .before .before .before .before .before .before .before .first .result) (a .w)) (c .before .before .before .before .before .before .before .before .before .before .before .before .before .loop .work) (c .before .before .before .before .before .before .before .copy-part .last .0) (c .before .before .before .before .before .before .before .before .before .before .before .before .before .loop .at) (c .before .before .before .before .before .before .before .before .before .before .before .before .before .loop .left - 1) _ _ _ (built-some _ _ _ (c .before .before .before .before .if2 .left) (c .before .high .ensures) refl) (c .before .before .before .before .before .before .before .copy-part .ensures) in (element-room (a .work .now) (a .top) (a .fuel) (a .list) (a .w) (a .c) (c .before .before .before .before .before .before .before .before .before .before .before .before .before .before .before .pre) _ _ _ _ _ (c .before .before .before .before .before .before .before .before .before .before .before .before .before .loop .inv) (c .before .before .before .before .before .before .before .before .before .before .before .before .loop-test .taken) (c .before .before .before .before .before .before .before .before .before .before .before .if1 .left) _ (c .before .before .before .before .before .before .before .before .before .first .ensures) _ _ _ b (c .before .before .before .before .before .before .before .copy-part .kept .0), omega arith, b .above)
+
+low-requires : tie.Need-low-requires Inv-loop μ-loop
+low-requires c κs =
+    search needs
 
 add-k : tie.Need-add-k Inv-loop μ-loop
 add-k c =
@@ -81,15 +78,19 @@ loop-less c =
 
 loop-again : tie.Need-loop-again Inv-loop μ-loop
 loop-again c =
-    let a = c .before .before .before .before .before .before .before .before .before .before .before .before .before .before .before .before .before .before .before .args in going-more (a .work .now) (a .top) (a .fuel) (a .list) (a .w) (a .c) (c .before .before .before .before .before .before .before .before .before .before .before .before .before .before .before .before .before .before .before .pre) _ _ _ _ _ (c .before .before .before .before .before .before .before .before .before .before .before .before .before .before .before .before .before .loop .inv) (c .before .before .before .before .before .before .before .before .before .before .before .before .before .before .before .before .loop-test .taken) (c .before .before .before .before .before .before .before .before .before .before .before .before .before .before .before .if1 .left) _ (c .before .before .before .before .before .before .before .before .before .before .before .before .before .first .ensures) _ _ _ (paid-at (λ items. treeAt items (c .before .before .before .before .before .before .before .before .before .before .before .before .before .before .before .before .before .loop .work) (c .before .before .before .before .before .before .before .before .before .before .before .before .before .first .result) (a .w)) (c .before .before .before .before .before .before .before .before .before .before .before .before .before .before .before .before .before .loop .work) (c .before .before .before .before .before .before .before .before .before .before .before .copy-part .last .0) (c .before .before .before .before .before .before .before .before .before .before .before .before .before .before .before .before .before .loop .at) (c .before .before .before .before .before .before .before .before .before .before .before .before .before .before .before .before .before .loop .left - 1) _ _ _ (c .before .before .before .before .before .before .before .head .given .1) (c .before .before .before .before .before .before .before .before .before .before .before .copy-part .ensures)) (c .before .before .before .before .before .before .before .before .before .before .before .copy-part .kept .0) _ (c .before .before .before .before .rest .ensures) _ _ (c .before .before .put-pair .ensures) (c .before .before .put-pair .kept .0)
+    let a = c .before .before .before .before .before .before .before .before .before .before .before .before .before .before .before .before .before .before .before .args in going-more (a .work .now) (a .top) (a .fuel) (a .list) (a .w) (a .c) (c .before .before .before .before .before .before .before .before .before .before .before .before .before .before .before .before .before .before .before .pre) _ _ _ _ _ (c .before .before .before .before .before .before .before .before .before .before .before .before .before .before .before .before .before .loop .inv) (c .before .before .before .before .before .before .before .before .before .before .before .before .before .before .before .before .loop-test .taken) (c .before .before .before .before .before .before .before .before .before .before .before .before .before .before .before .if1 .left) _ (c .before .before .before .before .before .before .before .before .before .before .before .before .before .first .ensures) _ _ _ (paid-at (λ items. treeAt items (c .before .before .before .before .before .before .before .before .before .before .before .before .before .before .before .before .before .loop .work) (c .before .before .before .before .before .before .before .before .before .before .before .before .before .first .result) (a .w)) (c .before .before .before .before .before .before .before .before .before .before .before .before .before .before .before .before .before .loop .work) (c .before .before .before .before .before .before .before .before .before .before .before .copy-part .last .0) (c .before .before .before .before .before .before .before .before .before .before .before .before .before .before .before .before .before .loop .at) (c .before .before .before .before .before .before .before .before .before .before .before .before .before .before .before .before .before .loop .left - 1) _ _ _ (built-some _ _ _ (c .before .before .before .before .before .before .before .before .if2 .left) (c .before .before .before .before .before .high .ensures) (c .low .ensures)) (c .before .before .before .before .before .before .before .before .before .before .before .copy-part .ensures)) (c .before .before .before .before .before .before .before .before .before .before .before .copy-part .kept .0) _ (c .before .before .before .before .before .before .rest .ensures) _ _ (c .before .before .before .put-pair .ensures) (c .before .before .before .put-pair .kept .0)
+
+pair-requires : tie.Need-pair-requires Inv-loop μ-loop
+pair-requires c κs =
+    search needs
 
 same-length-3 : tie.Need-same-length-3 Inv-loop μ-loop
 same-length-3 c =
-    c .before .loop .inv .long
+    c .before .before .loop .inv .long
 
 returns-3 : tie.Need-returns-3 Inv-loop μ-loop
 returns-3 c =
-    let a = c .before .before .before .args in going-ends (a .work .now) (a .top) (a .fuel) (a .list) (a .w) (a .c) (c .before .before .before .pre) _ _ _ _ _ (c .before .loop .inv) (omega (arith, c .loop-test .left))
+    let a = c .before .before .before .before .args in elements-packed (a .work .now) (a .top) (a .fuel) (a .list) (a .w) (a .c) (c .before .before .before .before .pre) _ _ _ _ (c .pair .ensures) (going-ends (a .work .now) (a .top) (a .fuel) (a .list) (a .w) (a .c) (c .before .before .before .before .pre) _ _ _ _ _ (c .before .before .loop .inv) (omega (arith, c .before .loop-test .left)))
 
 pub copy-elements-spec : {M : Type 1} → statement M
 copy-elements-spec =
@@ -103,14 +104,15 @@ copy-elements-spec =
     first-requires
     sub-copy-part
     copy-part-requires
-    enum-known-head
-    enum-told
     same-length-2
     returns-2
     rest-requires
+    high-requires
     put-pair-requires
+    low-requires
     add-k
     loop-less
     loop-again
+    pair-requires
     same-length-3
     returns-3)

@@ -11,7 +11,7 @@ use Rattle.writer.proofs.numbers.+digits.Tie.{close}
 use borrow.Author.Needs.{needs}
 use native.Mathlib.Omega.{arith}
 use mathlib.Core.Path.{sym, _∙_}
-use Rattle.writer.specs.LaidLaws.{left-room, left-full, left-then, left-is}
+use Rattle.writer.specs.LaidLaws.{place-room, place-full, place-then, left-is}
 use Rattle.core_term.specs.DecimalLaws.{decimal-one, decimal-more}
 
 abbrev μ-digits : Measures 1 digits-kinds.ps ℕ
@@ -52,21 +52,13 @@ digits-digits-requires : (t : ℕ) → digits-lts.Need-digits-requires (E t) (di
 digits-digits-requires t c κs =
     (omega arith, c .before .before .before .pre .1)
 
-digits-enum-known-to : (t : ℕ) → digits-lts.Need-enum-known-to (E t) (digits-at t) digits.Post
-digits-enum-known-to t c =
-    search needs
-
-digits-enum-told : (t : ℕ) → digits-lts.Need-enum-told (E t) (digits-at t) digits.Post
-digits-enum-told t c =
-    search needs
-
 digits-same-length-2 : (t : ℕ) → digits-lts.Need-same-length-2 (E t) (digits-at t) digits.Post
 digits-same-length-2 t c =
-    c .before .before .before .before .digits .kept .1 .0
+    c .before .before .before .digits .kept .1 .0
 
 digits-returns-2 : (t : ℕ) → digits-lts.Need-returns-2 (E t) (digits-at t) digits.Post
 digits-returns-2 t c =
-    left-is (sym (decimal-more _ (c .before .before .before .before .before .before .if1 .left))) (left-full (c .before .before .before .before .digits .ensures) _ (c .enum-told .given .1))
+    left-is (sym (decimal-more _ (c .before .before .before .before .before .if1 .left))) (place-full (c .before .before .before .digits .ensures) _ (c .if2 .taken))
 
 digits-cast-byte-2 : (t : ℕ) → digits-lts.Need-cast-byte-2 (E t) (digits-at t) digits.Post
 digits-cast-byte-2 t c =
@@ -78,15 +70,15 @@ digits-add-byte-2 t c =
 
 digits-byte-requires-2 : (t : ℕ) → digits-lts.Need-byte-requires-2 (E t) (digits-at t) digits.Post
 digits-byte-requires-2 t c κs =
-    left-room (c .before .before .before .before .before .before .digits .ensures) _ (c .before .before .to .given .1)
+    place-room (c .before .before .before .before .digits .ensures) (c .before .if2 .left)
 
 digits-same-length-3 : (t : ℕ) → digits-lts.Need-same-length-3 (E t) (digits-at t) digits.Post
 digits-same-length-3 t c =
-    c .before .before .byte2 .kept .1 .0 ∙ c .before .before .before .before .before .before .before .before .before .digits .kept .1 .0
+    c .before .before .byte2 .kept .1 .0 ∙ c .before .before .before .before .before .before .before .digits .kept .1 .0
 
 digits-returns-3 : (t : ℕ) → digits-lts.Need-returns-3 (E t) (digits-at t) digits.Post
 digits-returns-3 t c =
-    left-is (sym (decimal-more _ (c .before .before .before .before .before .before .before .before .before .before .before .if1 .left))) (left-then (c .before .before .before .before .before .before .before .before .before .digits .ensures) _ (c .before .before .before .before .before .to .given .1) (c .before .before .byte2 .ensures))
+    left-is (sym (decimal-more _ (c .before .before .before .before .before .before .before .before .before .if1 .left))) (place-then (c .before .before .before .before .before .before .before .digits .ensures) (c .before .before .before .before .if2 .left) (c .before .before .byte2 .ensures))
 
 pub +digits-spec : {M : Type 1} → statement M
 +digits-spec = close μ-digits λ t. digits-lts.spec (E t) (digits-at t)
@@ -97,8 +89,6 @@ pub +digits-spec : {M : Type 1} → statement M
     (digits-same-length t)
     (digits-returns t)
     (digits-digits-requires t)
-    (digits-enum-known-to t)
-    (digits-enum-told t)
     (digits-same-length-2 t)
     (digits-returns-2 t)
     (digits-cast-byte-2 t)

@@ -12,7 +12,7 @@ use Rattle.writer.proofs.numbers.+formals.Tie.{close}
 use borrow.Author.Needs.{needs}
 use native.Mathlib.Omega.{arith}
 use mathlib.Core.Path.{sym, _∙_}
-use Rattle.writer.specs.LaidLaws.{left-room, left-full, left-then, left-is, left-none}
+use Rattle.writer.specs.LaidLaws.{place-room, place-full, place-then, left-is, left-none, left-place}
 use Rattle.writer.specs.PiecesLaws.{formals-none, formals-more}
 
 abbrev μ-formals : Measures 1 formals-kinds.ps ℕ
@@ -31,51 +31,35 @@ E t = (gap-reads.Asked, gap-reads.Learnt, numbered-reads.Asked, numbered-reads.L
 
 formals-returns : (t : ℕ) → formals-lts.Need-returns (E t) (formals-at t) formals.Post
 formals-returns t c =
-    left-is (sym (formals-none (c .before .before .args .wanted) (c .before .before .args .first) _ (c .if1 .taken))) (left-none (c .before .before .args .ink) _ (c .before .before .args .out .now) (c .before .before .pre .1 .0))
+    left-is (sym (formals-none (c .before .before .args .wanted) (c .before .before .args .first) _ (c .if1 .taken))) (left-place (omega arith) (left-none (c .before .before .args .ink) _ (c .before .before .args .out .now) (c .before .before .pre .1 .0)))
 
 formals-gap-requires : (t : ℕ) → formals-lts.Need-gap-requires (E t) (formals-at t) formals.Post
 formals-gap-requires t c κs =
     c .before .before .before .pre .1 .0
 
-formals-enum-known-a : (t : ℕ) → formals-lts.Need-enum-known-a (E t) (formals-at t) formals.Post
-formals-enum-known-a t c =
-    search needs
-
-formals-enum-told : (t : ℕ) → formals-lts.Need-enum-told (E t) (formals-at t) formals.Post
-formals-enum-told t c =
-    search needs
-
 formals-same-length : (t : ℕ) → formals-lts.Need-same-length (E t) (formals-at t) formals.Post
 formals-same-length t c =
-    c .before .before .before .before .gap .kept .1 .0
+    c .before .before .before .gap .kept .1 .0
 
 formals-returns-2 : (t : ℕ) → formals-lts.Need-returns-2 (E t) (formals-at t) formals.Post
 formals-returns-2 t c =
-    left-is (sym (formals-more _ _ _ (c .before .before .before .before .before .before .if1 .left))) (left-full (c .before .before .before .before .gap .ensures) _ (c .enum-told .given .1))
+    left-is (sym (formals-more _ _ _ (c .before .before .before .before .before .if1 .left))) (place-full (c .before .before .before .gap .ensures) _ (c .if2 .taken))
 
 formals-numbered-requires : (t : ℕ) → formals-lts.Need-numbered-requires (E t) (formals-at t) formals.Post
 formals-numbered-requires t c κs =
-    left-room (c .before .before .before .before .before .before .gap .ensures) _ (c .before .before .a .given .1)
-
-formals-enum-known-b : (t : ℕ) → formals-lts.Need-enum-known-b (E t) (formals-at t) formals.Post
-formals-enum-known-b t c =
-    search needs
-
-formals-enum-told-2 : (t : ℕ) → formals-lts.Need-enum-told-2 (E t) (formals-at t) formals.Post
-formals-enum-told-2 t c =
-    search needs
+    place-room (c .before .before .before .before .gap .ensures) (c .before .if2 .left)
 
 formals-same-length-2 : (t : ℕ) → formals-lts.Need-same-length-2 (E t) (formals-at t) formals.Post
 formals-same-length-2 t c =
-    c .before .before .before .before .numbered .kept .1 .1 .0 ∙ c .before .before .before .before .before .before .before .before .before .before .before .gap .kept .1 .0
+    c .before .before .before .numbered .kept .1 .1 .0 ∙ c .before .before .before .before .before .before .before .before .gap .kept .1 .0
 
 formals-returns-3 : (t : ℕ) → formals-lts.Need-returns-3 (E t) (formals-at t) formals.Post
 formals-returns-3 t c =
-    left-is (sym (formals-more _ _ _ (c .before .before .before .before .before .before .before .before .before .before .before .before .before .if1 .left))) (left-then (c .before .before .before .before .before .before .before .before .before .before .before .gap .ensures) _ (c .before .before .before .before .before .before .before .a .given .1) (left-full (c .before .before .before .before .numbered .ensures) _ (c .enum-told2 .given .1)))
+    left-is (sym (formals-more _ _ _ (c .before .before .before .before .before .before .before .before .before .before .if1 .left))) (place-then (c .before .before .before .before .before .before .before .before .gap .ensures) (c .before .before .before .before .before .if2 .left) (place-full (c .before .before .before .numbered .ensures) _ (c .if3 .taken)))
 
 formals-add-formals : (t : ℕ) → formals-lts.Need-add-formals (E t) (formals-at t) formals.Post
 formals-add-formals t c =
-    omega (arith, c .before .before .before .before .before .before .before .before .before .before .before .before .before .before .before .before .pre .1 .1, c .before .before .before .before .before .before .before .before .before .before .before .before .before .before .if1 .left)
+    omega (arith, c .before .before .before .before .before .before .before .before .before .before .before .before .pre .1 .1, c .before .before .before .before .before .before .before .before .before .before .if1 .left)
 
 formals-sub-formals : (t : ℕ) → formals-lts.Need-sub-formals (E t) (formals-at t) formals.Post
 formals-sub-formals t c =
@@ -83,7 +67,7 @@ formals-sub-formals t c =
 
 formals-formals-requires : (t : ℕ) → formals-lts.Need-formals-requires (E t) (formals-at t) formals.Post
 formals-formals-requires t c κs =
-    (omega (arith, c .before .before .before .before .before .before .before .before .before .before .before .before .before .before .before .if1 .left), (left-room (c .before .before .before .before .before .before .numbered .ensures) _ (c .before .before .b .given .1), omega (arith, c .before .before .before .before .before .before .before .before .before .before .before .before .before .before .before .before .before .pre .1 .1, c .before .before .before .before .before .before .before .before .before .before .before .before .before .before .before .if1 .left)))
+    (omega (arith, c .before .before .before .before .before .before .before .before .before .before .before .if1 .left), (place-room (c .before .before .before .before .numbered .ensures) (c .before .if3 .left), omega (arith, c .before .before .before .before .before .before .before .before .before .before .before .before .before .pre .1 .1, c .before .before .before .before .before .before .before .before .before .before .before .if1 .left)))
 
 formals-same-length-3 : (t : ℕ) → formals-lts.Need-same-length-3 (E t) (formals-at t) formals.Post
 formals-same-length-3 t c =
@@ -91,20 +75,16 @@ formals-same-length-3 t c =
 
 formals-returns-4 : (t : ℕ) → formals-lts.Need-returns-4 (E t) (formals-at t) formals.Post
 formals-returns-4 t c =
-    left-is (sym (formals-more _ _ _ (c .before .before .before .before .before .before .before .before .before .before .before .before .before .before .before .before .before .before .if1 .left))) (left-then (c .before .before .before .before .before .before .before .before .before .before .before .before .before .before .before .before .gap .ensures) _ (c .before .before .before .before .before .before .before .before .before .before .before .before .a .given .1) (left-then (c .before .before .before .before .before .before .before .before .before .numbered .ensures) _ (c .before .before .before .before .before .b .given .1) (c .before .before .formals .ensures)))
+    left-is (sym (formals-more _ _ _ (c .before .before .before .before .before .before .before .before .before .before .before .before .before .before .if1 .left))) (place-then (c .before .before .before .before .before .before .before .before .before .before .before .before .gap .ensures) (c .before .before .before .before .before .before .before .before .before .if2 .left) (place-then (c .before .before .before .before .before .before .before .numbered .ensures) (c .before .before .before .before .if3 .left) (c .before .before .formals .ensures)))
 
 pub +formals-spec : {M : Type 1} → statement M
 +formals-spec = close μ-formals λ t. formals-lts.spec (E t) (formals-at t)
     formals.Post
     (formals-returns t)
     (formals-gap-requires t)
-    (formals-enum-known-a t)
-    (formals-enum-told t)
     (formals-same-length t)
     (formals-returns-2 t)
     (formals-numbered-requires t)
-    (formals-enum-known-b t)
-    (formals-enum-told-2 t)
     (formals-same-length-2 t)
     (formals-returns-3 t)
     (formals-add-formals t)

@@ -8,7 +8,7 @@ use Rattle.writer.proofs.bytes.byte.Reads as byte-reads
 use Rattle.writer.proofs.bytes.copy.Reads as copy-reads
 use native.Mathlib.Omega.{arith}
 use mathlib.Core.Path.{_≡_}
-use Rattle.writer.specs.LaidLaws.{left-is, left-none}
+use Rattle.writer.specs.LaidLaws.{left-is, left-none, left-place}
 use lib.ListN.{getD}
 use Rattle.writer.specs.OpenedLaws.{closes-leaf, closes-one, closes-list}
 
@@ -18,7 +18,7 @@ shared-slice-read-code c =
 
 returns : tie.Need-returns
 returns c =
-    λ x l h. left-is (closes-leaf (c .before .before .before .before .args .words .now) x l h _ (c .if1 .taken)) (left-none (c .before .before .before .before .args .ink) _ (c .before .before .before .before .args .out .now) (c .before .before .before .before .pre .0))
+    λ x l h. left-is (closes-leaf (c .before .before .before .before .args .words .now) x l h _ (c .if1 .taken)) (left-place (omega arith) (left-none (c .before .before .before .before .args .ink) _ (c .before .before .before .before .args .out .now) (c .before .before .before .before .pre .0)))
 
 byte-requires : tie.Need-byte-requires
 byte-requires c κs =

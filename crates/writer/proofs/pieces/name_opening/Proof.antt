@@ -8,7 +8,7 @@ use Rattle.writer.proofs.bytes.byte.Reads as byte-reads
 use Rattle.writer.proofs.bytes.copy.Reads as copy-reads
 use Rattle.writer.proofs.pieces.name.Reads as name-reads
 use mathlib.Core.Path.{sym, _∙_}
-use Rattle.writer.specs.LaidLaws.{left-room, left-full, left-then, left-is}
+use Rattle.writer.specs.LaidLaws.{place-room, place-full, place-then, left-is}
 use Rattle.writer.specs.PiecesLaws.{name-inner, name-quoted}
 
 name-requires : tie.Need-name-requires
@@ -31,53 +31,37 @@ copy-requires : tie.Need-copy-requires
 copy-requires c κs =
     c .before .before .before .before .before .pre .0
 
-enum-known-a : tie.Need-enum-known-a
-enum-known-a c =
-    search needs
-
-enum-told : tie.Need-enum-told
-enum-told c =
-    search needs
-
 same-length-2 : tie.Need-same-length-2
 same-length-2 c =
-    c .before .before .before .before .copy .kept .1 .0
+    c .before .before .before .copy .kept .1 .0
 
 returns-2 : tie.Need-returns-2
 returns-2 c =
-    left-is (sym (name-quoted _ _ _ (c .before .before .before .before .before .before .before .if1 .left))) (left-full (c .before .before .before .before .copy .ensures) _ (c .enum-told .given .1))
+    left-is (sym (name-quoted _ _ _ (c .before .before .before .before .before .before .if1 .left))) (place-full (c .before .before .before .copy .ensures) _ (c .if2 .taken))
 
 name-requires-2 : tie.Need-name-requires-2
 name-requires-2 c κs =
-    (left-room (c .before .before .before .before .before .before .copy .ensures) _ (c .before .before .a .given .1), c .before .before .before .before .before .before .before .before .before .before .before .before .pre .1)
-
-enum-known-b : tie.Need-enum-known-b
-enum-known-b c =
-    search needs
-
-enum-told-2 : tie.Need-enum-told-2
-enum-told-2 c =
-    search needs
+    (place-room (c .before .before .before .before .copy .ensures) (c .before .if2 .left), c .before .before .before .before .before .before .before .before .before .before .pre .1)
 
 same-length-3 : tie.Need-same-length-3
 same-length-3 c =
-    c .before .before .before .before .name2 .kept .1 .1 .0 ∙ c .before .before .before .before .before .before .before .before .before .before .before .copy .kept .1 .0
+    c .before .before .before .name2 .kept .1 .1 .0 ∙ c .before .before .before .before .before .before .before .before .copy .kept .1 .0
 
 returns-3 : tie.Need-returns-3
 returns-3 c =
-    left-is (sym (name-quoted _ _ _ (c .before .before .before .before .before .before .before .before .before .before .before .before .before .before .if1 .left))) (left-then (c .before .before .before .before .before .before .before .before .before .before .before .copy .ensures) _ (c .before .before .before .before .before .before .before .a .given .1) (left-full (c .before .before .before .before .name2 .ensures) _ (c .enum-told2 .given .1)))
+    left-is (sym (name-quoted _ _ _ (c .before .before .before .before .before .before .before .before .before .before .before .if1 .left))) (place-then (c .before .before .before .before .before .before .before .before .copy .ensures) (c .before .before .before .before .before .if2 .left) (place-full (c .before .before .before .name2 .ensures) _ (c .if3 .taken)))
 
 byte-requires : tie.Need-byte-requires
 byte-requires c κs =
-    left-room (c .before .before .before .before .before .before .name2 .ensures) _ (c .before .before .b .given .1)
+    place-room (c .before .before .before .before .name2 .ensures) (c .before .if3 .left)
 
 same-length-4 : tie.Need-same-length-4
 same-length-4 c =
-    c .before .before .byte .kept .1 .0 ∙ c .before .before .before .before .before .before .before .before .before .name2 .kept .1 .1 .0 ∙ c .before .before .before .before .before .before .before .before .before .before .before .before .before .before .before .before .copy .kept .1 .0
+    c .before .before .byte .kept .1 .0 ∙ c .before .before .before .before .before .before .before .name2 .kept .1 .1 .0 ∙ c .before .before .before .before .before .before .before .before .before .before .before .before .copy .kept .1 .0
 
 returns-4 : tie.Need-returns-4
 returns-4 c =
-    left-is (sym (name-quoted _ _ _ (c .before .before .before .before .before .before .before .before .before .before .before .before .before .before .before .before .before .before .before .if1 .left))) (left-then (c .before .before .before .before .before .before .before .before .before .before .before .before .before .before .before .before .copy .ensures) _ (c .before .before .before .before .before .before .before .before .before .before .before .before .a .given .1) (left-then (c .before .before .before .before .before .before .before .before .before .name2 .ensures) _ (c .before .before .before .before .before .b .given .1) (c .before .before .byte .ensures)))
+    left-is (sym (name-quoted _ _ _ (c .before .before .before .before .before .before .before .before .before .before .before .before .before .before .before .if1 .left))) (place-then (c .before .before .before .before .before .before .before .before .before .before .before .before .copy .ensures) (c .before .before .before .before .before .before .before .before .before .if2 .left) (place-then (c .before .before .before .before .before .before .before .name2 .ensures) (c .before .before .before .before .if3 .left) (c .before .before .byte .ensures)))
 
 pub name-opening-spec : {M : Type 1} → statement M
 name-opening-spec =
@@ -88,13 +72,9 @@ name-opening-spec =
     returns
     slice-aggregate-copy
     copy-requires
-    enum-known-a
-    enum-told
     same-length-2
     returns-2
     name-requires-2
-    enum-known-b
-    enum-told-2
     same-length-3
     returns-3
     byte-requires

@@ -19,7 +19,7 @@ use Rattle.writer.proofs.term.+part+term.Tie.{close}
 use borrow.Author.Needs.{needs}
 use native.Mathlib.Omega.{arith}
 use mathlib.Core.Path.{refl, _∙_}
-use Rattle.writer.specs.LaidLaws.{left-length, left-room}
+use Rattle.writer.specs.LaidLaws.{left-length, left-room, put-done, put-full, place-room}
 use lib.ListN.{length}
 use Rattle.writer.specs.OpenedLaws.{some-words}
 use Rattle.writer.specs.WalkLaws.{for-any, begins-node, begins-opened, Going, going-start, going-inside, going-shorter, going-next, going-on, going-end, gap-full, part-full, part-inside, open-stops, leaf-walked, parts-stop, close-stops, all-walked}
@@ -67,31 +67,23 @@ part-leaf-requires : (t : ℕ) → part-lts.Need-leaf-requires (P t) (part-at t)
 part-leaf-requires t c κs =
     let s = c .before .before .before .before .before .before in (s .pre .1 .0, begins-opened _ _ _ (s .pre .1 .1), c .before .if1 .taken)
 
-part-enum-known-to : (t : ℕ) → part-lts.Need-enum-known-to (P t) (part-at t) part.Post
-part-enum-known-to t c =
-    search needs
-
-part-enum-told : (t : ℕ) → part-lts.Need-enum-told (P t) (part-at t) part.Post
-part-enum-told t c =
-    search needs
-
 part-same-length : (t : ℕ) → part-lts.Need-same-length (P t) (part-at t) part.Post
 part-same-length t c =
-    c .before .before .before .before .leaf .kept .1 .1 .0
+    c .before .before .before .leaf .kept .1 .1 .0
 
 part-returns : (t : ℕ) → part-lts.Need-returns (P t) (part-at t) part.Post
 part-returns t c =
-    let s = c .before .before .before .before .before .before .before .before .before .before .before in let w = s .args .words .now in
-    for-any _ _ _ w (s .pre .1 .1) _ _ _ _ (open-stops _ _ _ w (s .pre .1 .1) _ _ _ _ (c .before .before .before .before .leaf .ensures) (c .enum-told .given .1))
+    let s = c .before .before .before .before .before .before .before .before .before .before in let w = s .args .words .now in
+    for-any _ _ _ w (s .pre .1 .1) _ _ _ _ (open-stops _ _ _ w (s .pre .1 .1) _ _ _ _ (c .before .before .before .leaf .ensures) (put-full _ (c .if2 .taken)))
 
 part-same-length-2 : (t : ℕ) → part-lts.Need-same-length-2 (P t) (part-at t) part.Post
 part-same-length-2 t c =
-    c .before .before .before .before .before .leaf .kept .1 .1 .0
+    c .before .before .before .leaf .kept .1 .1 .0
 
 part-returns-2 : (t : ℕ) → part-lts.Need-returns-2 (P t) (part-at t) part.Post
 part-returns-2 t c =
-    let s = c .before .before .before .before .before .before .before .before .before .before .before .before in let w = s .args .words .now in
-    for-any _ _ _ w (s .pre .1 .1) _ _ _ _ (leaf-walked _ _ _ w (s .pre .1 .1) _ _ _ _ (c .before .before .before .before .before .leaf .ensures) (c .before .before .before .before .before .before .before .if1 .taken) _ (c .before .to .given .1))
+    let s = c .before .before .before .before .before .before .before .before .before .before in let w = s .args .words .now in
+    for-any _ _ _ w (s .pre .1 .1) _ _ _ _ (leaf-walked _ _ _ w (s .pre .1 .1) _ _ _ _ (c .before .before .before .leaf .ensures) (c .before .before .before .before .before .if1 .taken) _ (put-done _ (c .if2 .left)))
 
 part-term-requires : (t : ℕ) → part-lts.Need-term-requires (P t) (part-at t) part.Post
 part-term-requires t c κs =
@@ -109,61 +101,45 @@ term-begin-requires : (t : ℕ) → term-lts.Need-begin-requires (E t) (term-at 
 term-begin-requires t c κs =
     (c .before .before .before .before .pre .1 .0, begins-opened _ _ _ (c .before .before .before .before .pre .1 .1))
 
-term-enum-known-opened : (t : ℕ) → term-lts.Need-enum-known-opened (E t) (term-at t) term.Post term-Inv-loop term-μ-loop
-term-enum-known-opened t c =
-    search needs
-
-term-enum-told : (t : ℕ) → term-lts.Need-enum-told (E t) (term-at t) term.Post term-Inv-loop term-μ-loop
-term-enum-told t c =
-    search needs
-
 term-same-length : (t : ℕ) → term-lts.Need-same-length (E t) (term-at t) term.Post term-Inv-loop term-μ-loop
 term-same-length t c =
-    c .before .before .before .before .begin .kept .1 .1 .0
+    c .before .before .before .begin .kept .1 .1 .0
 
 term-returns : (t : ℕ) → term-lts.Need-returns (E t) (term-at t) term.Post term-Inv-loop term-μ-loop
 term-returns t c =
-    for-any _ _ _ (c .before .before .before .before .before .before .before .before .before .args .words .now) (c .before .before .before .before .before .before .before .before .before .pre .1 .1) _ _ _ _ (open-stops _ _ _ (c .before .before .before .before .before .before .before .before .before .args .words .now) (c .before .before .before .before .before .before .before .before .before .pre .1 .1) _ _ _ _ (c .before .before .before .before .begin .ensures) (c .enum-told .given .1))
+    for-any _ _ _ (c .before .before .before .before .before .before .before .before .args .words .now) (c .before .before .before .before .before .before .before .before .pre .1 .1) _ _ _ _ (open-stops _ _ _ (c .before .before .before .before .before .before .before .before .args .words .now) (c .before .before .before .before .before .before .before .before .pre .1 .1) _ _ _ _ (c .before .before .before .begin .ensures) (put-full _ (c .if1 .taken)))
 
 term-parts-of-requires : (t : ℕ) → term-lts.Need-parts-of-requires (E t) (term-at t) term.Post term-Inv-loop term-μ-loop
 term-parts-of-requires t c κs =
-    begins-opened _ _ _ (c .before .before .before .before .before .before .before .before .before .before .pre .1 .1)
+    begins-opened _ _ _ (c .before .before .before .before .before .before .before .before .pre .1 .1)
 
 term-loop-holds : (t : ℕ) → term-lts.Need-loop-holds (E t) (term-at t) term.Post term-Inv-loop term-μ-loop
 term-loop-holds t c =
-    going-start _ _ _ _ (c .before .before .before .before .before .before .before .before .before .before .before .args .words .now) _ _ (c .before .before .before .before .before .before .before .before .before .before .before .pre .1 .1) (c .parts-of .result) refl (c .parts-of .ensures _ _ (begins-node _ _ (c .before .before .before .before .before .before .before .before .before .before .before .args .words .now) (c .before .before .before .before .before .before .before .before .before .before .before .pre .1 .1))) (left-room (c .before .before .before .before .before .before .begin .ensures _ _ (begins-node _ _ (c .before .before .before .before .before .before .before .before .before .before .before .args .words .now) (c .before .before .before .before .before .before .before .before .before .before .before .pre .1 .1))) _ (c .before .before .opened .given .1))
+    going-start _ _ _ _ (c .before .before .before .before .before .before .before .before .before .args .words .now) _ _ (c .before .before .before .before .before .before .before .before .before .pre .1 .1) (c .parts-of .result) refl (c .parts-of .ensures _ _ (begins-node _ _ (c .before .before .before .before .before .before .before .before .before .args .words .now) (c .before .before .before .before .before .before .before .before .before .pre .1 .1))) (place-room (c .before .before .before .before .begin .ensures _ _ (begins-node _ _ (c .before .before .before .before .before .before .before .before .before .args .words .now) (c .before .before .before .before .before .before .before .before .before .pre .1 .1))) (c .before .if1 .left))
 
 term-gap-requires : (t : ℕ) → term-lts.Need-gap-requires (E t) (term-at t) term.Post term-Inv-loop term-μ-loop
 term-gap-requires t c κs =
     left-room (c .before .before .loop .inv .laid) _ refl
 
-term-enum-known-start : (t : ℕ) → term-lts.Need-enum-known-start (E t) (term-at t) term.Post term-Inv-loop term-μ-loop
-term-enum-known-start t c =
-    search needs
-
-term-enum-told-2 : (t : ℕ) → term-lts.Need-enum-told-2 (E t) (term-at t) term.Post term-Inv-loop term-μ-loop
-term-enum-told-2 t c =
-    search needs
-
 term-same-length-2 : (t : ℕ) → term-lts.Need-same-length-2 (E t) (term-at t) term.Post term-Inv-loop term-μ-loop
 term-same-length-2 t c =
-    c .before .before .before .before .gap .kept .1 .0 ∙ left-length (c .before .before .before .before .before .before .before .loop .inv .laid) _ refl ∙ c .before .before .before .before .before .before .before .before .before .before .before .before .before .before .begin .kept .1 .1 .0
+    c .before .before .before .gap .kept .1 .0 ∙ left-length (c .before .before .before .before .before .before .loop .inv .laid) _ refl ∙ c .before .before .before .before .before .before .before .before .before .before .before .begin .kept .1 .1 .0
 
 term-returns-2 : (t : ℕ) → term-lts.Need-returns-2 (E t) (term-at t) term.Post term-Inv-loop term-μ-loop
 term-returns-2 t c =
-    let g = c .before .before .before .before .before .before .before .loop .inv in for-any _ _ _ (c .before .before .before .before .before .before .before .before .before .before .before .before .before .before .before .before .before .before .before .args .words .now) (g .whole) _ _ _ _ (parts-stop _ _ _ (c .before .before .before .before .before .before .before .before .before .before .before .before .before .before .before .before .before .before .before .args .words .now) (g .whole) _ _ _ _ (c .before .before .before .before .before .before .before .before .before .before .before .before .before .before .begin .ensures) _ (c .before .before .before .before .before .before .before .before .before .before .opened .given .1) _ (g .inner′) _ (gap-full _ _ _ _ (c .before .before .before .before .before .before .before .before .before .before .before .before .before .before .before .before .before .before .before .args .words .now) _ _ _ _ _ _ _ g (omega arith) _ _ (c .before .before .before .before .gap .ensures) (c .enum-told2 .given .1)))
+    let g = c .before .before .before .before .before .before .loop .inv in for-any _ _ _ (c .before .before .before .before .before .before .before .before .before .before .before .before .before .before .before .before .args .words .now) (g .whole) _ _ _ _ (parts-stop _ _ _ (c .before .before .before .before .before .before .before .before .before .before .before .before .before .before .before .before .args .words .now) (g .whole) _ _ _ _ (c .before .before .before .before .before .before .before .before .before .before .before .begin .ensures) _ (put-done _ (c .before .before .before .before .before .before .before .before .if1 .left)) _ (g .inner′) _ (gap-full _ _ _ _ (c .before .before .before .before .before .before .before .before .before .before .before .before .before .before .before .before .args .words .now) _ _ _ _ _ _ _ g (omega arith) _ _ (c .before .before .before .gap .ensures) (put-full _ (c .if2 .taken))))
 
 term-mul-part : (t : ℕ) → term-lts.Need-mul-part (E t) (term-at t) term.Post term-Inv-loop term-μ-loop
 term-mul-part t c =
-    let l = going-inside _ _ _ _ (c .before .before .before .before .before .before .before .before .before .before .before .before .before .before .before .before .before .before .before .before .args .words .now) _ _ _ _ _ _ _ (c .before .before .before .before .before .before .before .before .loop .inv) in omega (arith, c .before .before .before .before .before .before .before .before .before .before .before .before .before .before .before .before .before .before .before .before .good .0 .1)
+    let l = going-inside _ _ _ _ (c .before .before .before .before .before .before .before .before .before .before .before .before .before .before .before .before .args .words .now) _ _ _ _ _ _ _ (c .before .before .before .before .before .before .loop .inv) in omega (arith, c .before .before .before .before .before .before .before .before .before .before .before .before .before .before .before .before .good .0 .1)
 
 term-sub-part : (t : ℕ) → term-lts.Need-sub-part (E t) (term-at t) term.Post term-Inv-loop term-μ-loop
 term-sub-part t c =
-    let l = going-inside _ _ _ _ (c .before .before .before .before .before .before .before .before .before .before .before .before .before .before .before .before .before .before .before .before .args .words .now) _ _ _ _ _ _ _ (c .before .before .before .before .before .before .before .before .loop .inv) in omega arith
+    let l = going-inside _ _ _ _ (c .before .before .before .before .before .before .before .before .before .before .before .before .before .before .before .before .args .words .now) _ _ _ _ _ _ _ (c .before .before .before .before .before .before .loop .inv) in omega arith
 
 term-part-part-start : (t : ℕ) → term-lts.Need-part-part-start (E t) (term-at t) term.Post term-Inv-loop term-μ-loop
 term-part-part-start t c =
-    let l = going-inside _ _ _ _ (c .before .before .before .before .before .before .before .before .before .before .before .before .before .before .before .before .before .before .before .before .args .words .now) _ _ _ _ _ _ _ (c .before .before .before .before .before .before .before .before .loop .inv) in omega arith
+    let l = going-inside _ _ _ _ (c .before .before .before .before .before .before .before .before .before .before .before .before .before .before .before .before .args .words .now) _ _ _ _ _ _ _ (c .before .before .before .before .before .before .loop .inv) in omega arith
 
 term-part-part-end : (t : ℕ) → term-lts.Need-part-part-end (E t) (term-at t) term.Post term-Inv-loop term-μ-loop
 term-part-part-end t c =
@@ -171,27 +147,27 @@ term-part-part-end t c =
 
 term-part-requires : (t : ℕ) → term-lts.Need-part-requires (E t) (term-at t) term.Post term-Inv-loop term-μ-loop
 term-part-requires t c κs =
-    let g = c .before .before .before .before .before .before .before .before .before .before .loop .inv in (omega (arith, going-shorter _ _ _ _ (c .before .before .before .before .before .before .before .before .before .before .before .before .before .before .before .before .before .before .before .before .before .before .args .words .now) _ _ _ _ _ _ _ g, c .before .before .before .before .before .before .before .before .before .before .before .before .before .before .before .before .before .before .before .before .before .before .pre .0), (left-room (c .before .before .before .before .before .before .before .gap .ensures) _ (c .before .before .before .start .given .1), going-next _ _ _ _ (c .before .before .before .before .before .before .before .before .before .before .before .before .before .before .before .before .before .before .before .before .before .before .args .words .now) _ _ _ _ _ _ _ g (omega arith)))
+    let g = c .before .before .before .before .before .before .before .before .loop .inv in (omega (arith, going-shorter _ _ _ _ (c .before .before .before .before .before .before .before .before .before .before .before .before .before .before .before .before .before .before .args .words .now) _ _ _ _ _ _ _ g, c .before .before .before .before .before .before .before .before .before .before .before .before .before .before .before .before .before .before .pre .0), (place-room (c .before .before .before .before .before .gap .ensures) (c .before .before .if2 .left), going-next _ _ _ _ (c .before .before .before .before .before .before .before .before .before .before .before .before .before .before .before .before .before .before .args .words .now) _ _ _ _ _ _ _ g (omega arith)))
 
 term-enum-known-used : (t : ℕ) → term-lts.Need-enum-known-used (E t) (term-at t) term.Post term-Inv-loop term-μ-loop
 term-enum-known-used t c =
     search needs
 
-term-enum-told-3 : (t : ℕ) → term-lts.Need-enum-told-3 (E t) (term-at t) term.Post term-Inv-loop term-μ-loop
-term-enum-told-3 t c =
+term-enum-told : (t : ℕ) → term-lts.Need-enum-told (E t) (term-at t) term.Post term-Inv-loop term-μ-loop
+term-enum-told t c =
     search needs
 
 term-same-length-3 : (t : ℕ) → term-lts.Need-same-length-3 (E t) (term-at t) term.Post term-Inv-loop term-μ-loop
 term-same-length-3 t c =
-    c .before .before .before .before .part .kept .1 .1 .0 ∙ c .before .before .before .before .before .before .before .before .before .before .before .before .gap .kept .1 .0 ∙ left-length (c .before .before .before .before .before .before .before .before .before .before .before .before .before .before .before .loop .inv .laid) _ refl ∙ c .before .before .before .before .before .before .before .before .before .before .before .before .before .before .before .before .before .before .before .before .before .before .begin .kept .1 .1 .0
+    c .before .before .before .before .part .kept .1 .1 .0 ∙ c .before .before .before .before .before .before .before .before .before .before .gap .kept .1 .0 ∙ left-length (c .before .before .before .before .before .before .before .before .before .before .before .before .before .loop .inv .laid) _ refl ∙ c .before .before .before .before .before .before .before .before .before .before .before .before .before .before .before .before .before .before .begin .kept .1 .1 .0
 
 term-returns-3 : (t : ℕ) → term-lts.Need-returns-3 (E t) (term-at t) term.Post term-Inv-loop term-μ-loop
 term-returns-3 t c =
-    let g = c .before .before .before .before .before .before .before .before .before .before .before .before .before .before .before .loop .inv in for-any _ _ _ (c .before .before .before .before .before .before .before .before .before .before .before .before .before .before .before .before .before .before .before .before .before .before .before .before .before .before .before .args .words .now) (g .whole) _ _ _ _ (parts-stop _ _ _ (c .before .before .before .before .before .before .before .before .before .before .before .before .before .before .before .before .before .before .before .before .before .before .before .before .before .before .before .args .words .now) (g .whole) _ _ _ _ (c .before .before .before .before .before .before .before .before .before .before .before .before .before .before .before .before .before .before .before .before .before .before .begin .ensures) _ (c .before .before .before .before .before .before .before .before .before .before .before .before .before .before .before .before .before .before .opened .given .1) _ (g .inner′) _ (part-full _ _ _ _ (c .before .before .before .before .before .before .before .before .before .before .before .before .before .before .before .before .before .before .before .before .before .before .before .before .before .before .before .args .words .now) _ _ _ _ _ _ _ g (omega arith) _ _ (c .before .before .before .before .before .before .before .before .before .before .before .before .gap .ensures) _ (c .before .before .before .before .before .before .before .before .start .given .1) _ _ (c .before .before .before .before .part .ensures) (c .enum-told3 .given .1)))
+    let g = c .before .before .before .before .before .before .before .before .before .before .before .before .before .loop .inv in for-any _ _ _ (c .before .before .before .before .before .before .before .before .before .before .before .before .before .before .before .before .before .before .before .before .before .before .before .args .words .now) (g .whole) _ _ _ _ (parts-stop _ _ _ (c .before .before .before .before .before .before .before .before .before .before .before .before .before .before .before .before .before .before .before .before .before .before .before .args .words .now) (g .whole) _ _ _ _ (c .before .before .before .before .before .before .before .before .before .before .before .before .before .before .before .before .before .before .begin .ensures) _ (put-done _ (c .before .before .before .before .before .before .before .before .before .before .before .before .before .before .before .if1 .left)) _ (g .inner′) _ (part-full _ _ _ _ (c .before .before .before .before .before .before .before .before .before .before .before .before .before .before .before .before .before .before .before .before .before .before .before .args .words .now) _ _ _ _ _ _ _ g (omega arith) _ _ (c .before .before .before .before .before .before .before .before .before .before .gap .ensures) _ (put-done _ (c .before .before .before .before .before .before .before .if2 .left)) _ _ (c .before .before .before .before .part .ensures) (c .enum-told .given .1)))
 
 term-add-from : (t : ℕ) → term-lts.Need-add-from (E t) (term-at t) term.Post term-Inv-loop term-μ-loop
 term-add-from t c =
-    let g = c .before .before .before .before .before .before .before .before .before .before .before .before .before .before .before .before .loop .inv in omega (arith, c .before .before .before .before .before .before .before .before .before .before .before .before .before .before .before .before .before .before .before .before .before .before .before .before .before .before .before .before .good .0 .1, part-inside _ _ _ _ (c .before .before .before .before .before .before .before .before .before .before .before .before .before .before .before .before .before .before .before .before .before .before .before .before .before .before .before .before .args .words .now) _ _ _ _ _ _ _ g (omega arith) _ _ (c .before .before .before .before .before .before .before .before .before .before .before .before .before .gap .ensures) _ (c .before .before .before .before .before .before .before .before .before .start .given .1) _ _ (c .before .before .before .before .before .part .ensures) _ _ (c .before .used .given .1))
+    let g = c .before .before .before .before .before .before .before .before .before .before .before .before .before .before .loop .inv in omega (arith, c .before .before .before .before .before .before .before .before .before .before .before .before .before .before .before .before .before .before .before .before .before .before .before .before .good .0 .1, part-inside _ _ _ _ (c .before .before .before .before .before .before .before .before .before .before .before .before .before .before .before .before .before .before .before .before .before .before .before .before .args .words .now) _ _ _ _ _ _ _ g (omega arith) _ _ (c .before .before .before .before .before .before .before .before .before .before .before .gap .ensures) _ (put-done _ (c .before .before .before .before .before .before .before .before .if2 .left)) _ _ (c .before .before .before .before .before .part .ensures) _ _ (c .before .used .given .1))
 
 term-sub-left : (t : ℕ) → term-lts.Need-sub-left (E t) (term-at t) term.Post term-Inv-loop term-μ-loop
 term-sub-left t c =
@@ -203,43 +179,33 @@ term-loop-less t c =
 
 term-loop-again : (t : ℕ) → term-lts.Need-loop-again (E t) (term-at t) term.Post term-Inv-loop term-μ-loop
 term-loop-again t c =
-    let g = c .before .before .before .before .before .before .before .before .before .before .before .before .before .before .before .before .loop .inv in going-on _ _ _ _ (c .before .before .before .before .before .before .before .before .before .before .before .before .before .before .before .before .before .before .before .before .before .before .before .before .before .before .before .before .args .words .now) _ _ _ _ _ _ _ g (omega arith) _ _ (c .before .before .before .before .before .before .before .before .before .before .before .before .before .gap .ensures) _ (c .before .before .before .before .before .before .before .before .before .start .given .1) _ _ (c .before .before .before .before .before .part .ensures) _ _ (c .before .used .given .1)
+    let g = c .before .before .before .before .before .before .before .before .before .before .before .before .before .before .loop .inv in going-on _ _ _ _ (c .before .before .before .before .before .before .before .before .before .before .before .before .before .before .before .before .before .before .before .before .before .before .before .before .args .words .now) _ _ _ _ _ _ _ g (omega arith) _ _ (c .before .before .before .before .before .before .before .before .before .before .before .gap .ensures) _ (put-done _ (c .before .before .before .before .before .before .before .before .if2 .left)) _ _ (c .before .before .before .before .before .part .ensures) _ _ (c .before .used .given .1)
 
 term-finish-requires : (t : ℕ) → term-lts.Need-finish-requires (E t) (term-at t) term.Post term-Inv-loop term-μ-loop
 term-finish-requires t c κs =
-    let g = c .before .before .loop .inv in (left-room (g .laid) _ refl, some-words (c .before .before .before .before .before .before .before .before .before .before .before .before .before .before .args .words .now) _ _ (begins-node _ _ (c .before .before .before .before .before .before .before .before .before .before .before .before .before .before .args .words .now) (g .whole)))
-
-term-enum-known-end : (t : ℕ) → term-lts.Need-enum-known-end (E t) (term-at t) term.Post term-Inv-loop term-μ-loop
-term-enum-known-end t c =
-    search needs
-
-term-enum-told-4 : (t : ℕ) → term-lts.Need-enum-told-4 (E t) (term-at t) term.Post term-Inv-loop term-μ-loop
-term-enum-told-4 t c =
-    search needs
+    let g = c .before .before .loop .inv in (left-room (g .laid) _ refl, some-words (c .before .before .before .before .before .before .before .before .before .before .before .before .args .words .now) _ _ (begins-node _ _ (c .before .before .before .before .before .before .before .before .before .before .before .before .args .words .now) (g .whole)))
 
 term-same-length-4 : (t : ℕ) → term-lts.Need-same-length-4 (E t) (term-at t) term.Post term-Inv-loop term-μ-loop
 term-same-length-4 t c =
-    c .before .before .before .before .finish .kept .1 .0 ∙ left-length (c .before .before .before .before .before .before .before .loop .inv .laid) _ refl ∙ c .before .before .before .before .before .before .before .before .before .before .before .before .before .before .begin .kept .1 .1 .0
+    c .before .before .before .finish .kept .1 .0 ∙ left-length (c .before .before .before .before .before .before .loop .inv .laid) _ refl ∙ c .before .before .before .before .before .before .before .before .before .before .before .begin .kept .1 .1 .0
 
 term-returns-4 : (t : ℕ) → term-lts.Need-returns-4 (E t) (term-at t) term.Post term-Inv-loop term-μ-loop
 term-returns-4 t c =
-    let g = c .before .before .before .before .before .before .before .loop .inv in for-any _ _ _ (c .before .before .before .before .before .before .before .before .before .before .before .before .before .before .before .before .before .before .before .args .words .now) (g .whole) _ _ _ _ (close-stops _ _ _ (c .before .before .before .before .before .before .before .before .before .before .before .before .before .before .before .before .before .before .before .args .words .now) (g .whole) _ _ _ _ (c .before .before .before .before .before .before .before .before .before .before .before .before .before .before .begin .ensures) _ (c .before .before .before .before .before .before .before .before .before .before .opened .given .1) _ (g .inner′) _ _ (going-end _ _ _ _ (c .before .before .before .before .before .before .before .before .before .before .before .before .before .before .before .before .before .before .before .args .words .now) _ _ _ _ _ _ _ g (omega arith) .1) _ _ (c .before .before .before .before .finish .ensures) (c .enum-told4 .given .1))
+    let g = c .before .before .before .before .before .before .loop .inv in for-any _ _ _ (c .before .before .before .before .before .before .before .before .before .before .before .before .before .before .before .before .args .words .now) (g .whole) _ _ _ _ (close-stops _ _ _ (c .before .before .before .before .before .before .before .before .before .before .before .before .before .before .before .before .args .words .now) (g .whole) _ _ _ _ (c .before .before .before .before .before .before .before .before .before .before .before .begin .ensures) _ (put-done _ (c .before .before .before .before .before .before .before .before .if1 .left)) _ (g .inner′) _ _ (going-end _ _ _ _ (c .before .before .before .before .before .before .before .before .before .before .before .before .before .before .before .before .args .words .now) _ _ _ _ _ _ _ g (omega arith) .1) _ _ (c .before .before .before .finish .ensures) (put-full _ (c .if3 .taken)))
 
 term-same-length-5 : (t : ℕ) → term-lts.Need-same-length-5 (E t) (term-at t) term.Post term-Inv-loop term-μ-loop
 term-same-length-5 t c =
-    c .before .before .before .before .before .finish .kept .1 .0 ∙ left-length (c .before .before .before .before .before .before .before .before .loop .inv .laid) _ refl ∙ c .before .before .before .before .before .before .before .before .before .before .before .before .before .before .before .begin .kept .1 .1 .0
+    c .before .before .before .finish .kept .1 .0 ∙ left-length (c .before .before .before .before .before .before .loop .inv .laid) _ refl ∙ c .before .before .before .before .before .before .before .before .before .before .before .begin .kept .1 .1 .0
 
 term-returns-5 : (t : ℕ) → term-lts.Need-returns-5 (E t) (term-at t) term.Post term-Inv-loop term-μ-loop
 term-returns-5 t c =
-    let g = c .before .before .before .before .before .before .before .before .loop .inv in let z = going-end _ _ _ _ (c .before .before .before .before .before .before .before .before .before .before .before .before .before .before .before .before .before .before .before .before .args .words .now) _ _ _ _ _ _ _ g (omega arith) in for-any _ _ _ (c .before .before .before .before .before .before .before .before .before .before .before .before .before .before .before .before .before .before .before .before .args .words .now) (g .whole) _ _ _ _ (all-walked _ _ _ (c .before .before .before .before .before .before .before .before .before .before .before .before .before .before .before .before .before .before .before .before .args .words .now) (g .whole) _ _ _ _ (c .before .before .before .before .before .before .before .before .before .before .before .before .before .before .before .begin .ensures) _ (c .before .before .before .before .before .before .before .before .before .before .before .opened .given .1) _ (g .inner′) _ _ (z .1) _ _ (c .before .before .before .before .before .finish .ensures) _ _ (z .0) (c .before .end .given .1))
+    let g = c .before .before .before .before .before .before .loop .inv in let z = going-end _ _ _ _ (c .before .before .before .before .before .before .before .before .before .before .before .before .before .before .before .before .args .words .now) _ _ _ _ _ _ _ g (omega arith) in for-any _ _ _ (c .before .before .before .before .before .before .before .before .before .before .before .before .before .before .before .before .args .words .now) (g .whole) _ _ _ _ (all-walked _ _ _ (c .before .before .before .before .before .before .before .before .before .before .before .before .before .before .before .before .args .words .now) (g .whole) _ _ _ _ (c .before .before .before .before .before .before .before .before .before .before .before .begin .ensures) _ (put-done _ (c .before .before .before .before .before .before .before .before .if1 .left)) _ (g .inner′) _ _ (z .1) _ _ (c .before .before .before .finish .ensures) _ _ (z .0) (put-done _ (c .if3 .left)))
 
 pub +part+term-spec : {M : Type 1} → statement M
 +part+term-spec = close μ-part μ-term (λ t. part-lts.spec (P t) (part-at t)
     part.Post
     (part-shared-slice-read-if1 t)
     (part-leaf-requires t)
-    (part-enum-known-to t)
-    (part-enum-told t)
     (part-same-length t)
     (part-returns t)
     (part-same-length-2 t)
@@ -252,15 +218,11 @@ pub +part+term-spec : {M : Type 1} → statement M
     term-Inv-loop
     term-μ-loop
     (term-begin-requires t)
-    (term-enum-known-opened t)
-    (term-enum-told t)
     (term-same-length t)
     (term-returns t)
     (term-parts-of-requires t)
     (term-loop-holds t)
     (term-gap-requires t)
-    (term-enum-known-start t)
-    (term-enum-told-2 t)
     (term-same-length-2 t)
     (term-returns-2 t)
     (term-mul-part t)
@@ -269,7 +231,7 @@ pub +part+term-spec : {M : Type 1} → statement M
     (term-part-part-end t)
     (term-part-requires t)
     (term-enum-known-used t)
-    (term-enum-told-3 t)
+    (term-enum-told t)
     (term-same-length-3 t)
     (term-returns-3 t)
     (term-add-from t)
@@ -277,8 +239,6 @@ pub +part+term-spec : {M : Type 1} → statement M
     (term-loop-less t)
     (term-loop-again t)
     (term-finish-requires t)
-    (term-enum-known-end t)
-    (term-enum-told-4 t)
     (term-same-length-4 t)
     (term-returns-4 t)
     (term-same-length-5 t)

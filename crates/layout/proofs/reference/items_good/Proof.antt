@@ -1,0 +1,44 @@
+-- `items_good` answers both tests: that of each item, and by the counts that of each item's references.
+use borrow.Author.Needs.{needs}
+use Rattle.layout.proofs.reference.items_good.Statement.{statement}
+use Rattle.layout.proofs.reference.items_good.Tie as tie
+use mathlib.Core.Path.{_≡_, sym, _∙_}
+use mathlib.Core.Bool.{true}
+use native.Mathlib.Omega.{arith}
+use borrow.Author.Tests.{not-true, not-false}
+use Rattle.words.specs.Lists.{all}
+use Rattle.words.specs.TestLaws.{and-none-left}
+use Rattle.recipe.specs.Table.{items, isItem}
+use Rattle.layout.specs.Counts.{once-each}
+
+items-fit-requires : tie.Need-items-fit-requires
+items-fit-requires c κs =
+    (c .before .before .before .pre .0, c .before .before .before .pre .2, c .before .before .before .pre .3, c .before .before .before .pre .4)
+
+same-length : tie.Need-same-length
+same-length c =
+    search needs
+
+returns : tie.Need-returns
+returns c =
+    let fit = c .before .before .before .items-fit in sym (and-none-left _ _ (sym (fit .ensures .0) ∙ not-true (fit .result) (c .if1 .taken)))
+
+ones-requires : tie.Need-ones-requires
+ones-requires c κs =
+    (c .before .before .before .before .before .before .before .before .pre .1, omega (arith, c .before .before .before .before .items-fit .kept .1 .1 .0))
+
+same-length-2 : tie.Need-same-length-2
+same-length-2 c =
+    search needs
+
+returns-2 : tie.Need-returns-2
+returns-2 c =
+    let ws = c .before .before .before .before .before .before .before .before .before .args .table .now in let n = c .before .before .before .before .before .before .before .before .before .args .n in let fit = c .before .before .before .before .before .items-fit in
+    let t = not-false (fit .result) (c .before .before .if1 .left) in
+    let f : all (isItem ws n) (items 0 ws) ≡ true = sym (fit .ensures .0) ∙ t in
+    rw f (c .ones .ensures ∙ sym (once-each ws n (c .before .before .before .before .before .before .before .before .before .pre .0) (fit .last .1 .1 .0) (fit .ensures .1 t) (omega (arith, fit .kept .1 .1 .0))))
+
+pub items-good-spec : {M : Type 1} → statement M
+items-good-spec =
+    tie.close
+    (tie.spec items-fit-requires same-length returns ones-requires same-length-2 returns-2)
