@@ -8,7 +8,7 @@ use native.Mathlib.Omega.{arith}
 use lib.Dec.{eqb, ltb, leb}
 use lib.ListN.{length, getD, take}
 use borrow.Author.Tests.{eqb-true, eqb-false, ne-eqb, leb-true, le-ltb}
-use Rattle.words.specs.Lists.{within, all}
+use Rattle.words.specs.Lists.{within, allOf}
 use Rattle.words.specs.Limits.{itemsMost, itemsLeast}
 use Rattle.recipe.specs.Name.{plainName}
 use Rattle.recipe.specs.Tree.{Tree, empty, constant, name, pair}
@@ -71,13 +71,13 @@ itemAt-next p k a b ws i =
     let z : 3 * suc i ≡ suc (suc (suc (3 * i))) = omega arith in
     rw (e, up i 1, up i 2, z)
 
-all-items : (f : Item → Bool) (p : ℕ) (ws : List ℕ) → all f (items p ws) ≡ true → (i : ℕ) → 3 * i + 2 < length ws → f (itemAt p ws i) ≡ true
-unfolding all items itemAt
+all-items : (f : Item → Bool) (p : ℕ) (ws : List ℕ) → allOf f (items p ws) ≡ true → (i : ℕ) → 3 * i + 2 < length ws → f (itemAt p ws i) ≡ true
+unfolding allOf items itemAt
 all-items f p [] e i h = absurd (omega arith)
 all-items f p (k ∷ []) e i h = absurd (omega arith)
 all-items f p (k ∷ a ∷ []) e i h = absurd (omega arith)
 all-items f p (k ∷ a ∷ b ∷ ws) e zero h = let z : p + 0 ≡ p = omega arith in rw z (and-left _ _ e)
-all-items f p (k ∷ a ∷ b ∷ ws) e (suc i) h = rw (itemAt-next p k a b ws i) (all-items f (suc p) ws (and-right (f (record { place = p; kind = k; first = a; second = b })) (all f (items (suc p) ws)) e) i (omega arith))
+all-items f p (k ∷ a ∷ b ∷ ws) e (suc i) h = rw (itemAt-next p k a b ws i) (all-items f (suc p) ws (and-right (f (record { place = p; kind = k; first = a; second = b })) (allOf f (items (suc p) ws)) e) i (omega arith))
 
 -- the tree of an item, by those of the items that it refers to
 unfoldable pub treeWith : Item → (head tail : Tree) → Tree

@@ -9,7 +9,7 @@ use lib.ListN.{length, getD, take, replicate, length-append, length-replicate}
 use lib.Seq.{take-at, drop-append-add, getD-append-add}
 use borrow.Author.Tests.{leb-true}
 use Rattle.words.specs.Limits.{nameLengthMost}
-use Rattle.words.specs.Lists.{all}
+use Rattle.words.specs.Lists.{allOf}
 use Rattle.words.specs.TestLaws.{and-left, and-right}
 use Rattle.datum.specs.NameTable.{slot, slots, lengthAt, nameAt}
 
@@ -23,13 +23,13 @@ pub length-slot : (cs : List ℕ) → length cs ≤ 63 → length (slot cs) ≡ 
 unfolding slot
 length-slot cs h = omega (arith, length-append cs (replicate (63 - length cs) 0), length-replicate {A = ℕ} (63 - length cs) 0)
 
-pub length-slots : (names : List (List ℕ)) → all isShort names ≡ true → length (slots names) ≡ 64 * length names
-unfolding slots all isShort
+pub length-slots : (names : List (List ℕ)) → allOf isShort names ≡ true → length (slots names) ≡ 64 * length names
+unfolding slots allOf isShort
 length-slots [] h = refl
 length-slots (cs ∷ names) h =
-    let k = leb-true (length cs) 63 (and-left (isShort cs) (all isShort names) h) in
+    let k = leb-true (length cs) 63 (and-left (isShort cs) (allOf isShort names) h) in
     length-append (slot cs) (slots names)
-    ∙ omega (arith, length-slot cs k, length-slots names (and-right (isShort cs) (all isShort names) h))
+    ∙ omega (arith, length-slot cs k, length-slots names (and-right (isShort cs) (allOf isShort names) h))
 
 pub slots-append : (a b : List (List ℕ)) → slots (a ++ b) ≡ slots a ++ slots b
 unfolding slots
@@ -61,26 +61,26 @@ module _ (cs rest : List ℕ) (h : length cs ≤ 63) where
       let e : suc (64 * suc n) ≡ length (slot cs) + suc (64 * n) = omega (arith, length-slot cs h) in
       rw (later-length n, e) (ap (take (lengthAt rest n)) (drop-append-add (slot cs) rest (suc (64 * n))))
 
-pub name-at : (names : List (List ℕ)) (rest : List ℕ) (n : ℕ) → all isShort names ≡ true → n < length names
+pub name-at : (names : List (List ℕ)) (rest : List ℕ) (n : ℕ) → allOf isShort names ≡ true → n < length names
     → nameAt (slots names ++ rest) n ≡ getD names n []
-unfolding slots all isShort
+unfolding slots allOf isShort
 name-at [] rest n h l = absurd (omega arith)
 name-at (cs ∷ names) rest zero h l =
-    let k = leb-true (length cs) 63 (and-left (isShort cs) (all isShort names) h) in
+    let k = leb-true (length cs) 63 (and-left (isShort cs) (allOf isShort names) h) in
     rw (append-assoc (slot cs) (slots names) rest) (first-name cs (slots names ++ rest) k)
 name-at (cs ∷ names) rest (suc n) h l =
-    let k = leb-true (length cs) 63 (and-left (isShort cs) (all isShort names) h) in
+    let k = leb-true (length cs) 63 (and-left (isShort cs) (allOf isShort names) h) in
     rw (append-assoc (slot cs) (slots names) rest)
-    (later-name cs (slots names ++ rest) k n ∙ name-at names rest n (and-right (isShort cs) (all isShort names) h) (omega arith))
+    (later-name cs (slots names ++ rest) k n ∙ name-at names rest n (and-right (isShort cs) (allOf isShort names) h) (omega arith))
 
-pub length-at : (names : List (List ℕ)) (rest : List ℕ) (n : ℕ) → all isShort names ≡ true → n < length names
+pub length-at : (names : List (List ℕ)) (rest : List ℕ) (n : ℕ) → allOf isShort names ≡ true → n < length names
     → lengthAt (slots names ++ rest) n ≤ 63
-unfolding slots all isShort
+unfolding slots allOf isShort
 length-at [] rest n h l = absurd (omega arith)
 length-at (cs ∷ names) rest zero h l =
-    let k = leb-true (length cs) 63 (and-left (isShort cs) (all isShort names) h) in
+    let k = leb-true (length cs) 63 (and-left (isShort cs) (allOf isShort names) h) in
     rw (append-assoc (slot cs) (slots names) rest, first-length cs (slots names ++ rest) k) k
 length-at (cs ∷ names) rest (suc n) h l =
-    let k = leb-true (length cs) 63 (and-left (isShort cs) (all isShort names) h) in
+    let k = leb-true (length cs) 63 (and-left (isShort cs) (allOf isShort names) h) in
     rw (append-assoc (slot cs) (slots names) rest, later-length cs (slots names ++ rest) k n)
-    (length-at names rest n (and-right (isShort cs) (all isShort names) h) (omega arith))
+    (length-at names rest n (and-right (isShort cs) (allOf isShort names) h) (omega arith))

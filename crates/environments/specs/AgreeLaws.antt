@@ -6,7 +6,7 @@ use Prim.Native.Nat.{ℕ, zero, suc, _+_, _<_}
 use native.Mathlib.Omega.{arith}
 use lib.Dec.{eqb}
 use borrow.Author.Tests.{eqb-true, eqb-false}
-use Rattle.words.specs.Lists.{all}
+use Rattle.words.specs.Lists.{allOf}
 use Rattle.expansion.specs.Rules.{Template, variableT, insertT, constantT, emptyT, pairT, ellipsisT}
 use Rattle.expansion.specs.Transcribe.{allBelow}
 use Rattle.arena.specs.Arena.{wordAt, referenceAt}
@@ -85,7 +85,7 @@ module _ (work env : List ℕ) where
           rw (pair-is items work t tag head rest tag-is head-is rest-is e, ← f items w, good) (g items w)
 
       module _ (e : tag ≡ 7) (c : ℕ) (c-is : Copies work env head c) (b : Bool) (b-is : AllOf work env 0 head c b) where
-        here : (items : List ℕ) (w : ℕ) → all (eqb (countBy (environmentAt items work env w) (templateAt items work head))) (lengthsBy (environmentAt items work env w) 0 (templateAt items work head)) ≡ b
+        here : (items : List ℕ) (w : ℕ) → allOf (eqb (countBy (environmentAt items work env w) (templateAt items work head))) (lengthsBy (environmentAt items work env w) 0 (templateAt items work head)) ≡ b
         unfolding driving
         here items w = rw (← c-is items w) (sym (b-is items w))
 

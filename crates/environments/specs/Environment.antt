@@ -7,7 +7,7 @@ use mathlib.Core.Option.{Option, none, some}
 use Prim.Native.Nat.{ℕ, zero, suc}
 use lib.Dec.{eqb}
 use lib.ListN.{length, getD}
-use Rattle.words.specs.Lists.{all}
+use Rattle.words.specs.Lists.{allOf}
 use Rattle.recipe.specs.Tree.{Tree, empty, constant, name, pair, elements, element}
 use Rattle.expansion.specs.Rules.{Pattern, variableP, literalP, wildcardP, constantP, emptyP, pairP, ellipsisP, Template, variableT, insertT, constantT, emptyT, pairT, ellipsisT, drivers}
 use Rattle.expansion.specs.Match.{holds, part}
@@ -63,7 +63,7 @@ agreeBy v (insertT x) = true
 agreeBy v (constantT a) = true
 agreeBy v emptyT = true
 agreeBy v (pairT a b) = agreeBy v a && agreeBy v b
-agreeBy v (ellipsisT e r) = all (eqb (countBy v e)) (lengthsBy v 0 e) && (allBelow (λ i. agreeBy (enter i v) e) (countBy v e) && agreeBy v r)
+agreeBy v (ellipsisT e r) = allOf (eqb (countBy v e)) (lengthsBy v 0 e) && (allBelow (λ i. agreeBy (enter i v) e) (countBy v e) && agreeBy v r)
 
 unfoldable pub resultBy : Environment → Template → Tree
 resultBy v (variableT k d) = takes d (v k)

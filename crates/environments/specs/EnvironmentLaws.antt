@@ -9,7 +9,7 @@ use native.Mathlib.Omega.{arith}
 use lib.Dec.{eqb, ltb}
 use lib.ListN.{length, getD}
 use Rattle.words.specs.Limits.{patternVariablesMost, depthMost}
-use Rattle.words.specs.Lists.{all}
+use Rattle.words.specs.Lists.{allOf}
 use Rattle.recipe.specs.Tree.{Tree, pair, elements}
 use Rattle.expansion.specs.Rules.{Pattern, variableP, literalP, wildcardP, constantP, emptyP, pairP, ellipsisP, Template, drivers}
 use Rattle.expansion.specs.Match.{holds, part}
@@ -155,7 +155,7 @@ module _ (p : Pattern) (used : Tree) where
   agreeBy-is is v s b empty = refl
   agreeBy-is is v s b (pairs x y) = ap₂ _&&_ (agreeBy-is is v s b x) (agreeBy-is is v s b y)
   agreeBy-is is v s b (ellipsis {a = e} x y) =
-      ap₂ _&&_ (ap₂ (λ (c : ℕ) (l : List ℕ). all (eqb c) l) (count-is is v s b x) (lengths-is is v s b x))
+      ap₂ _&&_ (ap₂ (λ (c : ℕ) (l : List ℕ). allOf (eqb c) l) (count-is is v s b x) (lengths-is is v s b x))
       (ap₂ _&&_
       (ap (allBelow (λ i. agreeBy (enter i v) e)) (count-is is v s b x) ∙ allBelow-cong _ _ _ (λ i. agreeBy-is (i ∷ is) (enter i v) (stands-enter i is v s) (omega arith) x))
       (agreeBy-is is v s b y))

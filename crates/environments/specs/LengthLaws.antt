@@ -9,7 +9,7 @@ use lib.ListN.{length, getD}
 use borrow.Author.Tests.{eq-eqb, eqb-true, eqb-false, lt-ltb, le-ltb}
 use Rattle.words.specs.ListLaws.{whole, either}
 use Rattle.words.specs.Parts.{rest}
-use Rattle.words.specs.Lists.{all}
+use Rattle.words.specs.Lists.{allOf}
 use Rattle.recipe.specs.Tree.{Tree, elements}
 use Rattle.expansion.specs.Rules.{drivers}
 use Rattle.arena.specs.Arena.{wordAt, referenceAt, treeAt}
@@ -89,13 +89,13 @@ unfolding heading lengthOr
 heading-count [] r e = rw e refl
 heading-count (x ∷ xs) r e = rw e refl
 
-all-both : (f : ℕ → Bool) (a b : List ℕ) → all f (a ++ b) ≡ (all f a && all f b)
-unfolding all
+all-both : (f : ℕ → Bool) (a b : List ℕ) → allOf f (a ++ b) ≡ (allOf f a && allOf f b)
+unfolding allOf
 all-both f [] b = refl
-all-both f (x ∷ xs) b = ap (λ (y : Bool). f x && y) (all-both f xs b) ∙ and-assoc (f x) (all f xs) (all f b)
+all-both f (x ∷ xs) b = ap (λ (y : Bool). f x && y) (all-both f xs b) ∙ and-assoc (f x) (allOf f xs) (allOf f b)
 
-first-alone : (f : (ℕ × ℕ) → ℕ) (b : Bool) (x : ℕ × ℕ) → true ≡ all (eqb (getD (map f (cond b (x ∷ []) [])) 0 0)) (map f (cond b (x ∷ []) []))
-unfolding all
+first-alone : (f : (ℕ × ℕ) → ℕ) (b : Bool) (x : ℕ × ℕ) → true ≡ allOf (eqb (getD (map f (cond b (x ∷ []) [])) 0 0)) (map f (cond b (x ∷ []) []))
+unfolding allOf
 first-alone f true x = rw (eq-eqb (f x) (f x) refl) refl
 first-alone f false x = refl
 
@@ -133,15 +133,15 @@ module _ (work env : List ℕ) where
 
     module _ (c : ℕ) where
       pub all-none : (tag ≡ 1 → ⊥) → (tag ≡ 6 → ⊥) → (tag ≡ 7 → ⊥) → AllOf work env j t c true
-      unfolding all
+      unfolding allOf
       all-none x y z items w = rw (driving-nothing items w (drivers-none items work t tag tag-is j x y z)) refl
 
       pub all-few : (d : ℕ) → tag ≡ 1 → d ≡ wordAt work t 2 → d ≤ j → AllOf work env j t c true
-      unfolding all
+      unfolding allOf
       all-few d e d-is h items w = rw (driving-nothing items w (drivers-few items work t tag tag-is j d e d-is h)) refl
 
       pub all-one : (d k list l : ℕ) → tag ≡ 1 → d ≡ wordAt work t 2 → k ≡ wordAt work t 3 → j < d → list ≡ takenIn env k (d - j - 1) → Counts work list l → AllOf work env j t c (eqb c l)
-      unfolding all
+      unfolding allOf
       all-one d k list l e d-is k-is h g s items w = rw (driving-one items w d k list l e d-is k-is h g s) (sym (and-true (eqb c l)))
 
     module _ (i head rest : ℕ) (low : 6 ≤ tag) (high : tag ≤ 7) (i-is : i ≡ deeper tag j) (head-is : head ≡ referenceAt work t 3) (rest-is : rest ≡ referenceAt work t 2) where

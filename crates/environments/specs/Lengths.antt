@@ -4,7 +4,7 @@ use mathlib.Core.Bool.{Bool, true, cond}
 use mathlib.Core.List.{List, [], _∷_}
 use Prim.Native.Nat.{ℕ, suc}
 use lib.Dec.{eqb}
-use Rattle.words.specs.Lists.{all}
+use Rattle.words.specs.Lists.{allOf}
 use Rattle.expansion.specs.Transcribe.{allBelow}
 use Rattle.rule_cells.specs.Cells.{templateAt}
 use Rattle.environments.specs.Environment.{Environment, enter, lengthsBy, countBy, agreeBy}
@@ -30,7 +30,7 @@ Drives work env j t r = (items : List ℕ) (w : ℕ) → r ≡ heading (driving 
 
 -- all of them are c
 abbrev pub AllOf : (work env : List ℕ) (j t c : ℕ) → Bool → Type 0
-AllOf work env j t c r = (items : List ℕ) (w : ℕ) → r ≡ all (eqb c) (driving items work env w j t)
+AllOf work env j t c r = (items : List ℕ) (w : ℕ) → r ≡ allOf (eqb c) (driving items work env w j t)
 
 abbrev pub Copies : (work env : List ℕ) (e : ℕ) → ℕ → Type 0
 Copies work env e r = (items : List ℕ) (w : ℕ) → r ≡ countBy (environmentAt items work env w) (templateAt items work e)

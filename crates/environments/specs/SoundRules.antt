@@ -10,9 +10,9 @@ use lib.Dec.{eqb, leb}
 use lib.ListN.{length}
 use borrow.Author.Tests.{eqb-true, eq-eqb, leb-true, leb-false}
 use Rattle.words.specs.Limits.{patternVariablesMost, depthMost}
-use Rattle.words.specs.Lists.{all}
+use Rattle.words.specs.Lists.{allOf}
 use Rattle.words.specs.TestLaws.{and-left, and-right, or-left, or-right}
-use Rattle.words.specs.Options.{guard, mapBoth}
+use Rattle.words.specs.Options.{onlyIf, mapBoth}
 use Rattle.words.specs.Each.{Each, each-weaken, Given, missing, given, given-weaken, given-traverse, given-cond, given-guard, given-mapSome, given-mapBoth}
 use Rattle.datum.specs.Constant.{Constant, isConstant}
 use Rattle.recipe.specs.Name.{Name, same, distinct, isEllipsis}
@@ -34,8 +34,8 @@ given-tested : {A : Type 0} {P : A → Type 0} (b : Bool) {o q : Option A} → (
 given-tested true f g = f refl
 given-tested false f g = g refl
 
-given-guarded : {A : Type 0} {P : A → Type 0} (b : Bool) {o : Option A} → (b ≡ true → Given P o) → Given P (guard b o)
-unfolding guard
+given-guarded : {A : Type 0} {P : A → Type 0} (b : Bool) {o : Option A} → (b ≡ true → Given P o) → Given P (onlyIf b o)
+unfolding onlyIf
 given-guarded b f = given-tested b f (λ e. missing)
 
 -- the second answer may use what holds of the first
@@ -113,8 +113,8 @@ record Known (k n : ℕ) (v : ℕ × ℕ) : Type 0 where
   few : v .0 < k + n
   shallow : v .1 ≤ depthMost
 
-variableFrom-known : (k : ℕ) (vs : List (Name × ℕ)) (x : Name) → all (λ v. leb (v .1) depthMost) vs ≡ true → Given (Known k (length vs)) (variableFrom k vs x)
-unfolding variableFrom all
+variableFrom-known : (k : ℕ) (vs : List (Name × ℕ)) (x : Name) → allOf (λ v. leb (v .1) depthMost) vs ≡ true → Given (Known k (length vs)) (variableFrom k vs x)
+unfolding variableFrom allOf
 variableFrom-known k [] x s = missing
 variableFrom-known k (v ∷ vs) x s =
     given-cond (same (v .0) x) (given (record { few = omega arith; shallow = leb-true (v .1) depthMost (and-left (leb (v .1) depthMost) _ s) }))
@@ -125,7 +125,7 @@ module _ (dots : Name → Bool) (vs : List (Name × ℕ)) (good : areVariables v
   unfolding areVariables
   few = leb-true (length vs) patternVariablesMost (and-left (leb (length vs) patternVariablesMost) _ good)
 
-  shallow : all (λ v. leb (v .1) depthMost) vs ≡ true
+  shallow : allOf (λ v. leb (v .1) depthMost) vs ≡ true
   unfolding areVariables
   shallow = and-right (distinct (map (λ v. v .0) vs)) _ (and-right (leb (length vs) patternVariablesMost) _ good)
 

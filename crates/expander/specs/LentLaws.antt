@@ -8,7 +8,7 @@ use lib.Dec.{ltb}
 use lib.ListN.{length, getD}
 use borrow.Author.Tests.{ltb-true, ltb-false, ne-eqb}
 use Rattle.words.specs.Limits.{namesMost, baseNameCount}
-use Rattle.words.specs.Lists.{all}
+use Rattle.words.specs.Lists.{allOf}
 use Rattle.words.specs.TestLaws.{all-parts}
 use Rattle.expansion.specs.Lookup.{form, nothing, formOf, placeFrom, unboundMeaning}
 use Rattle.words.specs.ListLaws.{either}
@@ -25,7 +25,7 @@ past-table [] n h = refl
 past-table (x ∷ xs) zero h = absurd (omega arith)
 past-table (x ∷ xs) (suc n) h = past-table xs n (omega arith)
 
-unplaced : (k n : ℕ) (ops : List ℕ) → all (λ x. ltb x namesMost) ops ≡ true → namesMost ≤ n → placeFrom k n ops ≡ nothing
+unplaced : (k n : ℕ) (ops : List ℕ) → allOf (λ x. ltb x namesMost) ops ≡ true → namesMost ≤ n → placeFrom k n ops ≡ nothing
 unfolding placeFrom
 unplaced k n [] e h = refl
 unplaced k n (x ∷ xs) e h =
@@ -33,7 +33,7 @@ unplaced k n (x ∷ xs) e h =
     let l : x < namesMost = ltb-true x namesMost (g .0) in
     rw (ne-eqb x n (λ z. omega arith)) (unplaced (suc k) n xs (g .1) h)
 
-pub places-lent : (table ops : List ℕ) → Places table ops → length table ≡ namesMost → all (λ x. ltb x namesMost) ops ≡ true → (n : ℕ) → unboundIn table n ≡ unboundMeaning ops n
+pub places-lent : (table ops : List ℕ) → Places table ops → length table ≡ namesMost → allOf (λ x. ltb x namesMost) ops ≡ true → (n : ℕ) → unboundIn table n ≡ unboundMeaning ops n
 unfolding unboundIn unboundMeaning operationAt
 places-lent table ops p long small n = ap (cond (ltb n baseNameCount) (form (formOf n))) later
   where

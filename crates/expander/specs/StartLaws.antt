@@ -9,7 +9,7 @@ use lib.ListN.{length, take, drop}
 use lib.Seq.{take-append-seam}
 use borrow.Author.Tests.{lt-ltb}
 use Rattle.words.specs.Limits.{namesMost, itemsMost, fuelMost, macrosMost}
-use Rattle.words.specs.Lists.{all}
+use Rattle.words.specs.Lists.{allOf}
 use Rattle.words.specs.Each.{noneOf, each-map, true-each}
 use Rattle.recipe.specs.Name.{Name}
 use Rattle.recipe.specs.Tree.{size, element}
@@ -56,7 +56,7 @@ expanded items core r last (starved l) e z x = absurd x
 -- ---- the start
 
 module _ (items work core operations : List ℕ) (fuel : ℕ) (l : Lends items work core operations fuel) where
-  operations-small : all (λ x. ltb x namesMost) (operationsOf items) ≡ true
+  operations-small : allOf (λ x. ltb x namesMost) (operationsOf items) ≡ true
   unfolding operationsOf operationNumbers
   operations-small =
       true-each (λ x. ltb x namesMost)

@@ -21,8 +21,8 @@ use Rattle.expansion.specs.Run as Run
 
 unfoldable pub computed : (items : List ℕ) (fuel work core : ℕ) → Run.Run
 unfolding
-    Lists.within Lists.all Lists.any Lists.equal
-    Options.guard Options.mapSome Options.mapBoth Options.traverse
+    Lists.within Lists.allOf Lists.anyOf Lists.equal
+    Options.onlyIf Options.mapSome Options.mapBoth Options.traverse
     Constant.isConstant Constant.matches Constant.constantWords
     Datum.count
     Name.plainName Name.bindingKey Name.isBound Name.same Name.distinct Name.isEllipsis Name.isWildcard Name.isOrdinary Name.toggle Name.markName

@@ -13,7 +13,7 @@ use lib.Dec.{leb}
 use lib.ListN.{length}
 use borrow.Author.Tests.{leb-true}
 use Rattle.words.specs.Limits.{operationsMost, macrosMost}
-use Rattle.words.specs.Lists.{all}
+use Rattle.words.specs.Lists.{allOf}
 use Rattle.words.specs.TestLaws.{and-parts}
 use Rattle.recipe.specs.Name.{Name}
 use Rattle.recipe.specs.Tree.{Tree, isName, elements, element, size}
@@ -53,7 +53,7 @@ expandRecipe-made fuel items e =
 pub operations-most : (t : Tree) → areOperations t ≡ true → length (operationNumbers t) ≤ operationsMost
 unfolding areOperations
 operations-most t e =
-    let p = and-parts (all isName (elements (element 0 t))) _ e in
+    let p = and-parts (allOf isName (elements (element 0 t))) _ e in
     leb-true (length (operationNumbers t)) operationsMost (and-parts (leb (length (operationNumbers t)) operationsMost) _ (p .1) .0)
 
 pub run-term : (items : List ℕ) (fuel work core : ℕ) → run items fuel work core .outcome ≡ accepted → CoreTerm (length (operationNumbers (treeOf items))) (run items fuel work core .core)

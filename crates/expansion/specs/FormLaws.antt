@@ -5,7 +5,7 @@ use mathlib.Core.List.{List, [], _∷_, _++_, map}
 use Prim.Native.Nat.{ℕ, suc, _+_}
 use native.Mathlib.Omega.{arith}
 use lib.ListN.{length, length-append, length-map}
-use Rattle.words.specs.Lists.{all}
+use Rattle.words.specs.Lists.{allOf}
 use Rattle.words.specs.TestLaws.{and-parts, all-parts}
 use Rattle.words.specs.Each.{Each, noneOf, also, each-append, Given, given-at}
 use Rattle.recipe.specs.Name.{Name}
@@ -62,7 +62,7 @@ readRules-holds P (also {x} g gs) s r =
     then-holds _ _ _ s (readRules-holds P gs s (λ l k. r _ (each-append h k))) λ b t l q.
     give-holds _ t (record { unchanged = q .unchanged; count = ap suc (q .count); each = also (given-at g e) (q .each); shown = each-append h (each-append (q .shown) noneOf) }))
 
-pub firstNames-length : (cs : List Tree) → all isMacro cs ≡ true → length (firstNames cs) ≡ length cs
+pub firstNames-length : (cs : List Tree) → allOf isMacro cs ≡ true → length (firstNames cs) ≡ length cs
 unfolding firstNames isMacro
 firstNames-length [] e = refl
 firstNames-length (c ∷ cs) e =
@@ -76,5 +76,5 @@ unfolding isMacros keywords rulesForms
 keywords-count limit t e =
     let a = and-parts (isListOf 3 t) _ e in
     let b = and-parts (isList (element 1 t)) _ (a .1) in
-    let d = and-parts (all isMacro (elements (element 1 t))) _ (b .1) in
+    let d = and-parts (allOf isMacro (elements (element 1 t))) _ (b .1) in
     firstNames-length (elements (element 1 t)) (d .0) ∙ sym (length-map (elements (element 1 t)) (element 1))

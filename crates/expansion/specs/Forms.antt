@@ -5,7 +5,7 @@ use Prim.Native.Nat.{ℕ, zero, suc, _+_}
 use lib.Dec.{leb}
 use lib.ListN.{length, getD}
 use Rattle.words.specs.Limits.{formalsMost}
-use Rattle.words.specs.Lists.{within, all}
+use Rattle.words.specs.Lists.{within, allOf}
 use Rattle.datum.specs.Datum.{constantD}
 use Rattle.recipe.specs.Name.{Binding, variable, macro, Name, distinct}
 use Rattle.recipe.specs.Tree.{Tree, empty, constant, name, pair, size, names, strip, onName, isOrdinaryName, isList, isListOf, elements, element, tail, mark, produce, bindAll}
@@ -20,7 +20,7 @@ use Rattle.expansion.specs.Computation.{Events, looked, quoted, reached,
 
 -- (lambda (name ...) body)
 unfoldable pub isLambda : Tree → Bool
-isLambda t = isListOf 3 t && (isList (element 1 t) && (all isOrdinaryName (elements (element 1 t)) && leb (length (elements (element 1 t))) formalsMost))
+isLambda t = isListOf 3 t && (isList (element 1 t) && (allOf isOrdinaryName (elements (element 1 t)) && leb (length (elements (element 1 t))) formalsMost))
 
 unfoldable pub formals : Tree → List Name
 formals t = names (element 1 t)
@@ -31,7 +31,7 @@ isMacro c = isListOf 2 c && isOrdinaryName (element 0 c)
 
 -- (let-syntax ((name rules) ...) body)
 unfoldable pub isMacros : ℕ → Tree → Bool
-isMacros limit t = isListOf 3 t && (isList (element 1 t) && (all isMacro (elements (element 1 t)) && within 1 limit (length (elements (element 1 t)))))
+isMacros limit t = isListOf 3 t && (isList (element 1 t) && (allOf isMacro (elements (element 1 t)) && within 1 limit (length (elements (element 1 t)))))
 
 -- the names of the macros, and their rules forms
 unfoldable pub firstNames : List Tree → List Name

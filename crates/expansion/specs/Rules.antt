@@ -7,8 +7,8 @@ use Prim.Native.Nat.{ℕ, suc, _+_, _-_}
 use lib.Dec.{eqb, ltb, leb}
 use lib.ListN.{length}
 use Rattle.words.specs.Limits.{literalsMost, rulesMost, patternVariablesMost, depthMost}
-use Rattle.words.specs.Lists.{within, all, any}
-use Rattle.words.specs.Options.{guard, mapSome, mapBoth, traverse}
+use Rattle.words.specs.Lists.{within, allOf, anyOf}
+use Rattle.words.specs.Options.{onlyIf, mapSome, mapBoth, traverse}
 use Rattle.datum.specs.Constant.{Constant}
 use Rattle.recipe.specs.Name.{Name, same, distinct, isEllipsis, isWildcard}
 use Rattle.recipe.specs.Tree.{Tree, empty, constant, name, pair, onName, onPair, names, isOrdinaryName, isList, isListOf, elements, element, tail}
@@ -66,11 +66,11 @@ variableFrom k (v ∷ vs) x = let later = variableFrom (suc k) vs x in cond (sam
 -- a template's name at this depth: a variable, or inserted
 unfoldable pub nameTemplate : ℕ → Name → Option (ℕ × ℕ) → Option Template
 nameTemplate here x none = some (insertT x)
-nameTemplate here x (some v) = guard (depthFits (v .1) here) (some (variableT (v .0) (v .1)))
+nameTemplate here x (some v) = onlyIf (depthFits (v .1) here) (some (variableT (v .0) (v .1)))
 
 -- at most 16 variables, no two the same, none under more than two ellipses
 unfoldable pub areVariables : List (Name × ℕ) → Bool
-areVariables vs = leb (length vs) patternVariablesMost && (distinct (map (λ v. v .0) vs) && all (λ v. leb (v .1) depthMost) vs)
+areVariables vs = leb (length vs) patternVariablesMost && (distinct (map (λ v. v .0) vs) && allOf (λ v. leb (v .1) depthMost) vs)
 
 -- dots tells the ellipsis
 module _ (dots : Name → Bool) where
@@ -85,7 +85,7 @@ module _ (dots : Name → Bool) where
   module _ (literals : List Name) where
     -- a pattern's name that is neither `...` nor `_` nor the same as a listed literal
     unfoldable pub isVariable : Name → Bool
-    isVariable x = not (dots x) && (not (isWildcard x) && not (any (same x) literals))
+    isVariable x = not (dots x) && (not (isWildcard x) && not (anyOf (same x) literals))
 
     -- the pattern's variables from the left, each with the number of ellipses it lies under
     unfoldable pub variables : ℕ → Tree → List (Name × ℕ)
@@ -98,35 +98,35 @@ module _ (dots : Name → Bool) where
     unfoldable pub patternOf : ℕ → Tree → Option Pattern
     patternOf k empty = some emptyP
     patternOf k (constant a) = some (constantP a)
-    patternOf k (name x) = guard (not (dots x)) (some (cond (isVariable x) (variableP k) (cond (isWildcard x) wildcardP (literalP x))))
+    patternOf k (name x) = onlyIf (not (dots x)) (some (cond (isVariable x) (variableP k) (cond (isWildcard x) wildcardP (literalP x))))
     patternOf k (pair p ps) =
         let first = patternOf k p in
         let later = patternOf (k + length (variables 0 p)) ps in
-        cond (dotsNext ps) (guard (isListOf 1 ps) (mapSome ellipsisP first)) (mapBoth pairP first later)
+        cond (dotsNext ps) (onlyIf (isListOf 1 ps) (mapSome ellipsisP first)) (mapBoth pairP first later)
 
   -- a part of a template under d ellipses; `taken` where it begins with the `...` that the element before it has taken
   unfoldable pub templateOf : List (Name × ℕ) → ℕ → (taken : Bool) → Tree → Option Template
   templateOf vs d taken empty = some emptyT
   templateOf vs d taken (constant a) = some (constantT a)
-  templateOf vs d taken (name x) = guard (not (dots x)) (nameTemplate d x (variableFrom 0 vs x))
+  templateOf vs d taken (name x) = onlyIf (not (dots x)) (nameTemplate d x (variableFrom 0 vs x))
   templateOf vs d taken (pair p ps) =
       let first = templateOf vs (depthBefore ps d) false p in
       let later = templateOf vs d (not taken && dotsNext ps) ps in
-      cond taken later (cond (dotsNext ps) (guard (isDriven first) (mapBoth ellipsisT first later)) (mapBoth pairT first later))
+      cond taken later (cond (dotsNext ps) (onlyIf (isDriven first) (mapBoth ellipsisT first later)) (mapBoth pairT first later))
 
   -- (pattern template); a pattern's first place is a name other than `...`, neither compared nor bound
   unfoldable pub ruleOf : List Name → Tree → Option Rule
   ruleOf literals r =
       let p = tail (element 0 r) in
       let vs = variables literals 0 p in
-      guard (isListOf 2 r && (onName (λ x. not (dots x)) false (element 0 (element 0 r)) && areVariables vs))
+      onlyIf (isListOf 2 r && (onName (λ x. not (dots x)) false (element 0 (element 0 r)) && areVariables vs))
       (mapBoth (λ q t. record { pattern = q; template = t }) (patternOf literals 0 p) (templateOf vs 0 false (element 1 r)))
 
 -- (syntax-rules (literal ...) (pattern template) ...)
 unfoldable pub isRulesForm : Tree → Bool
 isRulesForm r =
-    onName isSyntaxRules false (element 0 r) && (isList (element 1 r) && (all isOrdinaryName (elements (element 1 r))
+    onName isSyntaxRules false (element 0 r) && (isList (element 1 r) && (allOf isOrdinaryName (elements (element 1 r))
     && (leb (length (elements (element 1 r))) literalsMost && within 1 rulesMost (length (elements (tail (tail r)))))))
 
 unfoldable pub rulesOf : Tree → Option (List Rule)
-rulesOf r = guard (isRulesForm r) (traverse (ruleOf isEllipsis (names (element 1 r))) (elements (tail (tail r))))
+rulesOf r = onlyIf (isRulesForm r) (traverse (ruleOf isEllipsis (names (element 1 r))) (elements (tail (tail r))))

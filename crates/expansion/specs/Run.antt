@@ -5,7 +5,7 @@ use Prim.Native.Nat.{ℕ, _+_, _*_}
 use lib.Dec.{ltb, leb}
 use lib.ListN.{length}
 use Rattle.words.specs.Limits.{fuelMost, workRate, coreRate, operationsMost, macrosMost}
-use Rattle.words.specs.Lists.{all}
+use Rattle.words.specs.Lists.{allOf}
 use Rattle.recipe.specs.Name.{Name, distinct}
 use Rattle.recipe.specs.Tree.{Tree, size, names, isName, elements, element}
 use Rattle.recipe.specs.Table.{itemCount, isLayout, treeOf}
@@ -45,8 +45,8 @@ operationNumbers t = map (λ x. x .number) (names (element 0 t))
 -- ground 10: at most 256 distinct names above 7
 unfoldable pub areOperations : Tree → Bool
 areOperations t =
-    all isName (elements (element 0 t)) && (leb (length (operationNumbers t)) operationsMost
-    && (all (ltb 7) (operationNumbers t) && distinct (names (element 0 t))))
+    allOf isName (elements (element 0 t)) && (leb (length (operationNumbers t)) operationsMost
+    && (allOf (ltb 7) (operationNumbers t) && distinct (names (element 0 t))))
 
 -- the expansion of a recipe's expression, from the start
 unfoldable pub expandRecipe : ℕ → Tree → Out (Term Name)

@@ -7,7 +7,7 @@ use native.Mathlib.Omega.{arith}
 use lib.Dec.{leb}
 use borrow.Author.Tests.{leb-true, le-leb}
 use Rattle.words.specs.Limits.{fuelMost, workRate, coreRate}
-use Rattle.words.specs.Lists.{any}
+use Rattle.words.specs.Lists.{anyOf}
 use Rattle.words.specs.TestLaws.{and-parts, and-both}
 use Rattle.recipe.specs.Name.{Name}
 use Rattle.recipe.specs.Table.{itemCount, isLayout, treeOf}
@@ -91,6 +91,6 @@ module _ (items : List ℕ) (fuel work core : ℕ) where
       ∙ require-passes 10 _ _ (b .operations)
 
   -- a run that shows an event has passed them
-  pub shows-begun : (f : Event → Bool) → any f (run items fuel work core .events) ≡ true → Begun items fuel work core
-  unfolding any unbegun
-  shows-begun f = begun-holds (λ r. any f (r .events) ≡ true → Begun items fuel work core) items fuel work core (λ g _ e. absurd (false≢true e)) (λ b e. b)
+  pub shows-begun : (f : Event → Bool) → anyOf f (run items fuel work core .events) ≡ true → Begun items fuel work core
+  unfolding anyOf unbegun
+  shows-begun f = begun-holds (λ r. anyOf f (r .events) ≡ true → Begun items fuel work core) items fuel work core (λ g _ e. absurd (false≢true e)) (λ b e. b)

@@ -4,7 +4,7 @@ use mathlib.Core.List.{List, _∷_, map, reverse}
 use Prim.Native.Nat.{ℕ, zero, suc}
 use lib.Dec.{eqb}
 use lib.ListN.{length, getD, take}
-use Rattle.words.specs.Lists.{all}
+use Rattle.words.specs.Lists.{allOf}
 use Rattle.recipe.specs.Tree.{Tree, empty, constant, name, pair, elements}
 use Rattle.expansion.specs.Rules.{Pattern, Template, variableT, insertT, constantT, emptyT, pairT, ellipsisT, drivers}
 use Rattle.expansion.specs.Match.{part}
@@ -39,7 +39,7 @@ module _ (p : Pattern) (used : Tree) where
   equalLengths is emptyT = true
   equalLengths is (pairT a b) = equalLengths is a && equalLengths is b
   equalLengths is (ellipsisT e r) =
-      all (eqb (copyCount is e)) (lengths is e) && (allBelow (λ i. equalLengths (i ∷ is) e) (copyCount is e) && equalLengths is r)
+      allOf (eqb (copyCount is e)) (lengths is e) && (allBelow (λ i. equalLengths (i ∷ is) e) (copyCount is e) && equalLengths is r)
 
   unfoldable pub transcribe : List ℕ → Template → Tree
   transcribe is (variableT k d) = taken is k d

@@ -6,7 +6,7 @@ use Prim.Native.Nat.{ℕ, _<_}
 use native.Mathlib.Omega.{arith}
 use lib.Dec.{eqb}
 use borrow.Author.Tests.{eqb-true, eqb-false}
-use Rattle.words.specs.Lists.{any}
+use Rattle.words.specs.Lists.{anyOf}
 use Rattle.words.specs.ListLaws.{never, either}
 use Rattle.words.specs.TestLaws.{and-right, all-parts}
 use Rattle.recipe.specs.Name.{Name, same, distinct}
@@ -78,26 +78,26 @@ module _ (items work : List ℕ) (list kind : ℕ) (kind-is : kind ≡ wordAt wo
 
 -- ---- sameness
 
-pub among-none : (x : Name) (xs : List Name) → xs ≡ [] → false ≡ any (same x) xs
-unfolding any
+pub among-none : (x : Name) (xs : List Name) → xs ≡ [] → false ≡ anyOf (same x) xs
+unfolding anyOf
 among-none x xs e = rw e
 
-pub among-first : (x y : Name) (xs ys : List Name) (r : Bool) → xs ≡ y ∷ ys → r ≡ same x y → r ≡ true → true ≡ any (same x) xs
-unfolding any
+pub among-first : (x y : Name) (xs ys : List Name) (r : Bool) → xs ≡ y ∷ ys → r ≡ same x y → r ≡ true → true ≡ anyOf (same x) xs
+unfolding anyOf
 among-first x y xs ys r e s t = rw (e, sym s ∙ t)
 
-pub among-later : (x y : Name) (xs ys : List Name) (r : Bool) → xs ≡ y ∷ ys → r ≡ same x y → r ≡ false → any (same x) xs ≡ any (same x) ys
-unfolding any
+pub among-later : (x y : Name) (xs ys : List Name) (r : Bool) → xs ≡ y ∷ ys → r ≡ same x y → r ≡ false → anyOf (same x) xs ≡ anyOf (same x) ys
+unfolding anyOf
 among-later x y xs ys r e s t = rw (e, ← s, t) refl
 
 pub distinct-none : (xs : List Name) → xs ≡ [] → true ≡ distinct xs
 unfolding distinct
 distinct-none xs e = rw e
 
-pub distinct-not : (y : Name) (xs ys : List Name) (r : Bool) → xs ≡ y ∷ ys → r ≡ any (same y) ys → r ≡ true → false ≡ distinct xs
+pub distinct-not : (y : Name) (xs ys : List Name) (r : Bool) → xs ≡ y ∷ ys → r ≡ anyOf (same y) ys → r ≡ true → false ≡ distinct xs
 unfolding distinct
 distinct-not y xs ys r e s t = rw (e, sym s ∙ t)
 
-pub distinct-later : (y : Name) (xs ys : List Name) (r : Bool) → xs ≡ y ∷ ys → r ≡ any (same y) ys → r ≡ false → distinct xs ≡ distinct ys
+pub distinct-later : (y : Name) (xs ys : List Name) (r : Bool) → xs ≡ y ∷ ys → r ≡ anyOf (same y) ys → r ≡ false → distinct xs ≡ distinct ys
 unfolding distinct
 distinct-later y xs ys r e s t = rw (e, ← s, t) refl

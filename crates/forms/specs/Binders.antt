@@ -4,7 +4,7 @@ use mathlib.Core.Bool.{Bool, true, false}
 use mathlib.Core.List.{List, [], _∷_, _++_}
 use Prim.Native.Nat.{ℕ, suc, _+_, _*_, _^_, _≤_, _<_}
 use lib.ListN.{length, take}
-use Rattle.words.specs.Lists.{all}
+use Rattle.words.specs.Lists.{allOf}
 use Rattle.recipe.specs.Name.{Binding, variable, macro, Name, bindName}
 use Rattle.recipe.specs.Tree.{Tree, names, elements}
 use Rattle.recipe.specs.Tidy.{Tidy}
@@ -13,7 +13,7 @@ use Rattle.forms.specs.Shapes.{ownName, bindsOne}
 
 -- every element binds as it should; shapes tells before
 abbrev pub AllNames : (macros : Bool) → Tree → Type 0
-AllNames macros t = all (bindsOne macros) (elements t) ≡ true
+AllNames macros t = allOf (bindsOne macros) (elements t) ≡ true
 
 -- the names that elements bind, from the left
 unfoldable pub ownNames : (macros : Bool) → List Tree → List Name

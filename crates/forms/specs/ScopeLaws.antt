@@ -11,7 +11,7 @@ use lib.Dec.{leb}
 use lib.ListN.{length, length-append}
 use borrow.Author.Tests.{leb-true}
 use Rattle.words.specs.Limits.{formalsMost}
-use Rattle.words.specs.Lists.{within, all}
+use Rattle.words.specs.Lists.{within, allOf}
 use Rattle.words.specs.ListLaws.{never}
 use Rattle.words.specs.TestLaws.{and-left, and-right, all-parts, within-most}
 use Rattle.datum.specs.Constant.{Constant}
@@ -150,7 +150,7 @@ module _ (t : Tree) where
   list-shape = isList (element 1 t)
 
   module _ (shape : isLambda t ≡ true) where
-    within-shape : (list-shape && (all isOrdinaryName (elements (element 1 t)) && leb (length (elements (element 1 t))) formalsMost)) ≡ true
+    within-shape : (list-shape && (allOf isOrdinaryName (elements (element 1 t)) && leb (length (elements (element 1 t))) formalsMost)) ≡ true
     unfolding isLambda
     within-shape = and-right (isListOf 3 t) _ shape
 
@@ -178,7 +178,7 @@ keywords-are t = first-names (elements (element 1 t))
 
 -- ---- how many they are
 
-own-count : (macros : Bool) (cs : List Tree) → all (bindsOne macros) cs ≡ true → length (ownNames macros cs) ≡ length cs
+own-count : (macros : Bool) (cs : List Tree) → allOf (bindsOne macros) cs ≡ true → length (ownNames macros cs) ≡ length cs
 unfolding ownNames
 own-count macros [] h = refl
 own-count macros (c ∷ cs) h =
@@ -195,7 +195,7 @@ module _ (t : Tree) where
 
   pub formals-most : isLambda t ≡ true → Proper t → length (formals t) ≤ 8
   formals-most shape p =
-      omega (arith, formals-count shape p, leb-true (length (elements (element 1 t))) 8 (and-right (all isOrdinaryName (elements (element 1 t))) _ (and-right (isList (element 1 t)) _ (within-shape t shape))))
+      omega (arith, formals-count shape p, leb-true (length (elements (element 1 t))) 8 (and-right (allOf isOrdinaryName (elements (element 1 t))) _ (and-right (isList (element 1 t)) _ (within-shape t shape))))
 
   pub keywords-count : AllNames true (element 1 t) → length (keywords t) ≡ length (elements (element 1 t))
   keywords-count h = sym (ap length (keywords-are t)) ∙ names-count true (element 1 t) h
@@ -203,7 +203,7 @@ module _ (t : Tree) where
   pub keywords-most : (limit : ℕ) → isMacros limit t ≡ true → length (keywords t) ≤ limit
   unfolding isMacros
   keywords-most limit shape =
-      omega (arith, keywords-count (macros-names t limit shape), within-most 1 limit (length (elements (element 1 t))) (and-right (all isMacro (elements (element 1 t))) _ (and-right (isList (element 1 t)) _ (and-right (isListOf 3 t) _ shape))))
+      omega (arith, keywords-count (macros-names t limit shape), within-most 1 limit (length (elements (element 1 t))) (and-right (allOf isMacro (elements (element 1 t))) _ (and-right (isList (element 1 t)) _ (and-right (isListOf 3 t) _ shape))))
 
 -- ---- a form's binders
 

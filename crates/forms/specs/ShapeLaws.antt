@@ -7,7 +7,7 @@ use native.Mathlib.Omega.{arith}
 use lib.Dec.{leb, leb·zero, leb·suc-zero, leb·suc-suc}
 use lib.ListN.{length}
 use borrow.Author.Tests.{le-leb}
-use Rattle.words.specs.Lists.{within, all}
+use Rattle.words.specs.Lists.{within, allOf}
 use Rattle.recipe.specs.Tree.{pair, isOrdinaryName, isList, isListOf, onEmpty, onPair, elements, element}
 use Rattle.expansion.specs.Forms.{isLambda, isMacro, isMacros}
 use Rattle.arena.specs.Arena.{wordAt, referenceAt, treeAt}
@@ -50,7 +50,7 @@ AllLeft items work macros list most node left = (w : ℕ) → bindsAll macros mo
 
 module _ (items work : List ℕ) (macros : Bool) (list most node left : ℕ) (inv : AllLeft items work macros list most node left) (kind : ℕ) (kind-is : kind ≡ wordAt work node 3) where
   pub all-none : (kind ≡ 4 → ⊥) → TestsIn (bindsAll macros most) items work list true
-  unfolding bindsAll elements all
+  unfolding bindsAll elements allOf
   all-none other w =
       let none : true ≡ leb 0 left = sym (leb·zero left) in
       no-pair work node kind kind-is (λ t. true ≡ bindsAll macros left t) none (λ x. none) (λ a. none) other items w ∙ sym (inv w)
@@ -61,18 +61,18 @@ module _ (items work : List ℕ) (macros : Bool) (list most node left : ℕ) (in
     all-over z w =
         let h = treeAt items work (referenceAt work node 2) w in
         let t = treeAt items work (referenceAt work node 1) w in
-        sym (inv w ∙ rw (a-pair work node kind kind-is a-list items w, z, leb·suc-zero (length (elements t))) (and-false (all (bindsOne macros) (elements (pair h t)))))
+        sym (inv w ∙ rw (a-pair work node kind kind-is a-list items w, z, leb·suc-zero (length (elements t))) (and-false (allOf (bindsOne macros) (elements (pair h t)))))
 
     module _ (first : ℕ) (r : Bool) (first-is : first ≡ referenceAt work node 2) (binds : TestsIn (bindsOne macros) items work first r) where
       pub all-first : r ≡ false → TestsIn (bindsAll macros most) items work list false
-      unfolding bindsAll elements all
+      unfolding bindsAll elements allOf
       all-first e w = sym (inv w ∙ rw (a-pair work node kind kind-is a-list items w, ← first-is, ← binds w, e) refl)
 
       pub all-later : (rest : ℕ) → r ≡ true → (left ≡ 0 → ⊥) → rest ≡ referenceAt work node 1 → AllLeft items work macros list most rest (left - 1)
-      unfolding bindsAll elements all
+      unfolding bindsAll elements allOf
       all-later rest e z l w =
           let n : ℕ = length (elements (treeAt items work rest w)) in
-          inv w ∙ rw (a-pair work node kind kind-is a-list items w, ← first-is, ← binds w, e, ← l) (ap (λ (b : Bool). all (bindsOne macros) (elements (treeAt items work rest w)) && b) (one-less n left z))
+          inv w ∙ rw (a-pair work node kind kind-is a-list items w, ← first-is, ← binds w, e, ← l) (ap (λ (b : Bool). allOf (bindsOne macros) (elements (treeAt items work rest w)) && b) (one-less n left z))
         where
           one-less : (n k : ℕ) → (k ≡ 0 → ⊥) → leb (suc n) k ≡ leb n (k - 1)
           one-less n zero h = absurd (h refl)
@@ -102,10 +102,10 @@ module _ (items work : List ℕ) (node : ℕ) (listed : Bool) (list-of : Tests (
 
     module _ (kind : ℕ) (kind-is : kind ≡ wordAt work list 3) (limit : ℕ) where
       pub macros-none : (kind ≡ 4 → ⊥) → TestsIn (isMacros limit) items work node false
-      unfolding isMacros isList onEmpty onPair elements all within
+      unfolding isMacros isList onEmpty onPair elements allOf within
       macros-none other w =
           rw (sym (part .is items w))
-          (no-pair work list kind kind-is (λ t. false ≡ (isListOf 3 (treeAt items work node w) && (isList t && (all isMacro (elements t) && within 1 limit (length (elements t))))))
+          (no-pair work list kind kind-is (λ t. false ≡ (isListOf 3 (treeAt items work node w) && (isList t && (allOf isMacro (elements t) && within 1 limit (length (elements t))))))
           none (λ x. none) (λ a. none) other items w)
         where
           none : false ≡ (isListOf 3 (treeAt items work node w) && false)

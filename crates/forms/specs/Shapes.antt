@@ -3,7 +3,7 @@ use mathlib.Core.Bool.{Bool, true, false, _&&_}
 use Prim.Native.Nat.{ℕ}
 use lib.Dec.{leb}
 use lib.ListN.{length}
-use Rattle.words.specs.Lists.{all}
+use Rattle.words.specs.Lists.{allOf}
 use Rattle.recipe.specs.Tree.{Tree, isOrdinaryName, elements, element}
 use Rattle.expansion.specs.Forms.{isMacro}
 
@@ -17,4 +17,4 @@ bindsOne false c = isOrdinaryName c
 bindsOne true c = isMacro c
 
 unfoldable pub bindsAll : (macros : Bool) (most : ℕ) → Tree → Bool
-bindsAll macros most t = all (bindsOne macros) (elements t) && leb (length (elements t)) most
+bindsAll macros most t = allOf (bindsOne macros) (elements t) && leb (length (elements t)) most

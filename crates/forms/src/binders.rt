@@ -4,7 +4,7 @@
 ghost use mathlib.Core.Path.{_≡_};
 ghost use mathlib.Core.Bool.{true, false};
 ghost use Prim.Native.Nat.{_^_, _<_};
-ghost use Rattle.words.specs.Lists.{any};
+ghost use Rattle.words.specs.Lists.{anyOf};
 ghost use mathlib.Core.Option.{some};
 ghost use Rattle.recipe.specs.Name.{variable, macro, same, distinct, bindingKey};
 ghost use Rattle.recipe.specs.Tree.{element};
@@ -19,7 +19,7 @@ use resolution::names;
 // Whether a name is the same as one that the list binds.
 pub fn is_among(items: &[u32], work: &[u32], node: u32, list: u32, w: u32, macros: bool) -> bool
     requires { ⌜ AllNames macros (treeAt (now items) (now work) list w) ⌝ }
-    ensures { λ r. ⌜ r ≡ any (same (nameAt (now (items .entry)) (now (work .entry)) node w)) (namesIn macros (treeAt (now (items .entry)) (now (work .entry)) list w)) ⌝ }
+    ensures { λ r. ⌜ r ≡ anyOf (same (nameAt (now (items .entry)) (now (work .entry)) node w)) (namesIn macros (treeAt (now (items .entry)) (now (work .entry)) list w)) ⌝ }
 {
     let mut at = list;
     while cells::word(work, at, 3) == cells::PAIR {

@@ -6,7 +6,7 @@ use Prim.Native.Nat.{ℕ, suc, _*_, _<_}
 use native.Mathlib.Omega.{arith}
 use lib.ListN.{length}
 use borrow.Author.Tests.{eqb-true, ne-eqb}
-use Rattle.words.specs.Lists.{all}
+use Rattle.words.specs.Lists.{allOf}
 use Rattle.recipe.specs.Tree.{onEmpty, onPair, isList, isListOf, elements, element}
 use Rattle.recipe.specs.Table.{items, kindAt, isItem, treeOf}
 use Rattle.recipe.specs.ItemLaws.{itemAt}
@@ -18,7 +18,7 @@ pub list-kind : (k : ℕ) → isListKind k ≡ true → (k ≡ 0 → ⊥) → k 
 unfolding isListKind
 list-kind k l h = eqb-true k 4 (rw (ne-eqb k 0 h) at l)
 
-module _ (ws : List ℕ) (n : ℕ) (e : length ws ≡ 3 * n) (g : all (isItem ws n) (items 0 ws) ≡ true) where
+module _ (ws : List ℕ) (n : ℕ) (e : length ws ≡ 3 * n) (g : allOf (isItem ws n) (items 0 ws) ≡ true) where
   pub pairAt : (i : ℕ) → i < n → kindAt ws i ≡ 4 → PairItem ws n i
   pairAt i h k = goodPair ws n e (itemGood ws n e g) i h k
 

@@ -10,7 +10,7 @@ use lib.Dec.{eqb}
 use lib.ListN.{length, getD, set, drop, replicate, length-replicate, getD-replicate, drop-of-length-le}
 use lib.Seq.{getD-set-same, getD-set-other}
 use borrow.Author.Tests.{eqb-true, eqb-false, eq-eqb, ne-eqb}
-use Rattle.words.specs.Lists.{all}
+use Rattle.words.specs.Lists.{allOf}
 use Rattle.words.specs.TestLaws.{iff-eq, and-parts, and-both}
 use Rattle.recipe.specs.Table.{Item, items, references, occurrences, kindAt, isItem, isReferredOnce}
 use Rattle.recipe.specs.ItemLaws.{itemAt, items-length, items-drop}
@@ -36,7 +36,7 @@ areOnes counts (suc i) = areOnes counts i && (eqb i 0 || eqb (getD counts i 0) 1
 
 -- each item's words are those of its kind, and each item but item 0 is referred to by exactly one word
 abbrev pub itemsGood : List ℕ → ℕ → Bool
-itemsGood ws n = all (isItem ws n) (items 0 ws) && all (isReferredOnce (references (items 0 ws))) (items 0 ws)
+itemsGood ws n = allOf (isItem ws n) (items 0 ws) && allOf (isReferredOnce (references (items 0 ws))) (items 0 ws)
 
 -- ---- one reference
 
@@ -176,16 +176,16 @@ module _ (ws : List ℕ) (n : ℕ) (e : length ws ≡ 3 * n) (counts : List ℕ)
   unfolding isReferredOnce itemAt
   once i h = let k : i < length counts = omega arith in rw (c i k)
 
-  once-below : (i : ℕ) → i ≤ n → all (isReferredOnce (references (items 0 ws))) (items 0 ws) ≡ (areOnes counts i && all (isReferredOnce (references (items 0 ws))) (drop i (items 0 ws)))
+  once-below : (i : ℕ) → i ≤ n → allOf (isReferredOnce (references (items 0 ws))) (items 0 ws) ≡ (areOnes counts i && allOf (isReferredOnce (references (items 0 ws))) (drop i (items 0 ws)))
   unfolding areOnes
   once-below zero h = refl
   once-below (suc i) h =
       let F = isReferredOnce (references (items 0 ws)) in
       let k : i < n = omega arith in
-      let s : all F (drop i (items 0 ws)) ≡ ((eqb i 0 || eqb (getD counts i 0) 1) && all F (drop (suc i) (items 0 ws))) = rw (add-one, once i k) at (all-step F ws n e i k) in
-      once-below i (omega arith) ∙ rw s (sym (and-assoc (areOnes counts i) (eqb i 0 || eqb (getD counts i 0) 1) (all F (drop (suc i) (items 0 ws)))))
+      let s : allOf F (drop i (items 0 ws)) ≡ ((eqb i 0 || eqb (getD counts i 0) 1) && allOf F (drop (suc i) (items 0 ws))) = rw (add-one, once i k) at (all-step F ws n e i k) in
+      once-below i (omega arith) ∙ rw s (sym (and-assoc (areOnes counts i) (eqb i 0 || eqb (getD counts i 0) 1) (allOf F (drop (suc i) (items 0 ws)))))
 
-  pub once-each : all (isReferredOnce (references (items 0 ws))) (items 0 ws) ≡ areOnes counts n
+  pub once-each : allOf (isReferredOnce (references (items 0 ws))) (items 0 ws) ≡ areOnes counts n
   once-each =
       let F = isReferredOnce (references (items 0 ws)) in
       let k : n ≤ n = omega arith in

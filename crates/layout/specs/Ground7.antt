@@ -7,7 +7,7 @@ use lib.Dec.{eqb}
 use lib.ListN.{length}
 use borrow.Author.Tests.{eq-eqb, ne-eqb}
 use Rattle.words.specs.Limits.{itemsLeast, itemsMost}
-use Rattle.words.specs.Lists.{all}
+use Rattle.words.specs.Lists.{allOf}
 use Rattle.recipe.specs.Tree.{isList, isListOf, element}
 use Rattle.recipe.specs.Table.{items, references, isItem, isReferredOnce, treeOf, itemCount, isLayout}
 use Rattle.words.specs.TestLaws.{within-is}
@@ -33,7 +33,7 @@ module _ (ws : List ℕ) where
     unfolding isLayout
     then =
         rw (eq-eqb (length ws) (3 * itemCount ws) e, within-is itemsLeast itemsMost (itemCount ws) a b)
-        (sym (and-assoc (all (isItem ws (itemCount ws)) (items 0 ws)) (all (isReferredOnce (references (items 0 ws))) (items 0 ws)) (isListOf 2 (treeOf ws) && isList (element 0 (treeOf ws)))))
+        (sym (and-assoc (allOf (isItem ws (itemCount ws)) (items 0 ws)) (allOf (isReferredOnce (references (items 0 ws))) (items 0 ws)) (isListOf 2 (treeOf ws) && isList (element 0 (treeOf ws)))))
 
     pub unfit : itemsGood ws (itemCount ws) ≡ false → isLayout ws ≡ false
     unfit f = then ∙ rw f

@@ -9,7 +9,7 @@ use lib.Dec.{eqb, ltb, leb}
 use lib.ListN.{length, drop, drop-of-length-le}
 use borrow.Author.Tests.{ne-eqb, lt-leb}
 use Rattle.words.specs.Limits.{namesMost}
-use Rattle.words.specs.Lists.{within, all}
+use Rattle.words.specs.Lists.{within, allOf}
 use Rattle.words.specs.TestLaws.{and-none-left, and-none-right, within-is}
 use Rattle.datum.specs.Constant.{isConstant}
 use Rattle.recipe.specs.Table.{Item, items, byKind, constantOf, kindAt, isPairItem, isItem}
@@ -111,16 +111,16 @@ module _ (ws : List ℕ) (n i : ℕ) where
 -- ---- a test of all items, as a loop makes it
 
 module _ (f : Item → Bool) (ws : List ℕ) (n : ℕ) (e : length ws ≡ 3 * n) where
-  pub all-step : (i : ℕ) → i < n → all f (drop i (items 0 ws)) ≡ (f (itemAt ws i) && all f (drop (i + 1) (items 0 ws)))
-  unfolding all
+  pub all-step : (i : ℕ) → i < n → allOf f (drop i (items 0 ws)) ≡ (f (itemAt ws i) && allOf f (drop (i + 1) (items 0 ws)))
+  unfolding allOf
   all-step i h = rw (add-one, items-drop ws n i e h)
 
-  pub all-misfit : (i : ℕ) → i < n → f (itemAt ws i) ≡ false → all f (drop i (items 0 ws)) ≡ false
+  pub all-misfit : (i : ℕ) → i < n → f (itemAt ws i) ≡ false → allOf f (drop i (items 0 ws)) ≡ false
   all-misfit i h p = all-step i h ∙ rw p
 
-  pub all-more : (i : ℕ) → i < n → f (itemAt ws i) ≡ true → all f (drop i (items 0 ws)) ≡ all f (drop (i + 1) (items 0 ws))
+  pub all-more : (i : ℕ) → i < n → f (itemAt ws i) ≡ true → allOf f (drop i (items 0 ws)) ≡ allOf f (drop (i + 1) (items 0 ws))
   all-more i h p = all-step i h ∙ rw p
 
-  pub all-end : all f (drop n (items 0 ws)) ≡ true
-  unfolding all
+  pub all-end : allOf f (drop n (items 0 ws)) ≡ true
+  unfolding allOf
   all-end = rw (drop-of-length-le (items 0 ws) {i = n} (omega (arith, items-length 0 n ws e)))

@@ -9,7 +9,7 @@ use lib.ListN.{length, getD, set, length-append}
 use lib.Seq.{append-snoc}
 use borrow.Author.Tests.{ltb-true, lt-ltb, le-leb, lt-leb}
 use Rattle.words.specs.Limits.{namesMost, operationsMost}
-use Rattle.words.specs.Lists.{all}
+use Rattle.words.specs.Lists.{allOf}
 use Rattle.words.specs.TestLaws.{and-none-right, all-append}
 use Rattle.recipe.specs.Name.{Name, plainName, distinct}
 use Rattle.recipe.specs.Tree.{Tree, empty, constant, name, pair, onName, isName, names, elements, element}
@@ -22,7 +22,7 @@ operationNumber = onName (λ x. cond (ltb 7 (x .number)) (x .number) 0) 0
 
 -- ground 10 of the first element
 unfoldable pub areNames : Tree → Bool
-areNames e = all isName (elements e) && (leb (length (numbers (names e))) operationsMost && (all (ltb 7) (numbers (names e)) && distinct (names e)))
+areNames e = allOf isName (elements e) && (leb (length (numbers (names e))) operationsMost && (allOf (ltb 7) (numbers (names e)) && distinct (names e)))
 
 pub areOperations-first : (t : Tree) → areOperations t ≡ areNames (element 0 t)
 unfolding areOperations operationNumbers areNames numbers
@@ -36,25 +36,25 @@ pub record Walked (first rest : Tree) (table : List ℕ) (place : ℕ) : Type 0 
   pub namesAre : names first ≡ plainNames passed ++ names rest
   pub count : place ≡ length passed
   pub few : place ≤ operationsMost
-  pub above : all (ltb 7) (numbers (plainNames passed)) ≡ true
+  pub above : allOf (ltb 7) (numbers (plainNames passed)) ≡ true
   pub apart : distinct (plainNames passed) ≡ true
   pub places : Places table (numbers (plainNames passed))
 
 pub walked-start : (first : Tree) (table : List ℕ) → Places table [] → Walked first first table 0
-unfolding plainNames numbers all distinct
+unfolding plainNames numbers allOf distinct
 walked-start first table h =
     record { passed = []; elementsAre = refl; namesAre = refl; count = refl; few = omega arith; above = refl; apart = refl; places = h }
 
-all-out : {A : Type 0} (f : A → Bool) (xs : List A) (y : A) (ys : List A) → f y ≡ false → all f (xs ++ y ∷ ys) ≡ false
-unfolding all
-all-out f xs y ys h = all-append f xs (y ∷ ys) ∙ rw h (and-false (all f xs))
+all-out : {A : Type 0} (f : A → Bool) (xs : List A) (y : A) (ys : List A) → f y ≡ false → allOf f (xs ++ y ∷ ys) ≡ false
+unfolding allOf
+all-out f xs y ys h = all-append f xs (y ∷ ys) ∙ rw h (and-false (allOf f xs))
 
 map-snoc : (xs : List Name) (x : Name) → map name (xs ++ (x ∷ [])) ≡ map name xs ++ (name x ∷ [])
 map-snoc [] x = refl
 map-snoc (y ∷ ys) x = ap (λ (l : List Tree). name y ∷ l) (map-snoc ys x)
 
-all-names : (xs : List Name) → all isName (map name xs) ≡ true
-unfolding all isName onName
+all-names : (xs : List Name) → allOf isName (map name xs) ≡ true
+unfolding allOf isName onName
 all-names [] = refl
 all-names (x ∷ xs) = all-names xs
 
@@ -87,8 +87,8 @@ module _ (first rest : Tree) (table : List ℕ) (place : ℕ) (w : Walked first 
   unfolding areNames names numbers
   low x t r f =
       let b : numbers (names first) ≡ numbers (plainNames (w .passed)) ++ x .number ∷ numbers (names t) = ap numbers (names-of x t r) ∙ numbers-append (plainNames (w .passed)) (x ∷ names t) in
-      let c : all (ltb 7) (numbers (names first)) ≡ false = rw b (all-out (ltb 7) (numbers (plainNames (w .passed))) (x .number) (numbers (names t)) f) in
-      and-none-right (all isName (elements first)) _ (and-none-right (leb (length (numbers (names first))) operationsMost) _ (rw c))
+      let c : allOf (ltb 7) (numbers (names first)) ≡ false = rw b (all-out (ltb 7) (numbers (plainNames (w .passed))) (x .number) (numbers (names t)) f) in
+      and-none-right (allOf isName (elements first)) _ (and-none-right (leb (length (numbers (names first))) operationsMost) _ (rw c))
 
   pub walked-bad : (h t : Tree) → rest ≡ pair h t → operationNumber h ≡ 0 → areNames first ≡ false
   unfolding isName onName operationNumber
@@ -112,7 +112,7 @@ module _ (first rest : Tree) (table : List ℕ) (place : ℕ) (w : Walked first 
         let s : length (numbers (names first)) ≡ length (plainNames (w .passed)) + suc (length (names t)) =
         numbers-length (names first) ∙ ap length names-next ∙ length-append (plainNames (w .passed)) (plainName n i ∷ names t) in
         let l : operationsMost < length (numbers (names first)) = omega (arith, s, plain-length (w .passed), w .count) in
-        and-none-right (all isName (elements first)) _ (rw (lt-leb (length (numbers (names first))) operationsMost l))
+        and-none-right (allOf isName (elements first)) _ (rw (lt-leb (length (numbers (names first))) operationsMost l))
 
     module _ (below : n < namesMost) where
       -- ---- it has a place already
@@ -120,11 +120,11 @@ module _ (first rest : Tree) (table : List ℕ) (place : ℕ) (w : Walked first 
       unfolding areNames
       walked-twice z =
           let d : distinct (names first) ≡ false = rw names-next (distinct-twice 0 n i (w .passed) (names t) (placed-before table (w .passed) n i (w .places) below z)) in
-          rw d (and-none-right (all isName (elements first)) _ (and-none-right (leb (length (numbers (names first))) operationsMost) _ (and-false (all (ltb 7) (numbers (names first))))))
+          rw d (and-none-right (allOf isName (elements first)) _ (and-none-right (leb (length (numbers (names first))) operationsMost) _ (and-false (allOf (ltb 7) (numbers (names first))))))
 
       -- ---- it gets the next place
       pub walked-more : 7 < n → place < operationsMost → length table ≡ namesMost → getD table n 0 ≡ 0 → Walked first t (set table n (place + 1)) (place + 1)
-      unfolding elements plainNames plainName numbers all
+      unfolding elements plainNames plainName numbers allOf
       walked-more above few long z =
           let ps = w .passed in
           let one : List (ℕ × ℕ) = (n, i) ∷ [] in

@@ -10,7 +10,7 @@ use lib.ListN.{length, getD, set, replicate, getD-replicate, length-map}
 use lib.Seq.{getD-set-same, getD-set-other}
 use borrow.Author.Tests.{eqb-true, eqb-false}
 use Rattle.words.specs.Limits.{namesMost}
-use Rattle.words.specs.Lists.{any, equal}
+use Rattle.words.specs.Lists.{anyOf, equal}
 use Rattle.words.specs.TestLaws.{and-left, and-right}
 use Rattle.recipe.specs.Name.{Name, plainName, bindingKey, same, distinct}
 use Rattle.expansion.specs.Lookup.{Found, bound, form, operation, nothing, placeFrom}
@@ -109,23 +109,23 @@ absent-rest k n x ns h = rw (absent-first k n x ns h) at h
 
 -- ---- distinct names
 
-any-append : (f : Name → Bool) (xs ys : List Name) → any f (xs ++ ys) ≡ (any f xs || any f ys)
-unfolding any
+any-append : (f : Name → Bool) (xs ys : List Name) → anyOf f (xs ++ ys) ≡ (anyOf f xs || anyOf f ys)
+unfolding anyOf
 any-append f [] ys = refl
-any-append f (x ∷ xs) ys = ap (λ (b : Bool). f x || b) (any-append f xs ys) ∙ sym (or-assoc (f x) (any f xs) (any f ys))
+any-append f (x ∷ xs) ys = ap (λ (b : Bool). f x || b) (any-append f xs ys) ∙ sym (or-assoc (f x) (anyOf f xs) (anyOf f ys))
 
 pub distinct-more : (k n i : ℕ) (ps : List (ℕ × ℕ)) → placeFrom k n (numbers (plainNames ps)) ≡ nothing → distinct (plainNames ps) ≡ true → distinct (plainNames ps ++ (plainName n i ∷ [])) ≡ true
-unfolding plainNames numbers distinct any plainName
+unfolding plainNames numbers distinct anyOf plainName
 distinct-more k n i [] h d = refl
 distinct-more k n i (p ∷ ps) h d =
     let x = plainName (p .0) (p .1) in
     let e : same x (plainName n i) ≡ false = same-plain (p .0) (p .1) n i ∙ absent-first k n (p .0) (numbers (plainNames ps)) h in
-    let a : any (same x) (plainNames ps ++ (plainName n i ∷ [])) ≡ any (same x) (plainNames ps) = any-append (same x) (plainNames ps) (plainName n i ∷ []) ∙ rw e (or-false (any (same x) (plainNames ps))) in
-    let r = distinct-more (suc k) n i ps (absent-rest k n (p .0) (numbers (plainNames ps)) h) (and-right (not (any (same x) (plainNames ps))) (distinct (plainNames ps)) d) in
-    rw (a, r) (rw (and-left (not (any (same x) (plainNames ps))) (distinct (plainNames ps)) d))
+    let a : anyOf (same x) (plainNames ps ++ (plainName n i ∷ [])) ≡ anyOf (same x) (plainNames ps) = any-append (same x) (plainNames ps) (plainName n i ∷ []) ∙ rw e (or-false (anyOf (same x) (plainNames ps))) in
+    let r = distinct-more (suc k) n i ps (absent-rest k n (p .0) (numbers (plainNames ps)) h) (and-right (not (anyOf (same x) (plainNames ps))) (distinct (plainNames ps)) d) in
+    rw (a, r) (rw (and-left (not (anyOf (same x) (plainNames ps))) (distinct (plainNames ps)) d))
 
 pub distinct-twice : (k n i : ℕ) (ps : List (ℕ × ℕ)) (ys : List Name) → (placeFrom k n (numbers (plainNames ps)) ≡ nothing → ⊥) → distinct (plainNames ps ++ plainName n i ∷ ys) ≡ false
-unfolding plainNames numbers placeFrom distinct any plainName
+unfolding plainNames numbers placeFrom distinct anyOf plainName
 distinct-twice k n i [] ys h = absurd (h refl)
 distinct-twice k n i (p ∷ ps) ys h =
     by (eqb (p .0) n) refl (λ z. distinct-twice (suc k) n i ps ys (λ q. h (rw (z, q))))
@@ -135,9 +135,9 @@ distinct-twice k n i (p ∷ ps) ys h =
     by true e f =
         let x = plainName (p .0) (p .1) in
         let s : same x (plainName n i) ≡ true = same-plain (p .0) (p .1) n i ∙ e in
-        let a : any (same x) (plainNames ps ++ plainName n i ∷ ys) ≡ true = any-append (same x) (plainNames ps) (plainName n i ∷ ys) ∙ rw s (or-true (any (same x) (plainNames ps))) in
+        let a : anyOf (same x) (plainNames ps ++ plainName n i ∷ ys) ≡ true = any-append (same x) (plainNames ps) (plainName n i ∷ ys) ∙ rw s (or-true (anyOf (same x) (plainNames ps))) in
         rw a
-    by false e f = rw (f e) (and-false (not (any (same (plainName (p .0) (p .1))) (plainNames ps ++ plainName n i ∷ ys))))
+    by false e f = rw (f e) (and-false (not (anyOf (same (plainName (p .0) (p .1))) (plainNames ps ++ plainName n i ∷ ys))))
 
 -- ---- one operation more
 

@@ -10,13 +10,13 @@ ghost use Prim.Native.Nat.{_+_, _*_, _≤_, _<_};
 ghost use lib.Dec.{leb};
 ghost use lib.ListN.{length};
 ghost use Rattle.words.specs.Limits.{itemsMost, fuelMost, workRate, coreRate};
-ghost use Rattle.words.specs.Lists.{all};
+ghost use Rattle.words.specs.Lists.{allOf};
 ghost use Rattle.recipe.specs.Tree.{isList, isListOf, element};
 ghost use Rattle.recipe.specs.Table.{items, isItem, treeOf, isLayout};
 
 // Item 0 begins the list of the two elements, the first of them a list. Each item is known to be good.
 fn begins_two(table: &[u32], n: usize) -> bool
-    requires { ⌜ (length (now table) ≡ 3 * n) × (0 < n) × (all (isItem (now table) n) (items 0 (now table)) ≡ true) ⌝ }
+    requires { ⌜ (length (now table) ≡ 3 * n) × (0 < n) × (allOf (isItem (now table) n) (items 0 (now table)) ≡ true) ⌝ }
     ensures { λ r. ⌜ r ≡ (isListOf 2 (treeOf (now (table .entry))) && isList (element 0 (treeOf (now (table .entry))))) ⌝ }
 {
     if item::kind(table, 0) != 4 {

@@ -11,7 +11,7 @@ ghost use mathlib.Core.List.{[], _∷_};
 ghost use Prim.Native.Nat.{_*_, _≤_, _<_};
 ghost use lib.ListN.{length};
 ghost use Rattle.words.specs.Limits.{itemsMost};
-ghost use Rattle.words.specs.Lists.{all};
+ghost use Rattle.words.specs.Lists.{allOf};
 ghost use Rattle.recipe.specs.Table.{items, references, isItem};
 ghost use Rattle.recipe.specs.ItemLaws.{itemAt};
 ghost use Rattle.layout.specs.Counts.{Counted, AtMost, Referred, areOnes, itemsGood};
@@ -47,7 +47,7 @@ fn takes_item(table: &[u32], n: usize, i: usize, counts: &mut [u16]) -> bool
 // The same of all n items.
 fn items_fit(table: &[u32], n: usize, counts: &mut [u16]) -> bool
     requires { ⌜ (length (now table) ≡ 3 * n) × (n ≤ itemsMost) × (n ≤ length (now counts)) × (AtMost 0 (now counts)) ⌝ }
-    ensures fit { λ r. ⌜ r ≡ all (isItem (now (table .entry)) n) (items 0 (now (table .entry))) ⌝ }
+    ensures fit { λ r. ⌜ r ≡ allOf (isItem (now (table .entry)) n) (items 0 (now (table .entry))) ⌝ }
     ensures counts { λ r. ⌜ (r ≡ true → Referred (now (table .entry)) (now (counts .exit))) ⌝ }
 {
     let mut i = 0;

@@ -13,7 +13,7 @@ use mir.Syntax.{w32}
 use mir.Val.{SFits, toZ, ofZ}
 use mir.Facts.{toZ-pos, toZ-ofZ}
 use borrow.Author.Tests.{le-leb, lt-leb, leb-true, leb-false, eq-eqb, ne-eqb}
-use Rattle.words.specs.Lists.{within, all}
+use Rattle.words.specs.Lists.{within, allOf}
 use Rattle.words.specs.Parts.{rest}
 use Rattle.words.specs.TestLaws.{and-left, and-right, within-least, within-most}
 use Rattle.words.specs.ListLaws.{either, rest-is}
@@ -23,11 +23,11 @@ use Rattle.reading.specs.Meaning.{Meaning, constant, refused, isNegative, unsig
 
 -- ---- digits
 
-pub all-at : (l : List ℕ) (i : ℕ) → all isDigit l ≡ true → i < length l → isDigit (getD l i 0) ≡ true
-unfolding all
+pub all-at : (l : List ℕ) (i : ℕ) → allOf isDigit l ≡ true → i < length l → isDigit (getD l i 0) ≡ true
+unfolding allOf
 all-at [] i h l = absurd (omega arith)
-all-at (c ∷ cs) zero h l = and-left (isDigit c) (all isDigit cs) h
-all-at (c ∷ cs) (suc i) h l = all-at cs i (and-right (isDigit c) (all isDigit cs) h) (omega arith)
+all-at (c ∷ cs) zero h l = and-left (isDigit c) (allOf isDigit cs) h
+all-at (c ∷ cs) (suc i) h l = all-at cs i (and-right (isDigit c) (allOf isDigit cs) h) (omega arith)
 
 pub digit-range : (c : ℕ) → isDigit c ≡ true → (48 ≤ c) × (c ≤ 57)
 unfolding isDigit
@@ -35,20 +35,20 @@ digit-range c h = (within-least 48 57 c h, within-most 48 57 c h)
 
 module _ (l : List ℕ) (i : ℕ) (h : i < length l) where
   -- all from i on, and from i + 1 on
-  pub digits-step : isDigit (getD l i 0) ≡ true → all isDigit (drop i l) ≡ all isDigit (drop (i + 1) l)
-  unfolding all
+  pub digits-step : isDigit (getD l i 0) ≡ true → allOf isDigit (drop i l) ≡ allOf isDigit (drop (i + 1) l)
+  unfolding allOf
   digits-step d = rw (drop-cons l i 0 h, add-one, d)
 
-  pub digits-stop : isDigit (getD l i 0) ≡ false → all isDigit (drop i l) ≡ false
-  unfolding all
+  pub digits-stop : isDigit (getD l i 0) ≡ false → allOf isDigit (drop i l) ≡ false
+  unfolding allOf
   digits-stop d = rw (drop-cons l i 0 h, d)
 
   pub value-step : (n : ℕ) → valueFrom n (drop i l) ≡ valueFrom (10 * n + (getD l i 0 - 48)) (drop (i + 1) l)
   unfolding valueFrom
   value-step n = rw (drop-cons l i 0 h, add-one)
 
-pub digits-end : (l : List ℕ) (i : ℕ) → length l ≤ i → i ≤ length l → all isDigit (drop i l) ≡ true
-unfolding all
+pub digits-end : (l : List ℕ) (i : ℕ) → length l ≤ i → i ≤ length l → allOf isDigit (drop i l) ≡ true
+unfolding allOf
 digits-end l i a b = let e : i ≡ length l = omega arith in rw (e, drop-length)
 
 pub value-end : (l : List ℕ) (i n : ℕ) → length l ≤ i → i ≤ length l → valueFrom n (drop i l) ≡ n
@@ -123,11 +123,11 @@ module _ (cs : List ℕ) where
   unfolding isNumeral unsigned isNegative
   numeral-plain h = rw (ne-eqb _ _ h)
 
-  pub integer-plain : (getD cs 0 0 ≡ 45 → ⊥) → cond (all isDigit cs) (signed false (valueFrom 0 cs)) (refused 3) ≡ integerOf cs
+  pub integer-plain : (getD cs 0 0 ≡ 45 → ⊥) → cond (allOf isDigit cs) (signed false (valueFrom 0 cs)) (refused 3) ≡ integerOf cs
   unfolding integerOf unsigned isNegative size
   integer-plain h = rw (ne-eqb _ _ h)
 
-  pub integer-minus : getD cs 0 0 ≡ 45 → cond (all isDigit (rest 1 cs)) (signed true (valueFrom 0 (rest 1 cs))) (refused 3) ≡ integerOf cs
+  pub integer-minus : getD cs 0 0 ≡ 45 → cond (allOf isDigit (rest 1 cs)) (signed true (valueFrom 0 (rest 1 cs))) (refused 3) ≡ integerOf cs
   unfolding integerOf unsigned isNegative size
   integer-minus h = rw (rest-is 1 cs, eq-eqb _ _ h)
 
@@ -148,9 +148,9 @@ numeral-minus [] e = absurd (omega arith)
 numeral-minus (c ∷ cs) e = rw e
 
 -- digits that are not all digits, and those that are, by their value as far as it matters
-module _ (cs ds : List ℕ) (t : Bool) (w : cond (all isDigit ds) (signed t (valueFrom 0 ds)) (refused 3) ≡ integerOf cs) where
-  pub digits-malformed : all isDigit ds ≡ false → refused 3 ≡ integerOf cs
+module _ (cs ds : List ℕ) (t : Bool) (w : cond (allOf isDigit ds) (signed t (valueFrom 0 ds)) (refused 3) ≡ integerOf cs) where
+  pub digits-malformed : allOf isDigit ds ≡ false → refused 3 ≡ integerOf cs
   digits-malformed h = rw h at w
 
-  pub digits-value : (m : Meaning) (n : ℕ) → all isDigit ds ≡ true → m ≡ signed t n → n ≡ min (valueFrom 0 ds) 2147483649 → m ≡ integerOf cs
+  pub digits-value : (m : Meaning) (n : ℕ) → allOf isDigit ds ≡ true → m ≡ signed t n → n ≡ min (valueFrom 0 ds) 2147483649 → m ≡ integerOf cs
   digits-value m n h e k = e ∙ ap (signed t) k ∙ signed-most t (valueFrom 0 ds) ∙ (rw h at w)

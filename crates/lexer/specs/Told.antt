@@ -7,7 +7,7 @@ use lib.ListN.{length, getD, take, drop}
 use mir.Syntax.{w32}
 use mir.Val.{ofZ}
 use Rattle.words.specs.Limits.{nameLengthMost}
-use Rattle.words.specs.Lists.{all}
+use Rattle.words.specs.Lists.{allOf}
 use Rattle.words.specs.Parts.{part}
 use Rattle.datum.specs.Constant.{integer, boolean}
 use Rattle.lexer.specs.declared.token.Token as T
@@ -33,7 +33,7 @@ pub record Skipped (text : List ℕ) (from to : ℕ) : Type 0 where
 pub record RunTo (text : List ℕ) (from to : ℕ) : Type 0 where
   pub low : from ≤ to
   pub high : to ≤ length text
-  pub runs : all isRunning (part from to text) ≡ true
+  pub runs : allOf isRunning (part from to text) ≡ true
   pub stops : EndsRun (drop to text)
 
 -- the token that stands first from at on means m, and the next one is looked for from next

@@ -9,7 +9,7 @@ use lib.Dec.{eqb}
 use lib.ListN.{length, getD, take, drop}
 use lib.Seq.{drop-cons, drop-length}
 use borrow.Author.Tests.{le-leb, lt-leb, ne-eqb}
-use Rattle.words.specs.Lists.{within, all, any, equal}
+use Rattle.words.specs.Lists.{within, allOf, anyOf, equal}
 use Rattle.words.specs.Parts.{part}
 use Rattle.words.specs.TestLaws.{and-left, and-right, within-most}
 use Rattle.words.specs.ListLaws.{all-append, part-more, part-split, length-part}
@@ -76,28 +76,28 @@ module _ (text : List ℕ) (at : ℕ) (h : at < length text) where
   unfolding startAt leading
   token-start s = rw (here, s) (omega arith)
 
-  pub run-step : (from : ℕ) → from ≤ at → all isRunning (part from at text) ≡ true → isRunning (getD text at 0) ≡ true
-      → all isRunning (part from (at + 1) text) ≡ true
-  unfolding all
+  pub run-step : (from : ℕ) → from ≤ at → allOf isRunning (part from at text) ≡ true → isRunning (getD text at 0) ≡ true
+      → allOf isRunning (part from (at + 1) text) ≡ true
+  unfolding allOf
   run-step from l a r = rw (part-more from at text l h) (all-append isRunning (part from at text) (getD text at 0 ∷ []) a (rw r))
 
   pub run-stops : isRunning (getD text at 0) ≡ false → EndsRun (drop at text)
   run-stops r = rw here (before r)
 
   pub opening-taken : getD text at 0 ≡ 40 → (meaningsFrom text at ≡ begins ∷ meaningsFrom text (at + 1)) × (firstWidth (drop at text) ≡ 1)
-  unfolding meaningsFrom firstWidth widthOf tokensAfter completed next alone begun classOf isRunning isDigit isSeparating within any bytes meaningOf
+  unfolding meaningsFrom firstWidth widthOf tokensAfter completed next alone begun classOf isRunning isDigit isSeparating within anyOf bytes meaningOf
   opening-taken e = (rw (here, e), rw (here, e))
 
   pub closing-taken : getD text at 0 ≡ 41 → (meaningsFrom text at ≡ ends ∷ meaningsFrom text (at + 1)) × (firstWidth (drop at text) ≡ 1)
-  unfolding meaningsFrom firstWidth widthOf tokensAfter completed next alone begun classOf isRunning isDigit isSeparating within any bytes meaningOf
+  unfolding meaningsFrom firstWidth widthOf tokensAfter completed next alone begun classOf isRunning isDigit isSeparating within anyOf bytes meaningOf
   closing-taken e = (rw (here, e), rw (here, e))
 
   pub sharp-taken : getD text at 0 ≡ 35 → meaningsFrom text at ≡ map meaningOf (tokensAfter hash (drop (at + 1) text))
-  unfolding meaningsFrom tokensAfter completed next alone begun classOf isRunning isDigit isSeparating within any bytes meaningOf
+  unfolding meaningsFrom tokensAfter completed next alone begun classOf isRunning isDigit isSeparating within anyOf bytes meaningOf
   sharp-taken e = rw (here, e)
 
   pub sharp-width : getD text at 0 ≡ 35 → firstWidth (drop at text) ≡ suc (length (take 1 (drop (at + 1) text)))
-  unfolding firstWidth widthOf classOf isRunning isDigit isSeparating within any bytes
+  unfolding firstWidth widthOf classOf isRunning isDigit isSeparating within anyOf bytes
   sharp-width e = rw (here, e)
 
   pub foreign-taken : isRunning (getD text at 0) ≡ false → isSeparating (getD text at 0) ≡ false → (getD text at 0 ≡ 40 → ⊥)
@@ -144,23 +144,23 @@ module _ (text : List ℕ) (at : ℕ) (e : at ≡ length text) where
 
 -- ---- runs
 
-run-from : (word bs : List ℕ) → 1 ≤ length word → all isRunning word ≡ true → EndsRun bs
+run-from : (word bs : List ℕ) → 1 ≤ length word → allOf isRunning word ≡ true → EndsRun bs
     → tokensAfter nothing (word ++ bs) ≡ run word ∷ tokensAfter nothing bs
 run-from [] bs h a e = absurd (omega arith)
 run-from (c ∷ cs) bs h a e = run-taken c cs bs a e
 
-leading-run : (word bs : List ℕ) → all isRunning word ≡ true → EndsRun bs → leading isRunning (word ++ bs) ≡ length word
-unfolding leading all
+leading-run : (word bs : List ℕ) → allOf isRunning word ≡ true → EndsRun bs → leading isRunning (word ++ bs) ≡ length word
+unfolding leading allOf
 leading-run [] [] a atEnd = refl
 leading-run [] (b ∷ bs) a (before h) = rw h
 leading-run (c ∷ cs) bs a e =
-    rw (and-left (isRunning c) (all isRunning cs) a, leading-run cs bs (and-right (isRunning c) (all isRunning cs) a) e)
+    rw (and-left (isRunning c) (allOf isRunning cs) a, leading-run cs bs (and-right (isRunning c) (allOf isRunning cs) a) e)
 
-width-run : (word bs : List ℕ) → 1 ≤ length word → all isRunning word ≡ true → EndsRun bs → firstWidth (word ++ bs) ≡ length word
-unfolding firstWidth widthOf all
+width-run : (word bs : List ℕ) → 1 ≤ length word → allOf isRunning word ≡ true → EndsRun bs → firstWidth (word ++ bs) ≡ length word
+unfolding firstWidth widthOf allOf
 width-run [] bs h a e = absurd (omega arith)
 width-run (c ∷ cs) bs h a e =
-    rw (class-running c (and-left (isRunning c) (all isRunning cs) a)) (ap suc (leading-run cs bs (and-right (isRunning c) (all isRunning cs) a) e))
+    rw (class-running c (and-left (isRunning c) (allOf isRunning cs) a)) (ap suc (leading-run cs bs (and-right (isRunning c) (allOf isRunning cs) a) e))
 
 first-stops : {b : ℕ} {bs : List ℕ} → EndsRun (b ∷ bs) → isRunning b ≡ false
 first-stops (before k) = k

@@ -3,7 +3,7 @@ ghost use mathlib.Core.Path.{_≡_};
 ghost use mathlib.Core.Bool.{true};
 ghost use Prim.Native.Nat.{_≤_, min};
 ghost use lib.ListN.{length};
-ghost use Rattle.words.specs.Lists.{all};
+ghost use Rattle.words.specs.Lists.{allOf};
 ghost use Rattle.reading.specs.Token.{isDigit};
 ghost use Rattle.reading.specs.Meaning.{isNumeral, valueFrom, signed, integerOf};
 ghost use Rattle.lexer.specs.Answers.{integerMeaning};
@@ -27,7 +27,7 @@ fn wide(b: u8) -> u64
 
 // Each byte is a digit.
 pub fn are_digits(digits: &[u8]) -> bool
-    ensures { λ r. ⌜ r ≡ all isDigit (now (digits .entry)) ⌝ }
+    ensures { λ r. ⌜ r ≡ allOf isDigit (now (digits .entry)) ⌝ }
 {
     let mut i = 0;
     while i < digits.len() {
@@ -41,7 +41,7 @@ pub fn are_digits(digits: &[u8]) -> bool
 
 // The number that digits spell, or the one beyond all.
 pub fn magnitude(digits: &[u8]) -> u64
-    requires { ⌜ all isDigit (now digits) ≡ true ⌝ }
+    requires { ⌜ allOf isDigit (now digits) ≡ true ⌝ }
     ensures { λ r. ⌜ r ≡ min (valueFrom 0 (now (digits .entry))) 2147483649 ⌝ }
 {
     let mut value: u64 = 0;

@@ -5,7 +5,7 @@ use mathlib.Core.Bool.{true}
 use mathlib.Core.List.{List, []}
 use Prim.Native.Nat.{ℕ}
 use lib.ListN.{length}
-use Rattle.words.specs.Lists.{all}
+use Rattle.words.specs.Lists.{allOf}
 use Rattle.expansion.specs.Run.{run}
 use Rattle.private_names.specs.Statement.{Choice, renamed, hypotheses, Answer, answerOf, PrivateNames}
 use Rattle.private_names_proof.specs.Claim.{private-names}
@@ -18,7 +18,7 @@ numbersFor a = record { ground = groundOf (a .outcome); steps = a .steps; sum = 
 
 -- two calls with one fuel and the same lent tables: of a recipe, and of the recipe with a private name renamed
 pub private-calls : (ws : List ℕ) (fuel : ℕ) (c : Choice) (work work₁ work₂ core core₁ core₂ : List ℕ) (first second : Expansion)
-    → all (λ h. h) (hypotheses ws c (run ws fuel (length work) (length core) .events)) ≡ true
+    → allOf (λ h. h) (hypotheses ws c (run ws fuel (length work) (length core) .events)) ≡ true
     → Served ws fuel work work₁ core core₁ first
     → Served (renamed ws c) fuel work work₂ core core₂ second
     → (numbersOf second ≡ numbersOf first) × (core₂ ≡ core₁) × (work₂ ≡ work₁)

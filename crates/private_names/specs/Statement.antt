@@ -6,7 +6,7 @@ use mathlib.Core.Option.{Option, none, some}
 use Prim.Native.Nat.{ℕ, suc}
 use lib.Dec.{eqb, ltb}
 use Rattle.words.specs.Limits.{namesMost, baseNameCount}
-use Rattle.words.specs.Lists.{all, any}
+use Rattle.words.specs.Lists.{allOf, anyOf}
 use Rattle.recipe.specs.Name.{Binding, Name, bindingKey, isEllipsis}
 use Rattle.recipe.specs.Tree.{Tree, empty, constant, name, pair, names, onName, element, tail}
 use Rattle.recipe.specs.Table.{items, treeOf}
@@ -59,23 +59,23 @@ templateAt t c = element 1 (ruleAt t c)
 -- a variable of the rule has this number: neither `...` nor `_` nor a literal, and not in the pattern's first place
 unfoldable pub isVariableAt : Tree → Choice → ℕ → Bool
 isVariableAt t c n =
-    any (λ v. eqb (v .0 .number) n) (variables isEllipsis (names (element 1 (rulesAt t c))) 0 (tail (element 0 (ruleAt t c))))
+    anyOf (λ v. eqb (v .0 .number) n) (variables isEllipsis (names (element 1 (rulesAt t c))) 0 (tail (element 0 (ruleAt t c))))
 
 -- ---- the old name and the new
 
 -- an item of that name in that template
 unfoldable pub isOldItem : Tree → Choice → ℕ → Bool
-isOldItem t c i = any (λ x. eqb (x .number) (c .old) && eqb (x .item) i) (names (templateAt t c))
+isOldItem t c i = anyOf (λ x. eqb (x .number) (c .old) && eqb (x .item) i) (names (templateAt t c))
 
 -- any name in its template, neither `...` nor `_`, that is no variable of the rule
 unfoldable pub isPrivate : Tree → Choice → Bool
 isPrivate t c =
-    any (λ x. eqb (x .number) (c .old)) (names (templateAt t c))
+    anyOf (λ x. eqb (x .number) (c .old)) (names (templateAt t c))
     && (not (eqb (c .old) 6) && (not (eqb (c .old) 7) && not (isVariableAt t c (c .old))))
 
 -- a name that neither the recipe nor the base forms use: any number from 8 to 1,023 that no name item of the table holds
 unfoldable pub isNew : List ℕ → ℕ → Bool
-isNew ws n = not (ltb n baseNameCount) && (ltb n namesMost && all (λ x. not (eqb (x .kind) 3 && eqb (x .first) n)) (items 0 ws))
+isNew ws n = not (ltb n baseNameCount) && (ltb n namesMost && allOf (λ x. not (eqb (x .kind) 3 && eqb (x .first) n)) (items 0 ws))
 
 -- the table, placed from i, with number n in place of the number of each name item that C tells
 unfoldable pub renumber : (C : ℕ → Bool) → ℕ → ℕ → List ℕ → List ℕ
@@ -111,7 +111,7 @@ bindsCopy C b (binds c x) = eqb (bindingKey (some b)) (bindingKey (some c)) && i
 -- a binding whose own name is such a copy
 unfoldable pub isOwnedByCopy : (C : ℕ → Bool) → Events → Option Binding → Bool
 isOwnedByCopy C shown none = false
-isOwnedByCopy C shown (some b) = any (bindsCopy C b) shown
+isOwnedByCopy C shown (some b) = anyOf (bindsCopy C b) shown
 
 -- no copy of the old name is quoted
 unfoldable pub quotesNoCopy : (C : ℕ → Bool) → Event → Bool
@@ -133,11 +133,11 @@ findsOwn C shown (binds b x) = true
 -- old name is private; the new name is new; no copy is quoted; each lookup of a copy finds a binding whose own name is such a copy
 unfoldable pub hypotheses : List ℕ → Choice → Events → List Bool
 hypotheses ws c shown =
-    any (isReachedAt (c .form)) shown
+    anyOf (isReachedAt (c .form)) shown
     ∷ isPrivate (treeOf ws) c
     ∷ isNew ws (c .new)
-    ∷ all (quotesNoCopy (isOldItem (treeOf ws) c)) shown
-    ∷ all (findsOwn (isOldItem (treeOf ws) c) shown) shown
+    ∷ allOf (quotesNoCopy (isOldItem (treeOf ws) c)) shown
+    ∷ allOf (findsOwn (isOldItem (treeOf ws) c) shown) shown
     ∷ []
 
 -- outcome, the two counts, and the core term word for word
@@ -154,5 +154,5 @@ answerOf r = record { outcome = r .outcome; steps = r .steps; sum = r .sum; core
 unfoldable pub PrivateNames : Type 0
 PrivateNames =
     (ws : List ℕ) (fuel work core : ℕ) (c : Choice)
-    → all (λ h. h) (hypotheses ws c (run ws fuel work core .events)) ≡ true
+    → allOf (λ h. h) (hypotheses ws c (run ws fuel work core .events)) ≡ true
     → answerOf (run (renamed ws c) fuel work core) ≡ answerOf (run ws fuel work core)

@@ -8,7 +8,7 @@ use mathlib.Core.Bool.{true, false, false≢true}
 use mathlib.Core.List.{List, [], _∷_}
 use Prim.Native.Nat.{ℕ, zero, suc, _≤_}
 use native.Mathlib.Omega.{arith}
-use Rattle.words.specs.Lists.{any}
+use Rattle.words.specs.Lists.{anyOf}
 use Rattle.recipe.specs.Name.{variable, macro, Name}
 use Rattle.recipe.specs.Tree.{Tree, name, pair, onPair, tail}
 use Rattle.recipe.specs.TreeNames.{uses}
@@ -91,7 +91,7 @@ module _ (ρ : Renaming) (p : ℕ) where
 
         head-before : {k : ℕ} {l : List ℕ} {h h′ t t′ : Tree} → TreeOf (Still ρ β) h h′ → Headed p (k ∷ l) t → uses p (pair h t) ≤ 1 → Hole (Still ρ β) (ChosenRules ρ β) (k ∷ place ρ p b l) t t′
             → (s : State) → Calm ρ p s → Meets ρ p (TermRel ρ) (expandPair limit operations fuel rec h t s) (expandPair limit operations fuel rec h′ t′ s)
-        unfolding expandPair uses any isReachedAt
+        unfolding expandPair uses anyOf isReachedAt
         head-before empties i u r s calm = application-later ρ p limit operations fuel gas b β free ahead empties i u r s calm
         head-before constants i u r s calm = application-later ρ p limit operations fuel gas b β free ahead constants i u r s calm
         head-before {t = t} {t′ = t′} (names₂ {x = x} q) i u r s calm =
@@ -102,7 +102,7 @@ module _ (ρ : Renaming) (p : ℕ) where
 
         form-before : {x : Name} {h′ t t′ : Tree} → uses p t ≡ 0 → TreeOf (Still ρ β) (name x) h′ → Hole (Still ρ β) (ChosenRules ρ β) (place ρ p b []) (pair (name x) t) (pair h′ t′)
             → (s : State) → Calm ρ p s → Meets ρ p (TermRel ρ) (expandPair limit operations fuel rec (name x) t s) (expandPair limit operations fuel rec h′ t′ s)
-        unfolding expandPair any isReachedAt
+        unfolding expandPair anyOf isReachedAt
         form-before {x} {h′} {t} {t′} u q r s calm =
             let e : name x ≡ h′ = still-eq ρ β q in
             subst (λ y. Meets ρ p (TermRel ρ) (expandPair limit operations fuel rec (name x) t s) (expandPair limit operations fuel rec y t′ s)) e
@@ -122,6 +122,6 @@ module _ (ρ : Renaming) (p : ℕ) where
     ahead-next ahead β free l t t′ i u r s calm = tree-meets β free ahead l t t′ i u r s calm
 
   pub before-agree : (limit : ℕ) (operations : List ℕ) (fuel gas b : ℕ) → Ahead ρ p b (expand limit operations fuel gas)
-  unfolding expand eventsOf any
+  unfolding expand eventsOf anyOf
   before-agree limit operations fuel zero b = λ β free l t t′ i u r s calm. λ e fine. absurd (false≢true e)
   before-agree limit operations fuel (suc gas) b = ahead-next limit operations fuel gas b (before-agree limit operations fuel gas b)

@@ -8,7 +8,7 @@ use native.Mathlib.Omega.{arith}
 use lib.Dec.{ltb, leb}
 use lib.ListN.{length}
 use Rattle.words.specs.Limits.{operationsMost, workRate, coreRate, macrosMost}
-use Rattle.words.specs.Lists.{all, any}
+use Rattle.words.specs.Lists.{allOf, anyOf}
 use Rattle.words.specs.TestLaws.{and-parts}
 use Rattle.words.specs.Each.{Each}
 use Rattle.recipe.specs.Name.{Name, distinct}
@@ -55,7 +55,7 @@ calm-start ρ raw = record { enough = omega arith; steps = refl; sum = refl; var
 -- whatever the limit, operations, fuel and gas: where the form of the chosen rule lies at l, with its head name of item p
 pub expressions-agree : (ρ : Renaming) (p limit : ℕ) (operations : List ℕ) (fuel gas : ℕ) (N : ℕ → ℕ) (l : List ℕ) (b j : ℕ) (t : Tree)
     → Headed p l t → Held N t → Chosen ρ j (element 1 (element b (element 1 (sub l t))))
-    → any (isReachedAt p) (eventsOf (expand limit operations fuel gas t start)) ≡ true
+    → anyOf (isReachedAt p) (eventsOf (expand limit operations fuel gas t start)) ≡ true
     → AllFine ρ (eventsOf (expand limit operations fuel gas t start))
     → Joins ρ (TermRel ρ) (expand limit operations fuel gas t start) (expand limit operations fuel gas (onNames (renew ρ) t) start)
 unfolding ofCopy
@@ -76,7 +76,7 @@ same-operations t u e = ap (λ z. map (λ x. x .number) (names z)) e
 
 same-test : (t u : Tree) → element 0 t ≡ element 0 u → areOperations t ≡ areOperations u
 unfolding areOperations operationNumbers
-same-test t u e = ap (λ z. all isName (elements z) && (leb (length (map (λ x. x .number) (names z))) operationsMost && (all (ltb 7) (map (λ x. x .number) (names z)) && distinct (names z)))) e
+same-test t u e = ap (λ z. allOf isName (elements z) && (leb (length (map (λ x. x .number) (names z))) operationsMost && (allOf (ltb 7) (map (λ x. x .number) (names z)) && distinct (names z)))) e
 
 -- an expression's expansion, with the operations, fuel and gas of the recipe t
 expansionOf : ℕ → Tree → Tree → Out (Term Name)
@@ -106,11 +106,11 @@ first-events ws fuel work core t = ap (λ z. z .events) (first-is ws fuel work c
 -- the hypotheses, of that expansion
 record Case (ws : List ℕ) (fuel work core : ℕ) (c : Choice) : Type 0 where
   begun : Begun ws fuel work core
-  reaches : any (isReachedAt (c .form)) (eventsOf (firstOf fuel ws)) ≡ true
+  reaches : anyOf (isReachedAt (c .form)) (eventsOf (firstOf fuel ws)) ≡ true
   private : S.isPrivate (treeOf ws) c ≡ true
   new : isNew ws (c .new) ≡ true
-  unquoted : all (quotesNoCopy (isOldItem (treeOf ws) c)) (eventsOf (firstOf fuel ws)) ≡ true
-  own : all (findsOwn (isOldItem (treeOf ws) c) (eventsOf (firstOf fuel ws))) (eventsOf (firstOf fuel ws)) ≡ true
+  unquoted : allOf (quotesNoCopy (isOldItem (treeOf ws) c)) (eventsOf (firstOf fuel ws)) ≡ true
+  own : allOf (findsOwn (isOldItem (treeOf ws) c) (eventsOf (firstOf fuel ws))) (eventsOf (firstOf fuel ws)) ≡ true
 
 module _ (ws : List ℕ) (fuel work core : ℕ) (c : Choice) (k : Case ws fuel work core c) where
   layout : isLayout ws ≡ true
@@ -166,22 +166,22 @@ module _ (ws : List ℕ) (fuel work core : ℕ) (c : Choice) (k : Case ws fuel w
 -- ---- demand 3
 
 pub private-names : PrivateNames
-unfolding PrivateNames hypotheses all firstOf
+unfolding PrivateNames hypotheses allOf firstOf
 private-names ws fuel work core c h =
     let r = run ws fuel work core in
-    let a = and-parts (any (isReachedAt (c .form)) (r .events)) _ h in
+    let a = and-parts (anyOf (isReachedAt (c .form)) (r .events)) _ h in
     let b = and-parts (S.isPrivate (treeOf ws) c) _ (a .1) in
     let d = and-parts (isNew ws (c .new)) _ (b .1) in
-    let q = and-parts (all (quotesNoCopy (isOldItem (treeOf ws) c)) (r .events)) _ (d .1) in
-    let o = and-parts (all (findsOwn (isOldItem (treeOf ws) c) (r .events)) (r .events)) true (q .1) in
+    let q = and-parts (allOf (quotesNoCopy (isOldItem (treeOf ws) c)) (r .events)) _ (d .1) in
+    let o = and-parts (allOf (findsOwn (isOldItem (treeOf ws) c) (r .events)) (r .events)) true (q .1) in
     let begun = shows-begun ws fuel work core (isReachedAt (c .form)) (a .0) in
     let events = first-events ws fuel work core begun in
     let k : Case ws fuel work core c = record {
       begun = begun;
-      reaches = subst (λ l. any (isReachedAt (c .form)) l ≡ true) events (a .0);
+      reaches = subst (λ l. anyOf (isReachedAt (c .form)) l ≡ true) events (a .0);
       private = b .0;
       new = d .0;
-      unquoted = subst (λ l. all (quotesNoCopy (isOldItem (treeOf ws) c)) l ≡ true) events (q .0);
-      own = subst (λ l. all (findsOwn (isOldItem (treeOf ws) c) l) l ≡ true) events (o .0);
+      unquoted = subst (λ l. allOf (quotesNoCopy (isOldItem (treeOf ws) c)) l ≡ true) events (q .0);
+      own = subst (λ l. allOf (findsOwn (isOldItem (treeOf ws) c) l) l ≡ true) events (o .0);
     } in
     located ws fuel work core c k (find (c .form) (element 1 (treeOf ws)))

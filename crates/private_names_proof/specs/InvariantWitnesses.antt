@@ -5,7 +5,7 @@ use mathlib.Core.List.{[], _∷_}
 use Prim.Native.Nat.{ℕ}
 use Prim.Native.String.{String}
 use lib.Dec.{eqb}
-use Rattle.words.specs.Lists.{all, any}
+use Rattle.words.specs.Lists.{allOf, anyOf}
 use Rattle.recipe.specs.Name.{bindingKey}
 use Rattle.recipe.specs.Tree.{Tree, names}
 use Rattle.recipe.specs.Table.{treeOf}
@@ -32,14 +32,14 @@ abbrev made : String
 made = "() (let-syntax ((m (syntax-rules () ((_) (let-syntax ((k (syntax-rules () ((_) t)))) (lambda (t) (k))))))) (m))"
 
 pub invariants-pass :
-    tried areFresh or2 ∷ tried haveOneBinding or2 ∷ tried (areApart (λ i. any (eqb i) (36 ∷ 42 ∷ 44 ∷ []))) or2 ∷ []
+    tried areFresh or2 ∷ tried haveOneBinding or2 ∷ tried (areApart (λ i. anyOf (eqb i) (36 ∷ 42 ∷ 44 ∷ []))) or2 ∷ []
     ≡ (accepted, 1) ∷ (accepted, 1) ∷ (accepted, 1) ∷ []
 unfolding tried
 invariants-pass = refl
 
 -- the number alone does not determine the binding; nor are copies apart where the form is a result's
 unfoldable pub byNumber : Tree → State → Bool
-byNumber t s = all (λ x. all (λ y. not (eqb (x .number) (y .number)) || eqb (bindingKey (x .binding)) (bindingKey (y .binding))) (names t)) (names t)
+byNumber t s = allOf (λ x. allOf (λ y. not (eqb (x .number) (y .number)) || eqb (bindingKey (x .binding)) (bindingKey (y .binding))) (names t)) (names t)
 
 pub more-fails : tried byNumber or2 ∷ tried (areApart (eqb 37)) made ∷ [] ≡ (turnedBack 0, 1) ∷ (turnedBack 0, 1) ∷ []
 unfolding tried byNumber

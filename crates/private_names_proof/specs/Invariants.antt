@@ -17,7 +17,7 @@ use mathlib.Core.List.{List, _∷_}
 use Prim.Native.Nat.{ℕ, suc, _+_}
 use native.Mathlib.Omega.{arith}
 use Rattle.words.specs.Limits.{macrosMost}
-use Rattle.words.specs.Lists.{any}
+use Rattle.words.specs.Lists.{anyOf}
 use Rattle.words.specs.Each.{noneOf}
 use Rattle.recipe.specs.Name.{Name, plainName, markName, produceName}
 use Rattle.recipe.specs.Tree.{Tree, size, element}
@@ -111,7 +111,7 @@ marks-determine-binding = recipe-follows haveOneBinding binding-follows
 
 -- A copy and a name that is no copy are never the same: in each expression that a run comes to, where it comes to the form of that
 -- template other than through a macro's result.
-pub copies-stay-apart : (ws : List ℕ) (fuel work core : ℕ) (c : Choice) → any (isReachedAt (c .form)) (run ws fuel work core .events) ≡ true
+pub copies-stay-apart : (ws : List ℕ) (fuel work core : ℕ) (c : Choice) → anyOf (isReachedAt (c .form)) (run ws fuel work core .events) ≡ true
     → watchedRecipe (areApart (isOldItem (treeOf ws) c)) fuel (treeOf ws) ≡ expandRecipe fuel (treeOf ws)
 unfolding watchedRecipe expandRecipe
 copies-stay-apart ws fuel work core c h = located (find (c .form) (element 1 (treeOf ws)))
@@ -119,8 +119,8 @@ copies-stay-apart ws fuel work core c h = located (find (c .form) (element 1 (tr
     begun : Begun ws fuel work core
     begun = shows-begun ws fuel work core (isReachedAt (c .form)) h
 
-    reaches : any (isReachedAt (c .form)) (eventsOf (expand macrosMost (operationNumbers (treeOf ws)) fuel (size (treeOf ws) + fuel) (element 1 (treeOf ws)) start)) ≡ true
-    reaches = subst (λ l. any (isReachedAt (c .form)) l ≡ true) (ap (λ r. r .events) (begun-run ws fuel work core begun) ∙ ended-events (expandRecipe fuel (treeOf ws))) h
+    reaches : anyOf (isReachedAt (c .form)) (eventsOf (expand macrosMost (operationNumbers (treeOf ws)) fuel (size (treeOf ws) + fuel) (element 1 (treeOf ws)) start)) ≡ true
+    reaches = subst (λ l. anyOf (isReachedAt (c .form)) l ≡ true) (ap (λ r. r .events) (begun-run ws fuel work core begun) ∙ ended-events (expandRecipe fuel (treeOf ws))) h
 
     located : Unheaded (c .form) (element 1 (treeOf ws)) ⊎ ((l : List ℕ) × Headed (c .form) l (element 1 (treeOf ws)))
         → watched (areApart (isOldItem (treeOf ws) c)) macrosMost (operationNumbers (treeOf ws)) fuel (size (treeOf ws) + fuel) (element 1 (treeOf ws)) start
@@ -135,6 +135,6 @@ copies-stay-apart ws fuel work core c h = located (find (c .form) (element 1 (tr
 
 -- A form reached outside results was in no use: whatever a macro use holds, its expansion reaches no form by a name that never stood in a result.
 pub reached-in-no-use : (limit : ℕ) (operations : List ℕ) (fuel gas n : ℕ) (t : Tree) (s : State) (p : ℕ)
-    → any (isReachedAt p) (eventsOf (expandUse limit operations fuel (expand limit operations fuel gas) n t s)) ≡ false
+    → anyOf (isReachedAt p) (eventsOf (expandUse limit operations fuel (expand limit operations fuel gas) n t s)) ≡ false
 reached-in-no-use limit operations fuel gas n t s p =
     none-reached p (use-unreached p limit operations fuel (expand limit operations fuel gas) (expand-unreached p limit operations fuel gas) n t s)

@@ -8,7 +8,7 @@ use mathlib.Core.Option.{Option, none, some}
 use Prim.Native.Nat.{ℕ}
 use lib.Dec.{eqb}
 use borrow.Author.Tests.{eqb-true, eq-eqb, not-true}
-use Rattle.words.specs.Lists.{all, any}
+use Rattle.words.specs.Lists.{allOf, anyOf}
 use Rattle.words.specs.TestLaws.{and-parts, and-both, or-left, or-right, or-cases, iff-eq, all-parts}
 use Rattle.words.specs.Each.{Each, noneOf, also}
 use Rattle.recipe.specs.Name.{Binding, Name, bindingKey}
@@ -31,15 +31,15 @@ module _ (C : ℕ → Bool) where
     of-binding : {b : Binding} {x : Name} → isOwnedByCopy C whole (some b) ≡ isCopy C x → OwnName whole (binds b x)
 
   -- a binding of a copy's was made, its own name a copy
-  copy-made : (b : Binding) (l : Events) → any (bindsCopy C b) l ≡ true → (y : Name) × List·Memᴰ (b, y) (bindingsMade l) × (isCopy C y ≡ true)
-  unfolding any bindsCopy bindingsMade
+  copy-made : (b : Binding) (l : Events) → anyOf (bindsCopy C b) l ≡ true → (y : Name) × List·Memᴰ (b, y) (bindingsMade l) × (isCopy C y ≡ true)
+  unfolding anyOf bindsCopy bindingsMade
   copy-made b [] e = absurd (false≢true e)
   copy-made b (looked x ∷ l) e = copy-made b l e
   copy-made b (quoted x ∷ l) e = copy-made b l e
   copy-made b (reached x ∷ l) e = copy-made b l e
-  copy-made b (binds c x ∷ l) e = go (or-cases _ (any (bindsCopy C b) l) e) (copy-made b l)
+  copy-made b (binds c x ∷ l) e = go (or-cases _ (anyOf (bindsCopy C b) l) e) (copy-made b l)
     where
-      go : (bindsCopy C b (binds c x) ≡ true) ⊎ (any (bindsCopy C b) l ≡ true) → (any (bindsCopy C b) l ≡ true → (y : Name) × List·Memᴰ (b, y) (bindingsMade l) × (isCopy C y ≡ true))
+      go : (bindsCopy C b (binds c x) ≡ true) ⊎ (anyOf (bindsCopy C b) l ≡ true) → (anyOf (bindsCopy C b) l ≡ true → (y : Name) × List·Memᴰ (b, y) (bindingsMade l) × (isCopy C y ≡ true))
           → (y : Name) × List·Memᴰ (b, y) (bindingsMade (binds c x ∷ l)) × (isCopy C y ≡ true)
       go (inl p) later =
           let q = and-parts (eqb (bindingKey (some b)) (bindingKey (some c))) (isCopy C x) p in
@@ -47,13 +47,13 @@ module _ (C : ℕ → Bool) where
           (x, List·Memᴰ·head (ap (λ z. (z, x)) same), q .1)
       go (inr p) later = let r = later p in (r .0, List·Memᴰ·tail (r .1), r .2)
 
-  made-copy : (b : Binding) (y : Name) (l : Events) → List·Memᴰ (b, y) (bindingsMade l) → isCopy C y ≡ true → any (bindsCopy C b) l ≡ true
-  unfolding any bindsCopy bindingsMade
+  made-copy : (b : Binding) (y : Name) (l : Events) → List·Memᴰ (b, y) (bindingsMade l) → isCopy C y ≡ true → anyOf (bindsCopy C b) l ≡ true
+  unfolding anyOf bindsCopy bindingsMade
   made-copy b y (looked x ∷ l) m e = made-copy b y l m e
   made-copy b y (quoted x ∷ l) m e = made-copy b y l m e
   made-copy b y (reached x ∷ l) m e = made-copy b y l m e
   made-copy b y (binds c x ∷ l) (List·Memᴰ·head p) e =
-      or-left _ (any (bindsCopy C b) l)
+      or-left _ (anyOf (bindsCopy C b) l)
       (and-both (eqb (bindingKey (some b)) (bindingKey (some c))) (isCopy C x) (eq-eqb _ _ (ap (λ (z : Binding × Name). bindingKey (some (z .0))) p)) (subst (λ (z : Binding × Name). isCopy C (z .1) ≡ true) p e))
   made-copy b y (binds c x ∷ l) (List·Memᴰ·tail m) e = or-right (bindsCopy C b (binds c x)) _ (made-copy b y l m e)
 
@@ -96,7 +96,7 @@ module _ (ρ : Renaming) (shown : Events) (owned : (b : Binding) → ρ .isOwned
   event-fine q h of-form = tt
   event-fine q h (of-binding {b = b} {x = x} e) = owned-eq (some b) ∙ e
 
-  pub all-fine : {l : Events} → all (quotesNoCopy C) l ≡ true → all (findsOwn C shown) l ≡ true → Each (OwnName C shown) l → AllFine ρ l
+  pub all-fine : {l : Events} → allOf (quotesNoCopy C) l ≡ true → allOf (findsOwn C shown) l ≡ true → Each (OwnName C shown) l → AllFine ρ l
   all-fine q h noneOf = noneOf
   all-fine q h (also {x = e} {xs = l} o a) =
       let r = all-parts (quotesNoCopy C) e l q in

@@ -6,7 +6,7 @@ use mathlib.Core.List.{List, [], _∷_, _++_}
 use Prim.Native.Nat.{ℕ, zero, suc, _+_, _≤_}
 use native.Mathlib.Omega.{arith}
 use lib.Dec.{eqb}
-use Rattle.words.specs.Lists.{any}
+use Rattle.words.specs.Lists.{anyOf}
 use Rattle.words.specs.TestLaws.{and-right, any-append}
 use Rattle.recipe.specs.Name.{Binding, Name, bindName}
 use Rattle.recipe.specs.Tree.{Tree, empty, constant, name, pair, onName, elements, element, onNames, bind, bindAll}
@@ -29,21 +29,21 @@ unfolding sub
 uses-sub q [] t = omega arith
 uses-sub q (k ∷ l) t = omega (arith, uses-sub q l (element k t), uses-element q k t)
 
-firstWith-here : (f : Tree → Bool) (ts us : List Tree) → any f ts ≡ true → firstWith f (ts ++ us) ≡ firstWith f ts
-unfolding firstWith any
+firstWith-here : (f : Tree → Bool) (ts us : List Tree) → anyOf f ts ≡ true → firstWith f (ts ++ us) ≡ firstWith f ts
+unfolding firstWith anyOf
 firstWith-here f [] us e = absurd (false≢true e)
 firstWith-here f (t ∷ ts) us e = go (f t) e (firstWith-here f ts us)
   where
-    go : (b : Bool) → (b || any f ts) ≡ true → (any f ts ≡ true → firstWith f (ts ++ us) ≡ firstWith f ts) → cond b t (firstWith f (ts ++ us)) ≡ cond b t (firstWith f ts)
+    go : (b : Bool) → (b || anyOf f ts) ≡ true → (anyOf f ts ≡ true → firstWith f (ts ++ us) ≡ firstWith f ts) → cond b t (firstWith f (ts ++ us)) ≡ cond b t (firstWith f ts)
     go true e h = refl
     go false e h = h e
 
-firstWith-later : (f : Tree → Bool) (ts us : List Tree) → any f ts ≡ false → firstWith f (ts ++ us) ≡ firstWith f us
-unfolding firstWith any
+firstWith-later : (f : Tree → Bool) (ts us : List Tree) → anyOf f ts ≡ false → firstWith f (ts ++ us) ≡ firstWith f us
+unfolding firstWith anyOf
 firstWith-later f [] us e = refl
 firstWith-later f (t ∷ ts) us e = go (f t) e (firstWith-later f ts us)
   where
-    go : (b : Bool) → (b || any f ts) ≡ false → (any f ts ≡ false → firstWith f (ts ++ us) ≡ firstWith f us) → cond b t (firstWith f (ts ++ us)) ≡ firstWith f us
+    go : (b : Bool) → (b || anyOf f ts) ≡ false → (anyOf f ts ≡ false → firstWith f (ts ++ us) ≡ firstWith f us) → cond b t (firstWith f (ts ++ us)) ≡ firstWith f us
     go true e h = absurd (true≢false e)
     go false e h = h e
 
@@ -181,8 +181,8 @@ module _ (p : ℕ) where
       go false e = refl
   head-none (pair h t) e = refl
 
-  parts-none : (t : Tree) → uses p t ≡ 0 → any (hasHead p) (parts t) ≡ false
-  unfolding uses parts any hasHead element elements onName
+  parts-none : (t : Tree) → uses p t ≡ 0 → anyOf (hasHead p) (parts t) ≡ false
+  unfolding uses parts anyOf hasHead element elements onName
   parts-none empty e = refl
   parts-none (constant a) e = refl
   parts-none (name x) e = refl
@@ -192,22 +192,22 @@ module _ (p : ℕ) where
       ap₂ _||_ (head-none h i) (any-append (hasHead p) (parts h) (parts t) ∙ ap₂ _||_ (parts-none h i) (parts-none t j))
 
   -- the first part that it heads
-  pub headed-part : {l : List ℕ} {t : Tree} → Headed l t → uses p t ≤ 1 → (any (hasHead p) (parts t) ≡ true) × (firstWith (hasHead p) (parts t) ≡ sub l t)
-  unfolding parts any hasHead element elements onName firstWith sub uses
+  pub headed-part : {l : List ℕ} {t : Tree} → Headed l t → uses p t ≤ 1 → (anyOf (hasHead p) (parts t) ≡ true) × (firstWith (hasHead p) (parts t) ≡ sub l t)
+  unfolding parts anyOf hasHead element elements onName firstWith sub uses
   headed-part (headed {x = x} {t = t} e) u = go (eqb (x .item) p) (isAt-item x e)
     where
       rest : List Tree
       rest = parts (name x) ++ parts t
 
-      go : (b : Bool) → b ≡ true → ((b || any (hasHead p) rest) ≡ true) × (cond b (pair (name x) t) (firstWith (hasHead p) rest) ≡ pair (name x) t)
+      go : (b : Bool) → b ≡ true → ((b || anyOf (hasHead p) rest) ≡ true) × (cond b (pair (name x) t) (firstWith (hasHead p) rest) ≡ pair (name x) t)
       go true e = (refl, refl)
       go false e = absurd (false≢true e)
   headed-part (in-first {l = l} {h = h} {t = t} i) u = go (headed-head i) (headed-part i (omega arith))
     where
-      go : onName (λ x. eqb (x .item) p) false h ≡ false → (any (hasHead p) (parts h) ≡ true) × (firstWith (hasHead p) (parts h) ≡ sub l h)
-          → (any (hasHead p) (parts (pair h t)) ≡ true) × (firstWith (hasHead p) (parts (pair h t)) ≡ sub (0 ∷ l) (pair h t))
+      go : onName (λ x. eqb (x .item) p) false h ≡ false → (anyOf (hasHead p) (parts h) ≡ true) × (firstWith (hasHead p) (parts h) ≡ sub l h)
+          → (anyOf (hasHead p) (parts (pair h t)) ≡ true) × (firstWith (hasHead p) (parts (pair h t)) ≡ sub (0 ∷ l) (pair h t))
       go d a = (
-        ap₂ _||_ d (any-append (hasHead p) (parts h) (parts t) ∙ ap (λ b. b || any (hasHead p) (parts t)) (a .0)),
+        ap₂ _||_ d (any-append (hasHead p) (parts h) (parts t) ∙ ap (λ b. b || anyOf (hasHead p) (parts t)) (a .0)),
         ap (λ b. cond b (pair h t) (firstWith (hasHead p) (parts h ++ parts t))) d ∙ firstWith-here (hasHead p) (parts h) (parts t) (a .0) ∙ a .1,
       )
   headed-part (in-later {k = k} {l = l} {h = h} {t = t} i) u = go (headed-part i (omega arith))
@@ -215,8 +215,8 @@ module _ (p : ℕ) where
       z : uses p h ≡ 0
       z = omega (arith, headed-uses i)
 
-      go : (any (hasHead p) (parts t) ≡ true) × (firstWith (hasHead p) (parts t) ≡ sub (k ∷ l) t)
-          → (any (hasHead p) (parts (pair h t)) ≡ true) × (firstWith (hasHead p) (parts (pair h t)) ≡ sub (suc k ∷ l) (pair h t))
+      go : (anyOf (hasHead p) (parts t) ≡ true) × (firstWith (hasHead p) (parts t) ≡ sub (k ∷ l) t)
+          → (anyOf (hasHead p) (parts (pair h t)) ≡ true) × (firstWith (hasHead p) (parts (pair h t)) ≡ sub (suc k ∷ l) (pair h t))
       go a = (
         ap₂ _||_ (head-none h z) (any-append (hasHead p) (parts h) (parts t) ∙ ap₂ _||_ (parts-none h z) (a .0)),
         ap (λ b. cond b (pair h t) (firstWith (hasHead p) (parts h ++ parts t))) (head-none h z) ∙ firstWith-later (hasHead p) (parts h) (parts t) (parts-none h z) ∙ a .1,

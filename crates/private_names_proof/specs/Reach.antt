@@ -7,7 +7,7 @@ use mathlib.Core.List.{List, [], _∷_, map}
 use mathlib.Core.Option.{Option, none, some}
 use Prim.Native.Nat.{ℕ, zero, suc}
 use lib.ListN.{length, getD}
-use Rattle.words.specs.Lists.{any}
+use Rattle.words.specs.Lists.{anyOf}
 use Rattle.words.specs.TestLaws.{or-none, any-append}
 use Rattle.recipe.specs.Name.{Binding, variable, macro, Name}
 use Rattle.recipe.specs.Tree.{Tree, empty, constant, name, pair, names, onName, onPair, element, tail, mark}
@@ -25,39 +25,39 @@ module _ (p : ℕ) where
   -- ---- what is not reached
 
   pub data Unreached {A : Type 0} : Out A → Type 0 where
-    unreached : {o : Out A} → any (isReachedAt p) (eventsOf o) ≡ false → Unreached o
+    unreached : {o : Out A} → anyOf (isReachedAt p) (eventsOf o) ≡ false → Unreached o
 
-  pub none-reached : {A : Type 0} {o : Out A} → Unreached o → any (isReachedAt p) (eventsOf o) ≡ false
+  pub none-reached : {A : Type 0} {o : Out A} → Unreached o → anyOf (isReachedAt p) (eventsOf o) ≡ false
   none-reached (unreached e) = e
 
   module _ {A : Type 0} where
-    pub after-unreached : (l : Events) (o : Out A) → any (isReachedAt p) l ≡ false → Unreached o → Unreached (after l o)
+    pub after-unreached : (l : Events) (o : Out A) → anyOf (isReachedAt p) l ≡ false → Unreached o → Unreached (after l o)
     after-unreached l o e (unreached f) =
-        unreached (ap (any (isReachedAt p)) (events-after l o) ∙ any-append (isReachedAt p) l (eventsOf o) ∙ or-none _ _ e f)
+        unreached (ap (anyOf (isReachedAt p)) (events-after l o) ∙ any-append (isReachedAt p) l (eventsOf o) ∙ or-none _ _ e f)
 
     pub give-unreached : (a : A) (s : State) → Unreached (give a s)
-    unfolding give eventsOf any
+    unfolding give eventsOf anyOf
     give-unreached a s = unreached refl
 
     pub refuse-unreached : (g : ℕ) (s : State) → Unreached {A = A} (refuse g s)
-    unfolding refuse eventsOf any
+    unfolding refuse eventsOf anyOf
     refuse-unreached g s = unreached refl
 
     pub test-unreached : (g : ℕ) (b : Bool) (n : M A) (s : State) → Unreached (n s) → Unreached ((_>>_ (test g b) n) s)
-    unfolding _>>_ goOn test eventsOf any
+    unfolding _>>_ goOn test eventsOf anyOf
     test-unreached g true n s k = after-unreached [] (n s) refl k
     test-unreached g false n s k = unreached refl
 
-    pub show-unreached : (l : Events) (n : M A) (s : State) → any (isReachedAt p) l ≡ false → Unreached (n s) → Unreached ((_>>_ (show l) n) s)
+    pub show-unreached : (l : Events) (n : M A) (s : State) → anyOf (isReachedAt p) l ≡ false → Unreached (n s) → Unreached ((_>>_ (show l) n) s)
     unfolding _>>_ goOn show
     show-unreached l n s e k = after-unreached l (n s) e k
 
     pub goes-unreached : (m : M (Unit {0})) (n : M A) (s t : State) → m s ≡ done tt t [] → Unreached (n t) → Unreached ((_>>_ m n) s)
-    unfolding _>>_ goOn any
+    unfolding _>>_ goOn anyOf
     goes-unreached m n s t e k = rw e (after-unreached [] (n t) refl k)
 
     pub get-unreached : (n : State → M A) (s : State) → Unreached (n s s) → Unreached ((_>>=_ get n) s)
-    unfolding _>>=_ goOn get any
+    unfolding _>>=_ goOn get anyOf
     get-unreached n s k = after-unreached [] (n s s) refl k
 
   module _ {A B : Type 0} where
@@ -71,28 +71,28 @@ module _ (p : ℕ) where
         go (starved l) (unreached e) = unreached e
 
     pub found-unreached : (g : ℕ) (o : Option A) (f : A → M B) (s : State) → ((a : A) → Unreached (f a s)) → Unreached ((_>>=_ (orRefuse g o) f) s)
-    unfolding _>>=_ goOn orRefuse eventsOf any
+    unfolding _>>=_ goOn orRefuse eventsOf anyOf
     found-unreached g none f s k = unreached refl
     found-unreached g (some a) f s k = after-unreached [] (f a s) refl (k a)
 
   -- lookups, quoted names and bindings are no forms reached
-  pub quoted-none : (xs : List Name) → any (isReachedAt p) (map quoted xs) ≡ false
-  unfolding any isReachedAt
+  pub quoted-none : (xs : List Name) → anyOf (isReachedAt p) (map quoted xs) ≡ false
+  unfolding anyOf isReachedAt
   quoted-none [] = refl
   quoted-none (x ∷ xs) = quoted-none xs
 
-  pub looked-none : (xs : List Name) → any (isReachedAt p) (map looked xs) ≡ false
-  unfolding any isReachedAt
+  pub looked-none : (xs : List Name) → anyOf (isReachedAt p) (map looked xs) ≡ false
+  unfolding anyOf isReachedAt
   looked-none [] = refl
   looked-none (x ∷ xs) = looked-none xs
 
-  pub bindings-none : (f : ℕ → Binding) (k : ℕ) (xs : List Name) → any (isReachedAt p) (bindings f k xs) ≡ false
-  unfolding any isReachedAt bindings
+  pub bindings-none : (f : ℕ → Binding) (k : ℕ) (xs : List Name) → anyOf (isReachedAt p) (bindings f k xs) ≡ false
+  unfolding anyOf isReachedAt bindings
   bindings-none f k [] = refl
   bindings-none f k (x ∷ xs) = bindings-none f (suc k) xs
 
-  pub head-none : (t : Tree) → any (isReachedAt p) (onName (λ x. looked x ∷ []) [] t) ≡ false
-  unfolding any isReachedAt onName
+  pub head-none : (t : Tree) → anyOf (isReachedAt p) (onName (λ x. looked x ∷ []) [] t) ≡ false
+  unfolding anyOf isReachedAt onName
   head-none empty = refl
   head-none (constant a) = refl
   head-none (name x) = refl
@@ -154,7 +154,7 @@ module _ (p : ℕ) where
         give-unreached _ z)))))
 
     pub macros-unreached : (inside : Bool) (x : Name) → isAt p x ≡ false → (t : Tree) → Unheaded p (element 2 t) → (s : State) → Unreached (expandMacros limit operations fuel rec inside x t s)
-    unfolding expandMacros addMacros any isReachedAt isAt
+    unfolding expandMacros addMacros anyOf isReachedAt isAt
     macros-unreached inside x e t u s =
         show-unreached _ _ s (ap (λ b. b || false) e)
         (test-unreached 13 _ _ s
@@ -200,14 +200,14 @@ module _ (p : ℕ) where
     name-unreached nothing s = refuse-unreached 11 s
 
     pair-unreached : (h : Tree) {t : Tree} → isNameAt p h ≡ false → Unheaded p h → UnheadedAll p t → (s : State) → Unreached (expandPair limit operations fuel rec h t s)
-    unfolding expandPair any isReachedAt isNameAt onName
+    unfolding expandPair anyOf isReachedAt isNameAt onName
     pair-unreached empty e u v s = application-unreached u v s
     pair-unreached (constant a) e u v s = application-unreached u v s
     pair-unreached (name x) e u v s = show-unreached _ _ s refl (list-unreached (lookup operations x) x e v s)
     pair-unreached (pair a b) e u v s = application-unreached u v s
 
     tree-unreached : (t : Tree) → Unheaded p t → (s : State) → Unreached (expandTree limit operations fuel rec t s)
-    unfolding expandTree any isReachedAt
+    unfolding expandTree anyOf isReachedAt
     tree-unreached _ empty₁ s = refuse-unreached 13 s
     tree-unreached _ constant₁ s = give-unreached _ s
     tree-unreached _ (name₁ {x = x}) s = show-unreached _ _ s refl (name-unreached (lookup operations x) s)
@@ -215,7 +215,7 @@ module _ (p : ℕ) where
 
   -- Reach: what is reached outside results is a list of the tree at hand, by its head
   pub expand-unreached : (limit : ℕ) (operations : List ℕ) (fuel gas : ℕ) (t : Tree) → Unheaded p t → (s : State) → Unreached (expand limit operations fuel gas t s)
-  unfolding expand eventsOf any
+  unfolding expand eventsOf anyOf
   expand-unreached limit operations fuel zero t u s = unreached refl
   expand-unreached limit operations fuel (suc gas) t u s =
       tree-unreached limit operations fuel (expand limit operations fuel gas) (expand-unreached limit operations fuel gas) t u s

@@ -8,7 +8,7 @@ use Prim.Native.Nat.{ℕ, zero, suc, _≤_}
 use native.Mathlib.Omega.{arith}
 use borrow.Author.Tests.{eq-eqb}
 use lib.Dec.{eqb}
-use Rattle.words.specs.Lists.{any}
+use Rattle.words.specs.Lists.{anyOf}
 use Rattle.recipe.specs.Name.{Name, plainName}
 use Rattle.recipe.specs.Tree.{Tree, names, elements, element, onNames}
 use Rattle.recipe.specs.TreeNames.{TreeAll, all-empty, all-constant, all-name, all-pair, treeAll-map, treeAll-both, treeAll-element, uses, uses-element}
@@ -135,7 +135,7 @@ templateIn j t = element 1 (element (suc (suc j)) t)
 -- rule j of the rules form t has the private name in its template, at the private items; that name is no variable of the rule, and the
 -- new name is neither in that template nor a variable
 pub record Chosen (ρ : Renaming) (j : ℕ) (t : Tree) : Type 0 where
-  pub private : (i : ℕ) → ρ .isPrivate i ≡ any (isOld (ρ .old) i) (names (templateIn j t))
+  pub private : (i : ℕ) → ρ .isPrivate i ≡ anyOf (isOld (ρ .old) i) (names (templateIn j t))
   pub some : (i : ℕ) × (ρ .isPrivate i ≡ true)
   pub fresh : TreeAll (λ x. eqb (x .number) (ρ .new) ≡ false) (templateIn j t)
   pub old-free : hasVariable j (ρ .old) t ≡ false
@@ -151,7 +151,7 @@ module _ (ρ : Renaming) (N : ℕ → ℕ) (j : ℕ) (t : Tree) (held : Held N t
   held-template : Held N template
   held-template = held-element N 1 (element (suc (suc j)) t) held-rule
 
-  private-items : (i : ℕ) → ρ .isPrivate i ≡ any (isOld (ρ .old) i) (names template)
+  private-items : (i : ℕ) → ρ .isPrivate i ≡ anyOf (isOld (ρ .old) i) (names template)
   unfolding templateIn
   private-items = chosen .private
 
@@ -159,7 +159,7 @@ module _ (ρ : Renaming) (N : ℕ → ℕ) (j : ℕ) (t : Tree) (held : Held N t
   unfolding templateIn
   template-rel = on-each ρ (treeAll-map go (treeAll-both (held-template .plain) (treeAll-both (chosen .fresh) (treeAll-both (held-template .numbered) (old-each (ρ .old) template)))))
     where
-      go : (x : Name) → Plain x × ((eqb (x .number) (ρ .new) ≡ false) × ((x .number ≡ N (x .item)) × (eqb (x .number) (ρ .old) ≡ true → any (isOld (ρ .old) (x .item)) (names template) ≡ true))) → InTemplate ρ unbound x (renew ρ x)
+      go : (x : Name) → Plain x × ((eqb (x .number) (ρ .new) ≡ false) × ((x .number ≡ N (x .item)) × (eqb (x .number) (ρ .old) ≡ true → anyOf (isOld (ρ .old) (x .item)) (names template) ≡ true))) → InTemplate ρ unbound x (renew ρ x)
       go x (p, (n, (e, f))) = template-name ρ x p n (λ d. private-items (x .item) ∙ f d) (λ d. e ∙ old-number (ρ .old) N (x .item) (held-template .numbered) (sym (private-items (x .item)) ∙ d))
 
   template-holds : Holds ρ template

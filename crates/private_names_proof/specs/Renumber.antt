@@ -9,7 +9,7 @@ use borrow.Author.Tests.{eqb-true, eq-eqb, ne-eqb, le-leb}
 use lib.Dec.{eqb, ltb}
 use lib.ListN.{length, getD, length-map}
 use Rattle.words.specs.Limits.{namesMost, baseNameCount, itemsLeast, itemsMost}
-use Rattle.words.specs.Lists.{within, all}
+use Rattle.words.specs.Lists.{within, allOf}
 use Rattle.words.specs.TestLaws.{and-parts, and-both}
 use Rattle.words.specs.Each.{each-weaken, each-map, each-true, true-each}
 use Rattle.datum.specs.Constant.{isConstant}
@@ -178,10 +178,10 @@ module _ (C : ℕ → Bool) (n : ℕ) where
       let l = isLayout-parts ws e in
       let c = count-renumber ws in
       let ys = items-renumber 0 ws in
-      let good : all (isItem us (itemCount us)) (items 0 us) ≡ true
-      = ap₂ (λ m zs. all (isItem us m) zs) c ys ∙ true-each _ (each-map renumberItem (λ x h. item-renumber small ws (itemCount ws) x h) (each-true _ xs (l .item))) in
-      let referred : all (isReferredOnce (references (items 0 us))) (items 0 us) ≡ true
-      = ap₂ (λ r zs. all (isReferredOnce r) zs) (ap references ys ∙ references-renumber xs) ys ∙ true-each _ (each-map renumberItem (λ x h. h) (each-true _ xs (l .referred))) in
+      let good : allOf (isItem us (itemCount us)) (items 0 us) ≡ true
+      = ap₂ (λ m zs. allOf (isItem us m) zs) c ys ∙ true-each _ (each-map renumberItem (λ x h. item-renumber small ws (itemCount ws) x h) (each-true _ xs (l .item))) in
+      let referred : allOf (isReferredOnce (references (items 0 us))) (items 0 us) ≡ true
+      = ap₂ (λ r zs. allOf (isReferredOnce r) zs) (ap references ys ∙ references-renumber xs) ys ∙ true-each _ (each-map renumberItem (λ x h. h) (each-true _ xs (l .referred))) in
       let two : isListOf 2 (treeOf us) ≡ true
       = ap (isListOf 2) (treeOf-renumber ws) ∙ ap₂ (λ a b. a && eqb b 2) (onNames-isList renumberName t) (ap length (onNames-elements renumberName t) ∙ length-map (elements t) (onNames renumberName)) ∙ l .two in
       let first : isList (element 0 (treeOf us)) ≡ true

@@ -9,7 +9,7 @@ use native.Mathlib.Omega.{arith}
 use borrow.Author.Tests.{ltb-false, not-true, ne-eqb}
 use lib.Dec.{eqb, ltb}
 use Rattle.words.specs.Limits.{namesMost, baseNameCount}
-use Rattle.words.specs.Lists.{any}
+use Rattle.words.specs.Lists.{anyOf}
 use Rattle.words.specs.TestLaws.{and-parts}
 use Rattle.recipe.specs.Tree.{Tree, names, element, tail, onNames}
 use Rattle.recipe.specs.TreeLaws.{onNames-element, element-tail}
@@ -45,9 +45,9 @@ module _ (ws : List ℕ) (c : Choice) (layout : isLayout ws ≡ true) where
         ap (λ r. element 1 (element (c .rule) (tail (tail r)))) rules-at ∙ ap (element 1) (element-tail (c .rule) (tail R) ∙ element-tail (suc (c .rule)) R)
 
     -- the items of the old name are those of that template
-    pub items-at : (q : ℕ) → isOldItem (treeOf ws) c q ≡ any (isOld (c .old) q) (names (templateIn (c .rule) (element 1 (element (c .macro) (element 1 (sub l (element 1 (treeOf ws))))))))
+    pub items-at : (q : ℕ) → isOldItem (treeOf ws) c q ≡ anyOf (isOld (c .old) q) (names (templateIn (c .rule) (element 1 (element (c .macro) (element 1 (sub l (element 1 (treeOf ws))))))))
     unfolding isOldItem isOld
-    items-at q = ap (λ t. any (isOld (c .old) q) (names t)) template-at
+    items-at q = ap (λ t. anyOf (isOld (c .old) q) (names t)) template-at
 
 -- ---- the renaming
 
@@ -58,14 +58,14 @@ module _ (ws : List ℕ) (c : Choice) (layout : isLayout ws ≡ true) (private :
   pub old-free : (eqb (c .old) 6 ≡ false) × ((eqb (c .old) 7 ≡ false) × (isVariableAt T c (c .old) ≡ false))
   unfolding S.isPrivate
   old-free =
-      let a = and-parts (any (λ x. eqb (x .number) (c .old)) (names (templateAt T c))) _ private in
+      let a = and-parts (anyOf (λ x. eqb (x .number) (c .old)) (names (templateAt T c))) _ private in
       let b = and-parts (not (eqb (c .old) 6)) _ (a .1) in
       let d = and-parts (not (eqb (c .old) 7)) (not (isVariableAt T c (c .old))) (b .1) in
       (not-true _ (b .0), (not-true _ (d .0), not-true _ (d .1)))
 
   some-private : (i : ℕ) × (isOldItem T c i ≡ true)
   unfolding S.isPrivate isOldItem isOld
-  some-private = old-some (c .old) (names (templateAt T c)) (and-parts (any (λ x. eqb (x .number) (c .old)) (names (templateAt T c))) _ private .0)
+  some-private = old-some (c .old) (names (templateAt T c)) (and-parts (anyOf (λ x. eqb (x .number) (c .old)) (names (templateAt T c))) _ private .0)
 
   pub new-large : (baseNameCount ≤ c .new) × (ltb (c .new) namesMost ≡ true)
   unfolding isNew

@@ -8,7 +8,7 @@ use lib.ListN.{length, getD, drop}
 use mir.Syntax.{w32}
 use mir.Val.{ofZ}
 use Rattle.words.specs.Limits.{nameLengthMost}
-use Rattle.words.specs.Lists.{within, all, equal}
+use Rattle.words.specs.Lists.{within, allOf, equal}
 use Rattle.datum.specs.Constant.{Constant, integer, boolean}
 use Rattle.reading.specs.Token.{Token, open′, close′, bad, flag, run, isDigit}
 
@@ -49,7 +49,7 @@ signed false n = cond (leb n 2147483647) (constant (integer (ofZ w32 (pos n)))) 
 
 -- an optional minus and digits, within the range
 unfoldable pub integerOf : List ℕ → Meaning
-integerOf cs = cond (all isDigit (unsigned cs)) (signed (isNegative cs) (size cs)) (refused 3)
+integerOf cs = cond (allOf isDigit (unsigned cs)) (signed (isNegative cs) (size cs)) (refused 3)
 
 -- ---- names
 
@@ -65,7 +65,7 @@ nameOf cs = cond (isName cs) (name cs) (refused 3)
 
 -- each token by itself
 unfoldable pub meaningOf : Token → Meaning
-unfolding isNegative unsigned isNumeral valueFrom size signed integerOf isName nameOf isDigit within all equal integer boolean
+unfolding isNegative unsigned isNumeral valueFrom size signed integerOf isName nameOf isDigit within allOf equal integer boolean
 meaningOf open′ = begins
 meaningOf close′ = ends
 meaningOf bad = refused 3

@@ -9,7 +9,7 @@ use lib.ListN.{length}
 use mir.Syntax.{w32}
 use mir.Val.{ofZ}
 use Rattle.words.specs.Limits.{textBytesMost, elementsMost, namesMost, nameLengthMost, openListsMost}
-use Rattle.words.specs.Lists.{all}
+use Rattle.words.specs.Lists.{allOf}
 use Rattle.datum.specs.Constant.{Constant, integer, boolean}
 use Rattle.datum.specs.Datum.{Datum, Data, constantD, nameD, listD, noneD, moreD}
 use Rattle.reading.specs.Token.{Token, open′, close′, flag, run, isDigit, isRunning, isSeparating}
@@ -32,7 +32,7 @@ pub data HasTokens : List ℕ → List Token → Type 0 where
   closing : {bs : List ℕ} {ts : List Token} → HasTokens bs ts → HasTokens (41 ∷ bs) (close′ ∷ ts)
   hash-t : {bs : List ℕ} {ts : List Token} → HasTokens bs ts → HasTokens (35 ∷ 116 ∷ bs) (flag 1 ∷ ts)
   hash-f : {bs : List ℕ} {ts : List Token} → HasTokens bs ts → HasTokens (35 ∷ 102 ∷ bs) (flag 0 ∷ ts)
-  longest : {c : ℕ} {cs bs : List ℕ} {ts : List Token} → all isRunning (c ∷ cs) ≡ true → EndsRun bs → HasTokens bs ts
+  longest : {c : ℕ} {cs bs : List ℕ} {ts : List Token} → allOf isRunning (c ∷ cs) ≡ true → EndsRun bs → HasTokens bs ts
       → HasTokens (c ∷ cs ++ bs) (run (c ∷ cs) ∷ ts)
 
 -- ---- what a token means
@@ -47,9 +47,9 @@ pub data Means : Token → Meaning → Type 0 where
   opens : Means open′ begins
   closes : Means close′ ends
   boolean′ : {b : ℕ} → Means (flag b) (constant (boolean b))
-  positive : {c : ℕ} {cs : List ℕ} → all isDigit (c ∷ cs) ≡ true → valueFrom 0 (c ∷ cs) ≤ 2147483647
+  positive : {c : ℕ} {cs : List ℕ} → allOf isDigit (c ∷ cs) ≡ true → valueFrom 0 (c ∷ cs) ≤ 2147483647
       → Means (run (c ∷ cs)) (constant (integer (valueFrom 0 (c ∷ cs))))
-  negative : {c : ℕ} {cs : List ℕ} → all isDigit (c ∷ cs) ≡ true → valueFrom 0 (c ∷ cs) ≤ 2147483648
+  negative : {c : ℕ} {cs : List ℕ} → allOf isDigit (c ∷ cs) ≡ true → valueFrom 0 (c ∷ cs) ≤ 2147483648
       → Means (run (45 ∷ c ∷ cs)) (constant (integer (ofZ w32 (negℤ (pos (valueFrom 0 (c ∷ cs)))))))
   named : {cs : List ℕ} → (StartsNumber cs → ⊥) → 1 ≤ length cs → length cs ≤ nameLengthMost → (cs ≡ 46 ∷ [] → ⊥)
       → Means (run cs) (name cs)

@@ -4,7 +4,7 @@ use mathlib.Core.List.{List, [], _∷_, _++_, map}
 use mathlib.Core.Option.{Option, none, some}
 use Prim.Native.Nat.{ℕ, zero, suc}
 use lib.ListN.{drop, replicate}
-use Rattle.words.specs.Lists.{within, any}
+use Rattle.words.specs.Lists.{within, anyOf}
 use Rattle.words.specs.Text.{bytes}
 use Rattle.datum.specs.NameTable.{slot}
 use Rattle.reading.specs.Token.{Token, close′, bad, run, isDigit, isRunning, isSeparating, classOf, flagOf}
@@ -80,7 +80,7 @@ rows-hold = refl
 
 -- the tokens that are looked for from an offset on: where each stands, where the next one is looked for, and which it is
 unfoldable pub found : List ℕ → ℕ → ℕ × (ℕ × Option Token)
-unfolding startAt nextAt tokenAt firstOf firstWidth tokenOf widthOf leading classOf isSeparating isRunning isDigit flagOf within any
+unfolding startAt nextAt tokenAt firstOf firstWidth tokenOf widthOf leading classOf isSeparating isRunning isDigit flagOf within anyOf
 found text at = (startAt text at, (nextAt text at, tokenAt text at))
 
 pub found-hold : map (found (bytes "() 1x #x")) (1 ∷ 2 ∷ 5 ∷ 8 ∷ [])

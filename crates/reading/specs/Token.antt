@@ -3,7 +3,7 @@ use mathlib.Core.Bool.{Bool, _||_, cond}
 use mathlib.Core.List.{List, [], _∷_, _++_}
 use Prim.Native.Nat.{ℕ}
 use lib.Dec.{eqb}
-use Rattle.words.specs.Lists.{within, any}
+use Rattle.words.specs.Lists.{within, anyOf}
 use Rattle.words.specs.Text.{bytes}
 
 -- ---- bytes
@@ -18,11 +18,11 @@ isDigit b = within 48 57 b
 
 -- lower-case letters, digits and ! ? * < = > / + - . _
 unfoldable pub isRunning : ℕ → Bool
-isRunning b = within 97 122 b || (isDigit b || any (eqb b) (bytes "!?*<=>/+-._"))
+isRunning b = within 97 122 b || (isDigit b || anyOf (eqb b) (bytes "!?*<=>/+-._"))
 
 -- space, tab, LF and CR
 unfoldable pub isSeparating : ℕ → Bool
-isSeparating b = any (eqb b) (bytes " \t\n\r")
+isSeparating b = anyOf (eqb b) (bytes " \t\n\r")
 
 -- a byte's class; 40 is (, 41 is ), 35 is #
 unfoldable pub classOf : ℕ → Class
@@ -102,5 +102,5 @@ tokensAfter p (b ∷ bs) = completed p b ++ tokensAfter (next p b) bs
 
 -- the tokens of a text, from the left
 unfoldable pub tokens : List ℕ → List Token
-unfolding isDigit isRunning isSeparating classOf flagOf alone afterRun completed begun next ended tokensAfter within any bytes
+unfolding isDigit isRunning isSeparating classOf flagOf alone afterRun completed begun next ended tokensAfter within anyOf bytes
 tokens text = tokensAfter nothing text

@@ -8,7 +8,7 @@ use lib.Dec.{ltb, leb}
 use lib.ListN.{length}
 use borrow.Author.Tests.{le-leb}
 use Rattle.words.specs.Limits.{itemWordsLeast, nameBytesLeast, textBytesMost}
-use Rattle.words.specs.Lists.{within, all, equal}
+use Rattle.words.specs.Lists.{within, allOf, equal}
 use Rattle.words.specs.TestLaws.{and-left, within-most}
 use Rattle.words.specs.ListLaws.{either, all-append}
 use Rattle.datum.specs.Datum.{Datum, constantD}
@@ -28,7 +28,7 @@ Short (constant a) = 0 ≤ 0
 Short (refused g) = g ≤ 6
 
 abbrev ShortAnswer : {A : Type 0} → (A → List (List ℕ)) → Answer A → Type 0
-ShortAnswer names (got a) = all isShort (names a) ≡ true
+ShortAnswer names (got a) = allOf isShort (names a) ≡ true
 ShortAnswer names (back g) = g ≤ 6
 
 abbrev ShortReading : Answer Reading → Type 0
@@ -46,7 +46,7 @@ signed-short false n = either (leb n 2147483647) (λ e. rw e (omega arith)) (λ 
 
 integer-short : (cs : List ℕ) → Short (integerOf cs)
 unfolding integerOf
-integer-short cs = either (all isDigit (unsigned cs)) (λ e. rw e (signed-short _ _)) (λ e. rw e (omega arith))
+integer-short cs = either (allOf isDigit (unsigned cs)) (λ e. rw e (signed-short _ _)) (λ e. rw e (omega arith))
 
 is-short : (cs : List ℕ) → isName cs ≡ true → isShort cs ≡ true
 unfolding isName isShort
@@ -66,25 +66,25 @@ meaning-short (run cs) = either (isNumeral cs) (λ e. rw e (integer-short cs)) (
 
 -- ---- elements
 
-with-short : (cs : List ℕ) (names : List (List ℕ)) → isShort cs ≡ true → all isShort names ≡ true → all isShort (withName cs names) ≡ true
-unfolding withName all
+with-short : (cs : List ℕ) (names : List (List ℕ)) → isShort cs ≡ true → allOf isShort names ≡ true → allOf isShort (withName cs names) ≡ true
+unfolding withName allOf
 with-short cs names s h =
     either (ltb (numberOf cs names) (length names)) (λ e. rw e h) (λ e. rw e (all-append isShort names (cs ∷ []) h (one s)))
   where
-    one : isShort cs ≡ true → all isShort (cs ∷ []) ≡ true
+    one : isShort cs ≡ true → allOf isShort (cs ∷ []) ≡ true
     one k = rw k
 
-begin-short : (r q : Reading) → all isShort (q .known) ≡ true → ShortReading (begin r q)
+begin-short : (r q : Reading) → allOf isShort (q .known) ≡ true → ShortReading (begin r q)
 unfolding begin
 begin-short r q h =
     either (isComplete r) (λ c. rw c (omega arith)) (λ c. either (isWithin q) (λ w. rw (c, w) h) (λ w. rw (c, w) (omega arith)))
 
-closed-short : (a : List (List Datum)) (r : Reading) → all isShort (r .known) ≡ true → ShortReading (closed a r)
+closed-short : (a : List (List Datum)) (r : Reading) → allOf isShort (r .known) ≡ true → ShortReading (closed a r)
 unfolding closed
 closed-short [] r h = omega arith
 closed-short (l ∷ ls) r h = h
 
-takes-short : (m : Meaning) (r : Reading) → Short m → all isShort (r .known) ≡ true → ShortReading (takes m r)
+takes-short : (m : Meaning) (r : Reading) → Short m → allOf isShort (r .known) ≡ true → ShortReading (takes m r)
 unfolding takes opened counted put named
 takes-short begins r s h = begin-short r (opened (counted r)) h
 takes-short ends r s h = closed-short (r .around) r h
@@ -92,12 +92,12 @@ takes-short (constant a) r s h = begin-short r (put (constantD a) (counted r)) h
 takes-short (name cs) r s h = begin-short r (named cs (counted r)) (with-short cs (r .known) s h)
 takes-short (refused g) r s h = s
 
-then-short : (a : Answer Reading) (f : Reading → Answer Reading) → ShortReading a → ((r : Reading) → all isShort (r .known) ≡ true → ShortReading (f r)) → ShortReading (then a f)
+then-short : (a : Answer Reading) (f : Reading → Answer Reading) → ShortReading a → ((r : Reading) → allOf isShort (r .known) ≡ true → ShortReading (f r)) → ShortReading (then a f)
 unfolding then
 then-short (got r) f h k = k r h
 then-short (back g) f h k = h
 
-all-short : (ts : List Token) (r : Reading) → all isShort (r .known) ≡ true → ShortReading (takesAll (map meaningOf ts) r)
+all-short : (ts : List Token) (r : Reading) → allOf isShort (r .known) ≡ true → ShortReading (takesAll (map meaningOf ts) r)
 unfolding takesAll
 all-short [] r h = h
 all-short (t ∷ ts) r h =
@@ -111,10 +111,10 @@ finished-short (back g) h = h
 -- ---- texts
 
 recipe-short : (text : List ℕ) → ShortRecipe (recipeOf text)
-unfolding recipeOf recipeOver start baseNames all isShort
+unfolding recipeOf recipeOver start baseNames allOf isShort
 recipe-short text = finished-short (takesAll (map meaningOf (tokens text)) (start baseNames 2)) (all-short (tokens text) (start baseNames 2) base)
   where
-    base : all isShort baseNames ≡ true
+    base : allOf isShort baseNames ≡ true
     base = refl
 
 read-short : (text : List ℕ) (items names : ℕ) → ShortRecipe (read text items names)

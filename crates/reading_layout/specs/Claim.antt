@@ -8,7 +8,7 @@ use lib.Dec.{eqb}
 use lib.ListN.{length, drop}
 use borrow.Author.Tests.{eq-eqb}
 use Rattle.words.specs.Limits.{itemsLeast, itemsMost}
-use Rattle.words.specs.Lists.{within, all}
+use Rattle.words.specs.Lists.{within, allOf}
 use Rattle.words.specs.TestLaws.{and-parts, within-is}
 use Rattle.datum.specs.Datum.{Datum, Data, noneD, moreD, dataItems}
 use Rattle.recipe.specs.Tree.{isList, isListOf, element}
@@ -56,10 +56,10 @@ module _ (x y : Datum) where
       let c : itemCount ws ≡ n = count-is ws n l in
       let w : drop (3 * 0) ws ≡ ws ++ [] = sym (append-nil ws) in
       let f : fits x ≡ true = first-fits h in
-      let good : all (isItem ws (itemCount ws)) (items 0 ws) ≡ true
-      = ap (λ m. all (isItem ws m) (items 0 ws)) c ∙ ap (all (isItem ws n)) (items-are 0 two) ∙ data-good ws n 0 two [] h w (omega arith) in
-      last (eqb (length ws) (3 * itemCount ws)) (within itemsLeast itemsMost (itemCount ws)) (all (isItem ws (itemCount ws)) (items 0 ws))
-      (all (isReferredOnce (references (items 0 ws))) (items 0 ws)) (isListOf 2 (treeOf ws)) (isList (element 0 (treeOf ws))) (isListDatum x)
+      let good : allOf (isItem ws (itemCount ws)) (items 0 ws) ≡ true
+      = ap (λ m. allOf (isItem ws m) (items 0 ws)) c ∙ ap (allOf (isItem ws n)) (items-are 0 two) ∙ data-good ws n 0 two [] h w (omega arith) in
+      last (eqb (length ws) (3 * itemCount ws)) (within itemsLeast itemsMost (itemCount ws)) (allOf (isItem ws (itemCount ws)) (items 0 ws))
+      (allOf (isReferredOnce (references (items 0 ws))) (items 0 ws)) (isListOf 2 (treeOf ws)) (isList (element 0 (treeOf ws))) (isListDatum x)
       (eq-eqb _ _ (l ∙ ap (λ m. 3 * m) (sym c)))
       (within-is itemsLeast itemsMost (itemCount ws) (omega (arith, c, least)) (omega (arith, c, few)))
       good

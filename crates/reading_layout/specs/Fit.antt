@@ -8,7 +8,7 @@ use lib.Dec.{ltb}
 use lib.ListN.{length, length-append}
 use borrow.Author.Tests.{lt-ltb, ltb-true}
 use Rattle.words.specs.Limits.{namesMost}
-use Rattle.words.specs.Lists.{all}
+use Rattle.words.specs.Lists.{allOf}
 use Rattle.words.specs.ListLaws.{either}
 use Rattle.words.specs.TestLaws.{and-parts, and-both, all-append}
 use Rattle.datum.specs.Constant.{isConstant, integer, boolean}
@@ -31,8 +31,8 @@ isToken bad = true
 isToken (flag b) = ltb b 2
 isToken (run cs) = true
 
-tokens-good : {text : List ℕ} {ts : List Token} → HasTokens text ts → all isToken ts ≡ true
-unfolding all isToken
+tokens-good : {text : List ℕ} {ts : List Token} → HasTokens text ts → allOf isToken ts ≡ true
+unfolding allOf isToken
 tokens-good R.none = refl
 tokens-good (R.separator s h) = tokens-good h
 tokens-good (R.opening h) = tokens-good h
@@ -57,8 +57,8 @@ means-good (R.positive a l) h = refl
 means-good (R.negative a l) h = refl
 means-good (R.named a b d e) h = refl
 
-mean-good : {ts : List Token} {ms : List Meaning} → Mean ts ms → all isToken ts ≡ true → all isMeant ms ≡ true
-unfolding all
+mean-good : {ts : List Token} {ms : List Meaning} → Mean ts ms → allOf isToken ts ≡ true → allOf isMeant ms ≡ true
+unfolding allOf
 mean-good R.none h = refl
 mean-good (R.more w q) h =
     let p = and-parts _ _ h in
@@ -73,20 +73,20 @@ number-with cs names =
     (λ e. rw e (omega (arith, number-most cs names, length-append names (cs ∷ []))))
 
 mutual
-  unfolding fits fitAll spelled spelledAll numbered numberedAll namesOf namesOfAll all isMeant
+  unfolding fits fitAll spelled spelledAll numbered numberedAll namesOf namesOfAll allOf isMeant
 
-  element-fits : (x : Element) (names : List (List ℕ)) → all isMeant (spelled x) ≡ true → length (namesOf x names) ≤ namesMost → fits (numbered x names) ≡ true
+  element-fits : (x : Element) (names : List (List ℕ)) → allOf isMeant (spelled x) ≡ true → length (namesOf x names) ≤ namesMost → fits (numbered x names) ≡ true
   element-fits (constantE a) names h l = and-parts _ _ h .0
   element-fits (nameE cs) names h l = lt-ltb (numberOf cs names) namesMost (omega (arith, number-with cs names, l))
   element-fits (listE xs) names h l =
-      let p = and-parts (all isMeant (spelledAll xs)) _ (subst (λ b. b ≡ true) (all-append isMeant (spelledAll xs) (ends ∷ [])) h) in
+      let p = and-parts (allOf isMeant (spelledAll xs)) _ (subst (λ b. b ≡ true) (all-append isMeant (spelledAll xs) (ends ∷ [])) h) in
       elements-fit xs names (p .0) l
 
-  elements-fit : (xs : Elements) (names : List (List ℕ)) → all isMeant (spelledAll xs) ≡ true → length (namesOfAll xs names) ≤ namesMost
+  elements-fit : (xs : Elements) (names : List (List ℕ)) → allOf isMeant (spelledAll xs) ≡ true → length (namesOfAll xs names) ≤ namesMost
       → fitAll (numberedAll xs names) ≡ true
   elements-fit noneE names h l = refl
   elements-fit (moreE x xs) names h l =
-      let p = and-parts (all isMeant (spelled x)) _ (subst (λ b. b ≡ true) (all-append isMeant (spelled x) (spelledAll xs)) h) in
+      let p = and-parts (allOf isMeant (spelled x)) _ (subst (λ b. b ≡ true) (all-append isMeant (spelled x) (spelledAll xs)) h) in
       and-both _ _ (element-fits x names (p .0) (omega (arith, l, names-grow-all xs (namesOf x names)))) (elements-fit xs (namesOf x names) (p .1) l)
 
 -- ---- recipe texts

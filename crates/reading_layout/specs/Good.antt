@@ -7,7 +7,7 @@ use native.Mathlib.Omega.{arith}
 use lib.Dec.{eqb}
 use lib.ListN.{length, getD, drop}
 use lib.Seq.{getD-drop, drop-drop, drop-at}
-use Rattle.words.specs.Lists.{all}
+use Rattle.words.specs.Lists.{allOf}
 use Rattle.words.specs.ListLaws.{all-append}
 use Rattle.words.specs.TestLaws.{and-parts, and-both, within-is}
 use Rattle.datum.specs.Constant.{isConstant}
@@ -80,16 +80,16 @@ module _ (ws : List ℕ) where
     empty-good i = refl
 
     mutual
-      unfolding fits fitAll datumItems dataItems datumWords itemsOf itemsOfAll all
+      unfolding fits fitAll datumItems dataItems datumWords itemsOf itemsOfAll allOf
 
       datum-good : (i : ℕ) (d : Datum) (back : List ℕ) → fits d ≡ true → drop (3 * i) ws ≡ datumWords i d ++ back → i + datumItems d ≤ n
-          → all (isItem ws n) (itemsOf i d) ≡ true
+          → allOf (isItem ws n) (itemsOf i d) ≡ true
       datum-good i (constantD a) back h e l = and-both _ _ (constant-good i (a .kind) (a .first) (a .second) h) refl
       datum-good i (nameD m) back h e l = and-both _ _ (name-good i m h) refl
       datum-good i (listD ds) back h e l = data-good i ds back h e l
 
       pub data-good : (i : ℕ) (ds : Data) (back : List ℕ) → fitAll ds ≡ true → drop (3 * i) ws ≡ dataWords i ds ++ back → i + dataItems ds ≤ n
-          → all (isItem ws n) (itemsOfAll i ds) ≡ true
+          → allOf (isItem ws n) (itemsOfAll i ds) ≡ true
       data-good i noneD back h e l = and-both _ _ (empty-good i) refl
       data-good i (moreD d ds) back h e l =
           let j = suc i + datumItems d in

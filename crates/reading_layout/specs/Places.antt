@@ -7,7 +7,7 @@ use native.Mathlib.Omega.{arith}
 use lib.Dec.{eqb}
 use lib.ListN.{length}
 use borrow.Author.Tests.{eq-eqb, ne-eqb, eqb-true, eqb-false}
-use Rattle.words.specs.Lists.{all}
+use Rattle.words.specs.Lists.{allOf}
 use Rattle.words.specs.ListLaws.{either}
 use Rattle.words.specs.TestLaws.{and-parts, and-both, or-left, or-right}
 use Rattle.datum.specs.Datum.{Datum, Data, constantD, nameD, listD, noneD, moreD, datumItems, dataItems}
@@ -120,8 +120,8 @@ mutual
 -- ---- ground 7's test
 
 referred : (refs : List ℕ) (n : ℕ) → ((p : ℕ) → 1 ≤ p → p < n → occurrences p refs ≡ 1) → (i : ℕ) (ws : List ℕ) → i + length (items i ws) ≤ n
-    → all (isReferredOnce refs) (items i ws) ≡ true
-unfolding items all isReferredOnce
+    → allOf (isReferredOnce refs) (items i ws) ≡ true
+unfolding items allOf isReferredOnce
 referred refs n f i [] h = refl
 referred refs n f i (k ∷ []) h = refl
 referred refs n f i (k ∷ a ∷ []) h = refl
@@ -130,11 +130,11 @@ referred refs n f i (k ∷ a ∷ b ∷ ws) h =
     (λ e. or-right (eqb i 0) _ (eq-eqb _ _ (f i (omega (arith, eqb-false i 0 e)) (omega arith)))))
     (referred refs n f (suc i) ws (omega arith))
 
-pub data-referred : (ds : Data) → fitAll ds ≡ true → all (isReferredOnce (references (items 0 (dataWords 0 ds)))) (items 0 (dataWords 0 ds)) ≡ true
+pub data-referred : (ds : Data) → fitAll ds ≡ true → allOf (isReferredOnce (references (items 0 (dataWords 0 ds)))) (items 0 (dataWords 0 ds)) ≡ true
 data-referred ds h =
     let ws = dataWords 0 ds in
     let refs = references (itemsOfAll 0 ds) in
     let e = items-are 0 ds in
     let f : (p : ℕ) → 1 ≤ p → p < dataItems ds → occurrences p refs ≡ 1 = λ p l u.
     omega (arith, data-places p 0 ds h, up-once p 0 (dataItems ds) (omega arith) (omega arith), occurrences-first p 0 refs, not-there p 0 (omega arith)) in
-    ap (λ xs. all (isReferredOnce (references xs)) (items 0 ws)) e ∙ referred refs (dataItems ds) f 0 ws (omega (arith, items-length 0 (dataItems ds) ws (data-length 0 ds)))
+    ap (λ xs. allOf (isReferredOnce (references xs)) (items 0 ws)) e ∙ referred refs (dataItems ds) f 0 ws (omega (arith, items-length 0 (dataItems ds) ws (data-length 0 ds)))

@@ -8,7 +8,7 @@ use lib.Dec.{eqb, ltb}
 use lib.ListN.{length, drop}
 use borrow.Author.Tests.{eqb-true, eqb-false, ltb-true}
 use Rattle.words.specs.Limits.{namesMost, itemsLeast, itemsMost}
-use Rattle.words.specs.Lists.{within, all}
+use Rattle.words.specs.Lists.{within, allOf}
 use Rattle.words.specs.TestLaws.{and-left, and-right, within-least, within-most, all-head, all-drop}
 use Rattle.recipe.specs.Name.{plainName}
 use Rattle.recipe.specs.Tree.{empty, constant, name, pair, isList, isListOf, elements, element}
@@ -54,7 +54,7 @@ module _ (ws : List ℕ) (n i : ℕ) (good : isItem ws n (itemAt ws i) ≡ true)
       ltb-true (headAt ws i) namesMost (and-left _ _ g)
 
 -- every item of a table that passes the test of items passes it
-pub itemGood : (ws : List ℕ) (n : ℕ) → length ws ≡ 3 * n → all (isItem ws n) (items 0 ws) ≡ true → (i : ℕ) → i < n → isItem ws n (itemAt ws i) ≡ true
+pub itemGood : (ws : List ℕ) (n : ℕ) → length ws ≡ 3 * n → allOf (isItem ws n) (items 0 ws) ≡ true → (i : ℕ) → i < n → isItem ws n (itemAt ws i) ≡ true
 itemGood ws n e g i h = all-head (isItem ws n) (itemAt ws i) (drop (suc i) (items 0 ws)) (rw (items-drop ws n i e h) at (all-drop (isItem ws n) i (items 0 ws) g))
 
 -- ---- a table whose items all pass that test

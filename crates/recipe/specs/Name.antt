@@ -5,7 +5,7 @@ use mathlib.Core.List.{List, [], _∷_}
 use mathlib.Core.Option.{Option, none, some}
 use Prim.Native.Nat.{ℕ, suc, _*_}
 use lib.Dec.{eqb, ltb}
-use Rattle.words.specs.Lists.{any, equal}
+use Rattle.words.specs.Lists.{anyOf, equal}
 
 -- a binding: variable n of the run, or macro n of the run
 pub data Binding : Type 0 where
@@ -43,7 +43,7 @@ same x y = eqb (x .number) (y .number) && (equal (x .marks) (y .marks) && eqb (b
 -- no two of these names are the same
 unfoldable pub distinct : List Name → Bool
 distinct [] = true
-distinct (x ∷ xs) = not (any (same x) xs) && distinct xs
+distinct (x ∷ xs) = not (anyOf (same x) xs) && distinct xs
 
 -- `...` and `_` are known by number alone
 unfoldable pub isEllipsis : Name → Bool

@@ -88,7 +88,7 @@ layouts =
 
 pub layouts-hold : map (λ l. (l .0, Table.isLayout (l .0))) layouts ≡ layouts
 unfolding layouts
-    Lists.within Lists.all
+    Lists.within Lists.allOf
     Constant.isConstant
     plainName
     Tree.onEmpty Tree.onPair Tree.isList Tree.elements Tree.isListOf Tree.element

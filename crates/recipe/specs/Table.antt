@@ -5,7 +5,7 @@ use Prim.Native.Nat.{ℕ, suc, _*_, _-_, _/_}
 use lib.Dec.{eqb, ltb}
 use lib.ListN.{length, getD}
 use Rattle.words.specs.Limits.{namesMost, itemsLeast, itemsMost}
-use Rattle.words.specs.Lists.{within, all}
+use Rattle.words.specs.Lists.{within, allOf}
 use Rattle.datum.specs.Constant.{Constant, isConstant}
 use Rattle.recipe.specs.Name.{plainName}
 use Rattle.recipe.specs.Tree.{Tree, empty, constant, name, pair, isList, isListOf, element}
@@ -86,5 +86,5 @@ isLayout ws =
     let n = itemCount ws in
     let xs = items 0 ws in
     eqb (length ws) (3 * n) && (within itemsLeast itemsMost n
-    && (all (isItem ws n) xs && (all (isReferredOnce (references xs)) xs
+    && (allOf (isItem ws n) xs && (allOf (isReferredOnce (references xs)) xs
     && (isListOf 2 (treeOf ws) && isList (element 0 (treeOf ws))))))

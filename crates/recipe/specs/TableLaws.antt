@@ -8,7 +8,7 @@ use lib.Dec.{eqb}
 use lib.ListN.{length}
 use borrow.Author.Tests.{eqb-true, eqb-false, ne-eqb}
 use Rattle.words.specs.Limits.{itemsLeast, itemsMost}
-use Rattle.words.specs.Lists.{within, all}
+use Rattle.words.specs.Lists.{within, allOf}
 use Rattle.words.specs.TestLaws.{and-parts, within-parts, all-parts}
 use Rattle.recipe.specs.Tree.{isList, isListOf, element}
 use Rattle.recipe.specs.Table.{Item, items, byKind, references, occurrences, kindAt, isPairItem, isItem, isReferredOnce, treeOf, itemCount, isLayout}
@@ -39,8 +39,8 @@ isPairItem-parts table n x e =
 pub record Layout (ws : List ℕ) : Type 0 where
   pub words : length ws ≡ 3 * itemCount ws
   pub count : (itemsLeast ≤ itemCount ws) × (itemCount ws ≤ itemsMost)
-  pub item : all (isItem ws (itemCount ws)) (items 0 ws) ≡ true
-  pub referred : all (isReferredOnce (references (items 0 ws))) (items 0 ws) ≡ true
+  pub item : allOf (isItem ws (itemCount ws)) (items 0 ws) ≡ true
+  pub referred : allOf (isReferredOnce (references (items 0 ws))) (items 0 ws) ≡ true
   pub two : isListOf 2 (treeOf ws) ≡ true
   pub first : isList (element 0 (treeOf ws)) ≡ true
 
@@ -49,8 +49,8 @@ unfolding isLayout
 isLayout-parts ws e =
     let a = and-parts (eqb (length ws) (3 * itemCount ws)) _ e in
     let b = and-parts (within itemsLeast itemsMost (itemCount ws)) _ (a .1) in
-    let c = and-parts (all (isItem ws (itemCount ws)) (items 0 ws)) _ (b .1) in
-    let d = and-parts (all (isReferredOnce (references (items 0 ws))) (items 0 ws)) _ (c .1) in
+    let c = and-parts (allOf (isItem ws (itemCount ws)) (items 0 ws)) _ (b .1) in
+    let d = and-parts (allOf (isReferredOnce (references (items 0 ws))) (items 0 ws)) _ (c .1) in
     let f = and-parts (isListOf 2 (treeOf ws)) _ (d .1) in
     record { words = eqb-true _ _ (a .0); count = within-parts itemsLeast itemsMost (itemCount ws) (b .0); item = c .0; referred = d .0; two = f .0; first = f .1 }
 
@@ -82,7 +82,7 @@ item-refers-higher table n x xs p good h = go (eqb (x .kind) 4) refl
         occurrences-other p (x .first) (x .second ∷ references xs) (omega arith) ∙ occurrences-other p (x .second) (references xs) (omega arith)
     go false e = refl
 
-pub references-higher : (table : List ℕ) (n : ℕ) (ws : List ℕ) (i p : ℕ) → all (isItem table n) (items i ws) ≡ true → p ≤ i → occurrences p (references (items i ws)) ≡ 0
+pub references-higher : (table : List ℕ) (n : ℕ) (ws : List ℕ) (i p : ℕ) → allOf (isItem table n) (items i ws) ≡ true → p ≤ i → occurrences p (references (items i ws)) ≡ 0
 unfolding items references occurrences
 references-higher table n [] i p good h = refl
 references-higher table n (k ∷ []) i p good h = refl
@@ -97,7 +97,7 @@ item-referred-once : (refs : List ℕ) (x : Item) → isReferredOnce refs x ≡ 
 unfolding isReferredOnce
 item-referred-once refs x e h = eqb-true _ _ (rw (ne-eqb (x .place) 0 (omega arith)) at e)
 
-pub referred-once : (refs ws : List ℕ) (i p : ℕ) → all (isReferredOnce refs) (items i ws) ≡ true → 1 ≤ p → i ≤ p → p < i + length (items i ws) → occurrences p refs ≡ 1
+pub referred-once : (refs ws : List ℕ) (i p : ℕ) → allOf (isReferredOnce refs) (items i ws) ≡ true → 1 ≤ p → i ≤ p → p < i + length (items i ws) → occurrences p refs ≡ 1
 unfolding items
 referred-once refs [] i p e h k l = absurd (omega arith)
 referred-once refs (a ∷ []) i p e h k l = absurd (omega arith)

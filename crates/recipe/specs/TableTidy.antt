@@ -8,7 +8,7 @@ use lib.Dec.{eqb, ltb}
 use lib.ListN.{getD}
 use borrow.Author.Tests.{eqb-true, ltb-true}
 use Rattle.words.specs.Limits.{namesMost}
-use Rattle.words.specs.Lists.{all}
+use Rattle.words.specs.Lists.{allOf}
 use Rattle.words.specs.TestLaws.{and-parts, all-parts}
 use Rattle.words.specs.Each.{Each, noneOf, also, each-getD}
 use Rattle.datum.specs.Constant.{Constant, isConstant}
@@ -84,7 +84,7 @@ module _ (table : List ℕ) (n : ℕ) (x : Item) (ws : List ℕ) (later : Each (
       go false false true e f h = pair-tidy h
       go false false false e f h = tidyConstant h
 
-trees-tidy : (table : List ℕ) (n : ℕ) (ws : List ℕ) (i : ℕ) → all (isItem table n) (items i ws) ≡ true → Continues table i ws → Each (Tidy PlainName IsConstant) (trees (items i ws))
+trees-tidy : (table : List ℕ) (n : ℕ) (ws : List ℕ) (i : ℕ) → allOf (isItem table n) (items i ws) ≡ true → Continues table i ws → Each (Tidy PlainName IsConstant) (trees (items i ws))
 unfolding items trees treeAt
 trees-tidy table n [] i good c = noneOf
 trees-tidy table n (k ∷ []) i good c = noneOf

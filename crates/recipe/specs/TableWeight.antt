@@ -8,7 +8,7 @@ use native.Mathlib.Omega.{arith}
 use lib.Dec.{eqb}
 use lib.ListN.{length, getD}
 use borrow.Author.Tests.{eq-eqb, ne-eqb}
-use Rattle.words.specs.Lists.{all}
+use Rattle.words.specs.Lists.{allOf}
 use Rattle.words.specs.TestLaws.{all-parts}
 use Rattle.datum.specs.Constant.{Constant}
 use Rattle.recipe.specs.Name.{plainName}
@@ -138,7 +138,7 @@ module _ (μ : Measure) (table : List ℕ) (n : ℕ) (x : Item) (xs : List Item)
       go false false false e f g h once = leaf-weight _ (μ .on-constant (x .place) (constantOf x)) once
 
 -- by items, from the last on
-table-weight : (μ : Measure) (table : List ℕ) (n : ℕ) (ws : List ℕ) (i : ℕ) → i + length (items i ws) ≡ n → all (isItem table n) (items i ws) ≡ true
+table-weight : (μ : Measure) (table : List ℕ) (n : ℕ) (ws : List ℕ) (i : ℕ) → i + length (items i ws) ≡ n → allOf (isItem table n) (items i ws) ≡ true
     → (c : ℕ → ℕ) → Once c (references (items i ws)) i n → weight μ c i (trees (items i ws)) ≤ shares μ i (length (items i ws))
 unfolding items trees weight shares
 table-weight μ table n [] i ends good c once = omega arith

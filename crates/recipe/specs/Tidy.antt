@@ -5,7 +5,7 @@ use mathlib.Core.List.{List, [], _∷_}
 use Prim.Native.Nat.{ℕ, suc, _+_, _≤_, _<_}
 use native.Mathlib.Omega.{arith}
 use lib.ListN.{length, length-append}
-use Rattle.words.specs.Lists.{all}
+use Rattle.words.specs.Lists.{allOf}
 use Rattle.words.specs.TestLaws.{all-parts}
 use Rattle.words.specs.Each.{Each, noneOf, also, each-append, each-getD}
 use Rattle.datum.specs.Constant.{Constant}
@@ -102,7 +102,7 @@ ordinary-names (name x) e = refl
 ordinary-names (pair h t) e = absurd (false≢true e)
 
 -- a list of names alone has as many as elements
-pub tidy-formals : {N : Name → Type 0} {C : Constant → Type 0} {t : Tree} → Tidy N C t → isList t ≡ true → all isOrdinaryName (elements t) ≡ true → length (names t) ≡ length (elements t)
+pub tidy-formals : {N : Name → Type 0} {C : Constant → Type 0} {t : Tree} → Tidy N C t → isList t ≡ true → allOf isOrdinaryName (elements t) ≡ true → length (names t) ≡ length (elements t)
 unfolding elements names isList onEmpty onPair
 tidy-formals tidyEmpty l e = refl
 tidy-formals (tidyConstant c) l e = absurd (false≢true l)

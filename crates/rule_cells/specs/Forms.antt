@@ -8,7 +8,7 @@ use lib.Dec.{eqb, leb}
 use lib.ListN.{length}
 use borrow.Author.Tests.{ne-eqb, le-leb}
 use Rattle.words.specs.Limits.{literalsMost, rulesMost}
-use Rattle.words.specs.Lists.{within, all}
+use Rattle.words.specs.Lists.{within, allOf}
 use Rattle.recipe.specs.Name.{bindingKey}
 use Rattle.recipe.specs.Tree.{Tree, onName, isOrdinaryName, isList, elements, element, tail}
 use Rattle.recipe.specs.TreeLaws.{element-tail}
@@ -21,7 +21,7 @@ use Rattle.arena.specs.ListLaws.{no-name, no-elements}
 
 -- every element of a list is a name other than `...` and `_`
 unfoldable pub ordinaryAll : Tree → Bool
-ordinaryAll t = all isOrdinaryName (elements t)
+ordinaryAll t = allOf isOrdinaryName (elements t)
 
 -- the literals of a form
 unfoldable pub literalsGood : Tree → Bool
@@ -31,16 +31,16 @@ literalsGood t = isList t && (ordinaryAll t && leb (length (elements t)) literal
 
 module _ (items work : List ℕ) (node : ℕ) where
   pub all-end : (wordAt work node 3 ≡ 4 → ⊥) → TestsIn ordinaryAll items work node true
-  unfolding ordinaryAll all
+  unfolding ordinaryAll allOf
   all-end n w = rw (no-elements items work node w n) refl
 
   module _ (first : ℕ) (e : wordAt work node 3 ≡ 4) (f : first ≡ referenceAt work node 2) where
     pub all-no : TestsIn isOrdinaryName items work first false → TestsIn ordinaryAll items work node false
-    unfolding ordinaryAll all elements
+    unfolding ordinaryAll allOf elements
     all-no h w = rw (treeAt-pair items work node w e, ← f, ← h w) refl
 
     pub all-more : (rest : ℕ) (r : Bool) → rest ≡ referenceAt work node 1 → TestsIn isOrdinaryName items work first true → TestsIn ordinaryAll items work rest r → TestsIn ordinaryAll items work node r
-    unfolding ordinaryAll all elements
+    unfolding ordinaryAll allOf elements
     all-more rest r g h k w = rw (treeAt-pair items work node w e, ← f, ← g, ← h w) (k w)
 
   -- ---- literals
@@ -94,7 +94,7 @@ form-is : (t : Tree) → isRulesForm t ≡ (onName isSyntaxRules false (element 
 unfolding isRulesForm literalsGood ordinaryAll
 form-is t =
     ap (λ (z : Bool). onName isSyntaxRules false (element 0 t) && z)
-    (and-regroup (isList (element 1 t)) (all isOrdinaryName (elements (element 1 t))) (leb (length (elements (element 1 t))) literalsMost) (within 1 rulesMost (length (elements (tail (tail t))))))
+    (and-regroup (isList (element 1 t)) (allOf isOrdinaryName (elements (element 1 t))) (leb (length (elements (element 1 t))) literalsMost) (within 1 rulesMost (length (elements (tail (tail t))))))
 
 within-none : within 1 rulesMost 0 ≡ false
 unfolding within

@@ -5,7 +5,7 @@ use mathlib.Core.List.{List, [], _∷_, _++_, append-assoc, append-nil}
 use Prim.Native.Nat.{ℕ, suc, _+_, _≤_}
 use native.Mathlib.Omega.{arith}
 use borrow.Author.Tests.{ne-eqb}
-use Rattle.words.specs.Lists.{any}
+use Rattle.words.specs.Lists.{anyOf}
 use Rattle.recipe.specs.Name.{Name, same, isEllipsis, isWildcard}
 use Rattle.recipe.specs.Tree.{name, onName}
 use Rattle.expansion.specs.Rules.{areVariables, dotsNext, depthBefore, isVariable, variables}
@@ -26,11 +26,11 @@ module _ (literals : List Name) (x : Name) where
   unfolding isVariable isEllipsis isWildcard
   wildcard-no-variable n e = rw e refl
 
-  pub literal-no-variable : (x .number ≡ 6 → ⊥) → (x .number ≡ 7 → ⊥) → true ≡ any (same x) literals → isVariable isEllipsis literals x ≡ false
+  pub literal-no-variable : (x .number ≡ 6 → ⊥) → (x .number ≡ 7 → ⊥) → true ≡ anyOf (same x) literals → isVariable isEllipsis literals x ≡ false
   unfolding isVariable isEllipsis isWildcard
   literal-no-variable n m e = rw (ne-eqb _ _ n, ne-eqb _ _ m, ← e) refl
 
-  pub a-variable : (x .number ≡ 6 → ⊥) → (x .number ≡ 7 → ⊥) → false ≡ any (same x) literals → isVariable isEllipsis literals x ≡ true
+  pub a-variable : (x .number ≡ 6 → ⊥) → (x .number ≡ 7 → ⊥) → false ≡ anyOf (same x) literals → isVariable isEllipsis literals x ≡ true
   unfolding isVariable isEllipsis isWildcard
   a-variable n m e = rw (ne-eqb _ _ n, ne-eqb _ _ m, ← e) refl
 

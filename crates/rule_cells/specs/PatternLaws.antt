@@ -7,8 +7,8 @@ use Prim.Native.Nat.{ℕ, suc, _+_, _^_, _≤_, _<_}
 use native.Mathlib.Omega.{arith}
 use lib.ListN.{length, length-append}
 use borrow.Author.Tests.{ne-eqb, eqb-true}
-use Rattle.words.specs.Lists.{any}
-use Rattle.words.specs.Options.{guard, mapSome, mapBoth}
+use Rattle.words.specs.Lists.{anyOf}
+use Rattle.words.specs.Options.{onlyIf, mapSome, mapBoth}
 use Rattle.datum.specs.Constant.{Constant}
 use Rattle.recipe.specs.Name.{Name, same, isEllipsis, isWildcard, bindingKey}
 use Rattle.recipe.specs.Tree.{Tree, empty, constant, name, pair, size, names, onEmpty, onName, onPair, isList, isListOf, elements, tail}
@@ -36,7 +36,7 @@ patternAt-none items work = refl
 
 module _ (literals : List Name) (k : ℕ) (x : Name) where
   name-dots : x .number ≡ 6 → patternOf isEllipsis literals k (name x) ≡ none
-  unfolding patternOf guard isEllipsis
+  unfolding patternOf onlyIf isEllipsis
   name-dots e = rw e refl
 
   count-none : isVariable isEllipsis literals x ≡ false → k ≡ k + length (variables isEllipsis literals 0 (name x))
@@ -48,15 +48,15 @@ module _ (literals : List Name) (k : ℕ) (x : Name) where
   count-one e = rw e refl
 
   name-variable : (x .number ≡ 6 → ⊥) → isVariable isEllipsis literals x ≡ true → patternOf isEllipsis literals k (name x) ≡ some (variableP k)
-  unfolding patternOf guard isEllipsis
+  unfolding patternOf onlyIf isEllipsis
   name-variable n e = rw (e, ne-eqb _ _ n) refl
 
   name-wildcard : (x .number ≡ 6 → ⊥) → x .number ≡ 7 → isVariable isEllipsis literals x ≡ false → patternOf isEllipsis literals k (name x) ≡ some wildcardP
-  unfolding patternOf guard isEllipsis isWildcard
+  unfolding patternOf onlyIf isEllipsis isWildcard
   name-wildcard n m e = rw (e, m) refl
 
   name-literal : (x .number ≡ 6 → ⊥) → (x .number ≡ 7 → ⊥) → isVariable isEllipsis literals x ≡ false → patternOf isEllipsis literals k (name x) ≡ some (literalP x)
-  unfolding patternOf guard isEllipsis isWildcard
+  unfolding patternOf onlyIf isEllipsis isWildcard
   name-literal n m e = rw (e, ne-eqb _ _ n, ne-eqb _ _ m) refl
 
   -- what is left after each
@@ -69,7 +69,7 @@ module _ (literals : List Name) (k : ℕ) (x : Name) where
         let v = wildcard-no-variable literals x n m in
         record { means = name-wildcard n m v ∙ ap some (sym (c .means items)); counts = count-none v; grows = grows-leaf (name x) old new top r (c .end) (c .kept) }
 
-    pub left-literal : (node w number key : ℕ) (new : List ℕ) (r : ℕ) → x ≡ nameAt items old node w → (x .number ≡ 6 → ⊥) → (x .number ≡ 7 → ⊥) → true ≡ any (same x) literals → number ≡ x .number → key ≡ bindingKey (x .binding) → MadeLiteral node w number key old new top r → PatternLeft literals k (name x) items old new top (Good r r k)
+    pub left-literal : (node w number key : ℕ) (new : List ℕ) (r : ℕ) → x ≡ nameAt items old node w → (x .number ≡ 6 → ⊥) → (x .number ≡ 7 → ⊥) → true ≡ anyOf (same x) literals → number ≡ x .number → key ≡ bindingKey (x .binding) → MadeLiteral node w number key old new top r → PatternLeft literals k (name x) items old new top (Good r r k)
     left-literal node w number key new r is n m l e f c =
         let v = literal-no-variable literals x n m l in
         record {
@@ -78,7 +78,7 @@ module _ (literals : List Name) (k : ℕ) (x : Name) where
           grows = grows-leaf (name x) old new top r (c .end) (c .kept);
         }
 
-    pub left-variable : (new : List ℕ) (r : ℕ) → (x .number ≡ 6 → ⊥) → (x .number ≡ 7 → ⊥) → false ≡ any (same x) literals → Made patternAt (λ i. variableP k) old new top r → PatternLeft literals k (name x) items old new top (Good r r (k + 1))
+    pub left-variable : (new : List ℕ) (r : ℕ) → (x .number ≡ 6 → ⊥) → (x .number ≡ 7 → ⊥) → false ≡ anyOf (same x) literals → Made patternAt (λ i. variableP k) old new top r → PatternLeft literals k (name x) items old new top (Good r r (k + 1))
     left-variable new r n m l c =
         let v = a-variable literals x n m l in
         record { means = name-variable n v ∙ ap some (sym (c .means items)); counts = count-one v; grows = grows-leaf (name x) old new top r (c .end) (c .kept) }
@@ -163,11 +163,11 @@ module _ (literals : List Name) where
 
 module _ (literals : List Name) (k : ℕ) (h s : Tree) where
   pair-long : true ≡ dotsNext isEllipsis s → false ≡ isListOf 1 s → patternOf isEllipsis literals k (pair h s) ≡ none
-  unfolding patternOf guard
+  unfolding patternOf onlyIf
   pair-long d l = rw (← d, ← l) refl
 
   pair-ellipsis : true ≡ dotsNext isEllipsis s → true ≡ isListOf 1 s → patternOf isEllipsis literals k (pair h s) ≡ mapSome ellipsisP (patternOf isEllipsis literals k h)
-  unfolding patternOf guard
+  unfolding patternOf onlyIf
   pair-ellipsis d l = rw (← d, ← l) refl
 
   pair-plain : false ≡ dotsNext isEllipsis s → patternOf isEllipsis literals k (pair h s) ≡ mapBoth pairP (patternOf isEllipsis literals k h) (patternOf isEllipsis literals (k + length (variables isEllipsis literals 0 h)) s)
@@ -175,7 +175,7 @@ module _ (literals : List Name) (k : ℕ) (h s : Tree) where
   pair-plain d = rw (← d) refl
 
   pair-bad : patternOf isEllipsis literals k h ≡ none → patternOf isEllipsis literals k (pair h s) ≡ none
-  unfolding patternOf guard mapSome mapBoth
+  unfolding patternOf onlyIf mapSome mapBoth
   pair-bad e =
       either (dotsNext isEllipsis s)
       (λ d. either (isListOf 1 s) (λ l. rw (d, l, e) refl) (λ l. rw (d, l) refl))

@@ -6,8 +6,8 @@ use mathlib.Core.Option.{Option, none, some}
 use Prim.Native.Nat.{ℕ, _+_, _*_, _^_, _≤_, _<_}
 use native.Mathlib.Omega.{arith}
 use lib.ListN.{length, take}
-use Rattle.words.specs.Lists.{all}
-use Rattle.words.specs.Options.{guard, mapSome, mapBoth}
+use Rattle.words.specs.Lists.{allOf}
+use Rattle.words.specs.Options.{onlyIf, mapSome, mapBoth}
 use Rattle.words.specs.Packed.{packed}
 use Rattle.recipe.specs.Name.{Name, distinct, isEllipsis}
 use Rattle.recipe.specs.Tree.{Tree, size, names}
@@ -36,19 +36,19 @@ module _ (literals : List Name) (p q : Tree) where
   vs = variables isEllipsis literals 0 p
 
   parts-variables : areVariables vs ≡ false → partsOf literals p q ≡ none
-  unfolding partsOf guard
+  unfolding partsOf onlyIf
   parts-variables e = rw e refl
 
   parts-pattern : patternOf isEllipsis literals 0 p ≡ none → partsOf literals p q ≡ none
-  unfolding partsOf guard mapBoth
+  unfolding partsOf onlyIf mapBoth
   parts-pattern e = rw e (either (areVariables vs) (λ t. rw t refl) (λ t. rw t refl))
 
   parts-template : (x : Pattern) → patternOf isEllipsis literals 0 p ≡ some x → templateOf isEllipsis vs 0 false q ≡ none → partsOf literals p q ≡ none
-  unfolding partsOf guard mapBoth mapSome
+  unfolding partsOf onlyIf mapBoth mapSome
   parts-template x e f = rw (e, f) (either (areVariables vs) (λ t. rw t refl) (λ t. rw t refl))
 
   parts-both : (x : Pattern) (y : Template) → areVariables vs ≡ true → patternOf isEllipsis literals 0 p ≡ some x → templateOf isEllipsis vs 0 false q ≡ some y → partsOf literals p q ≡ some (record { pattern = x; template = y })
-  unfolding partsOf guard mapBoth mapSome
+  unfolding partsOf onlyIf mapBoth mapSome
   parts-both x y v e f = rw (v, e, f) refl
 
 -- the word of what is left
@@ -58,7 +58,7 @@ rule-packed o s items old new next top at upper p l e m =
 
 -- the table holds nothing at first
 pub held-none : (items work : List ℕ) (w : ℕ) (vars : List ℕ) → Held items work w vars 0
-unfolding variablesFrom areVariables distinct all
+unfolding variablesFrom areVariables distinct allOf
 held-none items work w vars = record { most = omega arith; good = refl }
 
 module _ (items old : List ℕ) (literals p q w next top : ℕ) (ask : PartsAsk items old literals p q w next top) where

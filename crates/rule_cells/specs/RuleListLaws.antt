@@ -8,7 +8,7 @@ use native.Mathlib.Omega.{arith}
 use lib.Dec.{eqb}
 use lib.ListN.{length}
 use borrow.Author.Tests.{ne-eqb, eqb-true}
-use Rattle.words.specs.Options.{guard, mapSome, mapBoth, traverse}
+use Rattle.words.specs.Options.{onlyIf, mapSome, mapBoth, traverse}
 use Rattle.words.specs.Packed.{packed}
 use Rattle.words.specs.TestLaws.{and-left, and-right}
 use Rattle.recipe.specs.Name.{Name, isEllipsis}
@@ -54,14 +54,14 @@ module _ (items work : List ℕ) (node w : ℕ) where
 -- ---- a rule
 
 rule-none : (literals : List Name) (t : Tree) → false ≡ ruleShape t → ruleOf isEllipsis literals t ≡ none
-unfolding ruleOf guard ruleShape
+unfolding ruleOf onlyIf ruleShape
 rule-none literals t e =
     either (isListOf 2 t)
     (λ a. let b : false ≡ onName (λ x. not (isEllipsis x)) false (element 0 (element 0 t)) = rw a at e in rw (a, ← b) refl)
     (λ a. rw a refl)
 
 rule-is : (literals : List Name) (t : Tree) → true ≡ ruleShape t → partsOf literals (tail (element 0 t)) (element 1 t) ≡ ruleOf isEllipsis literals t
-unfolding ruleOf partsOf guard ruleShape
+unfolding ruleOf partsOf onlyIf ruleShape
 rule-is literals t e =
     let first = onName (λ x. not (isEllipsis x)) false (element 0 (element 0 t)) in
     rw (and-left (isListOf 2 t) first (sym e), and-right (isListOf 2 t) first (sym e)) refl
@@ -230,11 +230,11 @@ module _ (items old : List ℕ) (literals node w top : ℕ) (asks : Asks items o
 -- ---- the rules of a form
 
 rules-none : (t : Tree) → false ≡ isRulesForm t → rulesOf t ≡ none
-unfolding rulesOf guard
+unfolding rulesOf onlyIf
 rules-none t e = rw (← e) refl
 
 rules-are : (t : Tree) → true ≡ isRulesForm t → traverse (ruleOf isEllipsis (names (element 1 t))) (elements (tail (tail t))) ≡ rulesOf t
-unfolding rulesOf guard
+unfolding rulesOf onlyIf
 rules-are t e = rw (← e) refl
 
 rules-as : (o o′ : Option (List Rule)) (s s′ : ℕ) (items old new : List ℕ) (top : ℕ) (r : Built) → o ≡ o′ → s ≤ s′ → RulesLeft o s items old new top r → RulesLeft o′ s′ items old new top r

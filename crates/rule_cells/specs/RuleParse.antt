@@ -5,7 +5,7 @@ use mathlib.Core.List.{List, _∷_}
 use mathlib.Core.Option.{Option, none, some}
 use Prim.Native.Nat.{ℕ, _+_, _*_, _≤_}
 use lib.ListN.{take}
-use Rattle.words.specs.Options.{guard, mapBoth}
+use Rattle.words.specs.Options.{onlyIf, mapBoth}
 use Rattle.recipe.specs.Name.{Name, isEllipsis}
 use Rattle.recipe.specs.Tree.{Tree, size, onName, isListOf, element}
 use Rattle.expansion.specs.Rules.{Rule, areVariables, variables, patternOf, templateOf}
@@ -22,7 +22,7 @@ ruleShape t = isListOf 2 t && onName (λ x. not (isEllipsis x)) false (element 0
 unfoldable pub partsOf : List Name → Tree → Tree → Option Rule
 partsOf literals p q =
     let vs = variables isEllipsis literals 0 p in
-    guard (areVariables vs) (mapBoth (λ x y. record { pattern = x; template = y }) (patternOf isEllipsis literals 0 p) (templateOf isEllipsis vs 0 false q))
+    onlyIf (areVariables vs) (mapBoth (λ x y. record { pattern = x; template = y }) (patternOf isEllipsis literals 0 p) (templateOf isEllipsis vs 0 false q))
 
 pub record PartsAsk (items work : List ℕ) (literals p q w next top : ℕ) : Type 0 where
   pub literals-below : literals ≤ top

@@ -8,7 +8,7 @@ use native.Mathlib.Omega.{arith}
 use lib.Dec.{ltb}
 use lib.ListN.{length, take, getD}
 use borrow.Author.Tests.{ne-eqb}
-use Rattle.words.specs.Options.{guard, mapSome, mapBoth}
+use Rattle.words.specs.Options.{onlyIf, mapSome, mapBoth}
 use Rattle.words.specs.Packed.{packed}
 use Rattle.datum.specs.Constant.{Constant}
 use Rattle.recipe.specs.Name.{Name, isEllipsis}
@@ -42,14 +42,14 @@ left-packed vs d taken t items old new top at upper p l e m =
 
 module _ (vs : List (Name × ℕ)) (d : ℕ) (x : Name) where
   name-dots : x .number ≡ 6 → templateOf isEllipsis vs d false (name x) ≡ none
-  unfolding templateOf guard isEllipsis
+  unfolding templateOf onlyIf isEllipsis
   name-dots e = rw e refl
 
   name-is : (x .number ≡ 6 → ⊥) → templateOf isEllipsis vs d false (name x) ≡ nameTemplate d x (variableFrom 0 vs x)
-  unfolding templateOf guard isEllipsis
+  unfolding templateOf onlyIf isEllipsis
   name-is n = rw (ne-eqb _ _ n) refl
 
-  name-variable : (k e : ℕ) → variableFrom 0 vs x ≡ some (k, e) → nameTemplate d x (variableFrom 0 vs x) ≡ guard (depthFits e d) (some (variableT k e))
+  name-variable : (k e : ℕ) → variableFrom 0 vs x ≡ some (k, e) → nameTemplate d x (variableFrom 0 vs x) ≡ onlyIf (depthFits e d) (some (variableT k e))
   unfolding nameTemplate
   name-variable k e f = rw f refl
 
@@ -62,14 +62,14 @@ module _ (vs : List (Name × ℕ)) (d : ℕ) (x : Name) where
     left-dots e = (name-dots e, refl)
 
     pub left-depth : (k e : ℕ) → (x .number ≡ 6 → ⊥) → variableFrom 0 vs x ≡ some (k, e) → false ≡ depthFits e d → TemplateLeft vs d false (name x) items old old top Bad
-    unfolding guard
-    left-depth k e n f h = (name-is n ∙ name-variable k e f ∙ ap (λ (b : Bool). guard b (some (variableT k e))) (sym h), refl)
+    unfolding onlyIf
+    left-depth k e n f h = (name-is n ∙ name-variable k e f ∙ ap (λ (b : Bool). onlyIf b (some (variableT k e))) (sym h), refl)
 
     pub left-variable : (k e : ℕ) (new : List ℕ) (r : ℕ) → (x .number ≡ 6 → ⊥) → variableFrom 0 vs x ≡ some (k, e) → true ≡ depthFits e d → Made templateAt (λ i. variableT k e) old new top r → TemplateLeft vs d false (name x) items old new top (Good r r)
-    unfolding guard
+    unfolding onlyIf
     left-variable k e new r n f h c =
         record {
-          means = name-is n ∙ name-variable k e f ∙ ap (λ (b : Bool). guard b (some (variableT k e))) (sym h) ∙ ap some (sym (c .means items));
+          means = name-is n ∙ name-variable k e f ∙ ap (λ (b : Bool). onlyIf b (some (variableT k e))) (sym h) ∙ ap some (sym (c .means items));
           grows = grows-leaf (name x) old new top r (c .end) (c .kept);
         }
 
@@ -116,17 +116,17 @@ module _ (vs : List (Name × ℕ)) (d : ℕ) (h s : Tree) where
   unfolding templateOf
   pair-taken = refl
 
-  pair-is : templateOf isEllipsis vs d false (pair h s) ≡ cond (dotsNext isEllipsis s) (guard (isDriven firstOf) (mapBoth ellipsisT firstOf laterOf)) (mapBoth pairT firstOf laterOf)
+  pair-is : templateOf isEllipsis vs d false (pair h s) ≡ cond (dotsNext isEllipsis s) (onlyIf (isDriven firstOf) (mapBoth ellipsisT firstOf laterOf)) (mapBoth pairT firstOf laterOf)
   unfolding templateOf
   pair-is = refl
 
   pair-bad : firstOf ≡ none → templateOf isEllipsis vs d false (pair h s) ≡ none
-  unfolding guard mapBoth isDriven
+  unfolding onlyIf mapBoth isDriven
   pair-bad e = pair-is ∙ rw e (either (dotsNext isEllipsis s) (λ t. rw t refl) (λ t. rw t refl))
 
   module _ (x : Template) (f : firstOf ≡ some x) where
     pair-undriven : false ≡ (not (dotsNext isEllipsis s) || drives 0 x) → templateOf isEllipsis vs d false (pair h s) ≡ none
-    unfolding guard isDriven drives
+    unfolding onlyIf isDriven drives
     pair-undriven u =
         pair-is
         ∙ rw f
@@ -135,7 +135,7 @@ module _ (vs : List (Name × ℕ)) (d : ℕ) (h s : Tree) where
         (λ t. let v : false ≡ true = rw t at u in absurd (let z : _≡_ {A = ℕ} 0 1 = cc in omega arith)))
 
     pair-bad-rest : laterOf ≡ none → templateOf isEllipsis vs d false (pair h s) ≡ none
-    unfolding guard mapBoth mapSome
+    unfolding onlyIf mapBoth mapSome
     pair-bad-rest e =
         pair-is
         ∙ rw (f, e)
@@ -144,7 +144,7 @@ module _ (vs : List (Name × ℕ)) (d : ℕ) (h s : Tree) where
         (λ t. rw t refl))
 
     pair-both : (y : Template) → true ≡ (not (dotsNext isEllipsis s) || drives 0 x) → laterOf ≡ some y → templateOf isEllipsis vs d false (pair h s) ≡ some (cond (dotsNext isEllipsis s) (ellipsisT x y) (pairT x y))
-    unfolding guard mapBoth mapSome isDriven drives
+    unfolding onlyIf mapBoth mapSome isDriven drives
     pair-both y u e =
         pair-is
         ∙ rw (f, e)

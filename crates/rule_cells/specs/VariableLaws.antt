@@ -10,7 +10,7 @@ use lib.ListN.{length, getD, set, length-append, length-set}
 use lib.Seq.{getD-set-same, getD-set-other}
 use borrow.Author.Tests.{le-leb, lt-leb, eqb-true, eqb-false}
 use Rattle.words.specs.Limits.{depthMost}
-use Rattle.words.specs.Lists.{all, any}
+use Rattle.words.specs.Lists.{allOf, anyOf}
 use Rattle.words.specs.TestLaws.{and-none-left, and-none-right, and-both, and-left, and-right, or-left, or-right}
 use Rattle.recipe.specs.Name.{Name, same, distinct, isEllipsis}
 use Rattle.recipe.specs.Tree.{names}
@@ -29,10 +29,10 @@ or-false : (b : Bool) → (b || false) ≡ b
 or-false true = refl
 or-false false = refl
 
-any-append : {A : Type 0} (f : A → Bool) (a b : List A) → any f (a ++ b) ≡ (any f a || any f b)
-unfolding any
+any-append : {A : Type 0} (f : A → Bool) (a b : List A) → anyOf f (a ++ b) ≡ (anyOf f a || anyOf f b)
+unfolding anyOf
 any-append f [] b = refl
-any-append f (x ∷ a) b = rw (any-append f a b) (or-assoc (f x) (any f a) (any f b))
+any-append f (x ∷ a) b = rw (any-append f a b) (or-assoc (f x) (anyOf f a) (anyOf f b))
   where
     or-assoc : (p q r : Bool) → (p || (q || r)) ≡ ((p || q) || r)
     or-assoc true q r = refl
@@ -40,23 +40,23 @@ any-append f (x ∷ a) b = rw (any-append f a b) (or-assoc (f x) (any f a) (any 
 
 -- the names of a tree in the arena that pass a test
 module _ (items work : List ℕ) (list w : ℕ) (f : Name → Bool) where
-  pub any-name : (b : Bool) → wordAt work list 3 ≡ 3 → b ≡ f (nameAt items work list w) → b ≡ any f (names (treeAt items work list w))
-  unfolding any names
+  pub any-name : (b : Bool) → wordAt work list 3 ≡ 3 → b ≡ f (nameAt items work list w) → b ≡ anyOf f (names (treeAt items work list w))
+  unfolding anyOf names
   any-name b e h = rw (treeAt-name items work list w e, or-false (f (nameAt items work list w))) h
 
-  pub any-head : (r : ℕ) → wordAt work list 3 ≡ 4 → r ≡ referenceAt work list 2 → true ≡ any f (names (treeAt items work r w)) → true ≡ any f (names (treeAt items work list w))
+  pub any-head : (r : ℕ) → wordAt work list 3 ≡ 4 → r ≡ referenceAt work list 2 → true ≡ anyOf f (names (treeAt items work r w)) → true ≡ anyOf f (names (treeAt items work list w))
   unfolding names
   any-head r e g h =
       rw (treeAt-pair items work list w e, ← g, any-append f (names (treeAt items work r w)) (names (treeAt items work (referenceAt work list 1) w)), ← h) refl
 
-  pub any-rest : (r s : ℕ) (b : Bool) → wordAt work list 3 ≡ 4 → r ≡ referenceAt work list 2 → s ≡ referenceAt work list 1 → false ≡ any f (names (treeAt items work r w)) → b ≡ any f (names (treeAt items work s w)) → b ≡ any f (names (treeAt items work list w))
+  pub any-rest : (r s : ℕ) (b : Bool) → wordAt work list 3 ≡ 4 → r ≡ referenceAt work list 2 → s ≡ referenceAt work list 1 → false ≡ anyOf f (names (treeAt items work r w)) → b ≡ anyOf f (names (treeAt items work s w)) → b ≡ anyOf f (names (treeAt items work list w))
   unfolding names
   any-rest r s b e g k h j =
       rw (treeAt-pair items work list w e, ← g, ← k, any-append f (names (treeAt items work r w)) (names (treeAt items work s w)), ← h) j
 
-  pub any-other : (wordAt work list 3 ≡ 3 → ⊥) → (wordAt work list 3 ≡ 4 → ⊥) → false ≡ any f (names (treeAt items work list w))
-  unfolding names any
-  any-other m n = tree-cases items work list w (λ t. false ≡ any f (names t)) (λ e. refl) (λ e. absurd (m e)) (λ e. absurd (n e)) (λ p q r. refl)
+  pub any-other : (wordAt work list 3 ≡ 3 → ⊥) → (wordAt work list 3 ≡ 4 → ⊥) → false ≡ anyOf f (names (treeAt items work list w))
+  unfolding names anyOf
+  any-other m n = tree-cases items work list w (λ t. false ≡ anyOf f (names t)) (λ e. refl) (λ e. absurd (m e)) (λ e. absurd (n e)) (λ p q r. refl)
 
 -- ---- known variables
 
@@ -89,13 +89,13 @@ module _ (items work : List ℕ) (w : ℕ) (vars : List ℕ) (x : Name) where
 abbrev named : List (Name × ℕ) → List Name
 named vs = map (λ v. v .0) vs
 
-any-middle : (f : Name → Bool) (x : Name) (d : ℕ) (vs rest : List (Name × ℕ)) → f x ≡ true → any f (named (vs ++ ((x, d) ∷ rest))) ≡ true
-unfolding any
-any-middle f x d [] rest e = or-left (f x) (any f (named rest)) e
-any-middle f x d (v ∷ vs) rest e = or-right (f (v .0)) (any f (named (vs ++ ((x, d) ∷ rest)))) (any-middle f x d vs rest e)
+any-middle : (f : Name → Bool) (x : Name) (d : ℕ) (vs rest : List (Name × ℕ)) → f x ≡ true → anyOf f (named (vs ++ ((x, d) ∷ rest))) ≡ true
+unfolding anyOf
+any-middle f x d [] rest e = or-left (f x) (anyOf f (named rest)) e
+any-middle f x d (v ∷ vs) rest e = or-right (f (v .0)) (anyOf f (named (vs ++ ((x, d) ∷ rest)))) (any-middle f x d vs rest e)
 
-any-last : (f : Name → Bool) (x : Name) (d : ℕ) (vs : List (Name × ℕ)) → f x ≡ false → any f (named (vs ++ ((x, d) ∷ []))) ≡ any f (named vs)
-unfolding any
+any-last : (f : Name → Bool) (x : Name) (d : ℕ) (vs : List (Name × ℕ)) → f x ≡ false → anyOf f (named (vs ++ ((x, d) ∷ []))) ≡ anyOf f (named vs)
+unfolding anyOf
 any-last f x d [] e = rw e refl
 any-last f x d (v ∷ vs) e = rw (any-last f x d vs e)
 
@@ -105,30 +105,30 @@ distinct-twice k [] x d rest p e = absurd (let z : _≡_ {A = ℕ} 0 1 = cc in o
 distinct-twice k (v ∷ vs) x d rest p e =
     either (same (v .0) x)
     (λ t. rw (any-middle (same (v .0)) x d vs rest t) refl)
-    (λ t. and-none-right (not (any (same (v .0)) (named (vs ++ ((x, d) ∷ rest))))) (distinct (named (vs ++ ((x, d) ∷ rest)))) (distinct-twice (suc k) vs x d rest p (rw t at e)))
+    (λ t. and-none-right (not (anyOf (same (v .0)) (named (vs ++ ((x, d) ∷ rest))))) (distinct (named (vs ++ ((x, d) ∷ rest)))) (distinct-twice (suc k) vs x d rest p (rw t at e)))
 
 distinct-new : (k : ℕ) (vs : List (Name × ℕ)) (x : Name) (d : ℕ) → variableFrom k vs x ≡ none → distinct (named vs) ≡ true → distinct (named (vs ++ ((x, d) ∷ []))) ≡ true
-unfolding variableFrom distinct any
+unfolding variableFrom distinct anyOf
 distinct-new k [] x d e h = refl
 distinct-new k (v ∷ vs) x d e h =
     either (same (v .0) x)
     (λ t. let s : some (k, v .1) ≡ none = rw t at e in absurd (let z : _≡_ {A = ℕ} 0 1 = cc in omega arith))
     (λ t.
-    let fresh = not (any (same (v .0)) (named vs)) in
+    let fresh = not (anyOf (same (v .0)) (named vs)) in
     rw (any-last (same (v .0)) x d vs t)
     (and-both fresh (distinct (named (vs ++ ((x, d) ∷ [])))) (and-left fresh (distinct (named vs)) h) (distinct-new (suc k) vs x d (rw t at e) (and-right fresh (distinct (named vs)) h))))
 
 -- no variable lies under too many ellipses
 abbrev shallow : List (Name × ℕ) → Bool
-shallow vs = all (λ v. leb (v .1) depthMost) vs
+shallow vs = allOf (λ v. leb (v .1) depthMost) vs
 
 shallow-not : (vs : List (Name × ℕ)) (x : Name) (d : ℕ) (rest : List (Name × ℕ)) → 2 < d → shallow (vs ++ ((x, d) ∷ rest)) ≡ false
-unfolding all
+unfolding allOf
 shallow-not [] x d rest h = rw (lt-leb d 2 h) refl
 shallow-not (v ∷ vs) x d rest h = and-none-right (leb (v .1) 2) (shallow (vs ++ ((x, d) ∷ rest))) (shallow-not vs x d rest h)
 
 shallow-more : (vs : List (Name × ℕ)) (x : Name) (d : ℕ) → d ≤ 2 → shallow vs ≡ true → shallow (vs ++ ((x, d) ∷ [])) ≡ true
-unfolding all
+unfolding allOf
 shallow-more [] x d h e = rw (le-leb d 2 h) refl
 shallow-more (v ∷ vs) x d h e = and-both (leb (v .1) 2) (shallow (vs ++ ((x, d) ∷ []))) (and-left (leb (v .1) 2) (shallow vs) e) (shallow-more vs x d h (and-right (leb (v .1) 2) (shallow vs) e))
 

@@ -6,7 +6,7 @@ ghost use mathlib.Core.Bool.{cond};
 ghost use mathlib.Core.List.{[], _∷_};
 ghost use Prim.Native.Nat.{_+_, _*_, _^_, _≤_, _<_};
 ghost use lib.ListN.{length};
-ghost use Rattle.words.specs.Lists.{any};
+ghost use Rattle.words.specs.Lists.{anyOf};
 ghost use Rattle.recipe.specs.Name.{same, isEllipsis};
 ghost use Rattle.recipe.specs.Tree.{name, names};
 ghost use Rattle.expansion.specs.Rules.{variableFrom, variables};
@@ -29,7 +29,7 @@ pub enum Known {
 
 // Whether a name is the same as one of the names of a list.
 pub fn is_literal(items: &[u32], work: &[u32], list: u32, node: u32, w: u32) -> bool
-    ensures { λ r. ⌜ r ≡ any (same (nameAt (now (items .entry)) (now (work .entry)) node w)) (names (treeAt (now (items .entry)) (now (work .entry)) list w)) ⌝ }
+    ensures { λ r. ⌜ r ≡ anyOf (same (nameAt (now (items .entry)) (now (work .entry)) node w)) (names (treeAt (now (items .entry)) (now (work .entry)) list w)) ⌝ }
 {
     let mut at = list;
     let mut kind = cells::word(work, at, 3);

@@ -5,7 +5,7 @@ use mathlib.Core.List.{List, [], _∷_, _++_, map, reverse}
 use Prim.Native.Nat.{ℕ, zero, suc}
 use lib.Dec.{eqb}
 use lib.ListN.{length, getD, take}
-use Rattle.words.specs.Lists.{all}
+use Rattle.words.specs.Lists.{allOf}
 use Rattle.recipe.specs.Name.{Name}
 use Rattle.recipe.specs.Tree.{Tree, onEmpty, onConstant, onName, onPair, elements}
 use Rattle.expansion.specs.Lookup.{agree}
@@ -125,7 +125,7 @@ module _ {L U : Name → Name → Type 0} {p q : Pattern} (pq : PatternOf L p q)
   equalLengths-rel is emptyTs = refl
   equalLengths-rel is (pairTs a b) = ap₂ _&&_ (equalLengths-rel is a) (equalLengths-rel is b)
   equalLengths-rel is (ellipsisTs {p = e} {p′ = f} a b) =
-      ap₂ _&&_ (ap₂ (λ k l. all (eqb k) l) (copyCount-rel is a) (lengths-rel is a))
+      ap₂ _&&_ (ap₂ (λ k l. allOf (eqb k) l) (copyCount-rel is a) (lengths-rel is a))
       (ap₂ _&&_ (allBelow-cong _ _ (λ i. equalLengths-rel (i ∷ is) a) (copyCount p t is e) ∙ ap (allBelow (λ i. equalLengths q u (i ∷ is) f)) (copyCount-rel is a)) (equalLengths-rel is b))
 
   pub transcribe-rel : {T : Name → Name → Type 0} (S : Name → Name → Type 0) → ((x y : Name) → T x y → S x y) → ((x y : Name) → U x y → S x y) → (is : List ℕ) {e f : Template} → TemplateOf T e f → TreeOf S (transcribe p t is e) (transcribe q u is f)

@@ -5,8 +5,8 @@ use mathlib.Core.List.{List, [], _∷_, _++_, map}
 use mathlib.Core.Option.{Option, none, some}
 use Prim.Native.Nat.{ℕ, zero, suc}
 use lib.ListN.{length, getD}
-use Rattle.words.specs.Lists.{all, any}
-use Rattle.words.specs.Options.{guard, mapSome, mapBoth, traverse}
+use Rattle.words.specs.Lists.{allOf, anyOf}
+use Rattle.words.specs.Options.{onlyIf, mapSome, mapBoth, traverse}
 
 pub data ListRel {A : Type 0} (R : A → A → Type 0) : List A → List A → Type 0 where
   ends : ListRel R [] []
@@ -39,13 +39,13 @@ pub list-map : {A : Type 0} {R S : A → A → Type 0} → ((x y : A) → R x y 
 list-map h ends = ends
 list-map h (joins r rs) = joins (h _ _ r) (list-map h rs)
 
-pub all-rel : {A : Type 0} {R : A → A → Type 0} (f g : A → Bool) → ((x y : A) → R x y → f x ≡ g y) → {xs ys : List A} → ListRel R xs ys → all f xs ≡ all g ys
-unfolding all
+pub all-rel : {A : Type 0} {R : A → A → Type 0} (f g : A → Bool) → ((x y : A) → R x y → f x ≡ g y) → {xs ys : List A} → ListRel R xs ys → allOf f xs ≡ allOf g ys
+unfolding allOf
 all-rel f g h ends = refl
 all-rel f g h (joins r rs) = ap₂ _&&_ (h _ _ r) (all-rel f g h rs)
 
-pub any-rel : {A : Type 0} {R : A → A → Type 0} (f g : A → Bool) → ((x y : A) → R x y → f x ≡ g y) → {xs ys : List A} → ListRel R xs ys → any f xs ≡ any g ys
-unfolding any
+pub any-rel : {A : Type 0} {R : A → A → Type 0} (f g : A → Bool) → ((x y : A) → R x y → f x ≡ g y) → {xs ys : List A} → ListRel R xs ys → anyOf f xs ≡ anyOf g ys
+unfolding anyOf
 any-rel f g h ends = refl
 any-rel f g h (joins r rs) = ap₂ _||_ (h _ _ r) (any-rel f g h rs)
 
@@ -61,8 +61,8 @@ cond-rel R true false x y x′ y′ e p q = absurd (true≢false e)
 cond-rel R false true x y x′ y′ e p q = absurd (false≢true e)
 cond-rel R false false x y x′ y′ e p q = q
 
-pub guard-rel : {A : Type 0} {R : A → A → Type 0} {b c : Bool} {x y : Option A} → b ≡ c → OptionRel R x y → OptionRel R (guard b x) (guard c y)
-unfolding guard
+pub guard-rel : {A : Type 0} {R : A → A → Type 0} {b c : Bool} {x y : Option A} → b ≡ c → OptionRel R x y → OptionRel R (onlyIf b x) (onlyIf c y)
+unfolding onlyIf
 guard-rel {A} {R} {b} {c} {x} {y} e r = cond-rel (OptionRel R) b c x none y none e r nones
 
 pub mapSome-rel : {A B : Type 0} {R : A → A → Type 0} {S : B → B → Type 0} (f g : A → B) → ((x y : A) → R x y → S (f x) (g y)) → {x y : Option A} → OptionRel R x y → OptionRel S (mapSome f x) (mapSome g y)

@@ -7,7 +7,7 @@ use Prim.Native.Nat.{ℕ, suc, _+_}
 use lib.Dec.{ltb, leb}
 use lib.ListN.{length}
 use Rattle.words.specs.Limits.{literalsMost, rulesMost, patternVariablesMost, depthMost}
-use Rattle.words.specs.Lists.{any, within}
+use Rattle.words.specs.Lists.{anyOf, within}
 use Rattle.recipe.specs.Name.{Name, same, distinct, isEllipsis, isWildcard}
 use Rattle.recipe.specs.Tree.{Tree, onName, onPair, names, isOrdinaryName, isListOf, elements, element, tail}
 use Rattle.expansion.specs.Lookup.{isSyntaxRules}
@@ -68,7 +68,7 @@ module _ (R : Name → Name → Type 0) (dots dots′ : Name → Bool) (dots-eq 
 -- ---- patterns and rules
 
 module _ (R : Name → Name → Type 0) (same-eq : (i j x y : Name) → R i j → R x y → same i x ≡ same j y) where
-  any-same : {i j : Name} → R i j → {xs ys : List Name} → ListRel R xs ys → any (same i) xs ≡ any (same j) ys
+  any-same : {i j : Name} → R i j → {xs ys : List Name} → ListRel R xs ys → anyOf (same i) xs ≡ anyOf (same j) ys
   any-same r l = any-rel _ _ (λ x y q. same-eq _ _ x y r q) l
 
   pub distinct-rel : {xs ys : List Name} → ListRel R xs ys → distinct xs ≡ distinct ys

@@ -7,7 +7,7 @@ use Prim.Native.Nat.{ℕ, zero, suc, _+_, _*_, _^_, _≤_, _<_}
 use native.Mathlib.Omega.{arith}
 use lib.ListN.{length, getD}
 use Rattle.words.specs.Limits.{macrosMost}
-use Rattle.words.specs.Lists.{all}
+use Rattle.words.specs.Lists.{allOf}
 use Rattle.words.specs.Options.{traverse}
 use Rattle.words.specs.TestLaws.{and-parts, all-parts}
 use Rattle.recipe.specs.Name.{Binding, macro, Name, distinct}
@@ -83,7 +83,7 @@ elements-few (constant a) = omega arith
 elements-few (name x) = omega arith
 elements-few (pair h t) = omega (arith, elements-few t, size-positive h)
 
-entries-few : (t : Tree) → all isMacro (elements t) ≡ true → macroItems * length (elements t) ≤ size t
+entries-few : (t : Tree) → allOf isMacro (elements t) ≡ true → macroItems * length (elements t) ≤ size t
 unfolding elements size isMacro
 entries-few empty e = omega arith
 entries-few (constant a) e = omega arith
@@ -98,7 +98,7 @@ unfolding isMacros
 macros-rate t e =
     let a = and-parts (isListOf 3 t) _ e in
     let b = and-parts (isList (element 1 t)) _ (a .1) in
-    let c = and-parts (all isMacro (elements (element 1 t))) _ (b .1) in
+    let c = and-parts (allOf isMacro (elements (element 1 t))) _ (b .1) in
     omega (arith, three-sizes t (a .0), entries-few (element 1 t) (c .0), keywords-count t (macros-names t macrosMost e))
 
 pub macros-sizes : (t : Tree) → isMacros macrosMost t ≡ true → 9 * length (keywords t) + 5 * size (element 1 t) + 9 * size (element 2 t) + 5 ≤ 9 * size t

@@ -5,9 +5,9 @@ use mathlib.Core.List.{List, [], _∷_, _++_, map}
 use mathlib.Core.Option.{Option, none, some}
 use Prim.Native.Nat.{ℕ, zero, suc}
 use lib.ListN.{getD}
-use Rattle.words.specs.Lists.{all}
+use Rattle.words.specs.Lists.{allOf}
 use Rattle.words.specs.TestLaws.{all-parts}
-use Rattle.words.specs.Options.{guard, mapSome, mapBoth, traverse}
+use Rattle.words.specs.Options.{onlyIf, mapSome, mapBoth, traverse}
 
 -- ---- lists
 
@@ -52,12 +52,12 @@ each-mapped f q (x ∷ xs) = also (q x) (each-mapped f q xs)
 
 -- a test passes all where it passes each
 module _ {A : Type 0} (f : A → Bool) where
-  pub each-true : (xs : List A) → all f xs ≡ true → Each (λ x. f x ≡ true) xs
+  pub each-true : (xs : List A) → allOf f xs ≡ true → Each (λ x. f x ≡ true) xs
   each-true [] e = noneOf
   each-true (x ∷ xs) e = let p = all-parts f x xs e in also (p .0) (each-true xs (p .1))
 
-  pub true-each : {xs : List A} → Each (λ x. f x ≡ true) xs → all f xs ≡ true
-  unfolding all
+  pub true-each : {xs : List A} → Each (λ x. f x ≡ true) xs → allOf f xs ≡ true
+  unfolding allOf
   true-each noneOf = refl
   true-each (also p ps) = ap₂ _&&_ p (true-each ps)
 
@@ -78,8 +78,8 @@ module _ {A : Type 0} {P : A → Type 0} where
   given-cond true g h = g
   given-cond false g h = h
 
-  pub given-guard : (b : Bool) {o : Option A} → Given P o → Given P (guard b o)
-  unfolding guard
+  pub given-guard : (b : Bool) {o : Option A} → Given P o → Given P (onlyIf b o)
+  unfolding onlyIf
   given-guard b g = given-cond b g missing
 
 pub given-any : {A : Type 0} (o : Option A) → Given (λ a. Unit {0}) o

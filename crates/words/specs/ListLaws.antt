@@ -10,7 +10,7 @@ use lib.Dec.{eqb}
 use lib.ListN.{length, getD, drop, set, length-drop, take-append-drop}
 use lib.Seq.{length-take-le, take-all, take-suc, getD-drop, drop-drop, paste, paste-suc}
 use borrow.Author.Tests.{eqb-true, eqb-false, eq-eqb, ne-eqb}
-use Rattle.words.specs.Lists.{all, any, equal}
+use Rattle.words.specs.Lists.{allOf, anyOf, equal}
 use Rattle.words.specs.Parts.{rest, part}
 use Rattle.words.specs.TestLaws.{and-left, and-right}
 
@@ -33,19 +33,19 @@ unfoldable pub Each : (ℕ → Type 0) → List ℕ → Type 0
 Each P [] = 0 ≤ 0
 Each P (x ∷ xs) = P x × Each P xs
 
-pub any-each : (P : ℕ → Type 0) (n : ℕ) (l : List ℕ) → Each P l → any (eqb n) l ≡ true → P n
-unfolding any Each
+pub any-each : (P : ℕ → Type 0) (n : ℕ) (l : List ℕ) → Each P l → anyOf (eqb n) l ≡ true → P n
+unfolding anyOf Each
 any-each P n [] ps h = never h refl
 any-each P n (x ∷ xs) ps h =
     either (eqb n x) (λ e. subst P (sym (eqb-true n x e)) (ps .0))
-    (λ e. any-each P n xs (ps .1) (ap (λ (t : Bool). t || any (eqb n) xs) (sym e) ∙ h))
+    (λ e. any-each P n xs (ps .1) (ap (λ (t : Bool). t || anyOf (eqb n) xs) (sym e) ∙ h))
 
 -- ---- a test's value over a range, computed once
 
 -- f is v at each of n numbers from lo, save those listed
 unfoldable pub valued : (ℕ → Bool) → Bool → List ℕ → ℕ → ℕ → Bool
 valued f v save lo zero = true
-valued f v save lo (suc n) = (any (eqb lo) save || Bool·beq (f lo) v) && valued f v save (suc lo) n
+valued f v save lo (suc n) = (anyOf (eqb lo) save || Bool·beq (f lo) v) && valued f v save (suc lo) n
 
 beq-true : (a b : Bool) → Bool·beq a b ≡ true → b ≡ a
 beq-true true true h = refl
@@ -54,30 +54,30 @@ beq-true false true h = never h refl
 beq-true false false h = refl
 
 pub valued-at : (f : ℕ → Bool) (v : Bool) (save : List ℕ) (lo n : ℕ) → valued f v save lo n ≡ true → (b : ℕ) → lo ≤ b → b < lo + n
-    → any (eqb b) save ≡ false → v ≡ f b
+    → anyOf (eqb b) save ≡ false → v ≡ f b
 unfolding valued
 valued-at f v save lo zero h b l u s = absurd (omega arith)
 valued-at f v save lo (suc n) h b l u s =
-    let t = any (eqb lo) save || Bool·beq (f lo) v in
+    let t = anyOf (eqb lo) save || Bool·beq (f lo) v in
     let rest = valued f v save (suc lo) n in
     either (eqb b lo)
     (λ e. let k : lo ≡ b = sym (eqb-true b lo e) in
-    let q : any (eqb b) save || Bool·beq (f b) v ≡ true = subst (λ m. any (eqb m) save || Bool·beq (f m) v ≡ true) k (and-left t rest h) in
+    let q : anyOf (eqb b) save || Bool·beq (f b) v ≡ true = subst (λ m. anyOf (eqb m) save || Bool·beq (f m) v ≡ true) k (and-left t rest h) in
     beq-true (f b) v (rw s at q))
     (λ e. let k : suc lo ≤ b = omega (arith, eqb-false b lo e) in valued-at f v save (suc lo) n (and-right t rest h) b k (omega arith) s)
 
-pub any-neither : (b x y : ℕ) → ((b ≡ x) ⊎ (b ≡ y) → ⊥) → any (eqb b) (x ∷ y ∷ []) ≡ false
-unfolding any
+pub any-neither : (b x y : ℕ) → ((b ≡ x) ⊎ (b ≡ y) → ⊥) → anyOf (eqb b) (x ∷ y ∷ []) ≡ false
+unfolding anyOf
 any-neither b x y h = rw (ne-eqb b x (λ e. h (inl e)), ne-eqb b y (λ e. h (inr e)))
 
 -- ---- all
 
 module _ {A : Type 0} where
-  pub all-append : (f : A → Bool) (a b : List A) → all f a ≡ true → all f b ≡ true → all f (a ++ b) ≡ true
-  unfolding all
+  pub all-append : (f : A → Bool) (a b : List A) → allOf f a ≡ true → allOf f b ≡ true → allOf f (a ++ b) ≡ true
+  unfolding allOf
   all-append f [] b p q = q
   all-append f (x ∷ a) b p q =
-      rw (and-left (f x) (all f a) p) (all-append f a b (and-right (f x) (all f a) p) q)
+      rw (and-left (f x) (allOf f a) p) (all-append f a b (and-right (f x) (allOf f a) p) q)
 
 -- ---- equal
 

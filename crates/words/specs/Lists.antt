@@ -9,13 +9,13 @@ unfoldable pub within : ℕ → ℕ → ℕ → Bool
 within a b n = leb a n && leb n b
 
 module _ {A : Type 0} where
-  unfoldable pub all : (A → Bool) → List A → Bool
-  all f [] = true
-  all f (x ∷ xs) = f x && all f xs
+  unfoldable pub allOf : (A → Bool) → List A → Bool
+  allOf f [] = true
+  allOf f (x ∷ xs) = f x && allOf f xs
 
-  unfoldable pub any : (A → Bool) → List A → Bool
-  any f [] = false
-  any f (x ∷ xs) = f x || any f xs
+  unfoldable pub anyOf : (A → Bool) → List A → Bool
+  anyOf f [] = false
+  anyOf f (x ∷ xs) = f x || anyOf f xs
 
 -- two lists of numbers are equal
 unfoldable pub equal : List ℕ → List ℕ → Bool

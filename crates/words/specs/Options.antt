@@ -4,8 +4,8 @@ use mathlib.Core.List.{List, [], _∷_}
 use mathlib.Core.Option.{Option, none, some}
 
 -- the answer, where the test passes
-unfoldable pub guard : {A : Type 0} → Bool → Option A → Option A
-guard b a = cond b a none
+unfoldable pub onlyIf : {A : Type 0} → Bool → Option A → Option A
+onlyIf b a = cond b a none
 
 unfoldable pub mapSome : {A B : Type 0} → (A → B) → Option A → Option B
 mapSome f none = none

@@ -7,7 +7,7 @@ use Prim.Native.Nat.{ℕ, zero, suc, _≤_}
 use lib.Dec.{leb}
 use lib.ListN.{drop}
 use borrow.Author.Tests.{leb-true, le-leb}
-use Rattle.words.specs.Lists.{within, all, any}
+use Rattle.words.specs.Lists.{within, allOf, anyOf}
 
 -- ---- conjunctions
 
@@ -79,32 +79,32 @@ within-most a b n e = within-parts a b n e .1
 -- ---- all
 
 module _ {A : Type 0} (f : A → Bool) where
-  pub all-parts : (x : A) (xs : List A) → all f (x ∷ xs) ≡ true → (f x ≡ true) × (all f xs ≡ true)
-  unfolding all
-  all-parts x xs e = and-parts (f x) (all f xs) e
+  pub all-parts : (x : A) (xs : List A) → allOf f (x ∷ xs) ≡ true → (f x ≡ true) × (allOf f xs ≡ true)
+  unfolding allOf
+  all-parts x xs e = and-parts (f x) (allOf f xs) e
 
-  pub all-head : (x : A) (xs : List A) → all f (x ∷ xs) ≡ true → f x ≡ true
+  pub all-head : (x : A) (xs : List A) → allOf f (x ∷ xs) ≡ true → f x ≡ true
   all-head x xs e = all-parts x xs e .0
 
-  pub all-drop : (i : ℕ) (xs : List A) → all f xs ≡ true → all f (drop i xs) ≡ true
-  unfolding all
+  pub all-drop : (i : ℕ) (xs : List A) → allOf f xs ≡ true → allOf f (drop i xs) ≡ true
+  unfolding allOf
   all-drop zero xs e = e
   all-drop (suc i) [] e = e
   all-drop (suc i) (x ∷ xs) e = all-drop i xs (all-parts x xs e .1)
 
-  pub all-append : (xs ys : List A) → all f (xs ++ ys) ≡ (all f xs && all f ys)
-  unfolding all
+  pub all-append : (xs ys : List A) → allOf f (xs ++ ys) ≡ (allOf f xs && allOf f ys)
+  unfolding allOf
   all-append [] ys = refl
-  all-append (x ∷ xs) ys = ap (λ (b : Bool). f x && b) (all-append xs ys) ∙ sym (and-assoc (f x) (all f xs) (all f ys))
+  all-append (x ∷ xs) ys = ap (λ (b : Bool). f x && b) (all-append xs ys) ∙ sym (and-assoc (f x) (allOf f xs) (allOf f ys))
 
 -- ---- any
 
 module _ {A : Type 0} (f : A → Bool) where
-  pub any-append : (xs ys : List A) → any f (xs ++ ys) ≡ (any f xs || any f ys)
-  unfolding any
+  pub any-append : (xs ys : List A) → anyOf f (xs ++ ys) ≡ (anyOf f xs || anyOf f ys)
+  unfolding anyOf
   any-append [] ys = refl
   any-append (x ∷ xs) ys = go (f x) (any-append xs ys)
     where
-      go : (b : Bool) → any f (xs ++ ys) ≡ (any f xs || any f ys) → (b || any f (xs ++ ys)) ≡ ((b || any f xs) || any f ys)
+      go : (b : Bool) → anyOf f (xs ++ ys) ≡ (anyOf f xs || anyOf f ys) → (b || anyOf f (xs ++ ys)) ≡ ((b || anyOf f xs) || anyOf f ys)
       go true e = refl
       go false e = e

@@ -24,27 +24,6 @@ more-marks-below t =
 abbrev more-marks-claims : ℕ → more-marks-lts.Claims
 more-marks-claims t = (mark-reads.Asked, mark-reads.Learnt, more-marks-below t, more-marks.Post)
 
-more-marks-returns : (t : ℕ) → more-marks-lts.Need-returns (more-marks-claims t) (more-marks-at t) more-marks.Post
-more-marks-returns t c = search needs
-
-more-marks-returns-2 : (t : ℕ) → more-marks-lts.Need-returns-2 (more-marks-claims t) (more-marks-at t) more-marks.Post
-more-marks-returns-2 t c = search needs
-
-more-marks-mark-requires : (t : ℕ) → more-marks-lts.Need-mark-requires (more-marks-claims t) (more-marks-at t) more-marks.Post
-more-marks-mark-requires t c κs = search needs
-
-more-marks-add-more-marks : (t : ℕ) → more-marks-lts.Need-add-more-marks (more-marks-claims t) (more-marks-at t) more-marks.Post
-more-marks-add-more-marks t c = search needs
-
-more-marks-sub-more-marks : (t : ℕ) → more-marks-lts.Need-sub-more-marks (more-marks-claims t) (more-marks-at t) more-marks.Post
-more-marks-sub-more-marks t c = search needs
-
-more-marks-more-marks-requires : (t : ℕ) → more-marks-lts.Need-more-marks-requires (more-marks-claims t) (more-marks-at t) more-marks.Post
-more-marks-more-marks-requires t c κs = search needs
-
-more-marks-returns-3 : (t : ℕ) → more-marks-lts.Need-returns-3 (more-marks-claims t) (more-marks-at t) more-marks.Post
-more-marks-returns-3 t c = search needs
-
 pub +more-marks-spec : {M : Type 1} → statement M
 +more-marks-spec = close μ-more-marks λ t. more-marks-lts.spec (
   mark-reads.Asked,
@@ -54,10 +33,10 @@ pub +more-marks-spec : {M : Type 1} → statement M
 )
     (more-marks-at t)
     more-marks.Post
-    (more-marks-returns t)
-    (more-marks-returns-2 t)
-    (more-marks-mark-requires t)
-    (more-marks-add-more-marks t)
-    (more-marks-sub-more-marks t)
-    (more-marks-more-marks-requires t)
-    (more-marks-returns-3 t)
+    (λ c. search needs)  -- more-marks-returns
+    (λ c. search needs)  -- more-marks-returns-2
+    (λ c κs. search needs)  -- more-marks-mark-requires
+    (λ c. search needs)  -- more-marks-add-more-marks
+    (λ c. search needs)  -- more-marks-sub-more-marks
+    (λ c κs. search needs)  -- more-marks-more-marks-requires
+    (λ c. search needs)  -- more-marks-returns-3

@@ -27,14 +27,6 @@ term-requires : tie.Need-term-requires Inv-loop μ-loop
 term-requires c κs =
     let s = c .before .before .before .before .before in noFlags-clear (length (s .args .flags .now)) _ (s .pre .1) 0 0
 
-enum-known-used : tie.Need-enum-known-used Inv-loop μ-loop
-enum-known-used c =
-    search needs
-
-enum-told : tie.Need-enum-told Inv-loop μ-loop
-enum-told c =
-    search needs
-
 same-length : tie.Need-same-length Inv-loop μ-loop
 same-length c =
     c .before .before .before .before .term .kept .1 .1 .1 .1 .1 .1 .0
@@ -57,21 +49,9 @@ loop-holds : tie.Need-loop-holds Inv-loop μ-loop
 loop-holds c =
     let h = c .before .before .used .given .1 in walked-first _ _ _ _ _ _ _ (c .before .before .before .before .before .before .before .before .before .before .before .before .pre .1) (shaped-term _ _ _ _ _ _ (c .before .before .before .before .before .before .term .ensures .0) _ _ h) (kept-term _ _ _ _ _ (c .before .before .before .before .before .before .term .ensures .1) h)
 
-sub-loop : tie.Need-sub-loop Inv-loop μ-loop
-sub-loop c =
-    search needs
-
-add-base : tie.Need-add-base Inv-loop μ-loop
-add-base c =
-    search needs
-
 term-requires-2 : tie.Need-term-requires-2 Inv-loop μ-loop
 term-requires-2 c κs =
     walked-clear _ _ _ _ _ _ _ _ (c .before .before .loop .inv) _ _
-
-enum-known-again : tie.Need-enum-known-again Inv-loop μ-loop
-enum-known-again c =
-    search needs
 
 loop-less : tie.Need-loop-less Inv-loop μ-loop
 loop-less c =
@@ -80,10 +60,6 @@ loop-less c =
 loop-again : tie.Need-loop-again Inv-loop μ-loop
 loop-again c =
     let h = c .before .again .given .1 in walked-more _ _ _ _ _ _ _ _ (c .before .before .before .before .before .before .before .before .loop .inv) _ _ _ (omega arith) (shaped-term _ _ _ _ _ _ (c .before .before .before .before .before .term2 .ensures .0) _ _ h) (kept-term _ _ _ _ _ (c .before .before .before .before .before .term2 .ensures .1) h)
-
-enum-told-2 : tie.Need-enum-told-2 Inv-loop μ-loop
-enum-told-2 c =
-    search needs
 
 same-length-3 : tie.Need-same-length-3 Inv-loop μ-loop
 same-length-3 c =
@@ -109,20 +85,20 @@ every-window-spec =
     μ-loop
     returns
     term-requires
-    enum-known-used
-    enum-told
+    (λ c. search needs)  -- enum-known-used
+    (λ c. search needs)  -- enum-told
     same-length
     returns-2
     same-length-2
     returns-3
     loop-holds
-    sub-loop
-    add-base
+    (λ c. search needs)  -- sub-loop
+    (λ c. search needs)  -- add-base
     term-requires-2
-    enum-known-again
+    (λ c. search needs)  -- enum-known-again
     loop-less
     loop-again
-    enum-told-2
+    (λ c. search needs)  -- enum-told-2
     same-length-3
     returns-4
     same-length-4

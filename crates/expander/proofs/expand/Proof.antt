@@ -26,26 +26,10 @@ roomy : (c : tie.Else3) → let a = c .before .before .before .before .before .b
 unfolding itemCount
 roomy c = sym (c .before .tables-fit .ensures) ∙ not-false _ (c .if3 .left)
 
-is-layout-requires : tie.Need-is-layout-requires
-is-layout-requires c κs =
-    search needs
-
-refused-requires : tie.Need-refused-requires
-refused-requires c κs =
-    search needs
-
 returns : tie.Need-returns
 returns c =
     let a = c .before .before .before .before .before .before .args in
     served-layout (a .items .now) (a .fuel) (a .work .now) (a .core .now) (sym (c .before .before .is-layout .ensures) ∙ not-true _ (c .before .if1 .taken)) _ (c .refused .ensures)
-
-fuel-fits-requires : tie.Need-fuel-fits-requires
-fuel-fits-requires c κs =
-    search needs
-
-refused-requires-2 : tie.Need-refused-requires-2
-refused-requires-2 c κs =
-    search needs
 
 returns-2 : tie.Need-returns-2
 returns-2 c =
@@ -57,36 +41,20 @@ unfolding itemCount
 tables-fit-requires c κs =
     (isLayout-parts (c .before .before .before .before .before .before .before .args .items .now) (layout (c .before .before)) .count .1, leb-true _ _ (fuelled c))
 
-refused-requires-3 : tie.Need-refused-requires-3
-refused-requires-3 c κs =
-    search needs
-
 returns-3 : tie.Need-returns-3
 unfolding itemCount
 returns-3 c =
     let a = c .before .before .before .before .before .before .before .before .before .before .args in
     served-tables (a .items .now) (a .fuel) (a .work .now) (a .core .now) (layout (c .before .before .before .before .before)) (fuelled (c .before .before .before)) (sym (c .before .before .tables-fit .ensures) ∙ not-true _ (c .before .if3 .taken)) _ (c .refused3 .ensures)
 
-slice-aggregate-operations : tie.Need-slice-aggregate-operations
-slice-aggregate-operations c =
-    search needs
-
 operations-requires : tie.Need-operations-requires
 operations-requires c κs =
     (layout (c .before .before .before .before .before), refl, places-none)
-
-refused-requires-4 : tie.Need-refused-requires-4
-refused-requires-4 c κs =
-    search needs
 
 returns-4 : tie.Need-returns-4
 returns-4 c =
     let a = c .before .before .before .before .before .before .before .before .before .before .before .before .before .before .args in
     served-operations (a .items .now) (a .fuel) (a .work .now) (a .core .now) (layout (c .before .before .before .before .before .before .before .before .before)) (fuelled (c .before .before .before .before .before .before .before)) (roomy (c .before .before .before .before .before)) (sym (c .before .before .before .operations2 .ensures .0) ∙ not-true _ (c .before .if4 .taken)) _ (c .refused4 .ensures)
-
-slice-aggregate-expand-recipe : tie.Need-slice-aggregate-expand-recipe
-slice-aggregate-expand-recipe c =
-    search needs
 
 expand-recipe-requires : tie.Need-expand-recipe-requires
 unfolding operationsOf
@@ -95,23 +63,11 @@ expand-recipe-requires c κs =
     let good = not-false _ (c .before .before .before .if4 .left) in
     lends (a .items .now) (a .fuel) (a .work .now) (a .core .now) (layout (c .before .before .before .before .before .before .before .before .before .before .before)) (fuelled (c .before .before .before .before .before .before .before .before .before)) (roomy (c .before .before .before .before .before .before .before)) _ (sym (c .before .before .before .before .before .operations2 .ensures .0) ∙ good) (c .before .before .before .before .before .operations2 .ensures .1 good) (c .before .before .before .before .before .operations2 .kept .1 .0)
 
-zero-words-requires : tie.Need-zero-words-requires
-zero-words-requires c κs =
-    search needs
-
 finish-requires : tie.Need-finish-requires
 finish-requires c κs =
     let a = c .before .before .before .before .before .before .before .before .before .before .before .before .before .before .before .before .before .before .before .before .before .before .before .before .before .before .args in
     let lent = expand-recipe-requires (c .before .before .before .before .before .before .before .before .before .before) (c .before .before .before .before .before .before .before .before .before .expand-recipe .lifetimes) in
     expanded-fits (a .items .now) (a .fuel) (a .work .now) (a .core .now) _ _ (lent .begun) (c .before .before .before .before .before .before .before .before .before .expand-recipe .ensures) (c .before .before .before .before .before .before .before .before .before .expand-recipe .kept .1 .1 .0)
-
-same-length : tie.Need-same-length
-same-length c =
-    search needs
-
-same-length-2 : tie.Need-same-length-2
-same-length-2 c =
-    search needs
 
 returns-5 : tie.Need-returns-5
 returns-5 c =
@@ -123,23 +79,23 @@ pub expand-spec : {M : Type 1} → statement M
 expand-spec =
     tie.close
     (tie.spec
-    is-layout-requires
-    refused-requires
+    (λ c κs. search needs)  -- is-layout-requires
+    (λ c κs. search needs)  -- refused-requires
     returns
-    fuel-fits-requires
-    refused-requires-2
+    (λ c κs. search needs)  -- fuel-fits-requires
+    (λ c κs. search needs)  -- refused-requires-2
     returns-2
     tables-fit-requires
-    refused-requires-3
+    (λ c κs. search needs)  -- refused-requires-3
     returns-3
-    slice-aggregate-operations
+    (λ c. search needs)  -- slice-aggregate-operations
     operations-requires
-    refused-requires-4
+    (λ c κs. search needs)  -- refused-requires-4
     returns-4
-    slice-aggregate-expand-recipe
+    (λ c. search needs)  -- slice-aggregate-expand-recipe
     expand-recipe-requires
-    zero-words-requires
+    (λ c κs. search needs)  -- zero-words-requires
     finish-requires
-    same-length
-    same-length-2
+    (λ c. search needs)  -- same-length
+    (λ c. search needs)  -- same-length-2
     returns-5)

@@ -8,7 +8,7 @@ use native.Mathlib.Omega.{arith}
 use lib.ListN.{length, length-map}
 use borrow.Author.Tests.{leb-true}
 use Rattle.words.specs.Limits.{formalsMost}
-use Rattle.words.specs.Lists.{all}
+use Rattle.words.specs.Lists.{allOf}
 use Rattle.words.specs.TestLaws.{and-parts, and-both}
 use Rattle.words.specs.Each.{Each, each-weaken, each-map, given-at}
 use Rattle.recipe.specs.Name.{macro, Name}
@@ -34,7 +34,7 @@ unfolding isLambda formals
 formals-most {t = t} f e =
     let a = and-parts (isListOf 3 t) _ e in
     let b = and-parts (isList (element 1 t)) _ (a .1) in
-    let d = and-parts (all isOrdinaryName (elements (element 1 t))) _ (b .1) in
+    let d = and-parts (allOf isOrdinaryName (elements (element 1 t))) _ (b .1) in
     omega (arith, tidy-formals (tidy-element 1 f) (b .0) (d .0), leb-true (length (elements (element 1 t))) formalsMost (d .1))
 
 rulesForms-fine : {W : World} {t : Tree} → FineTree W t → Each (FineTree W) (rulesForms t)

@@ -13,38 +13,6 @@ use mathlib.Core.Path.{sym}
 use lib.Seq.{length-take-le}
 use Rattle.filing.specs.Room.{printed-within}
 
-large-buffer-requires : tie.Need-large-buffer-requires
-large-buffer-requires c κs =
-    search needs
-
-slice-aggregate-read-full : tie.Need-slice-aggregate-read-full
-slice-aggregate-read-full c =
-    search needs
-
-read-full-requires : tie.Need-read-full-requires
-read-full-requires c κs =
-    search needs
-
-room-requires : tie.Need-room-requires
-room-requires c κs =
-    search needs
-
-array-share-prefix-text : tie.Need-array-share-prefix-text
-array-share-prefix-text c =
-    search needs
-
-slice-aggregate-output : tie.Need-slice-aggregate-output
-slice-aggregate-output c =
-    search needs
-
-slice-aggregate-output-2 : tie.Need-slice-aggregate-output-2
-slice-aggregate-output-2 c =
-    search needs
-
-output-requires : tie.Need-output-requires
-output-requires c κs =
-    search needs
-
 array-share-prefix-out : tie.Need-array-share-prefix-out
 array-share-prefix-out c =
     printed-within (c .before .output .ensures)
@@ -53,27 +21,19 @@ slice-aggregate-write-all : tie.Need-slice-aggregate-write-all
 slice-aggregate-write-all c =
     sym (length-take-le _ _ (printed-within (c .before .before .output .ensures)))
 
-write-all-requires : tie.Need-write-all-requires
-write-all-requires c κs =
-    search needs
-
-returns : tie.Need-returns
-returns c =
-    search needs
-
 pub main-spec : {M : Type 1} → statement M
 main-spec =
     tie.close
     (tie.spec
-    large-buffer-requires
-    slice-aggregate-read-full
-    read-full-requires
-    room-requires
-    array-share-prefix-text
-    slice-aggregate-output
-    slice-aggregate-output-2
-    output-requires
+    (λ c κs. search needs)  -- large-buffer-requires
+    (λ c. search needs)  -- slice-aggregate-read-full
+    (λ c κs. search needs)  -- read-full-requires
+    (λ c κs. search needs)  -- room-requires
+    (λ c. search needs)  -- array-share-prefix-text
+    (λ c. search needs)  -- slice-aggregate-output
+    (λ c. search needs)  -- slice-aggregate-output-2
+    (λ c κs. search needs)  -- output-requires
     array-share-prefix-out
     slice-aggregate-write-all
-    write-all-requires
-    returns)
+    (λ c κs. search needs)  -- write-all-requires
+    (λ c. search needs))  -- returns

@@ -9,18 +9,10 @@ use Rattle.recipe.specs.TreeFrom.{tailAt}
 use Rattle.recipe.specs.Layout.{isListKind, PairItem}
 use Rattle.layout.specs.Begins.{list-kind, pairAt, none, one, three, two}
 
-kind-requires : tie.Need-kind-requires
-kind-requires c κs =
-    search needs
-
 returns : tie.Need-returns
 returns c =
     let a = c .before .before .before .args in let k : kindAt (a .table .now) 0 ≡ 4 → ⊥ = λ q. c .if1 .taken (c .before .kind .ensures ∙ q) in
     sym (none (a .table .now) (a .n) (c .before .before .before .pre .0) (c .before .before .before .pre .2) (c .before .before .before .pre .1) k)
-
-tail-requires : tie.Need-tail-requires
-tail-requires c κs =
-    search needs
 
 -- item 0, once it is known to be a pair
 kind0 : (c : tie.After-tail) → kindAt (c .before .before .before .before .args .table .now) 0 ≡ 4
@@ -65,17 +57,9 @@ returns-3 c =
     let k = list-kind (kindAt ws (tailAt ws (tailAt ws 0))) (pair1 u .tailKind) (λ q. c .if3 .taken (c .before .kind3 .ensures ∙ (ap (kindAt ws) (end u) ∙ q))) in
     sym (three ws (a .n) (c .before .before .before .before .before .before .before .before .before .pre .0) (c .before .before .before .before .before .before .before .before .before .pre .2) (c .before .before .before .before .before .before .before .before .before .pre .1) (kind0 t) (pair0 t .tailBelow) (kind1 u) (pair1 u .tailBelow) k)
 
-head-requires : tie.Need-head-requires
-head-requires c κs =
-    search needs
-
 kind-requires-4 : tie.Need-kind-requires-4
 kind-requires-4 c κs =
     omega (arith, pair0 (c .before .before .before .before .before .before) .headBelow)
-
-is-list-kind-requires : tie.Need-is-list-kind-requires
-is-list-kind-requires c κs =
-    search needs
 
 returns-4 : tie.Need-returns-4
 returns-4 c =
@@ -88,15 +72,15 @@ pub begins-two-spec : {M : Type 1} → statement M
 begins-two-spec =
     tie.close
     (tie.spec
-    kind-requires
+    (λ c κs. search needs)  -- kind-requires
     returns
-    tail-requires
+    (λ c κs. search needs)  -- tail-requires
     kind-requires-2
     returns-2
     tail-requires-2
     kind-requires-3
     returns-3
-    head-requires
+    (λ c κs. search needs)  -- head-requires
     kind-requires-4
-    is-list-kind-requires
+    (λ c κs. search needs)  -- is-list-kind-requires
     returns-4)

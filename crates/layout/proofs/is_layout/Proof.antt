@@ -9,10 +9,6 @@ use Rattle.words.specs.TestLaws.{and-left}
 use Rattle.recipe.specs.Table.{itemCount}
 use Rattle.layout.specs.Ground7.{uneven, too-few, too-many, unfit, by-item-0}
 
-mul-if1 : tie.Need-mul-if1
-mul-if1 c =
-    search needs
-
 returns : tie.Need-returns
 unfolding itemCount
 returns c =
@@ -27,10 +23,6 @@ returns-3 : tie.Need-returns-3
 unfolding itemCount
 returns-3 c =
     sym (too-many (c .before .before .before .before .args .table .now) (omega arith))
-
-every-item-requires : tie.Need-every-item-requires
-every-item-requires c κs =
-    search needs
 
 returns-4 : tie.Need-returns-4
 unfolding itemCount
@@ -54,11 +46,11 @@ pub is-layout-spec : {M : Type 1} → statement M
 is-layout-spec =
     tie.close
     (tie.spec
-    mul-if1
+    (λ c. search needs)  -- mul-if1
     returns
     returns-2
     returns-3
-    every-item-requires
+    (λ c κs. search needs)  -- every-item-requires
     returns-4
     begins-two-requires
     returns-5)

@@ -10,60 +10,28 @@ use Rattle.recipe.specs.Table.{itemCount, isLayout}
 use Rattle.recipe.specs.Layout.{layout}
 use Rattle.layout.specs.Places.{places-none}
 
-is-layout-requires : tie.Need-is-layout-requires
-is-layout-requires c κs =
-    search needs
-
-returns : tie.Need-returns
-returns c =
-    search needs
-
-fuel-fits-requires : tie.Need-fuel-fits-requires
-fuel-fits-requires c κs =
-    search needs
-
-returns-2 : tie.Need-returns-2
-returns-2 c =
-    search needs
-
 tables-fit-requires : tie.Need-tables-fit-requires
 unfolding itemCount
 tables-fit-requires c κs =
     let ws = c .before .before .before .before .before .args .table .now in let l : isLayout ws ≡ true = sym (c .before .before .before .is-layout .ensures) ∙ not-false (c .before .before .before .is-layout .result) (c .before .before .if1 .left) in
     (layout ws l .most, leb-true (c .before .before .before .before .before .args .fuel) fuelMost (sym (c .before .fuel-fits .ensures) ∙ not-false (c .before .fuel-fits .result) (c .if2 .left)))
 
-returns-3 : tie.Need-returns-3
-returns-3 c =
-    search needs
-
-slice-aggregate-operations : tie.Need-slice-aggregate-operations
-slice-aggregate-operations c =
-    search needs
-
 operations-requires : tie.Need-operations-requires
 operations-requires c κs =
     let ws = c .before .before .before .before .before .before .before .before .args .table .now in let l : isLayout ws ≡ true = sym (c .before .before .before .before .before .before .is-layout .ensures) ∙ not-false (c .before .before .before .before .before .before .is-layout .result) (c .before .before .before .before .before .if1 .left) in
     (l, refl, places-none)
 
-returns-4 : tie.Need-returns-4
-returns-4 c =
-    search needs
-
-returns-5 : tie.Need-returns-5
-returns-5 c =
-    search needs
-
 pub ground-spec : {M : Type 1} → statement M
 ground-spec =
     tie.close
     (tie.spec
-    is-layout-requires
-    returns
-    fuel-fits-requires
-    returns-2
+    (λ c κs. search needs)  -- is-layout-requires
+    (λ c. search needs)  -- returns
+    (λ c κs. search needs)  -- fuel-fits-requires
+    (λ c. search needs)  -- returns-2
     tables-fit-requires
-    returns-3
-    slice-aggregate-operations
+    (λ c. search needs)  -- returns-3
+    (λ c. search needs)  -- slice-aggregate-operations
     operations-requires
-    returns-4
-    returns-5)
+    (λ c. search needs)  -- returns-4
+    (λ c. search needs))  -- returns-5

@@ -5,7 +5,7 @@ use mathlib.Core.List.{List, [], _∷_, map}
 use Prim.Native.Nat.{ℕ, zero, suc, _≤_}
 use native.Mathlib.Omega.{arith}
 use lib.ListN.{length}
-use Rattle.words.specs.Lists.{any}
+use Rattle.words.specs.Lists.{anyOf}
 use Rattle.recipe.specs.Name.{variable, macro, Name, distinct}
 use Rattle.recipe.specs.Tree.{Tree, empty, pair, names, elements, element, bindAll}
 use Rattle.recipe.specs.TreeNames.{uses, uses-element, uses-bindAll}
@@ -115,7 +115,7 @@ module _ (ρ : Renaming) (p : ℕ) (limit : ℕ) (operations : List ℕ) (fuel g
     macros-body : (inside : Bool) (x : Name) → isAt p x ≡ false → (c : Bool) (ks : List Name) → ListRel (Still ρ β) ks ks → (rs : List Tree) → ListRel (TreeOf (Still ρ β)) rs rs
         → {l : List ℕ} {t t′ : Tree} → Headed p l t → uses p t ≤ 1 → Hole (Still ρ β) (ChosenRules ρ β) (place ρ p b l) t t′
         → (s : State) → Calm ρ p s → Meets ρ p (TermRel ρ) (macrosOf inside x c ks rs t s) (macrosOf inside x c ks rs t′ s)
-    unfolding macrosOf addMacros any isReachedAt isAt
+    unfolding macrosOf addMacros anyOf isReachedAt isAt
     macros-body inside x a c ks w rs q {l} {t} {t′} i u r s calm =
         let k = length (s .macros) in
         show-meets ρ p _ _ _ _ s s (ap (λ b. b || false) a) λ _.

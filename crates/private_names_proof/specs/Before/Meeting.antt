@@ -5,7 +5,7 @@ use mathlib.Core.Bool.{Bool, true, false, _||_, true≢false, false≢true}
 use mathlib.Core.List.{List, [], _∷_, _++_}
 use mathlib.Core.Option.{none}
 use Prim.Native.Nat.{ℕ, _≤_}
-use Rattle.words.specs.Lists.{any}
+use Rattle.words.specs.Lists.{anyOf}
 use Rattle.words.specs.TestLaws.{any-append}
 use Rattle.words.specs.Each.{each-left, each-right}
 use Rattle.recipe.specs.Name.{Name}
@@ -37,7 +37,7 @@ module _ (ρ : Renaming) (p : ℕ) where
 
   -- they agree where the first computation shows the form, and all that it shows is fine
   abbrev pub Meets : {A : Type 0} (R : A → A → Type 0) → Out A → Out A → Type 1
-  Meets R x y = any (isReachedAt p) (eventsOf x) ≡ true → AllFine ρ (eventsOf x) → Joins ρ R x y
+  Meets R x y = anyOf (isReachedAt p) (eventsOf x) ≡ true → AllFine ρ (eventsOf x) → Joins ρ R x y
 
   -- a computation that does not show it
   pub never : {A : Type 0} {R : A → A → Type 0} {x y : Out A} → Unreached p x → Meets R x y
@@ -55,21 +55,21 @@ module _ (ρ : Renaming) (p : ℕ) where
   after-joins l l′ j = record { raw = j .raw; outcomes = after-rel ρ (j .raw) 0 l l′ (j .outcomes) }
 
   -- what is shown first does not show the form
-  after-meets : {A : Type 0} {R : A → A → Type 0} (l l′ : Events) (x y : Out A) → any (isReachedAt p) l ≡ false → (AllFine ρ l → Meets R x y) → Meets R (after l x) (after l′ y)
+  after-meets : {A : Type 0} {R : A → A → Type 0} (l l′ : Events) (x y : Out A) → anyOf (isReachedAt p) l ≡ false → (AllFine ρ l → Meets R x y) → Meets R (after l x) (after l′ y)
   after-meets l l′ x y n h e fine =
       let f : AllFine ρ (l ++ eventsOf x) = subst (AllFine ρ) (events-after l x) fine in
-      let d = sym (any-append (isReachedAt p) l (eventsOf x)) ∙ ap (any (isReachedAt p)) (sym (events-after l x)) ∙ e in
-      after-joins l l′ (h (each-left l (eventsOf x) f) (or-right (any (isReachedAt p) l) (any (isReachedAt p) (eventsOf x)) d n) (each-right l (eventsOf x) f))
+      let d = sym (any-append (isReachedAt p) l (eventsOf x)) ∙ ap (anyOf (isReachedAt p)) (sym (events-after l x)) ∙ e in
+      after-joins l l′ (h (each-left l (eventsOf x) f) (or-right (anyOf (isReachedAt p) l) (anyOf (isReachedAt p) (eventsOf x)) d n) (each-right l (eventsOf x) f))
 
   done-rel : {A : Type 0} {R : A → A → Type 0} (raw : Raw ρ) {a b : A} {u v : State} {l k : Events} → OutRel ρ raw 0 R (done a u l) (done b v k) → R a b × StateRel ρ raw 0 u v
   done-rel raw (dones r q) = (r, q)
 
   module _ {A B : Type 0} where
-    shown-first : (f : A → M B) (x : Out A) → ((a : A) (u : State) → Unreached p (f a u)) → any (isReachedAt p) (eventsOf (goOn f x)) ≡ true → any (isReachedAt p) (eventsOf x) ≡ true
+    shown-first : (f : A → M B) (x : Out A) → ((a : A) (u : State) → Unreached p (f a u)) → anyOf (isReachedAt p) (eventsOf (goOn f x)) ≡ true → anyOf (isReachedAt p) (eventsOf x) ≡ true
     unfolding goOn eventsOf
     shown-first f (done a u l) n e =
-        or-left (any (isReachedAt p) l) (any (isReachedAt p) (eventsOf (f a u)))
-        (sym (any-append (isReachedAt p) l (eventsOf (f a u))) ∙ ap (any (isReachedAt p)) (sym (events-after l (f a u))) ∙ e) (none-reached p (n a u))
+        or-left (anyOf (isReachedAt p) l) (anyOf (isReachedAt p) (eventsOf (f a u)))
+        (sym (any-append (isReachedAt p) l (eventsOf (f a u))) ∙ ap (anyOf (isReachedAt p)) (sym (events-after l (f a u))) ∙ e) (none-reached p (n a u))
     shown-first f (refused i u l) n e = e
     shown-first f (starved l) n e = e
 
@@ -96,22 +96,22 @@ module _ (ρ : Renaming) (p : ℕ) where
 
   module _ {A : Type 0} {P : A → A → Type 0} where
     pub test-meets : (g : ℕ) (b c : Bool) (f h : M A) (s s′ : State) → b ≡ c → (b ≡ true → Meets P (f s) (h s′)) → Meets P ((_>>_ (test g b) f) s) ((_>>_ (test g c) h) s′)
-    unfolding _>>_ test goOn eventsOf any
+    unfolding _>>_ test goOn eventsOf anyOf
     test-meets g true true f h s s′ e k = after-meets [] [] (f s) (h s′) refl (λ _. k refl)
     test-meets g true false f h s s′ e k = absurd (true≢false e)
     test-meets g false true f h s s′ e k = absurd (false≢true e)
     test-meets g false false f h s s′ e k = λ d fine. absurd (false≢true d)
 
-    pub show-meets : (l l′ : Events) (f h : M A) (s s′ : State) → any (isReachedAt p) l ≡ false → (AllFine ρ l → Meets P (f s) (h s′)) → Meets P ((_>>_ (show l) f) s) ((_>>_ (show l′) h) s′)
+    pub show-meets : (l l′ : Events) (f h : M A) (s s′ : State) → anyOf (isReachedAt p) l ≡ false → (AllFine ρ l → Meets P (f s) (h s′)) → Meets P ((_>>_ (show l) f) s) ((_>>_ (show l′) h) s′)
     unfolding _>>_ show goOn
     show-meets l l′ f h s s′ n k = after-meets l l′ (f s) (h s′) n k
 
     pub goes-meets : (m m′ : M (Unit {0})) (f h : M A) (s s′ u v : State) → m s ≡ done tt u [] → m′ s′ ≡ done tt v [] → Meets P (f u) (h v) → Meets P ((_>>_ m f) s) ((_>>_ m′ h) s′)
-    unfolding _>>_ goOn any
+    unfolding _>>_ goOn anyOf
     goes-meets m m′ f h s s′ u v e e′ k = rw (e, e′) (after-meets [] [] (f u) (h v) refl (λ _. k))
 
     pub get-meets : (f h : State → M A) (s s′ : State) → Meets P (f s s) (h s′ s′) → Meets P ((_>>=_ get f) s) ((_>>=_ get h) s′)
-    unfolding _>>=_ get goOn any
+    unfolding _>>=_ get goOn anyOf
     get-meets f h s s′ k = after-meets [] [] (f s s) (h s′ s′) refl (λ _. k)
 
   -- ---- expansion that goes ahead: the place of the form's rules form, in a tree that has the form at l, is its entry b's

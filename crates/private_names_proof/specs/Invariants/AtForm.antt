@@ -9,7 +9,7 @@ use Prim.Native.Nat.{ℕ, suc, _+_, _≤_}
 use native.Mathlib.Omega.{arith}
 use borrow.Author.Tests.{eqb-true, eq-eqb}
 use lib.Dec.{eqb}
-use Rattle.words.specs.Lists.{any}
+use Rattle.words.specs.Lists.{anyOf}
 use Rattle.words.specs.TestLaws.{iff-eq}
 use Rattle.words.specs.Each.{Each, noneOf, also, each-map, Given, missing, given, given-any, given-weaken, given-guard, given-mapBoth, given-traverse}
 use Rattle.datum.specs.Constant.{Constant}
@@ -196,7 +196,7 @@ rulesIn b t = element 1 (element b (element 1 t))
 
 -- an item of name n in the template of rule j of macro b
 unfoldable pub privateIn : (b j n : ℕ) → Tree → ℕ → Bool
-privateIn b j n t i = any (isOld n i) (names (templateIn j (rulesIn b t)))
+privateIn b j n t i = anyOf (isOld n i) (names (templateIn j (rulesIn b t)))
 
 module _ (C : Constant → Type 0) (N : ℕ → ℕ) (t : Tree) (p : InPlace C N t) (b j n : ℕ) where
   abbrev private : ℕ → Bool
@@ -217,7 +217,7 @@ module _ (C : Constant → Type 0) (N : ℕ → ℕ) (t : Tree) (p : InPlace C N
   unfolding privateIn
   chosen-numbered = treeAll-map go (treeAll-both (template-all b j (p .unmarked)) (treeAll-both (template-all b j (p .numbered)) (old-each n (template b j))))
     where
-      go : (x : Name) → (x .marks ≡ []) × ((x .number ≡ N (x .item)) × (eqb (x .number) n ≡ true → any (isOld n (x .item)) (names (template b j)) ≡ true)) → Numbered private n x
+      go : (x : Name) → (x .marks ≡ []) × ((x .number ≡ N (x .item)) × (eqb (x .number) n ≡ true → anyOf (isOld n (x .item)) (names (template b j)) ≡ true)) → Numbered private n x
       go x (m, (e, f)) = (iff-eq (private (x .item)) (eqb (x .number) n) (λ d. eq-eqb (x .number) n (e ∙ old-number n N (x .item) (template-all b j (p .numbered)) d)) f, m)
 
   public : (u : Tree) → TreeAll (λ x. x .marks ≡ []) u → ((q : ℕ) → uses q u + uses q (template b j) ≤ 1) → TreeAll (Public private) u

@@ -7,7 +7,7 @@ use Prim.Native.Nat.{ℕ}
 use native.Mathlib.Omega.{arith}
 use borrow.Author.Tests.{eqb-true, eq-eqb, le-leb}
 use lib.Dec.{eqb}
-use Rattle.words.specs.Lists.{all, equal}
+use Rattle.words.specs.Lists.{allOf, equal}
 use Rattle.words.specs.ListLaws.{equal-true}
 use Rattle.words.specs.TestLaws.{and-parts, and-both}
 use Rattle.words.specs.Each.{Each, each-weaken, true-each}
@@ -60,7 +60,7 @@ item-carried private = record {
 
 -- ---- the tests follow
 
-pairs-true : {Q : Name → Type 0} (f : Name → Name → Bool) → ((x y : Name) → Q x → Q y → f x y ≡ true) → {xs : List Name} → Each Q xs → all (λ x. all (f x) xs) xs ≡ true
+pairs-true : {Q : Name → Type 0} (f : Name → Name → Bool) → ((x y : Name) → Q x → Q y → f x y ≡ true) → {xs : List Name} → Each Q xs → allOf (λ x. allOf (f x) xs) xs ≡ true
 pairs-true f h a = true-each _ (each-weaken (λ x p. true-each _ (each-weaken (λ y q. h x y p q) a)) a)
 
 implies : (a b : Bool) → (a ≡ true → b ≡ true) → (not a || b) ≡ true

@@ -4,7 +4,7 @@ use mathlib.Core.Bool.{Bool, true, false, _||_}
 use mathlib.Core.List.{List, [], _∷_}
 use Prim.Native.Nat.{ℕ, suc, _≤_}
 use native.Mathlib.Omega.{arith}
-use Rattle.words.specs.Lists.{any}
+use Rattle.words.specs.Lists.{anyOf}
 use Rattle.words.specs.TestLaws.{any-append}
 use Rattle.recipe.specs.Name.{Binding, Name, bindName}
 use Rattle.recipe.specs.Tree.{Tree, empty, constant, name, pair, names, elements, element, onNames, bind, bindAll}
@@ -21,14 +21,14 @@ use Rattle.private_names_proof.specs.Invariants.AtForm.{treeAll-onNames,
 
 -- ---- the private items are carried along
 
-old-onNames : (n q : ℕ) (f : Name → Name) → ((x : Name) → f x .number ≡ x .number) → ((x : Name) → f x .item ≡ x .item) → (t : Tree) → any (isOld n q) (names (onNames f t)) ≡ any (isOld n q) (names t)
-unfolding any names onNames isOld
+old-onNames : (n q : ℕ) (f : Name → Name) → ((x : Name) → f x .number ≡ x .number) → ((x : Name) → f x .item ≡ x .item) → (t : Tree) → anyOf (isOld n q) (names (onNames f t)) ≡ anyOf (isOld n q) (names t)
+unfolding anyOf names onNames isOld
 old-onNames n q f e g empty = refl
 old-onNames n q f e g (constant a) = refl
 old-onNames n q f e g (name x) = rw (e x, g x)
 old-onNames n q f e g (pair h t) =
     any-append (isOld n q) (names (onNames f h)) (names (onNames f t))
-    ∙ ap (λ a. a || any (isOld n q) (names (onNames f t))) (old-onNames n q f e g h) ∙ ap (λ a. any (isOld n q) (names h) || a) (old-onNames n q f e g t)
+    ∙ ap (λ a. a || anyOf (isOld n q) (names (onNames f t))) (old-onNames n q f e g h) ∙ ap (λ a. anyOf (isOld n q) (names h) || a) (old-onNames n q f e g t)
     ∙ sym (any-append (isOld n q) (names h) (names t))
 
 sub-onNames : (f : Name → Name) (l : List ℕ) (t : Tree) → sub l (onNames f t) ≡ onNames f (sub l t)
@@ -45,9 +45,9 @@ private-onNames : (b j n q : ℕ) (l : List ℕ) (f : Name → Name) → ((x : N
     → privateIn b j n (sub l (onNames f t)) q ≡ privateIn b j n (sub l t) q
 unfolding privateIn
 private-onNames b j n q l f e g t =
-    ap (λ z. any (isOld n q) (names (templateIn j (rulesIn b z)))) (sub-onNames f l t)
-    ∙ ap (λ z. any (isOld n q) (names (templateIn j z))) (rulesIn-onNames f b (sub l t))
-    ∙ ap (λ z. any (isOld n q) (names z)) (templateIn-onNames f j (rulesIn b (sub l t)))
+    ap (λ z. anyOf (isOld n q) (names (templateIn j (rulesIn b z)))) (sub-onNames f l t)
+    ∙ ap (λ z. anyOf (isOld n q) (names (templateIn j z))) (rulesIn-onNames f b (sub l t))
+    ∙ ap (λ z. anyOf (isOld n q) (names z)) (templateIn-onNames f j (rulesIn b (sub l t)))
     ∙ old-onNames n q f e g (templateIn j (rulesIn b (sub l t)))
 
 -- ---- in place

@@ -6,7 +6,7 @@ use mathlib.Core.List.{List, [], _∷_, _++_, map}
 use Prim.Native.Nat.{ℕ, zero, suc, _+_, _≤_}
 use native.Mathlib.Omega.{arith}
 use lib.ListN.{length}
-use Rattle.words.specs.Lists.{any}
+use Rattle.words.specs.Lists.{anyOf}
 use Rattle.words.specs.TestLaws.{any-append}
 use Rattle.words.specs.Each.{Each, each-map, each-append, Given}
 use Rattle.recipe.specs.Name.{variable, macro, Name}
@@ -42,30 +42,30 @@ module _ (private : ℕ → Bool) (p : ℕ) where
   Calm s = After (isPrivateName private) (Copied private) IsConstant 0 s
 
   abbrev pub Meets : {A : Type 0} → Out A → Out A → Type 0
-  Meets o q = any (isReachedAt p) (eventsOf q) ≡ true → Passed o
+  Meets o q = anyOf (isReachedAt p) (eventsOf q) ≡ true → Passed o
 
   module _ {A : Type 0} where
     never : {o q : Out A} → Unreached p q → Meets o q
     never u e = absurd (false≢true (sym (none-reached p u) ∙ e))
 
-    reached-later : (l : Events) (o : Out A) → any (isReachedAt p) l ≡ false → any (isReachedAt p) (eventsOf (after l o)) ≡ true → any (isReachedAt p) (eventsOf o) ≡ true
-    reached-later l o f e = subst (λ b. (b || any (isReachedAt p) (eventsOf o)) ≡ true) f (sym (ap (any (isReachedAt p)) (events-after l o) ∙ any-append (isReachedAt p) l (eventsOf o)) ∙ e)
+    reached-later : (l : Events) (o : Out A) → anyOf (isReachedAt p) l ≡ false → anyOf (isReachedAt p) (eventsOf (after l o)) ≡ true → anyOf (isReachedAt p) (eventsOf o) ≡ true
+    reached-later l o f e = subst (λ b. (b || anyOf (isReachedAt p) (eventsOf o)) ≡ true) f (sym (ap (anyOf (isReachedAt p)) (events-after l o) ∙ any-append (isReachedAt p) l (eventsOf o)) ∙ e)
 
-    show-meets : (l : Events) (m n : M A) (s : State) → any (isReachedAt p) l ≡ false → Meets (m s) (n s) → Meets ((_>>_ (show l) m) s) ((_>>_ (show l) n) s)
+    show-meets : (l : Events) (m n : M A) (s : State) → anyOf (isReachedAt p) l ≡ false → Meets (m s) (n s) → Meets ((_>>_ (show l) m) s) ((_>>_ (show l) n) s)
     unfolding _>>_ goOn show
     show-meets l m n s f k e = after-holds l (m s) (k (reached-later l (n s) f e))
 
     test-meets : (g : ℕ) (b : Bool) (m n : M A) (s : State) → 11 ≤ g → Meets (m s) (n s) → Meets ((_>>_ (test g b) m) s) ((_>>_ (test g b) n) s)
-    unfolding _>>_ goOn test any
+    unfolding _>>_ goOn test anyOf
     test-meets g true m n s r k e = after-holds [] (m s) (k (reached-later [] (n s) refl e))
     test-meets g false m n s r k e = isRefused r
 
     get-meets : (m n : State → M A) (s : State) → Meets (m s s) (n s s) → Meets ((_>>=_ get m) s) ((_>>=_ get n) s)
-    unfolding _>>=_ goOn get any
+    unfolding _>>=_ goOn get anyOf
     get-meets m n s k e = after-holds [] (m s s) (k (reached-later [] (n s s) refl e))
 
     goes-meets : (o : M (Unit {0})) (m n : M A) (s t : State) → o s ≡ done tt t [] → Meets (m t) (n t) → Meets ((_>>_ o m) s) ((_>>_ o n) s)
-    unfolding _>>_ goOn any
+    unfolding _>>_ goOn anyOf
     goes-meets o m n s t e k = rw e (λ h. after-holds [] (m t) (k (reached-later [] (n t) refl h)))
 
   module _ {A B : Type 0} where
@@ -89,8 +89,8 @@ module _ (private : ℕ → Bool) (p : ℕ) where
         or-first true b e f = refl
         or-first false b e f = sym e ∙ f
 
-        first : (o : Out A) → any (isReachedAt p) (eventsOf (goOn g o)) ≡ true → any (isReachedAt p) (eventsOf o) ≡ true
-        first (done a t l) e = or-first (any (isReachedAt p) l) _ (none-reached p (u a t)) (sym (ap (any (isReachedAt p)) (events-after l (g a t)) ∙ any-append (isReachedAt p) l (eventsOf (g a t))) ∙ e)
+        first : (o : Out A) → anyOf (isReachedAt p) (eventsOf (goOn g o)) ≡ true → anyOf (isReachedAt p) (eventsOf o) ≡ true
+        first (done a t l) e = or-first (anyOf (isReachedAt p) l) _ (none-reached p (u a t)) (sym (ap (anyOf (isReachedAt p)) (events-after l (g a t)) ∙ any-append (isReachedAt p) l (eventsOf (g a t))) ∙ e)
         first (refused d t l) e = e
         first (starved l) e = e
 
@@ -210,7 +210,7 @@ module _ (N : ℕ → ℕ) (p b j n : ℕ) (private : ℕ → Bool) (c : Carried
     -- another let-syntax or letrec-syntax, with the form in its body
     macros-body : (inside : Bool) (x : Name) → isAt p x ≡ false → {l : List ℕ} {t : Tree} → At (2 ∷ l) t → (s : State) → Calm private p s
         → Meets private p (expandMacros limit operations fuel rec inside x t s) (expandMacros limit operations fuel def inside x t s)
-    unfolding expandMacros addMacros any isReachedAt isAt rulesForms
+    unfolding expandMacros addMacros anyOf isReachedAt isAt rulesForms
     macros-body inside x a {l} {t} i s calm =
         let k = length (s .macros) in
         let off = place-other N p b j n private 2 l t i 1 (λ e. omega arith) in
@@ -285,14 +285,14 @@ module _ (N : ℕ → ℕ) (p b j n : ℕ) (private : ℕ → Bool) (c : Carried
 
     later-meets : (h : Tree) {k : ℕ} {l : List ℕ} {t : Tree} → At (suc k ∷ l) (pair h t) → Off h × At (k ∷ l) t → (s : State) → Calm private p s
         → Meets private p (expandPair limit operations fuel rec h t s) (expandPair limit operations fuel def h t s)
-    unfolding expandPair any isReachedAt
+    unfolding expandPair anyOf isReachedAt
     later-meets empty i a s calm = application-later a s calm
     later-meets (constant d) i a s calm = application-later a s calm
     later-meets (name x) i a s calm = show-meets private p _ _ _ s refl (list-meets (lookup operations x) x (unused-name p x (a .0 .unused)) i (a .1) s calm)
     later-meets (pair g h) i a s calm = application-later a s calm
 
     tree-meets : {l : List ℕ} {t : Tree} → Headed p l t → At l t → (s : State) → Calm private p s → Meets private p (expandTree limit operations fuel rec t s) (expandTree limit operations fuel def t s)
-    unfolding expandTree expandPair any isReachedAt uses
+    unfolding expandTree expandPair anyOf isReachedAt uses
     tree-meets (headed {x = x} {t = t} e) i s calm = show-meets private p _ _ _ s refl (list-here (lookup operations x) x (omega (arith, headed-one p x e, i .in-place .once p)) i s calm)
     tree-meets (in-first {l = l} {h = h} {t = t} g) i s calm =
         subst₂ (λ m d. Meets private p (m s) (d s)) (sym (pair-list rec g t)) (sym (pair-list def g t)) (application-first (place-first N p b j n private l h t g i) s calm)

@@ -6,7 +6,7 @@ use Prim.Native.Nat.{ℕ, _+_, _≤_}
 use native.Mathlib.Omega.{arith}
 use borrow.Author.Tests.{eqb-true, eq-eqb}
 use lib.Dec.{eqb}
-use Rattle.words.specs.Lists.{any}
+use Rattle.words.specs.Lists.{anyOf}
 use Rattle.words.specs.TestLaws.{or-left, or-right, any-append}
 use Rattle.recipe.specs.Name.{Name, isEllipsis}
 use Rattle.recipe.specs.Tree.{Tree, empty, constant, name, pair, names}
@@ -19,8 +19,8 @@ module _ (o : ℕ) where
   isOld i x = eqb (x .number) o && eqb (x .item) i
 
   -- it is one of the tree's names
-  pub old-uses : (i : ℕ) (t : Tree) → any (isOld i) (names t) ≡ true → 1 ≤ uses i t
-  unfolding any names isOld uses
+  pub old-uses : (i : ℕ) (t : Tree) → anyOf (isOld i) (names t) ≡ true → 1 ≤ uses i t
+  unfolding anyOf names isOld uses
   old-uses i empty e = absurd (false≢true e)
   old-uses i (constant a) e = absurd (false≢true e)
   old-uses i (name x) e = go (eqb (x .number) o) (eqb (x .item) i) e
@@ -29,15 +29,15 @@ module _ (o : ℕ) where
       go a true e = omega arith
       go true false e = absurd (false≢true e)
       go false false e = absurd (false≢true e)
-  old-uses i (pair h t) e = go (any (isOld i) (names h)) (any (isOld i) (names t)) (sym (any-append (isOld i) (names h) (names t)) ∙ e) (old-uses i h) (old-uses i t)
+  old-uses i (pair h t) e = go (anyOf (isOld i) (names h)) (anyOf (isOld i) (names t)) (sym (any-append (isOld i) (names h) (names t)) ∙ e) (old-uses i h) (old-uses i t)
     where
       go : (a b : Bool) → (a || b) ≡ true → (a ≡ true → 1 ≤ uses i h) → (b ≡ true → 1 ≤ uses i t) → 1 ≤ uses i h + uses i t
       go true b e f g = omega (arith, f refl)
       go false b e f g = omega (arith, g e)
 
   -- where numbers go by items, its item's number is the old one
-  pub old-number : (N : ℕ → ℕ) (i : ℕ) {t : Tree} → TreeAll (λ x. x .number ≡ N (x .item)) t → any (isOld i) (names t) ≡ true → N i ≡ o
-  unfolding any names isOld
+  pub old-number : (N : ℕ → ℕ) (i : ℕ) {t : Tree} → TreeAll (λ x. x .number ≡ N (x .item)) t → anyOf (isOld i) (names t) ≡ true → N i ≡ o
+  unfolding anyOf names isOld
   old-number N i all-empty e = absurd (false≢true e)
   old-number N i all-constant e = absurd (false≢true e)
   old-number N i (all-name {x = x} p) e = go (eqb (x .number) o) (eqb (x .item) i) refl refl e
@@ -46,42 +46,42 @@ module _ (o : ℕ) where
       go true true d f e = ap N (sym (eqb-true (x .item) i f)) ∙ sym p ∙ eqb-true (x .number) o d
       go true false d f e = absurd (false≢true e)
       go false b d f e = absurd (false≢true e)
-  old-number N i (all-pair {h = h} {t = t} p q) e = go (any (isOld i) (names h)) (any (isOld i) (names t)) (sym (any-append (isOld i) (names h) (names t)) ∙ e) (old-number N i p) (old-number N i q)
+  old-number N i (all-pair {h = h} {t = t} p q) e = go (anyOf (isOld i) (names h)) (anyOf (isOld i) (names t)) (sym (any-append (isOld i) (names h) (names t)) ∙ e) (old-number N i p) (old-number N i q)
     where
       go : (a b : Bool) → (a || b) ≡ true → (a ≡ true → N i ≡ o) → (b ≡ true → N i ≡ o) → N i ≡ o
       go true b e f g = f refl
       go false b e f g = g e
 
   -- each name of the old number is one
-  pub old-each : (t : Tree) → TreeAll (λ x. eqb (x .number) o ≡ true → any (isOld (x .item)) (names t) ≡ true) t
-  unfolding names isOld any
+  pub old-each : (t : Tree) → TreeAll (λ x. eqb (x .number) o ≡ true → anyOf (isOld (x .item)) (names t) ≡ true) t
+  unfolding names isOld anyOf
   old-each empty = all-empty
   old-each (constant a) = all-constant
   old-each (name x) = all-name (λ e. ap₂ (λ a b. (a && b) || false) e (eq-eqb (x .item) (x .item) refl))
   old-each (pair h t) = all-pair
       (treeAll-map (λ x f e. any-append (isOld (x .item)) (names h) (names t) ∙ or-left _ _ (f e)) (old-each h))
-      (treeAll-map (λ x f e. any-append (isOld (x .item)) (names h) (names t) ∙ or-right (any (isOld (x .item)) (names h)) _ (f e)) (old-each t))
+      (treeAll-map (λ x f e. any-append (isOld (x .item)) (names h) (names t) ∙ or-right (anyOf (isOld (x .item)) (names h)) _ (f e)) (old-each t))
 
   -- there is one, where a name has the old number
-  pub old-some : (xs : List Name) → any (λ x. eqb (x .number) o) xs ≡ true → (i : ℕ) × (any (isOld i) xs ≡ true)
-  unfolding any isOld
+  pub old-some : (xs : List Name) → anyOf (λ x. eqb (x .number) o) xs ≡ true → (i : ℕ) × (anyOf (isOld i) xs ≡ true)
+  unfolding anyOf isOld
   old-some [] e = absurd (false≢true e)
   old-some (x ∷ xs) e = go (eqb (x .number) o) refl e (old-some xs)
     where
-      go : (b : Bool) → eqb (x .number) o ≡ b → (b || any (λ x. eqb (x .number) o) xs) ≡ true → (any (λ x. eqb (x .number) o) xs ≡ true → (i : ℕ) × (any (isOld i) xs ≡ true))
-          → (i : ℕ) × (any (isOld i) (x ∷ xs) ≡ true)
-      go true d e h = (x .item, or-left (isOld (x .item) x) (any (isOld (x .item)) xs) (ap₂ _&&_ d (eq-eqb (x .item) (x .item) refl)))
-      go false d e h = let w = h e in (w .0, or-right (isOld (w .0) x) (any (isOld (w .0)) xs) (w .1))
+      go : (b : Bool) → eqb (x .number) o ≡ b → (b || anyOf (λ x. eqb (x .number) o) xs) ≡ true → (anyOf (λ x. eqb (x .number) o) xs ≡ true → (i : ℕ) × (anyOf (isOld i) xs ≡ true))
+          → (i : ℕ) × (anyOf (isOld i) (x ∷ xs) ≡ true)
+      go true d e h = (x .item, or-left (isOld (x .item) x) (anyOf (isOld (x .item)) xs) (ap₂ _&&_ d (eq-eqb (x .item) (x .item) refl)))
+      go false d e h = let w = h e in (w .0, or-right (isOld (w .0) x) (anyOf (isOld (w .0)) xs) (w .1))
 
 -- ---- no variable has a number that no name has
 
-pub variables-none : (literals : List Name) (n d : ℕ) {t : Tree} → TreeAll (λ x. eqb (x .number) n ≡ false) t → any (λ v. eqb (v .0 .number) n) (variables isEllipsis literals d t) ≡ false
-unfolding variables any
+pub variables-none : (literals : List Name) (n d : ℕ) {t : Tree} → TreeAll (λ x. eqb (x .number) n ≡ false) t → anyOf (λ v. eqb (v .0 .number) n) (variables isEllipsis literals d t) ≡ false
+unfolding variables anyOf
 variables-none literals n d all-empty = refl
 variables-none literals n d all-constant = refl
 variables-none literals n d (all-name {x = x} e) = go (isVariable isEllipsis literals x)
   where
-    go : (b : Bool) → any (λ (v : Name × ℕ). eqb (v .0 .number) n) (cond b ((x, d) ∷ []) []) ≡ false
+    go : (b : Bool) → anyOf (λ (v : Name × ℕ). eqb (v .0 .number) n) (cond b ((x, d) ∷ []) []) ≡ false
     go true = ap (λ c. c || false) e
     go false = refl
 variables-none literals n d (all-pair {h = h} {t = t} p q) =

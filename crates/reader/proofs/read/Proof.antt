@@ -23,42 +23,6 @@ returns-3 c =
     let if1 = c .before .before .if1 in
     served-long (args .text .now) (args .items .now) (args .names .now) (if1 .left) (c .before .if2 .left) (c .if3 .taken)
 
-slice-aggregate-begin : tie.Need-slice-aggregate-begin
-slice-aggregate-begin c =
-    search needs
-
-begin-requires : tie.Need-begin-requires
-begin-requires c κs =
-    search needs
-
-slice-aggregate-read-text : tie.Need-slice-aggregate-read-text
-slice-aggregate-read-text c =
-    search needs
-
-read-text-requires : tie.Need-read-text-requires
-read-text-requires c κs =
-    search needs
-
-enum-known-i : tie.Need-enum-known-i
-enum-known-i c =
-    search needs
-
-enum-known-ground : tie.Need-enum-known-ground
-enum-known-ground c =
-    search needs
-
-clear-requires : tie.Need-clear-requires
-clear-requires c κs =
-    search needs
-
-same-length : tie.Need-same-length
-same-length c =
-    search needs
-
-same-length-2 : tie.Need-same-length-2
-same-length-2 c =
-    search needs
-
 returns-4 : tie.Need-returns-4
 returns-4 c =
     let args = c .before .before .before .before .before .before .before .before .before .before .before .before .before .before .before .before .before .before .before .before .before .before .before .before .before .before .before .args in
@@ -72,14 +36,6 @@ returns-4 c =
     (read-text .last .1 .0) (read-text .last .1 .1 .0) (i .given .0 .0) (i .given .0 .1 .0)
     (subst (Ended (args .text .now) (read-text .last .1 .0) (read-text .last .1 .1 .0)) (i .given .1) (read-text .ensures))
     (read-text .kept .1 .0 ∙ begin .kept .0) (read-text .kept .1 .1 .0 ∙ begin .kept .1 .0)
-
-same-length-3 : tie.Need-same-length-3
-same-length-3 c =
-    search needs
-
-same-length-4 : tie.Need-same-length-4
-same-length-4 c =
-    search needs
 
 returns-5 : tie.Need-returns-5
 returns-5 c =
@@ -104,16 +60,16 @@ read-spec =
     returns
     returns-2
     returns-3
-    slice-aggregate-begin
-    begin-requires
-    slice-aggregate-read-text
-    read-text-requires
-    enum-known-i
-    enum-known-ground
-    clear-requires
-    same-length
-    same-length-2
+    (λ c. search needs)  -- slice-aggregate-begin
+    (λ c κs. search needs)  -- begin-requires
+    (λ c. search needs)  -- slice-aggregate-read-text
+    (λ c κs. search needs)  -- read-text-requires
+    (λ c. search needs)  -- enum-known-i
+    (λ c. search needs)  -- enum-known-ground
+    (λ c κs. search needs)  -- clear-requires
+    (λ c. search needs)  -- same-length
+    (λ c. search needs)  -- same-length-2
     returns-4
-    same-length-3
-    same-length-4
+    (λ c. search needs)  -- same-length-3
+    (λ c. search needs)  -- same-length-4
     returns-5)

@@ -37,10 +37,6 @@ advance-requires c κs =
       ),
     )
 
-enum-known-p : tie.Need-enum-known-p Inv-loop μ-loop
-enum-known-p c =
-    search needs
-
 loop-less : tie.Need-loop-less Inv-loop μ-loop
 loop-less c =
     let args = c .before .before .before .before .before .before .before .before .before .before .before .before .before .before .before .before .before .before .args in
@@ -64,10 +60,6 @@ loop-again c =
           (loop .items) (loop .names) (loop .index) (loop .place) (loop .cursor) (loop .inv .3) (advance .last .1 .1 .1 .0)
           (advance .last .1 .1 .1 .1 .0) (advance .last .1 .1 .1 .1 .1 .0) (advance .result) (advance .ensures) (p .given .0 .0) (p .given .0 .1 .0) (p .given .1),
     )
-
-enum-known-i : tie.Need-enum-known-i Inv-loop μ-loop
-enum-known-i c =
-    search needs
 
 same-length : tie.Need-same-length Inv-loop μ-loop
 same-length c =
@@ -96,10 +88,6 @@ returns c =
     reached-done (args .text .now) (loop .items) (loop .names) (loop .index) (loop .place) (loop .cursor) (loop .inv .3)
     (advance .last .1 .1 .1 .0) (advance .last .1 .1 .1 .1 .0) (advance .last .1 .1 .1 .1 .1 .0) (advance .result) (advance .ensures) (i .given .0 .0)
     (i .given .0 .1 .0) (i .given .1)
-
-enum-known-ground : tie.Need-enum-known-ground Inv-loop μ-loop
-enum-known-ground c =
-    search needs
 
 same-length-4 : tie.Need-same-length-4 Inv-loop μ-loop
 same-length-4 c =
@@ -137,15 +125,15 @@ read-text-spec =
     μ-loop
     loop-holds
     advance-requires
-    enum-known-p
+    (λ c. search needs)  -- enum-known-p
     loop-less
     loop-again
-    enum-known-i
+    (λ c. search needs)  -- enum-known-i
     same-length
     same-length-2
     same-length-3
     returns
-    enum-known-ground
+    (λ c. search needs)  -- enum-known-ground
     same-length-4
     same-length-5
     same-length-6

@@ -6,7 +6,7 @@ use Prim.Native.Nat.{ℕ, suc, _+_, _*_, _-_, _≤_, _<_}
 use lib.Dec.{eqb, leb}
 use lib.ListN.{length, set}
 use Rattle.words.specs.Limits.{itemWordsLeast, nameBytesLeast, elementsMost, namesMost, openListsMost, nameLengthMost}
-use Rattle.words.specs.Lists.{all}
+use Rattle.words.specs.Lists.{allOf}
 use Rattle.datum.specs.Datum.{Datum, datumItems}
 use Rattle.datum.specs.NameTable.{slots, lengthAt}
 use Rattle.datum.specs.NameTableLaws.{isShort}
@@ -73,7 +73,7 @@ pub record Holds (r : Reading) (p : Place) (words bytes : List ℕ) : Type 0 whe
   pub known : p .known ≡ length (r .known)
   pub even : nextItem r + length (r .around) ≡ 2 * r .count
   pub within : Within r
-  pub short : all isShort (r .known) ≡ true
+  pub short : allOf isShort (r .known) ≡ true
   pub items : words ≡ filled (placed r) words
   pub names : bytes ≡ filled (slots (r .known)) bytes
   pub enoughItems : itemWordsLeast ≤ length words
@@ -131,7 +131,7 @@ withToken r d names = record {
 abbrev pub TokenPut : Place → ℕ → ℕ → ℕ → List ℕ → List ℕ → Step → Type 0
 TokenPut p kind value known words words′ s =
     (r : Reading) (d : Datum) (names : List (List ℕ)) (bytes table : List ℕ) → Holds r p words bytes → IsToken d kind value
-    → known ≡ length names → all isShort names ≡ true → table ≡ filled (slots names) table → nameBytesLeast ≤ length table
+    → known ≡ length names → allOf isShort names ≡ true → table ≡ filled (slots names) table → nameBytesLeast ≤ length table
     → Stepped (begin r (withToken r d names)) words′ table s
 
 -- a list begins

@@ -6,7 +6,7 @@ use native.Mathlib.Omega.{arith}
 use lib.ListN.{length, replicate}
 use borrow.Author.Tests.{lt-ltb, le-ltb, lt-leb}
 use Rattle.words.specs.Limits.{itemWordsLeast, nameBytesLeast, textBytesMost}
-use Rattle.words.specs.Lists.{all}
+use Rattle.words.specs.Lists.{allOf}
 use Rattle.datum.specs.NameTable.{slots}
 use Rattle.reader.specs.declared.Reading.{Reading}
 use Rattle.reader.specs.declared.Reading.the-variants.{Read, Refused}
@@ -165,7 +165,7 @@ zeroed t u l e = e ∙ rw l
 -- and hold no name
 pub zeroed-names : (t u index : List ℕ) → nameBytesLeast ≤ length t → length u ≡ length t → u ≡ replicate (length t) 0
     → index ≡ replicate indexSize 0 → NameTable [] u index
-unfolding all slots filled
+unfolding allOf slots filled
 zeroed-names t u index h l e z =
     let m : length u - 0 ≡ length t = omega arith in
     record { short = refl; bytes = e ∙ rw m; room = omega arith; indexed = indexed-none index z }

@@ -8,7 +8,7 @@ use lib.Dec.{eqb, leb, eqb·suc-zero}
 use lib.ListN.{length, getD, set, length-set, length-append}
 use borrow.Author.Tests.{le-leb, lt-leb, leb-true}
 use Rattle.words.specs.Limits.{nameBytesLeast, elementsMost, namesMost, openListsMost}
-use Rattle.words.specs.Lists.{all}
+use Rattle.words.specs.Lists.{allOf}
 use Rattle.words.specs.ListLaws.{either}
 use Rattle.datum.specs.Datum.{Datum, listD, noneD, datumItems, dataItems}
 use Rattle.datum.specs.NameTable.{slots}
@@ -160,7 +160,7 @@ module _ (r : Reading) (p : Place) (words bytes : List ℕ) (h : Holds r p words
           ∙ filled-same _ _ _ (sym (put-length t (3 * (p .next + 1)) kind v 0))
           ∙ ap (λ ws. filled ws elementPut) (sym placed-more)
 
-      pub element-holds : (n missing : ℕ) (table : List ℕ) → n ≡ length known → all isShort known ≡ true → table ≡ filled (slots known) table
+      pub element-holds : (n missing : ℕ) (table : List ℕ) → n ≡ length known → allOf isShort known ≡ true → table ≡ filled (slots known) table
           → nameBytesLeast ≤ length table → missing ≡ m
           → Holds elementRead (record { next = p .next + 2; pair = p .pair; depth = p .depth; count = p .count + 1; missing = missing; known = n }) elementPut table
       unfolding nextItem
@@ -321,7 +321,7 @@ module _ (r : Reading) (p : Place) (words bytes : List ℕ) (h : Holds r p words
       stepped-back _ words′ table _ g
       (ground-back r p words bytes h (withToken r d names) known (p .depth) k (h .depth) refl (λ z. n (e ∙ z))) e
 
-  pub token-went : (words′ table : List ℕ) (missing : ℕ) → groundAt p known (p .depth) ≡ 0 → all isShort names ≡ true
+  pub token-went : (words′ table : List ℕ) (missing : ℕ) → groundAt p known (p .depth) ≡ 0 → allOf isShort names ≡ true
       → table ≡ filled (slots names) table → nameBytesLeast ≤ length table
       → words′ ≡ put3 (put3 words (3 * p .next) 4 (p .next + 1) (p .next + 2)) (3 * (p .next + 1)) kind value 0
       → missing ≡ cond (eqb (p .depth) 0) (p .missing - 1) (p .missing)

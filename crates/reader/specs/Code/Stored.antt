@@ -6,7 +6,7 @@ use Prim.Native.Nat.{ℕ, zero, suc, _+_, _*_, _≤_}
 use lib.ListN.{length, set}
 use lib.Seq.{paste}
 use Rattle.words.specs.Limits.{nameBytesLeast}
-use Rattle.words.specs.Lists.{all}
+use Rattle.words.specs.Lists.{allOf}
 use Rattle.datum.specs.NameTable.{slots, nameAt}
 use Rattle.datum.specs.NameTableLaws.{isShort}
 use Rattle.words.specs.Tables.{filled}
@@ -24,7 +24,7 @@ stored table n word = paste (set table (64 * n) (length word)) (64 * n + 1) word
 
 -- the table holds these names, and zeros after them, and the index is theirs
 pub record NameTable (names : List (List ℕ)) (table index : List ℕ) : Type 0 where
-  pub short : all isShort names ≡ true
+  pub short : allOf isShort names ≡ true
   pub bytes : table ≡ filled (slots names) table
   pub room : nameBytesLeast ≤ length table
   pub indexed : Indexed names index

@@ -8,7 +8,7 @@ use native.Mathlib.Numerals.{add-one}
 use lib.ListN.{length, getD, take, drop, set, replicate, length-drop, length-set, length-append, replicate-append-replicate}
 use lib.Seq.{drop-cons, drop-length, length-take-le, getD-take, getD-drop, length-paste, append-snoc, getD-append-seam, set-at, take-at, take-length, drop-append-add}
 use borrow.Author.Tests.{eq-eqb, ne-eqb, le-leb}
-use Rattle.words.specs.Lists.{equal, all}
+use Rattle.words.specs.Lists.{equal, allOf}
 use Rattle.words.specs.ListLaws.{either, equal-true, all-append}
 use Rattle.datum.specs.NameTable.{slot, slots, lengthAt, nameAt}
 use Rattle.datum.specs.NameTableLaws.{isShort, length-slots, slots-append, name-at}
@@ -107,7 +107,7 @@ module _ (word table index : List ℕ) (known : ℕ) (i : Indexed (namesIn table
     find-falls = omega (arith, link-falls names word index i number among)
 
 -- the slots of names spell them
-names-in-from : (more names : List (List ℕ)) (rest : List ℕ) → all isShort (names ++ more) ≡ true
+names-in-from : (more names : List (List ℕ)) (rest : List ℕ) → allOf isShort (names ++ more) ≡ true
     → namesIn (slots (names ++ more) ++ rest) (length names) (length more) ≡ more
 unfolding namesIn
 names-in-from [] names rest h = refl
@@ -116,11 +116,11 @@ names-in-from (cs ∷ more) names rest h =
     let l : length (names ++ (cs ∷ [])) ≡ suc (length names) = omega (arith, length-append names (cs ∷ [])) in
     let k : length names < length (names ++ cs ∷ more) = omega (arith, length-append names (cs ∷ more)) in
     let a = name-at (names ++ cs ∷ more) rest (length names) h k ∙ getD-append-seam names cs more [] in
-    let b = names-in-from more (names ++ (cs ∷ [])) rest (subst (λ ks. all isShort ks ≡ true) (sym e) h) in
+    let b = names-in-from more (names ++ (cs ∷ [])) rest (subst (λ ks. allOf isShort ks ≡ true) (sym e) h) in
     let b′ : namesIn (slots (names ++ cs ∷ more) ++ rest) (suc (length names)) (length more) ≡ more = rw (e, l) at b in
     ap₂ _∷_ a b′
 
-pub names-in : (names : List (List ℕ)) (rest : List ℕ) → all isShort names ≡ true → namesIn (slots names ++ rest) 0 (length names) ≡ names
+pub names-in : (names : List (List ℕ)) (rest : List ℕ) → allOf isShort names ≡ true → namesIn (slots names ++ rest) 0 (length names) ≡ names
 names-in names rest h = names-in-from names [] rest h
 
 -- ---- storing
@@ -131,7 +131,7 @@ drop-zeros (suc k) zero = let e : 0 - suc k ≡ 0 = omega arith in rw e
 drop-zeros (suc k) (suc n) = let e : suc n - suc k ≡ n - k = omega arith in rw e (drop-zeros k n)
 
 -- a name in the slot after those of the names before it
-module _ (names : List (List ℕ)) (word t : List ℕ) (n : ℕ) (at : n ≡ length names) (s : all isShort names ≡ true) (w : length word ≤ 63)
+module _ (names : List (List ℕ)) (word t : List ℕ) (n : ℕ) (at : n ≡ length names) (s : allOf isShort names ≡ true) (w : length word ≤ 63)
     (f : t ≡ filled (slots names) t) (room : 64 * n + 64 ≤ length t) where
   start : length (slots names) ≡ 64 * n
   start = omega (arith, length-slots names s)
@@ -164,8 +164,8 @@ module _ (names : List (List ℕ)) (word t : List ℕ) (n : ℕ) (at : n ≡ len
       ap (drop (64 * n + 1 + length word)) with-length ∙ rw i (drop-append-add head (replicate after 0) (length word) ∙ drop-zeros (length word) after) in
       rw (a, b, take-length word)
 
-  pub short-more : all isShort (names ++ (word ∷ [])) ≡ true
-  unfolding isShort all
+  pub short-more : allOf isShort (names ++ (word ∷ [])) ≡ true
+  unfolding isShort allOf
   short-more = all-append isShort names (word ∷ []) s (rw (le-leb _ _ w))
 
   slots-length : length (slots (names ++ (word ∷ []))) ≡ 64 * n + 64

@@ -5,7 +5,7 @@ use mathlib.Core.List.{List, [], _∷_, map}
 use Prim.Native.Nat.{ℕ, _≤_}
 use native.Mathlib.Omega.{arith}
 use lib.Dec.{leb}
-use Rattle.words.specs.Lists.{all}
+use Rattle.words.specs.Lists.{allOf}
 use Rattle.words.specs.ListLaws.{either}
 use Rattle.datum.specs.Datum.{Datum, constantD}
 use Rattle.reading.specs.Token.{Token, open′, close′, bad, flag, run, isDigit, tokens}
@@ -66,7 +66,7 @@ signed-high false n = either (leb n 2147483647) (λ e. rw e (omega arith)) (λ e
 
 integer-high : (cs : List ℕ) → High (integerOf cs)
 unfolding integerOf
-integer-high cs = either (all isDigit (unsigned cs)) (λ e. rw e (signed-high _ _)) (λ e. rw e (omega arith))
+integer-high cs = either (allOf isDigit (unsigned cs)) (λ e. rw e (signed-high _ _)) (λ e. rw e (omega arith))
 
 name-high : (cs : List ℕ) → High (nameOf cs)
 unfolding nameOf

@@ -11,7 +11,7 @@ use mir.Syntax.{w32}
 use mir.Val.{ofZ}
 use borrow.Author.Tests.{eqb-true, ne-eqb, leb-true, le-leb, not-true}
 use Rattle.words.specs.Limits.{nameLengthMost}
-use Rattle.words.specs.Lists.{within, all, equal}
+use Rattle.words.specs.Lists.{within, allOf, equal}
 use Rattle.words.specs.TestLaws.{and-left, and-right, within-least, within-most}
 use Rattle.words.specs.ListLaws.{either, never, equal-true, equal-refl}
 use Rattle.datum.specs.Constant.{integer}
@@ -87,11 +87,11 @@ pub other-means : (cs : List ℕ) → isNumeral cs ≡ false → meaningOf (run 
 unfolding meaningOf
 other-means cs h = rw h
 
-pub integer-is : (cs : List ℕ) → all isDigit (unsigned cs) ≡ true → integerOf cs ≡ signed (isNegative cs) (size cs)
+pub integer-is : (cs : List ℕ) → allOf isDigit (unsigned cs) ≡ true → integerOf cs ≡ signed (isNegative cs) (size cs)
 unfolding integerOf
 integer-is cs h = rw h
 
-pub integer-malformed : (cs : List ℕ) → all isDigit (unsigned cs) ≡ false → integerOf cs ≡ refused 3
+pub integer-malformed : (cs : List ℕ) → allOf isDigit (unsigned cs) ≡ false → integerOf cs ≡ refused 3
 unfolding integerOf
 integer-malformed cs h = rw h
 
@@ -109,10 +109,10 @@ is-name cs h k = rw (h, k)
 
 -- ---- what a token means is what meaningOf gives
 
-module _ (c : ℕ) (cs : List ℕ) (h : all isDigit (c ∷ cs) ≡ true) where
+module _ (c : ℕ) (cs : List ℕ) (h : allOf isDigit (c ∷ cs) ≡ true) where
   first-digit : isDigit c ≡ true
-  unfolding all
-  first-digit = and-left (isDigit c) (all isDigit cs) h
+  unfolding allOf
+  first-digit = and-left (isDigit c) (allOf isDigit cs) h
 
   plain : eqb c 45 ≡ false
   plain = digit-no-minus c first-digit
@@ -160,19 +160,19 @@ isRefused (name cs) = false
 isRefused (refused g) = true
 
 -- digits within the range, and not otherwise
-positive-means : (c : ℕ) (cs : List ℕ) → all isDigit (c ∷ cs) ≡ true → isRefused (signed false (valueFrom 0 (c ∷ cs))) ≡ false
+positive-means : (c : ℕ) (cs : List ℕ) → allOf isDigit (c ∷ cs) ≡ true → isRefused (signed false (valueFrom 0 (c ∷ cs))) ≡ false
     → Means (run (c ∷ cs)) (signed false (valueFrom 0 (c ∷ cs)))
 unfolding signed isRefused
 positive-means c cs h k =
     either (leb (valueFrom 0 (c ∷ cs)) 2147483647) (λ r. rw r (positive h (leb-true _ _ r))) (λ r. never refl (rw r at k))
 
-negative-means : (c : ℕ) (cs : List ℕ) → all isDigit (c ∷ cs) ≡ true → isRefused (signed true (valueFrom 0 (c ∷ cs))) ≡ false
+negative-means : (c : ℕ) (cs : List ℕ) → allOf isDigit (c ∷ cs) ≡ true → isRefused (signed true (valueFrom 0 (c ∷ cs))) ≡ false
     → Means (run (45 ∷ c ∷ cs)) (signed true (valueFrom 0 (c ∷ cs)))
 unfolding signed isRefused
 negative-means c cs h k =
     either (leb (valueFrom 0 (c ∷ cs)) 2147483648) (λ r. rw r (negative h (leb-true _ _ r))) (λ r. never refl (rw r at k))
 
-number-means : (cs : List ℕ) → StartsNumber cs → all isDigit (unsigned cs) ≡ true → isRefused (signed (isNegative cs) (size cs)) ≡ false
+number-means : (cs : List ℕ) → StartsNumber cs → allOf isDigit (unsigned cs) ≡ true → isRefused (signed (isNegative cs) (size cs)) ≡ false
     → Means (run cs) (signed (isNegative cs) (size cs))
 unfolding size isNegative unsigned
 number-means cs (digit {c} {cs = ds} d) h k =
@@ -184,7 +184,7 @@ module _ (cs : List ℕ) where
   integer-means : isNumeral cs ≡ true → isRefused (integerOf cs) ≡ false → Means (run cs) (integerOf cs)
   unfolding isRefused
   integer-means n h =
-      either (all isDigit (unsigned cs))
+      either (allOf isDigit (unsigned cs))
       (λ d. let e = integer-is cs d in rw e (number-means cs (numeral-starts cs n) d (rw e at h)))
       (λ d. never refl (rw (integer-malformed cs d) at h))
 

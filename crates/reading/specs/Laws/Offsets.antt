@@ -7,7 +7,7 @@ use Prim.Native.Nat.{ℕ, zero, suc, _+_, _≤_, _<_}
 use native.Mathlib.Omega.{arith}
 use lib.ListN.{length, getD, take, drop, take-append-drop, length-take, length-drop, drop-of-length-le}
 use lib.Seq.{drop-drop, drop-length}
-use Rattle.words.specs.Lists.{all, any}
+use Rattle.words.specs.Lists.{allOf, anyOf}
 use Rattle.words.specs.ListLaws.{either, never}
 use Rattle.words.specs.Text.{bytes}
 use Rattle.reading.specs.Token.{
@@ -41,8 +41,8 @@ use Rattle.reading.specs.Laws.Tokens.{ClassIs, isSeparator, isRun, class
 
 -- ---- bytes that pass a test
 
-pub leading-all : (f : ℕ → Bool) (bs : List ℕ) → all f (take (leading f bs) bs) ≡ true
-unfolding leading all
+pub leading-all : (f : ℕ → Bool) (bs : List ℕ) → allOf f (take (leading f bs) bs) ≡ true
+unfolding leading allOf
 leading-all f [] = refl
 leading-all f (b ∷ bs) = either (f b) (λ h. rw (h, h, leading-all f bs)) (λ h. rw h)
 
@@ -61,7 +61,7 @@ run-stops (b ∷ bs) = either (isRunning b) (λ h. rw h (run-stops bs)) (λ h. r
 module _ (b : ℕ) (bs : List ℕ) where
   run-first : isRunning b ≡ true
       → tokensAfter nothing (b ∷ bs) ≡ run (b ∷ take (leading isRunning bs) bs) ∷ tokensAfter nothing (drop (leading isRunning bs) bs)
-  unfolding all
+  unfolding allOf
   run-first h =
       ap (λ l. tokensAfter nothing (b ∷ l)) (sym (take-append-drop (leading isRunning bs) bs))
       ∙ run-taken b (take (leading isRunning bs) bs) (drop (leading isRunning bs) bs) (rw (h, leading-all isRunning bs)) (run-stops bs)
@@ -117,7 +117,7 @@ separators-taken [] = refl
 separators-taken (b ∷ bs) = either (isSeparating b) (λ h. rw h (separator-skipped b bs h ∙ separators-taken bs)) (λ h. rw h)
 
 pub separators-stop : (bs : List ℕ) → isSeparating (getD (drop (leading isSeparating bs) bs) 0 0) ≡ false
-unfolding leading isSeparating any bytes
+unfolding leading isSeparating anyOf bytes
 separators-stop [] = refl
 separators-stop (b ∷ bs) = either (isSeparating b) (λ h. rw h (separators-stop bs)) (λ h. rw (h, h))
 

@@ -7,7 +7,7 @@ use native.Mathlib.Omega.{arith}
 use lib.Dec.{eqb}
 use lib.Seq.{append-snoc}
 use borrow.Author.Tests.{eqb-true}
-use Rattle.words.specs.Lists.{within, all, any}
+use Rattle.words.specs.Lists.{within, allOf, anyOf}
 use Rattle.words.specs.TestLaws.{and-left, and-right}
 use Rattle.words.specs.ListLaws.{either, never, Each, any-each, all-append}
 use Rattle.words.specs.Text.{bytes}
@@ -77,7 +77,7 @@ class-running b h = rw h
 
 -- no separator is in a run
 separating-not-running : (b : ℕ) → isSeparating b ≡ true → isRunning b ≡ false
-unfolding isSeparating isRunning isDigit within any bytes Each
+unfolding isSeparating isRunning isDigit within anyOf bytes Each
 separating-not-running b h =
     any-each (λ n. isRunning n ≡ false) b (bytes " \t\n\r") (refl, (refl, (refl, (refl, omega arith)))) h
 
@@ -108,14 +108,14 @@ unfolding tokensAfter completed next begun afterRun
 run-byte cs b bs h = rw (class-running b h)
 
 -- a run goes on to its end
-pub run-goes-on : (cs ds bs : List ℕ) → all isRunning ds ≡ true → EndsRun bs
+pub run-goes-on : (cs ds bs : List ℕ) → allOf isRunning ds ≡ true → EndsRun bs
     → tokensAfter (among cs) (ds ++ bs) ≡ run (cs ++ ds) ∷ tokensAfter nothing bs
-unfolding tokensAfter completed next ended all begun afterRun
+unfolding tokensAfter completed next ended allOf begun afterRun
 run-goes-on cs [] [] h atEnd = rw append-nil
 run-goes-on cs [] (b ∷ bs) h (before e) = rw append-nil (run-ends cs b bs e)
 run-goes-on cs (d ∷ ds) bs h e =
-    let k : classOf d ≡ running = class-running d (and-left (isRunning d) (all isRunning ds) h) in
-    rw k (run-goes-on (cs ++ (d ∷ [])) ds bs (and-right (isRunning d) (all isRunning ds) h) e
+    let k : classOf d ≡ running = class-running d (and-left (isRunning d) (allOf isRunning ds) h) in
+    rw k (run-goes-on (cs ++ (d ∷ [])) ds bs (and-right (isRunning d) (allOf isRunning ds) h) e
     ∙ ap (λ l. run l ∷ tokensAfter nothing bs) (append-assoc cs (d ∷ []) ds))
 
 -- ---- a text that has tokens is read as these
@@ -124,15 +124,15 @@ pub separator-skipped : (b : ℕ) (bs : List ℕ) → isSeparating b ≡ true �
 unfolding tokensAfter completed next alone begun
 separator-skipped b bs h = rw (class-separating b h)
 
-pub run-taken : (c : ℕ) (cs bs : List ℕ) → all isRunning (c ∷ cs) ≡ true → EndsRun bs
+pub run-taken : (c : ℕ) (cs bs : List ℕ) → allOf isRunning (c ∷ cs) ≡ true → EndsRun bs
     → tokensAfter nothing (c ∷ cs ++ bs) ≡ run (c ∷ cs) ∷ tokensAfter nothing bs
-unfolding tokensAfter completed next alone begun all
+unfolding tokensAfter completed next alone begun allOf
 run-taken c cs bs h e =
-    let k : classOf c ≡ running = class-running c (and-left (isRunning c) (all isRunning cs) h) in
-    rw k (run-goes-on (c ∷ []) cs bs (and-right (isRunning c) (all isRunning cs) h) e)
+    let k : classOf c ≡ running = class-running c (and-left (isRunning c) (allOf isRunning cs) h) in
+    rw k (run-goes-on (c ∷ []) cs bs (and-right (isRunning c) (allOf isRunning cs) h) e)
 
 tokensAre : {text : List ℕ} {ts : List Token} → HasTokens text ts → tokensAfter nothing text ≡ ts
-unfolding tokensAfter completed next ended flagOf alone begun classOf isRunning isDigit isSeparating within any bytes
+unfolding tokensAfter completed next ended flagOf alone begun classOf isRunning isDigit isSeparating within anyOf bytes
 tokensAre R.none = refl
 tokensAre (R.separator {b} {bs} {ts} h r) = separator-skipped b bs h ∙ tokensAre r
 tokensAre (R.opening r) = ap (λ l. open′ ∷ l) (tokensAre r)
@@ -157,7 +157,7 @@ pendingBytes (among cs) = cs
 data Runs : Pending → Type 0 where
   none : Runs nothing
   sharp′ : Runs hash
-  some : {c : ℕ} {cs : List ℕ} → all isRunning (c ∷ cs) ≡ true → Runs (among (c ∷ cs))
+  some : {c : ℕ} {cs : List ℕ} → allOf isRunning (c ∷ cs) ≡ true → Runs (among (c ∷ cs))
 
 unfoldable isBad : Token → Bool
 isBad open′ = false
@@ -188,7 +188,7 @@ module _ (bs : List ℕ) (ih : (p : Pending) → Has bs p) where
   -- a byte with nothing pending before it
   fresh : (b : ℕ) (k : Class) (ms : List Meaning) → ClassIs b k → Mean (alone k ++ tokensAfter (begun [] b k) bs) ms
       → HasTokens (b ∷ bs) (alone k ++ tokensAfter (begun [] b k) bs)
-  unfolding alone begun pendingBytes all
+  unfolding alone begun pendingBytes allOf
   fresh b separating ms (isSeparator n h) w = R.separator h (ih nothing ms none w)
   fresh b opening ms isOpening (R.more v w) = R.opening (ih nothing _ none w)
   fresh b closing ms isClosing (R.more v w) = R.closing (ih nothing _ none w)
@@ -212,20 +212,20 @@ module _ (bs : List ℕ) (ih : (p : Pending) → Has bs p) where
   byte b ms w = fresh b (classOf b) ms (classIs b) w
 
   -- a byte after a run, in it or not
-  going-on : (c : ℕ) (cs : List ℕ) (b : ℕ) (ms : List Meaning) → all isRunning (c ∷ cs) ≡ true → isRunning b ≡ true
+  going-on : (c : ℕ) (cs : List ℕ) (b : ℕ) (ms : List Meaning) → allOf isRunning (c ∷ cs) ≡ true → isRunning b ≡ true
       → Mean (tokensAfter (among (c ∷ cs)) (b ∷ bs)) ms → HasTokens (c ∷ cs ++ b ∷ bs) (tokensAfter (among (c ∷ cs)) (b ∷ bs))
-  unfolding pendingBytes all
+  unfolding pendingBytes allOf
   going-on c cs b ms h r w =
-      let a : all isRunning (c ∷ cs ++ (b ∷ [])) ≡ true = all-append isRunning (c ∷ cs) (b ∷ []) h (rw r) in
+      let a : allOf isRunning (c ∷ cs ++ (b ∷ [])) ≡ true = all-append isRunning (c ∷ cs) (b ∷ []) h (rw r) in
       rw (run-byte (c ∷ cs) b bs r)
       (rw (append-snoc (c ∷ cs) b bs) at
       (ih (among (c ∷ cs ++ (b ∷ []))) ms (some a) (rw (run-byte (c ∷ cs) b bs r) at w)))
 
-  behind : (c : ℕ) (cs : List ℕ) (b : ℕ) (ms : List Meaning) → all isRunning (c ∷ cs) ≡ true → isRunning b ≡ false
+  behind : (c : ℕ) (cs : List ℕ) (b : ℕ) (ms : List Meaning) → allOf isRunning (c ∷ cs) ≡ true → isRunning b ≡ false
       → Mean (run (c ∷ cs) ∷ tokensAfter nothing (b ∷ bs)) ms → HasTokens (c ∷ cs ++ b ∷ bs) (run (c ∷ cs) ∷ tokensAfter nothing (b ∷ bs))
   behind c cs b ms h r (R.more v w) = R.longest h (before r) (byte b _ w)
 
-  after-run : (c : ℕ) (cs : List ℕ) (b : ℕ) (ms : List Meaning) → all isRunning (c ∷ cs) ≡ true
+  after-run : (c : ℕ) (cs : List ℕ) (b : ℕ) (ms : List Meaning) → allOf isRunning (c ∷ cs) ≡ true
       → Mean (tokensAfter (among (c ∷ cs)) (b ∷ bs)) ms → HasTokens (c ∷ cs ++ b ∷ bs) (tokensAfter (among (c ∷ cs)) (b ∷ bs))
   after-run c cs b ms h w =
       either (isRunning b) (λ r. going-on c cs b ms h r w)

@@ -8,7 +8,7 @@ use Prim.Native.Nat.{ℕ, suc}
 use native.Mathlib.Omega.{arith}
 use borrow.Author.Tests.{eq-eqb}
 use lib.Dec.{eqb}
-use Rattle.words.specs.Lists.{any, equal}
+use Rattle.words.specs.Lists.{anyOf, equal}
 use Rattle.words.specs.Options.{traverse}
 use Rattle.recipe.specs.Name.{Name, bindingKey, same, isEllipsis}
 use Rattle.recipe.specs.Tree.{Tree, onPair, elements, element, tail}
@@ -33,13 +33,13 @@ unfolding same
 same-number x y e = ap (λ b. b && (equal (x .marks) (y .marks) && eqb (bindingKey (x .binding)) (bindingKey (y .binding)))) e
 
 -- a name of that number is none of the variables
-no-variable : (n : ℕ) (x : Name) → x .number ≡ n → (k : ℕ) (vs : List (Name × ℕ)) → any (λ v. eqb (v .0 .number) n) vs ≡ false → variableFrom k vs x ≡ none
-unfolding variableFrom any
+no-variable : (n : ℕ) (x : Name) → x .number ≡ n → (k : ℕ) (vs : List (Name × ℕ)) → anyOf (λ v. eqb (v .0 .number) n) vs ≡ false → variableFrom k vs x ≡ none
+unfolding variableFrom anyOf
 no-variable n x e k [] f = refl
 no-variable n x e k (v ∷ vs) f = go (eqb (v .0 .number) n) refl f (no-variable n x e (suc k) vs)
   where
-    go : (b : Bool) → eqb (v .0 .number) n ≡ b → (b || any (λ v. eqb (v .0 .number) n) vs) ≡ false
-        → (any (λ v. eqb (v .0 .number) n) vs ≡ false → variableFrom (suc k) vs x ≡ none) → variableFrom k (v ∷ vs) x ≡ none
+    go : (b : Bool) → eqb (v .0 .number) n ≡ b → (b || anyOf (λ v. eqb (v .0 .number) n) vs) ≡ false
+        → (anyOf (λ v. eqb (v .0 .number) n) vs ≡ false → variableFrom (suc k) vs x ≡ none) → variableFrom k (v ∷ vs) x ≡ none
     go true d g h = absurd (true≢false g)
     go false d g h = ap (λ b. cond b (some (k, v .1)) (variableFrom (suc k) vs x)) (same-number (v .0) x (ap (eqb (v .0 .number)) e ∙ d)) ∙ h g
 
@@ -62,8 +62,8 @@ module _ (ρ : Renaming) (β : Scope) where
 
   -- the chosen rule, whose names of the old number in one run and of the new in the other are no variables
   chosen-rule : {ls ms : List Name} → ListRel (Still ρ β) ls ms → {t u : Tree} → Hole (Still ρ β) (TreeOf (InTemplate ρ β)) (1 ∷ []) t u
-      → any (λ v. eqb (v .0 .number) (ρ .old)) (variables isEllipsis ls 0 (tail (element 0 t))) ≡ false
-      → any (λ v. eqb (v .0 .number) (ρ .new)) (variables isEllipsis ls 0 (tail (element 0 t))) ≡ false
+      → anyOf (λ v. eqb (v .0 .number) (ρ .old)) (variables isEllipsis ls 0 (tail (element 0 t))) ≡ false
+      → anyOf (λ v. eqb (v .0 .number) (ρ .new)) (variables isEllipsis ls 0 (tail (element 0 t))) ≡ false
       → OptionRel (RuleOf (Still ρ β) (InTemplate ρ β)) (ruleOf isEllipsis ls t) (ruleOf isEllipsis ms u)
   chosen-rule {ls} {ms} l {t} {u} r e f =
       let p = hole-off r 0 (omega arith) in
@@ -73,13 +73,13 @@ module _ (ρ : Renaming) (β : Scope) where
       (isListOf-rel 2 (hole-tree {R = λ x y. Unit {0}} (λ x y s. tt) (λ t u q. tree-map (λ x y s. tt) q) r)) p (hole-here (hole-at r))
       (λ x y q. subst (λ l. variableFrom 0 vs x ≡ variableFrom 0 l y) ws (variable-eq vs e f x y q))
     where
-      variable-eq : (vs : List (Name × ℕ)) → any (λ v. eqb (v .0 .number) (ρ .old)) vs ≡ false → any (λ v. eqb (v .0 .number) (ρ .new)) vs ≡ false → (x y : Name) → InTemplate ρ β x y → variableFrom 0 vs x ≡ variableFrom 0 vs y
+      variable-eq : (vs : List (Name × ℕ)) → anyOf (λ v. eqb (v .0 .number) (ρ .old)) vs ≡ false → anyOf (λ v. eqb (v .0 .number) (ρ .new)) vs ≡ false → (x y : Name) → InTemplate ρ β x y → variableFrom 0 vs x ≡ variableFrom 0 vs y
       variable-eq vs e f x y (stays s a b) = ap (variableFrom 0 vs) (s .eq)
       variable-eq vs e f x y (turns t) = no-variable (ρ .old) x (t .old) 0 vs e ∙ sym (no-variable (ρ .new) y (t .new) 0 vs f)
 
   chosen-rules : {ls ms : List Name} → ListRel (Still ρ β) ls ms → {j : ℕ} {t u : Tree} → Hole (Still ρ β) (TreeOf (InTemplate ρ β)) (j ∷ 1 ∷ []) t u
-      → any (λ v. eqb (v .0 .number) (ρ .old)) (variables isEllipsis ls 0 (tail (element 0 (element j t)))) ≡ false
-      → any (λ v. eqb (v .0 .number) (ρ .new)) (variables isEllipsis ls 0 (tail (element 0 (element j t)))) ≡ false
+      → anyOf (λ v. eqb (v .0 .number) (ρ .old)) (variables isEllipsis ls 0 (tail (element 0 (element j t)))) ≡ false
+      → anyOf (λ v. eqb (v .0 .number) (ρ .new)) (variables isEllipsis ls 0 (tail (element 0 (element j t)))) ≡ false
       → OptionRel (ListRel FormRule) (traverse (ruleOf isEllipsis ls) (elements t)) (traverse (ruleOf isEllipsis ms) (elements u))
   unfolding traverse element elements
   chosen-rules l (first r s) e f = mapBoth-rel _∷_ _∷_ (λ x y u v p q. joins (chosen p) q) (chosen-rule l r e f)

@@ -5,7 +5,7 @@ use mathlib.Core.List.{List, [], _∷_}
 use mathlib.Core.Option.{some}
 use Prim.Native.Nat.{ℕ, suc}
 use lib.Dec.{eqb}
-use Rattle.words.specs.Lists.{any}
+use Rattle.words.specs.Lists.{anyOf}
 use Rattle.words.specs.Each.{also}
 use Rattle.words.specs.TestLaws.{and-left, and-right}
 use Rattle.recipe.specs.Name.{Binding, Name, same, distinct, isEllipsis, isWildcard, bindName}
@@ -125,12 +125,12 @@ module _ (ρ : Renaming) (β : Scope) (i : Name) (p : Placed β i) (b : Binding)
       }
 
 -- no two names of a form are the same, so the later ones keep their bindings
-others : (ρ : Renaming) (β : Scope) (i : Name) → Placed β i → (b : Binding) {xs ys : List Name} → not (any (same i) xs) ≡ true → ListRel (Still ρ β) xs ys → ListRel (Still ρ (rebind (i .number) b β)) xs ys
-unfolding any
+others : (ρ : Renaming) (β : Scope) (i : Name) → Placed β i → (b : Binding) {xs ys : List Name} → not (anyOf (same i) xs) ≡ true → ListRel (Still ρ β) xs ys → ListRel (Still ρ (rebind (i .number) b β)) xs ys
+unfolding anyOf
 others ρ β i p b e ends = ends
 others ρ β i p b e (joins {x = x} {xs = xs} s ss) =
-    joins (record { eq = s .eq; not-private = s .not-private; placed = still-placed β i b x (s .placed) (sym (same-placed β i x p (s .placed)) ∙ neither (same i x) (any (same i) xs) e .0) })
-    (others ρ β i p b (ap not (neither (same i x) (any (same i) xs) e .1)) ss)
+    joins (record { eq = s .eq; not-private = s .not-private; placed = still-placed β i b x (s .placed) (sym (same-placed β i x p (s .placed)) ∙ neither (same i x) (anyOf (same i) xs) e .0) })
+    (others ρ β i p b (ap not (neither (same i x) (anyOf (same i) xs) e .1)) ss)
   where
     neither : (c d : Bool) → not (c || d) ≡ true → (c ≡ false) × (d ≡ false)
     neither true d e = absurd (false≢true e)
@@ -143,7 +143,7 @@ module _ (ρ : Renaming) (f : ℕ → Binding) where
   bindAll-still [] [] k β ends e r = r
   bindAll-still (x ∷ xs) (y ∷ ys) k β (joins s ss) e {t} {u} r =
       subst (λ z. TreeOf (Still ρ (rebindAll f k (x ∷ xs) β)) (bindAll f (suc k) xs (bind x (f k) t)) (bindAll f (suc k) ys (bind z (f k) u))) (s .eq)
-      (bindAll-still xs ys (suc k) (rebind (x .number) (f k) β) (others ρ β x (s .placed) (f k) (and-left (not (any (same x) xs)) (distinct xs) e) ss) (and-right (not (any (same x) xs)) (distinct xs) e)
+      (bindAll-still xs ys (suc k) (rebind (x .number) (f k) β) (others ρ β x (s .placed) (f k) (and-left (not (anyOf (same x) xs)) (distinct xs) e) ss) (and-right (not (anyOf (same x) xs)) (distinct xs) e)
       (onNames-rel _ _ (still-bind ρ β x (s .placed) (f k)) r))
 
   pub bindAll-hole : (xs ys : List Name) (k : ℕ) (β : Scope) → ListRel (Still ρ β) xs ys → distinct xs ≡ true → {p : List ℕ} {t u : Tree} → Hole (Still ρ β) (ChosenRules ρ β) p t u
@@ -152,7 +152,7 @@ module _ (ρ : Renaming) (f : ℕ → Binding) where
   bindAll-hole [] [] k β ends e r = r
   bindAll-hole (x ∷ xs) (y ∷ ys) k β (joins s ss) e {p} {t} {u} r =
       subst (λ z. Hole (Still ρ (rebindAll f k (x ∷ xs) β)) (ChosenRules ρ (rebindAll f k (x ∷ xs) β)) p (bindAll f (suc k) xs (bind x (f k) t)) (bindAll f (suc k) ys (bind z (f k) u))) (s .eq)
-      (bindAll-hole xs ys (suc k) (rebind (x .number) (f k) β) (others ρ β x (s .placed) (f k) (and-left (not (any (same x) xs)) (distinct xs) e) ss) (and-right (not (any (same x) xs)) (distinct xs) e)
+      (bindAll-hole xs ys (suc k) (rebind (x .number) (f k) β) (others ρ β x (s .placed) (f k) (and-left (not (anyOf (same x) xs)) (distinct xs) e) ss) (and-right (not (anyOf (same x) xs)) (distinct xs) e)
       (hole-onNames (bindName x (f k)) (still-bind ρ β x (s .placed) (f k)) (rules-bind ρ β x (s .placed) (f k)) r))
 
   pub rebindAll-foreign : (k : ℕ) (β γ : Scope) {xs ys : List Name} → ListRel (Still ρ γ) xs ys → AllFine ρ (bindings f k xs) → Foreign ρ β → Foreign ρ (rebindAll f k xs β)

@@ -6,7 +6,7 @@ use mathlib.Core.Option.{Option, some}
 use Prim.Native.Nat.{ℕ, suc}
 use borrow.Author.Tests.{eqb-true, eq-eqb}
 use lib.Dec.{eqb}
-use Rattle.words.specs.Lists.{any}
+use Rattle.words.specs.Lists.{anyOf}
 use Rattle.words.specs.TestLaws.{iff-eq}
 use Rattle.recipe.specs.Name.{Binding, Name, same, isEllipsis, isWildcard, giveBinding, bindName}
 use Rattle.recipe.specs.Tree.{Tree, names, element, tail}
@@ -65,7 +65,7 @@ still-placed β i b x p e = record { unproduced = p .unproduced; unmarked = p .u
 
 -- the rule of this rules form, counted from 0, has a variable of this number
 unfoldable pub hasVariable : (rule number : ℕ) → Tree → Bool
-hasVariable j n t = any (λ v. eqb (v .0 .number) n) (variables isEllipsis (names (element 1 t)) 0 (tail (element 0 (element j (tail (tail t))))))
+hasVariable j n t = anyOf (λ v. eqb (v .0 .number) n) (variables isEllipsis (names (element 1 t)) 0 (tail (element 0 (element j (tail (tail t))))))
 
 -- names of one number in two scopes
 pub record Moved (β γ : Scope) (x y : Name) : Type 0 where

@@ -17,30 +17,6 @@ abbrev μ-loop : tie.MeasureT-loop
 μ-loop text at₀ at =
     length text - at
 
-loop-holds : tie.Need-loop-holds Inv-loop μ-loop
-loop-holds c =
-    search needs
-
-token-from-requires : tie.Need-token-from-requires Inv-loop μ-loop
-token-from-requires c κs =
-    search needs
-
-past-requires : tie.Need-past-requires Inv-loop μ-loop
-past-requires c κs =
-    search needs
-
-returns : tie.Need-returns Inv-loop μ-loop
-returns c =
-    search needs
-
-skip-requires : tie.Need-skip-requires Inv-loop μ-loop
-skip-requires c κs =
-    search needs
-
-ground-requires : tie.Need-ground-requires Inv-loop μ-loop
-ground-requires c κs =
-    search needs
-
 print-line-requires : tie.Need-print-line-requires Inv-loop μ-loop
 print-line-requires c κs =
     let skip = c .before .skip in
@@ -79,12 +55,12 @@ print-tokens-spec =
     (tie.spec
     Inv-loop
     μ-loop
-    loop-holds
-    token-from-requires
-    past-requires
-    returns
-    skip-requires
-    ground-requires
+    (λ c. search needs)  -- loop-holds
+    (λ c κs. search needs)  -- token-from-requires
+    (λ c κs. search needs)  -- past-requires
+    (λ c. search needs)  -- returns
+    (λ c κs. search needs)  -- skip-requires
+    (λ c κs. search needs)  -- ground-requires
     print-line-requires
     loop-less
     loop-again)

@@ -5,41 +5,13 @@ use Rattle.writer.proofs.text_fits.Tie as tie
 use mathlib.Core.Path.{sym, _∙_}
 use Rattle.writer.specs.Written.{room-measured, walk-short, walk-fits}
 
-has-room-requires : tie.Need-has-room-requires
-has-room-requires c κs =
-    search needs
-
-same-length : tie.Need-same-length
-same-length c =
-    search needs
-
 returns : tie.Need-returns
 returns c =
     λ operations t k. room-measured _ operations _ t k _ (sym (c .before .has-room .ensures) ∙ c .if1 .taken)
 
-term-requires : tie.Need-term-requires
-term-requires c κs =
-    search needs
-
-enum-known-used : tie.Need-enum-known-used
-enum-known-used c =
-    search needs
-
-enum-told : tie.Need-enum-told
-enum-told c =
-    search needs
-
-same-length-2 : tie.Need-same-length-2
-same-length-2 c =
-    search needs
-
 returns-2 : tie.Need-returns-2
 returns-2 c =
     λ operations. walk-short _ operations _ (c .before .before .before .before .term .ensures) (c .enum-told .given .1)
-
-same-length-3 : tie.Need-same-length-3
-same-length-3 c =
-    search needs
 
 returns-3 : tie.Need-returns-3
 returns-3 c =
@@ -49,13 +21,13 @@ pub text-fits-spec : {M : Type 1} → statement M
 text-fits-spec =
     tie.close
     (tie.spec
-    has-room-requires
-    same-length
+    (λ c κs. search needs)  -- has-room-requires
+    (λ c. search needs)  -- same-length
     returns
-    term-requires
-    enum-known-used
-    enum-told
-    same-length-2
+    (λ c κs. search needs)  -- term-requires
+    (λ c. search needs)  -- enum-known-used
+    (λ c. search needs)  -- enum-told
+    (λ c. search needs)  -- same-length-2
     returns-2
-    same-length-3
+    (λ c. search needs)  -- same-length-3
     returns-3)

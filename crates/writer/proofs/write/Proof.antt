@@ -7,10 +7,6 @@ use mathlib.Core.Path.{sym, _∙_}
 use borrow.Author.Tests.{not-true, not-false}
 use Rattle.writer.specs.Written.{no-term, term-begins, no-room, no-second, wrote-text}
 
-is-term-requires : tie.Need-is-term-requires
-is-term-requires c κs =
-    search needs
-
 returns : tie.Need-returns
 returns c =
     let is-term = c .before .is-term in
@@ -20,10 +16,6 @@ text-fits-requires : tie.Need-text-fits-requires
 text-fits-requires c κs =
     let is-term = c .before .before .is-term in
     term-begins (c .before .before .before .before .before .before .args .words .now) _ _ (sym (is-term .ensures) ∙ not-false (is-term .result) (c .before .if1 .left))
-
-same-length : tie.Need-same-length
-same-length c =
-    search needs
 
 returns-2 : tie.Need-returns-2
 returns-2 c =
@@ -36,14 +28,6 @@ term-requires : tie.Need-term-requires
 term-requires c κs =
     let is-term = c .before .before .before .before .before .before .before .is-term in
     (omega arith, term-begins (c .before .before .before .before .before .before .before .before .before .before .before .args .words .now) _ _ (sym (is-term .ensures) ∙ not-false (is-term .result) (c .before .before .before .before .before .before .if1 .left)))
-
-enum-known-used : tie.Need-enum-known-used
-enum-known-used c =
-    search needs
-
-enum-told : tie.Need-enum-told
-enum-told c =
-    search needs
 
 same-length-2 : tie.Need-same-length-2
 same-length-2 c =
@@ -71,14 +55,14 @@ pub write-spec : {M : Type 1} → statement M
 write-spec =
     tie.close
     (tie.spec
-    is-term-requires
+    (λ c κs. search needs)  -- is-term-requires
     returns
     text-fits-requires
-    same-length
+    (λ c. search needs)  -- same-length
     returns-2
     term-requires
-    enum-known-used
-    enum-told
+    (λ c. search needs)  -- enum-known-used
+    (λ c. search needs)  -- enum-told
     same-length-2
     returns-3
     same-length-3

@@ -11,12 +11,6 @@ use Rattle.words.specs.TestLaws.{within-parts}
 use Rattle.words.specs.ListLaws.{either}
 use Rattle.arena.specs.ArenaLaws.{wordAt-in, wordAt-past}
 
-wrapping-sub-usize-requires : tie.Need-wrapping-sub-usize-requires
-wrapping-sub-usize-requires c κs = search needs
-
-places-requires : tie.Need-places-requires
-places-requires c κs = search needs
-
 sub-result : tie.Need-sub-result
 sub-result c = within-parts 1 3 _ (c .before .before .before .before .pre) .1
 
@@ -57,8 +51,8 @@ pub last-word-spec : {M : Type 1} → statement M
 last-word-spec =
     tie.close
     (tie.spec
-    wrapping-sub-usize-requires
-    places-requires
+    (λ c κs. search needs)  -- wrapping-sub-usize-requires
+    (λ c κs. search needs)  -- places-requires
     sub-result
     add-result
     mul-result

@@ -6,34 +6,13 @@ use Rattle.arena.specs.CellLaws.{cell-stored}
 use native.Mathlib.Omega.{arith}
 use lib.ListN.{length-set}
 
-mul-work : tie.Need-mul-work
-mul-work c = search needs
-
-slice-write-work : tie.Need-slice-write-work
-slice-write-work c = search needs
-
-add-work : tie.Need-add-work
-add-work c = search needs
-
-mul-work-2 : tie.Need-mul-work-2
-mul-work-2 c = search needs
-
 slice-write-work-2 : tie.Need-slice-write-work-2
 slice-write-work-2 c =
     simp length-set (omega arith)
 
-add-work-2 : tie.Need-add-work-2
-add-work-2 c = search needs
-
-mul-work-3 : tie.Need-mul-work-3
-mul-work-3 c = search needs
-
 slice-write-work-3 : tie.Need-slice-write-work-3
 slice-write-work-3 c =
     simp length-set (omega arith)
-
-add-result : tie.Need-add-result
-add-result c = search needs
 
 same-length : tie.Need-same-length
 same-length c =
@@ -48,14 +27,14 @@ pub put-spec : {M : Type 1} → statement M
 put-spec =
     tie.close
     (tie.spec
-    mul-work
-    slice-write-work
-    add-work
-    mul-work-2
+    (λ c. search needs)  -- mul-work
+    (λ c. search needs)  -- slice-write-work
+    (λ c. search needs)  -- add-work
+    (λ c. search needs)  -- mul-work-2
     slice-write-work-2
-    add-work-2
-    mul-work-3
+    (λ c. search needs)  -- add-work-2
+    (λ c. search needs)  -- mul-work-3
     slice-write-work-3
-    add-result
+    (λ c. search needs)  -- add-result
     same-length
     returns)

@@ -17,20 +17,11 @@ sub-item-2 c =
     let pre = c .before .before .pre in
     omega (arith, pre .more)
 
-cast-at : tie.Need-cast-at
-cast-at c = search needs
-
-mul-at : tie.Need-mul-at
-mul-at c = search needs
-
 mul-top : tie.Need-mul-top
 mul-top c =
     let a = c .before .before .args in
     let pre = c .before .before .pre in
     omega (arith, laying-most (a .items .now) (a .work .now) (a .count) (a .laid) (pre), pre .more)
-
-mul-kind : tie.Need-mul-kind
-mul-kind c = search needs
 
 shared-slice-read-kind : tie.Need-shared-slice-read-kind
 shared-slice-read-kind c =
@@ -81,24 +72,12 @@ returns-2 c =
     let put-name = c .before .before .put-name in
     laid-name (a .items .now) (a .work .now) _ (a .count) (a .laid) _ _ pre refl (if2 .taken) (put-name .ensures)
 
-add-first : tie.Need-add-first
-add-first c = search needs
-
-mul-first : tie.Need-mul-first
-mul-first c = search needs
-
 shared-slice-read-first : tie.Need-shared-slice-read-first
 shared-slice-read-first c =
     let entry = c .before .before .before .before .before .before in
     let a = entry .args in
     let pre = entry .pre in
     omega (arith, laying-whole (a .items .now) (a .work .now) (a .count) (a .laid) (pre), pre .more)
-
-add-second : tie.Need-add-second
-add-second c = search needs
-
-mul-second : tie.Need-mul-second
-mul-second c = search needs
 
 shared-slice-read-second : tie.Need-shared-slice-read-second
 shared-slice-read-second c =
@@ -181,10 +160,10 @@ lay-item-spec =
     (tie.spec
     sub-item
     sub-item-2
-    cast-at
-    mul-at
+    (λ c. search needs)  -- cast-at
+    (λ c. search needs)  -- mul-at
     mul-top
-    mul-kind
+    (λ c. search needs)  -- mul-kind
     shared-slice-read-kind
     put-empty-requires
     same-length
@@ -192,11 +171,11 @@ lay-item-spec =
     put-name-requires
     same-length-2
     returns-2
-    add-first
-    mul-first
+    (λ c. search needs)  -- add-first
+    (λ c. search needs)  -- mul-first
     shared-slice-read-first
-    add-second
-    mul-second
+    (λ c. search needs)  -- add-second
+    (λ c. search needs)  -- mul-second
     shared-slice-read-second
     node-of-requires
     node-of-requires-2

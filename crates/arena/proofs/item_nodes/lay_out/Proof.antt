@@ -47,9 +47,6 @@ add-laid c =
     let pre = entry .pre in
     omega (arith, most (a .items .now) (pre .0))
 
-loop-less : tie.Need-loop-less Inv-loop μ-loop
-loop-less c = search needs
-
 loop-again : tie.Need-loop-again Inv-loop μ-loop
 loop-again c =
     let lay-item = c .before .before .lay-item in
@@ -63,9 +60,6 @@ mul-result c =
     let a = entry .args in
     let pre = entry .pre in
     omega (arith, most (a .items .now) (pre .0))
-
-same-length : tie.Need-same-length Inv-loop μ-loop
-same-length c = search needs
 
 returns : tie.Need-returns Inv-loop μ-loop
 unfolding itemCount
@@ -86,8 +80,8 @@ lay-out-spec =
     loop-holds
     lay-item-requires
     add-laid
-    loop-less
+    (λ c. search needs)  -- loop-less
     loop-again
     mul-result
-    same-length
+    (λ c. search needs)  -- same-length
     returns)

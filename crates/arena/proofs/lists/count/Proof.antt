@@ -19,14 +19,6 @@ loop-holds : tie.Need-loop-holds Inv-loop μ-loop
 loop-holds c =
     count-begins (c .before .args .work .now) (c .before .args .list)
 
-word-requires : tie.Need-word-requires Inv-loop μ-loop
-word-requires c κs =
-    search needs
-
-reference-requires : tie.Need-reference-requires Inv-loop μ-loop
-reference-requires c κs =
-    search needs
-
 add-k : tie.Need-add-k Inv-loop μ-loop
 add-k c =
     let a = c .before .before .before .before .before .args in omega (arith, c .before .before .before .loop .inv .low, referenceAt-falls (a .work .now) (c .before .before .before .loop .node) 1 (kind-some (a .work .now) (c .before .before .before .loop .node) _ (c .before .before .word .ensures) (c .before .if1 .taken)))
@@ -50,8 +42,8 @@ count-spec =
     Inv-loop
     μ-loop
     loop-holds
-    word-requires
-    reference-requires
+    (λ c κs. search needs)  -- word-requires
+    (λ c κs. search needs)  -- reference-requires
     add-k
     loop-less
     loop-again

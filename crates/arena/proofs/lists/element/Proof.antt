@@ -17,25 +17,9 @@ loop-holds : tie.Need-loop-holds Inv-loop μ-loop
 loop-holds c =
     walk-begins (c .before .args .work .now) (c .before .args .list) (c .before .args .i)
 
-rest-requires : tie.Need-rest-requires Inv-loop μ-loop
-rest-requires c κs =
-    search needs
-
-sub-k : tie.Need-sub-k Inv-loop μ-loop
-sub-k c =
-    search needs
-
-loop-less : tie.Need-loop-less Inv-loop μ-loop
-loop-less c =
-    search needs
-
 loop-again : tie.Need-loop-again Inv-loop μ-loop
 loop-again c =
     let a = c .before .before .before .before .args in walk-more (a .work .now) (a .list) (a .i) (c .before .before .loop .node) (c .before .before .loop .k) _ (c .before .loop-test .taken) (c .rest .ensures) (c .before .before .loop .inv)
-
-first-requires : tie.Need-first-requires Inv-loop μ-loop
-first-requires c κs =
-    search needs
 
 returns : tie.Need-returns Inv-loop μ-loop
 returns c =
@@ -48,9 +32,9 @@ element-spec =
     Inv-loop
     μ-loop
     loop-holds
-    rest-requires
-    sub-k
-    loop-less
+    (λ c κs. search needs)  -- rest-requires
+    (λ c. search needs)  -- sub-k
+    (λ c. search needs)  -- loop-less
     loop-again
-    first-requires
+    (λ c κs. search needs)  -- first-requires
     returns)

@@ -4,20 +4,11 @@ use Rattle.arena.proofs.nodes.opened.Statement.{statement}
 use Rattle.arena.proofs.nodes.opened.Tie as tie
 use Rattle.arena.specs.Nodes.{opens-empty, opens-name, opens-pair, opens-constant}
 
-word-requires : tie.Need-word-requires
-word-requires c κs = search needs
-
 returns : tie.Need-returns
 returns c =
     let a = c .before .before .before .args in
     let word = c .before .word in
     opens-empty (a .work .now) (a .node) _ (word .ensures) (c .if1 .taken)
-
-word-requires-2 : tie.Need-word-requires-2
-word-requires-2 c κs = search needs
-
-reference-requires : tie.Need-reference-requires
-reference-requires c κs = search needs
 
 returns-2 : tie.Need-returns-2
 returns-2 c =
@@ -27,12 +18,6 @@ returns-2 c =
     let word2 = c .before .word2 in
     opens-name (a .work .now) (a .node) _ (word .ensures) _ _ (if2 .taken) (word2 .ensures) (c .reference .ensures)
 
-reference-requires-2 : tie.Need-reference-requires-2
-reference-requires-2 c κs = search needs
-
-reference-requires-3 : tie.Need-reference-requires-3
-reference-requires-3 c κs = search needs
-
 returns-3 : tie.Need-returns-3
 returns-3 c =
     let a = c .before .before .before .before .before .before .before .args in
@@ -40,12 +25,6 @@ returns-3 c =
     let if3 = c .before .before .if3 in
     let reference2 = c .before .reference2 in
     opens-pair (a .work .now) (a .node) _ (word .ensures) _ _ (if3 .taken) (reference2 .ensures) (c .reference3 .ensures)
-
-word-requires-3 : tie.Need-word-requires-3
-word-requires-3 c κs = search needs
-
-word-requires-4 : tie.Need-word-requires-4
-word-requires-4 c κs = search needs
 
 returns-4 : tie.Need-returns-4
 returns-4 c =
@@ -61,14 +40,14 @@ pub opened-spec : {M : Type 1} → statement M
 opened-spec =
     tie.close
     (tie.spec
-    word-requires
+    (λ c κs. search needs)  -- word-requires
     returns
-    word-requires-2
-    reference-requires
+    (λ c κs. search needs)  -- word-requires-2
+    (λ c κs. search needs)  -- reference-requires
     returns-2
-    reference-requires-2
-    reference-requires-3
+    (λ c κs. search needs)  -- reference-requires-2
+    (λ c κs. search needs)  -- reference-requires-3
     returns-3
-    word-requires-3
-    word-requires-4
+    (λ c κs. search needs)  -- word-requires-3
+    (λ c κs. search needs)  -- word-requires-4
     returns-4)

@@ -26,18 +26,6 @@ unfolding marked
 loop-holds c =
     let e : c .before .args .from - c .before .args .from ≡ 0 = omega arith in (refl, omega arith, omega arith, rw e)
 
-set-requires : tie.Need-set-requires Inv-loop μ-loop
-set-requires c κs =
-    search needs
-
-add-k : tie.Need-add-k Inv-loop μ-loop
-add-k c =
-    search needs
-
-loop-less : tie.Need-loop-less Inv-loop μ-loop
-loop-less c =
-    search needs
-
 loop-again : tie.Need-loop-again Inv-loop μ-loop
 loop-again c =
     let a = c .before .before .before .before .before .before .before .args in let l = c .before .before .before .before .before .loop in let e = c .before .before .set .ensures ∙ ap (λ (s : List ℕ). put (a .base) (l .k) (a .value) s) (l .inv .3) ∙ marked-more (a .base) (a .from) (l .k) (a .value) (a .flags .now) (l .inv .1) in (c .before .before .set .kept .0 ∙ l .inv .0, omega arith, omega arith, e)
@@ -57,9 +45,9 @@ mark-spec =
     Inv-loop
     μ-loop
     loop-holds
-    set-requires
-    add-k
-    loop-less
+    (λ c κs. search needs)  -- set-requires
+    (λ c. search needs)  -- add-k
+    (λ c. search needs)  -- loop-less
     loop-again
     same-length
     returns)

@@ -7,10 +7,6 @@ use mathlib.Core.Path.{_≡_}
 use lib.ListN.{getD}
 use Rattle.core_term.specs.HeadLaws.{head-missing, at-past, short-missing, list-found, if-found, application-found, quoted-none}
 
-shared-slice-read-code : tie.Need-shared-slice-read-code
-shared-slice-read-code c =
-    search needs
-
 returns : tie.Need-returns
 returns c =
     λ o b g f. quoted-none o b g f _ _ (c .before .before .before .before .args .words .now) (c .if2 .taken) (λ l h. omega arith)
@@ -23,14 +19,6 @@ returns-3 : tie.Need-returns-3
 returns-3 c =
     λ o b g f. head-missing o b g f _ _ _ (short-missing (c .before .before .before .before .args .words .now) (c .before .if1 .left) (c .if3 .taken))
 
-shared-slice-read-wide : tie.Need-shared-slice-read-wide
-shared-slice-read-wide c =
-    search needs
-
-wide-requires : tie.Need-wide-requires
-wide-requires c κs =
-    search needs
-
 returns-4 : tie.Need-returns-4
 returns-4 c =
     λ o b g f. rw (c .before .wide .ensures) (list-found o b g f _ _ (c .before .before .before .before .before .before .before .args .words .now) (c .before .before .before .if3 .left) (c .if4 .taken))
@@ -38,10 +26,6 @@ returns-4 c =
 returns-5 : tie.Need-returns-5
 returns-5 c =
     let s = c .before .before .before .before .before .before .before .before in λ o b g f. quoted-none o b g f _ _ (s .args .words .now) (c .if5 .taken) (λ l h. omega (arith, s .pre .1, c .before .if4 .left))
-
-lambda-head-requires : tie.Need-lambda-head-requires
-lambda-head-requires c κs =
-    search needs
 
 returns-6 : tie.Need-returns-6
 returns-6 c =
@@ -65,15 +49,15 @@ pub branch-spec : {M : Type 1} → statement M
 branch-spec =
     tie.close
     (tie.spec
-    shared-slice-read-code
+    (λ c. search needs)  -- shared-slice-read-code
     returns
     returns-2
     returns-3
-    shared-slice-read-wide
-    wide-requires
+    (λ c. search needs)  -- shared-slice-read-wide
+    (λ c κs. search needs)  -- wide-requires
     returns-4
     returns-5
-    lambda-head-requires
+    (λ c κs. search needs)  -- lambda-head-requires
     returns-6
     returns-7
     add-t10

@@ -14,18 +14,6 @@ returns : tie.Need-returns
 returns c =
     λ o b g f. head-missing o b g f _ false _ (lambda-short (c .before .before .args .words .now) (c .before .before .pre .1) (c .if1 .taken))
 
-shared-slice-read-wide : tie.Need-shared-slice-read-wide
-shared-slice-read-wide c =
-    search needs
-
-wide-requires : tie.Need-wide-requires
-wide-requires c κs =
-    search needs
-
-shared-slice-read-count : tie.Need-shared-slice-read-count
-shared-slice-read-count c =
-    search needs
-
 returns-2 : tie.Need-returns-2
 returns-2 c =
     λ o b g f. lambda-many o b g f _ false (c .before .before .before .before .before .before .args .words .now) (c .before .before .before .before .if1 .left) refl (c .before .before .before .before .before .before .pre .1) (c .if2 .taken)
@@ -33,10 +21,6 @@ returns-2 c =
 returns-3 : tie.Need-returns-3
 returns-3 c =
     λ o b g f. lambda-other o b g f _ false (c .before .before .before .before .before .before .before .args .words .now) (c .before .before .before .before .before .if1 .left) refl (c .before .before .before .before .before .before .before .pre .1) (c .before .if2 .left) (λ e. c .if3 .taken (c .before .before .before .wide .ensures ∙ e))
-
-wide-requires-2 : tie.Need-wide-requires-2
-wide-requires-2 c κs =
-    search needs
 
 add-t10 : tie.Need-add-t10
 add-t10 c =
@@ -51,11 +35,11 @@ lambda-head-spec =
     tie.close
     (tie.spec
     returns
-    shared-slice-read-wide
-    wide-requires
-    shared-slice-read-count
+    (λ c. search needs)  -- shared-slice-read-wide
+    (λ c κs. search needs)  -- wide-requires
+    (λ c. search needs)  -- shared-slice-read-count
     returns-2
     returns-3
-    wide-requires-2
+    (λ c κs. search needs)  -- wide-requires-2
     add-t10
     returns-4)

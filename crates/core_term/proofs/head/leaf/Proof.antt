@@ -8,26 +8,10 @@ use lib.ListN.{getD}
 use Rattle.core_term.specs.Window.{leafHead}
 use Rattle.core_term.specs.HeadLaws.{quoted-none, variable-leaf, operation-leaf, integer-leaf, boolean-leaf, name-leaf}
 
-shared-slice-read-code : tie.Need-shared-slice-read-code
-shared-slice-read-code c =
-    search needs
-
-shared-slice-read-a : tie.Need-shared-slice-read-a
-shared-slice-read-a c =
-    search needs
-
 returns : tie.Need-returns
 unfolding leafHead
 returns c =
     quoted-none _ _ _ _ _ _ (c .before .before .before .before .before .before .before .args .words .now) (c .if2 .taken) (λ l h. omega arith)
-
-wide-requires : tie.Need-wide-requires
-wide-requires c κs =
-    search needs
-
-in-scope-requires : tie.Need-in-scope-requires
-in-scope-requires c κs =
-    search needs
 
 returns-2 : tie.Need-returns-2
 returns-2 c =
@@ -47,14 +31,6 @@ returns-5 : tie.Need-returns-5
 returns-5 c =
     let s = c .before .before .before .before .before .before .before .before in boolean-leaf _ _ _ _ _ _ (s .args .words .now) (s .pre .0) (c .if5 .taken)
 
-wide-requires-2 : tie.Need-wide-requires-2
-wide-requires-2 c κs =
-    search needs
-
-name-good-requires : tie.Need-name-good-requires
-name-good-requires c κs =
-    search needs
-
 returns-6 : tie.Need-returns-6
 returns-6 c =
     let s = c .before .before .before .before .before .before .before .before .before .before in
@@ -65,15 +41,15 @@ pub leaf-spec : {M : Type 1} → statement M
 leaf-spec =
     tie.close
     (tie.spec
-    shared-slice-read-code
-    shared-slice-read-a
+    (λ c. search needs)  -- shared-slice-read-code
+    (λ c. search needs)  -- shared-slice-read-a
     returns
-    wide-requires
-    in-scope-requires
+    (λ c κs. search needs)  -- wide-requires
+    (λ c κs. search needs)  -- in-scope-requires
     returns-2
     returns-3
     returns-4
     returns-5
-    wide-requires-2
-    name-good-requires
+    (λ c κs. search needs)  -- wide-requires-2
+    (λ c κs. search needs)  -- name-good-requires
     returns-6)

@@ -17,25 +17,9 @@ returns-2 : tie.Need-returns-2
 returns-2 c =
     sym (good-free _ _ _ (c .before .if1 .left) (not-true (c .before .before .before .args .tabled) (c .if2 .taken)))
 
-mul-start : tie.Need-mul-start
-mul-start c =
-    search needs
-
-add-if3 : tie.Need-add-if3
-add-if3 c =
-    search needs
-
 returns-3 : tie.Need-returns-3
 returns-3 c =
     sym (good-short _ _ _ (c .before .before .if1 .left) (not-false (c .before .before .before .before .args .tabled) (c .before .if2 .left)) (c .if3 .taken))
-
-shared-slice-read-size : tie.Need-shared-slice-read-size
-shared-slice-read-size c =
-    search needs
-
-size-requires : tie.Need-size-requires
-size-requires c κs =
-    search needs
 
 returns-4 : tie.Need-returns-4
 returns-4 c =
@@ -51,10 +35,10 @@ name-good-spec =
     (tie.spec
     returns
     returns-2
-    mul-start
-    add-if3
+    (λ c. search needs)  -- mul-start
+    (λ c. search needs)  -- add-if3
     returns-3
-    shared-slice-read-size
-    size-requires
+    (λ c. search needs)  -- shared-slice-read-size
+    (λ c κs. search needs)  -- size-requires
     returns-4
     returns-5)

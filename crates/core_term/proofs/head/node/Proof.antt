@@ -9,14 +9,6 @@ returns : tie.Need-returns
 returns c =
     head-missing _ _ _ _ _ _ _ (at-none (c .before .before .before .before .args .words .now) (c .if1 .taken))
 
-shared-slice-read-if2 : tie.Need-shared-slice-read-if2
-shared-slice-read-if2 c =
-    search needs
-
-branch-requires : tie.Need-branch-requires
-branch-requires c κs =
-    search needs
-
 returns-2 : tie.Need-returns-2
 returns-2 c =
     c .branch .ensures _ _ _ _
@@ -24,10 +16,6 @@ returns-2 c =
 returns-3 : tie.Need-returns-3
 returns-3 c =
     head-missing _ _ _ _ _ _ _ (short-missing (c .before .before .before .before .before .before .before .args .words .now) (λ e. omega (arith, c .before .if2 .left)) (c .if3 .taken))
-
-leaf-requires : tie.Need-leaf-requires
-leaf-requires c κs =
-    search needs
 
 returns-4 : tie.Need-returns-4
 returns-4 c =
@@ -42,10 +30,10 @@ node-spec =
     tie.close
     (tie.spec
     returns
-    shared-slice-read-if2
-    branch-requires
+    (λ c. search needs)  -- shared-slice-read-if2
+    (λ c κs. search needs)  -- branch-requires
     returns-2
     returns-3
-    leaf-requires
+    (λ c κs. search needs)  -- leaf-requires
     returns-4
     returns-5)

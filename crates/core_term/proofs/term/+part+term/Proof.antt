@@ -60,33 +60,13 @@ part-returns : (t : ℕ) → part-lts.Need-returns (P t) (part-at t) part.Post
 part-returns t c =
     (walk-short _ _ _ _ _ _ (c .before .before .before .before .args .words .now) (c .if1 .taken), tt)
 
-part-shared-slice-read-if2 : (t : ℕ) → part-lts.Need-shared-slice-read-if2 (P t) (part-at t) part.Post
-part-shared-slice-read-if2 t c =
-    search needs
-
-part-leaf-requires : (t : ℕ) → part-lts.Need-leaf-requires (P t) (part-at t) part.Post
-part-leaf-requires t c κs =
-    search needs
-
-part-same-length : (t : ℕ) → part-lts.Need-same-length (P t) (part-at t) part.Post
-part-same-length t c =
-    search needs
-
 part-returns-2 : (t : ℕ) → part-lts.Need-returns-2 (P t) (part-at t) part.Post
 part-returns-2 t c =
     (leaf-whole _ _ _ _ _ _ _ _ (c .before .leaf .ensures) (c .if3 .taken) (c .before .before .before .before .before .before .before .before .before .pre .1), refl)
 
-part-same-length-2 : (t : ℕ) → part-lts.Need-same-length-2 (P t) (part-at t) part.Post
-part-same-length-2 t c =
-    search needs
-
 part-returns-3 : (t : ℕ) → part-lts.Need-returns-3 (P t) (part-at t) part.Post
 part-returns-3 t c =
     (leaf-none _ _ _ _ _ _ _ _ (c .before .leaf .ensures) (c .if3 .left), tt)
-
-part-term-requires : (t : ℕ) → part-lts.Need-term-requires (P t) (part-at t) part.Post
-part-term-requires t c κs =
-    search needs
 
 part-same-length-3 : (t : ℕ) → part-lts.Need-same-length-3 (P t) (part-at t) part.Post
 part-same-length-3 t c =
@@ -96,61 +76,13 @@ part-returns-4 : (t : ℕ) → part-lts.Need-returns-4 (P t) (part-at t) part.Po
 part-returns-4 t c =
     c .before .before .term .ensures
 
-term-node-requires : (t : ℕ) → term-lts.Need-node-requires (E t) (term-at t) term.Post term-Inv-loop term-μ-loop
-term-node-requires t c κs =
-    search needs
-
-term-enum-known-size : (t : ℕ) → term-lts.Need-enum-known-size (E t) (term-at t) term.Post term-Inv-loop term-μ-loop
-term-enum-known-size t c =
-    search needs
-
-term-enum-told : (t : ℕ) → term-lts.Need-enum-told (E t) (term-at t) term.Post term-Inv-loop term-μ-loop
-term-enum-told t c =
-    search needs
-
-term-same-length : (t : ℕ) → term-lts.Need-same-length (E t) (term-at t) term.Post term-Inv-loop term-μ-loop
-term-same-length t c =
-    search needs
-
 term-returns : (t : ℕ) → term-lts.Need-returns (E t) (term-at t) term.Post term-Inv-loop term-μ-loop
 term-returns t c =
     (walk-none _ _ _ _ _ _ (c .before .before .before .before .before .before .before .args .words .now) (sym (c .enum-told .given .1) ∙ c .before .before .node .ensures), tt)
 
-term-mark-requires : (t : ℕ) → term-lts.Need-mark-requires (E t) (term-at t) term.Post term-Inv-loop term-μ-loop
-term-mark-requires t c κs =
-    search needs
-
 term-loop-holds : (t : ℕ) → term-lts.Need-loop-holds (E t) (term-at t) term.Post term-Inv-loop term-μ-loop
 term-loop-holds t c =
     walk-begin _ _ _ _ _ _ _ _ _ _ (c .before .before .mark .ensures) (c .before .before .before .before .before .before .before .before .before .before .before .before .pre .1) _ _ (sym (c .before .before .before .before .before .size .given .1) ∙ c .before .before .before .before .before .before .before .node .ensures)
-
-term-mul-part : (t : ℕ) → term-lts.Need-mul-part (E t) (term-at t) term.Post term-Inv-loop term-μ-loop
-term-mul-part t c =
-    search needs
-
-term-sub-part : (t : ℕ) → term-lts.Need-sub-part (E t) (term-at t) term.Post term-Inv-loop term-μ-loop
-term-sub-part t c =
-    search needs
-
-term-part-part-start : (t : ℕ) → term-lts.Need-part-part-start (E t) (term-at t) term.Post term-Inv-loop term-μ-loop
-term-part-part-start t c =
-    search needs
-
-term-part-part-end : (t : ℕ) → term-lts.Need-part-part-end (E t) (term-at t) term.Post term-Inv-loop term-μ-loop
-term-part-part-end t c =
-    search needs
-
-term-part-requires : (t : ℕ) → term-lts.Need-part-requires (E t) (term-at t) term.Post term-Inv-loop term-μ-loop
-term-part-requires t c κs =
-    search needs
-
-term-enum-known-used : (t : ℕ) → term-lts.Need-enum-known-used (E t) (term-at t) term.Post term-Inv-loop term-μ-loop
-term-enum-known-used t c =
-    search needs
-
-term-enum-told-2 : (t : ℕ) → term-lts.Need-enum-told-2 (E t) (term-at t) term.Post term-Inv-loop term-μ-loop
-term-enum-told-2 t c =
-    search needs
 
 term-same-length-2 : (t : ℕ) → term-lts.Need-same-length-2 (E t) (term-at t) term.Post term-Inv-loop term-μ-loop
 term-same-length-2 t c =
@@ -164,21 +96,9 @@ term-add-at : (t : ℕ) → term-lts.Need-add-at (E t) (term-at t) term.Post ter
 term-add-at t c =
     let w = c .before .before .before .before .before .before .before .before .before .loop .inv in omega (arith, walk-next _ _ _ _ _ _ _ _ _ _ _ _ _ w _ _ (shaped-term _ _ _ _ _ _ (c .before .before .before .before .before .part .ensures .0) _ _ (c .before .used .given .1)))
 
-term-sub-left : (t : ℕ) → term-lts.Need-sub-left (E t) (term-at t) term.Post term-Inv-loop term-μ-loop
-term-sub-left t c =
-    search needs
-
-term-loop-less : (t : ℕ) → term-lts.Need-loop-less (E t) (term-at t) term.Post term-Inv-loop term-μ-loop
-term-loop-less t c =
-    search needs
-
 term-loop-again : (t : ℕ) → term-lts.Need-loop-again (E t) (term-at t) term.Post term-Inv-loop term-μ-loop
 term-loop-again t c =
     walk-on _ _ _ _ _ _ _ _ _ _ _ _ _ (c .before .before .before .before .before .before .before .before .before .loop .inv) _ _ (shaped-term _ _ _ _ _ _ (c .before .before .before .before .before .part .ensures .0) _ _ (c .before .used .given .1)) (omega arith) _ (kept-term _ _ _ _ _ (c .before .before .before .before .before .part .ensures .1) (c .before .used .given .1))
-
-term-mark-requires-2 : (t : ℕ) → term-lts.Need-mark-requires-2 (E t) (term-at t) term.Post term-Inv-loop term-μ-loop
-term-mark-requires-2 t c κs =
-    search needs
 
 term-same-length-3 : (t : ℕ) → term-lts.Need-same-length-3 (E t) (term-at t) term.Post term-Inv-loop term-μ-loop
 term-same-length-3 t c =
@@ -192,39 +112,39 @@ pub +part+term-spec : {M : Type 1} → statement M
 +part+term-spec = close μ-part μ-term (λ t. part-lts.spec (P t) (part-at t)
     part.Post
     (part-returns t)
-    (part-shared-slice-read-if2 t)
-    (part-leaf-requires t)
-    (part-same-length t)
+    (λ c. search needs)  -- part-shared-slice-read-if2
+    (λ c κs. search needs)  -- part-leaf-requires
+    (λ c. search needs)  -- part-same-length
     (part-returns-2 t)
-    (part-same-length-2 t)
+    (λ c. search needs)  -- part-same-length-2
     (part-returns-3 t)
-    (part-term-requires t)
+    (λ c κs. search needs)  -- part-term-requires
     (part-same-length-3 t)
     (part-returns-4 t))
     λ t. term-lts.spec (E t) (term-at t)
     term.Post
     term-Inv-loop
     term-μ-loop
-    (term-node-requires t)
-    (term-enum-known-size t)
-    (term-enum-told t)
-    (term-same-length t)
+    (λ c κs. search needs)  -- term-node-requires
+    (λ c. search needs)  -- term-enum-known-size
+    (λ c. search needs)  -- term-enum-told
+    (λ c. search needs)  -- term-same-length
     (term-returns t)
-    (term-mark-requires t)
+    (λ c κs. search needs)  -- term-mark-requires
     (term-loop-holds t)
-    (term-mul-part t)
-    (term-sub-part t)
-    (term-part-part-start t)
-    (term-part-part-end t)
-    (term-part-requires t)
-    (term-enum-known-used t)
-    (term-enum-told-2 t)
+    (λ c. search needs)  -- term-mul-part
+    (λ c. search needs)  -- term-sub-part
+    (λ c. search needs)  -- term-part-part-start
+    (λ c. search needs)  -- term-part-part-end
+    (λ c κs. search needs)  -- term-part-requires
+    (λ c. search needs)  -- term-enum-known-used
+    (λ c. search needs)  -- term-enum-told-2
     (term-same-length-2 t)
     (term-returns-2 t)
     (term-add-at t)
-    (term-sub-left t)
-    (term-loop-less t)
+    (λ c. search needs)  -- term-sub-left
+    (λ c. search needs)  -- term-loop-less
     (term-loop-again t)
-    (term-mark-requires-2 t)
+    (λ c κs. search needs)  -- term-mark-requires-2
     (term-same-length-3 t)
     (term-returns-3 t)

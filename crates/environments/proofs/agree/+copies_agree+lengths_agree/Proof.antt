@@ -74,20 +74,12 @@ abbrev copies-agree-μ-loop : copies-agree-lts.MeasureT-loop
 copies-agree-μ-loop work env e c moving table₀ k₀ table k =
     c - k
 
-copies-agree-flat-requires : (t : ℕ) → copies-agree-lts.Need-flat-requires (copies-agree-claims t) (copies-agree-at t) copies-agree.Post copies-agree-Inv-loop copies-agree-μ-loop
-copies-agree-flat-requires t c κs =
-    search needs
-
 copies-agree-returns : (t : ℕ) → copies-agree-lts.Need-returns (copies-agree-claims t) (copies-agree-at t) copies-agree.Post copies-agree-Inv-loop copies-agree-μ-loop
 copies-agree-returns t c =
     let a = c .before .before .before .args in
     let flat = c .before .flat in
     let if1 = c .if1 in
     copies-flat (a .work .now) (a .env .now) (a .e) (a .c) (flat .ensures (if1 .taken))
-
-copies-agree-begin-requires : (t : ℕ) → copies-agree-lts.Need-begin-requires (copies-agree-claims t) (copies-agree-at t) copies-agree.Post copies-agree-Inv-loop copies-agree-μ-loop
-copies-agree-begin-requires t c κs =
-    search needs
 
 copies-agree-loop-holds : (t : ℕ) → copies-agree-lts.Need-loop-holds (copies-agree-claims t) (copies-agree-at t) copies-agree.Post copies-agree-Inv-loop copies-agree-μ-loop
 copies-agree-loop-holds t c =
@@ -116,14 +108,6 @@ copies-agree-returns-2 t c =
     let if2 = c .if2 in
     copies-no (a .work .now) (a .env .now) (a .e) (loop .k) _ _ _ (loop .inv .2) (enter .ensures) (lengths-agree .ensures) (a .c) (omega arith) (not-true _ (if2 .taken))
 
-copies-agree-add-k : (t : ℕ) → copies-agree-lts.Need-add-k (copies-agree-claims t) (copies-agree-at t) copies-agree.Post copies-agree-Inv-loop copies-agree-μ-loop
-copies-agree-add-k t c =
-    search needs
-
-copies-agree-loop-less : (t : ℕ) → copies-agree-lts.Need-loop-less (copies-agree-claims t) (copies-agree-at t) copies-agree.Post copies-agree-Inv-loop copies-agree-μ-loop
-copies-agree-loop-less t c =
-    search needs
-
 copies-agree-loop-again : (t : ℕ) → copies-agree-lts.Need-loop-again (copies-agree-claims t) (copies-agree-at t) copies-agree.Post copies-agree-Inv-loop copies-agree-μ-loop
 copies-agree-loop-again t c =
     let a = c .before .before .before .before .before .before .before .before .before .before .before .before .args in
@@ -142,10 +126,6 @@ copies-agree-returns-3 t c =
     let loop = c .before .loop in
     let e : loop .k ≡ a .c = omega arith in subst (λ (k : ℕ). CopiesAgree (a .work .now) (a .env .now) (a .e) k true) e (loop .inv .1)
 
-lengths-agree-word-requires : (t : ℕ) → lengths-agree-lts.Need-word-requires (lengths-agree-claims t) (lengths-agree-at t) lengths-agree.Post
-lengths-agree-word-requires t c κs =
-    search needs
-
 lengths-agree-returns : (t : ℕ) → lengths-agree-lts.Need-returns (lengths-agree-claims t) (lengths-agree-at t) lengths-agree.Post
 lengths-agree-returns t c =
     let a = c .before .before .before .args in
@@ -157,14 +137,6 @@ lengths-agree-returns-2 t c =
     let a = c .before .before .before .before .args in
     let word = c .before .before .word in
     agree-leaf (a .work .now) (a .env .now) (a .t) _ (word .ensures) (λ z. omega arith) (λ z. omega arith)
-
-lengths-agree-reference-requires : (t : ℕ) → lengths-agree-lts.Need-reference-requires (lengths-agree-claims t) (lengths-agree-at t) lengths-agree.Post
-lengths-agree-reference-requires t c κs =
-    search needs
-
-lengths-agree-reference-requires-2 : (t : ℕ) → lengths-agree-lts.Need-reference-requires-2 (lengths-agree-claims t) (lengths-agree-at t) lengths-agree.Post
-lengths-agree-reference-requires-2 t c κs =
-    search needs
 
 lengths-agree-lengths-agree-requires : (t : ℕ) → lengths-agree-lts.Need-lengths-agree-requires (lengths-agree-claims t) (lengths-agree-at t) lengths-agree.Post
 lengths-agree-lengths-agree-requires t c κs =
@@ -206,14 +178,6 @@ lengths-agree-returns-4 t c =
     let if4 = c .before .if4 in
     let lengths-agree2 = c .lengths-agree2 in
     agree-tail (a .work .now) (a .env .now) (a .t) _ (word .ensures) _ _ (reference .ensures) (reference2 .ensures) _ _ (if3 .taken) (lengths-agree .ensures) (not-false _ (if4 .left)) (lengths-agree2 .ensures)
-
-lengths-agree-copies-requires : (t : ℕ) → lengths-agree-lts.Need-copies-requires (lengths-agree-claims t) (lengths-agree-at t) lengths-agree.Post
-lengths-agree-copies-requires t c κs =
-    search needs
-
-lengths-agree-one-length-requires : (t : ℕ) → lengths-agree-lts.Need-one-length-requires (lengths-agree-claims t) (lengths-agree-at t) lengths-agree.Post
-lengths-agree-one-length-requires t c κs =
-    search needs
 
 lengths-agree-returns-5 : (t : ℕ) → lengths-agree-lts.Need-returns-5 (lengths-agree-claims t) (lengths-agree-at t) lengths-agree.Post
 lengths-agree-returns-5 t c =
@@ -287,31 +251,31 @@ pub +copies-agree+lengths-agree-spec : {M : Type 1} → statement M
     copies-agree.Post
     copies-agree-Inv-loop
     copies-agree-μ-loop
-    (copies-agree-flat-requires t)
+    (λ c κs. search needs)  -- copies-agree-flat-requires
     (copies-agree-returns t)
-    (copies-agree-begin-requires t)
+    (λ c κs. search needs)  -- copies-agree-begin-requires
     (copies-agree-loop-holds t)
     (copies-agree-enter-requires t)
     (copies-agree-lengths-agree-requires t)
     (copies-agree-returns-2 t)
-    (copies-agree-add-k t)
-    (copies-agree-loop-less t)
+    (λ c. search needs)  -- copies-agree-add-k
+    (λ c. search needs)  -- copies-agree-loop-less
     (copies-agree-loop-again t)
     (copies-agree-returns-3 t))
     λ t. lengths-agree-lts.spec (lengths-agree-claims t)
     (lengths-agree-at t)
     lengths-agree.Post
-    (lengths-agree-word-requires t)
+    (λ c κs. search needs)  -- lengths-agree-word-requires
     (lengths-agree-returns t)
     (lengths-agree-returns-2 t)
-    (lengths-agree-reference-requires t)
-    (lengths-agree-reference-requires-2 t)
+    (λ c κs. search needs)  -- lengths-agree-reference-requires
+    (λ c κs. search needs)  -- lengths-agree-reference-requires-2
     (lengths-agree-lengths-agree-requires t)
     (lengths-agree-returns-3 t)
     (lengths-agree-lengths-agree-requires-2 t)
     (lengths-agree-returns-4 t)
-    (lengths-agree-copies-requires t)
-    (lengths-agree-one-length-requires t)
+    (λ c κs. search needs)  -- lengths-agree-copies-requires
+    (λ c κs. search needs)  -- lengths-agree-one-length-requires
     (lengths-agree-returns-5 t)
     (lengths-agree-copies-agree-requires t)
     (lengths-agree-returns-6 t)

@@ -29,10 +29,6 @@ flat-below t = and 1 flat-kinds.ps (falls 1 flat-kinds.ps _<_ μ-flat t) flat.Pr
 abbrev flat-claims : ℕ → flat-lts.Claims
 flat-claims t = (word-reads.Asked, word-reads.Learnt, reference-reads.Asked, reference-reads.Learnt, flat-below t, flat.Post)
 
-flat-word-requires : (t : ℕ) → flat-lts.Need-word-requires (flat-claims t) (flat-at t) flat.Post
-flat-word-requires t c κs =
-    search needs
-
 flat-returns : (t : ℕ) → flat-lts.Need-returns (flat-claims t) (flat-at t) flat.Post
 flat-returns t c =
     λ z. absurd (false≢true z)
@@ -45,10 +41,6 @@ flat-returns-2 t c =
     let if2 = c .if2 in
     λ z. flat-leaf (a .work .now) (a .t) _ (word .ensures) (if2 .taken) (if1 .left)
 
-flat-reference-requires : (t : ℕ) → flat-lts.Need-reference-requires (flat-claims t) (flat-at t) flat.Post
-flat-reference-requires t c κs =
-    search needs
-
 flat-flat-requires : (t : ℕ) → flat-lts.Need-flat-requires (flat-claims t) (flat-at t) flat.Post
 flat-flat-requires t c κs =
     let a = c .before .before .before .before .before .args in
@@ -59,10 +51,6 @@ flat-flat-requires t c κs =
 flat-returns-3 : (t : ℕ) → flat-lts.Need-returns-3 (flat-claims t) (flat-at t) flat.Post
 flat-returns-3 t c =
     λ z. absurd (false≢true z)
-
-flat-reference-requires-2 : (t : ℕ) → flat-lts.Need-reference-requires-2 (flat-claims t) (flat-at t) flat.Post
-flat-reference-requires-2 t c κs =
-    search needs
 
 flat-flat-requires-2 : (t : ℕ) → flat-lts.Need-flat-requires-2 (flat-claims t) (flat-at t) flat.Post
 flat-flat-requires-2 t c κs =
@@ -87,12 +75,12 @@ pub +flat-spec : {M : Type 1} → statement M
 +flat-spec = close μ-flat λ t. flat-lts.spec (flat-claims t)
     (flat-at t)
     flat.Post
-    (flat-word-requires t)
+    (λ c κs. search needs)  -- flat-word-requires
     (flat-returns t)
     (flat-returns-2 t)
-    (flat-reference-requires t)
+    (λ c κs. search needs)  -- flat-reference-requires
     (flat-flat-requires t)
     (flat-returns-3 t)
-    (flat-reference-requires-2 t)
+    (λ c κs. search needs)  -- flat-reference-requires-2
     (flat-flat-requires-2 t)
     (flat-returns-4 t)

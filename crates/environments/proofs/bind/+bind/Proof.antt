@@ -31,33 +31,9 @@ bind-below t = and 2 bind-kinds.ps (falls 2 bind-kinds.ps _<_ μ-bind t) bind.Pr
 abbrev bind-claims : ℕ → bind-lts.Claims
 bind-claims t = (word-reads.Asked, word-reads.Learnt, bind-variable-reads.Asked, bind-variable-reads.Learnt, reference-reads.Asked, reference-reads.Learnt, bind-list-reads.Asked, bind-list-reads.Learnt, rest-reads.Asked, rest-reads.Learnt, bind-below t, bind.Post, first-reads.Asked, first-reads.Learnt)
 
-bind-word-requires : (t : ℕ) → bind-lts.Need-word-requires (bind-claims t) (bind-at t) bind.Post
-bind-word-requires t c κs = search needs
-
-bind-word-requires-2 : (t : ℕ) → bind-lts.Need-word-requires-2 (bind-claims t) (bind-at t) bind.Post
-bind-word-requires-2 t c κs = search needs
-
-bind-bind-variable-requires : (t : ℕ) → bind-lts.Need-bind-variable-requires (bind-claims t) (bind-at t) bind.Post
-bind-bind-variable-requires t c κs = search needs
-
 bind-returns : (t : ℕ) → bind-lts.Need-returns (bind-claims t) (bind-at t) bind.Post
 bind-returns t c =
     let a = c .before .before .before .before .before .before .args in pattern-variable (a .work .now) (a .p) _ (c .before .before .before .before .word .ensures) (a .env .now) (a .u) _ _ (c .before .before .before .if1 .taken) (c .before .before .word2 .ensures) (c .bind-variable .ensures)
-
-bind-reference-requires : (t : ℕ) → bind-lts.Need-reference-requires (bind-claims t) (bind-at t) bind.Post
-bind-reference-requires t c κs = search needs
-
-bind-sub-bind-list : (t : ℕ) → bind-lts.Need-sub-bind-list (bind-claims t) (bind-at t) bind.Post
-bind-sub-bind-list t c = search needs
-
-bind-part-bind-list-start : (t : ℕ) → bind-lts.Need-part-bind-list-start (bind-claims t) (bind-at t) bind.Post
-bind-part-bind-list-start t c = search needs
-
-bind-part-bind-list-end : (t : ℕ) → bind-lts.Need-part-bind-list-end (bind-claims t) (bind-at t) bind.Post
-bind-part-bind-list-end t c = search needs
-
-bind-bind-list-requires : (t : ℕ) → bind-lts.Need-bind-list-requires (bind-claims t) (bind-at t) bind.Post
-bind-bind-list-requires t c κs = search needs
 
 bind-returns-2 : (t : ℕ) → bind-lts.Need-returns-2 (bind-claims t) (bind-at t) bind.Post
 bind-returns-2 t c =
@@ -67,36 +43,9 @@ bind-returns-3 : (t : ℕ) → bind-lts.Need-returns-3 (bind-claims t) (bind-at 
 bind-returns-3 t c =
     let a = c .before .before .before .before .before .before .args in pattern-none (a .work .now) (a .p) _ (c .before .before .before .before .word .ensures) (a .env .now) (a .u) (c .before .before .before .if1 .left) (c .if3 .taken) (c .before .if2 .left)
 
-bind-rest-requires : (t : ℕ) → bind-lts.Need-rest-requires (bind-claims t) (bind-at t) bind.Post
-bind-rest-requires t c κs = search needs
-
-bind-sub-bind : (t : ℕ) → bind-lts.Need-sub-bind (bind-claims t) (bind-at t) bind.Post
-bind-sub-bind t c = search needs
-
-bind-part-bind-start : (t : ℕ) → bind-lts.Need-part-bind-start (bind-claims t) (bind-at t) bind.Post
-bind-part-bind-start t c = search needs
-
-bind-part-bind-end : (t : ℕ) → bind-lts.Need-part-bind-end (bind-claims t) (bind-at t) bind.Post
-bind-part-bind-end t c = search needs
-
 bind-bind-requires : (t : ℕ) → bind-lts.Need-bind-requires (bind-claims t) (bind-at t) bind.Post
 bind-bind-requires t c κs =
     let a = c .before .before .before .before .before .before .before .before .before .args in let l = tag-falls (a .work .now) (a .p) _ (c .before .before .before .before .before .before .before .word .ensures) 2 _ (λ z. omega arith) (c .before .before .before .before .before .reference .ensures) in omega (arith, l)
-
-bind-reference-requires-2 : (t : ℕ) → bind-lts.Need-reference-requires-2 (bind-claims t) (bind-at t) bind.Post
-bind-reference-requires-2 t c κs = search needs
-
-bind-first-requires : (t : ℕ) → bind-lts.Need-first-requires (bind-claims t) (bind-at t) bind.Post
-bind-first-requires t c κs = search needs
-
-bind-sub-bind-2 : (t : ℕ) → bind-lts.Need-sub-bind-2 (bind-claims t) (bind-at t) bind.Post
-bind-sub-bind-2 t c = search needs
-
-bind-part-bind-start-2 : (t : ℕ) → bind-lts.Need-part-bind-start-2 (bind-claims t) (bind-at t) bind.Post
-bind-part-bind-start-2 t c = search needs
-
-bind-part-bind-end-2 : (t : ℕ) → bind-lts.Need-part-bind-end-2 (bind-claims t) (bind-at t) bind.Post
-bind-part-bind-end-2 t c = search needs
 
 bind-bind-requires-2 : (t : ℕ) → bind-lts.Need-bind-requires-2 (bind-claims t) (bind-at t) bind.Post
 bind-bind-requires-2 t c κs =
@@ -125,26 +74,26 @@ pub +bind-spec : {M : Type 1} → statement M
 )
     (bind-at t)
     bind.Post
-    (bind-word-requires t)
-    (bind-word-requires-2 t)
-    (bind-bind-variable-requires t)
+    (λ c κs. search needs)  -- bind-word-requires
+    (λ c κs. search needs)  -- bind-word-requires-2
+    (λ c κs. search needs)  -- bind-bind-variable-requires
     (bind-returns t)
-    (bind-reference-requires t)
-    (bind-sub-bind-list t)
-    (bind-part-bind-list-start t)
-    (bind-part-bind-list-end t)
-    (bind-bind-list-requires t)
+    (λ c κs. search needs)  -- bind-reference-requires
+    (λ c. search needs)  -- bind-sub-bind-list
+    (λ c. search needs)  -- bind-part-bind-list-start
+    (λ c. search needs)  -- bind-part-bind-list-end
+    (λ c κs. search needs)  -- bind-bind-list-requires
     (bind-returns-2 t)
     (bind-returns-3 t)
-    (bind-rest-requires t)
-    (bind-sub-bind t)
-    (bind-part-bind-start t)
-    (bind-part-bind-end t)
+    (λ c κs. search needs)  -- bind-rest-requires
+    (λ c. search needs)  -- bind-sub-bind
+    (λ c. search needs)  -- bind-part-bind-start
+    (λ c. search needs)  -- bind-part-bind-end
     (bind-bind-requires t)
-    (bind-reference-requires-2 t)
-    (bind-first-requires t)
-    (bind-sub-bind-2 t)
-    (bind-part-bind-start-2 t)
-    (bind-part-bind-end-2 t)
+    (λ c κs. search needs)  -- bind-reference-requires-2
+    (λ c κs. search needs)  -- bind-first-requires
+    (λ c. search needs)  -- bind-sub-bind-2
+    (λ c. search needs)  -- bind-part-bind-start-2
+    (λ c. search needs)  -- bind-part-bind-end-2
     (bind-bind-requires-2 t)
     (bind-returns-4 t)

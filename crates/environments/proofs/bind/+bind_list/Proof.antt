@@ -29,30 +29,9 @@ bind-list-below t =
 abbrev bind-list-claims : ℕ → bind-list-lts.Claims
 bind-list-claims t = (word-reads.Asked, word-reads.Learnt, bind-variable-reads.Asked, bind-variable-reads.Learnt, reference-reads.Asked, reference-reads.Learnt, bind-list-below t, bind-list.Post)
 
-bind-list-word-requires : (t : ℕ) → bind-list-lts.Need-word-requires (bind-list-claims t) (bind-list-at t) bind-list.Post
-bind-list-word-requires t c κs = search needs
-
-bind-list-word-requires-2 : (t : ℕ) → bind-list-lts.Need-word-requires-2 (bind-list-claims t) (bind-list-at t) bind-list.Post
-bind-list-word-requires-2 t c κs = search needs
-
-bind-list-bind-variable-requires : (t : ℕ) → bind-list-lts.Need-bind-variable-requires (bind-list-claims t) (bind-list-at t) bind-list.Post
-bind-list-bind-variable-requires t c κs = search needs
-
 bind-list-returns : (t : ℕ) → bind-list-lts.Need-returns (bind-list-claims t) (bind-list-at t) bind-list.Post
 bind-list-returns t c =
     let a = c .before .before .before .before .before .before .args in list-variable (a .work .now) (a .p) _ (c .before .before .before .before .word .ensures) (a .env .now) (a .list) (a .first) (a .second) _ _ (c .before .before .before .if1 .taken) (c .before .before .word2 .ensures) (c .bind-variable .ensures)
-
-bind-list-reference-requires : (t : ℕ) → bind-list-lts.Need-reference-requires (bind-list-claims t) (bind-list-at t) bind-list.Post
-bind-list-reference-requires t c κs = search needs
-
-bind-list-sub-bind-list : (t : ℕ) → bind-list-lts.Need-sub-bind-list (bind-list-claims t) (bind-list-at t) bind-list.Post
-bind-list-sub-bind-list t c = search needs
-
-bind-list-part-bind-list-start : (t : ℕ) → bind-list-lts.Need-part-bind-list-start (bind-list-claims t) (bind-list-at t) bind-list.Post
-bind-list-part-bind-list-start t c = search needs
-
-bind-list-part-bind-list-end : (t : ℕ) → bind-list-lts.Need-part-bind-list-end (bind-list-claims t) (bind-list-at t) bind-list.Post
-bind-list-part-bind-list-end t c = search needs
 
 bind-list-bind-list-requires : (t : ℕ) → bind-list-lts.Need-bind-list-requires (bind-list-claims t) (bind-list-at t) bind-list.Post
 bind-list-bind-list-requires t c κs =
@@ -61,15 +40,6 @@ bind-list-bind-list-requires t c κs =
 bind-list-returns-2 : (t : ℕ) → bind-list-lts.Need-returns-2 (bind-list-claims t) (bind-list-at t) bind-list.Post
 bind-list-returns-2 t c =
     let a = c .before .before .before .before .before .before .before .before .before .args in list-second (a .work .now) (a .p) _ (c .before .before .before .before .before .before .before .word .ensures) (a .env .now) (a .list) (a .first) (a .second) _ _ (c .before .before .before .before .if2 .taken) (c .before .before .before .before .before .reference .ensures) (c .before .before .before .if3 .taken) (whole-list (a .work .now) _ _ _ _ _ _ (c .bind-list .ensures))
-
-bind-list-sub-bind-list-2 : (t : ℕ) → bind-list-lts.Need-sub-bind-list-2 (bind-list-claims t) (bind-list-at t) bind-list.Post
-bind-list-sub-bind-list-2 t c = search needs
-
-bind-list-part-bind-list-start-2 : (t : ℕ) → bind-list-lts.Need-part-bind-list-start-2 (bind-list-claims t) (bind-list-at t) bind-list.Post
-bind-list-part-bind-list-start-2 t c = search needs
-
-bind-list-part-bind-list-end-2 : (t : ℕ) → bind-list-lts.Need-part-bind-list-end-2 (bind-list-claims t) (bind-list-at t) bind-list.Post
-bind-list-part-bind-list-end-2 t c = search needs
 
 bind-list-bind-list-requires-2 : (t : ℕ) → bind-list-lts.Need-bind-list-requires-2 (bind-list-claims t) (bind-list-at t) bind-list.Post
 bind-list-bind-list-requires-2 t c κs =
@@ -83,30 +53,9 @@ bind-list-returns-4 : (t : ℕ) → bind-list-lts.Need-returns-4 (bind-list-clai
 bind-list-returns-4 t c =
     let a = c .before .before .before .before .before .before .args in list-none (a .work .now) (a .p) _ (c .before .before .before .before .word .ensures) (a .env .now) (a .list) (a .first) (a .second) (c .before .before .before .if1 .left) (c .if4 .taken) (c .before .if2 .left)
 
-bind-list-reference-requires-2 : (t : ℕ) → bind-list-lts.Need-reference-requires-2 (bind-list-claims t) (bind-list-at t) bind-list.Post
-bind-list-reference-requires-2 t c κs = search needs
-
-bind-list-sub-bind-list-3 : (t : ℕ) → bind-list-lts.Need-sub-bind-list-3 (bind-list-claims t) (bind-list-at t) bind-list.Post
-bind-list-sub-bind-list-3 t c = search needs
-
-bind-list-part-bind-list-start-3 : (t : ℕ) → bind-list-lts.Need-part-bind-list-start-3 (bind-list-claims t) (bind-list-at t) bind-list.Post
-bind-list-part-bind-list-start-3 t c = search needs
-
-bind-list-part-bind-list-end-3 : (t : ℕ) → bind-list-lts.Need-part-bind-list-end-3 (bind-list-claims t) (bind-list-at t) bind-list.Post
-bind-list-part-bind-list-end-3 t c = search needs
-
 bind-list-bind-list-requires-3 : (t : ℕ) → bind-list-lts.Need-bind-list-requires-3 (bind-list-claims t) (bind-list-at t) bind-list.Post
 bind-list-bind-list-requires-3 t c κs =
     let a = c .before .before .before .before .before .before .before .before .before .args in let l = tag-falls (a .work .now) (a .p) _ (c .before .before .before .before .before .before .before .word .ensures) 2 _ (λ z. omega arith) (c .before .before .before .before .before .reference .ensures) in omega (arith, l)
-
-bind-list-sub-bind-list-4 : (t : ℕ) → bind-list-lts.Need-sub-bind-list-4 (bind-list-claims t) (bind-list-at t) bind-list.Post
-bind-list-sub-bind-list-4 t c = search needs
-
-bind-list-part-bind-list-start-4 : (t : ℕ) → bind-list-lts.Need-part-bind-list-start-4 (bind-list-claims t) (bind-list-at t) bind-list.Post
-bind-list-part-bind-list-start-4 t c = search needs
-
-bind-list-part-bind-list-end-4 : (t : ℕ) → bind-list-lts.Need-part-bind-list-end-4 (bind-list-claims t) (bind-list-at t) bind-list.Post
-bind-list-part-bind-list-end-4 t c = search needs
 
 bind-list-bind-list-requires-4 : (t : ℕ) → bind-list-lts.Need-bind-list-requires-4 (bind-list-claims t) (bind-list-at t) bind-list.Post
 bind-list-bind-list-requires-4 t c κs =
@@ -129,29 +78,29 @@ pub +bind-list-spec : {M : Type 1} → statement M
 )
     (bind-list-at t)
     bind-list.Post
-    (bind-list-word-requires t)
-    (bind-list-word-requires-2 t)
-    (bind-list-bind-variable-requires t)
+    (λ c κs. search needs)  -- bind-list-word-requires
+    (λ c κs. search needs)  -- bind-list-word-requires-2
+    (λ c κs. search needs)  -- bind-list-bind-variable-requires
     (bind-list-returns t)
-    (bind-list-reference-requires t)
-    (bind-list-sub-bind-list t)
-    (bind-list-part-bind-list-start t)
-    (bind-list-part-bind-list-end t)
+    (λ c κs. search needs)  -- bind-list-reference-requires
+    (λ c. search needs)  -- bind-list-sub-bind-list
+    (λ c. search needs)  -- bind-list-part-bind-list-start
+    (λ c. search needs)  -- bind-list-part-bind-list-end
     (bind-list-bind-list-requires t)
     (bind-list-returns-2 t)
-    (bind-list-sub-bind-list-2 t)
-    (bind-list-part-bind-list-start-2 t)
-    (bind-list-part-bind-list-end-2 t)
+    (λ c. search needs)  -- bind-list-sub-bind-list-2
+    (λ c. search needs)  -- bind-list-part-bind-list-start-2
+    (λ c. search needs)  -- bind-list-part-bind-list-end-2
     (bind-list-bind-list-requires-2 t)
     (bind-list-returns-3 t)
     (bind-list-returns-4 t)
-    (bind-list-reference-requires-2 t)
-    (bind-list-sub-bind-list-3 t)
-    (bind-list-part-bind-list-start-3 t)
-    (bind-list-part-bind-list-end-3 t)
+    (λ c κs. search needs)  -- bind-list-reference-requires-2
+    (λ c. search needs)  -- bind-list-sub-bind-list-3
+    (λ c. search needs)  -- bind-list-part-bind-list-start-3
+    (λ c. search needs)  -- bind-list-part-bind-list-end-3
     (bind-list-bind-list-requires-3 t)
-    (bind-list-sub-bind-list-4 t)
-    (bind-list-part-bind-list-start-4 t)
-    (bind-list-part-bind-list-end-4 t)
+    (λ c. search needs)  -- bind-list-sub-bind-list-4
+    (λ c. search needs)  -- bind-list-part-bind-list-start-4
+    (λ c. search needs)  -- bind-list-part-bind-list-end-4
     (bind-list-bind-list-requires-4 t)
     (bind-list-returns-5 t)

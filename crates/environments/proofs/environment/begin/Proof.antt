@@ -27,25 +27,9 @@ get-requires : tie.Need-get-requires Inv-loop μ-loop
 get-requires c κs =
     (c .before .before .before .from .given .0, omega arith)
 
-add-moving : tie.Need-add-moving Inv-loop μ-loop
-add-moving c =
-    search needs
-
-begun-requires : tie.Need-begun-requires Inv-loop μ-loop
-begun-requires c κs =
-    search needs
-
 put-requires : tie.Need-put-requires Inv-loop μ-loop
 put-requires c κs =
     (c .before .before .before .before .before .before .loop .inv .1, omega arith)
-
-add-k : tie.Need-add-k Inv-loop μ-loop
-add-k c =
-    search needs
-
-loop-less : tie.Need-loop-less Inv-loop μ-loop
-loop-less c =
-    search needs
 
 loop-again : tie.Need-loop-again Inv-loop μ-loop
 loop-again c =
@@ -76,10 +60,10 @@ begin-spec =
     μ-loop
     loop-holds
     get-requires
-    add-moving
-    begun-requires
+    (λ c. search needs)  -- add-moving
+    (λ c κs. search needs)  -- begun-requires
     put-requires
-    add-k
-    loop-less
+    (λ c. search needs)  -- add-k
+    (λ c. search needs)  -- loop-less
     loop-again
     returns)

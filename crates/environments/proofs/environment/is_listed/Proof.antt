@@ -9,53 +9,21 @@ use mathlib.Core.Bool.{false≢true}
 use Rattle.environments.specs.EntryLaws.{listed-is}
 use native.Mathlib.Omega.{arith}
 
-word-requires : tie.Need-word-requires
-word-requires c κs =
-    search needs
-
 returns : tie.Need-returns
 returns c =
     λ z. absurd (false≢true z)
-
-word-requires-2 : tie.Need-word-requires-2
-word-requires-2 c κs =
-    search needs
 
 returns-2 : tie.Need-returns-2
 returns-2 c =
     λ z. absurd (false≢true z)
 
-word-requires-3 : tie.Need-word-requires-3
-word-requires-3 c κs =
-    search needs
-
 returns-3 : tie.Need-returns-3
 returns-3 c =
     λ z. absurd (false≢true z)
 
-cast-q : tie.Need-cast-q
-cast-q c =
-    search needs
-
-mul-q : tie.Need-mul-q
-mul-q c =
-    search needs
-
-add-q : tie.Need-add-q
-add-q c =
-    search needs
-
-mul-q-2 : tie.Need-mul-q-2
-mul-q-2 c =
-    search needs
-
 shared-slice-read-q : tie.Need-shared-slice-read-q
 shared-slice-read-q c =
     omega (arith, c .before .before .before .before .before .before .before .table .given .0, c .before .if3 .left)
-
-word-requires-4 : tie.Need-word-requires-4
-word-requires-4 c κs =
-    search needs
 
 returns-4 : tie.Need-returns-4
 returns-4 c =
@@ -65,16 +33,16 @@ pub is-listed-spec : {M : Type 1} → statement M
 is-listed-spec =
     tie.close
     (tie.spec
-    word-requires
+    (λ c κs. search needs)  -- word-requires
     returns
-    word-requires-2
+    (λ c κs. search needs)  -- word-requires-2
     returns-2
-    word-requires-3
+    (λ c κs. search needs)  -- word-requires-3
     returns-3
-    cast-q
-    mul-q
-    add-q
-    mul-q-2
+    (λ c. search needs)  -- cast-q
+    (λ c. search needs)  -- mul-q
+    (λ c. search needs)  -- add-q
+    (λ c. search needs)  -- mul-q-2
     shared-slice-read-q
-    word-requires-4
+    (λ c κs. search needs)  -- word-requires-4
     returns-4)

@@ -9,14 +9,6 @@ returns : tie.Need-returns
 returns c =
     taken-out (c .before .before .args .env .now) (c .before .before .args .k) (c .before .before .args .d) (c .before .table .given .0) (c .if1 .taken)
 
-mul-result : tie.Need-mul-result
-mul-result c =
-    search needs
-
-level-requires : tie.Need-level-requires
-level-requires c κs =
-    search needs
-
 add-result : tie.Need-add-result
 add-result c =
     omega (arith, c .level .ensures, level-most (c .before .before .before .args .d))
@@ -38,8 +30,8 @@ taken-spec =
     tie.close
     (tie.spec
     returns
-    mul-result
-    level-requires
+    (λ c. search needs)  -- mul-result
+    (λ c κs. search needs)  -- level-requires
     add-result
     mul-result-2
     shared-slice-read-result

@@ -33,30 +33,9 @@ all-of-below t = and 2 all-of-kinds.ps (falls 2 all-of-kinds.ps _<_ μ-all-of t)
 abbrev all-of-claims : ℕ → all-of-lts.Claims
 all-of-claims t = (word-reads.Asked, word-reads.Learnt, taken-reads.Asked, taken-reads.Learnt, count-reads.Asked, count-reads.Learnt, reference-reads.Asked, reference-reads.Learnt, deeper-reads.Asked, deeper-reads.Learnt, all-of-below t, all-of.Post)
 
-all-of-word-requires : (t : ℕ) → all-of-lts.Need-word-requires (all-of-claims t) (all-of-at t) all-of.Post
-all-of-word-requires t c κs = search needs
-
-all-of-word-requires-2 : (t : ℕ) → all-of-lts.Need-word-requires-2 (all-of-claims t) (all-of-at t) all-of.Post
-all-of-word-requires-2 t c κs = search needs
-
 all-of-returns : (t : ℕ) → all-of-lts.Need-returns (all-of-claims t) (all-of-at t) all-of.Post
 all-of-returns t c =
     let a = c .before .before .before .before .before .args in all-few (a .work .now) (a .env .now) (a .t) _ (c .before .before .before .word .ensures) (a .j) (a .c) _ (c .before .before .if1 .taken) (c .before .word2 .ensures) (c .if2 .taken)
-
-all-of-word-requires-3 : (t : ℕ) → all-of-lts.Need-word-requires-3 (all-of-claims t) (all-of-at t) all-of.Post
-all-of-word-requires-3 t c κs = search needs
-
-all-of-sub-taken : (t : ℕ) → all-of-lts.Need-sub-taken (all-of-claims t) (all-of-at t) all-of.Post
-all-of-sub-taken t c = search needs
-
-all-of-sub-taken-2 : (t : ℕ) → all-of-lts.Need-sub-taken-2 (all-of-claims t) (all-of-at t) all-of.Post
-all-of-sub-taken-2 t c = search needs
-
-all-of-taken-requires : (t : ℕ) → all-of-lts.Need-taken-requires (all-of-claims t) (all-of-at t) all-of.Post
-all-of-taken-requires t c κs = search needs
-
-all-of-count-requires : (t : ℕ) → all-of-lts.Need-count-requires (all-of-claims t) (all-of-at t) all-of.Post
-all-of-count-requires t c κs = search needs
 
 all-of-returns-2 : (t : ℕ) → all-of-lts.Need-returns-2 (all-of-claims t) (all-of-at t) all-of.Post
 all-of-returns-2 t c =
@@ -70,21 +49,9 @@ all-of-returns-4 : (t : ℕ) → all-of-lts.Need-returns-4 (all-of-claims t) (al
 all-of-returns-4 t c =
     let a = c .before .before .before .before .before .args in all-none (a .work .now) (a .env .now) (a .t) _ (c .before .before .before .word .ensures) (a .j) (a .c) (c .before .before .if1 .left) (λ z. omega arith) (λ z. omega arith)
 
-all-of-reference-requires : (t : ℕ) → all-of-lts.Need-reference-requires (all-of-claims t) (all-of-at t) all-of.Post
-all-of-reference-requires t c κs = search needs
-
 all-of-deeper-requires : (t : ℕ) → all-of-lts.Need-deeper-requires (all-of-claims t) (all-of-at t) all-of.Post
 all-of-deeper-requires t c κs =
     let a = c .before .before .before .before .before .before .args in let l = tag-falls (a .work .now) (a .t) _ (c .before .before .before .before .word .ensures) 3 _ (λ z. omega arith) (c .reference .ensures) in omega (arith, l, c .before .before .before .before .before .before .pre .1)
-
-all-of-sub-all-of : (t : ℕ) → all-of-lts.Need-sub-all-of (all-of-claims t) (all-of-at t) all-of.Post
-all-of-sub-all-of t c = search needs
-
-all-of-part-all-of-start : (t : ℕ) → all-of-lts.Need-part-all-of-start (all-of-claims t) (all-of-at t) all-of.Post
-all-of-part-all-of-start t c = search needs
-
-all-of-part-all-of-end : (t : ℕ) → all-of-lts.Need-part-all-of-end (all-of-claims t) (all-of-at t) all-of.Post
-all-of-part-all-of-end t c = search needs
 
 all-of-all-of-requires : (t : ℕ) → all-of-lts.Need-all-of-requires (all-of-claims t) (all-of-at t) all-of.Post
 all-of-all-of-requires t c κs =
@@ -93,18 +60,6 @@ all-of-all-of-requires t c κs =
 all-of-returns-5 : (t : ℕ) → all-of-lts.Need-returns-5 (all-of-claims t) (all-of-at t) all-of.Post
 all-of-returns-5 t c =
     let a = c .before .before .before .before .before .before .before .before .before .before .args in all-no (a .work .now) (a .env .now) (a .t) _ (c .before .before .before .before .before .before .before .before .word .ensures) (a .j) _ _ (referenceAt (a .work .now) (a .t) 2) (omega arith) (omega arith) (c .before .before .before .deeper .ensures) (c .before .before .before .before .reference .ensures) refl (a .c) _ (whole-all (a .work .now) _ _ _ _ _ (c .before .all-of .ensures)) (not-true _ (c .if5 .taken))
-
-all-of-reference-requires-2 : (t : ℕ) → all-of-lts.Need-reference-requires-2 (all-of-claims t) (all-of-at t) all-of.Post
-all-of-reference-requires-2 t c κs = search needs
-
-all-of-sub-all-of-2 : (t : ℕ) → all-of-lts.Need-sub-all-of-2 (all-of-claims t) (all-of-at t) all-of.Post
-all-of-sub-all-of-2 t c = search needs
-
-all-of-part-all-of-start-2 : (t : ℕ) → all-of-lts.Need-part-all-of-start-2 (all-of-claims t) (all-of-at t) all-of.Post
-all-of-part-all-of-start-2 t c = search needs
-
-all-of-part-all-of-end-2 : (t : ℕ) → all-of-lts.Need-part-all-of-end-2 (all-of-claims t) (all-of-at t) all-of.Post
-all-of-part-all-of-end-2 t c = search needs
 
 all-of-all-of-requires-2 : (t : ℕ) → all-of-lts.Need-all-of-requires-2 (all-of-claims t) (all-of-at t) all-of.Post
 all-of-all-of-requires-2 t c κs =
@@ -131,27 +86,27 @@ pub +all-of-spec : {M : Type 1} → statement M
 )
     (all-of-at t)
     all-of.Post
-    (all-of-word-requires t)
-    (all-of-word-requires-2 t)
+    (λ c κs. search needs)  -- all-of-word-requires
+    (λ c κs. search needs)  -- all-of-word-requires-2
     (all-of-returns t)
-    (all-of-word-requires-3 t)
-    (all-of-sub-taken t)
-    (all-of-sub-taken-2 t)
-    (all-of-taken-requires t)
-    (all-of-count-requires t)
+    (λ c κs. search needs)  -- all-of-word-requires-3
+    (λ c. search needs)  -- all-of-sub-taken
+    (λ c. search needs)  -- all-of-sub-taken-2
+    (λ c κs. search needs)  -- all-of-taken-requires
+    (λ c κs. search needs)  -- all-of-count-requires
     (all-of-returns-2 t)
     (all-of-returns-3 t)
     (all-of-returns-4 t)
-    (all-of-reference-requires t)
+    (λ c κs. search needs)  -- all-of-reference-requires
     (all-of-deeper-requires t)
-    (all-of-sub-all-of t)
-    (all-of-part-all-of-start t)
-    (all-of-part-all-of-end t)
+    (λ c. search needs)  -- all-of-sub-all-of
+    (λ c. search needs)  -- all-of-part-all-of-start
+    (λ c. search needs)  -- all-of-part-all-of-end
     (all-of-all-of-requires t)
     (all-of-returns-5 t)
-    (all-of-reference-requires-2 t)
-    (all-of-sub-all-of-2 t)
-    (all-of-part-all-of-start-2 t)
-    (all-of-part-all-of-end-2 t)
+    (λ c κs. search needs)  -- all-of-reference-requires-2
+    (λ c. search needs)  -- all-of-sub-all-of-2
+    (λ c. search needs)  -- all-of-part-all-of-start-2
+    (λ c. search needs)  -- all-of-part-all-of-end-2
     (all-of-all-of-requires-2 t)
     (all-of-returns-6 t)

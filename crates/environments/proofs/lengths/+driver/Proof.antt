@@ -33,30 +33,9 @@ driver-below t = and 2 driver-kinds.ps (falls 2 driver-kinds.ps _<_ μ-driver t)
 abbrev driver-claims : ℕ → driver-lts.Claims
 driver-claims t = (word-reads.Asked, word-reads.Learnt, taken-reads.Asked, taken-reads.Learnt, count-reads.Asked, count-reads.Learnt, reference-reads.Asked, reference-reads.Learnt, deeper-reads.Asked, deeper-reads.Learnt, driver-below t, driver.Post)
 
-driver-word-requires : (t : ℕ) → driver-lts.Need-word-requires (driver-claims t) (driver-at t) driver.Post
-driver-word-requires t c κs = search needs
-
-driver-word-requires-2 : (t : ℕ) → driver-lts.Need-word-requires-2 (driver-claims t) (driver-at t) driver.Post
-driver-word-requires-2 t c κs = search needs
-
 driver-returns : (t : ℕ) → driver-lts.Need-returns (driver-claims t) (driver-at t) driver.Post
 driver-returns t c =
     let a = c .before .before .before .before .before .args in drives-few (a .work .now) (a .env .now) (a .t) _ (c .before .before .before .word .ensures) (a .j) _ (c .before .before .if1 .taken) (c .before .word2 .ensures) (c .if2 .taken)
-
-driver-word-requires-3 : (t : ℕ) → driver-lts.Need-word-requires-3 (driver-claims t) (driver-at t) driver.Post
-driver-word-requires-3 t c κs = search needs
-
-driver-sub-taken : (t : ℕ) → driver-lts.Need-sub-taken (driver-claims t) (driver-at t) driver.Post
-driver-sub-taken t c = search needs
-
-driver-sub-taken-2 : (t : ℕ) → driver-lts.Need-sub-taken-2 (driver-claims t) (driver-at t) driver.Post
-driver-sub-taken-2 t c = search needs
-
-driver-taken-requires : (t : ℕ) → driver-lts.Need-taken-requires (driver-claims t) (driver-at t) driver.Post
-driver-taken-requires t c κs = search needs
-
-driver-count-requires : (t : ℕ) → driver-lts.Need-count-requires (driver-claims t) (driver-at t) driver.Post
-driver-count-requires t c κs = search needs
 
 driver-returns-2 : (t : ℕ) → driver-lts.Need-returns-2 (driver-claims t) (driver-at t) driver.Post
 driver-returns-2 t c =
@@ -70,47 +49,17 @@ driver-returns-4 : (t : ℕ) → driver-lts.Need-returns-4 (driver-claims t) (dr
 driver-returns-4 t c =
     let a = c .before .before .before .before .before .args in drives-none (a .work .now) (a .env .now) (a .t) _ (c .before .before .before .word .ensures) (a .j) (c .before .before .if1 .left) (λ z. omega arith) (λ z. omega arith)
 
-driver-reference-requires : (t : ℕ) → driver-lts.Need-reference-requires (driver-claims t) (driver-at t) driver.Post
-driver-reference-requires t c κs = search needs
-
 driver-deeper-requires : (t : ℕ) → driver-lts.Need-deeper-requires (driver-claims t) (driver-at t) driver.Post
 driver-deeper-requires t c κs =
     let a = c .before .before .before .before .before .before .args in let l = tag-falls (a .work .now) (a .t) _ (c .before .before .before .before .word .ensures) 3 _ (λ z. omega arith) (c .reference .ensures) in omega (arith, l, c .before .before .before .before .before .before .pre .1)
-
-driver-sub-driver : (t : ℕ) → driver-lts.Need-sub-driver (driver-claims t) (driver-at t) driver.Post
-driver-sub-driver t c = search needs
-
-driver-part-driver-start : (t : ℕ) → driver-lts.Need-part-driver-start (driver-claims t) (driver-at t) driver.Post
-driver-part-driver-start t c = search needs
-
-driver-part-driver-end : (t : ℕ) → driver-lts.Need-part-driver-end (driver-claims t) (driver-at t) driver.Post
-driver-part-driver-end t c = search needs
 
 driver-driver-requires : (t : ℕ) → driver-lts.Need-driver-requires (driver-claims t) (driver-at t) driver.Post
 driver-driver-requires t c κs =
     let a = c .before .before .before .before .before .before .before .before .args in let l = tag-falls (a .work .now) (a .t) _ (c .before .before .before .before .before .before .word .ensures) 3 _ (λ z. omega arith) (c .before .before .reference .ensures) in (omega (arith, l, c .before .before .before .before .before .before .before .before .pre .0), omega (arith, l, c .before .before .before .before .before .before .before .before .pre .1, c .before .deeper .ensures, deeper-most (c .before .before .before .before .before .before .word .result) (a .j)))
 
-driver-enum-known-c : (t : ℕ) → driver-lts.Need-enum-known-c (driver-claims t) (driver-at t) driver.Post
-driver-enum-known-c t c = search needs
-
 driver-returns-5 : (t : ℕ) → driver-lts.Need-returns-5 (driver-claims t) (driver-at t) driver.Post
 driver-returns-5 t c =
     let a = c .before .before .before .before .before .before .before .before .before .before .before .before .args in drives-first (a .work .now) (a .env .now) (a .t) _ (c .before .before .before .before .before .before .before .before .before .before .word .ensures) (a .j) _ _ (referenceAt (a .work .now) (a .t) 2) (omega arith) (omega arith) (c .before .before .before .before .before .deeper .ensures) (c .before .before .before .before .before .before .reference .ensures) refl _ (subst (λ r. Drives (a .work .now) (a .env .now) (c .before .before .before .before .before .deeper .result) (c .before .before .before .before .before .before .reference .result) r) (c .before .c .given .1) (whole-drives (a .work .now) _ _ _ _ (c .before .before .before .driver .ensures)))
-
-driver-enum-told : (t : ℕ) → driver-lts.Need-enum-told (driver-claims t) (driver-at t) driver.Post
-driver-enum-told t c = search needs
-
-driver-reference-requires-2 : (t : ℕ) → driver-lts.Need-reference-requires-2 (driver-claims t) (driver-at t) driver.Post
-driver-reference-requires-2 t c κs = search needs
-
-driver-sub-driver-2 : (t : ℕ) → driver-lts.Need-sub-driver-2 (driver-claims t) (driver-at t) driver.Post
-driver-sub-driver-2 t c = search needs
-
-driver-part-driver-start-2 : (t : ℕ) → driver-lts.Need-part-driver-start-2 (driver-claims t) (driver-at t) driver.Post
-driver-part-driver-start-2 t c = search needs
-
-driver-part-driver-end-2 : (t : ℕ) → driver-lts.Need-part-driver-end-2 (driver-claims t) (driver-at t) driver.Post
-driver-part-driver-end-2 t c = search needs
 
 driver-driver-requires-2 : (t : ℕ) → driver-lts.Need-driver-requires-2 (driver-claims t) (driver-at t) driver.Post
 driver-driver-requires-2 t c κs =
@@ -137,29 +86,29 @@ pub +driver-spec : {M : Type 1} → statement M
 )
     (driver-at t)
     driver.Post
-    (driver-word-requires t)
-    (driver-word-requires-2 t)
+    (λ c κs. search needs)  -- driver-word-requires
+    (λ c κs. search needs)  -- driver-word-requires-2
     (driver-returns t)
-    (driver-word-requires-3 t)
-    (driver-sub-taken t)
-    (driver-sub-taken-2 t)
-    (driver-taken-requires t)
-    (driver-count-requires t)
+    (λ c κs. search needs)  -- driver-word-requires-3
+    (λ c. search needs)  -- driver-sub-taken
+    (λ c. search needs)  -- driver-sub-taken-2
+    (λ c κs. search needs)  -- driver-taken-requires
+    (λ c κs. search needs)  -- driver-count-requires
     (driver-returns-2 t)
     (driver-returns-3 t)
     (driver-returns-4 t)
-    (driver-reference-requires t)
+    (λ c κs. search needs)  -- driver-reference-requires
     (driver-deeper-requires t)
-    (driver-sub-driver t)
-    (driver-part-driver-start t)
-    (driver-part-driver-end t)
+    (λ c. search needs)  -- driver-sub-driver
+    (λ c. search needs)  -- driver-part-driver-start
+    (λ c. search needs)  -- driver-part-driver-end
     (driver-driver-requires t)
-    (driver-enum-known-c t)
+    (λ c. search needs)  -- driver-enum-known-c
     (driver-returns-5 t)
-    (driver-enum-told t)
-    (driver-reference-requires-2 t)
-    (driver-sub-driver-2 t)
-    (driver-part-driver-start-2 t)
-    (driver-part-driver-end-2 t)
+    (λ c. search needs)  -- driver-enum-told
+    (λ c κs. search needs)  -- driver-reference-requires-2
+    (λ c. search needs)  -- driver-sub-driver-2
+    (λ c. search needs)  -- driver-part-driver-start-2
+    (λ c. search needs)  -- driver-part-driver-end-2
     (driver-driver-requires-2 t)
     (driver-returns-6 t)

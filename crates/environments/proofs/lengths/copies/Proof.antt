@@ -4,27 +4,9 @@ use Rattle.environments.proofs.lengths.copies.Statement.{statement}
 use Rattle.environments.proofs.lengths.copies.Tie as tie
 use Rattle.environments.specs.LengthLaws.{copies-some, copies-none, copies-unlisted, copies-own, whole-drives}
 
-word-requires : tie.Need-word-requires
-word-requires c κs = search needs
-
-word-requires-2 : tie.Need-word-requires-2
-word-requires-2 c κs = search needs
-
 returns : tie.Need-returns
 returns c =
     let a = c .before .before .before .before .before .args in copies-unlisted (a .work .now) (a .env .now) (a .e) _ (c .before .before .before .word .ensures) (c .before .before .if1 .taken) _ (c .before .word2 .ensures) (c .if2 .taken)
-
-word-requires-3 : tie.Need-word-requires-3
-word-requires-3 c κs = search needs
-
-sub-taken : tie.Need-sub-taken
-sub-taken c = search needs
-
-taken-requires : tie.Need-taken-requires
-taken-requires c κs = search needs
-
-count-requires : tie.Need-count-requires
-count-requires c κs = search needs
 
 returns-2 : tie.Need-returns-2
 returns-2 c =
@@ -33,24 +15,6 @@ returns-2 c =
     let if1 = c .before .before .before .before .before .if1 in
     let depth = c .before .before .before .before .word2 in
     copies-own (a .work .now) (a .env .now) (a .e) _ (tag .ensures) (if1 .taken) _ _ _ _ (depth .ensures) (c .before .before .word3 .ensures) (c .before .before .before .if2 .left) (c .before .taken .ensures) (c .count .ensures)
-
-sub-driver : tie.Need-sub-driver
-sub-driver c = search needs
-
-part-driver-start : tie.Need-part-driver-start
-part-driver-start c = search needs
-
-part-driver-end : tie.Need-part-driver-end
-part-driver-end c = search needs
-
-driver-requires : tie.Need-driver-requires
-driver-requires c κs = search needs
-
-enum-known-c : tie.Need-enum-known-c
-enum-known-c c = search needs
-
-enum-told : tie.Need-enum-told
-enum-told c = search needs
 
 returns-3 : tie.Need-returns-3
 returns-3 c =
@@ -64,19 +28,19 @@ pub copies-spec : {M : Type 1} → statement M
 copies-spec =
     tie.close
     (tie.spec
-    word-requires
-    word-requires-2
+    (λ c κs. search needs)  -- word-requires
+    (λ c κs. search needs)  -- word-requires-2
     returns
-    word-requires-3
-    sub-taken
-    taken-requires
-    count-requires
+    (λ c κs. search needs)  -- word-requires-3
+    (λ c. search needs)  -- sub-taken
+    (λ c κs. search needs)  -- taken-requires
+    (λ c κs. search needs)  -- count-requires
     returns-2
-    sub-driver
-    part-driver-start
-    part-driver-end
-    driver-requires
-    enum-known-c
-    enum-told
+    (λ c. search needs)  -- sub-driver
+    (λ c. search needs)  -- part-driver-start
+    (λ c. search needs)  -- part-driver-end
+    (λ c κs. search needs)  -- driver-requires
+    (λ c. search needs)  -- enum-known-c
+    (λ c. search needs)  -- enum-told
     returns-3
     returns-4)

@@ -4,24 +4,9 @@ use Rattle.environments.proofs.lengths.one_length.Statement.{statement}
 use Rattle.environments.proofs.lengths.one_length.Tie as tie
 use Rattle.environments.specs.LengthLaws.{all-own, whole-all}
 
-word-requires : tie.Need-word-requires
-word-requires c κs = search needs
-
 returns : tie.Need-returns
 returns c =
     let a = c .before .before .before .args in all-own (a .work .now) (a .env .now) (a .e) _ (c .before .word .ensures) (c .if1 .taken) (a .c) (c .before .before .before .pre)
-
-sub-all-of : tie.Need-sub-all-of
-sub-all-of c = search needs
-
-part-all-of-start : tie.Need-part-all-of-start
-part-all-of-start c = search needs
-
-part-all-of-end : tie.Need-part-all-of-end
-part-all-of-end c = search needs
-
-all-of-requires : tie.Need-all-of-requires
-all-of-requires c κs = search needs
 
 returns-2 : tie.Need-returns-2
 returns-2 c =
@@ -31,10 +16,10 @@ pub one-length-spec : {M : Type 1} → statement M
 one-length-spec =
     tie.close
     (tie.spec
-    word-requires
+    (λ c κs. search needs)  -- word-requires
     returns
-    sub-all-of
-    part-all-of-start
-    part-all-of-end
-    all-of-requires
+    (λ c. search needs)  -- sub-all-of
+    (λ c. search needs)  -- part-all-of-start
+    (λ c. search needs)  -- part-all-of-end
+    (λ c κs. search needs)  -- all-of-requires
     returns-2)

@@ -26,21 +26,9 @@ holds-below t = and 1 holds-kinds.ps (falls 1 holds-kinds.ps _<_ μ-holds t) hol
 abbrev holds-claims : ℕ → holds-lts.Claims
 holds-claims t = (word-reads.Asked, word-reads.Learnt, reference-reads.Asked, reference-reads.Learnt, holds-below t, holds.Post)
 
-holds-word-requires : (t : ℕ) → holds-lts.Need-word-requires (holds-claims t) (holds-at t) holds.Post
-holds-word-requires t c κs =
-    search needs
-
-holds-word-requires-2 : (t : ℕ) → holds-lts.Need-word-requires-2 (holds-claims t) (holds-at t) holds.Post
-holds-word-requires-2 t c κs =
-    search needs
-
 holds-returns : (t : ℕ) → holds-lts.Need-returns (holds-claims t) (holds-at t) holds.Post
 holds-returns t c =
     let a = c .before .before .before .before .args in holds-variable (a .work .now) (a .p) _ (c .before .before .word .ensures) (a .k) _ (c .before .if1 .taken) (c .word2 .ensures)
-
-holds-reference-requires : (t : ℕ) → holds-lts.Need-reference-requires (holds-claims t) (holds-at t) holds.Post
-holds-reference-requires t c κs =
-    search needs
 
 holds-holds-requires : (t : ℕ) → holds-lts.Need-holds-requires (holds-claims t) (holds-at t) holds.Post
 holds-holds-requires t c κs =
@@ -54,10 +42,6 @@ holds-returns-3 : (t : ℕ) → holds-lts.Need-returns-3 (holds-claims t) (holds
 holds-returns-3 t c =
     let a = c .before .before .before .before .before .args in holds-none (a .work .now) (a .p) _ (c .before .before .before .word .ensures) (a .k) (c .before .before .if1 .left) (c .if3 .taken) (c .before .if2 .left)
 
-holds-reference-requires-2 : (t : ℕ) → holds-lts.Need-reference-requires-2 (holds-claims t) (holds-at t) holds.Post
-holds-reference-requires-2 t c κs =
-    search needs
-
 holds-holds-requires-2 : (t : ℕ) → holds-lts.Need-holds-requires-2 (holds-claims t) (holds-at t) holds.Post
 holds-holds-requires-2 t c κs =
     let a = c .before .before .before .before .before .before .args in let l = tag-falls (a .work .now) (a .p) _ (c .before .before .before .before .word .ensures) 3 _ (λ z. omega arith) (c .reference2 .ensures) in omega (arith, l)
@@ -65,10 +49,6 @@ holds-holds-requires-2 t c κs =
 holds-returns-4 : (t : ℕ) → holds-lts.Need-returns-4 (holds-claims t) (holds-at t) holds.Post
 holds-returns-4 t c =
     let a = c .before .before .before .before .before .before .before .before .args in holds-head (a .work .now) (a .p) _ (c .before .before .before .before .before .before .word .ensures) (a .k) _ _ (c .before .before .before .if3 .left) (c .before .before .reference2 .ensures) (c .before .holds2 .ensures) (c .if4 .taken)
-
-holds-reference-requires-3 : (t : ℕ) → holds-lts.Need-reference-requires-3 (holds-claims t) (holds-at t) holds.Post
-holds-reference-requires-3 t c κs =
-    search needs
 
 holds-holds-requires-3 : (t : ℕ) → holds-lts.Need-holds-requires-3 (holds-claims t) (holds-at t) holds.Post
 holds-holds-requires-3 t c κs =
@@ -81,16 +61,16 @@ holds-returns-5 t c =
 pub +holds-spec : {M : Type 1} → statement M
 +holds-spec = close μ-holds λ t. holds-lts.spec (holds-claims t) (holds-at t)
     holds.Post
-    (holds-word-requires t)
-    (holds-word-requires-2 t)
+    (λ c κs. search needs)  -- holds-word-requires
+    (λ c κs. search needs)  -- holds-word-requires-2
     (holds-returns t)
-    (holds-reference-requires t)
+    (λ c κs. search needs)  -- holds-reference-requires
     (holds-holds-requires t)
     (holds-returns-2 t)
     (holds-returns-3 t)
-    (holds-reference-requires-2 t)
+    (λ c κs. search needs)  -- holds-reference-requires-2
     (holds-holds-requires-2 t)
     (holds-returns-4 t)
-    (holds-reference-requires-3 t)
+    (λ c κs. search needs)  -- holds-reference-requires-3
     (holds-holds-requires-3 t)
     (holds-returns-5 t)

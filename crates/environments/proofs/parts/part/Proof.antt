@@ -18,22 +18,6 @@ loop-holds : tie.Need-loop-holds Inv-loop μ-loop
 loop-holds c =
     λ r f. f
 
-word-requires : tie.Need-word-requires Inv-loop μ-loop
-word-requires c κs =
-    search needs
-
-reference-requires : tie.Need-reference-requires Inv-loop μ-loop
-reference-requires c κs =
-    search needs
-
-part-holds-requires : tie.Need-part-holds-requires Inv-loop μ-loop
-part-holds-requires c κs =
-    search needs
-
-first-requires : tie.Need-first-requires Inv-loop μ-loop
-first-requires c κs =
-    search needs
-
 loop-less : tie.Need-loop-less Inv-loop μ-loop
 loop-less c =
     let a = c .before .before .before .before .before .before .before .before .args in
@@ -47,14 +31,6 @@ loop-again c =
     let word = c .before .before .before .before .before .word in
     let if1 = c .before .before .before .before .if1 in
     λ r f. l .inv r (part-head (a .work .now) (l .at) _ (word .ensures) (a .k) (l .node) _ _ (if1 .taken) (c .before .before .before .reference .ensures) (c .before .before .part-holds .ensures) _ r (c .before .if2 .taken) (c .first .ensures) f)
-
-reference-requires-2 : tie.Need-reference-requires-2 Inv-loop μ-loop
-reference-requires-2 c κs =
-    search needs
-
-rest-requires : tie.Need-rest-requires Inv-loop μ-loop
-rest-requires c κs =
-    search needs
 
 loop-less-2 : tie.Need-loop-less-2 Inv-loop μ-loop
 loop-less-2 c =
@@ -70,10 +46,6 @@ loop-again-2 c =
     let if1 = c .before .before .before .before .before .if1 in
     let reference = c .before .before .before .before .reference in
     λ r f. l .inv r (part-tail (a .work .now) (l .at) _ (word .ensures) (a .k) (l .node) _ _ (if1 .taken) (reference .ensures) (c .before .before .before .part-holds .ensures) _ r _ (c .before .before .if2 .left) (c .before .reference2 .ensures) (c .rest .ensures) f)
-
-word-requires-2 : tie.Need-word-requires-2 Inv-loop μ-loop
-word-requires-2 c κs =
-    search needs
 
 returns : tie.Need-returns Inv-loop μ-loop
 returns c =
@@ -102,17 +74,17 @@ part-spec =
     Inv-loop
     μ-loop
     loop-holds
-    word-requires
-    reference-requires
-    part-holds-requires
-    first-requires
+    (λ c κs. search needs)  -- word-requires
+    (λ c κs. search needs)  -- reference-requires
+    (λ c κs. search needs)  -- part-holds-requires
+    (λ c κs. search needs)  -- first-requires
     loop-less
     loop-again
-    reference-requires-2
-    rest-requires
+    (λ c κs. search needs)  -- reference-requires-2
+    (λ c κs. search needs)  -- rest-requires
     loop-less-2
     loop-again-2
-    word-requires-2
+    (λ c κs. search needs)  -- word-requires-2
     returns
     returns-2
     returns-3)

@@ -99,9 +99,6 @@ expression-turn-requires t c κs =
     let loop = c .before .before .before .loop in
     (pre .1 .0, loop .inv .placed, going-ready _ _ _ _ _ _ _ _ _ (loop .inv) (pre .1 .2))
 
-expression-enum-known-n : (t : ℕ) → expression-lts.Need-enum-known-n (expression-claims t) (expression-at t) expression.Post expression-Inv-loop expression-μ-loop
-expression-enum-known-n t c = search needs
-
 expression-loop-less : (t : ℕ) → expression-lts.Need-loop-less (expression-claims t) (expression-at t) expression.Post expression-Inv-loop expression-μ-loop
 expression-loop-less t c =
     let entry = c .before .before .before .before .before .before .before .before .before .before .before .before .before .before .before .before .before .before .before in
@@ -117,9 +114,6 @@ expression-loop-again t c =
     let turn = c .before .before .before .before .before .before .before .before .before .turn in
     let after = tables (turn .last .1 .0) (turn .last .1 .1 .0) (turn .last .1 .1 .1 .0) in
     again-going (entry .args .items .now) (entry .args .fuel) _ _ _ _ _ _ _ (loop .inv) after (turn .result) (turn .ensures) _ _ _ (c .before .n .given .1)
-
-expression-enum-known-l : (t : ℕ) → expression-lts.Need-enum-known-l (expression-claims t) (expression-at t) expression.Post expression-Inv-loop expression-μ-loop
-expression-enum-known-l t c = search needs
 
 expression-operands-requires : (t : ℕ) → expression-lts.Need-operands-requires (expression-claims t) (expression-at t) expression.Post expression-Inv-loop expression-μ-loop
 expression-operands-requires t c κs =
@@ -159,18 +153,6 @@ expression-returns t c =
     let after = tables (turn .last .1 .0) (turn .last .1 .1 .0) (turn .last .1 .1 .1 .0) in
     spread-over (entry .args .items .now) (entry .args .fuel) _ _ _ _ _ _ _ (loop .inv) after (turn .result) (turn .ensures) _ _ _ (c .before .before .before .before .before .before .before .before .before .before .before .l .given .1) _ _ (c .before .before .before .before .before .before .operands .ensures)
 
-expression-enum-known-e : (t : ℕ) → expression-lts.Need-enum-known-e (expression-claims t) (expression-at t) expression.Post expression-Inv-loop expression-μ-loop
-expression-enum-known-e t c = search needs
-
-expression-same-length-4 : (t : ℕ) → expression-lts.Need-same-length-4 (expression-claims t) (expression-at t) expression.Post expression-Inv-loop expression-μ-loop
-expression-same-length-4 t c = search needs
-
-expression-same-length-5 : (t : ℕ) → expression-lts.Need-same-length-5 (expression-claims t) (expression-at t) expression.Post expression-Inv-loop expression-μ-loop
-expression-same-length-5 t c = search needs
-
-expression-same-length-6 : (t : ℕ) → expression-lts.Need-same-length-6 (expression-claims t) (expression-at t) expression.Post expression-Inv-loop expression-μ-loop
-expression-same-length-6 t c = search needs
-
 expression-returns-2 : (t : ℕ) → expression-lts.Need-returns-2 (expression-claims t) (expression-at t) expression.Post expression-Inv-loop expression-μ-loop
 expression-returns-2 t c =
     let entry = c .before .before .before .before .before .before .before .before .before .before .before .before .before .before .before .before .before .before .before in
@@ -179,20 +161,11 @@ expression-returns-2 t c =
     let after = tables (turn .last .1 .0) (turn .last .1 .1 .0) (turn .last .1 .1 .1 .0) in
     over-right (entry .args .items .now) (entry .args .fuel) _ _ _ _ _ _ _ (loop .inv) after (turn .result) (turn .ensures) _ (c .before .e .given .1)
 
-operand-word-requires : (t : ℕ) → operand-lts.Need-word-requires (operand-claims t) (operand-at t) operand.Post
-operand-word-requires t c κs = search needs
-
 operand-bare-name-requires : (t : ℕ) → operand-lts.Need-bare-name-requires (operand-claims t) (operand-at t) operand.Post
 operand-bare-name-requires t c κs =
     let entry = c .before .before .before .before .before .before .before .before .before .before in
     let a = entry .args in
     (entry .pre .1 .0, operand-room (a .items .now) (a .work .now) (a .core .now) (a .known .now) (a .fuel) (a .node) (a .wrap) (a .from) (entry .pre .1 .1) (entry .pre .1 .2))
-
-operand-same-length : (t : ℕ) → operand-lts.Need-same-length (operand-claims t) (operand-at t) operand.Post
-operand-same-length t c = search needs
-
-operand-same-length-2 : (t : ℕ) → operand-lts.Need-same-length-2 (operand-claims t) (operand-at t) operand.Post
-operand-same-length-2 t c = search needs
 
 operand-returns : (t : ℕ) → operand-lts.Need-returns (operand-claims t) (operand-at t) operand.Post
 operand-returns t c =
@@ -206,24 +179,9 @@ operand-expression-requires t c κs =
     let pre = c .before .before .before .before .before .before .before .before .before .before .before .before .pre in
     (omega (arith, pre .0), pre .1)
 
-operand-same-length-3 : (t : ℕ) → operand-lts.Need-same-length-3 (operand-claims t) (operand-at t) operand.Post
-operand-same-length-3 t c = search needs
-
-operand-same-length-4 : (t : ℕ) → operand-lts.Need-same-length-4 (operand-claims t) (operand-at t) operand.Post
-operand-same-length-4 t c = search needs
-
-operand-same-length-5 : (t : ℕ) → operand-lts.Need-same-length-5 (operand-claims t) (operand-at t) operand.Post
-operand-same-length-5 t c = search needs
-
 operand-returns-2 : (t : ℕ) → operand-lts.Need-returns-2 (operand-claims t) (operand-at t) operand.Post
 operand-returns-2 t c =
     c .before .before .before .before .before .before .expression .ensures
-
-operand-refuse-requires : (t : ℕ) → operand-lts.Need-refuse-requires (operand-claims t) (operand-at t) operand.Post
-operand-refuse-requires t c κs = search needs
-
-operand-same-length-6 : (t : ℕ) → operand-lts.Need-same-length-6 (operand-claims t) (operand-at t) operand.Post
-operand-same-length-6 t c = search needs
 
 operand-returns-3 : (t : ℕ) → operand-lts.Need-returns-3 (operand-claims t) (operand-at t) operand.Post
 operand-returns-3 t c =
@@ -231,20 +189,11 @@ operand-returns-3 t c =
     let a = entry .args in
     empty-expands (a .items .now) (a .work .now) (a .core .now) (a .known .now) (a .fuel) (a .node) (a .wrap) (a .from) (entry .pre .1 .1) (entry .pre .1 .2) _ (c .before .before .before .before .word .ensures) (c .before .if3 .taken) _ (c .refuse .ensures)
 
-operand-word-requires-2 : (t : ℕ) → operand-lts.Need-word-requires-2 (operand-claims t) (operand-at t) operand.Post
-operand-word-requires-2 t c κs = search needs
-
 operand-constant-requires : (t : ℕ) → operand-lts.Need-constant-requires (operand-claims t) (operand-at t) operand.Post
 operand-constant-requires t c κs =
     let entry = c .before .before .before .before .before .before .before .before .before .before .before .before .before in
     let a = entry .args in
     constant-asks (a .items .now) (a .work .now) (a .core .now) (a .known .now) (a .fuel) (a .node) (a .wrap) (a .from) (entry .pre .1 .1) (entry .pre .1 .2) _ (c .before .before .before .before .before .before .word .ensures) (c .before .before .before .if3 .left) (c .before .before .before .before .before .if1 .left) (c .before .before .before .before .if2 .left) _ (c .word2 .ensures)
-
-operand-same-length-7 : (t : ℕ) → operand-lts.Need-same-length-7 (operand-claims t) (operand-at t) operand.Post
-operand-same-length-7 t c = search needs
-
-operand-same-length-8 : (t : ℕ) → operand-lts.Need-same-length-8 (operand-claims t) (operand-at t) operand.Post
-operand-same-length-8 t c = search needs
 
 operand-returns-4 : (t : ℕ) → operand-lts.Need-returns-4 (operand-claims t) (operand-at t) operand.Post
 operand-returns-4 t c =
@@ -258,12 +207,6 @@ operands-loop-holds t c =
     let pre = c .before .before .before .before .before .pre in
     walking-start _ _ _ _ _ _ (pre .1 .2) (pre .1 .1)
 
-operands-word-requires : (t : ℕ) → operands-lts.Need-word-requires (operands-claims t) (operands-at t) operands.Post operands-Inv-loop operands-μ-loop
-operands-word-requires t c κs = search needs
-
-operands-reference-requires : (t : ℕ) → operands-lts.Need-reference-requires (operands-claims t) (operands-at t) operands.Post operands-Inv-loop operands-μ-loop
-operands-reference-requires t c κs = search needs
-
 operands-operand-requires : (t : ℕ) → operands-lts.Need-operand-requires (operands-claims t) (operands-at t) operands.Post operands-Inv-loop operands-μ-loop
 operands-operand-requires t c κs =
     let entry = c .before .before .before .before .before .before .before .before .before .before .before .before .before .before in
@@ -272,21 +215,6 @@ operands-operand-requires t c κs =
     let head = c .before .before .before .reference in
     let asks = operand-asks (entry .args .items .now) (entry .args .fuel) _ _ _ _ _ _ _ (loop .inv) (entry .pre .1 .2) _ (word .ensures) (c .before .before .before .before .before .if1 .taken) _ (head .ensures) in
     (omega (arith, entry .pre .0, asks .0), (entry .pre .1 .0, asks .1, asks .2))
-
-operands-enum-known-ended : (t : ℕ) → operands-lts.Need-enum-known-ended (operands-claims t) (operands-at t) operands.Post operands-Inv-loop operands-μ-loop
-operands-enum-known-ended t c = search needs
-
-operands-enum-told : (t : ℕ) → operands-lts.Need-enum-told (operands-claims t) (operands-at t) operands.Post operands-Inv-loop operands-μ-loop
-operands-enum-told t c = search needs
-
-operands-same-length : (t : ℕ) → operands-lts.Need-same-length (operands-claims t) (operands-at t) operands.Post operands-Inv-loop operands-μ-loop
-operands-same-length t c = search needs
-
-operands-same-length-2 : (t : ℕ) → operands-lts.Need-same-length-2 (operands-claims t) (operands-at t) operands.Post operands-Inv-loop operands-μ-loop
-operands-same-length-2 t c = search needs
-
-operands-same-length-3 : (t : ℕ) → operands-lts.Need-same-length-3 (operands-claims t) (operands-at t) operands.Post operands-Inv-loop operands-μ-loop
-operands-same-length-3 t c = search needs
 
 operands-returns : (t : ℕ) → operands-lts.Need-returns (operands-claims t) (operands-at t) operands.Post operands-Inv-loop operands-μ-loop
 operands-returns t c =
@@ -297,9 +225,6 @@ operands-returns t c =
     let operand = c .before .before .before .before .before .before .before .before .operand in
     let after = tables (operand .last .1 .0) (operand .last .1 .1 .0) (operand .last .1 .1 .1 .0) in
     operand-refused (entry .args .items .now) (entry .args .fuel) _ _ _ _ _ _ _ (loop .inv) (entry .pre .1 .2) _ (word .ensures) (c .before .before .before .before .before .before .before .before .before .before .before .before .before .before .if1 .taken) _ (head .ensures) after (operand .result) (operand .ensures) _ _ _ (c .enum-told .given .1)
-
-operands-reference-requires-2 : (t : ℕ) → operands-lts.Need-reference-requires-2 (operands-claims t) (operands-at t) operands.Post operands-Inv-loop operands-μ-loop
-operands-reference-requires-2 t c κs = search needs
 
 operands-loop-less : (t : ℕ) → operands-lts.Need-loop-less (operands-claims t) (operands-at t) operands.Post operands-Inv-loop operands-μ-loop
 operands-loop-less t c =
@@ -323,15 +248,6 @@ operands-loop-again t c =
     let tail = c .reference2 in
     operand-walking (entry .args .items .now) (entry .args .fuel) _ _ _ _ _ _ _ (loop .inv) (entry .pre .1 .2) _ (word .ensures) (c .before .before .before .before .before .before .before .before .before .before .before .before .before .before .before .before .before .if1 .taken) _ (head .ensures) after (operand .result) (operand .ensures) _ (c .before .before .before .ended .given .1) _ (tail .ensures)
 
-operands-same-length-4 : (t : ℕ) → operands-lts.Need-same-length-4 (operands-claims t) (operands-at t) operands.Post operands-Inv-loop operands-μ-loop
-operands-same-length-4 t c = search needs
-
-operands-same-length-5 : (t : ℕ) → operands-lts.Need-same-length-5 (operands-claims t) (operands-at t) operands.Post operands-Inv-loop operands-μ-loop
-operands-same-length-5 t c = search needs
-
-operands-same-length-6 : (t : ℕ) → operands-lts.Need-same-length-6 (operands-claims t) (operands-at t) operands.Post operands-Inv-loop operands-μ-loop
-operands-same-length-6 t c = search needs
-
 operands-returns-2 : (t : ℕ) → operands-lts.Need-returns-2 (operands-claims t) (operands-at t) operands.Post operands-Inv-loop operands-μ-loop
 operands-returns-2 t c =
     let entry = c .before .before .before .before .before .before .before .before .before in
@@ -353,19 +269,19 @@ pub +expression+operand+operands-spec : {M : Type 1} → statement M
     expression-μ-loop
     (expression-loop-holds t)
     (expression-turn-requires t)
-    (expression-enum-known-n t)
+    (λ c. search needs)  -- expression-enum-known-n
     (expression-loop-less t)
     (expression-loop-again t)
-    (expression-enum-known-l t)
+    (λ c. search needs)  -- expression-enum-known-l
     (expression-operands-requires t)
     (expression-same-length t)
     (expression-same-length-2 t)
     (expression-same-length-3 t)
     (expression-returns t)
-    (expression-enum-known-e t)
-    (expression-same-length-4 t)
-    (expression-same-length-5 t)
-    (expression-same-length-6 t)
+    (λ c. search needs)  -- expression-enum-known-e
+    (λ c. search needs)  -- expression-same-length-4
+    (λ c. search needs)  -- expression-same-length-5
+    (λ c. search needs)  -- expression-same-length-6
     (expression-returns-2 t))
     (λ t. operand-lts.spec (
       word-reads.Asked,
@@ -381,23 +297,23 @@ pub +expression+operand+operands-spec : {M : Type 1} → statement M
     )
     (operand-at t)
     operand.Post
-    (operand-word-requires t)
+    (λ c κs. search needs)  -- operand-word-requires
     (operand-bare-name-requires t)
-    (operand-same-length t)
-    (operand-same-length-2 t)
+    (λ c. search needs)  -- operand-same-length
+    (λ c. search needs)  -- operand-same-length-2
     (operand-returns t)
     (operand-expression-requires t)
-    (operand-same-length-3 t)
-    (operand-same-length-4 t)
-    (operand-same-length-5 t)
+    (λ c. search needs)  -- operand-same-length-3
+    (λ c. search needs)  -- operand-same-length-4
+    (λ c. search needs)  -- operand-same-length-5
     (operand-returns-2 t)
-    (operand-refuse-requires t)
-    (operand-same-length-6 t)
+    (λ c κs. search needs)  -- operand-refuse-requires
+    (λ c. search needs)  -- operand-same-length-6
     (operand-returns-3 t)
-    (operand-word-requires-2 t)
+    (λ c κs. search needs)  -- operand-word-requires-2
     (operand-constant-requires t)
-    (operand-same-length-7 t)
-    (operand-same-length-8 t)
+    (λ c. search needs)  -- operand-same-length-7
+    (λ c. search needs)  -- operand-same-length-8
     (operand-returns-4 t))
     λ t. operands-lts.spec (
       word-reads.Asked,
@@ -412,19 +328,19 @@ pub +expression+operand+operands-spec : {M : Type 1} → statement M
     operands-Inv-loop
     operands-μ-loop
     (operands-loop-holds t)
-    (operands-word-requires t)
-    (operands-reference-requires t)
+    (λ c κs. search needs)  -- operands-word-requires
+    (λ c κs. search needs)  -- operands-reference-requires
     (operands-operand-requires t)
-    (operands-enum-known-ended t)
-    (operands-enum-told t)
-    (operands-same-length t)
-    (operands-same-length-2 t)
-    (operands-same-length-3 t)
+    (λ c. search needs)  -- operands-enum-known-ended
+    (λ c. search needs)  -- operands-enum-told
+    (λ c. search needs)  -- operands-same-length
+    (λ c. search needs)  -- operands-same-length-2
+    (λ c. search needs)  -- operands-same-length-3
     (operands-returns t)
-    (operands-reference-requires-2 t)
+    (λ c κs. search needs)  -- operands-reference-requires-2
     (operands-loop-less t)
     (operands-loop-again t)
-    (operands-same-length-4 t)
-    (operands-same-length-5 t)
-    (operands-same-length-6 t)
+    (λ c. search needs)  -- operands-same-length-4
+    (λ c. search needs)  -- operands-same-length-5
+    (λ c. search needs)  -- operands-same-length-6
     (operands-returns-2 t)

@@ -12,9 +12,6 @@ lay-out-requires c κs =
     let l = entry .pre .0 in
     (l .begun .layout, start-fits (a .items .now) (a .work .now) (a .core .now) (a .operations .now) (a .fuel) l)
 
-element-requires : tie.Need-element-requires
-element-requires c κs = search needs
-
 expression-requires : tie.Need-expression-requires
 unfolding atStart
 expression-requires c κs =
@@ -27,15 +24,6 @@ expression-requires c κs =
       start-placed (a .items .now) (a .work .now) (a .core .now) (a .operations .now) (a .fuel) l _ _ _ (laid .ensures) second,
       start-ready (a .items .now) (a .work .now) (a .core .now) (a .operations .now) (a .fuel) l _ _ _ (laid .ensures) second _ (laid .kept .1 .0) (entry .pre .1),
     )
-
-same-length : tie.Need-same-length
-same-length c = search needs
-
-same-length-2 : tie.Need-same-length-2
-same-length-2 c = search needs
-
-same-length-3 : tie.Need-same-length-3
-same-length-3 c = search needs
 
 returns : tie.Need-returns
 unfolding atStart
@@ -51,9 +39,9 @@ run-spec =
     tie.close
     (tie.spec
     lay-out-requires
-    element-requires
+    (λ c κs. search needs)  -- element-requires
     expression-requires
-    same-length
-    same-length-2
-    same-length-3
+    (λ c. search needs)  -- same-length
+    (λ c. search needs)  -- same-length-2
+    (λ c. search needs)  -- same-length-3
     returns)

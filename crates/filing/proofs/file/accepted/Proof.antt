@@ -14,49 +14,17 @@ use borrow.Author.Tests.{not-true, not-false}
 use Rattle.writer.specs.LaidLaws.{put-done, put-full}
 use Rattle.filing.specs.FileLaws.{wrote-is, no-acceptance, accepted-parts, header-full, no-byte, term-full, end-room, end-never-full, header-never-full, accepted-wrote}
 
-is-term-requires : tie.Need-is-term-requires
-is-term-requires c κs =
-    search needs
-
-refused-requires : tie.Need-refused-requires
-refused-requires c κs =
-    search needs
-
-same-length : tie.Need-same-length
-same-length c =
-    search needs
-
 returns : tie.Need-returns
 returns c =
     wrote-is (no-acceptance _ _ _ _ (sym (c .before .before .before .before .before .is-term .ensures) ∙ not-true _ (c .before .before .before .before .if1 .taken))) (c .before .before .refused .ensures)
-
-accepted-line-requires : tie.Need-accepted-line-requires
-accepted-line-requires c κs =
-    search needs
-
-same-length-2 : tie.Need-same-length-2
-same-length-2 c =
-    search needs
 
 returns-2 : tie.Need-returns-2
 returns-2 c =
     header-full (accepted-parts _ _ _ _ (sym (c .before .before .before .before .before .before .is-term .ensures) ∙ not-false _ (c .before .before .before .before .before .if1 .left))) _ _ _ (c .before .before .before .accepted-line .ensures) (put-full _ (c .if2 .taken))
 
-same-length-3 : tie.Need-same-length-3
-same-length-3 c =
-    search needs
-
 returns-3 : tie.Need-returns-3
 returns-3 c =
     no-byte (accepted-parts _ _ _ _ (sym (c .before .before .before .before .before .before .before .is-term .ensures) ∙ not-false _ (c .before .before .before .before .before .before .if1 .left))) _ _ _ (c .before .before .before .before .accepted-line .ensures) _ (put-done _ (c .before .if2 .left)) (c .if3 .taken)
-
-term-at-requires : tie.Need-term-at-requires
-term-at-requires c κs =
-    search needs
-
-same-length-4 : tie.Need-same-length-4
-same-length-4 c =
-    search needs
 
 returns-4 : tie.Need-returns-4
 returns-4 c =
@@ -66,29 +34,13 @@ byte-requires : tie.Need-byte-requires
 byte-requires c κs =
     end-room (accepted-parts _ _ _ _ (sym (c .before .before .before .before .before .before .before .before .before .before .before .before .before .is-term .ensures) ∙ not-false _ (c .before .before .before .before .before .before .before .before .before .before .before .before .if1 .left))) _ _ _ (c .before .before .before .before .before .before .before .before .before .before .accepted-line .ensures) _ (put-done _ (c .before .before .before .before .before .before .before .if2 .left)) _ _ (c .before .before .before .before .term-at .ensures) _ (put-done _ (c .before .if4 .left))
 
-same-length-5 : tie.Need-same-length-5
-same-length-5 c =
-    search needs
-
 returns-5 : tie.Need-returns-5
 returns-5 c =
     end-never-full (accepted-parts _ _ _ _ (sym (c .before .before .before .before .before .before .before .before .before .before .before .before .before .before .before .before .before .is-term .ensures) ∙ not-false _ (c .before .before .before .before .before .before .before .before .before .before .before .before .before .before .before .before .if1 .left))) _ _ _ (c .before .before .before .before .before .before .before .before .before .before .before .before .before .before .accepted-line .ensures) _ (put-done _ (c .before .before .before .before .before .before .before .before .before .before .before .if2 .left)) _ _ (c .before .before .before .before .before .before .before .before .term-at .ensures) _ (put-done _ (c .before .before .before .before .before .if4 .left)) _ _ (c .before .before .before .byte .ensures) (put-full _ (c .if5 .taken))
 
-accepted-line-requires-2 : tie.Need-accepted-line-requires-2
-accepted-line-requires-2 c κs =
-    search needs
-
-same-length-6 : tie.Need-same-length-6
-same-length-6 c =
-    search needs
-
 returns-6 : tie.Need-returns-6
 returns-6 c =
     header-never-full (accepted-parts _ _ _ _ (sym (c .before .before .before .before .before .before .before .before .before .before .before .before .before .before .before .before .before .before .before .before .before .before .is-term .ensures) ∙ not-false _ (c .before .before .before .before .before .before .before .before .before .before .before .before .before .before .before .before .before .before .before .before .before .if1 .left))) _ _ _ (c .before .before .before .before .before .before .before .before .before .before .before .before .before .before .before .before .before .before .before .accepted-line .ensures) _ (put-done _ (c .before .before .before .before .before .before .before .before .before .before .before .before .before .before .before .before .if2 .left)) _ _ (c .before .before .before .before .before .before .before .before .before .before .before .before .before .term-at .ensures) _ (put-done _ (c .before .before .before .before .before .before .before .before .before .before .if4 .left)) _ _ (c .before .before .before .before .before .before .before .before .byte .ensures) _ (put-done _ (c .before .before .before .before .before .if5 .left)) _ _ (c .before .before .before .accepted-line2 .ensures) (put-full _ (c .if6 .taken))
-
-same-length-7 : tie.Need-same-length-7
-same-length-7 c =
-    search needs
 
 returns-7 : tie.Need-returns-7
 returns-7 c =
@@ -98,23 +50,23 @@ pub accepted-spec : {M : Type 1} → statement M
 accepted-spec =
     tie.close
     (tie.spec
-    is-term-requires
-    refused-requires
-    same-length
+    (λ c κs. search needs)  -- is-term-requires
+    (λ c κs. search needs)  -- refused-requires
+    (λ c. search needs)  -- same-length
     returns
-    accepted-line-requires
-    same-length-2
+    (λ c κs. search needs)  -- accepted-line-requires
+    (λ c. search needs)  -- same-length-2
     returns-2
-    same-length-3
+    (λ c. search needs)  -- same-length-3
     returns-3
-    term-at-requires
-    same-length-4
+    (λ c κs. search needs)  -- term-at-requires
+    (λ c. search needs)  -- same-length-4
     returns-4
     byte-requires
-    same-length-5
+    (λ c. search needs)  -- same-length-5
     returns-5
-    accepted-line-requires-2
-    same-length-6
+    (λ c κs. search needs)  -- accepted-line-requires-2
+    (λ c. search needs)  -- same-length-6
     returns-6
-    same-length-7
+    (λ c. search needs)  -- same-length-7
     returns-7)

@@ -13,18 +13,6 @@ use lib.Seq.{length-take-le}
 use Rattle.filing.specs.FileLaws.{wrote-is}
 use Rattle.filing.specs.RunLaws.{term-front, accepted-printed, refused-printed}
 
-expand-requires : tie.Need-expand-requires
-expand-requires c κs =
-    search needs
-
-enum-known-n : tie.Need-enum-known-n
-enum-known-n c =
-    search needs
-
-wide-requires : tie.Need-wide-requires
-wide-requires c κs =
-    search needs
-
 slice-reshare-prefix-accepted : tie.Need-slice-reshare-prefix-accepted
 slice-reshare-prefix-accepted c =
     term-front _ _ _ _ _ (c .before .before .before .before .before .before .before .before .expand .ensures .numbers) _ _ _ (c .before .before .n .given .1) _ (c .wide .ensures) _ _ (c .before .before .before .before .before .before .before .before .expand .ensures .core-after) .0
@@ -33,45 +21,9 @@ slice-aggregate-accepted : tie.Need-slice-aggregate-accepted
 slice-aggregate-accepted c =
     sym (length-take-le _ _ (term-front _ _ _ _ _ (c .before .before .before .before .before .before .before .before .before .expand .ensures .numbers) _ _ _ (c .before .before .before .n .given .1) _ (c .before .wide .ensures) _ _ (c .before .before .before .before .before .before .before .before .before .expand .ensures .core-after) .0))
 
-accepted-requires : tie.Need-accepted-requires
-accepted-requires c κs =
-    search needs
-
-enum-known-g : tie.Need-enum-known-g
-enum-known-g c =
-    search needs
-
-refused-requires : tie.Need-refused-requires
-refused-requires c κs =
-    search needs
-
-same-length : tie.Need-same-length
-same-length c =
-    search needs
-
-same-length-2 : tie.Need-same-length-2
-same-length-2 c =
-    search needs
-
-same-length-3 : tie.Need-same-length-3
-same-length-3 c =
-    search needs
-
 returns : tie.Need-returns
 returns c =
     wrote-is (accepted-printed _ _ _ _ _ (c .before .before .before .before .before .before .before .before .before .before .before .before .before .expand .ensures .numbers) _ _ _ (c .before .before .before .before .before .before .before .n .given .1) _ (c .before .before .before .before .before .wide .ensures) _ _ (c .before .before .before .before .before .before .before .before .before .before .before .before .before .expand .ensures .core-after) _) (c .before .before .accepted .ensures)
-
-same-length-4 : tie.Need-same-length-4
-same-length-4 c =
-    search needs
-
-same-length-5 : tie.Need-same-length-5
-same-length-5 c =
-    search needs
-
-same-length-6 : tie.Need-same-length-6
-same-length-6 c =
-    search needs
 
 returns-2 : tie.Need-returns-2
 returns-2 c =
@@ -81,19 +33,19 @@ pub expanded-spec : {M : Type 1} → statement M
 expanded-spec =
     tie.close
     (tie.spec
-    expand-requires
-    enum-known-n
-    wide-requires
+    (λ c κs. search needs)  -- expand-requires
+    (λ c. search needs)  -- enum-known-n
+    (λ c κs. search needs)  -- wide-requires
     slice-reshare-prefix-accepted
     slice-aggregate-accepted
-    accepted-requires
-    enum-known-g
-    refused-requires
-    same-length
-    same-length-2
-    same-length-3
+    (λ c κs. search needs)  -- accepted-requires
+    (λ c. search needs)  -- enum-known-g
+    (λ c κs. search needs)  -- refused-requires
+    (λ c. search needs)  -- same-length
+    (λ c. search needs)  -- same-length-2
+    (λ c. search needs)  -- same-length-3
     returns
-    same-length-4
-    same-length-5
-    same-length-6
+    (λ c. search needs)  -- same-length-4
+    (λ c. search needs)  -- same-length-5
+    (λ c. search needs)  -- same-length-6
     returns-2)

@@ -15,14 +15,6 @@ use lib.Seq.{length-take-le}
 use Rattle.filing.specs.FileLaws.{wrote-is}
 use Rattle.filing.specs.RunLaws.{items-front, names-front, read-filed, refused-filed}
 
-read-requires : tie.Need-read-requires
-read-requires c κs =
-    search needs
-
-enum-known-i : tie.Need-enum-known-i
-enum-known-i c =
-    search needs
-
 mul-words : tie.Need-mul-words
 mul-words c =
     let h : 3 * c .before .i .given .0 .0 ≤ length (c .before .before .before .before .before .before .before .read .last .1 .0) = items-front _ _ _ _ _ _ (c .before .before .before .before .before .before .before .read .ensures) _ _ (c .before .i .given .1) .0 in record { fits = omega arith }
@@ -47,53 +39,9 @@ slice-aggregate-expanded-2 : tie.Need-slice-aggregate-expanded-2
 slice-aggregate-expanded-2 c =
     sym (length-take-le _ _ (names-front _ _ _ _ _ _ (c .before .before .before .before .before .before .before .before .before .read .ensures) _ _ (c .before .before .before .i .given .1) .0))
 
-expanded-requires : tie.Need-expanded-requires
-expanded-requires c κs =
-    search needs
-
-enum-known-ground : tie.Need-enum-known-ground
-enum-known-ground c =
-    search needs
-
-refused-requires : tie.Need-refused-requires
-refused-requires c κs =
-    search needs
-
-same-length : tie.Need-same-length
-same-length c =
-    search needs
-
-same-length-2 : tie.Need-same-length-2
-same-length-2 c =
-    search needs
-
-same-length-3 : tie.Need-same-length-3
-same-length-3 c =
-    search needs
-
-same-length-4 : tie.Need-same-length-4
-same-length-4 c =
-    search needs
-
-same-length-5 : tie.Need-same-length-5
-same-length-5 c =
-    search needs
-
 returns : tie.Need-returns
 returns c =
     wrote-is (read-filed _ _ _ _ _ _ (c .before .before .before .before .before .before .before .before .before .before .before .before .before .before .before .before .before .before .before .read .ensures) _ _ (c .before .before .before .before .before .before .before .before .before .before .before .before .before .i .given .1) _ _ _) (c .before .before .before .before .before .before .expanded .ensures)
-
-same-length-6 : tie.Need-same-length-6
-same-length-6 c =
-    search needs
-
-same-length-7 : tie.Need-same-length-7
-same-length-7 c =
-    search needs
-
-same-length-8 : tie.Need-same-length-8
-same-length-8 c =
-    search needs
 
 returns-2 : tie.Need-returns-2
 returns-2 c =
@@ -103,24 +51,24 @@ pub file-spec : {M : Type 1} → statement M
 file-spec =
     tie.close
     (tie.spec
-    read-requires
-    enum-known-i
+    (λ c κs. search needs)  -- read-requires
+    (λ c. search needs)  -- enum-known-i
     mul-words
     mul-bytes
     slice-reshare-prefix-expanded
     slice-aggregate-expanded
     slice-reshare-prefix-expanded-2
     slice-aggregate-expanded-2
-    expanded-requires
-    enum-known-ground
-    refused-requires
-    same-length
-    same-length-2
-    same-length-3
-    same-length-4
-    same-length-5
+    (λ c κs. search needs)  -- expanded-requires
+    (λ c. search needs)  -- enum-known-ground
+    (λ c κs. search needs)  -- refused-requires
+    (λ c. search needs)  -- same-length
+    (λ c. search needs)  -- same-length-2
+    (λ c. search needs)  -- same-length-3
+    (λ c. search needs)  -- same-length-4
+    (λ c. search needs)  -- same-length-5
     returns
-    same-length-6
-    same-length-7
-    same-length-8
+    (λ c. search needs)  -- same-length-6
+    (λ c. search needs)  -- same-length-7
+    (λ c. search needs)  -- same-length-8
     returns-2)

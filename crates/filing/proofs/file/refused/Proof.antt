@@ -8,33 +8,13 @@ use Rattle.filing.proofs.lines.refused_line.Reads as refused-line-reads
 use Rattle.writer.specs.LaidLaws.{put-done, put-full}
 use Rattle.writer.specs.Written.{measured-full, laid-never-full, laid-wrote}
 
-refused-line-requires : tie.Need-refused-line-requires
-refused-line-requires c κs =
-    search needs
-
-same-length : tie.Need-same-length
-same-length c =
-    search needs
-
 returns : tie.Need-returns
 returns c =
     measured-full _ _ _ _ (c .before .before .before .refused-line .ensures) (put-full _ (c .if1 .taken))
 
-refused-line-requires-2 : tie.Need-refused-line-requires-2
-refused-line-requires-2 c κs =
-    search needs
-
-same-length-2 : tie.Need-same-length-2
-same-length-2 c =
-    search needs
-
 returns-2 : tie.Need-returns-2
 returns-2 c =
     laid-never-full _ _ _ _ (c .before .before .before .before .before .before .before .before .refused-line .ensures) _ (put-done _ (c .before .before .before .before .before .if1 .left)) _ _ (c .before .before .before .refused-line2 .ensures) (put-full _ (c .if2 .taken))
-
-same-length-3 : tie.Need-same-length-3
-same-length-3 c =
-    search needs
 
 returns-3 : tie.Need-returns-3
 returns-3 c =
@@ -44,11 +24,11 @@ pub refused-spec : {M : Type 1} → statement M
 refused-spec =
     tie.close
     (tie.spec
-    refused-line-requires
-    same-length
+    (λ c κs. search needs)  -- refused-line-requires
+    (λ c. search needs)  -- same-length
     returns
-    refused-line-requires-2
-    same-length-2
+    (λ c κs. search needs)  -- refused-line-requires-2
+    (λ c. search needs)  -- same-length-2
     returns-2
-    same-length-3
+    (λ c. search needs)  -- same-length-3
     returns-3)

@@ -9,18 +9,6 @@ use Rattle.writer.proofs.bytes.copy.Reads as copy-reads
 use Rattle.writer.specs.LaidLaws.{place-room, place-full, place-then, left-is}
 use Rattle.filing.specs.Lines.{header-laid}
 
-slice-aggregate-copy : tie.Need-slice-aggregate-copy
-slice-aggregate-copy c =
-    search needs
-
-copy-requires : tie.Need-copy-requires
-copy-requires c κs =
-    search needs
-
-same-length : tie.Need-same-length
-same-length c =
-    search needs
-
 returns : tie.Need-returns
 returns c =
     left-is (header-laid _ _) (place-full (c .before .before .before .copy .ensures) _ (c .if1 .taken))
@@ -28,10 +16,6 @@ returns c =
 counts-requires : tie.Need-counts-requires
 counts-requires c κs =
     place-room (c .before .before .before .before .copy .ensures) (c .before .if1 .left)
-
-same-length-2 : tie.Need-same-length-2
-same-length-2 c =
-    search needs
 
 returns-2 : tie.Need-returns-2
 returns-2 c =
@@ -41,10 +25,10 @@ pub accepted-line-spec : {M : Type 1} → statement M
 accepted-line-spec =
     tie.close
     (tie.spec
-    slice-aggregate-copy
-    copy-requires
-    same-length
+    (λ c. search needs)  -- slice-aggregate-copy
+    (λ c κs. search needs)  -- copy-requires
+    (λ c. search needs)  -- same-length
     returns
     counts-requires
-    same-length-2
+    (λ c. search needs)  -- same-length-2
     returns-2)

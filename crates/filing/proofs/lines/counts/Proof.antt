@@ -9,14 +9,6 @@ use Rattle.writer.proofs.bytes.byte.Reads as byte-reads
 use Rattle.writer.specs.LaidLaws.{place-room, place-full, place-then, left-is}
 use Rattle.filing.specs.Lines.{counts-laid}
 
-number-requires : tie.Need-number-requires
-number-requires c κs =
-    search needs
-
-same-length : tie.Need-same-length
-same-length c =
-    search needs
-
 returns : tie.Need-returns
 returns c =
     left-is (counts-laid _ _) (place-full (c .before .before .before .number .ensures) _ (c .if1 .taken))
@@ -24,10 +16,6 @@ returns c =
 number-requires-2 : tie.Need-number-requires-2
 number-requires-2 c κs =
     place-room (c .before .before .before .before .number .ensures) (c .before .if1 .left)
-
-same-length-2 : tie.Need-same-length-2
-same-length-2 c =
-    search needs
 
 returns-2 : tie.Need-returns-2
 returns-2 c =
@@ -37,10 +25,6 @@ byte-requires : tie.Need-byte-requires
 byte-requires c κs =
     place-room (c .before .before .before .before .number2 .ensures) (c .before .if2 .left)
 
-same-length-3 : tie.Need-same-length-3
-same-length-3 c =
-    search needs
-
 returns-3 : tie.Need-returns-3
 returns-3 c =
     left-is (counts-laid _ _) (place-then (c .before .before .before .before .before .before .before .before .before .before .before .before .number .ensures) (c .before .before .before .before .before .before .before .before .before .if1 .left) (place-then (c .before .before .before .before .before .before .before .number2 .ensures) (c .before .before .before .before .if2 .left) (c .before .before .byte .ensures)))
@@ -49,12 +33,12 @@ pub counts-spec : {M : Type 1} → statement M
 counts-spec =
     tie.close
     (tie.spec
-    number-requires
-    same-length
+    (λ c κs. search needs)  -- number-requires
+    (λ c. search needs)  -- same-length
     returns
     number-requires-2
-    same-length-2
+    (λ c. search needs)  -- same-length-2
     returns-2
     byte-requires
-    same-length-3
+    (λ c. search needs)  -- same-length-3
     returns-3)

@@ -10,18 +10,6 @@ use Rattle.writer.proofs.bytes.copy.Reads as copy-reads
 use Rattle.writer.specs.LaidLaws.{place-room, place-full, place-then, left-is}
 use Rattle.filing.specs.Lines.{refusal-laid}
 
-slice-aggregate-copy : tie.Need-slice-aggregate-copy
-slice-aggregate-copy c =
-    search needs
-
-copy-requires : tie.Need-copy-requires
-copy-requires c κs =
-    search needs
-
-same-length : tie.Need-same-length
-same-length c =
-    search needs
-
 returns : tie.Need-returns
 returns c =
     left-is (refusal-laid _ _ _) (place-full (c .before .before .before .copy .ensures) _ (c .if1 .taken))
@@ -29,10 +17,6 @@ returns c =
 number-requires : tie.Need-number-requires
 number-requires c κs =
     place-room (c .before .before .before .before .copy .ensures) (c .before .if1 .left)
-
-same-length-2 : tie.Need-same-length-2
-same-length-2 c =
-    search needs
 
 returns-2 : tie.Need-returns-2
 returns-2 c =
@@ -42,10 +26,6 @@ counts-requires : tie.Need-counts-requires
 counts-requires c κs =
     place-room (c .before .before .before .before .number .ensures) (c .before .if2 .left)
 
-same-length-3 : tie.Need-same-length-3
-same-length-3 c =
-    search needs
-
 returns-3 : tie.Need-returns-3
 returns-3 c =
     left-is (refusal-laid _ _ _) (place-then (c .before .before .before .before .before .before .before .before .before .before .before .before .copy .ensures) (c .before .before .before .before .before .before .before .before .before .if1 .left) (place-then (c .before .before .before .before .before .before .before .number .ensures) (c .before .before .before .before .if2 .left) (c .before .before .counts .ensures)))
@@ -54,13 +34,13 @@ pub refused-line-spec : {M : Type 1} → statement M
 refused-line-spec =
     tie.close
     (tie.spec
-    slice-aggregate-copy
-    copy-requires
-    same-length
+    (λ c. search needs)  -- slice-aggregate-copy
+    (λ c κs. search needs)  -- copy-requires
+    (λ c. search needs)  -- same-length
     returns
     number-requires
-    same-length-2
+    (λ c. search needs)  -- same-length-2
     returns-2
     counts-requires
-    same-length-3
+    (λ c. search needs)  -- same-length-3
     returns-3)

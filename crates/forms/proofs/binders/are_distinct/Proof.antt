@@ -24,18 +24,6 @@ loop-holds c =
     let pre = c .before .before .pre in
     (pre, refl)
 
-word-requires : tie.Need-word-requires Inv-loop μ-loop
-word-requires c κs = search needs
-
-reference-requires : tie.Need-reference-requires Inv-loop μ-loop
-reference-requires c κs = search needs
-
-own-name-requires : tie.Need-own-name-requires Inv-loop μ-loop
-own-name-requires c κs = search needs
-
-reference-requires-2 : tie.Need-reference-requires-2 Inv-loop μ-loop
-reference-requires-2 c κs = search needs
-
 is-among-requires : tie.Need-is-among-requires Inv-loop μ-loop
 is-among-requires c κs =
     let a = c .before .before .before .before .before .before .before .before .args in
@@ -98,10 +86,10 @@ are-distinct-spec =
     Inv-loop
     μ-loop
     loop-holds
-    word-requires
-    reference-requires
-    own-name-requires
-    reference-requires-2
+    (λ c κs. search needs)  -- word-requires
+    (λ c κs. search needs)  -- reference-requires
+    (λ c κs. search needs)  -- own-name-requires
+    (λ c κs. search needs)  -- reference-requires-2
     is-among-requires
     returns
     loop-less

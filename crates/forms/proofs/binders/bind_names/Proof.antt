@@ -24,18 +24,6 @@ loop-holds c =
     let pre = c .before .before .pre in
     (refl, scoping-begins (a .items .now) (a .work .now) (a .list) (a .w) (a .macros) (a .number) (a .parent) (a .top) (pre .0) (pre .1))
 
-word-requires : tie.Need-word-requires Inv-loop μ-loop
-word-requires c κs = search needs
-
-reference-requires : tie.Need-reference-requires Inv-loop μ-loop
-reference-requires c κs = search needs
-
-own-name-requires : tie.Need-own-name-requires Inv-loop μ-loop
-own-name-requires c κs = search needs
-
-reference-requires-2 : tie.Need-reference-requires-2 Inv-loop μ-loop
-reference-requires-2 c κs = search needs
-
 key-of-requires : tie.Need-key-of-requires Inv-loop μ-loop
 key-of-requires c κs =
     let a = c .before .before .before .before .before .before .before .before .before .before .before .before .args in
@@ -87,9 +75,6 @@ loop-again c =
     let o = opened (a .items .now) (loop .work) (loop .at) _ (word .ensures) (a .w) (a .macros) (if1 .taken) (loop .inv .1 .ordinary) _ _ _ (reference .ensures) (own-name .ensures) (reference2 .ensures) in
     (bind .kept .1 .0 ∙ loop .inv .0, scoping-more (a .items .now) (a .work .now) (a .list) (a .w) (a .macros) (a .number) (a .parent) (a .top) (loop .work) (loop .at) (loop .n) (loop .wrap) (loop .end) (loop .inv .1) _ _ o _ _ _ (key-of .ensures) (bind .ensures) (bind .kept .1 .0))
 
-same-length : tie.Need-same-length Inv-loop μ-loop
-same-length c = search needs
-
 returns : tie.Need-returns Inv-loop μ-loop
 returns c =
     let a = c .before .before .before .before .before .before .args in
@@ -104,14 +89,14 @@ bind-names-spec =
     Inv-loop
     μ-loop
     loop-holds
-    word-requires
-    reference-requires
-    own-name-requires
-    reference-requires-2
+    (λ c κs. search needs)  -- word-requires
+    (λ c κs. search needs)  -- reference-requires
+    (λ c κs. search needs)  -- own-name-requires
+    (λ c κs. search needs)  -- reference-requires-2
     key-of-requires
     bind-requires
     add-n
     loop-less
     loop-again
-    same-length
+    (λ c. search needs)  -- same-length
     returns)

@@ -4,7 +4,7 @@ use Rattle.forms.proofs.binders.is_among.Tie as tie
 use borrow.Author.Needs.{needs}
 use native.Mathlib.Omega.{arith}
 use mathlib.Core.Path.{_≡_, refl, sym, _∙_}
-use Rattle.words.specs.Lists.{any}
+use Rattle.words.specs.Lists.{anyOf}
 use Rattle.recipe.specs.Name.{same}
 use Rattle.arena.specs.Arena.{nameAt, treeAt}
 use Rattle.forms.specs.Binders.{AllNames, namesIn}
@@ -14,7 +14,7 @@ use Rattle.forms.specs.BinderLaws.{opened, names-none, among-none, among
 abbrev Inv-loop : tie.InvT-loop
 Inv-loop items work node list w macros at₀ at =
     (AllNames macros (treeAt items work at w))
-    × (any (same (nameAt items work node w)) (namesIn macros (treeAt items work list w)) ≡ any (same (nameAt items work node w)) (namesIn macros (treeAt items work at w)))
+    × (anyOf (same (nameAt items work node w)) (namesIn macros (treeAt items work list w)) ≡ anyOf (same (nameAt items work node w)) (namesIn macros (treeAt items work at w)))
 
 abbrev μ-loop : tie.MeasureT-loop
 μ-loop items work node list w macros at₀ at =
@@ -24,18 +24,6 @@ loop-holds : tie.Need-loop-holds Inv-loop μ-loop
 loop-holds c =
     let pre = c .before .before .pre in
     (pre, refl)
-
-word-requires : tie.Need-word-requires Inv-loop μ-loop
-word-requires c κs = search needs
-
-reference-requires : tie.Need-reference-requires Inv-loop μ-loop
-reference-requires c κs = search needs
-
-own-name-requires : tie.Need-own-name-requires Inv-loop μ-loop
-own-name-requires c κs = search needs
-
-same-names-requires : tie.Need-same-names-requires Inv-loop μ-loop
-same-names-requires c κs = search needs
 
 returns : tie.Need-returns Inv-loop μ-loop
 returns c =
@@ -48,9 +36,6 @@ returns c =
     let same-names = c .before .same-names in
     let o = opened (a .items .now) (a .work .now) (loop .at) _ (word .ensures) (a .w) (a .macros) (if1 .taken) (loop .inv .0) _ _ _ (reference .ensures) (own-name .ensures) refl in
     among-first _ _ _ _ _ (o .names-are) (same-names .ensures) (c .if2 .taken) ∙ sym (loop .inv .1)
-
-reference-requires-2 : tie.Need-reference-requires-2 Inv-loop μ-loop
-reference-requires-2 c κs = search needs
 
 loop-less : tie.Need-loop-less Inv-loop μ-loop
 loop-less c =
@@ -87,12 +72,12 @@ is-among-spec =
     Inv-loop
     μ-loop
     loop-holds
-    word-requires
-    reference-requires
-    own-name-requires
-    same-names-requires
+    (λ c κs. search needs)  -- word-requires
+    (λ c κs. search needs)  -- reference-requires
+    (λ c κs. search needs)  -- own-name-requires
+    (λ c κs. search needs)  -- same-names-requires
     returns
-    reference-requires-2
+    (λ c κs. search needs)  -- reference-requires-2
     loop-less
     loop-again
     returns-2)

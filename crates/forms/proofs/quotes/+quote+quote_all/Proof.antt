@@ -51,14 +51,6 @@ abbrev quote-all-claims : ℕ → quote-all-lts.Claims
 quote-all-claims t =
     (word-reads.Asked, word-reads.Learnt, reference-reads.Asked, reference-reads.Learnt, quote-below t, quote.Post)
 
-quote-word-requires : (t : ℕ) → quote-lts.Need-word-requires (quote-claims t) (quote-at t) quote.Post
-quote-word-requires t c κs =
-    search needs
-
-quote-count-requires : (t : ℕ) → quote-lts.Need-count-requires (quote-claims t) (quote-at t) quote.Post
-quote-count-requires t c κs =
-    search needs
-
 quote-put-two-requires : (t : ℕ) → quote-lts.Need-put-two-requires (quote-claims t) (quote-at t) quote.Post
 quote-put-two-requires t c κs =
     let a = c .before .before .before .before .before .before .before .args in
@@ -77,10 +69,6 @@ quote-returns : (t : ℕ) → quote-lts.Need-returns (quote-claims t) (quote-at 
 quote-returns t c =
     let a = c .before .before .before .before .before .before .before .before .before .before .before .before .before .before .args in
     quoted-list (a .items .now) (a .work .now) (a .node) _ (c .before .before .before .before .before .before .before .before .before .before .word .ensures) (c .before .before .before .before .before .before .before .before .before .if1 .taken) _ (c .before .before .before .before .before .before .before .before .count .ensures) (a .core .now) _ _ (a .at) _ _ (c .before .before .before .before .before .before .before .before .before .before .before .before .before .before .pre .1 .0) (c .before .before .before .before .before .before .put-two .ensures) (c .before .before .quote-all .ensures)
-
-quote-number-of-requires : (t : ℕ) → quote-lts.Need-number-of-requires (quote-claims t) (quote-at t) quote.Post
-quote-number-of-requires t c κs =
-    search needs
 
 quote-put-two-requires-2 : (t : ℕ) → quote-lts.Need-put-two-requires-2 (quote-claims t) (quote-at t) quote.Post
 quote-put-two-requires-2 t c κs =
@@ -109,10 +97,6 @@ quote-returns-3 : (t : ℕ) → quote-lts.Need-returns-3 (quote-claims t) (quote
 quote-returns-3 t c =
     let a = c .before .before .before .before .before .before .before .before .before .before .before .args in
     written-as _ _ (a .core .now) _ (a .at) _ (quoted-empty (a .items .now) (a .work .now) (a .node) _ (c .before .before .before .before .before .before .before .word .ensures) (c .before .before .before .before .if3 .taken)) (c .before .before .put-two3 .ensures)
-
-quote-word-requires-2 : (t : ℕ) → quote-lts.Need-word-requires-2 (quote-claims t) (quote-at t) quote.Post
-quote-word-requires-2 t c κs =
-    search needs
 
 quote-add-put-two : (t : ℕ) → quote-lts.Need-add-put-two (quote-claims t) (quote-at t) quote.Post
 quote-add-put-two t c =
@@ -146,22 +130,10 @@ quote-all-loop-holds t c =
     let a = c .before .before .before .args in
     walked-none (a .items .now) (a .work .now) (a .list) (a .at) (a .core .now) (c .before .before .before .pre .1 .1)
 
-quote-all-word-requires : (t : ℕ) → quote-all-lts.Need-word-requires (quote-all-claims t) (quote-all-at t) quote-all.Post quote-all-Inv-loop quote-all-μ-loop
-quote-all-word-requires t c κs =
-    search needs
-
-quote-all-reference-requires : (t : ℕ) → quote-all-lts.Need-reference-requires (quote-all-claims t) (quote-all-at t) quote-all.Post quote-all-Inv-loop quote-all-μ-loop
-quote-all-reference-requires t c κs =
-    search needs
-
 quote-all-quote-requires : (t : ℕ) → quote-all-lts.Need-quote-requires (quote-all-claims t) (quote-all-at t) quote-all.Post quote-all-Inv-loop quote-all-μ-loop
 quote-all-quote-requires t c κs =
     let a = c .before .before .before .before .before .before .before .before .args in
     (omega (arith, c .before .before .before .before .before .before .before .before .pre .0, first-low (a .items .now) (a .work .now) (a .list) (a .at) (a .core .now) _ _ _ (c .before .before .before .before .loop .inv) _ (c .before .before .before .word .ensures) (c .before .before .if1 .taken) _ (c .before .reference .ensures)), (walked-room (a .items .now) (a .work .now) (a .list) (a .at) (a .core .now) _ _ _ (c .before .before .before .before .loop .inv) _ (c .before .before .before .word .ensures) (c .before .before .if1 .taken) _ (c .before .reference .ensures) (c .before .before .before .before .before .before .before .before .pre .1 .0), first-quotable (a .items .now) (a .work .now) (a .list) (a .at) (a .core .now) _ _ _ (c .before .before .before .before .loop .inv) _ (c .before .before .before .word .ensures) (c .before .before .if1 .taken) _ (c .before .reference .ensures)))
-
-quote-all-reference-requires-2 : (t : ℕ) → quote-all-lts.Need-reference-requires-2 (quote-all-claims t) (quote-all-at t) quote-all.Post quote-all-Inv-loop quote-all-μ-loop
-quote-all-reference-requires-2 t c κs =
-    search needs
 
 quote-all-loop-less : (t : ℕ) → quote-all-lts.Need-loop-less (quote-all-claims t) (quote-all-at t) quote-all.Post quote-all-Inv-loop quote-all-μ-loop
 quote-all-loop-less t c =
@@ -185,20 +157,20 @@ quote-all-returns t c =
 pub +quote+quote-all-spec : {M : Type 1} → statement M
 +quote+quote-all-spec = close μ-quote μ-quote-all (λ t. quote-lts.spec (quote-claims t) (quote-at t)
     quote.Post
-    (quote-word-requires t)
-    (quote-count-requires t)
+    (λ c κs. search needs)  -- quote-word-requires
+    (λ c κs. search needs)  -- quote-count-requires
     (quote-put-two-requires t)
     (quote-quote-all-requires t)
     (quote-same-length t)
     (quote-returns t)
-    (quote-number-of-requires t)
+    (λ c κs. search needs)  -- quote-number-of-requires
     (quote-put-two-requires-2 t)
     (quote-same-length-2 t)
     (quote-returns-2 t)
     (quote-put-two-requires-3 t)
     (quote-same-length-3 t)
     (quote-returns-3 t)
-    (quote-word-requires-2 t)
+    (λ c κs. search needs)  -- quote-word-requires-2
     (quote-add-put-two t)
     (quote-put-two-requires-4 t)
     (quote-same-length-4 t)
@@ -208,10 +180,10 @@ pub +quote+quote-all-spec : {M : Type 1} → statement M
     quote-all-Inv-loop
     quote-all-μ-loop
     (quote-all-loop-holds t)
-    (quote-all-word-requires t)
-    (quote-all-reference-requires t)
+    (λ c κs. search needs)  -- quote-all-word-requires
+    (λ c κs. search needs)  -- quote-all-reference-requires
     (quote-all-quote-requires t)
-    (quote-all-reference-requires-2 t)
+    (λ c κs. search needs)  -- quote-all-reference-requires-2
     (quote-all-loop-less t)
     (quote-all-loop-again t)
     (quote-all-same-length t)

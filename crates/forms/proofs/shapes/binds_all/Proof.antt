@@ -18,10 +18,6 @@ loop-holds : tie.Need-loop-holds Inv-loop μ-loop
 loop-holds c =
     λ w. refl
 
-word-requires : tie.Need-word-requires Inv-loop μ-loop
-word-requires c κs =
-    search needs
-
 returns : tie.Need-returns Inv-loop μ-loop
 returns c =
     let a = c .before .before .before .before .before .before .args in
@@ -29,14 +25,6 @@ returns c =
     let word = c .before .before .word in
     let if1 = c .before .if1 in
     all-over (a .items .now) (a .work .now) (a .macros) (a .list) (a .most) (loop .node) (loop .left) (loop .inv) _ (word .ensures) (if1 .taken) (c .if2 .taken)
-
-reference-requires : tie.Need-reference-requires Inv-loop μ-loop
-reference-requires c κs =
-    search needs
-
-binds-one-requires : tie.Need-binds-one-requires Inv-loop μ-loop
-binds-one-requires c κs =
-    search needs
 
 returns-2 : tie.Need-returns-2 Inv-loop μ-loop
 returns-2 c =
@@ -47,18 +35,6 @@ returns-2 c =
     let reference = c .before .before .reference in
     let binds-one = c .before .binds-one in
     all-first (a .items .now) (a .work .now) (a .macros) (a .list) (a .most) (loop .node) (loop .left) (loop .inv) _ (word .ensures) (if1 .taken) _ _ (reference .ensures) (binds-one .ensures) (not-true _ (c .if3 .taken))
-
-reference-requires-2 : tie.Need-reference-requires-2 Inv-loop μ-loop
-reference-requires-2 c κs =
-    search needs
-
-sub-left : tie.Need-sub-left Inv-loop μ-loop
-sub-left c =
-    search needs
-
-loop-less : tie.Need-loop-less Inv-loop μ-loop
-loop-less c =
-    search needs
 
 loop-again : tie.Need-loop-again Inv-loop μ-loop
 loop-again c =
@@ -86,13 +62,13 @@ binds-all-spec =
     Inv-loop
     μ-loop
     loop-holds
-    word-requires
+    (λ c κs. search needs)  -- word-requires
     returns
-    reference-requires
-    binds-one-requires
+    (λ c κs. search needs)  -- reference-requires
+    (λ c κs. search needs)  -- binds-one-requires
     returns-2
-    reference-requires-2
-    sub-left
-    loop-less
+    (λ c κs. search needs)  -- reference-requires-2
+    (λ c. search needs)  -- sub-left
+    (λ c. search needs)  -- loop-less
     loop-again
     returns-3)

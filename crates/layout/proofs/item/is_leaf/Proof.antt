@@ -11,23 +11,11 @@ use Rattle.recipe.specs.Table.{kindAt}
 use Rattle.recipe.specs.TreeFrom.{tailAt}
 use Rattle.layout.specs.ItemTests.{item-unused, item-empty, item-integer, item-boolean, item-name, item-other}
 
-tail-requires : tie.Need-tail-requires
-tail-requires c κs =
-    search needs
-
 returns : tie.Need-returns
 returns c =
     let a = c .before .before .before .args in let ws = a .table .now in
     let t : tailAt ws (a .i) ≡ 0 → ⊥ = λ e. c .if1 .taken (c .before .tail .ensures ∙ e) in
     λ n. sym (item-unused ws n (a .i) (c .before .before .before .pre .1) t)
-
-kind-requires : tie.Need-kind-requires
-kind-requires c κs =
-    search needs
-
-head-requires : tie.Need-head-requires
-head-requires c κs =
-    search needs
 
 returns-2 : tie.Need-returns-2
 returns-2 c =
@@ -59,10 +47,10 @@ pub is-leaf-spec : {M : Type 1} → statement M
 is-leaf-spec =
     tie.close
     (tie.spec
-    tail-requires
+    (λ c κs. search needs)  -- tail-requires
     returns
-    kind-requires
-    head-requires
+    (λ c κs. search needs)  -- kind-requires
+    (λ c κs. search needs)  -- head-requires
     returns-2
     returns-3
     returns-4

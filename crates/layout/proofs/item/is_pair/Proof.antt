@@ -8,14 +8,6 @@ use Rattle.recipe.specs.Table.{kindAt}
 use Rattle.recipe.specs.Layout.{isListKind}
 use Rattle.layout.specs.ItemTests.{head-low, head-high, tail-low, tail-high, references-good}
 
-head-requires : tie.Need-head-requires
-head-requires c κs =
-    search needs
-
-tail-requires : tie.Need-tail-requires
-tail-requires c κs =
-    search needs
-
 returns : tie.Need-returns
 returns c =
     let a = c .before .before .before .before .args in let ws = a .table .now in
@@ -36,14 +28,6 @@ returns-4 c =
     let a = c .before .before .before .before .before .before .before .args in let ws = a .table .now in
     sym (tail-high ws (a .n) (a .i) (omega arith) (omega arith))
 
-kind-requires : tie.Need-kind-requires
-kind-requires c κs =
-    search needs
-
-is-list-kind-requires : tie.Need-is-list-kind-requires
-is-list-kind-requires c κs =
-    search needs
-
 returns-5 : tie.Need-returns-5
 returns-5 c =
     let a = c .before .before .before .before .before .before .before .before .before .args in let ws = a .table .now in
@@ -54,12 +38,12 @@ pub is-pair-spec : {M : Type 1} → statement M
 is-pair-spec =
     tie.close
     (tie.spec
-    head-requires
-    tail-requires
+    (λ c κs. search needs)  -- head-requires
+    (λ c κs. search needs)  -- tail-requires
     returns
     returns-2
     returns-3
     returns-4
-    kind-requires
-    is-list-kind-requires
+    (λ c κs. search needs)  -- kind-requires
+    (λ c κs. search needs)  -- is-list-kind-requires
     returns-5)

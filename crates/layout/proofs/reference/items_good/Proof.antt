@@ -6,7 +6,7 @@ use mathlib.Core.Path.{_≡_, sym, _∙_}
 use mathlib.Core.Bool.{true}
 use native.Mathlib.Omega.{arith}
 use borrow.Author.Tests.{not-true, not-false}
-use Rattle.words.specs.Lists.{all}
+use Rattle.words.specs.Lists.{allOf}
 use Rattle.words.specs.TestLaws.{and-none-left}
 use Rattle.recipe.specs.Table.{items, isItem}
 use Rattle.layout.specs.Counts.{once-each}
@@ -35,7 +35,7 @@ returns-2 : tie.Need-returns-2
 returns-2 c =
     let ws = c .before .before .before .before .before .before .before .before .before .args .table .now in let n = c .before .before .before .before .before .before .before .before .before .args .n in let fit = c .before .before .before .before .before .items-fit in
     let t = not-false (fit .result) (c .before .before .if1 .left) in
-    let f : all (isItem ws n) (items 0 ws) ≡ true = sym (fit .ensures .0) ∙ t in
+    let f : allOf (isItem ws n) (items 0 ws) ≡ true = sym (fit .ensures .0) ∙ t in
     rw f (c .ones .ensures ∙ sym (once-each ws n (c .before .before .before .before .before .before .before .before .before .pre .0) (fit .last .1 .1 .0) (fit .ensures .1 t) (omega (arith, fit .kept .1 .1 .0))))
 
 pub items-good-spec : {M : Type 1} → statement M

@@ -21,22 +21,6 @@ unfolding areOnes
 loop-holds c =
     (omega arith, omega arith, refl)
 
-mul-wrong : tie.Need-mul-wrong Inv-loop μ-loop
-mul-wrong c =
-    search needs
-
-shared-slice-read-wrong : tie.Need-shared-slice-read-wrong Inv-loop μ-loop
-shared-slice-read-wrong c =
-    search needs
-
-add-i : tie.Need-add-i Inv-loop μ-loop
-add-i c =
-    search needs
-
-loop-less : tie.Need-loop-less Inv-loop μ-loop
-loop-less c =
-    search needs
-
 loop-again : tie.Need-loop-again Inv-loop μ-loop
 loop-again c =
     let loop = c .before .before .loop in
@@ -54,9 +38,9 @@ ones-spec =
     Inv-loop
     μ-loop
     loop-holds
-    mul-wrong
-    shared-slice-read-wrong
-    add-i
-    loop-less
+    (λ c. search needs)  -- mul-wrong
+    (λ c. search needs)  -- shared-slice-read-wrong
+    (λ c. search needs)  -- add-i
+    (λ c. search needs)  -- loop-less
     loop-again
     returns)

@@ -14,10 +14,6 @@ use Rattle.recipe.specs.Layout.{PairItem, pairItem}
 use Rattle.layout.specs.ItemTests.{item-pair}
 use Rattle.layout.specs.Counts.{Counted, counted-none, counted-two, most-one, references-pair, references-none}
 
-kind-requires : tie.Need-kind-requires
-kind-requires c κs =
-    search needs
-
 is-leaf-requires : tie.Need-is-leaf-requires
 is-leaf-requires c κs =
     (omega arith, λ e. c .if1 .taken (c .before .kind .ensures ∙ e))
@@ -27,10 +23,6 @@ returns c =
     let a = c .before .before .before .before .before .args in let ws = a .table .now in
     let k : kindAt ws (a .i) ≡ 4 → ⊥ = λ e. c .before .if1 .taken (c .before .before .kind .ensures ∙ e) in
     (c .is-leaf .ensures (a .n), λ q. subst (Counted (a .counts .now) (a .counts .now)) (sym (references-none ws (a .i) k)) (counted-none (a .counts .now)))
-
-is-pair-requires : tie.Need-is-pair-requires
-is-pair-requires c κs =
-    search needs
 
 -- a pair's test is that of an item
 tested : (c : tie.After-is-pair) → let a = c .before .before .before .before .before .args in isItem (a .table .now) (a .n) (itemAt (a .table .now) (a .i)) ≡ c .is-pair .result
@@ -51,17 +43,9 @@ pair c =
     let is-pair = c .before .before in
     pairItem (a .table .now) (a .n) (a .i) (tested is-pair ∙ not-false (is-pair .is-pair .result) (c .before .if2 .left)) (entry .pre .1) k
 
-head-requires : tie.Need-head-requires
-head-requires c κs =
-    search needs
-
 count-requires : tie.Need-count-requires
 count-requires c κs =
     (omega (arith, pair (c .before) .headBelow, c .head .ensures), λ k h. omega (arith, c .before .before .before .before .before .before .before .before .pre .3 k h))
-
-tail-requires : tie.Need-tail-requires
-tail-requires c κs =
-    search needs
 
 count-requires-2 : tie.Need-count-requires-2
 count-requires-2 c κs =
@@ -69,10 +53,6 @@ count-requires-2 c κs =
       omega (arith, pair (c .before .before .before .before .before .before) .tailBelow, c .tail .ensures, first .kept .0),
       most-one (entry .args .counts .now) (first .last .0) (c .before .before .before .before .before .head .result) 65533 (first .kept .0) (first .ensures) (entry .pre .3),
     )
-
-same-length : tie.Need-same-length
-same-length c =
-    search needs
 
 returns-3 : tie.Need-returns-3
 returns-3 c =
@@ -91,14 +71,14 @@ pub takes-item-spec : {M : Type 1} → statement M
 takes-item-spec =
     tie.close
     (tie.spec
-    kind-requires
+    (λ c κs. search needs)  -- kind-requires
     is-leaf-requires
     returns
-    is-pair-requires
+    (λ c κs. search needs)  -- is-pair-requires
     returns-2
-    head-requires
+    (λ c κs. search needs)  -- head-requires
     count-requires
-    tail-requires
+    (λ c κs. search needs)  -- tail-requires
     count-requires-2
-    same-length
+    (λ c. search needs)  -- same-length
     returns-3)

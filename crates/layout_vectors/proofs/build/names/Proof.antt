@@ -14,144 +14,36 @@ abbrev μ-loop : tie.MeasureT-loop
 μ-loop table₀ n last i₀ table i =
     n - i
 
-mul-five : tie.Need-mul-five Inv-loop μ-loop
-mul-five c =
-    search needs
-
-add-five : tie.Need-add-five Inv-loop μ-loop
-add-five c =
-    search needs
-
-five-requires : tie.Need-five-requires Inv-loop μ-loop
-five-requires c κs =
-    search needs
-
-mul-put : tie.Need-mul-put Inv-loop μ-loop
-mul-put c =
-    search needs
-
-add-put : tie.Need-add-put Inv-loop μ-loop
-add-put c =
-    search needs
-
-mul-put-2 : tie.Need-mul-put-2 Inv-loop μ-loop
-mul-put-2 c =
-    search needs
-
-add-put-2 : tie.Need-add-put-2 Inv-loop μ-loop
-add-put-2 c =
-    search needs
-
-mul-put-3 : tie.Need-mul-put-3 Inv-loop μ-loop
-mul-put-3 c =
-    search needs
-
-add-put-3 : tie.Need-add-put-3 Inv-loop μ-loop
-add-put-3 c =
-    search needs
-
-put-requires : tie.Need-put-requires Inv-loop μ-loop
-put-requires c κs =
-    search needs
-
-mul-put-4 : tie.Need-mul-put-4 Inv-loop μ-loop
-mul-put-4 c =
-    search needs
-
-add-put-4 : tie.Need-add-put-4 Inv-loop μ-loop
-add-put-4 c =
-    search needs
-
-put-requires-2 : tie.Need-put-requires-2 Inv-loop μ-loop
-put-requires-2 c κs =
-    search needs
-
-loop-holds : tie.Need-loop-holds Inv-loop μ-loop
-loop-holds c =
-    search needs
-
-mul-at : tie.Need-mul-at Inv-loop μ-loop
-mul-at c =
-    search needs
-
-add-at : tie.Need-add-at Inv-loop μ-loop
-add-at c =
-    search needs
-
-add-put-5 : tie.Need-add-put-5 Inv-loop μ-loop
-add-put-5 c =
-    search needs
-
-add-put-6 : tie.Need-add-put-6 Inv-loop μ-loop
-add-put-6 c =
-    search needs
-
-put-requires-3 : tie.Need-put-requires-3 Inv-loop μ-loop
-put-requires-3 c κs =
-    search needs
-
-add-put-7 : tie.Need-add-put-7 Inv-loop μ-loop
-add-put-7 c =
-    search needs
-
-add-put-8 : tie.Need-add-put-8 Inv-loop μ-loop
-add-put-8 c =
-    search needs
-
-put-requires-4 : tie.Need-put-requires-4 Inv-loop μ-loop
-put-requires-4 c κs =
-    search needs
-
-add-i : tie.Need-add-i Inv-loop μ-loop
-add-i c =
-    search needs
-
-loop-less : tie.Need-loop-less Inv-loop μ-loop
-loop-less c =
-    search needs
-
-loop-again : tie.Need-loop-again Inv-loop μ-loop
-loop-again c =
-    search needs
-
-same-length : tie.Need-same-length Inv-loop μ-loop
-same-length c =
-    search needs
-
-returns : tie.Need-returns Inv-loop μ-loop
-returns c =
-    search needs
-
 pub names-spec : {M : Type 1} → statement M
 names-spec =
     tie.close
     (tie.spec
     Inv-loop
     μ-loop
-    mul-five
-    add-five
-    five-requires
-    mul-put
-    add-put
-    mul-put-2
-    add-put-2
-    mul-put-3
-    add-put-3
-    put-requires
-    mul-put-4
-    add-put-4
-    put-requires-2
-    loop-holds
-    mul-at
-    add-at
-    add-put-5
-    add-put-6
-    put-requires-3
-    add-put-7
-    add-put-8
-    put-requires-4
-    add-i
-    loop-less
-    loop-again
-    same-length
-    returns)
+    (λ c. search needs)  -- mul-five
+    (λ c. search needs)  -- add-five
+    (λ c κs. search needs)  -- five-requires
+    (λ c. search needs)  -- mul-put
+    (λ c. search needs)  -- add-put
+    (λ c. search needs)  -- mul-put-2
+    (λ c. search needs)  -- add-put-2
+    (λ c. search needs)  -- mul-put-3
+    (λ c. search needs)  -- add-put-3
+    (λ c κs. search needs)  -- put-requires
+    (λ c. search needs)  -- mul-put-4
+    (λ c. search needs)  -- add-put-4
+    (λ c κs. search needs)  -- put-requires-2
+    (λ c. search needs)  -- loop-holds
+    (λ c. search needs)  -- mul-at
+    (λ c. search needs)  -- add-at
+    (λ c. search needs)  -- add-put-5
+    (λ c. search needs)  -- add-put-6
+    (λ c κs. search needs)  -- put-requires-3
+    (λ c. search needs)  -- add-put-7
+    (λ c. search needs)  -- add-put-8
+    (λ c κs. search needs)  -- put-requires-4
+    (λ c. search needs)  -- add-i
+    (λ c. search needs)  -- loop-less
+    (λ c. search needs)  -- loop-again
+    (λ c. search needs)  -- same-length
+    (λ c. search needs))  -- returns

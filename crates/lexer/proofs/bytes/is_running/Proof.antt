@@ -7,25 +7,25 @@ use mathlib.Core.Bool.{true, false}
 use mathlib.Core.List.{[], _∷_}
 use mathlib.Core.Logic.{⊎-elim}
 use borrow.Author.Tests.{leb-true, leb-false}
-use Rattle.words.specs.Lists.{within, any}
+use Rattle.words.specs.Lists.{within, anyOf}
 use Rattle.words.specs.ListLaws.{valued, valued-at, any-neither}
 use Rattle.words.specs.Text.{bytes}
 use Rattle.reading.specs.Token.{isDigit, isRunning}
 
 returns : tie.Need-returns
-unfolding isRunning isDigit within any bytes valued
+unfolding isRunning isDigit within anyOf bytes valued
 returns c =
     let b = c .before .before .args .b in
     valued-at isRunning true [] 97 26 refl b (c .before .if1 .taken) (omega (arith, leb-true b 122 (c .if2 .taken))) refl
 
 returns-2 : tie.Need-returns-2
-unfolding isRunning isDigit within any bytes valued
+unfolding isRunning isDigit within anyOf bytes valued
 returns-2 c =
     let args = c .before .before .before .before .before .before .before .args in
     valued-at isRunning true [] 48 10 refl (args .b) (omega arith) (omega arith) refl
 
 returns-3 : tie.Need-returns-3
-unfolding isRunning isDigit within any bytes valued
+unfolding isRunning isDigit within anyOf bytes valued
 returns-3 c =
     let args = c .before .before .before .args in
     let match = c .before .match in
@@ -33,7 +33,7 @@ returns-3 c =
     (any-neither _ 33 95 (match .rest .1))
 
 returns-4 : tie.Need-returns-4
-unfolding isRunning isDigit within any bytes valued
+unfolding isRunning isDigit within anyOf bytes valued
 returns-4 c =
     let args = c .before .before .before .before .before .args in
     let match = c .before .before .before .match in
@@ -41,7 +41,7 @@ returns-4 c =
     (any-neither _ 33 95 (match .rest .1))
 
 returns-5 : tie.Need-returns-5
-unfolding isRunning isDigit within any bytes valued
+unfolding isRunning isDigit within anyOf bytes valued
 returns-5 c =
     let args = c .before .before .before .before .before .before .before .before .args in
     let match = c .before .before .before .before .before .before .match in
@@ -49,7 +49,7 @@ returns-5 c =
     (any-neither _ 33 95 (match .rest .1))
 
 returns-6 : tie.Need-returns-6
-unfolding isRunning isDigit within any bytes valued
+unfolding isRunning isDigit within anyOf bytes valued
 returns-6 c =
     let b = c .before .before .before .before .before .before .before .before .before .args .b in
     let match = c .before .before .before .before .before .before .before .match in
@@ -61,24 +61,24 @@ returns-6 c =
     (if1 .came)
 
 returns-7 : tie.Need-returns-7
-unfolding isRunning isDigit within any bytes
+unfolding isRunning isDigit within anyOf bytes
 returns-7 c =
     ⊎-elim (λ e. rw e) (λ e. rw e) (c .match .keys1)
 
 returns-8 : tie.Need-returns-8
-unfolding isRunning isDigit within any bytes valued
+unfolding isRunning isDigit within anyOf bytes valued
 returns-8 c =
     let args = c .before .before .before .before .args in
     valued-at isRunning true [] 42 2 refl (args .b) (omega arith) (omega arith) refl
 
 returns-9 : tie.Need-returns-9
-unfolding isRunning isDigit within any bytes valued
+unfolding isRunning isDigit within anyOf bytes valued
 returns-9 c =
     let args = c .before .before .before .before .before .before .args in
     valued-at isRunning true [] 45 3 refl (args .b) (omega arith) (omega arith) refl
 
 returns-10 : tie.Need-returns-10
-unfolding isRunning isDigit within any bytes valued
+unfolding isRunning isDigit within anyOf bytes valued
 returns-10 c =
     let args = c .before .before .before .before .before .before .before .before .before .args in
     valued-at isRunning true [] 60 4 refl (args .b) (omega arith) (omega arith) refl

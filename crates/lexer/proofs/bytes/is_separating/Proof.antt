@@ -6,20 +6,20 @@ use mathlib.Core.Path.{refl}
 use mathlib.Core.Bool.{true, false}
 use mathlib.Core.List.{[], _∷_}
 use mathlib.Core.Logic.{⊎-elim}
-use Rattle.words.specs.Lists.{any}
+use Rattle.words.specs.Lists.{anyOf}
 use Rattle.words.specs.ListLaws.{valued, valued-at, any-neither}
 use Rattle.words.specs.Text.{bytes}
 use Rattle.reading.specs.Token.{isSeparating}
 
 returns : tie.Need-returns
-unfolding isSeparating any bytes valued
+unfolding isSeparating anyOf bytes valued
 returns c =
     let args = c .before .before .args in
     valued-at isSeparating false (13 ∷ 32 ∷ []) 0 9 refl (args .b) (omega arith) (omega arith)
     (any-neither _ 13 32 (c .before .match .rest .1))
 
 returns-2 : tie.Need-returns-2
-unfolding isSeparating any bytes valued
+unfolding isSeparating anyOf bytes valued
 returns-2 c =
     let args = c .before .before .before .args in
     let match = c .before .before .match in
@@ -27,12 +27,12 @@ returns-2 c =
     (any-neither _ 13 32 (match .rest .1))
 
 returns-3 : tie.Need-returns-3
-unfolding isSeparating any bytes
+unfolding isSeparating anyOf bytes
 returns-3 c =
     ⊎-elim (λ e. rw e) (λ e. rw e) (c .match .keys1)
 
 returns-4 : tie.Need-returns-4
-unfolding isSeparating any bytes valued
+unfolding isSeparating anyOf bytes valued
 returns-4 c =
     let args = c .before .before .before .args in
     valued-at isSeparating true [] 9 2 refl (args .b) (omega arith) (omega arith) refl

@@ -6,14 +6,14 @@ use mathlib.Core.Path.{_≡_, refl, sym, _∙_}
 use Prim.Native.Nat.{_≤_, _-_}
 use borrow.Author.Tests.{not-true, not-false}
 use lib.ListN.{length, drop}
-use Rattle.words.specs.Lists.{all}
+use Rattle.words.specs.Lists.{allOf}
 use Rattle.reading.specs.Token.{isDigit}
 use Rattle.lexer.specs.NumberLaws.{digits-step, digits-stop, digits-end}
 use borrow.Author.Needs.{needs}
 
 abbrev Inv-loop : tie.InvT-loop
 Inv-loop digits i₀ i =
-    (i ≤ length digits) × (all isDigit (drop i digits) ≡ all isDigit digits)
+    (i ≤ length digits) × (allOf isDigit (drop i digits) ≡ allOf isDigit digits)
 
 abbrev μ-loop : tie.MeasureT-loop
 μ-loop digits i₀ i =
@@ -23,14 +23,6 @@ loop-holds : tie.Need-loop-holds Inv-loop μ-loop
 loop-holds c =
     (omega arith, refl)
 
-shared-slice-read-is-digit : tie.Need-shared-slice-read-is-digit Inv-loop μ-loop
-shared-slice-read-is-digit c =
-    search needs
-
-is-digit-requires : tie.Need-is-digit-requires Inv-loop μ-loop
-is-digit-requires c κs =
-    search needs
-
 returns : tie.Need-returns Inv-loop μ-loop
 returns c =
     let args = c .before .before .before .before .before .before .args in
@@ -38,14 +30,6 @@ returns c =
     let loop-test = c .before .before .before .loop-test in
     let d = sym (c .before .is-digit .ensures) ∙ not-true _ (c .if1 .taken) in
     sym (digits-stop (args .digits .now) (loop .i) (loop-test .taken) d) ∙ loop .inv .1
-
-add-i : tie.Need-add-i Inv-loop μ-loop
-add-i c =
-    search needs
-
-loop-less : tie.Need-loop-less Inv-loop μ-loop
-loop-less c =
-    search needs
 
 loop-again : tie.Need-loop-again Inv-loop μ-loop
 loop-again c =
@@ -68,10 +52,10 @@ are-digits-spec =
     Inv-loop
     μ-loop
     loop-holds
-    shared-slice-read-is-digit
-    is-digit-requires
+    (λ c. search needs)  -- shared-slice-read-is-digit
+    (λ c κs. search needs)  -- is-digit-requires
     returns
-    add-i
-    loop-less
+    (λ c. search needs)  -- add-i
+    (λ c. search needs)  -- loop-less
     loop-again
     returns-2)

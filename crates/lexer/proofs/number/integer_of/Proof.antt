@@ -7,26 +7,6 @@ use borrow.Author.Tests.{not-true, not-false}
 use Rattle.words.specs.Parts.{rest}
 use Rattle.lexer.specs.NumberLaws.{integer-plain, integer-minus, digits-malformed, digits-value}
 
-shared-slice-read-if1 : tie.Need-shared-slice-read-if1
-shared-slice-read-if1 c =
-    search needs
-
-sub-digits : tie.Need-sub-digits
-sub-digits c =
-    search needs
-
-part-digits-start : tie.Need-part-digits-start
-part-digits-start c =
-    search needs
-
-part-digits-end : tie.Need-part-digits-end
-part-digits-end c =
-    search needs
-
-are-digits-requires : tie.Need-are-digits-requires
-are-digits-requires c κs =
-    search needs
-
 returns : tie.Need-returns
 returns c =
     let args = c .before .before .before .before .before .before .args in
@@ -40,10 +20,6 @@ magnitude-requires c κs =
     let are-digits = c .before .are-digits in
     sym (are-digits .ensures) ∙ not-false (are-digits .result) (c .if2 .left)
 
-signed-requires : tie.Need-signed-requires
-signed-requires c κs =
-    search needs
-
 returns-2 : tie.Need-returns-2
 returns-2 c =
     let args = c .before .before .before .before .before .before .before .before .args in
@@ -52,10 +28,6 @@ returns-2 c =
     let if2 = c .before .before .if2 in
     digits-value (args .word .now) (rest 1 (args .word .now)) true (integer-minus (args .word .now) (if1 .taken)) _ _
     (sym (are-digits .ensures) ∙ not-false (are-digits .result) (if2 .left)) (c .signed .ensures) (c .before .magnitude .ensures)
-
-are-digits-requires-2 : tie.Need-are-digits-requires-2
-are-digits-requires-2 c κs =
-    search needs
 
 returns-3 : tie.Need-returns-3
 returns-3 c =
@@ -69,10 +41,6 @@ magnitude-requires-2 : tie.Need-magnitude-requires-2
 magnitude-requires-2 c κs =
     let are-digits2 = c .before .are-digits2 in
     sym (are-digits2 .ensures) ∙ not-false (are-digits2 .result) (c .if3 .left)
-
-signed-requires-2 : tie.Need-signed-requires-2
-signed-requires-2 c κs =
-    search needs
 
 returns-4 : tie.Need-returns-4
 returns-4 c =
@@ -88,17 +56,17 @@ pub integer-of-spec : {M : Type 1} → statement M
 integer-of-spec =
     tie.close
     (tie.spec
-    shared-slice-read-if1
-    sub-digits
-    part-digits-start
-    part-digits-end
-    are-digits-requires
+    (λ c. search needs)  -- shared-slice-read-if1
+    (λ c. search needs)  -- sub-digits
+    (λ c. search needs)  -- part-digits-start
+    (λ c. search needs)  -- part-digits-end
+    (λ c κs. search needs)  -- are-digits-requires
     returns
     magnitude-requires
-    signed-requires
+    (λ c κs. search needs)  -- signed-requires
     returns-2
-    are-digits-requires-2
+    (λ c κs. search needs)  -- are-digits-requires-2
     returns-3
     magnitude-requires-2
-    signed-requires-2
+    (λ c κs. search needs)  -- signed-requires-2
     returns-4)

@@ -9,18 +9,6 @@ returns c =
     let args = c .before .before .args in
     numeral-none (args .word .now) (c .if1 .taken)
 
-shared-slice-read-if2 : tie.Need-shared-slice-read-if2
-shared-slice-read-if2 c =
-    search needs
-
-shared-slice-read-is-digit : tie.Need-shared-slice-read-is-digit
-shared-slice-read-is-digit c =
-    search needs
-
-is-digit-requires : tie.Need-is-digit-requires
-is-digit-requires c κs =
-    search needs
-
 returns-2 : tie.Need-returns-2
 returns-2 c =
     let args = c .before .before .before .before .before .before .args in
@@ -31,14 +19,6 @@ returns-3 : tie.Need-returns-3
 returns-3 c =
     let args = c .before .before .before .before .before .args in
     numeral-one (args .word .now) (c .if3 .taken) (c .before .if2 .left)
-
-shared-slice-read-is-digit-2 : tie.Need-shared-slice-read-is-digit-2
-shared-slice-read-is-digit-2 c =
-    search needs
-
-is-digit-requires-2 : tie.Need-is-digit-requires-2
-is-digit-requires-2 c κs =
-    search needs
 
 returns-4 : tie.Need-returns-4
 returns-4 c =
@@ -51,11 +31,11 @@ is-numeral-spec =
     tie.close
     (tie.spec
     returns
-    shared-slice-read-if2
-    shared-slice-read-is-digit
-    is-digit-requires
+    (λ c. search needs)  -- shared-slice-read-if2
+    (λ c. search needs)  -- shared-slice-read-is-digit
+    (λ c κs. search needs)  -- is-digit-requires
     returns-2
     returns-3
-    shared-slice-read-is-digit-2
-    is-digit-requires-2
+    (λ c. search needs)  -- shared-slice-read-is-digit-2
+    (λ c κs. search needs)  -- is-digit-requires-2
     returns-4)

@@ -25,14 +25,6 @@ mul-value : tie.Need-mul-value Inv-loop μ-loop
 mul-value c =
     omega arith
 
-shared-slice-read-wide : tie.Need-shared-slice-read-wide Inv-loop μ-loop
-shared-slice-read-wide c =
-    search needs
-
-wide-requires : tie.Need-wide-requires Inv-loop μ-loop
-wide-requires c κs =
-    search needs
-
 sub-value : tie.Need-sub-value Inv-loop μ-loop
 sub-value c =
     let args = c .before .before .before .before .before .args in
@@ -61,14 +53,6 @@ returns c =
     let n = 10 * v + (getD l i 0 - 48) in
     omega (arith, c .before .wide .ensures, loop .inv .2, value-step l i (loop-test .taken) v, value-least n (drop (i + 1) l))
 
-add-i : tie.Need-add-i Inv-loop μ-loop
-add-i c =
-    search needs
-
-loop-less : tie.Need-loop-less Inv-loop μ-loop
-loop-less c =
-    search needs
-
 loop-again : tie.Need-loop-again Inv-loop μ-loop
 loop-again c =
     let args = c .before .before .before .before .before .before .args in
@@ -93,12 +77,12 @@ magnitude-spec =
     μ-loop
     loop-holds
     mul-value
-    shared-slice-read-wide
-    wide-requires
+    (λ c. search needs)  -- shared-slice-read-wide
+    (λ c κs. search needs)  -- wide-requires
     sub-value
     add-value
     returns
-    add-i
-    loop-less
+    (λ c. search needs)  -- add-i
+    (λ c. search needs)  -- loop-less
     loop-again
     returns-2)

@@ -11,14 +11,6 @@ returns c =
     let args = c .before .args in
     end-flag (args .text .now) (args .at) (c .if1 .taken)
 
-add-t4 : tie.Need-add-t4
-add-t4 c =
-    search needs
-
-shared-slice-read-if2 : tie.Need-shared-slice-read-if2
-shared-slice-read-if2 c =
-    search needs
-
 returns-2 : tie.Need-returns-2
 returns-2 c =
     let args = c .before .before .before .args in
@@ -26,10 +18,6 @@ returns-2 c =
     let if1 = c .before .before .if1 in
     let h : args .at < length (args .text .now) = omega (arith, pre, if1 .left) in
     true-taken (args .text .now) (args .at) h (c .if2 .taken)
-
-shared-slice-read-if3 : tie.Need-shared-slice-read-if3
-shared-slice-read-if3 c =
-    search needs
 
 returns-3 : tie.Need-returns-3
 returns-3 c =
@@ -53,9 +41,9 @@ flag-at-spec =
     tie.close
     (tie.spec
     returns
-    add-t4
-    shared-slice-read-if2
+    (λ c. search needs)  -- add-t4
+    (λ c. search needs)  -- shared-slice-read-if2
     returns-2
-    shared-slice-read-if3
+    (λ c. search needs)  -- shared-slice-read-if3
     returns-3
     returns-4)

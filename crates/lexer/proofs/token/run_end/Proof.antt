@@ -7,7 +7,7 @@ use mathlib.Core.Bool.{true}
 use Prim.Native.Nat.{_≤_, _-_}
 use borrow.Author.Tests.{not-true, not-false}
 use lib.ListN.{length}
-use Rattle.words.specs.Lists.{all}
+use Rattle.words.specs.Lists.{allOf}
 use Rattle.words.specs.Parts.{part}
 use Rattle.words.specs.ListLaws.{part-none}
 use Rattle.reading.specs.Token.{isRunning}
@@ -16,25 +16,17 @@ use borrow.Author.Needs.{needs}
 
 abbrev Inv-loop : tie.InvT-loop
 Inv-loop text from at₀ at =
-    (from ≤ at) × (at ≤ length text) × (all isRunning (part from at text) ≡ true)
+    (from ≤ at) × (at ≤ length text) × (allOf isRunning (part from at text) ≡ true)
 
 abbrev μ-loop : tie.MeasureT-loop
 μ-loop text from at₀ at =
     length text - at
 
 loop-holds : tie.Need-loop-holds Inv-loop μ-loop
-unfolding all
+unfolding allOf
 loop-holds c =
     let args = c .before .args in
     (omega arith, c .before .pre, rw (part-none (args .from) (args .text .now)))
-
-shared-slice-read-is-running : tie.Need-shared-slice-read-is-running Inv-loop μ-loop
-shared-slice-read-is-running c =
-    search needs
-
-is-running-requires : tie.Need-is-running-requires Inv-loop μ-loop
-is-running-requires c κs =
-    search needs
 
 returns : tie.Need-returns Inv-loop μ-loop
 returns c =
@@ -50,14 +42,6 @@ returns c =
       stops = run-stops (args .text .now) (loop .at)
           (loop-test .taken) r;
     }
-
-add-at : tie.Need-add-at Inv-loop μ-loop
-add-at c =
-    search needs
-
-loop-less : tie.Need-loop-less Inv-loop μ-loop
-loop-less c =
-    search needs
 
 loop-again : tie.Need-loop-again Inv-loop μ-loop
 loop-again c =
@@ -86,10 +70,10 @@ run-end-spec =
     Inv-loop
     μ-loop
     loop-holds
-    shared-slice-read-is-running
-    is-running-requires
+    (λ c. search needs)  -- shared-slice-read-is-running
+    (λ c κs. search needs)  -- is-running-requires
     returns
-    add-at
-    loop-less
+    (λ c. search needs)  -- add-at
+    (λ c. search needs)  -- loop-less
     loop-again
     returns-2)

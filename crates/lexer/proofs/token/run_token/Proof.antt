@@ -15,26 +15,6 @@ use Rattle.lexer.specs.Answers.{integerMeaning}
 use Rattle.reading.specs.Laws.Meanings.{numeral-means, other-means, name-is, name-malformed}
 use Rattle.lexer.specs.ToldLaws.{name-short}
 
-sub-word : tie.Need-sub-word
-sub-word c =
-    search needs
-
-part-word-start : tie.Need-part-word-start
-part-word-start c =
-    search needs
-
-part-word-end : tie.Need-part-word-end
-part-word-end c =
-    search needs
-
-is-numeral-requires : tie.Need-is-numeral-requires
-is-numeral-requires c κs =
-    search needs
-
-is-name-requires : tie.Need-is-name-requires
-is-name-requires c κs =
-    search needs
-
 returns : tie.Need-returns
 returns c =
     let args = c .before .before .before .before .before .before .args in
@@ -64,18 +44,6 @@ integer-of-requires : tie.Need-integer-of-requires
 integer-of-requires c κs =
     let args = c .before .before .before .before .args in
     omega (arith, length-part (args .from) (args .to) (args .text .now) (omega arith) (omega arith))
-
-enum-known-z : tie.Need-enum-known-z
-enum-known-z c =
-    search needs
-
-enum-told : tie.Need-enum-told
-enum-told c =
-    search needs
-
-enum-told-2 : tie.Need-enum-told-2
-enum-told-2 c =
-    search needs
 
 returns-3 : tie.Need-returns-3
 returns-3 c =
@@ -120,17 +88,17 @@ pub run-token-spec : {M : Type 1} → statement M
 run-token-spec =
     tie.close
     (tie.spec
-    sub-word
-    part-word-start
-    part-word-end
-    is-numeral-requires
-    is-name-requires
+    (λ c. search needs)  -- sub-word
+    (λ c. search needs)  -- part-word-start
+    (λ c. search needs)  -- part-word-end
+    (λ c κs. search needs)  -- is-numeral-requires
+    (λ c κs. search needs)  -- is-name-requires
     returns
     returns-2
     integer-of-requires
-    enum-known-z
-    enum-told
-    enum-told-2
+    (λ c. search needs)  -- enum-known-z
+    (λ c. search needs)  -- enum-told
+    (λ c. search needs)  -- enum-told-2
     returns-3
     returns-4
     returns-5)

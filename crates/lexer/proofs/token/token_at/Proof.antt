@@ -23,10 +23,6 @@ shared-slice-read-b c =
     let skip = c .before .before .skip in
     omega (arith, skip .ensures .high, c .before .if1 .left)
 
-add-t10 : tie.Need-add-t10
-add-t10 c =
-    search needs
-
 returns-2 : tie.Need-returns-2
 returns-2 c =
     let args = c .before .before .before .before .before .args in
@@ -37,10 +33,6 @@ returns-2 c =
     let h : at < length text = omega (arith, skip .ensures .high, if1 .left) in
     byte-skipped text (args .cursor .at) at (skip .ensures) begins h (opening-taken text at h (c .if2 .taken))
 
-add-t12 : tie.Need-add-t12
-add-t12 c =
-    search needs
-
 returns-3 : tie.Need-returns-3
 returns-3 c =
     let args = c .before .before .before .before .before .before .args in
@@ -50,10 +42,6 @@ returns-3 c =
     let at = skip .result in
     let h : at < length text = omega (arith, skip .ensures .high, if1 .left) in
     byte-skipped text (args .cursor .at) at (skip .ensures) ends h (closing-taken text at h (c .if3 .taken))
-
-add-flag-at : tie.Need-add-flag-at
-add-flag-at c =
-    search needs
 
 flag-at-requires : tie.Need-flag-at-requires
 flag-at-requires c κs =
@@ -120,11 +108,11 @@ token-at-spec =
     skip-requires
     returns
     shared-slice-read-b
-    add-t10
+    (λ c. search needs)  -- add-t10
     returns-2
-    add-t12
+    (λ c. search needs)  -- add-t12
     returns-3
-    add-flag-at
+    (λ c. search needs)  -- add-flag-at
     flag-at-requires
     returns-4
     run-end-requires

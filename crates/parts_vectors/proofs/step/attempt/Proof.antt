@@ -8,15 +8,6 @@ use mathlib.Core.Bool.{true}
 use Rattle.recipe.specs.Table.{isLayout}
 use Rattle.arena.specs.LayOut.{whole, most}
 
-returns : tie.Need-returns
-returns c = search needs
-
-returns-2 : tie.Need-returns-2
-returns-2 c = search needs
-
-is-layout-requires : tie.Need-is-layout-requires
-is-layout-requires c κs = search needs
-
 lay-out-requires : tie.Need-lay-out-requires
 lay-out-requires c κs =
     let l : isLayout (c .before .before .before .before .before .before .before .args .items .now) ≡ true = sym (c .before .before .is-layout .ensures) ∙ c .before .if3 .taken in (l, omega (arith, c .before .before .before .before .if1 .left, whole (c .before .before .before .before .before .before .before .args .items .now) l, most (c .before .before .before .before .before .before .before .args .items .now) l))
@@ -25,24 +16,15 @@ first-step-requires : tie.Need-first-step-requires
 first-step-requires c κs =
     record { layout = sym (c .before .before .before .before .before .before .is-layout .ensures) ∙ c .before .before .before .before .before .if3 .taken; laid = c .before .before .before .lay-out .ensures; room = omega (arith, c .before .before .before .before .before .before .before .before .if1 .left, c .before .before .before .lay-out .kept .1 .0); fuelled = omega (arith, c .before .before .before .before .before .before .before .if2 .left) }
 
-same-length : tie.Need-same-length
-same-length c = search needs
-
-returns-3 : tie.Need-returns-3
-returns-3 c = search needs
-
-returns-4 : tie.Need-returns-4
-returns-4 c = search needs
-
 pub attempt-spec : {M : Type 1} → statement M
 attempt-spec =
     tie.close
     (tie.spec
-    returns
-    returns-2
-    is-layout-requires
+    (λ c. search needs)  -- returns
+    (λ c. search needs)  -- returns-2
+    (λ c κs. search needs)  -- is-layout-requires
     lay-out-requires
     first-step-requires
-    same-length
-    returns-3
-    returns-4)
+    (λ c. search needs)  -- same-length
+    (λ c. search needs)  -- returns-3
+    (λ c. search needs))  -- returns-4

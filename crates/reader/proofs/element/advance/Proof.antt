@@ -20,78 +20,6 @@ use Rattle.reader.specs.Code.MovedLaws.{
   end-moved,
 }
 
-token-at-requires : tie.Need-token-at-requires
-token-at-requires c κs =
-    search needs
-
-enum-told : tie.Need-enum-told
-enum-told c =
-    search needs
-
-finish-requires : tie.Need-finish-requires
-finish-requires c κs =
-    search needs
-
-enum-known-ground : tie.Need-enum-known-ground
-enum-known-ground c =
-    search needs
-
-enum-known-next : tie.Need-enum-known-next
-enum-known-next c =
-    search needs
-
-open-list-requires : tie.Need-open-list-requires
-open-list-requires c κs =
-    search needs
-
-moved-requires : tie.Need-moved-requires
-moved-requires c κs =
-    search needs
-
-enum-known-next-2 : tie.Need-enum-known-next-2
-enum-known-next-2 c =
-    search needs
-
-close-list-requires : tie.Need-close-list-requires
-close-list-requires c κs =
-    search needs
-
-moved-requires-2 : tie.Need-moved-requires-2
-moved-requires-2 c κs =
-    search needs
-
-enum-known-b : tie.Need-enum-known-b
-enum-known-b c =
-    search needs
-
-put-token-requires : tie.Need-put-token-requires
-put-token-requires c κs =
-    search needs
-
-moved-requires-3 : tie.Need-moved-requires-3
-moved-requires-3 c κs =
-    search needs
-
-enum-known-z : tie.Need-enum-known-z
-enum-known-z c =
-    search needs
-
-to-word-requires : tie.Need-to-word-requires
-to-word-requires c κs =
-    search needs
-
-put-token-requires-2 : tie.Need-put-token-requires-2
-put-token-requires-2 c κs =
-    search needs
-
-moved-requires-4 : tie.Need-moved-requires-4
-moved-requires-4 c κs =
-    search needs
-
-enum-known-from : tie.Need-enum-known-from
-enum-known-from c =
-    search needs
-
 sub-put-name : tie.Need-sub-put-name
 sub-put-name c =
     let args = c .before .before .before .before .before .before .before .before .before .before .before .args in
@@ -122,10 +50,6 @@ put-name-requires c κs =
     let n = subst (Told (args .text .now) (args .cursor .at)) (from .given .1) (token-at .ensures) in
     (pre .1 .0, (pre .1 .1, n .2))
 
-moved-requires-5 : tie.Need-moved-requires-5
-moved-requires-5 c κs =
-    search needs
-
 returns : tie.Need-returns
 returns c =
     λ r h i.
@@ -144,10 +68,6 @@ returns-2 c =
     refused-moved (args .text .now) (args .cursor .at) r (ground .given .0 .0) (ground .given .0 .1 .0 .at)
     (subst (Told (args .text .now) (args .cursor .at)) (ground .given .1) (token-at .ensures))
 
-same-length : tie.Need-same-length
-same-length c =
-    search needs
-
 returns-3 : tie.Need-returns-3
 returns-3 c =
     λ r h i.
@@ -159,10 +79,6 @@ returns-3 c =
     (subst (Told (args .text .now) (args .cursor .at)) (next .given .1) (token-at .ensures)) (begins-indexed r (args .index .now) i) (open-list .result)
     (c .moved .result) (c .moved .ensures) (open-list .ensures r (args .names .now) h)
 
-same-length-2 : tie.Need-same-length-2
-same-length-2 c =
-    search needs
-
 returns-4 : tie.Need-returns-4
 returns-4 c =
     λ r h i.
@@ -173,10 +89,6 @@ returns-4 c =
     stepped-moved (args .text .now) (args .cursor .at) r (close-list .last .0) (args .names .now) (args .index .now) ends (next2 .given .0 .0)
     (subst (Told (args .text .now) (args .cursor .at)) (next2 .given .1) (token-at .ensures)) (ends-indexed r (args .index .now) i) (close-list .result)
     (c .moved2 .result) (c .moved2 .ensures) (close-list .ensures r (args .names .now) h)
-
-same-length-3 : tie.Need-same-length-3
-same-length-3 c =
-    search needs
 
 returns-5 : tie.Need-returns-5
 unfolding boolean
@@ -193,10 +105,6 @@ returns-5 c =
     (c .moved3 .ensures)
     (constant-stepped r (args .place) (args .items .now) (put-token .last .0) (args .names .now) (boolean (b .given .0 .0))
     (b .given .0 .0) (put-token .result) h refl refl (put-token .ensures))
-
-same-length-4 : tie.Need-same-length-4
-same-length-4 c =
-    search needs
 
 returns-6 : tie.Need-returns-6
 unfolding integer
@@ -218,18 +126,6 @@ returns-6 c =
     (sym (to-word .ensures ∙ ap (ofZ w32)
     (toZ-ofZ {w = w32} {z = z′ .given .0 .0} (record { sfits = known-told5 .given .0 .1 })))) (put-token2 .ensures))
 
-same-length-5 : tie.Need-same-length-5
-same-length-5 c =
-    search needs
-
-same-length-6 : tie.Need-same-length-6
-same-length-6 c =
-    search needs
-
-same-length-7 : tie.Need-same-length-7
-same-length-7 c =
-    search needs
-
 returns-7 : tie.Need-returns-7
 returns-7 c =
     λ r h i.
@@ -247,40 +143,40 @@ pub advance-spec : {M : Type 1} → statement M
 advance-spec =
     tie.close
     (tie.spec
-    token-at-requires
-    enum-told
-    finish-requires
-    enum-known-ground
-    enum-known-next
-    open-list-requires
-    moved-requires
-    enum-known-next-2
-    close-list-requires
-    moved-requires-2
-    enum-known-b
-    put-token-requires
-    moved-requires-3
-    enum-known-z
-    to-word-requires
-    put-token-requires-2
-    moved-requires-4
-    enum-known-from
+    (λ c κs. search needs)  -- token-at-requires
+    (λ c. search needs)  -- enum-told
+    (λ c κs. search needs)  -- finish-requires
+    (λ c. search needs)  -- enum-known-ground
+    (λ c. search needs)  -- enum-known-next
+    (λ c κs. search needs)  -- open-list-requires
+    (λ c κs. search needs)  -- moved-requires
+    (λ c. search needs)  -- enum-known-next-2
+    (λ c κs. search needs)  -- close-list-requires
+    (λ c κs. search needs)  -- moved-requires-2
+    (λ c. search needs)  -- enum-known-b
+    (λ c κs. search needs)  -- put-token-requires
+    (λ c κs. search needs)  -- moved-requires-3
+    (λ c. search needs)  -- enum-known-z
+    (λ c κs. search needs)  -- to-word-requires
+    (λ c κs. search needs)  -- put-token-requires-2
+    (λ c κs. search needs)  -- moved-requires-4
+    (λ c. search needs)  -- enum-known-from
     sub-put-name
     part-put-name-start
     part-put-name-end
     put-name-requires
-    moved-requires-5
+    (λ c κs. search needs)  -- moved-requires-5
     returns
     returns-2
-    same-length
+    (λ c. search needs)  -- same-length
     returns-3
-    same-length-2
+    (λ c. search needs)  -- same-length-2
     returns-4
-    same-length-3
+    (λ c. search needs)  -- same-length-3
     returns-5
-    same-length-4
+    (λ c. search needs)  -- same-length-4
     returns-6
-    same-length-5
-    same-length-6
-    same-length-7
+    (λ c. search needs)  -- same-length-5
+    (λ c. search needs)  -- same-length-6
+    (λ c. search needs)  -- same-length-7
     returns-7)

@@ -7,34 +7,6 @@ use Rattle.words.specs.Limits.{namesMost}
 use Rattle.reader.specs.Code.IndexLaws.{bucket-below}
 use Rattle.reader.specs.Code.NameStepLaws.{found-most, name-known, name-full, name-new}
 
-bucket-of-requires : tie.Need-bucket-of-requires
-bucket-of-requires c κs =
-    search needs
-
-find-requires : tie.Need-find-requires
-find-requires c κs =
-    search needs
-
-cast-put-token : tie.Need-cast-put-token
-cast-put-token c =
-    search needs
-
-put-token-requires : tie.Need-put-token-requires
-put-token-requires c κs =
-    search needs
-
-same-length : tie.Need-same-length
-same-length c =
-    search needs
-
-same-length-2 : tie.Need-same-length-2
-same-length-2 c =
-    search needs
-
-same-length-3 : tie.Need-same-length-3
-same-length-3 c =
-    search needs
-
 returns : tie.Need-returns
 returns c =
     λ r h.
@@ -45,22 +17,6 @@ returns c =
     let pre = c .before .before .before .before .before .before .before .before .before .before .before .before .before .before .pre in
     name-known r (args .place) (args .items .now) (args .names .now) h (args .word .now) (find .result) (find .ensures)
     (args .index .now) (pre .1 .0 .indexed) _ (put-token .result) (if1 .taken) (put-token .ensures)
-
-add-ground-at : tie.Need-add-ground-at
-add-ground-at c =
-    search needs
-
-ground-at-requires : tie.Need-ground-at-requires
-ground-at-requires c κs =
-    search needs
-
-same-length-4 : tie.Need-same-length-4
-same-length-4 c =
-    search needs
-
-same-length-5 : tie.Need-same-length-5
-same-length-5 c =
-    search needs
 
 returns-2 : tie.Need-returns-2
 returns-2 c =
@@ -100,22 +56,6 @@ add-put-token c =
     let l = found-most (args .word .now) (args .names .now) (args .place .known) (find .result) (find .ensures) in omega
     (arith, l, pre .0 .names)
 
-put-token-requires-2 : tie.Need-put-token-requires-2
-put-token-requires-2 c κs =
-    search needs
-
-same-length-6 : tie.Need-same-length-6
-same-length-6 c =
-    search needs
-
-same-length-7 : tie.Need-same-length-7
-same-length-7 c =
-    search needs
-
-same-length-8 : tie.Need-same-length-8
-same-length-8 c =
-    search needs
-
 returns-3 : tie.Need-returns-3
 returns-3 c =
     λ r h.
@@ -137,24 +77,24 @@ pub put-name-spec : {M : Type 1} → statement M
 put-name-spec =
     tie.close
     (tie.spec
-    bucket-of-requires
-    find-requires
-    cast-put-token
-    put-token-requires
-    same-length
-    same-length-2
-    same-length-3
+    (λ c κs. search needs)  -- bucket-of-requires
+    (λ c κs. search needs)  -- find-requires
+    (λ c. search needs)  -- cast-put-token
+    (λ c κs. search needs)  -- put-token-requires
+    (λ c. search needs)  -- same-length
+    (λ c. search needs)  -- same-length-2
+    (λ c. search needs)  -- same-length-3
     returns
-    add-ground-at
-    ground-at-requires
-    same-length-4
-    same-length-5
+    (λ c. search needs)  -- add-ground-at
+    (λ c κs. search needs)  -- ground-at-requires
+    (λ c. search needs)  -- same-length-4
+    (λ c. search needs)  -- same-length-5
     returns-2
     enter-requires
     cast-put-token-2
     add-put-token
-    put-token-requires-2
-    same-length-6
-    same-length-7
-    same-length-8
+    (λ c κs. search needs)  -- put-token-requires-2
+    (λ c. search needs)  -- same-length-6
+    (λ c. search needs)  -- same-length-7
+    (λ c. search needs)  -- same-length-8
     returns-3)

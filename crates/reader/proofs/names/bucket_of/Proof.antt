@@ -26,26 +26,10 @@ mul-bucket : tie.Need-mul-bucket Inv-loop μ-loop
 mul-bucket c =
     omega arith
 
-shared-slice-read-wide : tie.Need-shared-slice-read-wide Inv-loop μ-loop
-shared-slice-read-wide c =
-    search needs
-
-wide-requires : tie.Need-wide-requires Inv-loop μ-loop
-wide-requires c κs =
-    search needs
-
 add-bucket : tie.Need-add-bucket Inv-loop μ-loop
 add-bucket c =
     let loop = c .before .before .before .loop in
     omega (arith, loop .inv .1, c .wide .ensures, c .before .shared-slice-known2 .given (loop .i))
-
-add-i : tie.Need-add-i Inv-loop μ-loop
-add-i c =
-    search needs
-
-loop-less : tie.Need-loop-less Inv-loop μ-loop
-loop-less c =
-    search needs
 
 loop-again : tie.Need-loop-again Inv-loop μ-loop
 loop-again c =
@@ -70,10 +54,10 @@ bucket-of-spec =
     μ-loop
     loop-holds
     mul-bucket
-    shared-slice-read-wide
-    wide-requires
+    (λ c. search needs)  -- shared-slice-read-wide
+    (λ c κs. search needs)  -- wide-requires
     add-bucket
-    add-i
-    loop-less
+    (λ c. search needs)  -- add-i
+    (λ c. search needs)  -- loop-less
     loop-again
     returns)

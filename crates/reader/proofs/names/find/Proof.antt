@@ -31,10 +31,6 @@ loop-holds c =
     rw (c .entry-at .ensures, pre .1 .1)
     (walked-first (namesIn (args .names .now) 0 (args .known)) (args .word .now) (args .index .now) (pre .1 .0 .0))
 
-sub-n : tie.Need-sub-n Inv-loop μ-loop
-sub-n c =
-    search needs
-
 spells-requires : tie.Need-spells-requires Inv-loop μ-loop
 spells-requires c κs =
     let args = c .before .before .before .before .before .before .args in
@@ -112,7 +108,7 @@ find-spec =
     μ-loop
     entry-at-requires
     loop-holds
-    sub-n
+    (λ c. search needs)  -- sub-n
     spells-requires
     returns
     add-entry-at

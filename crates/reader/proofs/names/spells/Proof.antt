@@ -18,18 +18,6 @@ abbrev μ-loop : tie.MeasureT-loop
 μ-loop names number word start i₀ i =
     length word - i
 
-mul-start : tie.Need-mul-start Inv-loop μ-loop
-mul-start c =
-    search needs
-
-shared-slice-read-wide : tie.Need-shared-slice-read-wide Inv-loop μ-loop
-shared-slice-read-wide c =
-    search needs
-
-wide-requires : tie.Need-wide-requires Inv-loop μ-loop
-wide-requires c κs =
-    search needs
-
 returns : tie.Need-returns Inv-loop μ-loop
 unfolding lengthAt
 returns c =
@@ -44,14 +32,6 @@ loop-holds : tie.Need-loop-holds Inv-loop μ-loop
 loop-holds c =
     (omega arith, refl)
 
-add-if2 : tie.Need-add-if2 Inv-loop μ-loop
-add-if2 c =
-    search needs
-
-add-if2-2 : tie.Need-add-if2-2 Inv-loop μ-loop
-add-if2-2 c =
-    search needs
-
 shared-slice-read-if2 : tie.Need-shared-slice-read-if2 Inv-loop μ-loop
 unfolding lengthAt
 shared-slice-read-if2 c =
@@ -59,10 +39,6 @@ shared-slice-read-if2 c =
     let wide = c .before .before .before .before .wide in
     let if1 = c .before .before .before .if1 in
     omega (arith, pre .0, pre .1, wide .ensures, if1 .left)
-
-shared-slice-read-if2-2 : tie.Need-shared-slice-read-if2-2 Inv-loop μ-loop
-shared-slice-read-if2-2 c =
-    search needs
 
 returns-2 : tie.Need-returns-2 Inv-loop μ-loop
 unfolding lengthAt
@@ -81,14 +57,6 @@ returns-2 c =
     let h : i < lengthAt table n = omega (arith, wide .ensures, if1 .left, loop-test .taken) in
     sym (equal-stop word (nameAt table n) s i (loop-test .taken)
     (λ e. c .if2 .taken (sym (name-byte table n (pre .0) (pre .1) i h) ∙ e))) ∙ loop .inv .1
-
-add-i : tie.Need-add-i Inv-loop μ-loop
-add-i c =
-    search needs
-
-loop-less : tie.Need-loop-less Inv-loop μ-loop
-loop-less c =
-    search needs
 
 loop-again : tie.Need-loop-again Inv-loop μ-loop
 unfolding lengthAt
@@ -132,17 +100,17 @@ spells-spec =
     (tie.spec
     Inv-loop
     μ-loop
-    mul-start
-    shared-slice-read-wide
-    wide-requires
+    (λ c. search needs)  -- mul-start
+    (λ c. search needs)  -- shared-slice-read-wide
+    (λ c κs. search needs)  -- wide-requires
     returns
     loop-holds
-    add-if2
-    add-if2-2
+    (λ c. search needs)  -- add-if2
+    (λ c. search needs)  -- add-if2-2
     shared-slice-read-if2
-    shared-slice-read-if2-2
+    (λ c. search needs)  -- shared-slice-read-if2-2
     returns-2
-    add-i
-    loop-less
+    (λ c. search needs)  -- add-i
+    (λ c. search needs)  -- loop-less
     loop-again
     returns-3)

@@ -17,18 +17,6 @@ abbrev μ-loop : tie.MeasureT-loop
 μ-loop names₀ number word start i₀ names i =
     length word - i
 
-mul-start : tie.Need-mul-start Inv-loop μ-loop
-mul-start c =
-    search needs
-
-cast-names : tie.Need-cast-names Inv-loop μ-loop
-cast-names c =
-    search needs
-
-slice-write-names : tie.Need-slice-write-names Inv-loop μ-loop
-slice-write-names c =
-    search needs
-
 loop-holds : tie.Need-loop-holds Inv-loop μ-loop
 loop-holds c = (
   refl,
@@ -37,32 +25,12 @@ loop-holds c = (
       (64 * c .args .number + 1) (c .args .word .now),
 )
 
-shared-slice-read-names : tie.Need-shared-slice-read-names Inv-loop μ-loop
-shared-slice-read-names c =
-    search needs
-
-add-names : tie.Need-add-names Inv-loop μ-loop
-add-names c =
-    search needs
-
-add-names-2 : tie.Need-add-names-2 Inv-loop μ-loop
-add-names-2 c =
-    search needs
-
 slice-write-names-2 : tie.Need-slice-write-names-2 Inv-loop μ-loop
 slice-write-names-2 c =
     let pre = c .before .before .before .pre in
     let loop = c .before .before .loop in
     let args = c .before .before .before .args in
     omega (arith, pre .0, pre .1, loop .inv .0, length-set (args .names .now) (64 * args .number) (length (args .word .now)))
-
-add-i : tie.Need-add-i Inv-loop μ-loop
-add-i c =
-    search needs
-
-loop-less : tie.Need-loop-less Inv-loop μ-loop
-loop-less c =
-    search needs
 
 loop-again : tie.Need-loop-again Inv-loop μ-loop
 loop-again c =
@@ -101,16 +69,16 @@ store-spec =
     (tie.spec
     Inv-loop
     μ-loop
-    mul-start
-    cast-names
-    slice-write-names
+    (λ c. search needs)  -- mul-start
+    (λ c. search needs)  -- cast-names
+    (λ c. search needs)  -- slice-write-names
     loop-holds
-    shared-slice-read-names
-    add-names
-    add-names-2
+    (λ c. search needs)  -- shared-slice-read-names
+    (λ c. search needs)  -- add-names
+    (λ c. search needs)  -- add-names-2
     slice-write-names-2
-    add-i
-    loop-less
+    (λ c. search needs)  -- add-i
+    (λ c. search needs)  -- loop-less
     loop-again
     same-length
     returns)

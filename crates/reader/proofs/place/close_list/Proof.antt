@@ -78,10 +78,6 @@ sub-t9 c =
     let if1 = c .before .before .before .before .before .if1 in
     omega (arith, if1 .left)
 
-same-length : tie.Need-same-length
-same-length c =
-    search needs
-
 returns-2 : tie.Need-returns-2
 returns-2 c =
     λ r bytes h.
@@ -105,5 +101,5 @@ close-list-spec =
     slice-write-items
     add-t6
     sub-t9
-    same-length
+    (λ c. search needs)  -- same-length
     returns-2)

@@ -11,10 +11,6 @@ add-ground-at c =
     let pre = c .before .before .pre in
     omega (arith, pre .lists)
 
-ground-at-requires : tie.Need-ground-at-requires
-ground-at-requires c κs =
-    search needs
-
 returns : tie.Need-returns
 returns c =
     λ r bytes h.
@@ -61,14 +57,6 @@ add-t13 c =
     let pre = c .before .before .before .before .before .before .before .before .before .before .before .pre in
     omega (arith, pre .elements)
 
-lacking-requires : tie.Need-lacking-requires
-lacking-requires c κs =
-    search needs
-
-same-length : tie.Need-same-length
-same-length c =
-    search needs
-
 returns-2 : tie.Need-returns-2
 returns-2 c =
     λ r bytes h.
@@ -84,7 +72,7 @@ open-list-spec =
     tie.close
     (tie.spec
     add-ground-at
-    ground-at-requires
+    (λ c κs. search needs)  -- ground-at-requires
     returns
     add-put-item
     cast-put-item
@@ -93,6 +81,6 @@ open-list-spec =
     add-t5
     add-t12
     add-t13
-    lacking-requires
-    same-length
+    (λ c κs. search needs)  -- lacking-requires
+    (λ c. search needs)  -- same-length
     returns-2)

@@ -6,39 +6,11 @@ use native.Mathlib.Omega.{arith}
 use Prim.Native.Nat.{_+_, _*_}
 use Rattle.reader.specs.Code.Placed.{put3}
 
-add-put-item : tie.Need-add-put-item
-add-put-item c =
-    search needs
-
-cast-put-item : tie.Need-cast-put-item
-cast-put-item c =
-    search needs
-
-add-put-item-2 : tie.Need-add-put-item-2
-add-put-item-2 c =
-    search needs
-
-cast-put-item-2 : tie.Need-cast-put-item-2
-cast-put-item-2 c =
-    search needs
-
-put-item-requires : tie.Need-put-item-requires
-put-item-requires c κs =
-    search needs
-
-add-put-item-3 : tie.Need-add-put-item-3
-add-put-item-3 c =
-    search needs
-
 put-item-requires-2 : tie.Need-put-item-requires-2
 put-item-requires-2 c κs =
     let pre = c .before .before .before .before .before .before .pre in
     let put-item = c .before .before .before .put-item in
     omega (arith, pre .0, put-item .kept .0)
-
-same-length : tie.Need-same-length
-same-length c =
-    search needs
 
 returns : tie.Need-returns
 returns c =
@@ -51,12 +23,12 @@ pub put-element-spec : {M : Type 1} → statement M
 put-element-spec =
     tie.close
     (tie.spec
-    add-put-item
-    cast-put-item
-    add-put-item-2
-    cast-put-item-2
-    put-item-requires
-    add-put-item-3
+    (λ c. search needs)  -- add-put-item
+    (λ c. search needs)  -- cast-put-item
+    (λ c. search needs)  -- add-put-item-2
+    (λ c. search needs)  -- cast-put-item-2
+    (λ c κs. search needs)  -- put-item-requires
+    (λ c. search needs)  -- add-put-item-3
     put-item-requires-2
-    same-length
+    (λ c. search needs)  -- same-length
     returns)

@@ -5,10 +5,6 @@ use mathlib.Core.Path.{sym, _∙_}
 use native.Mathlib.Omega.{arith}
 use Rattle.reader.specs.Code.StepLaws.{ground-room, token-refused, token-went}
 
-ground-at-requires : tie.Need-ground-at-requires
-ground-at-requires c κs =
-    search needs
-
 returns : tie.Need-returns
 returns c =
     λ r d names bytes table h t k s f b.
@@ -35,14 +31,6 @@ add-t12 c =
     let pre = c .before .before .before .before .before .before .before .before .before .pre in
     omega (arith, pre .elements)
 
-lacking-requires : tie.Need-lacking-requires
-lacking-requires c κs =
-    search needs
-
-same-length : tie.Need-same-length
-same-length c =
-    search needs
-
 returns-2 : tie.Need-returns-2
 returns-2 c =
     λ r d names bytes table h t k s f b.
@@ -58,11 +46,11 @@ pub put-token-spec : {M : Type 1} → statement M
 put-token-spec =
     tie.close
     (tie.spec
-    ground-at-requires
+    (λ c κs. search needs)  -- ground-at-requires
     returns
     put-element-requires
     add-t11
     add-t12
-    lacking-requires
-    same-length
+    (λ c κs. search needs)  -- lacking-requires
+    (λ c. search needs)  -- same-length
     returns-2)

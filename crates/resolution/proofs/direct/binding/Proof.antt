@@ -4,26 +4,10 @@ use Rattle.resolution.proofs.direct.binding.Statement.{statement}
 use Rattle.resolution.proofs.direct.binding.Tie as tie
 use Rattle.resolution.specs.DirectLaws.{finds-outer, finds-inner, finds-none}
 
-passed-requires : tie.Need-passed-requires
-passed-requires c κs =
-    search needs
-
-binding-by-requires : tie.Need-binding-by-requires
-binding-by-requires c κs =
-    search needs
-
 returns : tie.Need-returns
 returns c =
     let a = c .before .before .before .before .args in
     finds-outer (a .work .now) (a .number) (a .own) (a .w) _ (c .before .before .passed .ensures) _ (c .binding-by .ensures)
-
-passed-requires-2 : tie.Need-passed-requires-2
-passed-requires-2 c κs =
-    search needs
-
-binding-by-requires-2 : tie.Need-binding-by-requires-2
-binding-by-requires-2 c κs =
-    search needs
 
 returns-2 : tie.Need-returns-2
 returns-2 c =
@@ -39,10 +23,10 @@ pub binding-spec : {M : Type 1} → statement M
 binding-spec =
     tie.close
     (tie.spec
-    passed-requires
-    binding-by-requires
+    (λ c κs. search needs)  -- passed-requires
+    (λ c κs. search needs)  -- binding-by-requires
     returns
-    passed-requires-2
-    binding-by-requires-2
+    (λ c κs. search needs)  -- passed-requires-2
+    (λ c κs. search needs)  -- binding-by-requires-2
     returns-2
     returns-3)

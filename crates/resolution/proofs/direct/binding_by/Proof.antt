@@ -6,36 +6,15 @@ use Rattle.words.specs.ListLaws.{whole}
 use Rattle.resolution.specs.Direct.{OnlyMark}
 use Rattle.resolution.specs.DirectLaws.{finds-nothing, finds-binder}
 
-word-requires : tie.Need-word-requires
-word-requires c κs = search needs
-
 returns : tie.Need-returns
 returns c =
     let a = c .before .before .before .args in
     finds-nothing (a .work .now) (a .number) (a .own) (a .at)
 
-sub-only-mark : tie.Need-sub-only-mark
-sub-only-mark c = search needs
-
-part-only-mark-start : tie.Need-part-only-mark-start
-part-only-mark-start c = search needs
-
-part-only-mark-end : tie.Need-part-only-mark-end
-part-only-mark-end c = search needs
-
-reference-requires : tie.Need-reference-requires
-reference-requires c κs = search needs
-
-only-mark-requires : tie.Need-only-mark-requires
-only-mark-requires c κs = search needs
-
 returns-2 : tie.Need-returns-2
 returns-2 c =
     let a = c .before .before .before .before .before .before .before .args in
     finds-nothing (a .work .now) (a .number) (a .own) (a .at)
-
-given-key-requires : tie.Need-given-key-requires
-given-key-requires c κs = search needs
 
 returns-3 : tie.Need-returns-3
 returns-3 c =
@@ -46,13 +25,13 @@ pub binding-by-spec : {M : Type 1} → statement M
 binding-by-spec =
     tie.close
     (tie.spec
-    word-requires
+    (λ c κs. search needs)  -- word-requires
     returns
-    sub-only-mark
-    part-only-mark-start
-    part-only-mark-end
-    reference-requires
-    only-mark-requires
+    (λ c. search needs)  -- sub-only-mark
+    (λ c. search needs)  -- part-only-mark-start
+    (λ c. search needs)  -- part-only-mark-end
+    (λ c κs. search needs)  -- reference-requires
+    (λ c κs. search needs)  -- only-mark-requires
     returns-2
-    given-key-requires
+    (λ c κs. search needs)  -- given-key-requires
     returns-3)

@@ -4,49 +4,25 @@ use Rattle.resolution.proofs.direct.given_key.Statement.{statement}
 use Rattle.resolution.proofs.direct.given_key.Tie as tie
 use Rattle.resolution.specs.DirectLaws.{gives-number, gives-binding, gives-count, gives-newest, gives-key}
 
-word-requires : tie.Need-word-requires
-word-requires c κs =
-    search needs
-
 returns : tie.Need-returns
 returns c =
     let a = c .before .before .before .args in
     gives-number (a .work .now) (a .number) (a .at) (a .mark) _ (c .before .word .ensures) (c .if1 .taken)
-
-word-requires-2 : tie.Need-word-requires-2
-word-requires-2 c κs =
-    search needs
 
 returns-2 : tie.Need-returns-2
 returns-2 c =
     let a = c .before .before .before .before .before .args in
     gives-binding (a .work .now) (a .number) (a .at) (a .mark) _ (c .before .word2 .ensures) (c .if2 .taken)
 
-word-requires-3 : tie.Need-word-requires-3
-word-requires-3 c κs =
-    search needs
-
-count-of-requires : tie.Need-count-of-requires
-count-of-requires c κs =
-    search needs
-
 returns-3 : tie.Need-returns-3
 returns-3 c =
     let a = c .before .before .before .before .before .before .before .before .args in
     gives-count (a .work .now) (a .number) (a .at) (a .mark) _ _ (c .before .before .word3 .ensures) (c .before .count-of .ensures) (c .if3 .taken)
 
-word-requires-4 : tie.Need-word-requires-4
-word-requires-4 c κs =
-    search needs
-
 returns-4 : tie.Need-returns-4
 returns-4 c =
     let a = c .before .before .before .before .before .before .before .before .before .before .args in
     gives-newest (a .work .now) (a .number) (a .at) (a .mark) _ (c .before .word4 .ensures) (c .if4 .taken)
-
-word-requires-5 : tie.Need-word-requires-5
-word-requires-5 c κs =
-    search needs
 
 returns-5 : tie.Need-returns-5
 returns-5 c =
@@ -57,14 +33,14 @@ pub given-key-spec : {M : Type 1} → statement M
 given-key-spec =
     tie.close
     (tie.spec
-    word-requires
+    (λ c κs. search needs)  -- word-requires
     returns
-    word-requires-2
+    (λ c κs. search needs)  -- word-requires-2
     returns-2
-    word-requires-3
-    count-of-requires
+    (λ c κs. search needs)  -- word-requires-3
+    (λ c κs. search needs)  -- count-of-requires
     returns-3
-    word-requires-4
+    (λ c κs. search needs)  -- word-requires-4
     returns-4
-    word-requires-5
+    (λ c κs. search needs)  -- word-requires-5
     returns-5)

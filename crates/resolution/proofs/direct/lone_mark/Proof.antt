@@ -19,18 +19,10 @@ loop-holds c =
     let a = c .before .args in
     around-begins (a .work .now) (a .number) (a .w)
 
-one-mark-requires : tie.Need-one-mark-requires Inv-loop μ-loop
-one-mark-requires c κs =
-    search needs
-
 returns : tie.Need-returns Inv-loop μ-loop
 returns c =
     let a = c .before .before .before .before .before .args in
     no-lone-mark (a .work .now) (a .number) (a .w)
-
-reference-requires : tie.Need-reference-requires Inv-loop μ-loop
-reference-requires c κs =
-    search needs
 
 loop-less : tie.Need-loop-less Inv-loop μ-loop
 loop-less c =
@@ -55,9 +47,9 @@ lone-mark-spec =
     Inv-loop
     μ-loop
     loop-holds
-    one-mark-requires
+    (λ c κs. search needs)  -- one-mark-requires
     returns
-    reference-requires
+    (λ c κs. search needs)  -- reference-requires
     loop-less
     loop-again
     returns-2)

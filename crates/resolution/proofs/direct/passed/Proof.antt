@@ -21,17 +21,9 @@ loop-holds : tie.Need-loop-holds Inv-loop μ-loop
 loop-holds c =
     λ x n. refl
 
-is-passed-requires : tie.Need-is-passed-requires Inv-loop μ-loop
-is-passed-requires c κs =
-    search needs
-
 returns : tie.Need-returns Inv-loop μ-loop
 returns c =
     c .before .before .before .loop .inv
-
-reference-requires : tie.Need-reference-requires Inv-loop μ-loop
-reference-requires c κs =
-    search needs
 
 loop-less : tie.Need-loop-less Inv-loop μ-loop
 loop-less c =
@@ -56,9 +48,9 @@ passed-spec =
     Inv-loop
     μ-loop
     loop-holds
-    is-passed-requires
+    (λ c κs. search needs)  -- is-passed-requires
     returns
-    reference-requires
+    (λ c κs. search needs)  -- reference-requires
     loop-less
     loop-again
     returns-2)

@@ -29,21 +29,6 @@ same-grown-below t =
 abbrev same-grown-claims : ℕ → same-grown-lts.Claims
 same-grown-claims t = (compare-reads.Asked, compare-reads.Learnt, same-grown-below t, same-grown.Post)
 
-same-grown-compare-requires : (t : ℕ) → same-grown-lts.Need-compare-requires (same-grown-claims t) (same-grown-at t) same-grown.Post
-same-grown-compare-requires t c κs = search needs
-
-same-grown-enum-told : (t : ℕ) → same-grown-lts.Need-enum-told (same-grown-claims t) (same-grown-at t) same-grown.Post
-same-grown-enum-told t c = search needs
-
-same-grown-enum-told-2 : (t : ℕ) → same-grown-lts.Need-enum-told-2 (same-grown-claims t) (same-grown-at t) same-grown.Post
-same-grown-enum-told-2 t c = search needs
-
-same-grown-enum-told-3 : (t : ℕ) → same-grown-lts.Need-enum-told-3 (same-grown-claims t) (same-grown-at t) same-grown.Post
-same-grown-enum-told-3 t c = search needs
-
-same-grown-slice-aggregate-same-grown : (t : ℕ) → same-grown-lts.Need-slice-aggregate-same-grown (same-grown-claims t) (same-grown-at t) same-grown.Post
-same-grown-slice-aggregate-same-grown t c = search needs
-
 same-grown-same-grown-requires : (t : ℕ) → same-grown-lts.Need-same-grown-requires (same-grown-claims t) (same-grown-at t) same-grown.Post
 same-grown-same-grown-requires t c κs =
     let pre = c .before .before .before .before .before .before .before .before .before .before .pre in
@@ -51,24 +36,15 @@ same-grown-same-grown-requires t c κs =
     let enum-told3 = c .before .enum-told3 in
     (omega (arith, pre .0, told-full (compare .ensures) (enum-told3 .given .1), compare .kept .1 .1 .0), tt)
 
-same-grown-same-length : (t : ℕ) → same-grown-lts.Need-same-length (same-grown-claims t) (same-grown-at t) same-grown.Post
-same-grown-same-length t c = search needs
-
 same-grown-returns : (t : ℕ) → same-grown-lts.Need-returns (same-grown-claims t) (same-grown-at t) same-grown.Post
 same-grown-returns t c =
     let compare = c .before .before .before .before .compare in
     told-same (compare .ensures) (c .enum-told .given .1)
 
-same-grown-same-length-2 : (t : ℕ) → same-grown-lts.Need-same-length-2 (same-grown-claims t) (same-grown-at t) same-grown.Post
-same-grown-same-length-2 t c = search needs
-
 same-grown-returns-2 : (t : ℕ) → same-grown-lts.Need-returns-2 (same-grown-claims t) (same-grown-at t) same-grown.Post
 same-grown-returns-2 t c =
     let compare = c .before .before .before .before .compare in
     told-other (compare .ensures) (c .enum-told2 .given .1)
-
-same-grown-same-length-3 : (t : ℕ) → same-grown-lts.Need-same-length-3 (same-grown-claims t) (same-grown-at t) same-grown.Post
-same-grown-same-length-3 t c = search needs
 
 same-grown-returns-3 : (t : ℕ) → same-grown-lts.Need-returns-3 (same-grown-claims t) (same-grown-at t) same-grown.Post
 same-grown-returns-3 t c =
@@ -84,15 +60,15 @@ pub +same-grown-spec : {M : Type 1} → statement M
 )
     (same-grown-at t)
     same-grown.Post
-    (same-grown-compare-requires t)
-    (same-grown-enum-told t)
-    (same-grown-enum-told-2 t)
-    (same-grown-enum-told-3 t)
-    (same-grown-slice-aggregate-same-grown t)
+    (λ c κs. search needs)  -- same-grown-compare-requires
+    (λ c. search needs)  -- same-grown-enum-told
+    (λ c. search needs)  -- same-grown-enum-told-2
+    (λ c. search needs)  -- same-grown-enum-told-3
+    (λ c. search needs)  -- same-grown-slice-aggregate-same-grown
     (same-grown-same-grown-requires t)
-    (same-grown-same-length t)
+    (λ c. search needs)  -- same-grown-same-length
     (same-grown-returns t)
-    (same-grown-same-length-2 t)
+    (λ c. search needs)  -- same-grown-same-length-2
     (same-grown-returns-2 t)
-    (same-grown-same-length-3 t)
+    (λ c. search needs)  -- same-grown-same-length-3
     (same-grown-returns-3 t)

@@ -32,19 +32,10 @@ summary-grown-below t =
 abbrev summary-grown-claims : ℕ → summary-grown-lts.Claims
 summary-grown-claims t = (summary-in-reads.Asked, summary-in-reads.Learnt, summary-grown-below t, summary-grown.Post)
 
-summary-grown-summary-in-requires : (t : ℕ) → summary-grown-lts.Need-summary-in-requires (summary-grown-claims t) (summary-grown-at t) summary-grown.Post
-summary-grown-summary-in-requires t c κs = search needs
-
-summary-grown-same-length : (t : ℕ) → summary-grown-lts.Need-same-length (summary-grown-claims t) (summary-grown-at t) summary-grown.Post
-summary-grown-same-length t c = search needs
-
 summary-grown-returns : (t : ℕ) → summary-grown-lts.Need-returns (summary-grown-claims t) (summary-grown-at t) summary-grown.Post
 summary-grown-returns t c =
     let summary-in = c .before .before .before .before .summary-in in
     summary-in .ensures .within (c .if1 .taken)
-
-summary-grown-slice-aggregate-summary-grown : (t : ℕ) → summary-grown-lts.Need-slice-aggregate-summary-grown (summary-grown-claims t) (summary-grown-at t) summary-grown.Post
-summary-grown-slice-aggregate-summary-grown t c = search needs
 
 summary-grown-summary-grown-requires : (t : ℕ) → summary-grown-lts.Need-summary-grown-requires (summary-grown-claims t) (summary-grown-at t) summary-grown.Post
 summary-grown-summary-grown-requires t c κs =
@@ -52,9 +43,6 @@ summary-grown-summary-grown-requires t c κs =
     let summary-in = c .before .before .before .before .before .summary-in in
     let if1 = c .before .if1 in
     (omega (arith, pre .0, summary-in .ensures .full (if1 .left), summary-in .kept .1 .1 .0), tt)
-
-summary-grown-same-length-2 : (t : ℕ) → summary-grown-lts.Need-same-length-2 (summary-grown-claims t) (summary-grown-at t) summary-grown.Post
-summary-grown-same-length-2 t c = search needs
 
 summary-grown-returns-2 : (t : ℕ) → summary-grown-lts.Need-returns-2 (summary-grown-claims t) (summary-grown-at t) summary-grown.Post
 summary-grown-returns-2 t c =
@@ -70,10 +58,10 @@ pub +summary-grown-spec : {M : Type 1} → statement M
 )
     (summary-grown-at t)
     summary-grown.Post
-    (summary-grown-summary-in-requires t)
-    (summary-grown-same-length t)
+    (λ c κs. search needs)  -- summary-grown-summary-in-requires
+    (λ c. search needs)  -- summary-grown-same-length
     (summary-grown-returns t)
-    (summary-grown-slice-aggregate-summary-grown t)
+    (λ c. search needs)  -- summary-grown-slice-aggregate-summary-grown
     (summary-grown-summary-grown-requires t)
-    (summary-grown-same-length-2 t)
+    (λ c. search needs)  -- summary-grown-same-length-2
     (summary-grown-returns-2 t)

@@ -6,18 +6,6 @@ use Rattle.arena.specs.ArenaLaws.{referenceAt-most}
 use Rattle.resolution.specs.NameLaws.{described, binds-name}
 use native.Mathlib.Omega.{arith}
 
-number-of-requires : tie.Need-number-of-requires
-number-of-requires c κs = search needs
-
-summary-of-requires : tie.Need-summary-of-requires
-summary-of-requires c κs = search needs
-
-reference-requires : tie.Need-reference-requires
-reference-requires c κs = search needs
-
-cast-put-binder : tie.Need-cast-put-binder
-cast-put-binder c = search needs
-
 put-binder-requires : tie.Need-put-binder-requires
 put-binder-requires c κs =
     let entry = c .before .before .before .before .before .before .before .before .before .before in
@@ -25,9 +13,6 @@ put-binder-requires c κs =
     let pre = entry .pre in
     let reference = c .before .before .reference in
     (pre .0, omega (arith, pre .1, reference .ensures, referenceAt-most (a .work .now) (a .node) 1), pre .2, pre .3)
-
-same-length : tie.Need-same-length
-same-length c = search needs
 
 returns : tie.Need-returns
 returns c =
@@ -44,10 +29,10 @@ pub bind-spec : {M : Type 1} → statement M
 bind-spec =
     tie.close
     (tie.spec
-    number-of-requires
-    summary-of-requires
-    reference-requires
-    cast-put-binder
+    (λ c κs. search needs)  -- number-of-requires
+    (λ c κs. search needs)  -- summary-of-requires
+    (λ c κs. search needs)  -- reference-requires
+    (λ c. search needs)  -- cast-put-binder
     put-binder-requires
-    same-length
+    (λ c. search needs)  -- same-length
     returns)

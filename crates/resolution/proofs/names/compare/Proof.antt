@@ -9,24 +9,12 @@ use native.Mathlib.Omega.{arith}
 use mathlib.Core.Bool.{true, false}
 use mathlib.Core.Path.{sym, _∙_}
 
-number-of-requires : tie.Need-number-of-requires
-number-of-requires c κs = search needs
-
-number-of-requires-2 : tie.Need-number-of-requires-2
-number-of-requires-2 c κs = search needs
-
 returns : tie.Need-returns
 returns c =
     let a = c .before .before .before .before .before .before .args in
     let number-of = c .before .before .number-of in
     let number-of2 = c .before .number-of2 in
     is-other (differ-numbers (a .items .now) (a .work .now) (a .a) (a .v) (a .b) (a .w) _ _ (number-of .ensures) (number-of2 .ensures) (c .if1 .taken))
-
-resolve-requires : tie.Need-resolve-requires
-resolve-requires c κs = search needs
-
-same-length : tie.Need-same-length
-same-length c = search needs
 
 returns-2 : tie.Need-returns-2
 returns-2 c =
@@ -38,18 +26,12 @@ resolve-requires-2 c κs =
     let if2 = c .before .if2 in
     if2 .left
 
-same-length-2 : tie.Need-same-length-2
-same-length-2 c = search needs
-
 returns-3 : tie.Need-returns-3
 returns-3 c =
     let resolve = c .before .before .before .before .before .before .before .before .before .resolve in
     let if2 = c .before .before .before .before .before .before .if2 in
     let resolve2 = c .before .before .before .before .resolve2 in
     is-full (omega (arith, resolve2 .ensures .full (c .if3 .taken), count-most _ 0 _ (resolve .ensures .within (if2 .left) .hand .descends)))
-
-same-length-3 : tie.Need-same-length-3
-same-length-3 c = search needs
 
 returns-4 : tie.Need-returns-4
 returns-4 c =
@@ -61,9 +43,6 @@ returns-4 c =
     let resolve2 = c .before .before .before .before .before .before .before .resolve2 in
     let if3 = c .before .before .before .if3 in
     is-other (differ-bindings (a .items .now) (a .work .now) (a .a) (a .v) (a .b) (a .w) _ _ (number-of .ensures) (number-of2 .ensures) _ _ _ _ _ _ _ (resolve .ensures .within (if2 .left)) (resolve2 .ensures .within (if3 .left)) (c .if4 .taken))
-
-same-length-4 : tie.Need-same-length-4
-same-length-4 c = search needs
 
 returns-5 : tie.Need-returns-5
 returns-5 c =
@@ -83,9 +62,6 @@ equal-marks-requires c κs =
     let if5 = c .before .if5 in
     (omega (arith, resolve2 .ensures .within (if3 .left) .hand .room), omega (arith, resolve2 .ensures .within (if3 .left) .hand .room, if5 .left))
 
-same-length-5 : tie.Need-same-length-5
-same-length-5 c = search needs
-
 returns-6 : tie.Need-returns-6
 returns-6 c =
     let a = c .before .before .before .before .before .before .before .before .before .before .before .before .before .before .before .before .before .before .before .before .before .before .before .before .before .args in
@@ -100,9 +76,6 @@ returns-6 c =
     let if5 = c .before .before .before .if5 in
     let equal-marks = c .before .equal-marks in
     is-same (same-marks (a .items .now) (a .work .now) (a .a) (a .v) (a .b) (a .w) _ _ (number-of .ensures) (number-of2 .ensures) _ _ _ _ _ _ _ (resolve .ensures .within (if2 .left)) (resolve2 .ensures .within (if3 .left)) (if1 .left) (if4 .left) (omega (arith, if5 .left)) true (sym (c .if6 .taken) ∙ equal-marks .ensures))
-
-same-length-6 : tie.Need-same-length-6
-same-length-6 c = search needs
 
 returns-7 : tie.Need-returns-7
 returns-7 c =
@@ -123,21 +96,21 @@ pub compare-spec : {M : Type 1} → statement M
 compare-spec =
     tie.close
     (tie.spec
-    number-of-requires
-    number-of-requires-2
+    (λ c κs. search needs)  -- number-of-requires
+    (λ c κs. search needs)  -- number-of-requires-2
     returns
-    resolve-requires
-    same-length
+    (λ c κs. search needs)  -- resolve-requires
+    (λ c. search needs)  -- same-length
     returns-2
     resolve-requires-2
-    same-length-2
+    (λ c. search needs)  -- same-length-2
     returns-3
-    same-length-3
+    (λ c. search needs)  -- same-length-3
     returns-4
-    same-length-4
+    (λ c. search needs)  -- same-length-4
     returns-5
     equal-marks-requires
-    same-length-5
+    (λ c. search needs)  -- same-length-5
     returns-6
-    same-length-6
+    (λ c. search needs)  -- same-length-6
     returns-7)

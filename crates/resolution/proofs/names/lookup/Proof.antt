@@ -7,15 +7,6 @@ use Rattle.arena.specs.Arena.{nameAt}
 use Rattle.resolution.specs.NameLaws.{lookup-none, lookup-variable, lookup-macro}
 use mathlib.Core.Path.{sym, _∙_}
 
-binding-of-requires : tie.Need-binding-of-requires
-binding-of-requires c κs = search needs
-
-number-of-requires : tie.Need-number-of-requires
-number-of-requires c κs = search needs
-
-unbound-requires : tie.Need-unbound-requires
-unbound-requires c κs = search needs
-
 returns : tie.Need-returns
 returns c =
     let a = c .before .before .before .before .before .before .before .args in
@@ -32,9 +23,6 @@ returns-2 c =
     let if1 = c .before .if1 in
     lookup-variable (a .operations .now) (nameAt (a .items .now) (a .work .now) (a .node) (a .w)) _ (binding-of .ensures) (if1 .left) (c .if2 .taken)
 
-sub-t11 : tie.Need-sub-t11
-sub-t11 c = search needs
-
 returns-3 : tie.Need-returns-3
 returns-3 c =
     let a = c .before .before .before .before .before .before .args in
@@ -46,10 +34,10 @@ pub lookup-spec : {M : Type 1} → statement M
 lookup-spec =
     tie.close
     (tie.spec
-    binding-of-requires
-    number-of-requires
-    unbound-requires
+    (λ c κs. search needs)  -- binding-of-requires
+    (λ c κs. search needs)  -- number-of-requires
+    (λ c κs. search needs)  -- unbound-requires
     returns
     returns-2
-    sub-t11
+    (λ c. search needs)  -- sub-t11
     returns-3)

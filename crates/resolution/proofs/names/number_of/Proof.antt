@@ -8,24 +8,6 @@ use mathlib.Core.Path.{sym}
 use Prim.Native.Nat.{_+_, _*_, _≤_}
 use lib.ListN.{length, List·getD-eq-default}
 
-word-requires : tie.Need-word-requires
-word-requires c κs = search needs
-
-cast-at : tie.Need-cast-at
-cast-at c = search needs
-
-mul-at : tie.Need-mul-at
-mul-at c = search needs
-
-add-at : tie.Need-add-at
-add-at c = search needs
-
-mul-result : tie.Need-mul-result
-mul-result c = search needs
-
-shared-slice-read-result : tie.Need-shared-slice-read-result
-shared-slice-read-result c = search needs
-
 returns : tie.Need-returns
 unfolding numberOf numberAt
 returns c =
@@ -44,11 +26,11 @@ pub number-of-spec : {M : Type 1} → statement M
 number-of-spec =
     tie.close
     (tie.spec
-    word-requires
-    cast-at
-    mul-at
-    add-at
-    mul-result
-    shared-slice-read-result
+    (λ c κs. search needs)  -- word-requires
+    (λ c. search needs)  -- cast-at
+    (λ c. search needs)  -- mul-at
+    (λ c. search needs)  -- add-at
+    (λ c. search needs)  -- mul-result
+    (λ c. search needs)  -- shared-slice-read-result
     returns
     returns-2)

@@ -5,21 +5,12 @@ use Rattle.resolution.proofs.names.resolve.Tie as tie
 use Rattle.resolution.specs.HandLaws.{fits-on, fits-then, hand-none}
 use Rattle.resolution.specs.NameLaws.{resolved}
 
-number-of-requires : tie.Need-number-of-requires
-number-of-requires c κs = search needs
-
-reference-requires : tie.Need-reference-requires
-reference-requires c κs = search needs
-
 walked-requires : tie.Need-walked-requires
 walked-requires c κs =
     let entry = c .before .before .before .before .before .before in
     let a = entry .args in
     let pre = entry .pre in
     hand-none (a .table .now) (a .start) pre
-
-same-length : tie.Need-same-length
-same-length c = search needs
 
 returns : tie.Need-returns
 returns c =
@@ -31,9 +22,6 @@ walk-requires c κs =
     let walked = c .before .before .before .before .walked in
     let if1 = c .before .if1 in
     walked .ensures .within (if1 .left) .hand
-
-same-length-2 : tie.Need-same-length-2
-same-length-2 c = search needs
 
 returns-2 : tie.Need-returns-2
 returns-2 c =
@@ -49,11 +37,11 @@ pub resolve-spec : {M : Type 1} → statement M
 resolve-spec =
     tie.close
     (tie.spec
-    number-of-requires
-    reference-requires
+    (λ c κs. search needs)  -- number-of-requires
+    (λ c κs. search needs)  -- reference-requires
     walked-requires
-    same-length
+    (λ c. search needs)  -- same-length
     returns
     walk-requires
-    same-length-2
+    (λ c. search needs)  -- same-length-2
     returns-2)

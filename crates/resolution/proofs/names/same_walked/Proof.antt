@@ -4,27 +4,6 @@ use Rattle.resolution.proofs.names.same_walked.Statement.{statement}
 use Rattle.resolution.proofs.names.same_walked.Tie as tie
 use Rattle.resolution.specs.HandLaws.{told-same, told-other}
 
-slice-aggregate-compare : tie.Need-slice-aggregate-compare
-slice-aggregate-compare c = search needs
-
-compare-requires : tie.Need-compare-requires
-compare-requires c κs = search needs
-
-enum-told : tie.Need-enum-told
-enum-told c = search needs
-
-enum-told-2 : tie.Need-enum-told-2
-enum-told-2 c = search needs
-
-enum-told-3 : tie.Need-enum-told-3
-enum-told-3 c = search needs
-
-slice-aggregate-same-grown : tie.Need-slice-aggregate-same-grown
-slice-aggregate-same-grown c = search needs
-
-same-grown-requires : tie.Need-same-grown-requires
-same-grown-requires c κs = search needs
-
 returns : tie.Need-returns
 returns c =
     told-same (c .before .before .before .compare .ensures) (c .enum-told .given .1)
@@ -41,13 +20,13 @@ pub same-walked-spec : {M : Type 1} → statement M
 same-walked-spec =
     tie.close
     (tie.spec
-    slice-aggregate-compare
-    compare-requires
-    enum-told
-    enum-told-2
-    enum-told-3
-    slice-aggregate-same-grown
-    same-grown-requires
+    (λ c. search needs)  -- slice-aggregate-compare
+    (λ c κs. search needs)  -- compare-requires
+    (λ c. search needs)  -- enum-told
+    (λ c. search needs)  -- enum-told-2
+    (λ c. search needs)  -- enum-told-3
+    (λ c. search needs)  -- slice-aggregate-same-grown
+    (λ c κs. search needs)  -- same-grown-requires
     returns
     returns-2
     returns-3)

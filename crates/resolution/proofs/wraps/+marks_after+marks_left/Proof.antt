@@ -45,9 +45,6 @@ marks-left-below t =
 abbrev marks-after-claims : ℕ → marks-after-lts.Claims
 marks-after-claims t = (word-reads.Asked, word-reads.Learnt, reference-reads.Asked, reference-reads.Learnt, marks-left-below t, marks-left.Post, mark-reads.Asked, mark-reads.Learnt)
 
-marks-after-word-requires : (t : ℕ) → marks-after-lts.Need-word-requires (marks-after-claims t) (marks-after-at t) marks-after.Post
-marks-after-word-requires t c κs = search needs
-
 marks-after-returns : (t : ℕ) → marks-after-lts.Need-returns (marks-after-claims t) (marks-after-at t) marks-after.Post
 marks-after-returns t c =
     let entry = c .before .before .before .before in
@@ -64,9 +61,6 @@ marks-after-returns-2 t c =
     let word = c .before .before .word in
     fits-within (a .table .now) (a .start + stepLimit) (a .count) (omega (arith, pre .1 .room)) (after-none (a .table .now) (a .start) (a .count) _ (pre .1) (wrap-idle (a .work .now) (a .w) _ (word .ensures) (λ z. omega arith) (λ z. omega arith) (λ z. omega arith)))
 
-marks-after-reference-requires : (t : ℕ) → marks-after-lts.Need-reference-requires (marks-after-claims t) (marks-after-at t) marks-after.Post
-marks-after-reference-requires t c κs = search needs
-
 marks-after-marks-left-requires : (t : ℕ) → marks-after-lts.Need-marks-left-requires (marks-after-claims t) (marks-after-at t) marks-after.Post
 marks-after-marks-left-requires t c κs =
     let entry = c .before .before .before .before .before .before .before in
@@ -77,25 +71,16 @@ marks-after-marks-left-requires t c κs =
     let reference = c .before .reference in
     (omega (arith, wrap-falls (a .work .now) (a .w) _ (word .ensures) 2 _ (if1 .left) (reference .ensures)), pre .1)
 
-marks-after-same-length : (t : ℕ) → marks-after-lts.Need-same-length (marks-after-claims t) (marks-after-at t) marks-after.Post
-marks-after-same-length t c = search needs
-
 marks-after-returns-3 : (t : ℕ) → marks-after-lts.Need-returns-3 (marks-after-claims t) (marks-after-at t) marks-after.Post
 marks-after-returns-3 t c =
     let marks-left = c .before .before .before .marks-left in
     fits-on (c .if3 .taken) (marks-left .ensures)
-
-marks-after-word-requires-2 : (t : ℕ) → marks-after-lts.Need-word-requires-2 (marks-after-claims t) (marks-after-at t) marks-after.Post
-marks-after-word-requires-2 t c κs = search needs
 
 marks-after-mark-requires : (t : ℕ) → marks-after-lts.Need-mark-requires (marks-after-claims t) (marks-after-at t) marks-after.Post
 marks-after-mark-requires t c κs =
     let marks-left = c .before .before .before .before .before .before .marks-left in
     let if3 = c .before .before .before .if3 in
     marks-left .ensures .within (if3 .left) .hand
-
-marks-after-same-length-2 : (t : ℕ) → marks-after-lts.Need-same-length-2 (marks-after-claims t) (marks-after-at t) marks-after.Post
-marks-after-same-length-2 t c = search needs
 
 marks-after-returns-4 : (t : ℕ) → marks-after-lts.Need-returns-4 (marks-after-claims t) (marks-after-at t) marks-after.Post
 marks-after-returns-4 t c =
@@ -109,9 +94,6 @@ marks-after-returns-4 t c =
     let mark = c .before .before .mark in
     fits-then (mark .ensures) (marks-mark (a .work .now) (a .w) _ (word .ensures) _ (reference .ensures) (a .table .now) _ (a .start) (a .count) _ (marks-left .ensures .within (if3 .left)) _ (if4 .taken) (word2 .ensures) _ _)
 
-marks-after-reference-requires-2 : (t : ℕ) → marks-after-lts.Need-reference-requires-2 (marks-after-claims t) (marks-after-at t) marks-after.Post
-marks-after-reference-requires-2 t c κs = search needs
-
 marks-after-marks-left-requires-2 : (t : ℕ) → marks-after-lts.Need-marks-left-requires-2 (marks-after-claims t) (marks-after-at t) marks-after.Post
 marks-after-marks-left-requires-2 t c κs =
     let a = c .before .before .before .before .before .before .before .before .before .before .before .before .before .before .before .args in
@@ -121,9 +103,6 @@ marks-after-marks-left-requires-2 t c κs =
     let if3 = c .before .before .before .before .if3 in
     let reference2 = c .before .reference2 in
     (omega (arith, wrap-falls (a .work .now) (a .w) _ (word .ensures) 3 _ (if1 .left) (reference2 .ensures)), marks-left .ensures .within (if3 .left) .hand)
-
-marks-after-same-length-3 : (t : ℕ) → marks-after-lts.Need-same-length-3 (marks-after-claims t) (marks-after-at t) marks-after.Post
-marks-after-same-length-3 t c = search needs
 
 marks-after-returns-5 : (t : ℕ) → marks-after-lts.Need-returns-5 (marks-after-claims t) (marks-after-at t) marks-after.Post
 marks-after-returns-5 t c =
@@ -136,9 +115,6 @@ marks-after-returns-5 t c =
     let reference2 = c .before .before .before .before .reference2 in
     let marks-left2 = c .before .before .marks-left2 in
     fits-then (marks-left2 .ensures) (marks-join (a .work .now) (a .w) _ (word .ensures) _ (reference .ensures) (a .table .now) _ (a .start) (a .count) _ (marks-left .ensures .within (if3 .left)) _ (if5 .taken) (reference2 .ensures) _ _)
-
-marks-after-same-length-4 : (t : ℕ) → marks-after-lts.Need-same-length-4 (marks-after-claims t) (marks-after-at t) marks-after.Post
-marks-after-same-length-4 t c = search needs
 
 marks-after-returns-6 : (t : ℕ) → marks-after-lts.Need-returns-6 (marks-after-claims t) (marks-after-at t) marks-after.Post
 marks-after-returns-6 t c =
@@ -163,35 +139,32 @@ marks-left-marks-after-requires t c κs =
     let pre = c .before .before .before .before .pre in
     (omega (arith, pre .0), pre .1)
 
-marks-left-same-length : (t : ℕ) → marks-left-lts.Need-same-length (marks-left-claims t) (marks-left-at t) marks-left.Post
-marks-left-same-length t c = search needs
-
 marks-left-returns-2 : (t : ℕ) → marks-left-lts.Need-returns-2 (marks-left-claims t) (marks-left-at t) marks-left.Post
 marks-left-returns-2 t c = c .before .before .marks-after .ensures
 
 pub +marks-after+marks-left-spec : {M : Type 1} → statement M
 +marks-after+marks-left-spec = close μ-marks-after μ-marks-left (λ t. marks-after-lts.spec (marks-after-claims t) (marks-after-at t)
     marks-after.Post
-    (marks-after-word-requires t)
+    (λ c κs. search needs)  -- marks-after-word-requires
     (marks-after-returns t)
     (marks-after-returns-2 t)
-    (marks-after-reference-requires t)
+    (λ c κs. search needs)  -- marks-after-reference-requires
     (marks-after-marks-left-requires t)
-    (marks-after-same-length t)
+    (λ c. search needs)  -- marks-after-same-length
     (marks-after-returns-3 t)
-    (marks-after-word-requires-2 t)
+    (λ c κs. search needs)  -- marks-after-word-requires-2
     (marks-after-mark-requires t)
-    (marks-after-same-length-2 t)
+    (λ c. search needs)  -- marks-after-same-length-2
     (marks-after-returns-4 t)
-    (marks-after-reference-requires-2 t)
+    (λ c κs. search needs)  -- marks-after-reference-requires-2
     (marks-after-marks-left-requires-2 t)
-    (marks-after-same-length-3 t)
+    (λ c. search needs)  -- marks-after-same-length-3
     (marks-after-returns-5 t)
-    (marks-after-same-length-4 t)
+    (λ c. search needs)  -- marks-after-same-length-4
     (marks-after-returns-6 t))
     λ t. marks-left-lts.spec (marks-left-claims t) (marks-left-at t)
     marks-left.Post
     (marks-left-returns t)
     (marks-left-marks-after-requires t)
-    (marks-left-same-length t)
+    (λ c. search needs)  -- marks-left-same-length
     (marks-left-returns-2 t)

@@ -43,9 +43,6 @@ walked-below t = and 2 walked-kinds.ps (falls 2 walked-kinds.ps _<_ μ-walked t)
 abbrev walk-claims : ℕ → walk-lts.Claims
 walk-claims t = (word-reads.Asked, word-reads.Learnt, reference-reads.Asked, reference-reads.Learnt, walked-below t, walked.Post, mark-reads.Asked, mark-reads.Learnt, rebind-reads.Asked, rebind-reads.Learnt)
 
-walk-word-requires : (t : ℕ) → walk-lts.Need-word-requires (walk-claims t) (walk-at t) walk.Post
-walk-word-requires t c κs = search needs
-
 walk-returns : (t : ℕ) → walk-lts.Need-returns (walk-claims t) (walk-at t) walk.Post
 walk-returns t c =
     let entry = c .before .before .before .before in
@@ -62,9 +59,6 @@ walk-returns-2 t c =
     let word = c .before .before .word in
     fits-within (a .table .now) (a .start + stepLimit + stepLimit) (a .count) (omega (arith, pre .1 .room)) (name-idle _ (a .table .now) (a .start) (a .number) (a .count) (a .binding) (pre .1) (wrap-idle (a .work .now) (a .w) _ (word .ensures) (λ z. omega arith) (λ z. omega arith) (λ z. omega arith)))
 
-walk-reference-requires : (t : ℕ) → walk-lts.Need-reference-requires (walk-claims t) (walk-at t) walk.Post
-walk-reference-requires t c κs = search needs
-
 walk-walked-requires : (t : ℕ) → walk-lts.Need-walked-requires (walk-claims t) (walk-at t) walk.Post
 walk-walked-requires t c κs =
     let entry = c .before .before .before .before .before .before .before in
@@ -75,25 +69,16 @@ walk-walked-requires t c κs =
     let reference = c .before .reference in
     (omega (arith, wrap-falls (a .work .now) (a .w) _ (word .ensures) 2 _ (if1 .left) (reference .ensures)), pre .1)
 
-walk-same-length : (t : ℕ) → walk-lts.Need-same-length (walk-claims t) (walk-at t) walk.Post
-walk-same-length t c = search needs
-
 walk-returns-3 : (t : ℕ) → walk-lts.Need-returns-3 (walk-claims t) (walk-at t) walk.Post
 walk-returns-3 t c =
     let walked = c .before .before .before .walked in
     fits-on (c .if3 .taken) (walked .ensures)
-
-walk-word-requires-2 : (t : ℕ) → walk-lts.Need-word-requires-2 (walk-claims t) (walk-at t) walk.Post
-walk-word-requires-2 t c κs = search needs
 
 walk-mark-requires : (t : ℕ) → walk-lts.Need-mark-requires (walk-claims t) (walk-at t) walk.Post
 walk-mark-requires t c κs =
     let walked = c .before .before .before .before .before .before .walked in
     let if3 = c .before .before .before .if3 in
     walked .ensures .within (if3 .left) .hand
-
-walk-same-length-2 : (t : ℕ) → walk-lts.Need-same-length-2 (walk-claims t) (walk-at t) walk.Post
-walk-same-length-2 t c = search needs
 
 walk-returns-4 : (t : ℕ) → walk-lts.Need-returns-4 (walk-claims t) (walk-at t) walk.Post
 walk-returns-4 t c =
@@ -107,9 +92,6 @@ walk-returns-4 t c =
     let mark = c .before .before .mark in
     fits-wider (mark .last .0) (a .start + stepLimit) (a .start + stepLimit + stepLimit) (mark .result) (omega arith) (fits-then (mark .ensures) (walk-mark (a .work .now) (a .w) _ (word .ensures) _ (reference .ensures) (a .table .now) _ (a .start) (a .number) (a .count) (a .binding) _ _ (walked .ensures .within (if3 .left)) _ (if4 .taken) (word2 .ensures) _ _))
 
-walk-reference-requires-2 : (t : ℕ) → walk-lts.Need-reference-requires-2 (walk-claims t) (walk-at t) walk.Post
-walk-reference-requires-2 t c κs = search needs
-
 walk-walked-requires-2 : (t : ℕ) → walk-lts.Need-walked-requires-2 (walk-claims t) (walk-at t) walk.Post
 walk-walked-requires-2 t c κs =
     let entry = c .before .before .before .before .before .before .before .before .before .before .before .before .before .before .before in
@@ -121,9 +103,6 @@ walk-walked-requires-2 t c κs =
     let if3 = c .before .before .before .before .if3 in
     let reference2 = c .before .reference2 in
     (omega (arith, wrap-falls (a .work .now) (a .w) _ (word .ensures) 3 _ (if1 .left) (reference2 .ensures), pre .0), walked .ensures .within (if3 .left) .hand)
-
-walk-same-length-3 : (t : ℕ) → walk-lts.Need-same-length-3 (walk-claims t) (walk-at t) walk.Post
-walk-same-length-3 t c = search needs
 
 walk-returns-5 : (t : ℕ) → walk-lts.Need-returns-5 (walk-claims t) (walk-at t) walk.Post
 walk-returns-5 t c =
@@ -142,9 +121,6 @@ walk-rebind-requires t c κs =
     let walked = c .before .before .before .before .before .before .walked in
     let if3 = c .before .before .before .if3 in
     walked .ensures .within (if3 .left) .hand
-
-walk-same-length-4 : (t : ℕ) → walk-lts.Need-same-length-4 (walk-claims t) (walk-at t) walk.Post
-walk-same-length-4 t c = search needs
 
 walk-returns-6 : (t : ℕ) → walk-lts.Need-returns-6 (walk-claims t) (walk-at t) walk.Post
 walk-returns-6 t c =
@@ -175,36 +151,33 @@ walked-walk-requires t c κs =
     let pre = c .before .before .before .before .pre in
     (omega (arith, pre .0), pre .1)
 
-walked-same-length : (t : ℕ) → walked-lts.Need-same-length (walked-claims t) (walked-at t) walked.Post
-walked-same-length t c = search needs
-
 walked-returns-2 : (t : ℕ) → walked-lts.Need-returns-2 (walked-claims t) (walked-at t) walked.Post
 walked-returns-2 t c = c .before .before .walk .ensures
 
 pub +walk+walked-spec : {M : Type 1} → statement M
 +walk+walked-spec = close μ-walk μ-walked (λ t. walk-lts.spec (walk-claims t) (walk-at t)
     walk.Post
-    (walk-word-requires t)
+    (λ c κs. search needs)  -- walk-word-requires
     (walk-returns t)
     (walk-returns-2 t)
-    (walk-reference-requires t)
+    (λ c κs. search needs)  -- walk-reference-requires
     (walk-walked-requires t)
-    (walk-same-length t)
+    (λ c. search needs)  -- walk-same-length
     (walk-returns-3 t)
-    (walk-word-requires-2 t)
+    (λ c κs. search needs)  -- walk-word-requires-2
     (walk-mark-requires t)
-    (walk-same-length-2 t)
+    (λ c. search needs)  -- walk-same-length-2
     (walk-returns-4 t)
-    (walk-reference-requires-2 t)
+    (λ c κs. search needs)  -- walk-reference-requires-2
     (walk-walked-requires-2 t)
-    (walk-same-length-3 t)
+    (λ c. search needs)  -- walk-same-length-3
     (walk-returns-5 t)
     (walk-rebind-requires t)
-    (walk-same-length-4 t)
+    (λ c. search needs)  -- walk-same-length-4
     (walk-returns-6 t))
     λ t. walked-lts.spec (walked-claims t) (walked-at t)
     walked.Post
     (walked-returns t)
     (walked-walk-requires t)
-    (walked-same-length t)
+    (λ c. search needs)  -- walked-same-length
     (walked-returns-2 t)

@@ -8,17 +8,11 @@ use Rattle.resolution.specs.BinderLaws.{other-number, other-binding, oth
 use native.Mathlib.Omega.{arith}
 use mathlib.Core.Path.{sym, _∙_}
 
-word-requires : tie.Need-word-requires
-word-requires c κs = search needs
-
 returns : tie.Need-returns
 returns c =
     let a = c .before .before .before .before .args in
     let word = c .before .word in
     is-other (other-number (a .work .now) (a .w) (a .table .now) (a .start) (a .number) (a .count) (a .binding) _ (word .ensures) (c .if1 .taken))
-
-word-requires-2 : tie.Need-word-requires-2
-word-requires-2 c κs = search needs
 
 returns-2 : tie.Need-returns-2
 returns-2 c =
@@ -26,28 +20,16 @@ returns-2 c =
     let word2 = c .before .word2 in
     is-other (other-binding (a .work .now) (a .w) (a .table .now) (a .start) (a .number) (a .count) (a .binding) _ (word2 .ensures) (c .if2 .taken))
 
-word-requires-3 : tie.Need-word-requires-3
-word-requires-3 c κs = search needs
-
-cast-if3 : tie.Need-cast-if3
-cast-if3 c = search needs
-
 returns-3 : tie.Need-returns-3
 returns-3 c =
     let a = c .before .before .before .before .before .before .before .before .args in
     let word3 = c .before .word3 in
     is-other (other-count (a .work .now) (a .w) (a .table .now) (a .start) (a .number) (a .count) (a .binding) _ (word3 .ensures) (c .if3 .taken))
 
-word-requires-4 : tie.Need-word-requires-4
-word-requires-4 c κs = search needs
-
 newest-of-requires : tie.Need-newest-of-requires
 newest-of-requires c κs =
     let pre = c .before .before .before .before .before .before .before .before .before .before .pre in
     pre .room
-
-same-length : tie.Need-same-length
-same-length c = search needs
 
 returns-4 : tie.Need-returns-4
 returns-4 c =
@@ -55,9 +37,6 @@ returns-4 c =
     let word4 = c .before .before .before .word4 in
     let newest-of = c .before .newest-of in
     is-other (other-newest (a .work .now) (a .w) (a .table .now) (a .start) (a .number) (a .count) (a .binding) _ _ (word4 .ensures) (newest-of .ensures) (c .if4 .taken))
-
-same-length-2 : tie.Need-same-length-2
-same-length-2 c = search needs
 
 returns-5 : tie.Need-returns-5
 returns-5 c =
@@ -74,16 +53,10 @@ returns-5 c =
     is-same (same-few (a .work .now) (a .w) (a .table .now) (a .start) (a .number) (a .count) (a .binding) _ _ _ _ _
     (word .ensures) (if1 .left) (word2 .ensures) (if2 .left) (word3 .ensures) (if3 .left) (word4 .ensures) (newest-of .ensures) (if4 .left) (c .if5 .taken))
 
-add-behind : tie.Need-add-behind
-add-behind c = search needs
-
 own-marks-requires : tie.Need-own-marks-requires
 own-marks-requires c κs =
     let pre = c .before .before .before .before .before .before .before .before .before .before .before .before .before .before .pre in
     pre .room
-
-same-length-3 : tie.Need-same-length-3
-same-length-3 c = search needs
 
 returns-6 : tie.Need-returns-6
 returns-6 c =
@@ -92,9 +65,6 @@ returns-6 c =
     let pre = entry .pre in
     let own-marks = c .before .before .before .own-marks in
     is-full (omega (arith, own-marks .ensures .full (c .if6 .taken), count-most (a .table .now) (a .start) (a .count) (pre .descends)))
-
-same-length-4 : tie.Need-same-length-4
-same-length-4 c = search needs
 
 returns-7 : tie.Need-returns-7
 returns-7 c =
@@ -111,9 +81,6 @@ equal-marks-requires c κs =
     let if6 = c .before .before .if6 in
     let if7 = c .before .if7 in
     (omega (arith, own-marks .ensures .within (if6 .left) .room, if7 .left), omega (arith, pre .room, own-marks .kept .1 .0))
-
-same-length-5 : tie.Need-same-length-5
-same-length-5 c = search needs
 
 returns-8 : tie.Need-returns-8
 returns-8 c =
@@ -135,9 +102,6 @@ returns-8 c =
     (word .ensures) (if1 .left) (word2 .ensures) (if2 .left) (word3 .ensures) (if3 .left) (word4 .ensures) (newest-of .ensures) (if4 .left)
     _ _ (own-marks .ensures .within (if6 .left)) (if7 .left) (sym (c .if8 .taken) ∙ equal-marks .ensures))
 
-same-length-6 : tie.Need-same-length-6
-same-length-6 c = search needs
-
 returns-9 : tie.Need-returns-9
 returns-9 c =
     let a = c .before .before .before .before .before .before .before .before .before .before .before .before .before .before .before .before .before .before .before .before .before .before .args in
@@ -152,27 +116,27 @@ pub is-own-spec : {M : Type 1} → statement M
 is-own-spec =
     tie.close
     (tie.spec
-    word-requires
+    (λ c κs. search needs)  -- word-requires
     returns
-    word-requires-2
+    (λ c κs. search needs)  -- word-requires-2
     returns-2
-    word-requires-3
-    cast-if3
+    (λ c κs. search needs)  -- word-requires-3
+    (λ c. search needs)  -- cast-if3
     returns-3
-    word-requires-4
+    (λ c κs. search needs)  -- word-requires-4
     newest-of-requires
-    same-length
+    (λ c. search needs)  -- same-length
     returns-4
-    same-length-2
+    (λ c. search needs)  -- same-length-2
     returns-5
-    add-behind
+    (λ c. search needs)  -- add-behind
     own-marks-requires
-    same-length-3
+    (λ c. search needs)  -- same-length-3
     returns-6
-    same-length-4
+    (λ c. search needs)  -- same-length-4
     returns-7
     equal-marks-requires
-    same-length-5
+    (λ c. search needs)  -- same-length-5
     returns-8
-    same-length-6
+    (λ c. search needs)  -- same-length-6
     returns-9)

@@ -5,9 +5,6 @@ use Rattle.resolution.proofs.wraps.own_marks.Tie as tie
 use Rattle.resolution.specs.HandLaws.{fits-on, fits-then, hand-none}
 use Rattle.resolution.specs.BinderLaws.{own-both}
 
-reference-requires : tie.Need-reference-requires
-reference-requires c κs = search needs
-
 marks-after-requires : tie.Need-marks-after-requires
 marks-after-requires c κs =
     let entry = c .before .before .before .before in
@@ -15,25 +12,16 @@ marks-after-requires c κs =
     let pre = entry .pre in
     hand-none (a .table .now) (a .start) pre
 
-same-length : tie.Need-same-length
-same-length c = search needs
-
 returns : tie.Need-returns
 returns c =
     let marks-after = c .before .before .before .marks-after in
     fits-on (c .if1 .taken) (marks-after .ensures)
-
-reference-requires-2 : tie.Need-reference-requires-2
-reference-requires-2 c κs = search needs
 
 marks-after-requires-2 : tie.Need-marks-after-requires-2
 marks-after-requires-2 c κs =
     let marks-after = c .before .before .before .before .before .marks-after in
     let if1 = c .before .before .if1 in
     marks-after .ensures .within (if1 .left) .hand
-
-same-length-2 : tie.Need-same-length-2
-same-length-2 c = search needs
 
 returns-2 : tie.Need-returns-2
 returns-2 c =
@@ -49,11 +37,11 @@ pub own-marks-spec : {M : Type 1} → statement M
 own-marks-spec =
     tie.close
     (tie.spec
-    reference-requires
+    (λ c κs. search needs)  -- reference-requires
     marks-after-requires
-    same-length
+    (λ c. search needs)  -- same-length
     returns
-    reference-requires-2
+    (λ c κs. search needs)  -- reference-requires-2
     marks-after-requires-2
-    same-length-2
+    (λ c. search needs)  -- same-length-2
     returns-2)

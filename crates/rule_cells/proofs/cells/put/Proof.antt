@@ -6,54 +6,21 @@ use Rattle.rule_cells.specs.MadeLaws.{five-stored}
 use native.Mathlib.Omega.{arith}
 use lib.ListN.{length-set}
 
-mul-work : tie.Need-mul-work
-mul-work c = search needs
-
-slice-write-work : tie.Need-slice-write-work
-slice-write-work c = search needs
-
-add-work : tie.Need-add-work
-add-work c = search needs
-
-mul-work-2 : tie.Need-mul-work-2
-mul-work-2 c = search needs
-
 slice-write-work-2 : tie.Need-slice-write-work-2
 slice-write-work-2 c =
     simp length-set (omega arith)
-
-add-work-2 : tie.Need-add-work-2
-add-work-2 c = search needs
-
-mul-work-3 : tie.Need-mul-work-3
-mul-work-3 c = search needs
 
 slice-write-work-3 : tie.Need-slice-write-work-3
 slice-write-work-3 c =
     simp length-set (omega arith)
 
-add-work-3 : tie.Need-add-work-3
-add-work-3 c = search needs
-
-mul-work-4 : tie.Need-mul-work-4
-mul-work-4 c = search needs
-
 slice-write-work-4 : tie.Need-slice-write-work-4
 slice-write-work-4 c =
     simp length-set (omega arith)
 
-add-work-4 : tie.Need-add-work-4
-add-work-4 c = search needs
-
-mul-work-5 : tie.Need-mul-work-5
-mul-work-5 c = search needs
-
 slice-write-work-5 : tie.Need-slice-write-work-5
 slice-write-work-5 c =
     simp length-set (omega arith)
-
-add-result : tie.Need-add-result
-add-result c = search needs
 
 same-length : tie.Need-same-length
 same-length c =
@@ -67,20 +34,20 @@ pub put-spec : {M : Type 1} → statement M
 put-spec =
     tie.close
     (tie.spec
-    mul-work
-    slice-write-work
-    add-work
-    mul-work-2
+    (λ c. search needs)  -- mul-work
+    (λ c. search needs)  -- slice-write-work
+    (λ c. search needs)  -- add-work
+    (λ c. search needs)  -- mul-work-2
     slice-write-work-2
-    add-work-2
-    mul-work-3
+    (λ c. search needs)  -- add-work-2
+    (λ c. search needs)  -- mul-work-3
     slice-write-work-3
-    add-work-3
-    mul-work-4
+    (λ c. search needs)  -- add-work-3
+    (λ c. search needs)  -- mul-work-4
     slice-write-work-4
-    add-work-4
-    mul-work-5
+    (λ c. search needs)  -- add-work-4
+    (λ c. search needs)  -- mul-work-5
     slice-write-work-5
-    add-result
+    (λ c. search needs)  -- add-result
     same-length
     returns)

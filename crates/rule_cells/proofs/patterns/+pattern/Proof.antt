@@ -39,50 +39,17 @@ pattern-below t = and 2 pattern-kinds.ps (falls 2 pattern-kinds.ps _<_ μ-patter
 abbrev pattern-claims : ℕ → pattern-lts.Claims
 pattern-claims t = (word-reads.Asked, word-reads.Learnt, pattern-leaf-reads.Asked, pattern-leaf-reads.Learnt, reference-reads.Asked, reference-reads.Learnt, dots-next-reads.Asked, dots-next-reads.Learnt, is-list-of-reads.Asked, is-list-of-reads.Learnt, rest-reads.Asked, rest-reads.Learnt, leaf-count-reads.Asked, leaf-count-reads.Learnt, pattern-below t, pattern.Post, put-ellipsis-reads.Asked, put-ellipsis-reads.Learnt, put-pair-reads.Asked, put-pair-reads.Learnt)
 
-pattern-word-requires : (t : ℕ) → pattern-lts.Need-word-requires (pattern-claims t) (pattern-at t) pattern.Post
-pattern-word-requires t c κs = search needs
-
 pattern-pattern-leaf-requires : (t : ℕ) → pattern-lts.Need-pattern-leaf-requires (pattern-claims t) (pattern-at t) pattern.Post
 pattern-pattern-leaf-requires t c κs =
     let a = c .before .before .before .before .before .before .args in (c .before .before .before .before .before .before .pre .1 .0, omega (arith, c .before .before .before .before .before .before .pre .1 .2, size-positive (treeAt (a .items .now) (a .work .now) (a .node) (a .w))), λ z. c .before .if1 .taken (c .before .before .word .ensures ∙ z))
-
-pattern-same-length : (t : ℕ) → pattern-lts.Need-same-length (pattern-claims t) (pattern-at t) pattern.Post
-pattern-same-length t c = search needs
 
 pattern-returns : (t : ℕ) → pattern-lts.Need-returns (pattern-claims t) (pattern-at t) pattern.Post
 pattern-returns t c =
     c .before .before .pattern-leaf .ensures
 
-pattern-reference-requires : (t : ℕ) → pattern-lts.Need-reference-requires (pattern-claims t) (pattern-at t) pattern.Post
-pattern-reference-requires t c κs = search needs
-
-pattern-reference-requires-2 : (t : ℕ) → pattern-lts.Need-reference-requires-2 (pattern-claims t) (pattern-at t) pattern.Post
-pattern-reference-requires-2 t c κs = search needs
-
-pattern-dots-next-requires : (t : ℕ) → pattern-lts.Need-dots-next-requires (pattern-claims t) (pattern-at t) pattern.Post
-pattern-dots-next-requires t c κs = search needs
-
-pattern-is-list-of-requires : (t : ℕ) → pattern-lts.Need-is-list-of-requires (pattern-claims t) (pattern-at t) pattern.Post
-pattern-is-list-of-requires t c κs = search needs
-
-pattern-rest-requires : (t : ℕ) → pattern-lts.Need-rest-requires (pattern-claims t) (pattern-at t) pattern.Post
-pattern-rest-requires t c κs = search needs
-
-pattern-leaf-count-requires : (t : ℕ) → pattern-lts.Need-leaf-count-requires (pattern-claims t) (pattern-at t) pattern.Post
-pattern-leaf-count-requires t c κs = search needs
-
 pattern-pattern-requires : (t : ℕ) → pattern-lts.Need-pattern-requires (pattern-claims t) (pattern-at t) pattern.Post
 pattern-pattern-requires t c κs =
     let a = c .before .before .before .before .before .before .before .before .before .before .before .before .before .before .before .before .before .before .before .before .args in (omega (arith, head-below (a .items .now) (a .work .now) (a .node) (a .w) (a .top) (c .before .before .before .before .before .before .before .before .before .before .before .before .before .before .before .before .before .before .before .before .pre .1 .0) _ _ (sym (c .before .before .before .before .before .before .before .before .before .before .before .before .before .before .before .before .word .ensures) ∙ c .before .before .before .before .before .before .before .before .before .before .before .before .before .before .before .if1 .left) (c .before .before .before .before .before .before .before .before .before .before .before .before .before .reference .ensures) (c .before .before .before .before .before .before .before .before .before .before .before .reference2 .ensures)), (asks-head (a .items .now) (a .work .now) (a .node) (a .w) (a .top) (c .before .before .before .before .before .before .before .before .before .before .before .before .before .before .before .before .before .before .before .before .pre .1 .0) _ _ (sym (c .before .before .before .before .before .before .before .before .before .before .before .before .before .before .before .before .word .ensures) ∙ c .before .before .before .before .before .before .before .before .before .before .before .before .before .before .before .if1 .left) (c .before .before .before .before .before .before .before .before .before .before .before .before .before .reference .ensures) (c .before .before .before .before .before .before .before .before .before .before .before .reference2 .ensures), c .before .before .before .before .before .before .before .before .before .before .before .before .before .before .before .before .before .before .before .before .pre .1 .1, small-head (a .items .now) (a .work .now) (a .literals) (a .node) (a .w) (a .k) (a .top) (c .before .before .before .before .before .before .before .before .before .before .before .before .before .before .before .before .before .before .before .before .pre .1 .0) (c .before .before .before .before .before .before .before .before .before .before .before .before .before .before .before .before .before .before .before .before .pre .1 .1) _ _ (sym (c .before .before .before .before .before .before .before .before .before .before .before .before .before .before .before .before .word .ensures) ∙ c .before .before .before .before .before .before .before .before .before .before .before .before .before .before .before .if1 .left) (c .before .before .before .before .before .before .before .before .before .before .before .before .before .reference .ensures) (c .before .before .before .before .before .before .before .before .before .before .before .reference2 .ensures) (c .before .before .before .before .before .before .before .before .before .before .before .before .before .before .before .before .before .before .before .before .pre .1 .2)))
-
-pattern-enum-known-a : (t : ℕ) → pattern-lts.Need-enum-known-a (pattern-claims t) (pattern-at t) pattern.Post
-pattern-enum-known-a t c = search needs
-
-pattern-enum-told : (t : ℕ) → pattern-lts.Need-enum-told (pattern-claims t) (pattern-at t) pattern.Post
-pattern-enum-told t c = search needs
-
-pattern-same-length-2 : (t : ℕ) → pattern-lts.Need-same-length-2 (pattern-claims t) (pattern-at t) pattern.Post
-pattern-same-length-2 t c = search needs
 
 pattern-returns-2 : (t : ℕ) → pattern-lts.Need-returns-2 (pattern-claims t) (pattern-at t) pattern.Post
 pattern-returns-2 t c =
@@ -96,15 +63,9 @@ pattern-add-t48 : (t : ℕ) → pattern-lts.Need-add-t48 (pattern-claims t) (pat
 pattern-add-t48 t c =
     let a = c .before .before .before .before .before .before .before .before .before .before .before .before .before .before .before .before .before .before .before .before .before .before .before .before .before .before .before .before .before .before .args in omega (arith, small-ellipsis (a .items .now) (a .work .now) (a .literals) (a .node) (a .w) (a .k) (a .top) (c .before .before .before .before .before .before .before .before .before .before .before .before .before .before .before .before .before .before .before .before .before .before .before .before .before .before .before .before .before .before .pre .1 .0) (c .before .before .before .before .before .before .before .before .before .before .before .before .before .before .before .before .before .before .before .before .before .before .before .before .before .before .before .before .before .before .pre .1 .1) _ _ (sym (c .before .before .before .before .before .before .before .before .before .before .before .before .before .before .before .before .before .before .before .before .before .before .before .before .before .before .word .ensures) ∙ c .before .before .before .before .before .before .before .before .before .before .before .before .before .before .before .before .before .before .before .before .before .before .before .before .before .if1 .left) (c .before .before .before .before .before .before .before .before .before .before .before .before .before .before .before .before .before .before .before .before .before .before .before .reference .ensures) (c .before .before .before .before .before .before .before .before .before .before .before .before .before .before .before .before .before .before .before .before .before .reference2 .ensures) (c .before .before .before .before .before .before .before .before .before .pattern .last .1 .0) _ _ _ (made-head (a .items .now) (a .work .now) (a .literals) (a .node) (a .w) (a .k) (a .top) (c .before .before .before .before .before .before .before .before .before .before .before .before .before .before .before .before .before .before .before .before .before .before .before .before .before .before .before .before .before .before .pre .1 .0) (c .before .before .before .before .before .before .before .before .before .before .before .before .before .before .before .before .before .before .before .before .before .before .before .before .before .before .before .before .before .before .pre .1 .1) _ _ (sym (c .before .before .before .before .before .before .before .before .before .before .before .before .before .before .before .before .before .before .before .before .before .before .before .before .before .before .word .ensures) ∙ c .before .before .before .before .before .before .before .before .before .before .before .before .before .before .before .before .before .before .before .before .before .before .before .before .before .if1 .left) (c .before .before .before .before .before .before .before .before .before .before .before .before .before .before .before .before .before .before .before .before .before .before .before .reference .ensures) (c .before .before .before .before .before .before .before .before .before .before .before .before .before .before .before .before .before .before .before .before .before .reference2 .ensures) (c .before .before .before .before .before .before .before .before .before .pattern .last .1 .0) _ _ _ _ (c .before .before .before .before .before .a .given .1) (c .before .before .before .before .before .before .before .before .before .pattern .ensures)) _ (c .before .before .before .before .before .before .before .before .before .before .before .before .before .before .before .before .before .before .before .before .before .before .before .before .before .before .before .before .before .before .pre .1 .2) (sym (c .before .before .before .before .before .before .before .before .before .before .before .before .before .before .before .before .before .before .if2 .taken) ∙ c .before .before .before .before .before .before .before .before .before .before .before .before .before .before .before .before .before .before .before .dots-next .ensures (a .w)) (sym (c .before .before .before .before .before .before .before .before .before .before .before .before .before .before .before .if3 .taken) ∙ c .before .before .before .before .before .before .before .before .before .before .before .before .before .before .before .before .is-list-of .ensures (a .items .now) (a .w)) (c .before .before .before .before .before .before .before .before .before .before .before .leaf-count .ensures ∙ ap (leafCount (names (treeAt (a .items .now) (a .work .now) (a .literals) (a .w)))) (c .before .before .before .before .before .before .before .before .before .before .before .before .before .rest .ensures .is (a .items .now) (a .w))))
 
-pattern-same-length-3 : (t : ℕ) → pattern-lts.Need-same-length-3 (pattern-claims t) (pattern-at t) pattern.Post
-pattern-same-length-3 t c = search needs
-
 pattern-returns-3 : (t : ℕ) → pattern-lts.Need-returns-3 (pattern-claims t) (pattern-at t) pattern.Post
 pattern-returns-3 t c =
     let a = c .before .before .before .before .before .before .before .before .before .before .before .before .before .before .before .before .before .before .before .before .before .before .before .before .before .before .before .before .before .before .args in left-ellipsis (a .items .now) (a .work .now) (a .literals) (a .node) (a .w) (a .k) (a .top) (c .before .before .before .before .before .before .before .before .before .before .before .before .before .before .before .before .before .before .before .before .before .before .before .before .before .before .before .before .before .before .pre .1 .0) (c .before .before .before .before .before .before .before .before .before .before .before .before .before .before .before .before .before .before .before .before .before .before .before .before .before .before .before .before .before .before .pre .1 .1) _ _ (sym (c .before .before .before .before .before .before .before .before .before .before .before .before .before .before .before .before .before .before .before .before .before .before .before .before .before .before .word .ensures) ∙ c .before .before .before .before .before .before .before .before .before .before .before .before .before .before .before .before .before .before .before .before .before .before .before .before .before .if1 .left) (c .before .before .before .before .before .before .before .before .before .before .before .before .before .before .before .before .before .before .before .before .before .before .before .reference .ensures) (c .before .before .before .before .before .before .before .before .before .before .before .before .before .before .before .before .before .before .before .before .before .reference2 .ensures) (c .before .before .before .before .before .before .before .before .before .pattern .last .1 .0) _ _ _ (made-head (a .items .now) (a .work .now) (a .literals) (a .node) (a .w) (a .k) (a .top) (c .before .before .before .before .before .before .before .before .before .before .before .before .before .before .before .before .before .before .before .before .before .before .before .before .before .before .before .before .before .before .pre .1 .0) (c .before .before .before .before .before .before .before .before .before .before .before .before .before .before .before .before .before .before .before .before .before .before .before .before .before .before .before .before .before .before .pre .1 .1) _ _ (sym (c .before .before .before .before .before .before .before .before .before .before .before .before .before .before .before .before .before .before .before .before .before .before .before .before .before .before .word .ensures) ∙ c .before .before .before .before .before .before .before .before .before .before .before .before .before .before .before .before .before .before .before .before .before .before .before .before .before .if1 .left) (c .before .before .before .before .before .before .before .before .before .before .before .before .before .before .before .before .before .before .before .before .before .before .before .reference .ensures) (c .before .before .before .before .before .before .before .before .before .before .before .before .before .before .before .before .before .before .before .before .before .reference2 .ensures) (c .before .before .before .before .before .before .before .before .before .pattern .last .1 .0) _ _ _ _ (c .before .before .before .before .before .a .given .1) (c .before .before .before .before .before .before .before .before .before .pattern .ensures)) _ _ _ (sym (c .before .before .before .before .before .before .before .before .before .before .before .before .before .before .before .before .before .before .if2 .taken) ∙ c .before .before .before .before .before .before .before .before .before .before .before .before .before .before .before .before .before .before .before .dots-next .ensures (a .w)) (sym (c .before .before .before .before .before .before .before .before .before .before .before .before .before .before .before .if3 .taken) ∙ c .before .before .before .before .before .before .before .before .before .before .before .before .before .before .before .before .is-list-of .ensures (a .items .now) (a .w)) (c .before .before .before .before .before .before .before .before .before .before .before .leaf-count .ensures ∙ ap (leafCount (names (treeAt (a .items .now) (a .work .now) (a .literals) (a .w)))) (c .before .before .before .before .before .before .before .before .before .before .before .before .before .rest .ensures .is (a .items .now) (a .w))) (c .before .before .put-ellipsis .ensures)
-
-pattern-same-length-4 : (t : ℕ) → pattern-lts.Need-same-length-4 (pattern-claims t) (pattern-at t) pattern.Post
-pattern-same-length-4 t c = search needs
 
 pattern-returns-4 : (t : ℕ) → pattern-lts.Need-returns-4 (pattern-claims t) (pattern-at t) pattern.Post
 pattern-returns-4 t c =
@@ -114,15 +75,6 @@ pattern-pattern-requires-2 : (t : ℕ) → pattern-lts.Need-pattern-requires-2 (
 pattern-pattern-requires-2 t c κs =
     let a = c .before .before .before .before .before .before .before .before .before .before .before .before .before .args in (omega (arith, head-below (a .items .now) (a .work .now) (a .node) (a .w) (a .top) (c .before .before .before .before .before .before .before .before .before .before .before .before .before .pre .1 .0) _ _ (sym (c .before .before .before .before .before .before .before .before .before .word .ensures) ∙ c .before .before .before .before .before .before .before .before .if1 .left) (c .before .before .before .before .before .before .reference .ensures) (c .before .before .before .before .reference2 .ensures)), (asks-head (a .items .now) (a .work .now) (a .node) (a .w) (a .top) (c .before .before .before .before .before .before .before .before .before .before .before .before .before .pre .1 .0) _ _ (sym (c .before .before .before .before .before .before .before .before .before .word .ensures) ∙ c .before .before .before .before .before .before .before .before .if1 .left) (c .before .before .before .before .before .before .reference .ensures) (c .before .before .before .before .reference2 .ensures), c .before .before .before .before .before .before .before .before .before .before .before .before .before .pre .1 .1, small-head (a .items .now) (a .work .now) (a .literals) (a .node) (a .w) (a .k) (a .top) (c .before .before .before .before .before .before .before .before .before .before .before .before .before .pre .1 .0) (c .before .before .before .before .before .before .before .before .before .before .before .before .before .pre .1 .1) _ _ (sym (c .before .before .before .before .before .before .before .before .before .word .ensures) ∙ c .before .before .before .before .before .before .before .before .if1 .left) (c .before .before .before .before .before .before .reference .ensures) (c .before .before .before .before .reference2 .ensures) (c .before .before .before .before .before .before .before .before .before .before .before .before .before .pre .1 .2)))
 
-pattern-enum-known-a-2 : (t : ℕ) → pattern-lts.Need-enum-known-a-2 (pattern-claims t) (pattern-at t) pattern.Post
-pattern-enum-known-a-2 t c = search needs
-
-pattern-enum-told-2 : (t : ℕ) → pattern-lts.Need-enum-told-2 (pattern-claims t) (pattern-at t) pattern.Post
-pattern-enum-told-2 t c = search needs
-
-pattern-same-length-5 : (t : ℕ) → pattern-lts.Need-same-length-5 (pattern-claims t) (pattern-at t) pattern.Post
-pattern-same-length-5 t c = search needs
-
 pattern-returns-5 : (t : ℕ) → pattern-lts.Need-returns-5 (pattern-claims t) (pattern-at t) pattern.Post
 pattern-returns-5 t c =
     let a = c .before .before .before .before .before .before .before .before .before .before .before .before .before .before .before .before .before .before .args in left-bad (a .items .now) (a .work .now) (a .literals) (a .node) (a .w) (a .k) (a .top) (c .before .before .before .before .before .before .before .before .before .before .before .before .before .before .before .before .before .before .pre .1 .0) (c .before .before .before .before .before .before .before .before .before .before .before .before .before .before .before .before .before .before .pre .1 .1) _ _ (sym (c .before .before .before .before .before .before .before .before .before .before .before .before .before .before .word .ensures) ∙ c .before .before .before .before .before .before .before .before .before .before .before .before .before .if1 .left) (c .before .before .before .before .before .before .before .before .before .before .before .reference .ensures) (c .before .before .before .before .before .before .before .before .before .reference2 .ensures) (c .before .before .before .before .pattern2 .last .1 .0) _ (c .enum-told2 .given .1) (c .before .before .before .before .pattern2 .ensures)
@@ -131,15 +83,6 @@ pattern-pattern-requires-3 : (t : ℕ) → pattern-lts.Need-pattern-requires-3 (
 pattern-pattern-requires-3 t c κs =
     let a = c .before .before .before .before .before .before .before .before .before .before .before .before .before .before .before .before .before .before .before .before .args in let m = (made-head (a .items .now) (a .work .now) (a .literals) (a .node) (a .w) (a .k) (a .top) (c .before .before .before .before .before .before .before .before .before .before .before .before .before .before .before .before .before .before .before .before .pre .1 .0) (c .before .before .before .before .before .before .before .before .before .before .before .before .before .before .before .before .before .before .before .before .pre .1 .1) _ _ (sym (c .before .before .before .before .before .before .before .before .before .before .before .before .before .before .before .before .word .ensures) ∙ c .before .before .before .before .before .before .before .before .before .before .before .before .before .before .before .if1 .left) (c .before .before .before .before .before .before .before .before .before .before .before .before .before .reference .ensures) (c .before .before .before .before .before .before .before .before .before .before .before .reference2 .ensures) (c .before .before .before .before .before .before .pattern2 .last .1 .0) _ _ _ _ (c .before .before .a2 .given .1) (c .before .before .before .before .before .before .pattern2 .ensures)) in (omega (arith, rest-below (a .items .now) (a .work .now) (a .node) (a .w) (a .top) (c .before .before .before .before .before .before .before .before .before .before .before .before .before .before .before .before .before .before .before .before .pre .1 .0) _ _ (sym (c .before .before .before .before .before .before .before .before .before .before .before .before .before .before .before .before .word .ensures) ∙ c .before .before .before .before .before .before .before .before .before .before .before .before .before .before .before .if1 .left) (c .before .before .before .before .before .before .before .before .before .before .before .before .before .reference .ensures) (c .before .before .before .before .before .before .before .before .before .before .before .reference2 .ensures)), (asks-rest (a .items .now) (a .work .now) (a .node) (a .w) (a .top) (c .before .before .before .before .before .before .before .before .before .before .before .before .before .before .before .before .before .before .before .before .pre .1 .0) _ _ (sym (c .before .before .before .before .before .before .before .before .before .before .before .before .before .before .before .before .word .ensures) ∙ c .before .before .before .before .before .before .before .before .before .before .before .before .before .before .before .if1 .left) (c .before .before .before .before .before .before .before .before .before .before .before .before .before .reference .ensures) (c .before .before .before .before .before .before .before .before .before .before .before .reference2 .ensures) _ _ _ (c .before .before .before .before .before .before .pattern2 .kept .1 .0) (m .grows), literals-still (a .items .now) (a .work .now) (a .literals) (a .node) (a .w) (a .k) (a .top) (c .before .before .before .before .before .before .before .before .before .before .before .before .before .before .before .before .before .before .before .before .pre .1 .0) (c .before .before .before .before .before .before .before .before .before .before .before .before .before .before .before .before .before .before .before .before .pre .1 .1) _ _ (sym (c .before .before .before .before .before .before .before .before .before .before .before .before .before .before .before .before .word .ensures) ∙ c .before .before .before .before .before .before .before .before .before .before .before .before .before .before .before .if1 .left) (c .before .before .before .before .before .before .before .before .before .before .before .before .before .reference .ensures) (c .before .before .before .before .before .before .before .before .before .before .before .reference2 .ensures) (c .before .before .before .before .before .before .pattern2 .last .1 .0) _ _ _ (made-head (a .items .now) (a .work .now) (a .literals) (a .node) (a .w) (a .k) (a .top) (c .before .before .before .before .before .before .before .before .before .before .before .before .before .before .before .before .before .before .before .before .pre .1 .0) (c .before .before .before .before .before .before .before .before .before .before .before .before .before .before .before .before .before .before .before .before .pre .1 .1) _ _ (sym (c .before .before .before .before .before .before .before .before .before .before .before .before .before .before .before .before .word .ensures) ∙ c .before .before .before .before .before .before .before .before .before .before .before .before .before .before .before .if1 .left) (c .before .before .before .before .before .before .before .before .before .before .before .before .before .reference .ensures) (c .before .before .before .before .before .before .before .before .before .before .before .reference2 .ensures) (c .before .before .before .before .before .before .pattern2 .last .1 .0) _ _ _ _ (c .before .before .a2 .given .1) (c .before .before .before .before .before .before .pattern2 .ensures)), small-rest (a .items .now) (a .work .now) (a .literals) (a .node) (a .w) (a .k) (a .top) (c .before .before .before .before .before .before .before .before .before .before .before .before .before .before .before .before .before .before .before .before .pre .1 .0) (c .before .before .before .before .before .before .before .before .before .before .before .before .before .before .before .before .before .before .before .before .pre .1 .1) _ _ (sym (c .before .before .before .before .before .before .before .before .before .before .before .before .before .before .before .before .word .ensures) ∙ c .before .before .before .before .before .before .before .before .before .before .before .before .before .before .before .if1 .left) (c .before .before .before .before .before .before .before .before .before .before .before .before .before .reference .ensures) (c .before .before .before .before .before .before .before .before .before .before .before .reference2 .ensures) (c .before .before .before .before .before .before .pattern2 .last .1 .0) _ _ _ (made-head (a .items .now) (a .work .now) (a .literals) (a .node) (a .w) (a .k) (a .top) (c .before .before .before .before .before .before .before .before .before .before .before .before .before .before .before .before .before .before .before .before .pre .1 .0) (c .before .before .before .before .before .before .before .before .before .before .before .before .before .before .before .before .before .before .before .before .pre .1 .1) _ _ (sym (c .before .before .before .before .before .before .before .before .before .before .before .before .before .before .before .before .word .ensures) ∙ c .before .before .before .before .before .before .before .before .before .before .before .before .before .before .before .if1 .left) (c .before .before .before .before .before .before .before .before .before .before .before .before .before .reference .ensures) (c .before .before .before .before .before .before .before .before .before .before .before .reference2 .ensures) (c .before .before .before .before .before .before .pattern2 .last .1 .0) _ _ _ _ (c .before .before .a2 .given .1) (c .before .before .before .before .before .before .pattern2 .ensures)) (c .before .before .before .before .before .before .before .before .before .before .before .before .before .before .before .before .before .before .before .before .pre .1 .2) (c .before .before .before .before .before .before .pattern2 .kept .1 .0)))
 
-pattern-enum-known-b : (t : ℕ) → pattern-lts.Need-enum-known-b (pattern-claims t) (pattern-at t) pattern.Post
-pattern-enum-known-b t c = search needs
-
-pattern-enum-told-3 : (t : ℕ) → pattern-lts.Need-enum-told-3 (pattern-claims t) (pattern-at t) pattern.Post
-pattern-enum-told-3 t c = search needs
-
-pattern-same-length-6 : (t : ℕ) → pattern-lts.Need-same-length-6 (pattern-claims t) (pattern-at t) pattern.Post
-pattern-same-length-6 t c = search needs
-
 pattern-returns-6 : (t : ℕ) → pattern-lts.Need-returns-6 (pattern-claims t) (pattern-at t) pattern.Post
 pattern-returns-6 t c =
     let a = c .before .before .before .before .before .before .before .before .before .before .before .before .before .before .before .before .before .before .before .before .before .before .before .before .before .args in left-bad-rest (a .items .now) (a .work .now) (a .literals) (a .node) (a .w) (a .k) (a .top) (c .before .before .before .before .before .before .before .before .before .before .before .before .before .before .before .before .before .before .before .before .before .before .before .before .before .pre .1 .0) (c .before .before .before .before .before .before .before .before .before .before .before .before .before .before .before .before .before .before .before .before .before .before .before .before .before .pre .1 .1) _ _ (sym (c .before .before .before .before .before .before .before .before .before .before .before .before .before .before .before .before .before .before .before .before .before .word .ensures) ∙ c .before .before .before .before .before .before .before .before .before .before .before .before .before .before .before .before .before .before .before .before .if1 .left) (c .before .before .before .before .before .before .before .before .before .before .before .before .before .before .before .before .before .before .reference .ensures) (c .before .before .before .before .before .before .before .before .before .before .before .before .before .before .before .before .reference2 .ensures) (c .before .before .before .before .before .before .before .before .before .before .before .pattern2 .last .1 .0) _ _ _ (made-head (a .items .now) (a .work .now) (a .literals) (a .node) (a .w) (a .k) (a .top) (c .before .before .before .before .before .before .before .before .before .before .before .before .before .before .before .before .before .before .before .before .before .before .before .before .before .pre .1 .0) (c .before .before .before .before .before .before .before .before .before .before .before .before .before .before .before .before .before .before .before .before .before .before .before .before .before .pre .1 .1) _ _ (sym (c .before .before .before .before .before .before .before .before .before .before .before .before .before .before .before .before .before .before .before .before .before .word .ensures) ∙ c .before .before .before .before .before .before .before .before .before .before .before .before .before .before .before .before .before .before .before .before .if1 .left) (c .before .before .before .before .before .before .before .before .before .before .before .before .before .before .before .before .before .before .reference .ensures) (c .before .before .before .before .before .before .before .before .before .before .before .before .before .before .before .before .reference2 .ensures) (c .before .before .before .before .before .before .before .before .before .before .before .pattern2 .last .1 .0) _ _ _ _ (c .before .before .before .before .before .before .before .a2 .given .1) (c .before .before .before .before .before .before .before .before .before .before .before .pattern2 .ensures)) (c .before .before .before .before .before .before .before .before .before .before .before .pattern2 .kept .1 .0) (sym (c .before .before .before .before .before .before .before .before .before .before .before .before .before .if2 .left) ∙ c .before .before .before .before .before .before .before .before .before .before .before .before .before .before .dots-next .ensures (a .w)) (c .before .before .before .before .pattern3 .last .1 .0) _ (c .enum-told3 .given .1) (c .before .before .before .before .pattern3 .ensures)
@@ -147,9 +90,6 @@ pattern-returns-6 t c =
 pattern-put-pair-requires : (t : ℕ) → pattern-lts.Need-put-pair-requires (pattern-claims t) (pattern-at t) pattern.Post
 pattern-put-pair-requires t c κs =
     let a = c .before .before .before .before .before .before .before .before .before .before .before .before .before .before .before .before .before .before .before .before .before .before .before .before .before .before .before .args in let m = (made-head (a .items .now) (a .work .now) (a .literals) (a .node) (a .w) (a .k) (a .top) (c .before .before .before .before .before .before .before .before .before .before .before .before .before .before .before .before .before .before .before .before .before .before .before .before .before .before .before .pre .1 .0) (c .before .before .before .before .before .before .before .before .before .before .before .before .before .before .before .before .before .before .before .before .before .before .before .before .before .before .before .pre .1 .1) _ _ (sym (c .before .before .before .before .before .before .before .before .before .before .before .before .before .before .before .before .before .before .before .before .before .before .before .word .ensures) ∙ c .before .before .before .before .before .before .before .before .before .before .before .before .before .before .before .before .before .before .before .before .before .before .if1 .left) (c .before .before .before .before .before .before .before .before .before .before .before .before .before .before .before .before .before .before .before .before .reference .ensures) (c .before .before .before .before .before .before .before .before .before .before .before .before .before .before .before .before .before .before .reference2 .ensures) (c .before .before .before .before .before .before .before .before .before .before .before .before .before .pattern2 .last .1 .0) _ _ _ _ (c .before .before .before .before .before .before .before .before .before .a2 .given .1) (c .before .before .before .before .before .before .before .before .before .before .before .before .before .pattern2 .ensures)) in let q = (made-rest (a .items .now) (a .work .now) (a .literals) (a .node) (a .w) (a .k) (a .top) (c .before .before .before .before .before .before .before .before .before .before .before .before .before .before .before .before .before .before .before .before .before .before .before .before .before .before .before .pre .1 .0) (c .before .before .before .before .before .before .before .before .before .before .before .before .before .before .before .before .before .before .before .before .before .before .before .before .before .before .before .pre .1 .1) _ _ (sym (c .before .before .before .before .before .before .before .before .before .before .before .before .before .before .before .before .before .before .before .before .before .before .before .word .ensures) ∙ c .before .before .before .before .before .before .before .before .before .before .before .before .before .before .before .before .before .before .before .before .before .before .if1 .left) (c .before .before .before .before .before .before .before .before .before .before .before .before .before .before .before .before .before .before .before .before .reference .ensures) (c .before .before .before .before .before .before .before .before .before .before .before .before .before .before .before .before .before .before .reference2 .ensures) (c .before .before .before .before .before .before .before .before .before .before .before .before .before .pattern2 .last .1 .0) _ _ _ (made-head (a .items .now) (a .work .now) (a .literals) (a .node) (a .w) (a .k) (a .top) (c .before .before .before .before .before .before .before .before .before .before .before .before .before .before .before .before .before .before .before .before .before .before .before .before .before .before .before .pre .1 .0) (c .before .before .before .before .before .before .before .before .before .before .before .before .before .before .before .before .before .before .before .before .before .before .before .before .before .before .before .pre .1 .1) _ _ (sym (c .before .before .before .before .before .before .before .before .before .before .before .before .before .before .before .before .before .before .before .before .before .before .before .word .ensures) ∙ c .before .before .before .before .before .before .before .before .before .before .before .before .before .before .before .before .before .before .before .before .before .before .if1 .left) (c .before .before .before .before .before .before .before .before .before .before .before .before .before .before .before .before .before .before .before .before .reference .ensures) (c .before .before .before .before .before .before .before .before .before .before .before .before .before .before .before .before .before .before .reference2 .ensures) (c .before .before .before .before .before .before .before .before .before .before .before .before .before .pattern2 .last .1 .0) _ _ _ _ (c .before .before .before .before .before .before .before .before .before .a2 .given .1) (c .before .before .before .before .before .before .before .before .before .before .before .before .before .pattern2 .ensures)) (c .before .before .before .before .before .before .before .before .before .before .before .before .before .pattern2 .kept .1 .0) (sym (c .before .before .before .before .before .before .before .before .before .before .before .before .before .before .before .if2 .left) ∙ c .before .before .before .before .before .before .before .before .before .before .before .before .before .before .before .before .dots-next .ensures (a .w)) (c .before .before .before .before .before .before .pattern3 .last .1 .0) _ _ _ _ (c .before .before .b .given .1) (c .before .before .before .before .before .before .pattern3 .ensures)) in (room-pair (a .items .now) (a .work .now) (a .node) (a .w) (a .top) (c .before .before .before .before .before .before .before .before .before .before .before .before .before .before .before .before .before .before .before .before .before .before .before .before .before .before .before .pre .1 .0) _ _ (sym (c .before .before .before .before .before .before .before .before .before .before .before .before .before .before .before .before .before .before .before .before .before .before .before .word .ensures) ∙ c .before .before .before .before .before .before .before .before .before .before .before .before .before .before .before .before .before .before .before .before .before .before .if1 .left) (c .before .before .before .before .before .before .before .before .before .before .before .before .before .before .before .before .before .before .before .before .reference .ensures) (c .before .before .before .before .before .before .before .before .before .before .before .before .before .before .before .before .before .before .reference2 .ensures) _ _ _ (c .before .before .before .before .before .before .before .before .before .before .before .before .before .pattern2 .kept .1 .0) (m .grows) _ _ _ (c .before .before .before .before .before .before .pattern3 .kept .1 .0) (q .grows), omega (arith, m .grows .at-most, q .grows .up), q .grows .at-most)
-
-pattern-same-length-7 : (t : ℕ) → pattern-lts.Need-same-length-7 (pattern-claims t) (pattern-at t) pattern.Post
-pattern-same-length-7 t c = search needs
 
 pattern-returns-7 : (t : ℕ) → pattern-lts.Need-returns-7 (pattern-claims t) (pattern-at t) pattern.Post
 pattern-returns-7 t c =
@@ -180,37 +120,37 @@ pub +pattern-spec : {M : Type 1} → statement M
 )
     (pattern-at t)
     pattern.Post
-    (pattern-word-requires t)
+    (λ c κs. search needs)  -- pattern-word-requires
     (pattern-pattern-leaf-requires t)
-    (pattern-same-length t)
+    (λ c. search needs)  -- pattern-same-length
     (pattern-returns t)
-    (pattern-reference-requires t)
-    (pattern-reference-requires-2 t)
-    (pattern-dots-next-requires t)
-    (pattern-is-list-of-requires t)
-    (pattern-rest-requires t)
-    (pattern-leaf-count-requires t)
+    (λ c κs. search needs)  -- pattern-reference-requires
+    (λ c κs. search needs)  -- pattern-reference-requires-2
+    (λ c κs. search needs)  -- pattern-dots-next-requires
+    (λ c κs. search needs)  -- pattern-is-list-of-requires
+    (λ c κs. search needs)  -- pattern-rest-requires
+    (λ c κs. search needs)  -- pattern-leaf-count-requires
     (pattern-pattern-requires t)
-    (pattern-enum-known-a t)
-    (pattern-enum-told t)
-    (pattern-same-length-2 t)
+    (λ c. search needs)  -- pattern-enum-known-a
+    (λ c. search needs)  -- pattern-enum-told
+    (λ c. search needs)  -- pattern-same-length-2
     (pattern-returns-2 t)
     (pattern-put-ellipsis-requires t)
     (pattern-add-t48 t)
-    (pattern-same-length-3 t)
+    (λ c. search needs)  -- pattern-same-length-3
     (pattern-returns-3 t)
-    (pattern-same-length-4 t)
+    (λ c. search needs)  -- pattern-same-length-4
     (pattern-returns-4 t)
     (pattern-pattern-requires-2 t)
-    (pattern-enum-known-a-2 t)
-    (pattern-enum-told-2 t)
-    (pattern-same-length-5 t)
+    (λ c. search needs)  -- pattern-enum-known-a-2
+    (λ c. search needs)  -- pattern-enum-told-2
+    (λ c. search needs)  -- pattern-same-length-5
     (pattern-returns-5 t)
     (pattern-pattern-requires-3 t)
-    (pattern-enum-known-b t)
-    (pattern-enum-told-3 t)
-    (pattern-same-length-6 t)
+    (λ c. search needs)  -- pattern-enum-known-b
+    (λ c. search needs)  -- pattern-enum-told-3
+    (λ c. search needs)  -- pattern-same-length-6
     (pattern-returns-6 t)
     (pattern-put-pair-requires t)
-    (pattern-same-length-7 t)
+    (λ c. search needs)  -- pattern-same-length-7
     (pattern-returns-7 t)

@@ -8,50 +8,17 @@ use Rattle.arena.specs.NodeLaws.{nameAt-number}
 use Rattle.arena.specs.Arena.{nameAt, treeAt}
 use mathlib.Core.Path.{refl, sym, _∙_}
 
-number-of-requires : tie.Need-number-of-requires
-number-of-requires c κs = search needs
-
-same-length : tie.Need-same-length
-same-length c = search needs
-
 returns : tie.Need-returns
 returns c =
     let a = c .before .before .before .before .before .args in left-dots (names (treeAt (a .items .now) (a .work .now) (a .literals) (a .w))) (a .k) (nameAt (a .items .now) (a .work .now) (a .node) (a .w)) (a .items .now) (a .work .now) (a .top) (nameAt-number (a .items .now) (a .work .now) (a .node) (a .w) ∙ sym (c .before .number-of .ensures) ∙ c .if1 .taken)
-
-put-wildcard-requires : tie.Need-put-wildcard-requires
-put-wildcard-requires c κs = search needs
-
-same-length-2 : tie.Need-same-length-2
-same-length-2 c = search needs
 
 returns-2 : tie.Need-returns-2
 returns-2 c =
     let a = c .before .before .before .before .before .before .before .before .before .before .args in left-wildcard (names (treeAt (a .items .now) (a .work .now) (a .literals) (a .w))) (a .k) (nameAt (a .items .now) (a .work .now) (a .node) (a .w)) (a .items .now) (a .work .now) (a .top) _ _ (λ z. c .before .before .before .before .before .if1 .left (c .before .before .before .before .before .before .number-of .ensures ∙ sym (nameAt-number (a .items .now) (a .work .now) (a .node) (a .w)) ∙ z)) (nameAt-number (a .items .now) (a .work .now) (a .node) (a .w) ∙ sym (c .before .before .before .before .before .before .number-of .ensures) ∙ c .before .before .before .before .if2 .taken) (c .before .before .put-wildcard .ensures)
 
-is-literal-requires : tie.Need-is-literal-requires
-is-literal-requires c κs = search needs
-
-binding-of-requires : tie.Need-binding-of-requires
-binding-of-requires c κs = search needs
-
-put-literal-requires : tie.Need-put-literal-requires
-put-literal-requires c κs = search needs
-
-same-length-3 : tie.Need-same-length-3
-same-length-3 c = search needs
-
 returns-3 : tie.Need-returns-3
 returns-3 c =
     let a = c .before .before .before .before .before .before .before .before .before .before .before .before .before .before .before .args in left-literal (names (treeAt (a .items .now) (a .work .now) (a .literals) (a .w))) (a .k) (nameAt (a .items .now) (a .work .now) (a .node) (a .w)) (a .items .now) (a .work .now) (a .top) (a .node) (a .w) _ _ _ _ refl (λ z. c .before .before .before .before .before .before .before .before .before .before .if1 .left (c .before .before .before .before .before .before .before .before .before .before .before .number-of .ensures ∙ sym (nameAt-number (a .items .now) (a .work .now) (a .node) (a .w)) ∙ z)) (λ z. c .before .before .before .before .before .before .before .before .before .if2 .left (c .before .before .before .before .before .before .before .before .before .before .before .number-of .ensures ∙ sym (nameAt-number (a .items .now) (a .work .now) (a .node) (a .w)) ∙ z)) (sym (c .before .before .before .before .before .before .if3 .taken) ∙ c .before .before .before .before .before .before .before .is-literal .ensures) (sym (nameAt-number (a .items .now) (a .work .now) (a .node) (a .w) ∙ sym (c .before .before .before .before .before .before .before .before .before .before .before .number-of .ensures))) (c .before .before .before .before .binding-of .ensures) (c .before .before .put-literal .ensures)
-
-put-variable-requires : tie.Need-put-variable-requires
-put-variable-requires c κs = search needs
-
-add-t27 : tie.Need-add-t27
-add-t27 c = search needs
-
-same-length-4 : tie.Need-same-length-4
-same-length-4 c = search needs
 
 returns-4 : tie.Need-returns-4
 returns-4 c =
@@ -61,18 +28,18 @@ pub pattern-name-spec : {M : Type 1} → statement M
 pattern-name-spec =
     tie.close
     (tie.spec
-    number-of-requires
-    same-length
+    (λ c κs. search needs)  -- number-of-requires
+    (λ c. search needs)  -- same-length
     returns
-    put-wildcard-requires
-    same-length-2
+    (λ c κs. search needs)  -- put-wildcard-requires
+    (λ c. search needs)  -- same-length-2
     returns-2
-    is-literal-requires
-    binding-of-requires
-    put-literal-requires
-    same-length-3
+    (λ c κs. search needs)  -- is-literal-requires
+    (λ c κs. search needs)  -- binding-of-requires
+    (λ c κs. search needs)  -- put-literal-requires
+    (λ c. search needs)  -- same-length-3
     returns-3
-    put-variable-requires
-    add-t27
-    same-length-4
+    (λ c κs. search needs)  -- put-variable-requires
+    (λ c. search needs)  -- add-t27
+    (λ c. search needs)  -- same-length-4
     returns-4)

@@ -34,27 +34,12 @@ rule-list-below t =
 abbrev rule-list-claims : ℕ → rule-list-lts.Claims
 rule-list-claims t = (word-reads.Asked, word-reads.Learnt, pair-reads.Asked, pair-reads.Learnt, reference-reads.Asked, reference-reads.Learnt, rule-list-below t, rule-list.Post, high-reads.Asked, high-reads.Learnt, low-reads.Asked, low-reads.Learnt, rule-reads.Asked, rule-reads.Learnt)
 
-rule-list-word-requires : (t : ℕ) → rule-list-lts.Need-word-requires (rule-list-claims t) (rule-list-at t) rule-list.Post
-rule-list-word-requires t c κs = search needs
-
-rule-list-pair-requires : (t : ℕ) → rule-list-lts.Need-pair-requires (rule-list-claims t) (rule-list-at t) rule-list.Post
-rule-list-pair-requires t c κs = search needs
-
-rule-list-same-length : (t : ℕ) → rule-list-lts.Need-same-length (rule-list-claims t) (rule-list-at t) rule-list.Post
-rule-list-same-length t c = search needs
-
 rule-list-returns : (t : ℕ) → rule-list-lts.Need-returns (rule-list-claims t) (rule-list-at t) rule-list.Post
 rule-list-returns t c =
     let a = c .before .before .before .before .before .before .args in
     let p = c .before .before .before .before .before .before .pre in
     rules-packed _ _ _ _ _ _ _ _ _ (packs (a .items .now) (a .work .now) (a .node) (a .w) (a .top) (p .1 .0)) (c .pair .ensures)
     (left-end (a .items .now) (a .work .now) (a .literals) (a .node) (a .w) (a .top) (p .1 .0) (p .1 .1) (λ z. c .before .if1 .taken (c .before .before .word .ensures ∙ z)))
-
-rule-list-reference-requires : (t : ℕ) → rule-list-lts.Need-reference-requires (rule-list-claims t) (rule-list-at t) rule-list.Post
-rule-list-reference-requires t c κs = search needs
-
-rule-list-reference-requires-2 : (t : ℕ) → rule-list-lts.Need-reference-requires-2 (rule-list-claims t) (rule-list-at t) rule-list.Post
-rule-list-reference-requires-2 t c κs = search needs
 
 rule-list-rule-list-requires : (t : ℕ) → rule-list-lts.Need-rule-list-requires (rule-list-claims t) (rule-list-at t) rule-list.Post
 rule-list-rule-list-requires t c κs =
@@ -65,9 +50,6 @@ rule-list-rule-list-requires t c κs =
     let head-is = c .before .before .before .reference .ensures in
     let rest-is = c .before .reference2 .ensures in
     (omega (arith, p .0, rest-below (a .items .now) (a .work .now) (a .node) (a .w) (a .top) asks _ _ is-pair head-is rest-is), (asks-tail (a .items .now) (a .work .now) (a .node) (a .w) (a .top) asks _ _ is-pair head-is rest-is, p .1 .1))
-
-rule-list-same-length-2 : (t : ℕ) → rule-list-lts.Need-same-length-2 (rule-list-claims t) (rule-list-at t) rule-list.Post
-rule-list-same-length-2 t c = search needs
 
 rule-list-returns-2 : (t : ℕ) → rule-list-lts.Need-returns-2 (rule-list-claims t) (rule-list-at t) rule-list.Post
 unfolding builtOf
@@ -81,12 +63,6 @@ rule-list-returns-2 t c =
     let l = c .before .before .before .rule-list in
     left-later (a .items .now) (a .work .now) (a .literals) (a .node) (a .w) (a .top) asks (p .1 .1) _ _ is-pair head-is rest-is (l .last .1 .0) (builtOf (l .result)) (built-bad (l .result) (c .if2 .taken)) (l .ensures)
 
-rule-list-high-requires : (t : ℕ) → rule-list-lts.Need-high-requires (rule-list-claims t) (rule-list-at t) rule-list.Post
-rule-list-high-requires t c κs = search needs
-
-rule-list-low-requires : (t : ℕ) → rule-list-lts.Need-low-requires (rule-list-claims t) (rule-list-at t) rule-list.Post
-rule-list-low-requires t c κs = search needs
-
 rule-list-rule-requires : (t : ℕ) → rule-list-lts.Need-rule-requires (rule-list-claims t) (rule-list-at t) rule-list.Post
 rule-list-rule-requires t c κs =
     let a = c .before .before .before .before .before .before .before .before .before .before .before .before .before .before .before .before .before .args in
@@ -98,9 +74,6 @@ rule-list-rule-requires t c κs =
     let l = c .before .before .before .before .before .before .rule-list in
     let later = made-later (a .items .now) (a .work .now) (a .literals) (a .node) (a .w) (a .top) asks (p .1 .1) _ _ is-pair head-is rest-is (l .last .1 .0) (builtOf (l .result)) _ _ (built-good (l .result) _ _ (c .before .before .before .if2 .left) (c .before .high .ensures) (c .low .ensures)) (l .ensures) in
     (asks-first (a .items .now) (a .work .now) (a .literals) (a .node) (a .w) (a .top) asks (p .1 .1) _ _ is-pair head-is rest-is (l .last .1 .0) _ _ (l .kept .1 .0) later, literals-still (a .items .now) (a .work .now) (a .literals) (a .node) (a .w) (a .top) asks (p .1 .1) _ _ is-pair head-is rest-is (l .last .1 .0) _ _ (l .kept .1 .0) later, later .at-most)
-
-rule-list-same-length-3 : (t : ℕ) → rule-list-lts.Need-same-length-3 (rule-list-claims t) (rule-list-at t) rule-list.Post
-rule-list-same-length-3 t c = search needs
 
 rule-list-returns-3 : (t : ℕ) → rule-list-lts.Need-returns-3 (rule-list-claims t) (rule-list-at t) rule-list.Post
 rule-list-returns-3 t c =
@@ -116,17 +89,17 @@ rule-list-returns-3 t c =
 
 pub +rule-list-spec : {M : Type 1} → statement M
 +rule-list-spec = close μ-rule-list λ t. rule-list-lts.spec (rule-list-claims t) (rule-list-at t) rule-list.Post
-    (rule-list-word-requires t)
-    (rule-list-pair-requires t)
-    (rule-list-same-length t)
+    (λ c κs. search needs)  -- rule-list-word-requires
+    (λ c κs. search needs)  -- rule-list-pair-requires
+    (λ c. search needs)  -- rule-list-same-length
     (rule-list-returns t)
-    (rule-list-reference-requires t)
-    (rule-list-reference-requires-2 t)
+    (λ c κs. search needs)  -- rule-list-reference-requires
+    (λ c κs. search needs)  -- rule-list-reference-requires-2
     (rule-list-rule-list-requires t)
-    (rule-list-same-length-2 t)
+    (λ c. search needs)  -- rule-list-same-length-2
     (rule-list-returns-2 t)
-    (rule-list-high-requires t)
-    (rule-list-low-requires t)
+    (λ c κs. search needs)  -- rule-list-high-requires
+    (λ c κs. search needs)  -- rule-list-low-requires
     (rule-list-rule-requires t)
-    (rule-list-same-length-3 t)
+    (λ c. search needs)  -- rule-list-same-length-3
     (rule-list-returns-3 t)

@@ -8,17 +8,11 @@ use Rattle.rule_cells.specs.GatherLaws.{kept-bad, kept-count, gathered-s
 use Rattle.rule_cells.specs.RuleLaws.{rule-packed, packs-rule, held-none, small-p, asks-p, small-size, left-variables, left-pattern, made-pattern, under-top, asks-q, small-q, left-template, made-template, rule-asks, left-rule}
 use native.Mathlib.Omega.{arith}
 
-slice-aggregate-gather : tie.Need-slice-aggregate-gather
-slice-aggregate-gather c = search needs
-
 gather-requires : tie.Need-gather-requires
 gather-requires c κs =
     let a = c .before .before .before .before .args in
     let ask = c .before .before .before .before .pre in
     (omega arith, held-none (a .items .now) (a .work .now) (a .w) _, small-p (a .items .now) (a .work .now) (a .literals) (a .p) (a .q) (a .w) (a .next) (a .top) ask)
-
-same-length : tie.Need-same-length
-same-length c = search needs
 
 returns : tie.Need-returns
 unfolding builtOf
@@ -34,24 +28,12 @@ pattern-requires c κs =
     let ask = c .before .before .before .before .before .before .before .before .pre in
     (asks-p (a .items .now) (a .work .now) (a .literals) (a .p) (a .q) (a .w) (a .next) (a .top) ask, ask .literals-below, small-size (a .items .now) (a .work .now) (a .literals) (a .p) (a .q) (a .w) (a .next) (a .top) ask)
 
-enum-known-a : tie.Need-enum-known-a
-enum-known-a c = search needs
-
-enum-told : tie.Need-enum-told
-enum-told c = search needs
-
-same-length-2 : tie.Need-same-length-2
-same-length-2 c = search needs
-
 returns-2 : tie.Need-returns-2
 unfolding builtOf
 returns-2 c =
     let a = c .before .before .before .before .before .before .before .before .before .before .before .before .before .args in
     let ask = c .before .before .before .before .before .before .before .before .before .before .before .before .before .pre in
     left-pattern (a .items .now) (a .work .now) (a .literals) (a .p) (a .q) (a .w) (a .next) (a .top) ask (c .before .before .before .before .pattern .last .1 .0) _ (c .enum-told .given .1) (c .before .before .before .before .pattern .ensures)
-
-slice-aggregate-template : tie.Need-slice-aggregate-template
-slice-aggregate-template c = search needs
 
 template-requires : tie.Need-template-requires
 template-requires c κs =
@@ -62,9 +44,6 @@ template-requires c κs =
     let p = c .before .before .before .before .before .before .before .pattern in
     let pattern = made-pattern (a .items .now) (a .work .now) (a .literals) (a .p) (a .q) (a .w) (a .next) (a .top) ask (p .last .1 .0) _ _ _ _ (c .before .before .before .a .given .1) (p .ensures) in
     (asks-q (a .items .now) (a .work .now) (a .literals) (a .p) (a .q) (a .w) (a .next) (a .top) ask _ (g .last .1 .1 .0) _ stored (p .last .1 .0) _ _ _ (p .kept .1 .0) pattern, stored .held .most, omega (arith, g .kept .1 .1 .0), under-top (a .items .now) (a .work .now) (a .literals) (a .p) (a .q) (a .w) (a .next) (a .top) ask _ (g .last .1 .1 .0) _ stored (p .last .1 .0) _ _ _ (p .kept .1 .0) pattern, small-q (a .items .now) (a .work .now) (a .literals) (a .p) (a .q) (a .w) (a .next) (a .top) ask _ (g .last .1 .1 .0) _ stored (p .last .1 .0) _ _ _ (p .kept .1 .0) pattern)
-
-same-length-3 : tie.Need-same-length-3
-same-length-3 c = search needs
 
 returns-3 : tie.Need-returns-3
 unfolding builtOf
@@ -78,12 +57,6 @@ returns-3 c =
     let q = c .before .before .before .template in
     left-template (a .items .now) (a .work .now) (a .literals) (a .p) (a .q) (a .w) (a .next) (a .top) ask _ (g .last .1 .1 .0) _ stored (p .last .1 .0) _ _ _ (p .kept .1 .0) pattern (q .last .1 .0) (builtOf (q .result)) (built-bad (q .result) (c .if2 .taken)) (q .ensures)
 
-low-requires : tie.Need-low-requires
-low-requires c κs = search needs
-
-high-requires : tie.Need-high-requires
-high-requires c κs = search needs
-
 put-rule-requires : tie.Need-put-rule-requires
 put-rule-requires c κs =
     let a = c .before .before .before .before .before .before .before .before .before .before .before .before .before .before .before .before .before .before .before .before .before .before .before .args in
@@ -95,12 +68,6 @@ put-rule-requires c κs =
     let q = c .before .before .before .before .before .before .template in
     let template = made-template (a .items .now) (a .work .now) (a .literals) (a .p) (a .q) (a .w) (a .next) (a .top) ask _ (g .last .1 .1 .0) _ stored (p .last .1 .0) _ _ _ (p .kept .1 .0) pattern (q .last .1 .0) (builtOf (q .result)) _ _ (built-good (q .result) _ _ (c .before .before .before .if2 .left) (c .high .ensures) (c .before .low .ensures)) (q .ensures) in
     rule-asks (a .items .now) (a .work .now) (a .literals) (a .p) (a .q) (a .w) (a .next) (a .top) ask _ (g .last .1 .1 .0) _ stored (p .last .1 .0) _ _ _ (p .kept .1 .0) pattern (q .last .1 .0) _ _ (q .kept .1 .0) template
-
-pair-requires : tie.Need-pair-requires
-pair-requires c κs = search needs
-
-same-length-4 : tie.Need-same-length-4
-same-length-4 c = search needs
 
 returns-4 : tie.Need-returns-4
 returns-4 c =
@@ -119,22 +86,22 @@ pub rule-parts-spec : {M : Type 1} → statement M
 rule-parts-spec =
     tie.close
     (tie.spec
-    slice-aggregate-gather
+    (λ c. search needs)  -- slice-aggregate-gather
     gather-requires
-    same-length
+    (λ c. search needs)  -- same-length
     returns
     pattern-requires
-    enum-known-a
-    enum-told
-    same-length-2
+    (λ c. search needs)  -- enum-known-a
+    (λ c. search needs)  -- enum-told
+    (λ c. search needs)  -- same-length-2
     returns-2
-    slice-aggregate-template
+    (λ c. search needs)  -- slice-aggregate-template
     template-requires
-    same-length-3
+    (λ c. search needs)  -- same-length-3
     returns-3
-    low-requires
-    high-requires
+    (λ c κs. search needs)  -- low-requires
+    (λ c κs. search needs)  -- high-requires
     put-rule-requires
-    pair-requires
-    same-length-4
+    (λ c κs. search needs)  -- pair-requires
+    (λ c. search needs)  -- same-length-4
     returns-4)

@@ -5,24 +5,9 @@ use Rattle.rule_cells.proofs.rules.rule_shape.Tie as tie
 use Rattle.rule_cells.specs.RuleListLaws.{shape-no, shape-other, shape-dots, shape-yes}
 use mathlib.Core.Path.{sym, _∙_}
 
-is-list-of-requires : tie.Need-is-list-of-requires
-is-list-of-requires c κs = search needs
-
-first-requires : tie.Need-first-requires
-first-requires c κs = search needs
-
-first-requires-2 : tie.Need-first-requires-2
-first-requires-2 c κs = search needs
-
-word-requires : tie.Need-word-requires
-word-requires c κs = search needs
-
 returns : tie.Need-returns
 returns c =
     let a = c .before .before .before .before .before .before .before .before .args in λ w. shape-other (a .items .now) (a .work .now) (a .node) w _ _ (sym (c .before .before .before .before .if1 .taken) ∙ c .before .before .before .before .before .is-list-of .ensures (a .items .now) w) (c .before .before .before .first .ensures) (c .before .before .first2 .ensures) (λ z. c .if2 .taken (c .before .word .ensures ∙ z))
-
-number-of-requires : tie.Need-number-of-requires
-number-of-requires c κs = search needs
 
 returns-2 : tie.Need-returns-2
 returns-2 c =
@@ -40,12 +25,12 @@ pub rule-shape-spec : {M : Type 1} → statement M
 rule-shape-spec =
     tie.close
     (tie.spec
-    is-list-of-requires
-    first-requires
-    first-requires-2
-    word-requires
+    (λ c κs. search needs)  -- is-list-of-requires
+    (λ c κs. search needs)  -- first-requires
+    (λ c κs. search needs)  -- first-requires-2
+    (λ c κs. search needs)  -- word-requires
     returns
-    number-of-requires
+    (λ c κs. search needs)  -- number-of-requires
     returns-2
     returns-3
     returns-4)

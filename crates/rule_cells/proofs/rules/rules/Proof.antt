@@ -6,31 +6,13 @@ use Rattle.rule_cells.specs.Built.{builtOf}
 use Rattle.rule_cells.specs.RuleListLaws.{left-no-form, asks-list, literals-under, left-form}
 use mathlib.Core.Path.{sym, _∙_}
 
-is-rules-form-requires : tie.Need-is-rules-form-requires
-is-rules-form-requires c κs = search needs
-
-rest-requires : tie.Need-rest-requires
-rest-requires c κs = search needs
-
-first-requires : tie.Need-first-requires
-first-requires c κs = search needs
-
-rest-requires-2 : tie.Need-rest-requires-2
-rest-requires-2 c κs = search needs
-
 rule-list-requires : tie.Need-rule-list-requires
 rule-list-requires c κs =
     let a = c .before .before .before .before .before .before .before .before .before .before .before .before .args in (asks-list (a .items .now) (a .work .now) (a .node) (a .w) (a .top) (c .before .before .before .before .before .before .before .before .before .before .before .before .pre) _ _ _ (c .before .before .before .before .before .rest .ensures) (c .before .before .before .first .ensures) (c .before .rest2 .ensures), literals-under (a .items .now) (a .work .now) (a .node) (a .w) (a .top) (c .before .before .before .before .before .before .before .before .before .before .before .before .pre) _ _ _ (c .before .before .before .before .before .rest .ensures) (c .before .before .before .first .ensures) (c .before .rest2 .ensures))
 
-same-length : tie.Need-same-length
-same-length c = search needs
-
 returns : tie.Need-returns
 returns c =
     let a = c .before .before .before .before .before .before .before .before .before .before .before .before .before .before .before .args in left-form (a .items .now) (a .work .now) (a .node) (a .w) (a .top) (c .before .before .before .before .before .before .before .before .before .before .before .before .before .before .before .pre) _ _ _ (c .before .before .before .before .before .before .before .before .rest .ensures) (c .before .before .before .before .before .before .first .ensures) (c .before .before .before .before .rest2 .ensures) (c .before .before .rule-list .last .1 .0) (builtOf (c .before .before .rule-list .result)) (sym (c .before .before .before .before .before .before .before .before .before .before .if1 .taken) ∙ c .before .before .before .before .before .before .before .before .before .before .before .is-rules-form .ensures) (c .before .before .rule-list .ensures)
-
-same-length-2 : tie.Need-same-length-2
-same-length-2 c = search needs
 
 returns-2 : tie.Need-returns-2
 unfolding builtOf
@@ -41,12 +23,12 @@ pub rules-spec : {M : Type 1} → statement M
 rules-spec =
     tie.close
     (tie.spec
-    is-rules-form-requires
-    rest-requires
-    first-requires
-    rest-requires-2
+    (λ c κs. search needs)  -- is-rules-form-requires
+    (λ c κs. search needs)  -- rest-requires
+    (λ c κs. search needs)  -- first-requires
+    (λ c κs. search needs)  -- rest-requires-2
     rule-list-requires
-    same-length
+    (λ c. search needs)  -- same-length
     returns
-    same-length-2
+    (λ c. search needs)  -- same-length-2
     returns-2)

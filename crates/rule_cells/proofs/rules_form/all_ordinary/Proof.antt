@@ -21,22 +21,6 @@ loop-holds : tie.Need-loop-holds Inv-loop μ-loop
 loop-holds c =
     λ r h. h
 
-word-requires : tie.Need-word-requires Inv-loop μ-loop
-word-requires c κs =
-    search needs
-
-reference-requires : tie.Need-reference-requires Inv-loop μ-loop
-reference-requires c κs =
-    search needs
-
-is-ordinary-requires : tie.Need-is-ordinary-requires Inv-loop μ-loop
-is-ordinary-requires c κs =
-    search needs
-
-reference-requires-2 : tie.Need-reference-requires-2 Inv-loop μ-loop
-reference-requires-2 c κs =
-    search needs
-
 loop-less : tie.Need-loop-less Inv-loop μ-loop
 loop-less c =
     let l = c .before .before .before .before .before .before .loop in
@@ -69,10 +53,10 @@ all-ordinary-spec =
     Inv-loop
     μ-loop
     loop-holds
-    word-requires
-    reference-requires
-    is-ordinary-requires
-    reference-requires-2
+    (λ c κs. search needs)  -- word-requires
+    (λ c κs. search needs)  -- reference-requires
+    (λ c κs. search needs)  -- is-ordinary-requires
+    (λ c κs. search needs)  -- reference-requires-2
     loop-less
     loop-again
     returns

@@ -5,27 +5,6 @@ use Rattle.rule_cells.proofs.rules_form.is_rules_form.Tie as tie
 use Rattle.rule_cells.specs.Forms.{form-no, form-literals, form-none, form-some}
 use mathlib.Core.Path.{sym, _∙_}
 
-first-requires : tie.Need-first-requires
-first-requires c κs = search needs
-
-is-syntax-rules-requires : tie.Need-is-syntax-rules-requires
-is-syntax-rules-requires c κs = search needs
-
-rest-requires : tie.Need-rest-requires
-rest-requires c κs = search needs
-
-first-requires-2 : tie.Need-first-requires-2
-first-requires-2 c κs = search needs
-
-literals-good-requires : tie.Need-literals-good-requires
-literals-good-requires c κs = search needs
-
-rest-requires-2 : tie.Need-rest-requires-2
-rest-requires-2 c κs = search needs
-
-count-requires : tie.Need-count-requires
-count-requires c κs = search needs
-
 returns : tie.Need-returns
 returns c =
     let a = c .before .before .before .before .before .before .before .before .before .before .before .before .args in form-none (a .items .now) (a .work .now) (a .node) (a .w) _ (c .before .before .before .before .before .before .before .before .before .first .ensures) (sym (c .before .before .before .before .before .before .before .if1 .taken) ∙ c .before .before .before .before .before .before .before .before .is-syntax-rules .ensures) _ _ (c .before .before .before .before .before .before .rest .ensures) (c .before .before .before .before .before .first2 .ensures) (λ w. sym (c .before .before .before .if2 .taken) ∙ c .before .before .before .before .literals-good .ensures w) _ _ (c .before .before .rest2 .ensures) (c .before .count .ensures) (c .if3 .taken)
@@ -46,13 +25,13 @@ pub is-rules-form-spec : {M : Type 1} → statement M
 is-rules-form-spec =
     tie.close
     (tie.spec
-    first-requires
-    is-syntax-rules-requires
-    rest-requires
-    first-requires-2
-    literals-good-requires
-    rest-requires-2
-    count-requires
+    (λ c κs. search needs)  -- first-requires
+    (λ c κs. search needs)  -- is-syntax-rules-requires
+    (λ c κs. search needs)  -- rest-requires
+    (λ c κs. search needs)  -- first-requires-2
+    (λ c κs. search needs)  -- literals-good-requires
+    (λ c κs. search needs)  -- rest-requires-2
+    (λ c κs. search needs)  -- count-requires
     returns
     returns-2
     returns-3

@@ -27,12 +27,6 @@ driven-below t = and 1 driven-kinds.ps (falls 1 driven-kinds.ps _<_ μ-driven t)
 abbrev driven-claims : ℕ → driven-lts.Claims
 driven-claims t = (word-reads.Asked, word-reads.Learnt, reference-reads.Asked, reference-reads.Learnt, driven-below t, driven.Post)
 
-driven-word-requires : (t : ℕ) → driven-lts.Need-word-requires (driven-claims t) (driven-at t) driven.Post
-driven-word-requires t c κs = search needs
-
-driven-word-requires-2 : (t : ℕ) → driven-lts.Need-word-requires-2 (driven-claims t) (driven-at t) driven.Post
-driven-word-requires-2 t c κs = search needs
-
 driven-returns : (t : ℕ) → driven-lts.Need-returns (driven-claims t) (driven-at t) driven.Post
 driven-returns t c =
     let a = c .before .before .before .before .args in driven-variable (a .work .now) (a .at) (a .j) _ (sym (c .before .before .word .ensures) ∙ c .before .if1 .taken) (c .word2 .ensures)
@@ -44,9 +38,6 @@ driven-returns-2 t c =
 driven-returns-3 : (t : ℕ) → driven-lts.Need-returns-3 (driven-claims t) (driven-at t) driven.Post
 driven-returns-3 t c =
     let a = c .before .before .before .before .before .args in driven-other (a .work .now) (a .at) (a .j) _ (c .before .before .before .word .ensures) (c .before .before .if1 .left) (λ z. omega (arith, c .if3 .taken)) (λ z. omega (arith, c .if3 .taken))
-
-driven-reference-requires : (t : ℕ) → driven-lts.Need-reference-requires (driven-claims t) (driven-at t) driven.Post
-driven-reference-requires t c κs = search needs
 
 driven-add-inner : (t : ℕ) → driven-lts.Need-add-inner (driven-claims t) (driven-at t) driven.Post
 driven-add-inner t c =
@@ -60,9 +51,6 @@ driven-returns-4 : (t : ℕ) → driven-lts.Need-returns-4 (driven-claims t) (dr
 driven-returns-4 t c =
     let a = c .before .before .before .before .before .before .before .before .args in driven-first (a .work .now) (a .at) (a .j) _ _ _ (c .before .before .before .before .before .before .word .ensures) (omega (arith, c .before .before .before .before .if2 .left)) (omega (arith, c .before .before .before .if3 .left)) (c .before .before .reference .ensures) refl (λ items. sym (c .if4 .taken) ∙ c .before .driven .ensures items)
 
-driven-reference-requires-2 : (t : ℕ) → driven-lts.Need-reference-requires-2 (driven-claims t) (driven-at t) driven.Post
-driven-reference-requires-2 t c κs = search needs
-
 driven-driven-requires-2 : (t : ℕ) → driven-lts.Need-driven-requires-2 (driven-claims t) (driven-at t) driven.Post
 driven-driven-requires-2 t c κs =
     let a = c .before .before .before .before .before .before .before .before .before .args in (omega (arith, driven-falls (a .work .now) (a .at) (a .j) _ _ _ (c .before .before .before .before .before .before .before .word .ensures) (omega (arith, c .before .before .before .before .before .if2 .left)) (omega (arith, c .before .before .before .before .if3 .left)) (c .before .before .before .reference .ensures) (c .reference2 .ensures) .1), omega (arith, c .before .before .before .before .before .before .before .before .before .pre .1, driven-falls (a .work .now) (a .at) (a .j) _ _ _ (c .before .before .before .before .before .before .before .word .ensures) (omega (arith, c .before .before .before .before .before .if2 .left)) (omega (arith, c .before .before .before .before .if3 .left)) (c .before .before .before .reference .ensures) (c .reference2 .ensures) .1))
@@ -75,15 +63,15 @@ pub +driven-spec : {M : Type 1} → statement M
 +driven-spec = close μ-driven λ t. driven-lts.spec (driven-claims t)
     (driven-at t)
     driven.Post
-    (driven-word-requires t)
-    (driven-word-requires-2 t)
+    (λ c κs. search needs)  -- driven-word-requires
+    (λ c κs. search needs)  -- driven-word-requires-2
     (driven-returns t)
     (driven-returns-2 t)
     (driven-returns-3 t)
-    (driven-reference-requires t)
+    (λ c κs. search needs)  -- driven-reference-requires
     (driven-add-inner t)
     (driven-driven-requires t)
     (driven-returns-4 t)
-    (driven-reference-requires-2 t)
+    (λ c κs. search needs)  -- driven-reference-requires-2
     (driven-driven-requires-2 t)
     (driven-returns-5 t)

@@ -41,28 +41,16 @@ template-below t =
 abbrev template-claims : ℕ → template-lts.Claims
 template-claims t = (word-reads.Asked, word-reads.Learnt, template-leaf-reads.Asked, template-leaf-reads.Learnt, reference-reads.Asked, reference-reads.Learnt, template-below t, template.Post, dots-next-reads.Asked, dots-next-reads.Learnt, element-depth-reads.Asked, element-depth-reads.Learnt, high-reads.Asked, high-reads.Learnt, accepted-reads.Asked, accepted-reads.Learnt, low-reads.Asked, low-reads.Learnt, put-list-reads.Asked, put-list-reads.Learnt, pair-reads.Asked, pair-reads.Learnt)
 
-template-word-requires : (t : ℕ) → template-lts.Need-word-requires (template-claims t) (template-at t) template.Post
-template-word-requires t c κs = search needs
-
 template-template-leaf-requires : (t : ℕ) → template-lts.Need-template-leaf-requires (template-claims t) (template-at t) template.Post
 template-template-leaf-requires t c κs =
     let p = c .before .before .before .before .before .before .before .pre in
     (p .1 .0, p .1 .1, p .1 .2, λ z. c .before .if1 .taken (c .before .before .word .ensures ∙ z))
-
-template-same-length : (t : ℕ) → template-lts.Need-same-length (template-claims t) (template-at t) template.Post
-template-same-length t c = search needs
 
 template-returns : (t : ℕ) → template-lts.Need-returns (template-claims t) (template-at t) template.Post
 template-returns t c =
     let a = c .before .before .before .before .before .before .before .before .before .before .args in
     let l = c .before .before .template-leaf in
     left-leaf (variablesFrom (a .items .now) (a .work .now) (a .w) (a .vars .now) 0 (a .count)) (a .d) (a .taken) (a .items .now) (a .work .now) (a .node) (a .w) (a .top) (l .last .1 .0) (builtOf (l .result)) (λ z. c .before .before .before .before .if1 .taken (c .before .before .before .before .before .word .ensures ∙ z)) (l .ensures)
-
-template-reference-requires : (t : ℕ) → template-lts.Need-reference-requires (template-claims t) (template-at t) template.Post
-template-reference-requires t c κs = search needs
-
-template-reference-requires-2 : (t : ℕ) → template-lts.Need-reference-requires-2 (template-claims t) (template-at t) template.Post
-template-reference-requires-2 t c κs = search needs
 
 template-template-requires : (t : ℕ) → template-lts.Need-template-requires (template-claims t) (template-at t) template.Post
 template-template-requires t c κs =
@@ -75,9 +63,6 @@ template-template-requires t c κs =
     let below = rest-below (a .items .now) (a .work .now) (a .node) (a .w) (a .top) asks _ _ is-pair head-is rest-is in
     (omega (arith, below), (asks-tail (a .items .now) (a .work .now) (a .node) (a .w) (a .top) asks _ _ is-pair head-is rest-is, p .1 .1, p .1 .2, p .1 .3, omega (arith, p .1 .4, below)))
 
-template-same-length-2 : (t : ℕ) → template-lts.Need-same-length-2 (template-claims t) (template-at t) template.Post
-template-same-length-2 t c = search needs
-
 template-returns-2 : (t : ℕ) → template-lts.Need-returns-2 (template-claims t) (template-at t) template.Post
 template-returns-2 t c =
     let a = c .before .before .before .before .before .before .before .before .before .before .before .before .before .before .before .args in
@@ -88,9 +73,6 @@ template-returns-2 t c =
     let rest-is = c .before .before .before .before .before .reference2 .ensures in
     let l = c .before .before .template in
     left-taken (a .items .now) (a .work .now) (a .vars .now) (a .count) (a .node) (a .w) (a .d) (a .top) asks (p .1 .3) _ _ is-pair head-is rest-is (a .taken) (l .last .1 .0) (builtOf (l .result)) (c .before .before .before .before .if2 .taken) (l .ensures)
-
-template-dots-next-requires : (t : ℕ) → template-lts.Need-dots-next-requires (template-claims t) (template-at t) template.Post
-template-dots-next-requires t c κs = search needs
 
 template-element-depth-requires : (t : ℕ) → template-lts.Need-element-depth-requires (template-claims t) (template-at t) template.Post
 template-element-depth-requires t c κs =
@@ -114,9 +96,6 @@ template-template-requires-2 t c κs =
     let deeper = deeper-by _ _ _ _ _ _ (c .before .element-depth .ensures) (c .before .before .dots-next .ensures) in
     (omega (arith, below), (asks-head (a .items .now) (a .work .now) (a .node) (a .w) (a .top) asks _ _ is-pair head-is rest-is, p .1 .1, p .1 .2, p .1 .3, omega (arith, p .1 .4, below, deeper-most _ _ _ _ _ deeper)))
 
-template-same-length-3 : (t : ℕ) → template-lts.Need-same-length-3 (template-claims t) (template-at t) template.Post
-template-same-length-3 t c = search needs
-
 template-returns-3 : (t : ℕ) → template-lts.Need-returns-3 (template-claims t) (template-at t) template.Post
 unfolding builtOf
 template-returns-3 t c =
@@ -131,15 +110,6 @@ template-returns-3 t c =
     let deeper = deeper-by _ _ _ _ _ _ (c .before .before .before .before .before .element-depth .ensures) next in
     let first = c .before .before .before .template2 in
     left-bad (a .items .now) (a .work .now) (a .vars .now) (a .count) (a .node) (a .w) (a .d) (a .top) asks (p .1 .3) _ _ is-pair head-is rest-is (a .taken) _ _ untaken (next (a .w)) deeper (first .last .1 .0) (builtOf (first .result)) (built-bad (first .result) (c .if3 .taken)) (first .ensures)
-
-template-high-requires : (t : ℕ) → template-lts.Need-high-requires (template-claims t) (template-at t) template.Post
-template-high-requires t c κs = search needs
-
-template-accepted-requires : (t : ℕ) → template-lts.Need-accepted-requires (template-claims t) (template-at t) template.Post
-template-accepted-requires t c κs = search needs
-
-template-low-requires : (t : ℕ) → template-lts.Need-low-requires (template-claims t) (template-at t) template.Post
-template-low-requires t c κs = search needs
 
 template-template-requires-3 : (t : ℕ) → template-lts.Need-template-requires-3 (template-claims t) (template-at t) template.Post
 template-template-requires-3 t c κs =
@@ -156,9 +126,6 @@ template-template-requires-3 t c κs =
     let head = made-head (a .items .now) (a .work .now) (a .vars .now) (a .count) (a .node) (a .w) (a .d) (a .top) asks (p .1 .3) _ _ is-pair head-is rest-is (a .taken) _ _ untaken (next (a .w)) deeper (first .last .1 .0) (builtOf (first .result)) _ _ (built-good (first .result) _ _ (c .before .before .before .before .before .before .if3 .left) (c .before .before .before .before .before .high .ensures) (c .low .ensures)) (first .ensures) in
     let below = rest-below (a .items .now) (a .work .now) (a .node) (a .w) (a .top) asks _ _ is-pair head-is rest-is in
     (omega (arith, p .0, below), (asks-rest (a .items .now) (a .work .now) (a .node) (a .w) (a .top) asks _ _ is-pair head-is rest-is _ _ _ (first .kept .1 .0) (head .grows), p .1 .1, p .1 .2, under-still (a .items .now) (a .work .now) (a .vars .now) (a .count) (a .node) (a .w) (a .d) (a .top) asks (p .1 .3) _ _ is-pair head-is rest-is (a .taken) _ _ untaken (next (a .w)) deeper (first .last .1 .0) _ _ (first .kept .1 .0) head, omega (arith, p .1 .4, below)))
-
-template-same-length-4 : (t : ℕ) → template-lts.Need-same-length-4 (template-claims t) (template-at t) template.Post
-template-same-length-4 t c = search needs
 
 template-returns-4 : (t : ℕ) → template-lts.Need-returns-4 (template-claims t) (template-at t) template.Post
 unfolding builtOf
@@ -177,12 +144,6 @@ template-returns-4 t c =
     let second = c .before .before .before .template3 in
     left-bad-rest (a .items .now) (a .work .now) (a .vars .now) (a .count) (a .node) (a .w) (a .d) (a .top) asks (p .1 .3) _ _ is-pair head-is rest-is (a .taken) _ _ untaken (next (a .w)) deeper (first .last .1 .0) _ _ (first .kept .1 .0) head (second .last .1 .0) (builtOf (second .result)) (built-bad (second .result) (c .if5 .taken)) (second .ensures)
 
-template-low-requires-2 : (t : ℕ) → template-lts.Need-low-requires-2 (template-claims t) (template-at t) template.Post
-template-low-requires-2 t c κs = search needs
-
-template-high-requires-2 : (t : ℕ) → template-lts.Need-high-requires-2 (template-claims t) (template-at t) template.Post
-template-high-requires-2 t c κs = search needs
-
 template-put-list-requires : (t : ℕ) → template-lts.Need-put-list-requires (template-claims t) (template-at t) template.Post
 template-put-list-requires t c κs =
     let a = c .before .before .before .before .before .before .before .before .before .before .before .before .before .before .before .before .before .before .before .before .before .before .before .before .before .before .before .before .before .before .before .before .args in
@@ -199,12 +160,6 @@ template-put-list-requires t c κs =
     let second = c .before .before .before .before .before .before .template3 in
     let later = made-rest (a .items .now) (a .work .now) (a .vars .now) (a .count) (a .node) (a .w) (a .d) (a .top) asks (p .1 .3) _ _ is-pair head-is rest-is (a .taken) _ _ untaken (next (a .w)) deeper (first .last .1 .0) _ _ (first .kept .1 .0) head (second .last .1 .0) (builtOf (second .result)) _ _ (built-good (second .result) _ _ (c .before .before .before .if5 .left) (c .high2 .ensures) (c .before .low2 .ensures)) (second .ensures) in
     (room-pair (a .items .now) (a .work .now) (a .node) (a .w) (a .top) asks _ _ is-pair head-is rest-is _ _ _ (first .kept .1 .0) (head .grows) _ _ _ (second .kept .1 .0) (later .grows), omega (arith, head .grows .at-most, later .grows .up), later .grows .at-most)
-
-template-pair-requires : (t : ℕ) → template-lts.Need-pair-requires (template-claims t) (template-at t) template.Post
-template-pair-requires t c κs = search needs
-
-template-same-length-5 : (t : ℕ) → template-lts.Need-same-length-5 (template-claims t) (template-at t) template.Post
-template-same-length-5 t c = search needs
 
 template-returns-5 : (t : ℕ) → template-lts.Need-returns-5 (template-claims t) (template-at t) template.Post
 template-returns-5 t c =
@@ -224,9 +179,6 @@ template-returns-5 t c =
     left-packed _ _ _ _ _ _ _ _ _ _ _ (packs (a .items .now) (a .work .now) (a .node) (a .w) (a .top) asks) (c .pair .ensures)
     (left-list (a .items .now) (a .work .now) (a .vars .now) (a .count) (a .node) (a .w) (a .d) (a .top) asks (p .1 .3) _ _ is-pair head-is rest-is (a .taken) _ _ untaken (next (a .w)) deeper (first .last .1 .0) _ _ (first .kept .1 .0) head _ _ _ _ _ (sym (c .before .before .before .before .before .before .before .before .before .before .before .before .before .if4 .taken) ∙ c .before .before .before .before .before .before .before .before .before .before .before .before .before .before .accepted .ensures (a .items .now)) later (c .before .before .before .put-list .ensures))
 
-template-same-length-6 : (t : ℕ) → template-lts.Need-same-length-6 (template-claims t) (template-at t) template.Post
-template-same-length-6 t c = search needs
-
 template-returns-6 : (t : ℕ) → template-lts.Need-returns-6 (template-claims t) (template-at t) template.Post
 unfolding builtOf
 template-returns-6 t c =
@@ -245,31 +197,31 @@ template-returns-6 t c =
 
 pub +template-spec : {M : Type 1} → statement M
 +template-spec = close μ-template λ t. template-lts.spec (template-claims t) (template-at t) template.Post
-    (template-word-requires t)
+    (λ c κs. search needs)  -- template-word-requires
     (template-template-leaf-requires t)
-    (template-same-length t)
+    (λ c. search needs)  -- template-same-length
     (template-returns t)
-    (template-reference-requires t)
-    (template-reference-requires-2 t)
+    (λ c κs. search needs)  -- template-reference-requires
+    (λ c κs. search needs)  -- template-reference-requires-2
     (template-template-requires t)
-    (template-same-length-2 t)
+    (λ c. search needs)  -- template-same-length-2
     (template-returns-2 t)
-    (template-dots-next-requires t)
+    (λ c κs. search needs)  -- template-dots-next-requires
     (template-element-depth-requires t)
     (template-template-requires-2 t)
-    (template-same-length-3 t)
+    (λ c. search needs)  -- template-same-length-3
     (template-returns-3 t)
-    (template-high-requires t)
-    (template-accepted-requires t)
-    (template-low-requires t)
+    (λ c κs. search needs)  -- template-high-requires
+    (λ c κs. search needs)  -- template-accepted-requires
+    (λ c κs. search needs)  -- template-low-requires
     (template-template-requires-3 t)
-    (template-same-length-4 t)
+    (λ c. search needs)  -- template-same-length-4
     (template-returns-4 t)
-    (template-low-requires-2 t)
-    (template-high-requires-2 t)
+    (λ c κs. search needs)  -- template-low-requires-2
+    (λ c κs. search needs)  -- template-high-requires-2
     (template-put-list-requires t)
-    (template-pair-requires t)
-    (template-same-length-5 t)
+    (λ c κs. search needs)  -- template-pair-requires
+    (λ c. search needs)  -- template-same-length-5
     (template-returns-5 t)
-    (template-same-length-6 t)
+    (λ c. search needs)  -- template-same-length-6
     (template-returns-6 t)

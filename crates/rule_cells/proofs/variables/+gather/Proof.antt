@@ -47,15 +47,6 @@ gather-loop-holds t c =
     let a = c .before .before .before .args in
     (refl, gathering-begins (a .items .now) (a .work .now) (a .w) (a .node) (a .n) (a .vars .now) (names (treeAt (a .items .now) (a .work .now) (a .literals) (a .w))) (a .d) (c .before .before .before .pre .1 .1))
 
-gather-word-requires : (t : ℕ) → gather-lts.Need-word-requires (gather-claims t) (gather-at t) gather.Post gather-Inv-loop gather-μ-loop
-gather-word-requires t c κs = search needs
-
-gather-reference-requires : (t : ℕ) → gather-lts.Need-reference-requires (gather-claims t) (gather-at t) gather.Post gather-Inv-loop gather-μ-loop
-gather-reference-requires t c κs = search needs
-
-gather-reference-requires-2 : (t : ℕ) → gather-lts.Need-reference-requires-2 (gather-claims t) (gather-at t) gather.Post gather-Inv-loop gather-μ-loop
-gather-reference-requires-2 t c κs = search needs
-
 gather-depth-before-requires : (t : ℕ) → gather-lts.Need-depth-before-requires (gather-claims t) (gather-at t) gather.Post gather-Inv-loop gather-μ-loop
 gather-depth-before-requires t c κs =
     let l = c .before .before .before .before .loop in
@@ -73,9 +64,6 @@ gather-gather-requires t c κs =
         omega (arith, p .1 .2, l .inv .1 .low, h, c .before .before .before .reference .ensures, deeper-most _ _ _ _ _ (c .before .depth-before .ensures)),
       ),
     )
-
-gather-same-length : (t : ℕ) → gather-lts.Need-same-length (gather-claims t) (gather-at t) gather.Post gather-Inv-loop gather-μ-loop
-gather-same-length t c = search needs
 
 gather-returns : (t : ℕ) → gather-lts.Need-returns (gather-claims t) (gather-at t) gather.Post gather-Inv-loop gather-μ-loop
 unfolding keptOf
@@ -101,17 +89,11 @@ gather-loop-again t c =
           (l .inv .1),
     )
 
-gather-word-requires-2 : (t : ℕ) → gather-lts.Need-word-requires-2 (gather-claims t) (gather-at t) gather.Post gather-Inv-loop gather-μ-loop
-gather-word-requires-2 t c κs = search needs
-
 gather-gather-name-requires : (t : ℕ) → gather-lts.Need-gather-name-requires (gather-claims t) (gather-at t) gather.Post gather-Inv-loop gather-μ-loop
 gather-gather-name-requires t c κs =
     let p = c .before .before .before .before .before .before .before .before .before .pre in
     let l = c .before .before .before .before .before .loop in
     (omega (arith, p .1 .0, l .inv .0), l .inv .1 .held)
-
-gather-same-length-2 : (t : ℕ) → gather-lts.Need-same-length-2 (gather-claims t) (gather-at t) gather.Post gather-Inv-loop gather-μ-loop
-gather-same-length-2 t c = search needs
 
 gather-returns-2 : (t : ℕ) → gather-lts.Need-returns-2 (gather-claims t) (gather-at t) gather.Post gather-Inv-loop gather-μ-loop
 gather-returns-2 t c =
@@ -120,9 +102,6 @@ gather-returns-2 t c =
     let g = c .before .before .gather-name in
     l .inv .1 .all (g .last .1 .1 .0) (keptOf (g .result))
     (gathered-name (a .items .now) (a .work .now) (a .w) (l .at) (l .m) (l .vars) (names (treeAt (a .items .now) (a .work .now) (a .literals) (a .w))) (a .d) (g .last .1 .1 .0) (keptOf (g .result)) (sym (c .before .before .before .before .before .word2 .ensures) ∙ c .before .before .before .before .if3 .taken) (g .ensures))
-
-gather-same-length-3 : (t : ℕ) → gather-lts.Need-same-length-3 (gather-claims t) (gather-at t) gather.Post gather-Inv-loop gather-μ-loop
-gather-same-length-3 t c = search needs
 
 gather-returns-3 : (t : ℕ) → gather-lts.Need-returns-3 (gather-claims t) (gather-at t) gather.Post gather-Inv-loop gather-μ-loop
 gather-returns-3 t c =
@@ -137,18 +116,18 @@ pub +gather-spec : {M : Type 1} → statement M
     gather-Inv-loop
     gather-μ-loop
     (gather-loop-holds t)
-    (gather-word-requires t)
-    (gather-reference-requires t)
-    (gather-reference-requires-2 t)
+    (λ c κs. search needs)  -- gather-word-requires
+    (λ c κs. search needs)  -- gather-reference-requires
+    (λ c κs. search needs)  -- gather-reference-requires-2
     (gather-depth-before-requires t)
     (gather-gather-requires t)
-    (gather-same-length t)
+    (λ c. search needs)  -- gather-same-length
     (gather-returns t)
     (gather-loop-less t)
     (gather-loop-again t)
-    (gather-word-requires-2 t)
+    (λ c κs. search needs)  -- gather-word-requires-2
     (gather-gather-name-requires t)
-    (gather-same-length-2 t)
+    (λ c. search needs)  -- gather-same-length-2
     (gather-returns-2 t)
-    (gather-same-length-3 t)
+    (λ c. search needs)  -- gather-same-length-3
     (gather-returns-3 t)

@@ -22,44 +22,14 @@ find-requires : tie.Need-find-requires
 find-requires c κs =
     (omega arith, c .before .before .before .before .before .before .pre .0)
 
-enum-known-k : tie.Need-enum-known-k
-enum-known-k c = search needs
-
-same-length : tie.Need-same-length
-same-length c = search needs
-
 returns-3 : tie.Need-returns-3
 unfolding keptOf
 returns-3 c =
     let a = c .before .before .before .before .before .before .before .before .before .before .args in add-twice (a .items .now) (a .work .now) (a .w) (a .vars .now) (a .n) (a .node) (a .d) _ (found-at _ _ _ _ (c .before .k .given .1) (c .before .before .before .find .ensures))
 
-enum-told : tie.Need-enum-told
-enum-told c = search needs
-
-mul-at : tie.Need-mul-at
-mul-at c = search needs
-
-mul-vars : tie.Need-mul-vars
-mul-vars c = search needs
-
-slice-write-vars : tie.Need-slice-write-vars
-slice-write-vars c = search needs
-
-add-vars : tie.Need-add-vars
-add-vars c = search needs
-
-mul-vars-2 : tie.Need-mul-vars-2
-mul-vars-2 c = search needs
-
 slice-write-vars-2 : tie.Need-slice-write-vars-2
 slice-write-vars-2 c =
     simp length-set (omega (arith, c .before .before .before .before .before .before .before .before .before .pre .0))
-
-add-result : tie.Need-add-result
-add-result c = search needs
-
-same-length-2 : tie.Need-same-length-2
-same-length-2 c = search needs
 
 returns-4 : tie.Need-returns-4
 returns-4 c =
@@ -73,16 +43,16 @@ add-spec =
     returns
     returns-2
     find-requires
-    enum-known-k
-    same-length
+    (λ c. search needs)  -- enum-known-k
+    (λ c. search needs)  -- same-length
     returns-3
-    enum-told
-    mul-at
-    mul-vars
-    slice-write-vars
-    add-vars
-    mul-vars-2
+    (λ c. search needs)  -- enum-told
+    (λ c. search needs)  -- mul-at
+    (λ c. search needs)  -- mul-vars
+    (λ c. search needs)  -- slice-write-vars
+    (λ c. search needs)  -- add-vars
+    (λ c. search needs)  -- mul-vars-2
     slice-write-vars-2
-    add-result
-    same-length-2
+    (λ c. search needs)  -- add-result
+    (λ c. search needs)  -- same-length-2
     returns-4)

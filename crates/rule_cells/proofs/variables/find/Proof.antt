@@ -18,49 +18,16 @@ abbrev μ-loop : tie.MeasureT-loop
 μ-loop items work vars i left node w end k₀ k =
     end - k
 
-add-end : tie.Need-add-end Inv-loop μ-loop
-add-end c = search needs
-
 loop-holds : tie.Need-loop-holds Inv-loop μ-loop
 loop-holds c =
     let a = c .before .before .before .args in
     (omega arith, known-all (a .items .now) (a .work .now) (a .w) (a .vars .now) (nameAt (a .items .now) (a .work .now) (a .node) (a .w)) (a .i) (a .left))
-
-cast-at : tie.Need-cast-at Inv-loop μ-loop
-cast-at c = search needs
-
-mul-at : tie.Need-mul-at Inv-loop μ-loop
-mul-at c = search needs
-
-mul-same-names : tie.Need-mul-same-names Inv-loop μ-loop
-mul-same-names c = search needs
-
-shared-slice-read-same-names : tie.Need-shared-slice-read-same-names Inv-loop μ-loop
-shared-slice-read-same-names c = search needs
-
-same-names-requires : tie.Need-same-names-requires Inv-loop μ-loop
-same-names-requires c κs = search needs
-
-add-t16 : tie.Need-add-t16 Inv-loop μ-loop
-add-t16 c = search needs
-
-mul-t17 : tie.Need-mul-t17 Inv-loop μ-loop
-mul-t17 c = search needs
-
-shared-slice-read-t19 : tie.Need-shared-slice-read-t19 Inv-loop μ-loop
-shared-slice-read-t19 c = search needs
 
 returns : tie.Need-returns Inv-loop μ-loop
 returns c =
     let a = c .before .before .before .before .before .before .before .before .before .args in
     let l = c .before .before .before .before .before .loop in
     known-here (a .items .now) (a .work .now) (a .w) (a .vars .now) (nameAt (a .items .now) (a .work .now) (a .node) (a .w)) _ _ (c .before .before .before .before .loop-test .taken) (sym (c .before .if1 .taken) ∙ c .before .before .same-names .ensures) ∙ l .inv .1
-
-add-k : tie.Need-add-k Inv-loop μ-loop
-add-k c = search needs
-
-loop-less : tie.Need-loop-less Inv-loop μ-loop
-loop-less c = search needs
 
 loop-again : tie.Need-loop-again Inv-loop μ-loop
 loop-again c =
@@ -82,18 +49,18 @@ find-spec =
     (tie.spec
     Inv-loop
     μ-loop
-    add-end
+    (λ c. search needs)  -- add-end
     loop-holds
-    cast-at
-    mul-at
-    mul-same-names
-    shared-slice-read-same-names
-    same-names-requires
-    add-t16
-    mul-t17
-    shared-slice-read-t19
+    (λ c. search needs)  -- cast-at
+    (λ c. search needs)  -- mul-at
+    (λ c. search needs)  -- mul-same-names
+    (λ c. search needs)  -- shared-slice-read-same-names
+    (λ c κs. search needs)  -- same-names-requires
+    (λ c. search needs)  -- add-t16
+    (λ c. search needs)  -- mul-t17
+    (λ c. search needs)  -- shared-slice-read-t19
     returns
-    add-k
-    loop-less
+    (λ c. search needs)  -- add-k
+    (λ c. search needs)  -- loop-less
     loop-again
     returns-2)

@@ -9,9 +9,6 @@ use Rattle.arena.specs.NodeLaws.{nameAt-number}
 use Rattle.arena.specs.Arena.{nameAt, treeAt}
 use mathlib.Core.Path.{sym, _∙_}
 
-number-of-requires : tie.Need-number-of-requires
-number-of-requires c κs = search needs
-
 returns : tie.Need-returns
 returns c =
     let a = c .before .before .before .before .before .args in
@@ -22,9 +19,6 @@ returns-2 c =
     let a = c .before .before .before .before .before .before .args in
     gathered-count _ _ _ _ _ _ _ _ _ (gathered-no (a .items .now) (a .work .now) (a .w) (a .node) (a .n) (a .vars .now) (names (treeAt (a .items .now) (a .work .now) (a .literals) (a .w))) (a .d) (nameAt (a .items .now) (a .work .now) (a .node) (a .w)) (wildcard-no-variable (names (treeAt (a .items .now) (a .work .now) (a .literals) (a .w))) (nameAt (a .items .now) (a .work .now) (a .node) (a .w)) (λ z. c .before .if1 .left (c .before .before .number-of .ensures ∙ sym (nameAt-number (a .items .now) (a .work .now) (a .node) (a .w)) ∙ z)) (nameAt-number (a .items .now) (a .work .now) (a .node) (a .w) ∙ sym (c .before .before .number-of .ensures) ∙ c .if2 .taken)) (c .before .before .before .before .before .before .pre .1))
 
-is-literal-requires : tie.Need-is-literal-requires
-is-literal-requires c κs = search needs
-
 returns-3 : tie.Need-returns-3
 returns-3 c =
     let a = c .before .before .before .before .before .before .before .before .args in
@@ -33,9 +27,6 @@ returns-3 c =
 add-requires : tie.Need-add-requires
 add-requires c κs =
     (c .before .before .before .before .before .before .before .before .before .pre .0, c .before .before .before .before .before .before .before .before .before .pre .1)
-
-same-length : tie.Need-same-length
-same-length c = search needs
 
 returns-4 : tie.Need-returns-4
 returns-4 c =
@@ -46,11 +37,11 @@ pub gather-name-spec : {M : Type 1} → statement M
 gather-name-spec =
     tie.close
     (tie.spec
-    number-of-requires
+    (λ c κs. search needs)  -- number-of-requires
     returns
     returns-2
-    is-literal-requires
+    (λ c κs. search needs)  -- is-literal-requires
     returns-3
     add-requires
-    same-length
+    (λ c. search needs)  -- same-length
     returns-4)

@@ -8,15 +8,9 @@ use Rattle.arena.specs.NodeLaws.{nameAt-number}
 use Rattle.arena.specs.Arena.{nameAt, treeAt}
 use mathlib.Core.Path.{sym, _∙_}
 
-word-requires : tie.Need-word-requires
-word-requires c κs = search needs
-
 returns : tie.Need-returns
 returns c =
     let a = c .before .before .before .before .args in leaf-no-name (a .items .now) (a .work .now) (a .node) (a .w) (names (treeAt (a .items .now) (a .work .now) (a .literals) (a .w))) (λ z. c .if1 .taken (c .before .word .ensures ∙ z))
-
-number-of-requires : tie.Need-number-of-requires
-number-of-requires c κs = search needs
 
 returns-2 : tie.Need-returns-2
 returns-2 c =
@@ -25,9 +19,6 @@ returns-2 c =
 returns-3 : tie.Need-returns-3
 returns-3 c =
     let a = c .before .before .before .before .before .before .before .args in leaf-none (a .items .now) (a .work .now) (a .node) (a .w) (names (treeAt (a .items .now) (a .work .now) (a .literals) (a .w))) (sym (c .before .before .before .before .word .ensures) ∙ c .before .before .before .if1 .left) (wildcard-no-variable (names (treeAt (a .items .now) (a .work .now) (a .literals) (a .w))) (nameAt (a .items .now) (a .work .now) (a .node) (a .w)) (λ z. c .before .if2 .left (c .before .before .number-of .ensures ∙ sym (nameAt-number (a .items .now) (a .work .now) (a .node) (a .w)) ∙ z)) (nameAt-number (a .items .now) (a .work .now) (a .node) (a .w) ∙ sym (c .before .before .number-of .ensures) ∙ c .if3 .taken))
-
-is-literal-requires : tie.Need-is-literal-requires
-is-literal-requires c κs = search needs
 
 returns-4 : tie.Need-returns-4
 returns-4 c =
@@ -41,11 +32,11 @@ pub leaf-count-spec : {M : Type 1} → statement M
 leaf-count-spec =
     tie.close
     (tie.spec
-    word-requires
+    (λ c κs. search needs)  -- word-requires
     returns
-    number-of-requires
+    (λ c κs. search needs)  -- number-of-requires
     returns-2
     returns-3
-    is-literal-requires
+    (λ c κs. search needs)  -- is-literal-requires
     returns-4
     returns-5)

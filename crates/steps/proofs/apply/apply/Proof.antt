@@ -5,31 +5,13 @@ use Rattle.steps.proofs.apply.apply.Tie as tie
 use Rattle.steps.specs.ApplyLaws.{apply-none, apply-asks, apply-stepped}
 use borrow.Author.Needs.{needs}
 
-first-fit-requires : tie.Need-first-fit-requires
-first-fit-requires c κs = search needs
-
-same-length : tie.Need-same-length
-same-length c = search needs
-
 returns : tie.Need-returns
 returns c =
     let a = c .before .before .before .before .before .args in apply-none (a .items .now) (a .work .now) (a .top) (a .rules) (a .u) (a .w) (a .limit) (c .before .before .before .before .before .pre) _ (c .before .first-fit .ensures) (c .if1 .taken)
 
-reference-requires : tie.Need-reference-requires
-reference-requires c κs = search needs
-
-reference-requires-2 : tie.Need-reference-requires-2
-reference-requires-2 c κs = search needs
-
-bind-requires : tie.Need-bind-requires
-bind-requires c κs = search needs
-
 transcribe-requires : tie.Need-transcribe-requires
 transcribe-requires c κs =
     let a = c .before .before .before .before .before .before .before .before .before .before .before .before .before .before .args in apply-asks (a .items .now) (a .work .now) (a .top) (a .rules) (a .u) (a .w) (a .limit) (c .before .before .before .before .before .before .before .before .before .before .before .before .before .before .pre) _ (c .before .before .before .before .before .before .before .before .before .before .first-fit .ensures) (c .before .before .before .before .before .before .before .before .before .if1 .left) _ _ (c .before .before .before .before .before .before .before .reference .ensures) (c .before .before .before .before .before .reference2 .ensures) _ (c .before .before .bind .ensures)
-
-same-length-2 : tie.Need-same-length-2
-same-length-2 c = search needs
 
 returns-2 : tie.Need-returns-2
 returns-2 c =
@@ -39,12 +21,12 @@ pub apply-spec : {M : Type 1} → statement M
 apply-spec =
     tie.close
     (tie.spec
-    first-fit-requires
-    same-length
+    (λ c κs. search needs)  -- first-fit-requires
+    (λ c. search needs)  -- same-length
     returns
-    reference-requires
-    reference-requires-2
-    bind-requires
+    (λ c κs. search needs)  -- reference-requires
+    (λ c κs. search needs)  -- reference-requires-2
+    (λ c κs. search needs)  -- bind-requires
     transcribe-requires
-    same-length-2
+    (λ c. search needs)  -- same-length-2
     returns-2)

@@ -12,10 +12,6 @@ build-requires : tie.Need-build-requires
 build-requires c κs =
     let a = c .before .before .args in transcribe-buildable (a .work .now) (a .top) (a .env .now) (a .w) (a .t) (a .limit) (c .before .before .pre)
 
-lengths-agree-requires : tie.Need-lengths-agree-requires
-lengths-agree-requires c κs =
-    search needs
-
 same-length : tie.Need-same-length
 same-length c =
     c .before .before .before .before .before .before .build .kept .0
@@ -31,14 +27,6 @@ same-length-2 c =
 returns-2 : tie.Need-returns-2
 returns-2 c =
     let a = c .before .before .before .before .before .before .before .before .before .args in transcribed-differ (a .work .now) (a .top) (a .env .now) (a .w) (a .t) (a .limit) (c .before .before .before .before .before .before .before .before .before .pre) _ (stops-at (a .work .now) (c .before .before .before .before .before .before .build .last .0) (a .top) (a .limit) (a .env .now) (a .w) (a .t) _ (built-none _ (c .before .before .before .if1 .taken)) (c .before .before .before .before .before .before .build .ensures)) _ (c .before .lengths-agree .ensures) (c .if2 .left)
-
-high-requires : tie.Need-high-requires
-high-requires c κs =
-    search needs
-
-low-requires : tie.Need-low-requires
-low-requires c κs =
-    search needs
 
 sub-t16 : tie.Need-sub-t16
 sub-t16 c =
@@ -57,13 +45,13 @@ transcribe-spec =
     tie.close
     (tie.spec
     build-requires
-    lengths-agree-requires
+    (λ c κs. search needs)  -- lengths-agree-requires
     same-length
     returns
     same-length-2
     returns-2
-    high-requires
-    low-requires
+    (λ c κs. search needs)  -- high-requires
+    (λ c κs. search needs)  -- low-requires
     sub-t16
     same-length-3
     returns-3)

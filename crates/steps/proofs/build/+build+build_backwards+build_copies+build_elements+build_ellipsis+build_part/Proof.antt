@@ -166,10 +166,6 @@ build-ellipsis-claims t = (reference-reads.Asked, reference-reads.Learnt, copies
 abbrev build-part-claims : ℕ → build-part-lts.Claims
 build-part-claims t = (word-reads.Asked, word-reads.Learnt, build-leaf-reads.Asked, build-leaf-reads.Learnt, build-below t, build.Post)
 
-build-word-requires : (t : ℕ) → build-lts.Need-word-requires (build-claims t) (build-at t) build.Post
-build-word-requires t c κs =
-    search needs
-
 build-build-ellipsis-requires : (t : ℕ) → build-lts.Need-build-ellipsis-requires (build-claims t) (build-at t) build.Post
 build-build-ellipsis-requires t c κs =
     (omega (arith, c .before .before .before .before .before .pre .0), (c .before .before .before .before .before .pre .1, sym (c .before .before .word .ensures) ∙ c .before .if1 .taken))
@@ -194,26 +190,10 @@ build-returns-2 : (t : ℕ) → build-lts.Need-returns-2 (build-claims t) (build
 build-returns-2 t c =
     c .before .before .build-leaf .ensures
 
-build-same-length-3 : (t : ℕ) → build-lts.Need-same-length-3 (build-claims t) (build-at t) build.Post
-build-same-length-3 t c =
-    search needs
-
 build-returns-3 : (t : ℕ) → build-lts.Need-returns-3 (build-claims t) (build-at t) build.Post
 unfolding builtOf
 build-returns-3 t c =
     let a = c .before .before .before .before .before .before .args in made-none (a .work .now) (a .top) (a .fuel) (a .env .now) (a .w) (a .t) _ (c .before .before .before .word .ensures) (c .before .before .before .before .before .before .pre .1) (c .if3 .taken)
-
-build-reference-requires : (t : ℕ) → build-lts.Need-reference-requires (build-claims t) (build-at t) build.Post
-build-reference-requires t c κs =
-    search needs
-
-build-reference-requires-2 : (t : ℕ) → build-lts.Need-reference-requires-2 (build-claims t) (build-at t) build.Post
-build-reference-requires-2 t c κs =
-    search needs
-
-build-sub-build-part : (t : ℕ) → build-lts.Need-sub-build-part (build-claims t) (build-at t) build.Post
-build-sub-build-part t c =
-    search needs
 
 build-build-part-requires : (t : ℕ) → build-lts.Need-build-part-requires (build-claims t) (build-at t) build.Post
 build-build-part-requires t c κs =
@@ -228,14 +208,6 @@ unfolding builtOf
 build-returns-4 t c =
     let a = c .before .before .before .before .before .before .before .before .before .before .before .before .before .before .before .args in pair-tail-costly (a .work .now) (a .top) (a .fuel) (a .env .now) (a .w) (a .t) _ (c .before .before .before .before .before .before .before .before .before .before .before .before .word .ensures) (c .before .before .before .before .before .before .before .before .before .before .before .before .before .before .before .pre .1) _ _ (c .before .before .before .before .before .before .before .reference .ensures) (c .before .before .before .before .before .reference2 .ensures) (c .before .before .before .before .before .before .before .before .before .before .if2 .left) _ (c .before .before .before .before .before .before .before .before .before .if3 .left) refl _ (stops-at (a .work .now) (c .before .before .before .build-part .last .0) (a .top) (a .fuel - 1) (a .env .now) (a .w) (c .before .before .before .before .before .reference2 .result) _ (built-none _ (c .if4 .taken)) (c .before .before .before .build-part .ensures))
 
-build-high-requires : (t : ℕ) → build-lts.Need-high-requires (build-claims t) (build-at t) build.Post
-build-high-requires t c κs =
-    search needs
-
-build-low-requires : (t : ℕ) → build-lts.Need-low-requires (build-claims t) (build-at t) build.Post
-build-low-requires t c κs =
-    search needs
-
 build-build-part-requires-2 : (t : ℕ) → build-lts.Need-build-part-requires-2 (build-claims t) (build-at t) build.Post
 build-build-part-requires-2 t c κs =
     let a = c .before .before .before .before .before .before .before .before .before .before .before .before .before .before .before .before .before .before .args in let l = tag-falls (a .work .now) (a .t) _ (c .before .before .before .before .before .before .before .before .before .before .before .before .before .before .before .word .ensures) 3 _ (λ z. omega (arith, c .before .before .before .before .before .before .before .before .before .before .before .before .before .if2 .left)) (c .before .before .before .before .before .before .before .before .before .before .reference .ensures) in (omega (arith, l, c .before .before .before .before .before .before .before .before .before .before .before .before .before .before .before .before .before .before .pre .0), pair-head (a .work .now) (a .top) (a .fuel) (a .env .now) (a .w) (a .t) _ (c .before .before .before .before .before .before .before .before .before .before .before .before .before .before .before .word .ensures) (c .before .before .before .before .before .before .before .before .before .before .before .before .before .before .before .before .before .before .pre .1) _ _ (c .before .before .before .before .before .before .before .before .before .before .reference .ensures) (c .before .before .before .before .before .before .before .before .reference2 .ensures) (c .before .before .before .before .before .before .before .before .before .before .before .before .before .if2 .left) _ (c .before .before .before .before .before .before .before .before .before .before .before .before .if3 .left) refl _ _ _ (gives-at (a .work .now) (c .before .before .before .before .before .before .build-part .last .0) (a .top) (a .fuel - 1) (a .env .now) (a .w) (c .before .before .before .before .before .before .before .before .reference2 .result) _ _ _ (built-some _ _ _ (c .before .before .before .if4 .left) (c .before .before .high .ensures) (c .low .ensures)) (c .before .before .before .before .before .before .build-part .ensures)) (c .before .before .before .before .before .before .build-part .kept .0))
@@ -249,21 +221,9 @@ unfolding builtOf
 build-returns-5 t c =
     let a = c .before .before .before .before .before .before .before .before .before .before .before .before .before .before .before .before .before .before .before .before .before .before .args in pair-head-costly (a .work .now) (a .top) (a .fuel) (a .env .now) (a .w) (a .t) _ (c .before .before .before .before .before .before .before .before .before .before .before .before .before .before .before .before .before .before .before .word .ensures) (c .before .before .before .before .before .before .before .before .before .before .before .before .before .before .before .before .before .before .before .before .before .before .pre .1) _ _ (c .before .before .before .before .before .before .before .before .before .before .before .before .before .before .reference .ensures) (c .before .before .before .before .before .before .before .before .before .before .before .before .reference2 .ensures) (c .before .before .before .before .before .before .before .before .before .before .before .before .before .before .before .before .before .if2 .left) _ (c .before .before .before .before .before .before .before .before .before .before .before .before .before .before .before .before .if3 .left) refl _ _ _ (gives-at (a .work .now) (c .before .before .before .before .before .before .before .before .before .before .build-part .last .0) (a .top) (a .fuel - 1) (a .env .now) (a .w) (c .before .before .before .before .before .before .before .before .before .before .before .before .reference2 .result) _ _ _ (built-some _ _ _ (c .before .before .before .before .before .before .before .if4 .left) (c .before .before .before .before .before .before .high .ensures) (c .before .before .before .before .low .ensures)) (c .before .before .before .before .before .before .before .before .before .before .build-part .ensures)) (c .before .before .before .before .before .before .before .before .before .before .build-part .kept .0) _ (stops-at (c .before .before .before .before .before .before .before .before .before .before .build-part .last .0) (c .before .before .before .build-part2 .last .0) _ _ (a .env .now) (a .w) (c .before .before .before .before .before .before .before .before .before .before .before .before .before .before .reference .result) _ (built-none _ (c .if5 .taken)) (c .before .before .before .build-part2 .ensures))
 
-build-high-requires-2 : (t : ℕ) → build-lts.Need-high-requires-2 (build-claims t) (build-at t) build.Post
-build-high-requires-2 t c κs =
-    search needs
-
 build-put-pair-requires : (t : ℕ) → build-lts.Need-put-pair-requires (build-claims t) (build-at t) build.Post
 build-put-pair-requires t c κs =
     let a = c .before .before .before .before .before .before .before .before .before .before .before .before .before .before .before .before .before .before .before .before .before .before .before .before .args in let h = gives-at (c .before .before .before .before .before .before .before .before .before .before .before .before .build-part .last .0) (c .before .before .before .before .before .build-part2 .last .0) _ _ (a .env .now) (a .w) (c .before .before .before .before .before .before .before .before .before .before .before .before .before .before .before .before .reference .result) _ _ _ (built-some _ _ _ (c .before .before .if5 .left) (c .before .high2 .ensures) refl) (c .before .before .before .before .before .build-part2 .ensures) in (pair-room (a .work .now) (a .top) (a .fuel) (a .env .now) (a .w) (a .t) _ (c .before .before .before .before .before .before .before .before .before .before .before .before .before .before .before .before .before .before .before .before .before .word .ensures) (c .before .before .before .before .before .before .before .before .before .before .before .before .before .before .before .before .before .before .before .before .before .before .before .before .pre .1) _ _ (c .before .before .before .before .before .before .before .before .before .before .before .before .before .before .before .before .reference .ensures) (c .before .before .before .before .before .before .before .before .before .before .before .before .before .before .reference2 .ensures) (c .before .before .before .before .before .before .before .before .before .before .before .before .before .before .before .before .before .before .before .if2 .left) _ (c .before .before .before .before .before .before .before .before .before .before .before .before .before .before .before .before .before .before .if3 .left) refl _ _ _ (gives-at (a .work .now) (c .before .before .before .before .before .before .before .before .before .before .before .before .build-part .last .0) (a .top) (a .fuel - 1) (a .env .now) (a .w) (c .before .before .before .before .before .before .before .before .before .before .before .before .before .before .reference2 .result) _ _ _ (built-some _ _ _ (c .before .before .before .before .before .before .before .before .before .if4 .left) (c .before .before .before .before .before .before .before .before .high .ensures) (c .before .before .before .before .before .before .low .ensures)) (c .before .before .before .before .before .before .before .before .before .before .before .before .build-part .ensures)) (c .before .before .before .before .before .before .before .before .before .before .before .before .build-part .kept .0) _ _ _ h (c .before .before .before .before .before .build-part2 .kept .0), omega arith, h .paid .above)
-
-build-low-requires-2 : (t : ℕ) → build-lts.Need-low-requires-2 (build-claims t) (build-at t) build.Post
-build-low-requires-2 t c κs =
-    search needs
-
-build-pair-requires : (t : ℕ) → build-lts.Need-pair-requires (build-claims t) (build-at t) build.Post
-build-pair-requires t c κs =
-    search needs
 
 build-same-length-6 : (t : ℕ) → build-lts.Need-same-length-6 (build-claims t) (build-at t) build.Post
 build-same-length-6 t c =
@@ -280,10 +240,6 @@ build-backwards-Inv-loop work₀ top fuel env w e c moving table₀ list₀ left
 abbrev build-backwards-μ-loop : build-backwards-lts.MeasureT-loop
 build-backwards-μ-loop work₀ top fuel env w e c moving table₀ list₀ left₀ k₀ work table list left k =
     c - k
-
-build-backwards-begin-requires : (t : ℕ) → build-backwards-lts.Need-begin-requires (build-backwards-claims t) (build-backwards-at t) build-backwards.Post build-backwards-Inv-loop build-backwards-μ-loop
-build-backwards-begin-requires t c κs =
-    search needs
 
 build-backwards-loop-holds : (t : ℕ) → build-backwards-lts.Need-loop-holds (build-backwards-claims t) (build-backwards-at t) build-backwards.Post build-backwards-Inv-loop build-backwards-μ-loop
 build-backwards-loop-holds t c =
@@ -305,10 +261,6 @@ build-backwards-enter-requires t c κs =
     let loop = c .before .before .before .before .loop in
     moving-along (loop .work) (a .env .now) _ (loop .k) _ (loop .inv .along) (begin .ensures .2)
 
-build-backwards-sub-build-part : (t : ℕ) → build-backwards-lts.Need-sub-build-part (build-backwards-claims t) (build-backwards-at t) build-backwards.Post build-backwards-Inv-loop build-backwards-μ-loop
-build-backwards-sub-build-part t c =
-    search needs
-
 build-backwards-build-part-requires : (t : ℕ) → build-backwards-lts.Need-build-part-requires (build-backwards-claims t) (build-backwards-at t) build-backwards.Post build-backwards-Inv-loop build-backwards-μ-loop
 build-backwards-build-part-requires t c κs =
     let a = c .before .before .before .before .before .before .before .before .before .before .before .args in (omega (arith, c .before .before .before .before .before .before .before .before .before .before .before .pre .0), copy-buildable (a .work .now) (a .top) (a .fuel) (a .env .now) (a .w) (a .e) (a .c) (c .before .before .before .before .before .before .before .before .before .before .before .pre .1) _ _ _ _ _ (c .before .before .before .before .before .before .before .loop .inv) (c .before .before .before .before .before .before .loop-test .taken) (c .before .before .before .before .before .if1 .left) _ (c .before .before .enter .ensures))
@@ -322,21 +274,9 @@ unfolding builtOf
 build-backwards-returns-2 t c =
     let a = c .before .before .before .before .before .before .before .before .before .before .before .before .before .before .before .args in copy-costly (a .work .now) (a .top) (a .fuel) (a .env .now) (a .w) (a .e) (a .c) (c .before .before .before .before .before .before .before .before .before .before .before .before .before .before .before .pre .1) _ _ _ _ _ (c .before .before .before .before .before .before .before .before .before .before .before .loop .inv) (c .before .before .before .before .before .before .before .before .before .before .loop-test .taken) (c .before .before .before .before .before .before .before .before .before .if1 .left) _ (c .before .before .before .before .before .before .enter .ensures) _ (stops-at (c .before .before .before .before .before .before .before .before .before .before .before .loop .work) (c .before .before .before .build-part .last .0) (c .before .before .before .before .before .before .before .before .before .before .before .loop .list) (c .before .before .before .before .before .before .before .before .before .before .before .loop .left - 1) (c .before .before .before .before .before .before .enter .last .1 .0) (a .w) (a .e) _ (built-none _ (c .if2 .taken)) (c .before .before .before .build-part .ensures))
 
-build-backwards-high-requires : (t : ℕ) → build-backwards-lts.Need-high-requires (build-backwards-claims t) (build-backwards-at t) build-backwards.Post build-backwards-Inv-loop build-backwards-μ-loop
-build-backwards-high-requires t c κs =
-    search needs
-
 build-backwards-put-pair-requires : (t : ℕ) → build-backwards-lts.Need-put-pair-requires (build-backwards-claims t) (build-backwards-at t) build-backwards.Post build-backwards-Inv-loop build-backwards-μ-loop
 build-backwards-put-pair-requires t c κs =
     let a = c .before .before .before .before .before .before .before .before .before .before .before .before .before .before .before .before .before .args in let b = gives-at (c .before .before .before .before .before .before .before .before .before .before .before .before .before .loop .work) (c .before .before .before .before .before .build-part .last .0) (c .before .before .before .before .before .before .before .before .before .before .before .before .before .loop .list) (c .before .before .before .before .before .before .before .before .before .before .before .before .before .loop .left - 1) (c .before .before .before .before .before .before .before .before .enter .last .1 .0) (a .w) (a .e) _ _ _ (built-some _ _ _ (c .before .before .if2 .left) (c .before .high .ensures) refl) (c .before .before .before .before .before .build-part .ensures) in (copy-room (a .work .now) (a .top) (a .fuel) (a .env .now) (a .w) (a .e) (a .c) (c .before .before .before .before .before .before .before .before .before .before .before .before .before .before .before .before .before .pre .1) _ _ _ _ _ (c .before .before .before .before .before .before .before .before .before .before .before .before .before .loop .inv) (c .before .before .before .before .before .before .before .before .before .before .before .before .loop-test .taken) (c .before .before .before .before .before .before .before .before .before .before .before .if1 .left) _ (c .before .before .before .before .before .before .before .before .enter .ensures) _ _ _ b (c .before .before .before .before .before .build-part .kept .0), omega arith, b .paid .above)
-
-build-backwards-low-requires : (t : ℕ) → build-backwards-lts.Need-low-requires (build-backwards-claims t) (build-backwards-at t) build-backwards.Post build-backwards-Inv-loop build-backwards-μ-loop
-build-backwards-low-requires t c κs =
-    search needs
-
-build-backwards-add-k : (t : ℕ) → build-backwards-lts.Need-add-k (build-backwards-claims t) (build-backwards-at t) build-backwards.Post build-backwards-Inv-loop build-backwards-μ-loop
-build-backwards-add-k t c =
-    search needs
 
 build-backwards-loop-less : (t : ℕ) → build-backwards-lts.Need-loop-less (build-backwards-claims t) (build-backwards-at t) build-backwards.Post build-backwards-Inv-loop build-backwards-μ-loop
 build-backwards-loop-less t c =
@@ -345,10 +285,6 @@ build-backwards-loop-less t c =
 build-backwards-loop-again : (t : ℕ) → build-backwards-lts.Need-loop-again (build-backwards-claims t) (build-backwards-at t) build-backwards.Post build-backwards-Inv-loop build-backwards-μ-loop
 build-backwards-loop-again t c =
     let a = c .before .before .before .before .before .before .before .before .before .before .before .before .before .before .before .before .before .before .before .before .before .args in turning-more (a .work .now) (a .top) (a .fuel) (a .env .now) (a .w) (a .e) (a .c) (c .before .before .before .before .before .before .before .before .before .before .before .before .before .before .before .before .before .before .before .before .before .pre .1) _ _ _ _ _ (c .before .before .before .before .before .before .before .before .before .before .before .before .before .before .before .before .before .loop .inv) (c .before .before .before .before .before .before .before .before .before .before .before .before .before .before .before .before .loop-test .taken) (c .before .before .before .before .before .before .before .before .before .before .before .before .before .before .before .if1 .left) _ (c .before .before .before .before .before .before .before .before .before .before .before .before .enter .ensures) _ _ _ (gives-at (c .before .before .before .before .before .before .before .before .before .before .before .before .before .before .before .before .before .loop .work) (c .before .before .before .before .before .before .before .before .before .build-part .last .0) (c .before .before .before .before .before .before .before .before .before .before .before .before .before .before .before .before .before .loop .list) (c .before .before .before .before .before .before .before .before .before .before .before .before .before .before .before .before .before .loop .left - 1) (c .before .before .before .before .before .before .before .before .before .before .before .before .enter .last .1 .0) (a .w) (a .e) _ _ _ (built-some _ _ _ (c .before .before .before .before .before .before .if2 .left) (c .before .before .before .before .before .high .ensures) (c .low .ensures)) (c .before .before .before .before .before .before .before .before .before .build-part .ensures)) (c .before .before .before .before .before .before .before .before .before .build-part .kept .0) _ _ (c .before .before .before .put-pair .ensures) (c .before .before .before .put-pair .kept .0)
-
-build-backwards-pair-requires : (t : ℕ) → build-backwards-lts.Need-pair-requires (build-backwards-claims t) (build-backwards-at t) build-backwards.Post build-backwards-Inv-loop build-backwards-μ-loop
-build-backwards-pair-requires t c κs =
-    search needs
 
 build-backwards-same-length-3 : (t : ℕ) → build-backwards-lts.Need-same-length-3 (build-backwards-claims t) (build-backwards-at t) build-backwards.Post build-backwards-Inv-loop build-backwards-μ-loop
 build-backwards-same-length-3 t c =
@@ -371,21 +307,9 @@ unfolding builtOf
 build-copies-returns t c =
     let a = c .before .before .before .before .before .before .args in subst (Backwards (a .work .now) (c .before .before .before .build-elements .last .0) (a .top) (a .fuel) (a .env .now) (a .w) (a .e) (a .c)) (built-none _ (c .if1 .taken)) (c .before .before .before .build-elements .ensures)
 
-build-copies-high-requires : (t : ℕ) → build-copies-lts.Need-high-requires (build-copies-claims t) (build-copies-at t) build-copies.Post
-build-copies-high-requires t c κs =
-    search needs
-
 build-copies-put-reversed-requires : (t : ℕ) → build-copies-lts.Need-put-reversed-requires (build-copies-claims t) (build-copies-at t) build-copies.Post
 build-copies-put-reversed-requires t c κs =
     let a = c .before .before .before .before .before .before .before .before .args in reversed-asks (a .work .now) (a .top) (a .fuel) (a .env .now) (a .w) (a .e) (a .c) (c .before .before .before .before .before .before .before .before .pre .1) _ _ _ (subst (Backwards (a .work .now) (c .before .before .before .before .before .build-elements .last .0) (a .top) (a .fuel) (a .env .now) (a .w) (a .e) (a .c)) (built-some _ _ _ (c .before .before .if1 .left) (c .before .high .ensures) refl) (c .before .before .before .before .before .build-elements .ensures)) (c .before .before .before .before .before .build-elements .kept .0)
-
-build-copies-low-requires : (t : ℕ) → build-copies-lts.Need-low-requires (build-copies-claims t) (build-copies-at t) build-copies.Post
-build-copies-low-requires t c κs =
-    search needs
-
-build-copies-pair-requires : (t : ℕ) → build-copies-lts.Need-pair-requires (build-copies-claims t) (build-copies-at t) build-copies.Post
-build-copies-pair-requires t c κs =
-    search needs
 
 build-copies-same-length-2 : (t : ℕ) → build-copies-lts.Need-same-length-2 (build-copies-claims t) (build-copies-at t) build-copies.Post
 build-copies-same-length-2 t c =
@@ -394,10 +318,6 @@ build-copies-same-length-2 t c =
 build-copies-returns-2 : (t : ℕ) → build-copies-lts.Need-returns-2 (build-copies-claims t) (build-copies-at t) build-copies.Post
 build-copies-returns-2 t c =
     let a = c .before .before .before .before .before .before .before .before .before .before .before .before .before .args in copied-packed (a .work .now) (a .top) (a .fuel) (a .env .now) (a .w) (a .e) (a .c) (c .before .before .before .before .before .before .before .before .before .before .before .before .before .pre .1) _ _ _ (subst (Backwards (a .work .now) (c .before .before .before .before .before .before .before .before .before .before .build-elements .last .0) (a .top) (a .fuel) (a .env .now) (a .w) (a .e) (a .c)) (built-some _ _ _ (c .before .before .before .before .before .before .before .if1 .left) (c .before .before .before .before .before .before .high .ensures) (c .before .low .ensures)) (c .before .before .before .before .before .before .before .before .before .before .build-elements .ensures)) (c .before .before .before .before .before .before .before .before .before .before .build-elements .kept .0) _ _ _ (c .pair .ensures) (c .before .before .before .before .put-reversed .ensures)
-
-build-elements-is-listed-requires : (t : ℕ) → build-elements-lts.Need-is-listed-requires (build-elements-claims t) (build-elements-at t) build-elements.Post
-build-elements-is-listed-requires t c κs =
-    search needs
 
 build-elements-build-backwards-requires :
     (t : ℕ) → build-elements-lts.Need-build-backwards-requires (build-elements-claims t) (build-elements-at t) build-elements.Post
@@ -412,14 +332,6 @@ build-elements-returns : (t : ℕ) → build-elements-lts.Need-returns (build-el
 build-elements-returns t c =
     c .before .before .build-backwards .ensures
 
-build-elements-word-requires : (t : ℕ) → build-elements-lts.Need-word-requires (build-elements-claims t) (build-elements-at t) build-elements.Post
-build-elements-word-requires t c κs =
-    search needs
-
-build-elements-taken-requires : (t : ℕ) → build-elements-lts.Need-taken-requires (build-elements-claims t) (build-elements-at t) build-elements.Post
-build-elements-taken-requires t c κs =
-    search needs
-
 build-elements-copy-elements-requires : (t : ℕ) → build-elements-lts.Need-copy-elements-requires (build-elements-claims t) (build-elements-at t) build-elements.Post
 build-elements-copy-elements-requires t c κs =
     let a = c .before .before .before .before .before .before .before .before .args in listed-waits (a .work .now) (a .top) (a .fuel) (a .env .now) (a .w) (a .e) (a .c) (c .before .before .before .before .before .before .before .before .pre .1) (c .before .before .before .before .before .is-listed .ensures (not-false _ (c .before .before .before .before .if1 .left))) _ _ (c .before .before .word .ensures) (c .before .taken .ensures)
@@ -431,26 +343,6 @@ build-elements-same-length-2 t c =
 build-elements-returns-2 : (t : ℕ) → build-elements-lts.Need-returns-2 (build-elements-claims t) (build-elements-at t) build-elements.Post
 build-elements-returns-2 t c =
     let a = c .before .before .before .before .before .before .before .before .before .before .before .args in listed-backwards (a .work .now) (a .top) (a .fuel) (a .env .now) (a .w) (a .e) (a .c) (c .before .before .before .before .before .before .before .before .before .before .before .pre .1) (c .before .before .before .before .before .before .before .before .is-listed .ensures (not-false _ (c .before .before .before .before .before .before .before .if1 .left))) _ _ (c .before .before .before .before .before .word .ensures) (c .before .before .before .before .taken .ensures) (c .before .before .copy-elements .last .0) (builtOf (c .before .before .copy-elements .result)) (c .before .before .copy-elements .ensures)
-
-build-ellipsis-reference-requires : (t : ℕ) → build-ellipsis-lts.Need-reference-requires (build-ellipsis-claims t) (build-ellipsis-at t) build-ellipsis.Post
-build-ellipsis-reference-requires t c κs =
-    search needs
-
-build-ellipsis-reference-requires-2 : (t : ℕ) → build-ellipsis-lts.Need-reference-requires-2 (build-ellipsis-claims t) (build-ellipsis-at t) build-ellipsis.Post
-build-ellipsis-reference-requires-2 t c κs =
-    search needs
-
-build-ellipsis-copies-requires : (t : ℕ) → build-ellipsis-lts.Need-copies-requires (build-ellipsis-claims t) (build-ellipsis-at t) build-ellipsis.Post
-build-ellipsis-copies-requires t c κs =
-    search needs
-
-build-ellipsis-one-length-requires : (t : ℕ) → build-ellipsis-lts.Need-one-length-requires (build-ellipsis-claims t) (build-ellipsis-at t) build-ellipsis.Post
-build-ellipsis-one-length-requires t c κs =
-    search needs
-
-build-ellipsis-same-length : (t : ℕ) → build-ellipsis-lts.Need-same-length (build-ellipsis-claims t) (build-ellipsis-at t) build-ellipsis.Post
-build-ellipsis-same-length t c =
-    search needs
 
 build-ellipsis-returns : (t : ℕ) → build-ellipsis-lts.Need-returns (build-ellipsis-claims t) (build-ellipsis-at t) build-ellipsis.Post
 unfolding builtOf
@@ -470,14 +362,6 @@ unfolding builtOf
 build-ellipsis-returns-2 t c =
     let a = c .before .before .before .before .before .before .before .before .before .before .before .before .before .before .before .args in ellipsis-rest-costly (a .work .now) (a .top) (a .fuel) (a .env .now) (a .w) (a .t) _ refl (c .before .before .before .before .before .before .before .before .before .before .before .before .before .before .before .pre .1 .0) _ _ (c .before .before .before .before .before .before .before .before .before .before .before .before .reference .ensures) (c .before .before .before .before .before .before .before .before .before .before .reference2 .ensures) (c .before .before .before .before .before .before .before .before .before .before .before .before .before .before .before .pre .1 .1) _ (c .before .before .before .before .before .before .before .before .copies .ensures) _ (c .before .before .before .before .before .before .one-length .ensures) _ (stops-at (a .work .now) (c .before .before .before .build-part .last .0) (a .top) (a .fuel) (a .env .now) (a .w) (c .before .before .before .before .before .before .before .before .before .before .reference2 .result) _ (built-none _ (c .if2 .taken)) (c .before .before .before .build-part .ensures))
 
-build-ellipsis-high-requires : (t : ℕ) → build-ellipsis-lts.Need-high-requires (build-ellipsis-claims t) (build-ellipsis-at t) build-ellipsis.Post
-build-ellipsis-high-requires t c κs =
-    search needs
-
-build-ellipsis-low-requires : (t : ℕ) → build-ellipsis-lts.Need-low-requires (build-ellipsis-claims t) (build-ellipsis-at t) build-ellipsis.Post
-build-ellipsis-low-requires t c κs =
-    search needs
-
 build-ellipsis-build-copies-requires : (t : ℕ) → build-ellipsis-lts.Need-build-copies-requires (build-ellipsis-claims t) (build-ellipsis-at t) build-ellipsis.Post
 build-ellipsis-build-copies-requires t c κs =
     let a = c .before .before .before .before .before .before .before .before .before .before .before .before .before .before .before .before .before .before .args in let l = tag-falls (a .work .now) (a .t) _ refl 3 _ (λ z. omega (arith, c .before .before .before .before .before .before .before .before .before .before .before .before .before .before .before .before .before .before .pre .1 .1)) (c .before .before .before .before .before .before .before .before .before .before .before .before .before .before .before .reference .ensures) in (omega (arith, l, c .before .before .before .before .before .before .before .before .before .before .before .before .before .before .before .before .before .before .pre .0), ellipsis-copies (a .work .now) (a .top) (a .fuel) (a .env .now) (a .w) (a .t) _ refl (c .before .before .before .before .before .before .before .before .before .before .before .before .before .before .before .before .before .before .pre .1 .0) _ _ (c .before .before .before .before .before .before .before .before .before .before .before .before .before .before .before .reference .ensures) (c .before .before .before .before .before .before .before .before .before .before .before .before .before .reference2 .ensures) (c .before .before .before .before .before .before .before .before .before .before .before .before .before .before .before .before .before .before .pre .1 .1) _ (c .before .before .before .before .before .before .before .before .before .before .before .copies .ensures) _ (c .before .before .before .before .before .before .before .before .before .one-length .ensures) (not-false _ (c .before .before .before .before .before .before .before .before .if1 .left)) _ _ _ (gives-at (a .work .now) (c .before .before .before .before .before .before .build-part .last .0) (a .top) (a .fuel) (a .env .now) (a .w) (c .before .before .before .before .before .before .before .before .before .before .before .before .before .reference2 .result) _ _ _ (built-some _ _ _ (c .before .before .before .if2 .left) (c .before .high .ensures) (c .low .ensures)) (c .before .before .before .before .before .before .build-part .ensures)) (c .before .before .before .before .before .before .build-part .kept .0))
@@ -489,10 +373,6 @@ build-ellipsis-same-length-3 t c =
 build-ellipsis-returns-3 : (t : ℕ) → build-ellipsis-lts.Need-returns-3 (build-ellipsis-claims t) (build-ellipsis-at t) build-ellipsis.Post
 build-ellipsis-returns-3 t c =
     let a = c .before .before .before .before .before .before .before .before .before .before .before .before .before .before .before .before .before .before .before .before .before .args in made-copies (a .work .now) (a .top) (a .fuel) (a .env .now) (a .w) (a .t) _ refl (c .before .before .before .before .before .before .before .before .before .before .before .before .before .before .before .before .before .before .before .before .before .pre .1 .0) _ _ (c .before .before .before .before .before .before .before .before .before .before .before .before .before .before .before .before .before .before .reference .ensures) (c .before .before .before .before .before .before .before .before .before .before .before .before .before .before .before .before .reference2 .ensures) (c .before .before .before .before .before .before .before .before .before .before .before .before .before .before .before .before .before .before .before .before .before .pre .1 .1) _ (c .before .before .before .before .before .before .before .before .before .before .before .before .before .before .copies .ensures) _ (c .before .before .before .before .before .before .before .before .before .before .before .before .one-length .ensures) (not-false _ (c .before .before .before .before .before .before .before .before .before .before .before .if1 .left)) _ _ _ (gives-at (a .work .now) (c .before .before .before .before .before .before .before .before .before .build-part .last .0) (a .top) (a .fuel) (a .env .now) (a .w) (c .before .before .before .before .before .before .before .before .before .before .before .before .before .before .before .before .reference2 .result) _ _ _ (built-some _ _ _ (c .before .before .before .before .before .before .if2 .left) (c .before .before .before .before .high .ensures) (c .before .before .before .low .ensures)) (c .before .before .before .before .before .before .before .before .before .build-part .ensures)) (c .before .before .before .before .before .before .before .before .before .build-part .kept .0) (c .before .before .build-copies .last .0) (builtOf (c .before .before .build-copies .result)) (c .before .before .build-copies .ensures)
-
-build-part-word-requires : (t : ℕ) → build-part-lts.Need-word-requires (build-part-claims t) (build-part-at t) build-part.Post
-build-part-word-requires t c κs =
-    search needs
 
 build-part-build-leaf-requires : (t : ℕ) → build-part-lts.Need-build-leaf-requires (build-part-claims t) (build-part-at t) build-part.Post
 build-part-build-leaf-requires t c κs =
@@ -543,30 +423,30 @@ pub +build+build-backwards+build-copies+build-elements+build-ellipsis+build-part
     (λ t. build-lts.spec (build-claims t)
     (build-at t)
     build.Post
-    (build-word-requires t)
+    (λ c κs. search needs)  -- build-word-requires
     (build-build-ellipsis-requires t)
     (build-same-length t)
     (build-returns t)
     (build-build-leaf-requires t)
     (build-same-length-2 t)
     (build-returns-2 t)
-    (build-same-length-3 t)
+    (λ c. search needs)  -- build-same-length-3
     (build-returns-3 t)
-    (build-reference-requires t)
-    (build-reference-requires-2 t)
-    (build-sub-build-part t)
+    (λ c κs. search needs)  -- build-reference-requires
+    (λ c κs. search needs)  -- build-reference-requires-2
+    (λ c. search needs)  -- build-sub-build-part
     (build-build-part-requires t)
     (build-same-length-4 t)
     (build-returns-4 t)
-    (build-high-requires t)
-    (build-low-requires t)
+    (λ c κs. search needs)  -- build-high-requires
+    (λ c κs. search needs)  -- build-low-requires
     (build-build-part-requires-2 t)
     (build-same-length-5 t)
     (build-returns-5 t)
-    (build-high-requires-2 t)
+    (λ c κs. search needs)  -- build-high-requires-2
     (build-put-pair-requires t)
-    (build-low-requires-2 t)
-    (build-pair-requires t)
+    (λ c κs. search needs)  -- build-low-requires-2
+    (λ c κs. search needs)  -- build-pair-requires
     (build-same-length-6 t)
     (build-returns-6 t))
     (λ t. build-backwards-lts.spec (build-backwards-claims t)
@@ -574,22 +454,22 @@ pub +build+build-backwards+build-copies+build-elements+build-ellipsis+build-part
     build-backwards.Post
     build-backwards-Inv-loop
     build-backwards-μ-loop
-    (build-backwards-begin-requires t)
+    (λ c κs. search needs)  -- build-backwards-begin-requires
     (build-backwards-loop-holds t)
     (build-backwards-same-length t)
     (build-backwards-returns t)
     (build-backwards-enter-requires t)
-    (build-backwards-sub-build-part t)
+    (λ c. search needs)  -- build-backwards-sub-build-part
     (build-backwards-build-part-requires t)
     (build-backwards-same-length-2 t)
     (build-backwards-returns-2 t)
-    (build-backwards-high-requires t)
+    (λ c κs. search needs)  -- build-backwards-high-requires
     (build-backwards-put-pair-requires t)
-    (build-backwards-low-requires t)
-    (build-backwards-add-k t)
+    (λ c κs. search needs)  -- build-backwards-low-requires
+    (λ c. search needs)  -- build-backwards-add-k
     (build-backwards-loop-less t)
     (build-backwards-loop-again t)
-    (build-backwards-pair-requires t)
+    (λ c κs. search needs)  -- build-backwards-pair-requires
     (build-backwards-same-length-3 t)
     (build-backwards-returns-3 t))
     (λ t. build-copies-lts.spec (build-copies-claims t)
@@ -598,45 +478,45 @@ pub +build+build-backwards+build-copies+build-elements+build-ellipsis+build-part
     (build-copies-build-elements-requires t)
     (build-copies-same-length t)
     (build-copies-returns t)
-    (build-copies-high-requires t)
+    (λ c κs. search needs)  -- build-copies-high-requires
     (build-copies-put-reversed-requires t)
-    (build-copies-low-requires t)
-    (build-copies-pair-requires t)
+    (λ c κs. search needs)  -- build-copies-low-requires
+    (λ c κs. search needs)  -- build-copies-pair-requires
     (build-copies-same-length-2 t)
     (build-copies-returns-2 t))
     (λ t. build-elements-lts.spec (build-elements-claims t)
     (build-elements-at t)
     build-elements.Post
-    (build-elements-is-listed-requires t)
+    (λ c κs. search needs)  -- build-elements-is-listed-requires
     (build-elements-build-backwards-requires t)
     (build-elements-same-length t)
     (build-elements-returns t)
-    (build-elements-word-requires t)
-    (build-elements-taken-requires t)
+    (λ c κs. search needs)  -- build-elements-word-requires
+    (λ c κs. search needs)  -- build-elements-taken-requires
     (build-elements-copy-elements-requires t)
     (build-elements-same-length-2 t)
     (build-elements-returns-2 t))
     (λ t. build-ellipsis-lts.spec (build-ellipsis-claims t)
     (build-ellipsis-at t)
     build-ellipsis.Post
-    (build-ellipsis-reference-requires t)
-    (build-ellipsis-reference-requires-2 t)
-    (build-ellipsis-copies-requires t)
-    (build-ellipsis-one-length-requires t)
-    (build-ellipsis-same-length t)
+    (λ c κs. search needs)  -- build-ellipsis-reference-requires
+    (λ c κs. search needs)  -- build-ellipsis-reference-requires-2
+    (λ c κs. search needs)  -- build-ellipsis-copies-requires
+    (λ c κs. search needs)  -- build-ellipsis-one-length-requires
+    (λ c. search needs)  -- build-ellipsis-same-length
     (build-ellipsis-returns t)
     (build-ellipsis-build-part-requires t)
     (build-ellipsis-same-length-2 t)
     (build-ellipsis-returns-2 t)
-    (build-ellipsis-high-requires t)
-    (build-ellipsis-low-requires t)
+    (λ c κs. search needs)  -- build-ellipsis-high-requires
+    (λ c κs. search needs)  -- build-ellipsis-low-requires
     (build-ellipsis-build-copies-requires t)
     (build-ellipsis-same-length-3 t)
     (build-ellipsis-returns-3 t))
     λ t. build-part-lts.spec (build-part-claims t)
     (build-part-at t)
     build-part.Post
-    (build-part-word-requires t)
+    (λ c κs. search needs)  -- build-part-word-requires
     (build-part-build-leaf-requires t)
     (build-part-same-length t)
     (build-part-returns t)

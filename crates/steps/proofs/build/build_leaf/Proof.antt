@@ -10,22 +10,6 @@ use native.Mathlib.Omega.{arith}
 use borrow.Author.Needs.{needs}
 use mathlib.Core.Path.{refl, sym, _∙_}
 
-word-requires : tie.Need-word-requires
-word-requires c κs =
-    search needs
-
-word-requires-2 : tie.Need-word-requires-2
-word-requires-2 c κs =
-    search needs
-
-word-requires-3 : tie.Need-word-requires-3
-word-requires-3 c κs =
-    search needs
-
-taken-requires : tie.Need-taken-requires
-taken-requires c κs =
-    search needs
-
 copy-tree-requires : tie.Need-copy-tree-requires
 copy-tree-requires c κs =
     let a = c .before .before .before .before .before .before .before .before .before .before .args in variable-waits (a .work .now) (a .top) (a .fuel) (a .env .now) (a .w) (a .t) _ (c .before .before .before .before .before .before .before .word .ensures) (c .before .before .before .before .before .before .before .before .before .before .pre .0) _ _ _ (c .before .before .before .before .before .before .if1 .taken) (c .before .before .before .before .word2 .ensures) (c .before .before .word3 .ensures) (c .before .taken .ensures)
@@ -38,34 +22,14 @@ returns : tie.Need-returns
 returns c =
     let a = c .before .before .before .before .before .before .before .before .before .before .before .before .before .args in made-variable (a .work .now) (a .top) (a .fuel) (a .env .now) (a .w) (a .t) _ (c .before .before .before .before .before .before .before .before .before .before .word .ensures) (c .before .before .before .before .before .before .before .before .before .before .before .before .before .pre .0) _ _ _ (c .before .before .before .before .before .before .before .before .before .if1 .taken) (c .before .before .before .before .before .before .before .word2 .ensures) (c .before .before .before .before .before .word3 .ensures) (c .before .before .before .before .taken .ensures) (c .before .before .copy-tree .last .0) (builtOf (c .before .before .copy-tree .result)) (c .before .before .copy-tree .ensures)
 
-same-length-2 : tie.Need-same-length-2
-same-length-2 c =
-    search needs
-
 returns-2 : tie.Need-returns-2
 unfolding builtOf
 returns-2 c =
     let a = c .before .before .before .before .before .args in made-none (a .work .now) (a .top) (a .fuel) (a .env .now) (a .w) (a .t) _ (c .before .before .word .ensures) (c .before .before .before .before .before .pre .0) (c .if2 .taken)
 
-sub-left : tie.Need-sub-left
-sub-left c =
-    search needs
-
-reference-requires : tie.Need-reference-requires
-reference-requires c κs =
-    search needs
-
-reference-requires-2 : tie.Need-reference-requires-2
-reference-requires-2 c κs =
-    search needs
-
 copy-name-requires : tie.Need-copy-name-requires
 copy-name-requires c κs =
     let a = c .before .before .before .before .before .before .before .before .before .before .before .args in (room-node (a .work .now) (a .top) (a .fuel) (c .before .before .before .before .before .before .if2 .left) (c .before .before .before .before .before .before .before .before .before .before .before .pre .0 .room), omega (arith, c .before .before .before .reference .ensures, referenceAt-most (a .work .now) (a .t) 3, c .before .before .before .before .before .before .before .before .before .before .before .pre .0 .template-below), omega (arith, c .before .reference2 .ensures, referenceAt-most (a .work .now) (a .t) 2, c .before .before .before .before .before .before .before .before .before .before .before .pre .0 .template-below))
-
-pair-requires : tie.Need-pair-requires
-pair-requires c κs =
-    search needs
 
 same-length-3 : tie.Need-same-length-3
 same-length-3 c =
@@ -75,25 +39,9 @@ returns-3 : tie.Need-returns-3
 returns-3 c =
     let a = c .before .before .before .before .before .before .before .before .before .before .before .before .before .before .before .args in made-packed (a .work .now) _ (a .top) (a .fuel) (a .env .now) (a .w) (a .t) _ _ _ (c .before .before .before .before .before .before .before .before .before .before .before .before .before .before .before .pre .0) (c .pair .ensures) (made-insert (a .work .now) (a .top) (a .fuel) (a .env .now) (a .w) (a .t) _ (c .before .before .before .before .before .before .before .before .before .before .before .before .word .ensures) (c .before .before .before .before .before .before .before .before .before .before .before .before .before .before .before .pre .0) _ (c .before .before .before .before .before .before .before .before .before .before .if2 .left) refl _ _ _ _ (c .before .before .before .before .before .before .before .before .before .if3 .taken) (c .before .before .before .before .before .before .before .reference .ensures) (c .before .before .before .before .before .reference2 .ensures) (c .before .before .before .copy-name .ensures))
 
-word-requires-4 : tie.Need-word-requires-4
-word-requires-4 c κs =
-    search needs
-
-word-requires-5 : tie.Need-word-requires-5
-word-requires-5 c κs =
-    search needs
-
-word-requires-6 : tie.Need-word-requires-6
-word-requires-6 c κs =
-    search needs
-
 put-constant-requires : tie.Need-put-constant-requires
 put-constant-requires c κs =
     let a = c .before .before .before .before .before .before .before .before .before .before .before .before .before .before .args in let k = kind-plain (a .work .now) (a .top) (a .fuel) (a .env .now) (a .w) (a .t) _ (c .before .before .before .before .before .before .before .before .before .before .before .word .ensures) (c .before .before .before .before .before .before .before .before .before .before .before .before .before .before .pre .0) _ (c .before .before .before .before .before .before .before .if4 .taken) (c .before .before .before .before .before .word4 .ensures) in (room-less _ _ (room-node (a .work .now) (a .top) (a .fuel) (c .before .before .before .before .before .before .before .before .before .if2 .left) (c .before .before .before .before .before .before .before .before .before .before .before .before .before .before .pre .0 .room)), k .0, k .1, k .2)
-
-pair-requires-2 : tie.Need-pair-requires-2
-pair-requires-2 c κs =
-    search needs
 
 same-length-4 : tie.Need-same-length-4
 same-length-4 c =
@@ -107,10 +55,6 @@ put-empty-requires : tie.Need-put-empty-requires
 put-empty-requires c κs =
     let a = c .before .before .before .before .before .before .before .before .args in room-less _ _ (room-node (a .work .now) (a .top) (a .fuel) (c .before .before .before .if2 .left) (c .before .before .before .before .before .before .before .before .pre .0 .room))
 
-pair-requires-3 : tie.Need-pair-requires-3
-pair-requires-3 c κs =
-    search needs
-
 same-length-5 : tie.Need-same-length-5
 same-length-5 c =
     c .before .before .before .put-empty .kept .0
@@ -123,30 +67,30 @@ pub build-leaf-spec : {M : Type 1} → statement M
 build-leaf-spec =
     tie.close
     (tie.spec
-    word-requires
-    word-requires-2
-    word-requires-3
-    taken-requires
+    (λ c κs. search needs)  -- word-requires
+    (λ c κs. search needs)  -- word-requires-2
+    (λ c κs. search needs)  -- word-requires-3
+    (λ c κs. search needs)  -- taken-requires
     copy-tree-requires
     same-length
     returns
-    same-length-2
+    (λ c. search needs)  -- same-length-2
     returns-2
-    sub-left
-    reference-requires
-    reference-requires-2
+    (λ c. search needs)  -- sub-left
+    (λ c κs. search needs)  -- reference-requires
+    (λ c κs. search needs)  -- reference-requires-2
     copy-name-requires
-    pair-requires
+    (λ c κs. search needs)  -- pair-requires
     same-length-3
     returns-3
-    word-requires-4
-    word-requires-5
-    word-requires-6
+    (λ c κs. search needs)  -- word-requires-4
+    (λ c κs. search needs)  -- word-requires-5
+    (λ c κs. search needs)  -- word-requires-6
     put-constant-requires
-    pair-requires-2
+    (λ c κs. search needs)  -- pair-requires-2
     same-length-4
     returns-4
     put-empty-requires
-    pair-requires-3
+    (λ c κs. search needs)  -- pair-requires-3
     same-length-5
     returns-5)

@@ -49,9 +49,6 @@ copy-tree-below t =
 abbrev copy-part-claims : ℕ → copy-part-lts.Claims
 copy-part-claims t = (word-reads.Asked, word-reads.Learnt, copy-tree-below t, copy-tree.Post, copy-leaf-reads.Asked, copy-leaf-reads.Learnt)
 
-copy-part-word-requires : (t : ℕ) → copy-part-lts.Need-word-requires (copy-part-claims t) (copy-part-at t) copy-part.Post
-copy-part-word-requires t c κs = search needs
-
 copy-part-copy-tree-requires : (t : ℕ) → copy-part-lts.Need-copy-tree-requires (copy-part-claims t) (copy-part-at t) copy-part.Post
 copy-part-copy-tree-requires t c κs =
     let pre = c .before .before .before .before .before .pre in
@@ -83,9 +80,6 @@ copy-part-returns-2 t c =
 abbrev copy-tree-claims : ℕ → copy-tree-lts.Claims
 copy-tree-claims t = (word-reads.Asked, word-reads.Learnt, copy-leaf-reads.Asked, copy-leaf-reads.Learnt, reference-reads.Asked, reference-reads.Learnt, copy-part-below t, copy-part.Post, high-reads.Asked, high-reads.Learnt, low-reads.Asked, low-reads.Learnt, put-pair-reads.Asked, put-pair-reads.Learnt, pair-reads.Asked, pair-reads.Learnt)
 
-copy-tree-word-requires : (t : ℕ) → copy-tree-lts.Need-word-requires (copy-tree-claims t) (copy-tree-at t) copy-tree.Post
-copy-tree-word-requires t c κs = search needs
-
 copy-tree-copy-leaf-requires : (t : ℕ) → copy-tree-lts.Need-copy-leaf-requires (copy-tree-claims t) (copy-tree-at t) copy-tree.Post
 copy-tree-copy-leaf-requires t c κs =
     let pre = c .before .before .before .before .before .pre in
@@ -101,23 +95,11 @@ copy-tree-returns : (t : ℕ) → copy-tree-lts.Need-returns (copy-tree-claims t
 copy-tree-returns t c =
     c .before .before .copy-leaf .ensures
 
-copy-tree-same-length-2 : (t : ℕ) → copy-tree-lts.Need-same-length-2 (copy-tree-claims t) (copy-tree-at t) copy-tree.Post
-copy-tree-same-length-2 t c = search needs
-
 copy-tree-returns-2 : (t : ℕ) → copy-tree-lts.Need-returns-2 (copy-tree-claims t) (copy-tree-at t) copy-tree.Post
 unfolding builtOf
 copy-tree-returns-2 t c =
     let a = c .before .before .before .before .before .args in
     unpaid-none (Whole (a .work .now) (a .node) (a .w)) (a .work .now) (a .top) (a .fuel) (c .if2 .taken)
-
-copy-tree-reference-requires : (t : ℕ) → copy-tree-lts.Need-reference-requires (copy-tree-claims t) (copy-tree-at t) copy-tree.Post
-copy-tree-reference-requires t c κs = search needs
-
-copy-tree-reference-requires-2 : (t : ℕ) → copy-tree-lts.Need-reference-requires-2 (copy-tree-claims t) (copy-tree-at t) copy-tree.Post
-copy-tree-reference-requires-2 t c κs = search needs
-
-copy-tree-sub-copy-part : (t : ℕ) → copy-tree-lts.Need-sub-copy-part (copy-tree-claims t) (copy-tree-at t) copy-tree.Post
-copy-tree-sub-copy-part t c = search needs
 
 copy-tree-copy-part-requires : (t : ℕ) → copy-tree-lts.Need-copy-part-requires (copy-tree-claims t) (copy-tree-at t) copy-tree.Post
 copy-tree-copy-part-requires t c κs =
@@ -151,12 +133,6 @@ copy-tree-returns-3 t c =
     let copy-part = c .before .before .before .copy-part in
     copied-tail-costly (a .work .now) (a .top) (a .fuel) (a .node) (a .w) _ (if2 .left) refl _ (word .ensures) _ _ (if1 .left) (reference .ensures) (reference2 .ensures) (pre .1) _
     (unpaid-at (Whole (a .work .now) (reference2 .result) (a .w)) (a .work .now) (copy-part .last .0) (a .top) (a .fuel - 1) _ (built-none _ (c .if3 .taken)) (copy-part .ensures))
-
-copy-tree-high-requires : (t : ℕ) → copy-tree-lts.Need-high-requires (copy-tree-claims t) (copy-tree-at t) copy-tree.Post
-copy-tree-high-requires t c κs = search needs
-
-copy-tree-low-requires : (t : ℕ) → copy-tree-lts.Need-low-requires (copy-tree-claims t) (copy-tree-at t) copy-tree.Post
-copy-tree-low-requires t c κs = search needs
 
 copy-tree-copy-part-requires-2 : (t : ℕ) → copy-tree-lts.Need-copy-part-requires-2 (copy-tree-claims t) (copy-tree-at t) copy-tree.Post
 copy-tree-copy-part-requires-2 t c κs =
@@ -199,9 +175,6 @@ copy-tree-returns-4 t c =
     copied-head-costly (a .work .now) (a .top) (a .fuel) (a .node) (a .w) _ (if2 .left) refl _ (word .ensures) _ _ (if1 .left) (reference .ensures) (reference2 .ensures) (pre .1) _ _ _ b (copy-part .kept .0) _
     (unpaid-at (Whole (copy-part .last .0) (reference .result) (a .w)) (copy-part .last .0) (copy-part2 .last .0) _ _ _ (built-none _ (c .if4 .taken)) (copy-part2 .ensures))
 
-copy-tree-high-requires-2 : (t : ℕ) → copy-tree-lts.Need-high-requires-2 (copy-tree-claims t) (copy-tree-at t) copy-tree.Post
-copy-tree-high-requires-2 t c κs = search needs
-
 copy-tree-put-pair-requires : (t : ℕ) → copy-tree-lts.Need-put-pair-requires (copy-tree-claims t) (copy-tree-at t) copy-tree.Post
 copy-tree-put-pair-requires t c κs =
     let entry = c .before .before .before .before .before .before .before .before .before .before .before .before .before .before .before .before .before .before .before .before .before .before .before in
@@ -222,12 +195,6 @@ copy-tree-put-pair-requires t c κs =
       omega arith,
       h .above,
     )
-
-copy-tree-low-requires-2 : (t : ℕ) → copy-tree-lts.Need-low-requires-2 (copy-tree-claims t) (copy-tree-at t) copy-tree.Post
-copy-tree-low-requires-2 t c κs = search needs
-
-copy-tree-pair-requires : (t : ℕ) → copy-tree-lts.Need-pair-requires (copy-tree-claims t) (copy-tree-at t) copy-tree.Post
-copy-tree-pair-requires t c κs = search needs
 
 copy-tree-same-length-5 : (t : ℕ) → copy-tree-lts.Need-same-length-5 (copy-tree-claims t) (copy-tree-at t) copy-tree.Post
 copy-tree-same-length-5 t c =
@@ -260,7 +227,7 @@ pub +copy-part+copy-tree-spec : {M : Type 1} → statement M
 +copy-part+copy-tree-spec = close μ-copy-part μ-copy-tree (λ t. copy-part-lts.spec (copy-part-claims t)
     (copy-part-at t)
     copy-part.Post
-    (copy-part-word-requires t)
+    (λ c κs. search needs)  -- copy-part-word-requires
     (copy-part-copy-tree-requires t)
     (copy-part-same-length t)
     (copy-part-returns t)
@@ -270,26 +237,26 @@ pub +copy-part+copy-tree-spec : {M : Type 1} → statement M
     λ t. copy-tree-lts.spec (copy-tree-claims t)
     (copy-tree-at t)
     copy-tree.Post
-    (copy-tree-word-requires t)
+    (λ c κs. search needs)  -- copy-tree-word-requires
     (copy-tree-copy-leaf-requires t)
     (copy-tree-same-length t)
     (copy-tree-returns t)
-    (copy-tree-same-length-2 t)
+    (λ c. search needs)  -- copy-tree-same-length-2
     (copy-tree-returns-2 t)
-    (copy-tree-reference-requires t)
-    (copy-tree-reference-requires-2 t)
-    (copy-tree-sub-copy-part t)
+    (λ c κs. search needs)  -- copy-tree-reference-requires
+    (λ c κs. search needs)  -- copy-tree-reference-requires-2
+    (λ c. search needs)  -- copy-tree-sub-copy-part
     (copy-tree-copy-part-requires t)
     (copy-tree-same-length-3 t)
     (copy-tree-returns-3 t)
-    (copy-tree-high-requires t)
-    (copy-tree-low-requires t)
+    (λ c κs. search needs)  -- copy-tree-high-requires
+    (λ c κs. search needs)  -- copy-tree-low-requires
     (copy-tree-copy-part-requires-2 t)
     (copy-tree-same-length-4 t)
     (copy-tree-returns-4 t)
-    (copy-tree-high-requires-2 t)
+    (λ c κs. search needs)  -- copy-tree-high-requires-2
     (copy-tree-put-pair-requires t)
-    (copy-tree-low-requires-2 t)
-    (copy-tree-pair-requires t)
+    (λ c κs. search needs)  -- copy-tree-low-requires-2
+    (λ c κs. search needs)  -- copy-tree-pair-requires
     (copy-tree-same-length-5 t)
     (copy-tree-returns-5 t)

@@ -31,14 +31,6 @@ unfolding builtOf
 returns c =
     let a = c .before .before .before .before .args in elements-none (a .work .now) (a .top) (a .fuel) (a .list) (a .w) (a .c) (c .before .before .before .before .pre) _ _ _ _ _ (c .before .before .loop .inv) (c .before .loop-test .taken) (c .if1 .taken)
 
-first-requires : tie.Need-first-requires Inv-loop μ-loop
-first-requires c κs =
-    search needs
-
-sub-copy-part : tie.Need-sub-copy-part Inv-loop μ-loop
-sub-copy-part c =
-    search needs
-
 copy-part-requires : tie.Need-copy-part-requires Inv-loop μ-loop
 copy-part-requires c κs =
     let a = c .before .before .before .before .before .before .before .args in element-waits (a .work .now) (a .top) (a .fuel) (a .list) (a .w) (a .c) (c .before .before .before .before .before .before .before .pre) _ _ _ _ _ (c .before .before .before .before .before .loop .inv) (c .before .before .before .before .loop-test .taken) (c .before .before .before .if1 .left) _ (c .before .first .ensures)
@@ -52,25 +44,9 @@ unfolding builtOf
 returns-2 c =
     let a = c .before .before .before .before .before .before .before .before .before .before .before .args in element-costly (a .work .now) (a .top) (a .fuel) (a .list) (a .w) (a .c) (c .before .before .before .before .before .before .before .before .before .before .before .pre) _ _ _ _ _ (c .before .before .before .before .before .before .before .before .before .loop .inv) (c .before .before .before .before .before .before .before .before .loop-test .taken) (c .before .before .before .before .before .before .before .if1 .left) _ (c .before .before .before .before .before .first .ensures) _ (unpaid-at (λ items. treeAt items (c .before .before .before .before .before .before .before .before .before .loop .work) (c .before .before .before .before .before .first .result) (a .w)) (c .before .before .before .before .before .before .before .before .before .loop .work) (c .before .before .before .copy-part .last .0) (c .before .before .before .before .before .before .before .before .before .loop .at) (c .before .before .before .before .before .before .before .before .before .loop .left - 1) _ (built-none _ (c .if2 .taken)) (c .before .before .before .copy-part .ensures))
 
-rest-requires : tie.Need-rest-requires Inv-loop μ-loop
-rest-requires c κs =
-    search needs
-
-high-requires : tie.Need-high-requires Inv-loop μ-loop
-high-requires c κs =
-    search needs
-
 put-pair-requires : tie.Need-put-pair-requires Inv-loop μ-loop
 put-pair-requires c κs =
     let a = c .before .before .before .before .before .before .before .before .before .before .before .before .before .before .before .args in let b = paid-at (λ items. treeAt items (c .before .before .before .before .before .before .before .before .before .before .before .before .before .loop .work) (c .before .before .before .before .before .before .before .before .before .first .result) (a .w)) (c .before .before .before .before .before .before .before .before .before .before .before .before .before .loop .work) (c .before .before .before .before .before .before .before .copy-part .last .0) (c .before .before .before .before .before .before .before .before .before .before .before .before .before .loop .at) (c .before .before .before .before .before .before .before .before .before .before .before .before .before .loop .left - 1) _ _ _ (built-some _ _ _ (c .before .before .before .before .if2 .left) (c .before .high .ensures) refl) (c .before .before .before .before .before .before .before .copy-part .ensures) in (element-room (a .work .now) (a .top) (a .fuel) (a .list) (a .w) (a .c) (c .before .before .before .before .before .before .before .before .before .before .before .before .before .before .before .pre) _ _ _ _ _ (c .before .before .before .before .before .before .before .before .before .before .before .before .before .loop .inv) (c .before .before .before .before .before .before .before .before .before .before .before .before .loop-test .taken) (c .before .before .before .before .before .before .before .before .before .before .before .if1 .left) _ (c .before .before .before .before .before .before .before .before .before .first .ensures) _ _ _ b (c .before .before .before .before .before .before .before .copy-part .kept .0), omega arith, b .above)
-
-low-requires : tie.Need-low-requires Inv-loop μ-loop
-low-requires c κs =
-    search needs
-
-add-k : tie.Need-add-k Inv-loop μ-loop
-add-k c =
-    search needs
 
 loop-less : tie.Need-loop-less Inv-loop μ-loop
 loop-less c =
@@ -79,10 +55,6 @@ loop-less c =
 loop-again : tie.Need-loop-again Inv-loop μ-loop
 loop-again c =
     let a = c .before .before .before .before .before .before .before .before .before .before .before .before .before .before .before .before .before .before .before .args in going-more (a .work .now) (a .top) (a .fuel) (a .list) (a .w) (a .c) (c .before .before .before .before .before .before .before .before .before .before .before .before .before .before .before .before .before .before .before .pre) _ _ _ _ _ (c .before .before .before .before .before .before .before .before .before .before .before .before .before .before .before .before .before .loop .inv) (c .before .before .before .before .before .before .before .before .before .before .before .before .before .before .before .before .loop-test .taken) (c .before .before .before .before .before .before .before .before .before .before .before .before .before .before .before .if1 .left) _ (c .before .before .before .before .before .before .before .before .before .before .before .before .before .first .ensures) _ _ _ (paid-at (λ items. treeAt items (c .before .before .before .before .before .before .before .before .before .before .before .before .before .before .before .before .before .loop .work) (c .before .before .before .before .before .before .before .before .before .before .before .before .before .first .result) (a .w)) (c .before .before .before .before .before .before .before .before .before .before .before .before .before .before .before .before .before .loop .work) (c .before .before .before .before .before .before .before .before .before .before .before .copy-part .last .0) (c .before .before .before .before .before .before .before .before .before .before .before .before .before .before .before .before .before .loop .at) (c .before .before .before .before .before .before .before .before .before .before .before .before .before .before .before .before .before .loop .left - 1) _ _ _ (built-some _ _ _ (c .before .before .before .before .before .before .before .before .if2 .left) (c .before .before .before .before .before .high .ensures) (c .low .ensures)) (c .before .before .before .before .before .before .before .before .before .before .before .copy-part .ensures)) (c .before .before .before .before .before .before .before .before .before .before .before .copy-part .kept .0) _ (c .before .before .before .before .before .before .rest .ensures) _ _ (c .before .before .before .put-pair .ensures) (c .before .before .before .put-pair .kept .0)
-
-pair-requires : tie.Need-pair-requires Inv-loop μ-loop
-pair-requires c κs =
-    search needs
 
 same-length-3 : tie.Need-same-length-3 Inv-loop μ-loop
 same-length-3 c =
@@ -101,18 +73,18 @@ copy-elements-spec =
     loop-holds
     same-length
     returns
-    first-requires
-    sub-copy-part
+    (λ c κs. search needs)  -- first-requires
+    (λ c. search needs)  -- sub-copy-part
     copy-part-requires
     same-length-2
     returns-2
-    rest-requires
-    high-requires
+    (λ c κs. search needs)  -- rest-requires
+    (λ c κs. search needs)  -- high-requires
     put-pair-requires
-    low-requires
-    add-k
+    (λ c κs. search needs)  -- low-requires
+    (λ c. search needs)  -- add-k
     loop-less
     loop-again
-    pair-requires
+    (λ c κs. search needs)  -- pair-requires
     same-length-3
     returns-3)

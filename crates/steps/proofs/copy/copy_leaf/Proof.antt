@@ -12,12 +12,6 @@ returns c =
     let a = c .before .before .args in
     unpaid-none (Whole (a .work .now) (a .node) (a .w)) (a .work .now) (a .top) (a .fuel) (c .if1 .taken)
 
-sub-left : tie.Need-sub-left
-sub-left c = search needs
-
-word-requires : tie.Need-word-requires
-word-requires c κs = search needs
-
 put-empty-requires : tie.Need-put-empty-requires
 put-empty-requires c κs =
     let entry = c .before .before .before .before .before .before in
@@ -25,9 +19,6 @@ put-empty-requires c κs =
     let pre = entry .pre in
     let if1 = c .before .before .before .before .if1 in
     room-less _ _ (room-node (a .work .now) (a .top) (a .fuel) (if1 .left) (pre .0 .room))
-
-pair-requires : tie.Need-pair-requires
-pair-requires c κs = search needs
 
 same-length : tie.Need-same-length
 same-length c =
@@ -53,9 +44,6 @@ copy-name-requires c κs =
     let if1 = c .before .before .before .before .before .if1 in
     (room-node (a .work .now) (a .top) (a .fuel) (if1 .left) (pre .0 .room), pre .0 .node-below, pre .0 .wrap-below)
 
-pair-requires-2 : tie.Need-pair-requires-2
-pair-requires-2 c κs = search needs
-
 same-length-2 : tie.Need-same-length-2
 same-length-2 c =
     c .before .before .before .copy-name .kept .0
@@ -72,12 +60,6 @@ returns-3 c =
     pays-packed (Whole (a .work .now) (a .node) (a .w)) (a .work .now) _ (a .top) (a .fuel) _ _ _ (pre .0 .room) (c .pair2 .ensures)
     (copied-name (a .work .now) (a .top) (a .fuel) (a .node) (a .w) _ (if1 .left) refl _ (word .ensures) _ _ (if3 .taken) (copy-name .ensures))
 
-word-requires-2 : tie.Need-word-requires-2
-word-requires-2 c κs = search needs
-
-word-requires-3 : tie.Need-word-requires-3
-word-requires-3 c κs = search needs
-
 put-constant-requires : tie.Need-put-constant-requires
 put-constant-requires c κs =
     let entry = c .before .before .before .before .before .before .before .before .before .before .before in
@@ -88,9 +70,6 @@ put-constant-requires c κs =
     let if2 = c .before .before .before .before .before .before .if2 in
     let if3 = c .before .before .before .before .before .if3 in
     (room-less _ _ (room-node (a .work .now) (a .top) (a .fuel) (if1 .left) (pre .0 .room)), if2 .left, if3 .left, λ z. pre .1 (sym (word .ensures) ∙ z))
-
-pair-requires-3 : tie.Need-pair-requires-3
-pair-requires-3 c κs = search needs
 
 same-length-3 : tie.Need-same-length-3
 same-length-3 c =
@@ -116,19 +95,19 @@ copy-leaf-spec =
     tie.close
     (tie.spec
     returns
-    sub-left
-    word-requires
+    (λ c. search needs)  -- sub-left
+    (λ c κs. search needs)  -- word-requires
     put-empty-requires
-    pair-requires
+    (λ c κs. search needs)  -- pair-requires
     same-length
     returns-2
     copy-name-requires
-    pair-requires-2
+    (λ c κs. search needs)  -- pair-requires-2
     same-length-2
     returns-3
-    word-requires-2
-    word-requires-3
+    (λ c κs. search needs)  -- word-requires-2
+    (λ c κs. search needs)  -- word-requires-3
     put-constant-requires
-    pair-requires-3
+    (λ c κs. search needs)  -- pair-requires-3
     same-length-3
     returns-4)

@@ -8,14 +8,6 @@ use native.Mathlib.Omega.{arith}
 use borrow.Author.Needs.{needs}
 use mathlib.Core.Path.{_∙_}
 
-word-requires : tie.Need-word-requires
-word-requires c κs =
-    search needs
-
-reference-requires : tie.Need-reference-requires
-reference-requires c κs =
-    search needs
-
 put-name-requires : tie.Need-put-name-requires
 put-name-requires c κs =
     (room-less _ _ (c .before .before .before .before .before .before .before .pre .0), omega (arith, c .before .before .before .before .before .before .before .pre .2))
@@ -48,8 +40,8 @@ pub copy-name-spec : {M : Type 1} → statement M
 copy-name-spec =
     tie.close
     (tie.spec
-    word-requires
-    reference-requires
+    (λ c κs. search needs)  -- word-requires
+    (λ c κs. search needs)  -- reference-requires
     put-name-requires
     same-length
     returns

@@ -18,21 +18,9 @@ loop-holds : tie.Need-loop-holds Inv-loop μ-loop
 loop-holds c =
     let a = c .before .args in reversing-begins (a .work .now) (a .top) (a .list) (a .tail) (a .c) (c .before .pre .0) (c .before .pre .1) (c .before .pre .2)
 
-first-requires : tie.Need-first-requires Inv-loop μ-loop
-first-requires c κs =
-    search needs
-
 put-pair-requires : tie.Need-put-pair-requires Inv-loop μ-loop
 put-pair-requires c κs =
     let a = c .before .before .before .before .before .before .args in reversing-asks (a .work .now) (a .top) (a .list) (a .tail) (a .c) (c .before .before .before .before .before .before .pre .0) (c .before .before .before .before .before .before .pre .1) (c .before .before .before .before .before .before .pre .2) _ _ _ _ _ (c .before .before .before .before .loop .inv) (c .before .before .before .loop-test .taken) _ (c .before .first .ensures)
-
-rest-requires : tie.Need-rest-requires Inv-loop μ-loop
-rest-requires c κs =
-    search needs
-
-add-k : tie.Need-add-k Inv-loop μ-loop
-add-k c =
-    search needs
 
 loop-less : tie.Need-loop-less Inv-loop μ-loop
 loop-less c =
@@ -57,10 +45,10 @@ put-reversed-spec =
     Inv-loop
     μ-loop
     loop-holds
-    first-requires
+    (λ c κs. search needs)  -- first-requires
     put-pair-requires
-    rest-requires
-    add-k
+    (λ c κs. search needs)  -- rest-requires
+    (λ c. search needs)  -- add-k
     loop-less
     loop-again
     same-length

@@ -96,12 +96,6 @@ part-fits-claims t = (word-reads.Asked, word-reads.Learnt, fits-below t, fits.Po
 each-fits-loop-holds : (t : ℕ) → each-fits-lts.Need-loop-holds (each-fits-claims t) (each-fits-at t) each-fits.Post each-fits-Inv-loop each-fits-μ-loop
 each-fits-loop-holds t c = refl
 
-each-fits-word-requires : (t : ℕ) → each-fits-lts.Need-word-requires (each-fits-claims t) (each-fits-at t) each-fits.Post each-fits-Inv-loop each-fits-μ-loop
-each-fits-word-requires t c κs = search needs
-
-each-fits-reference-requires : (t : ℕ) → each-fits-lts.Need-reference-requires (each-fits-claims t) (each-fits-at t) each-fits.Post each-fits-Inv-loop each-fits-μ-loop
-each-fits-reference-requires t c κs = search needs
-
 each-fits-part-fits-requires : (t : ℕ) → each-fits-lts.Need-part-fits-requires (each-fits-claims t) (each-fits-at t) each-fits.Post each-fits-Inv-loop each-fits-μ-loop
 each-fits-part-fits-requires t c κs =
     let loop = c .before .before .before .loop in
@@ -116,9 +110,6 @@ each-fits-returns t c =
     let reference = c .before .before .reference in
     let part-fits = c .before .part-fits in
     each-no (a .items .now) (a .work .now) (a .e) (a .list) (a .w) (loop .node) _ (word .ensures) (loop .inv) _ _ (if1 .taken) (reference .ensures) (part-fits .ensures) (not-true _ (c .if2 .taken))
-
-each-fits-reference-requires-2 : (t : ℕ) → each-fits-lts.Need-reference-requires-2 (each-fits-claims t) (each-fits-at t) each-fits.Post each-fits-Inv-loop each-fits-μ-loop
-each-fits-reference-requires-2 t c κs = search needs
 
 each-fits-loop-less : (t : ℕ) → each-fits-lts.Need-loop-less (each-fits-claims t) (each-fits-at t) each-fits.Post each-fits-Inv-loop each-fits-μ-loop
 each-fits-loop-less t c =
@@ -139,9 +130,6 @@ each-fits-loop-again t c =
     let if2 = c .before .if2 in
     each-more (a .items .now) (a .work .now) (a .e) (a .list) (a .w) (loop .node) _ (word .ensures) (loop .inv) _ _ (if1 .taken) (reference .ensures) (part-fits .ensures) _ (not-false _ (if2 .left)) (c .reference2 .ensures)
 
-each-fits-word-requires-2 : (t : ℕ) → each-fits-lts.Need-word-requires-2 (each-fits-claims t) (each-fits-at t) each-fits.Post each-fits-Inv-loop each-fits-μ-loop
-each-fits-word-requires-2 t c κs = search needs
-
 each-fits-returns-2 : (t : ℕ) → each-fits-lts.Need-returns-2 (each-fits-claims t) (each-fits-at t) each-fits.Post each-fits-Inv-loop each-fits-μ-loop
 each-fits-returns-2 t c =
     let a = c .before .before .before .before .before .before .args in
@@ -150,17 +138,11 @@ each-fits-returns-2 t c =
     let if1 = c .before .if1 in
     each-ends (a .items .now) (a .work .now) (a .e) (a .list) (a .w) (loop .node) _ (c .word2 .ensures) (loop .inv) (λ z. if1 .left (word .ensures ∙ sym (c .word2 .ensures) ∙ z))
 
-end-fits-word-requires : (t : ℕ) → end-fits-lts.Need-word-requires (end-fits-claims t) (end-fits-at t) end-fits.Post
-end-fits-word-requires t c κs = search needs
-
 end-fits-returns : (t : ℕ) → end-fits-lts.Need-returns (end-fits-claims t) (end-fits-at t) end-fits.Post
 end-fits-returns t c =
     let a = c .before .before .before .before .args in
     let word = c .before .word in
     fits-variable (a .items .now) (a .work .now) (a .p) _ (word .ensures) (a .u) (a .w) (c .if1 .taken)
-
-end-fits-literal-fits-requires : (t : ℕ) → end-fits-lts.Need-literal-fits-requires (end-fits-claims t) (end-fits-at t) end-fits.Post
-end-fits-literal-fits-requires t c κs = search needs
 
 end-fits-returns-2 : (t : ℕ) → end-fits-lts.Need-returns-2 (end-fits-claims t) (end-fits-at t) end-fits.Post
 end-fits-returns-2 t c =
@@ -176,18 +158,12 @@ end-fits-returns-3 t c =
     let word = c .before .before .before .word in
     fits-wildcard (a .items .now) (a .work .now) (a .p) _ (word .ensures) (a .u) (a .w) (c .if3 .taken)
 
-end-fits-constant-fits-requires : (t : ℕ) → end-fits-lts.Need-constant-fits-requires (end-fits-claims t) (end-fits-at t) end-fits.Post
-end-fits-constant-fits-requires t c κs = search needs
-
 end-fits-returns-4 : (t : ℕ) → end-fits-lts.Need-returns-4 (end-fits-claims t) (end-fits-at t) end-fits.Post
 end-fits-returns-4 t c =
     let a = c .before .before .before .before .before .before .before .before .args in
     let word = c .before .before .before .before .before .word in
     let if4 = c .before .if4 in
     fits-constant (a .items .now) (a .work .now) (a .p) _ (word .ensures) (a .u) (a .w) _ (if4 .taken) (c .constant-fits .ensures)
-
-end-fits-reference-requires : (t : ℕ) → end-fits-lts.Need-reference-requires (end-fits-claims t) (end-fits-at t) end-fits.Post
-end-fits-reference-requires t c κs = search needs
 
 end-fits-each-fits-requires : (t : ℕ) → end-fits-lts.Need-each-fits-requires (end-fits-claims t) (end-fits-at t) end-fits.Post
 end-fits-each-fits-requires t c κs =
@@ -206,9 +182,6 @@ end-fits-returns-5 t c =
     let each-fits = c .each-fits in
     fits-ellipsis (a .items .now) (a .work .now) (a .p) _ (word .ensures) (a .u) (a .w) _ _ (if5 .taken) (reference .ensures) (each-fits .ensures)
 
-end-fits-word-requires-2 : (t : ℕ) → end-fits-lts.Need-word-requires-2 (end-fits-claims t) (end-fits-at t) end-fits.Post
-end-fits-word-requires-2 t c κs = search needs
-
 end-fits-returns-6 : (t : ℕ) → end-fits-lts.Need-returns-6 (end-fits-claims t) (end-fits-at t) end-fits.Post
 end-fits-returns-6 t c =
     let a = c .before .before .before .before .before .before .before .before .before .args in
@@ -226,12 +199,6 @@ fits-loop-holds t c =
     let a = c .before .before .args in
     along-begins (a .items .now) (a .work .now) (a .p) (a .u) (a .w)
 
-fits-word-requires : (t : ℕ) → fits-lts.Need-word-requires (fits-claims t) (fits-at t) fits.Post fits-Inv-loop fits-μ-loop
-fits-word-requires t c κs = search needs
-
-fits-word-requires-2 : (t : ℕ) → fits-lts.Need-word-requires-2 (fits-claims t) (fits-at t) fits.Post fits-Inv-loop fits-μ-loop
-fits-word-requires-2 t c κs = search needs
-
 fits-returns : (t : ℕ) → fits-lts.Need-returns (fits-claims t) (fits-at t) fits.Post fits-Inv-loop fits-μ-loop
 fits-returns t c =
     let a = c .before .before .before .before .before .before .before .args in
@@ -240,12 +207,6 @@ fits-returns t c =
     let if1 = c .before .before .if1 in
     let word2 = c .before .word2 in
     along-ends (a .items .now) (a .work .now) (a .p) (a .u) (a .w) (loop .at) (loop .node) (loop .inv) _ (fits-no-pair (a .items .now) (a .work .now) (loop .at) _ (word .ensures) (loop .node) (a .w) _ (word2 .ensures) (if1 .taken) (c .if2 .taken))
-
-fits-reference-requires : (t : ℕ) → fits-lts.Need-reference-requires (fits-claims t) (fits-at t) fits.Post fits-Inv-loop fits-μ-loop
-fits-reference-requires t c κs = search needs
-
-fits-reference-requires-2 : (t : ℕ) → fits-lts.Need-reference-requires-2 (fits-claims t) (fits-at t) fits.Post fits-Inv-loop fits-μ-loop
-fits-reference-requires-2 t c κs = search needs
 
 fits-part-fits-requires : (t : ℕ) → fits-lts.Need-part-fits-requires (fits-claims t) (fits-at t) fits.Post fits-Inv-loop fits-μ-loop
 fits-part-fits-requires t c κs =
@@ -267,12 +228,6 @@ fits-returns-2 t c =
     let reference2 = c .before .before .reference2 in
     let part-fits = c .before .part-fits in
     along-ends (a .items .now) (a .work .now) (a .p) (a .u) (a .w) (loop .at) (loop .node) (loop .inv) _ (fits-head-no (a .items .now) (a .work .now) (loop .at) _ (word .ensures) (loop .node) (a .w) _ (word2 .ensures) _ _ _ (if1 .taken) (if2 .left) (reference .ensures) (reference2 .ensures) (part-fits .ensures) (not-true _ (c .if3 .taken)))
-
-fits-reference-requires-3 : (t : ℕ) → fits-lts.Need-reference-requires-3 (fits-claims t) (fits-at t) fits.Post fits-Inv-loop fits-μ-loop
-fits-reference-requires-3 t c κs = search needs
-
-fits-reference-requires-4 : (t : ℕ) → fits-lts.Need-reference-requires-4 (fits-claims t) (fits-at t) fits.Post fits-Inv-loop fits-μ-loop
-fits-reference-requires-4 t c κs = search needs
 
 fits-loop-less : (t : ℕ) → fits-lts.Need-loop-less (fits-claims t) (fits-at t) fits.Post fits-Inv-loop fits-μ-loop
 fits-loop-less t c =
@@ -311,9 +266,6 @@ fits-returns-3 t c =
     let end-fits = c .end-fits in
     along-ends (a .items .now) (a .work .now) (a .p) (a .u) (a .w) (loop .at) (loop .node) (loop .inv) _ (end-fits .ensures)
 
-part-fits-word-requires : (t : ℕ) → part-fits-lts.Need-word-requires (part-fits-claims t) (part-fits-at t) part-fits.Post
-part-fits-word-requires t c κs = search needs
-
 part-fits-returns : (t : ℕ) → part-fits-lts.Need-returns (part-fits-claims t) (part-fits-at t) part-fits.Post
 part-fits-returns t c =
     let a = c .before .before .before .before .args in
@@ -345,14 +297,14 @@ pub +each-fits+end-fits+fits+part-fits-spec : {M : Type 1} → statement M
     each-fits-Inv-loop
     each-fits-μ-loop
     (each-fits-loop-holds t)
-    (each-fits-word-requires t)
-    (each-fits-reference-requires t)
+    (λ c κs. search needs)  -- each-fits-word-requires
+    (λ c κs. search needs)  -- each-fits-reference-requires
     (each-fits-part-fits-requires t)
     (each-fits-returns t)
-    (each-fits-reference-requires-2 t)
+    (λ c κs. search needs)  -- each-fits-reference-requires-2
     (each-fits-loop-less t)
     (each-fits-loop-again t)
-    (each-fits-word-requires-2 t)
+    (λ c κs. search needs)  -- each-fits-word-requires-2
     (each-fits-returns-2 t))
     (λ t. end-fits-lts.spec (
       word-reads.Asked,
@@ -368,17 +320,17 @@ pub +each-fits+end-fits+fits+part-fits-spec : {M : Type 1} → statement M
     )
     (end-fits-at t)
     end-fits.Post
-    (end-fits-word-requires t)
+    (λ c κs. search needs)  -- end-fits-word-requires
     (end-fits-returns t)
-    (end-fits-literal-fits-requires t)
+    (λ c κs. search needs)  -- end-fits-literal-fits-requires
     (end-fits-returns-2 t)
     (end-fits-returns-3 t)
-    (end-fits-constant-fits-requires t)
+    (λ c κs. search needs)  -- end-fits-constant-fits-requires
     (end-fits-returns-4 t)
-    (end-fits-reference-requires t)
+    (λ c κs. search needs)  -- end-fits-reference-requires
     (end-fits-each-fits-requires t)
     (end-fits-returns-5 t)
-    (end-fits-word-requires-2 t)
+    (λ c κs. search needs)  -- end-fits-word-requires-2
     (end-fits-returns-6 t))
     (λ t. fits-lts.spec (
       word-reads.Asked,
@@ -395,15 +347,15 @@ pub +each-fits+end-fits+fits+part-fits-spec : {M : Type 1} → statement M
     fits-Inv-loop
     fits-μ-loop
     (fits-loop-holds t)
-    (fits-word-requires t)
-    (fits-word-requires-2 t)
+    (λ c κs. search needs)  -- fits-word-requires
+    (λ c κs. search needs)  -- fits-word-requires-2
     (fits-returns t)
-    (fits-reference-requires t)
-    (fits-reference-requires-2 t)
+    (λ c κs. search needs)  -- fits-reference-requires
+    (λ c κs. search needs)  -- fits-reference-requires-2
     (fits-part-fits-requires t)
     (fits-returns-2 t)
-    (fits-reference-requires-3 t)
-    (fits-reference-requires-4 t)
+    (λ c κs. search needs)  -- fits-reference-requires-3
+    (λ c κs. search needs)  -- fits-reference-requires-4
     (fits-loop-less t)
     (fits-loop-again t)
     (fits-end-fits-requires t)
@@ -412,7 +364,7 @@ pub +each-fits+end-fits+fits+part-fits-spec : {M : Type 1} → statement M
     (word-reads.Asked, word-reads.Learnt, fits-below t, fits.Post)
     (part-fits-at t)
     part-fits.Post
-    (part-fits-word-requires t)
+    (λ c κs. search needs)  -- part-fits-word-requires
     (part-fits-returns t)
     (part-fits-fits-requires t)
     (part-fits-returns-2 t)

@@ -5,10 +5,6 @@ use Rattle.steps.proofs.fits.constant_fits.Tie as tie
 use Rattle.steps.specs.FitLaws.{constant-no, constant-kinds, constant-firsts, constant-seconds}
 use mathlib.Core.Logic.{inl, inr}
 
-word-requires : tie.Need-word-requires
-word-requires c κs =
-    search needs
-
 returns : tie.Need-returns
 returns c =
     let a = c .before .before .before .args in constant-no (a .work .now) (a .p) (a .u) _ (c .before .word .ensures) (inl (c .if1 .taken))
@@ -21,33 +17,13 @@ returns-3 : tie.Need-returns-3
 returns-3 c =
     let a = c .before .before .before .before .before .args in constant-no (a .work .now) (a .p) (a .u) _ (c .before .before .before .word .ensures) (inr (inr (c .if3 .taken)))
 
-word-requires-2 : tie.Need-word-requires-2
-word-requires-2 c κs =
-    search needs
-
 returns-4 : tie.Need-returns-4
 returns-4 c =
     let a = c .before .before .before .before .before .before .before .args in constant-kinds (a .work .now) (a .p) (a .u) _ (c .before .before .before .before .before .word .ensures) (c .before .before .before .before .if1 .left) (c .before .before .before .if2 .left) (c .before .before .if3 .left) _ (c .before .word2 .ensures) (c .if4 .taken)
 
-word-requires-3 : tie.Need-word-requires-3
-word-requires-3 c κs =
-    search needs
-
-word-requires-4 : tie.Need-word-requires-4
-word-requires-4 c κs =
-    search needs
-
 returns-5 : tie.Need-returns-5
 returns-5 c =
     let a = c .before .before .before .before .before .before .before .before .before .before .args in constant-firsts (a .work .now) (a .p) (a .u) _ (c .before .before .before .before .before .before .before .before .word .ensures) (c .before .before .before .before .before .before .before .if1 .left) (c .before .before .before .before .before .before .if2 .left) (c .before .before .before .before .before .if3 .left) _ (c .before .before .before .before .word2 .ensures) (c .before .before .before .if4 .left) _ _ (c .before .before .word3 .ensures) (c .before .word4 .ensures) (c .if5 .taken)
-
-word-requires-5 : tie.Need-word-requires-5
-word-requires-5 c κs =
-    search needs
-
-word-requires-6 : tie.Need-word-requires-6
-word-requires-6 c κs =
-    search needs
 
 returns-6 : tie.Need-returns-6
 returns-6 c =
@@ -57,15 +33,15 @@ pub constant-fits-spec : {M : Type 1} → statement M
 constant-fits-spec =
     tie.close
     (tie.spec
-    word-requires
+    (λ c κs. search needs)  -- word-requires
     returns
     returns-2
     returns-3
-    word-requires-2
+    (λ c κs. search needs)  -- word-requires-2
     returns-4
-    word-requires-3
-    word-requires-4
+    (λ c κs. search needs)  -- word-requires-3
+    (λ c κs. search needs)  -- word-requires-4
     returns-5
-    word-requires-5
-    word-requires-6
+    (λ c κs. search needs)  -- word-requires-5
+    (λ c κs. search needs)  -- word-requires-6
     returns-6)

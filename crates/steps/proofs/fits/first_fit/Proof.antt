@@ -18,18 +18,9 @@ loop-holds : tie.Need-loop-holds Inv-loop μ-loop
 loop-holds c =
     let a = c .before .before .args in tried-begins (a .items .now) (a .work .now) (a .rules) (a .u) (a .w)
 
-reference-requires : tie.Need-reference-requires Inv-loop μ-loop
-reference-requires c κs = search needs
-
-fits-requires : tie.Need-fits-requires Inv-loop μ-loop
-fits-requires c κs = search needs
-
 returns : tie.Need-returns Inv-loop μ-loop
 returns c =
     let a = c .before .before .before .before .before .before .before .args in tried-fits (a .items .now) (a .work .now) (a .rules) (a .u) (a .w) (c .before .before .before .before .loop .rule) (c .before .before .before .before .loop .inv) _ _ (c .before .before .before .loop-test .taken) (c .before .before .reference .ensures) (c .before .fits2 .ensures) (c .if1 .taken)
-
-reference-requires-2 : tie.Need-reference-requires-2 Inv-loop μ-loop
-reference-requires-2 c κs = search needs
 
 loop-less : tie.Need-loop-less Inv-loop μ-loop
 loop-less c =
@@ -50,10 +41,10 @@ first-fit-spec =
     Inv-loop
     μ-loop
     loop-holds
-    reference-requires
-    fits-requires
+    (λ c κs. search needs)  -- reference-requires
+    (λ c κs. search needs)  -- fits-requires
     returns
-    reference-requires-2
+    (λ c κs. search needs)  -- reference-requires-2
     loop-less
     loop-again
     returns-2)

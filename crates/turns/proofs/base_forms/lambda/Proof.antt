@@ -7,15 +7,6 @@ use borrow.Author.Tests.{not-true, not-false}
 use Rattle.arena.specs.Arena.{treeAt}
 use Rattle.turns.specs.LambdaLaws.{lambda-proper, lambda-unshaped, lambda-alike, lambda-left}
 
-is-lambda-requires : tie.Need-is-lambda-requires
-is-lambda-requires c κs = search needs
-
-refuse-requires : tie.Need-refuse-requires
-refuse-requires c κs = search needs
-
-same-length : tie.Need-same-length
-same-length c = search needs
-
 returns : tie.Need-returns
 returns c =
     let a = c .before .before .before .before .before .before .before .args in
@@ -24,12 +15,6 @@ returns c =
 formals-distinct-requires : tie.Need-formals-distinct-requires
 formals-distinct-requires c κs =
     let a = c .before .before .before .before .before .before .before .args in ((sym (c .before .before .is-lambda .ensures (a .wrap)) ∙ not-false _ (c .before .if1 .left)), lambda-proper (a .items .now) (a .work .now) (a .core .now) (a .node) (a .wrap) (a .reached) (c .before .before .before .before .before .before .before .pre) (sym (c .before .before .is-lambda .ensures (a .wrap)) ∙ not-false _ (c .before .if1 .left)))
-
-refuse-requires-2 : tie.Need-refuse-requires-2
-refuse-requires-2 c κs = search needs
-
-same-length-2 : tie.Need-same-length-2
-same-length-2 c = search needs
 
 returns-2 : tie.Need-returns-2
 returns-2 c =
@@ -40,12 +25,6 @@ lambda-body-requires : tie.Need-lambda-body-requires
 lambda-body-requires c κs =
     let a = c .before .before .before .before .before .before .before .before .before .before .before .args in (c .before .before .before .before .before .before .before .before .before .before .before .pre, sym (c .before .before .before .before .before .before .is-lambda .ensures (a .wrap)) ∙ not-false _ (c .before .before .before .before .before .if1 .left))
 
-same-length-3 : tie.Need-same-length-3
-same-length-3 c = search needs
-
-same-length-4 : tie.Need-same-length-4
-same-length-4 c = search needs
-
 returns-3 : tie.Need-returns-3
 returns-3 c =
     let a = c .before .before .before .before .before .before .before .before .before .before .before .before .before .before .before .before .args in
@@ -55,15 +34,15 @@ pub lambda-spec : {M : Type 1} → statement M
 lambda-spec =
     tie.close
     (tie.spec
-    is-lambda-requires
-    refuse-requires
-    same-length
+    (λ c κs. search needs)  -- is-lambda-requires
+    (λ c κs. search needs)  -- refuse-requires
+    (λ c. search needs)  -- same-length
     returns
     formals-distinct-requires
-    refuse-requires-2
-    same-length-2
+    (λ c κs. search needs)  -- refuse-requires-2
+    (λ c. search needs)  -- same-length-2
     returns-2
     lambda-body-requires
-    same-length-3
-    same-length-4
+    (λ c. search needs)  -- same-length-3
+    (λ c. search needs)  -- same-length-4
     returns-3)

@@ -5,15 +5,6 @@ use Rattle.turns.proofs.base_forms.lambda_body.Tie as tie
 use Rattle.turns.specs.Scopes.{widened}
 use Rattle.turns.specs.LambdaLaws.{lambda-proper, lambda-space, lambda-core, lambda-few, bound-by}
 
-element-requires : tie.Need-element-requires
-element-requires c κs = search needs
-
-count-requires : tie.Need-count-requires
-count-requires c κs = search needs
-
-element-requires-2 : tie.Need-element-requires-2
-element-requires-2 c κs = search needs
-
 bind-formals-requires : tie.Need-bind-formals-requires
 bind-formals-requires c κs =
     let a = c .before .before .before .before .before .before .before .before .before .args in (c .before .before .before .before .before .before .before .before .before .pre .1, lambda-proper (a .items .now) (a .work .now) (a .core .now) (a .node) (a .wrap) (a .reached) (c .before .before .before .before .before .before .before .before .before .pre .0) (c .before .before .before .before .before .before .before .before .before .pre .1), lambda-space (a .items .now) (a .work .now) (a .core .now) (a .node) (a .wrap) (a .reached) (c .before .before .before .before .before .before .before .before .before .pre .0) (c .before .before .before .before .before .before .before .before .before .pre .1))
@@ -26,12 +17,6 @@ add-t14 : tie.Need-add-t14
 add-t14 c =
     let a = c .before .before .before .before .before .before .before .before .before .before .before .before .before .before .before .before .args in record { fits = lambda-few (a .items .now) (a .work .now) (a .core .now) (a .node) (a .wrap) (a .reached) (c .before .before .before .before .before .before .before .before .before .before .before .before .before .before .before .before .pre .0) (c .before .before .before .before .before .before .before .before .before .before .before .before .before .before .before .before .pre .1) _ _ (c .before .before .before .before .before .before .before .before .before .before .before .element .ensures) (c .before .before .before .before .before .before .before .before .before .before .count .ensures) }
 
-same-length : tie.Need-same-length
-same-length c = search needs
-
-same-length-2 : tie.Need-same-length-2
-same-length-2 c = search needs
-
 returns : tie.Need-returns
 unfolding widened
 returns c =
@@ -42,12 +27,12 @@ pub lambda-body-spec : {M : Type 1} → statement M
 lambda-body-spec =
     tie.close
     (tie.spec
-    element-requires
-    count-requires
-    element-requires-2
+    (λ c κs. search needs)  -- element-requires
+    (λ c κs. search needs)  -- count-requires
+    (λ c κs. search needs)  -- element-requires-2
     bind-formals-requires
     put-three-requires
     add-t14
-    same-length
-    same-length-2
+    (λ c. search needs)  -- same-length
+    (λ c. search needs)  -- same-length-2
     returns)

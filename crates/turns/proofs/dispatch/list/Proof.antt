@@ -4,34 +4,13 @@ use Rattle.turns.proofs.dispatch.list.Statement.{statement}
 use Rattle.turns.proofs.dispatch.list.Tie as tie
 use Rattle.turns.specs.DispatchLaws.{name-heads, other-heads, leaf-room}
 
-is-name-requires : tie.Need-is-name-requires
-is-name-requires c κs = search needs
-
 named-requires : tie.Need-named-requires
 named-requires c κs =
     let a = c .before .before .before .before .before .before .before .before .before .before .before .args in (c .before .before .before .before .before .before .before .before .before .before .before .pre .0, c .before .before .before .before .before .before .before .before .before .before .before .pre .1, c .before .before .before .before .before .before .before .before .before .before .before .pre .2, name-heads (a .work .now) _ _ (c .before .before .before .before .is-name .ensures) (a .items .now) (a .node) _ (a .wrap) (c .before .before .before .before .before .before .before .before .before .before .before .pre .3) (c .before .before .before .if1 .taken))
 
-same-length : tie.Need-same-length
-same-length c = search needs
-
-same-length-2 : tie.Need-same-length-2
-same-length-2 c = search needs
-
-same-length-3 : tie.Need-same-length-3
-same-length-3 c = search needs
-
-returns : tie.Need-returns
-returns c = search needs
-
 applied-requires : tie.Need-applied-requires
 applied-requires c κs =
     let a = c .before .before .before .before .before .before .before .before .before .before .args in leaf-room (a .items .now) (a .work .now) (a .core .now) (a .known .now) (a .fuel) (a .node) (a .wrap) (a .reached) (c .before .before .before .before .before .before .before .before .before .before .pre .2) (c .before .before .before .before .before .before .before .before .before .before .pre .1)
-
-same-length-4 : tie.Need-same-length-4
-same-length-4 c = search needs
-
-same-length-5 : tie.Need-same-length-5
-same-length-5 c = search needs
 
 returns-2 : tie.Need-returns-2
 returns-2 c =
@@ -41,13 +20,13 @@ pub list-spec : {M : Type 1} → statement M
 list-spec =
     tie.close
     (tie.spec
-    is-name-requires
+    (λ c κs. search needs)  -- is-name-requires
     named-requires
-    same-length
-    same-length-2
-    same-length-3
-    returns
+    (λ c. search needs)  -- same-length
+    (λ c. search needs)  -- same-length-2
+    (λ c. search needs)  -- same-length-3
+    (λ c. search needs)  -- returns
     applied-requires
-    same-length-4
-    same-length-5
+    (λ c. search needs)  -- same-length-4
+    (λ c. search needs)  -- same-length-5
     returns-2)

@@ -11,21 +11,6 @@ use Rattle.turns.specs.LeafLaws.{found-by, nothing-by}
 use Rattle.turns.specs.ReadyLaws.{ready-use}
 use Rattle.turns.specs.DispatchLaws.{application-room, form-room, nothing-turned, variable-turned, operation-turned, macro-turned, form-heads}
 
-look-requires : tie.Need-look-requires
-look-requires c κs = search needs
-
-enum-known-found : tie.Need-enum-known-found
-enum-known-found c = search needs
-
-enum-told : tie.Need-enum-told
-enum-told c = search needs
-
-refuse-requires : tie.Need-refuse-requires
-refuse-requires c κs = search needs
-
-same-length : tie.Need-same-length
-same-length c = search needs
-
 returns : tie.Need-returns
 returns c =
     let a = c .before .before .before .before .before .before .before .before .before .before .args in
@@ -33,32 +18,20 @@ returns c =
     nothing-turned (a .items .now) (a .work .now) (a .core .now) (a .known .now) (a .fuel) (a .node) (a .tail) (a .wrap) (a .reached) x (c .before .before .before .before .before .before .before .before .before .before .pre .3) (c .before .before .before .before .before .before .before .before .before .before .pre .1) (c .before .before .before .before .before .before .before .before .before .before .pre .2) _
     (nothing-by (lookup (operationsOf (a .items .now)) x) _ (c .before .before .before .look .ensures) (c .before .enum-told .given .1)) (c .refuse .ensures)
 
-enum-known-found-2 : tie.Need-enum-known-found-2
-enum-known-found-2 c = search needs
-
 put-application-requires : tie.Need-put-application-requires
 put-application-requires c κs =
     let a = c .before .before .before .before .before .before .before .before .before .before .before .before .before .before .before .args in
     application-room (a .items .now) (a .work .now) (a .core .now) (a .known .now) (a .fuel) (a .node) (a .wrap) (a .reached) (c .before .before .before .before .before .before .before .before .before .before .before .before .before .before .before .pre .2) (c .before .before .before .before .before .before .before .before .before .before .before .before .before .before .before .pre .1) (a .tail) _ (c .before .before .before .before .before .before .before .before .before .before .before .before .before .before .before .pre .3)
-
-enum-known-found-3 : tie.Need-enum-known-found-3
-enum-known-found-3 c = search needs
 
 put-application-requires-2 : tie.Need-put-application-requires-2
 put-application-requires-2 c κs =
     let a = c .before .before .before .before .before .before .before .before .before .before .before .before .before .before .before .args in
     application-room (a .items .now) (a .work .now) (a .core .now) (a .known .now) (a .fuel) (a .node) (a .wrap) (a .reached) (c .before .before .before .before .before .before .before .before .before .before .before .before .before .before .before .pre .2) (c .before .before .before .before .before .before .before .before .before .before .before .before .before .before .before .pre .1) (a .tail) _ (c .before .before .before .before .before .before .before .before .before .before .before .before .before .before .before .pre .3)
 
-enum-known-found-4 : tie.Need-enum-known-found-4
-enum-known-found-4 c = search needs
-
 macro-use-requires : tie.Need-macro-use-requires
 macro-use-requires c κs =
     let a = c .before .before .before .before .before .before .before .before .before .before .before .before .before .before .before .args in
     ready-use (a .items .now) (a .work .now) (a .core .now) (a .known .now) (a .fuel) (a .node) (a .wrap) (a .reached) (c .before .before .before .before .before .before .before .before .before .before .before .before .before .before .before .pre .2) (c .before .before .before .before .before .before .before .before .before .before .before .before .before .before .before .pre .1)
-
-enum-known-found-5 : tie.Need-enum-known-found-5
-enum-known-found-5 c = search needs
 
 form-requires : tie.Need-form-requires
 form-requires c κs =
@@ -68,24 +41,12 @@ form-requires c κs =
       form-room (a .items .now) (a .work .now) (a .core .now) (a .known .now) (a .fuel) (a .node) (a .wrap) (a .reached) (c .before .before .before .before .before .before .before .before .before .before .before .before .before .before .before .before .pre .2) (c .before .before .before .before .before .before .before .before .before .before .before .before .before .before .before .before .pre .1),
     )
 
-same-length-2 : tie.Need-same-length-2
-same-length-2 c = search needs
-
-same-length-3 : tie.Need-same-length-3
-same-length-3 c = search needs
-
 returns-2 : tie.Need-returns-2
 returns-2 c =
     let a = c .before .before .before .before .before .before .before .before .before .before .before .before .before .before .before .before .before .before .args in
     let x = nameAt (a .items .now) (a .work .now) (a .head) (a .wrap) in
     variable-turned (a .items .now) (a .work .now) (a .core .now) (a .known .now) (a .fuel) (a .node) (a .tail) (a .wrap) (a .reached) x (c .before .before .before .before .before .before .before .before .before .before .before .before .before .before .before .before .before .before .pre .3) (c .before .before .before .before .before .before .before .before .before .before .before .before .before .before .before .before .before .before .pre .1) (c .before .before .before .before .before .before .before .before .before .before .before .before .before .before .before .before .before .before .pre .2) _ _ _
     (ap knownOf (sym (c .before .before .before .before .before .before .found2 .given .1)) ∙ found-by (lookup (operationsOf (a .items .now)) x) _ _ (c .before .before .before .before .before .before .before .before .before .before .before .look .ensures) (c .before .before .before .before .before .before .before .before .before .found .given .1)) (c .before .before .put-application .ensures)
-
-same-length-4 : tie.Need-same-length-4
-same-length-4 c = search needs
-
-same-length-5 : tie.Need-same-length-5
-same-length-5 c = search needs
 
 returns-3 : tie.Need-returns-3
 returns-3 c =
@@ -94,27 +55,12 @@ returns-3 c =
     operation-turned (a .items .now) (a .work .now) (a .core .now) (a .known .now) (a .fuel) (a .node) (a .tail) (a .wrap) (a .reached) x (c .before .before .before .before .before .before .before .before .before .before .before .before .before .before .before .before .before .before .pre .3) (c .before .before .before .before .before .before .before .before .before .before .before .before .before .before .before .before .before .before .pre .1) (c .before .before .before .before .before .before .before .before .before .before .before .before .before .before .before .before .before .before .pre .2) _ _ _
     (ap knownOf (sym (c .before .before .before .before .before .before .found3 .given .1)) ∙ found-by (lookup (operationsOf (a .items .now)) x) _ _ (c .before .before .before .before .before .before .before .before .before .before .before .look .ensures) (c .before .before .before .before .before .before .before .before .before .found .given .1)) (c .before .before .put-application2 .ensures)
 
-same-length-6 : tie.Need-same-length-6
-same-length-6 c = search needs
-
-same-length-7 : tie.Need-same-length-7
-same-length-7 c = search needs
-
 returns-4 : tie.Need-returns-4
 returns-4 c =
     let a = c .before .before .before .before .before .before .before .before .before .before .before .before .before .before .before .before .before .before .args in
     let x = nameAt (a .items .now) (a .work .now) (a .head) (a .wrap) in
     macro-turned (a .items .now) (a .work .now) (a .core .now) (a .known .now) (a .fuel) (a .node) (a .tail) (a .wrap) (a .reached) x (c .before .before .before .before .before .before .before .before .before .before .before .before .before .before .before .before .before .before .pre .3) (c .before .before .before .before .before .before .before .before .before .before .before .before .before .before .before .before .before .before .pre .1) (c .before .before .before .before .before .before .before .before .before .before .before .before .before .before .before .before .before .before .pre .2) _ (c .before .before .macro-use .last .1 .0) (c .before .before .macro-use .result)
     (ap knownOf (sym (c .before .before .before .before .before .before .found4 .given .1)) ∙ found-by (lookup (operationsOf (a .items .now)) x) _ _ (c .before .before .before .before .before .before .before .before .before .before .before .look .ensures) (c .before .before .before .before .before .before .before .before .before .found .given .1)) (c .before .before .macro-use .kept .1 .0) (c .before .before .macro-use .ensures)
-
-same-length-8 : tie.Need-same-length-8
-same-length-8 c = search needs
-
-same-length-9 : tie.Need-same-length-9
-same-length-9 c = search needs
-
-same-length-10 : tie.Need-same-length-10
-same-length-10 c = search needs
 
 returns-5 : tie.Need-returns-5
 returns-5 c =
@@ -124,30 +70,30 @@ pub named-spec : {M : Type 1} → statement M
 named-spec =
     tie.close
     (tie.spec
-    look-requires
-    enum-known-found
-    enum-told
-    refuse-requires
-    same-length
+    (λ c κs. search needs)  -- look-requires
+    (λ c. search needs)  -- enum-known-found
+    (λ c. search needs)  -- enum-told
+    (λ c κs. search needs)  -- refuse-requires
+    (λ c. search needs)  -- same-length
     returns
-    enum-known-found-2
+    (λ c. search needs)  -- enum-known-found-2
     put-application-requires
-    enum-known-found-3
+    (λ c. search needs)  -- enum-known-found-3
     put-application-requires-2
-    enum-known-found-4
+    (λ c. search needs)  -- enum-known-found-4
     macro-use-requires
-    enum-known-found-5
+    (λ c. search needs)  -- enum-known-found-5
     form-requires
-    same-length-2
-    same-length-3
+    (λ c. search needs)  -- same-length-2
+    (λ c. search needs)  -- same-length-3
     returns-2
-    same-length-4
-    same-length-5
+    (λ c. search needs)  -- same-length-4
+    (λ c. search needs)  -- same-length-5
     returns-3
-    same-length-6
-    same-length-7
+    (λ c. search needs)  -- same-length-6
+    (λ c. search needs)  -- same-length-7
     returns-4
-    same-length-8
-    same-length-9
-    same-length-10
+    (λ c. search needs)  -- same-length-8
+    (λ c. search needs)  -- same-length-9
+    (λ c. search needs)  -- same-length-10
     returns-5)

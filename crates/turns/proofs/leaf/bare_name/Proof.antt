@@ -9,59 +9,17 @@ use Rattle.turns.specs.LeafLaws.{found-by, nothing-by, name-nothing, nam
 use mathlib.Core.Path.{ap, sym, _∙_}
 use Rattle.turns.specs.Leaves.{knownOf}
 
-look-requires : tie.Need-look-requires
-look-requires c κs = search needs
-
-enum-known-found : tie.Need-enum-known-found
-enum-known-found c = search needs
-
-enum-told : tie.Need-enum-told
-enum-told c = search needs
-
-refuse-requires : tie.Need-refuse-requires
-refuse-requires c κs = search needs
-
 returns : tie.Need-returns
 returns c =
     let a = c .before .before .before .before .before .before .before .before .args in
     let found = lookup (operationsOf (a .items .now)) (nameAt (a .items .now) (a .work .now) (a .node) (a .wrap)) in
     name-nothing found (a .reached) (a .core .now) (a .core .now) _ (nothing-by found _ (c .before .before .before .look .ensures) (c .before .enum-told .given .1)) (c .refuse .ensures)
 
-enum-known-found-2 : tie.Need-enum-known-found-2
-enum-known-found-2 c = search needs
-
-put-node-requires : tie.Need-put-node-requires
-put-node-requires c κs = search needs
-
-enum-known-found-3 : tie.Need-enum-known-found-3
-enum-known-found-3 c = search needs
-
-put-node-requires-2 : tie.Need-put-node-requires-2
-put-node-requires-2 c κs = search needs
-
-enum-known-found-4 : tie.Need-enum-known-found-4
-enum-known-found-4 c = search needs
-
-refuse-requires-2 : tie.Need-refuse-requires-2
-refuse-requires-2 c κs = search needs
-
-enum-known-found-5 : tie.Need-enum-known-found-5
-enum-known-found-5 c = search needs
-
-refuse-requires-3 : tie.Need-refuse-requires-3
-refuse-requires-3 c κs = search needs
-
-same-length : tie.Need-same-length
-same-length c = search needs
-
 returns-2 : tie.Need-returns-2
 returns-2 c =
     let a = c .before .before .before .before .before .before .before .before .before .before .before .before .before .before .before .args in
     let found = lookup (operationsOf (a .items .now)) (nameAt (a .items .now) (a .work .now) (a .node) (a .wrap)) in
     name-variable found (a .reached) (a .core .now) _ _ _ (ap knownOf (sym (c .before .before .before .before .before .found2 .given .1)) ∙ found-by found _ _ (c .before .before .before .before .before .before .before .before .before .before .look .ensures) (c .before .before .before .before .before .before .before .before .found .given .1)) (c .before .before .put-node .ensures)
-
-same-length-2 : tie.Need-same-length-2
-same-length-2 c = search needs
 
 returns-3 : tie.Need-returns-3
 returns-3 c =
@@ -85,22 +43,22 @@ pub bare-name-spec : {M : Type 1} → statement M
 bare-name-spec =
     tie.close
     (tie.spec
-    look-requires
-    enum-known-found
-    enum-told
-    refuse-requires
+    (λ c κs. search needs)  -- look-requires
+    (λ c. search needs)  -- enum-known-found
+    (λ c. search needs)  -- enum-told
+    (λ c κs. search needs)  -- refuse-requires
     returns
-    enum-known-found-2
-    put-node-requires
-    enum-known-found-3
-    put-node-requires-2
-    enum-known-found-4
-    refuse-requires-2
-    enum-known-found-5
-    refuse-requires-3
-    same-length
+    (λ c. search needs)  -- enum-known-found-2
+    (λ c κs. search needs)  -- put-node-requires
+    (λ c. search needs)  -- enum-known-found-3
+    (λ c κs. search needs)  -- put-node-requires-2
+    (λ c. search needs)  -- enum-known-found-4
+    (λ c κs. search needs)  -- refuse-requires-2
+    (λ c. search needs)  -- enum-known-found-5
+    (λ c κs. search needs)  -- refuse-requires-3
+    (λ c. search needs)  -- same-length
     returns-2
-    same-length-2
+    (λ c. search needs)  -- same-length-2
     returns-3
     returns-4
     returns-5)

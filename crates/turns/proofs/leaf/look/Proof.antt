@@ -5,24 +5,6 @@ use Rattle.turns.proofs.leaf.look.Tie as tie
 use Rattle.arena.specs.Arena.{nameAt}
 use Rattle.turns.specs.LeafLaws.{look-variable, look-macro, look-form, look-operation, look-nothing}
 
-lookup-requires : tie.Need-lookup-requires
-lookup-requires c κs = search needs
-
-enum-known-found : tie.Need-enum-known-found
-enum-known-found c = search needs
-
-enum-known-found-2 : tie.Need-enum-known-found-2
-enum-known-found-2 c = search needs
-
-enum-known-found-3 : tie.Need-enum-known-found-3
-enum-known-found-3 c = search needs
-
-enum-known-found-4 : tie.Need-enum-known-found-4
-enum-known-found-4 c = search needs
-
-enum-told : tie.Need-enum-told
-enum-told c = search needs
-
 returns : tie.Need-returns
 returns c =
     let a = c .before .before .before .before .before .before .before .args in
@@ -52,12 +34,12 @@ pub look-spec : {M : Type 1} → statement M
 look-spec =
     tie.close
     (tie.spec
-    lookup-requires
-    enum-known-found
-    enum-known-found-2
-    enum-known-found-3
-    enum-known-found-4
-    enum-told
+    (λ c κs. search needs)  -- lookup-requires
+    (λ c. search needs)  -- enum-known-found
+    (λ c. search needs)  -- enum-known-found-2
+    (λ c. search needs)  -- enum-known-found-3
+    (λ c. search needs)  -- enum-known-found-4
+    (λ c. search needs)  -- enum-told
     returns
     returns-2
     returns-3

@@ -23,18 +23,6 @@ loop-holds c =
     let pre = c .before .before .before .pre in
     (refl, refl, reading-begins (a .items .now) (a .work .now) (a .macros .now) (a .list) (a .w) (a .count) (a .top) pre)
 
-word-requires : tie.Need-word-requires Inv-loop μ-loop
-word-requires c κs = search needs
-
-reference-requires : tie.Need-reference-requires Inv-loop μ-loop
-reference-requires c κs = search needs
-
-element-requires : tie.Need-element-requires Inv-loop μ-loop
-element-requires c κs = search needs
-
-reference-requires-2 : tie.Need-reference-requires-2 Inv-loop μ-loop
-reference-requires-2 c κs = search needs
-
 one-macro-requires : tie.Need-one-macro-requires Inv-loop μ-loop
 one-macro-requires c κs =
     let a = c .before .before .before .before .before .before .before .before .before .before .before .before .before .before .before .args in
@@ -45,18 +33,6 @@ one-macro-requires c κs =
     let element = c .before .before .before .before .element in
     let reference2 = c .before .before .reference2 in
     one-ask (a .items .now) (loop .work) (loop .macros) (loop .at) (a .w) (loop .n) (loop .end) (loop .inv .2 .ask) _ _ _ (sym (word .ensures) ∙ if1 .taken) (reference .ensures) (reference2 .ensures) (element .ensures)
-
-enum-known-upper : tie.Need-enum-known-upper Inv-loop μ-loop
-enum-known-upper c = search needs
-
-enum-told : tie.Need-enum-told Inv-loop μ-loop
-enum-told c = search needs
-
-same-length : tie.Need-same-length Inv-loop μ-loop
-same-length c = search needs
-
-same-length-2 : tie.Need-same-length-2 Inv-loop μ-loop
-same-length-2 c = search needs
 
 returns : tie.Need-returns Inv-loop μ-loop
 returns c =
@@ -102,12 +78,6 @@ loop-again c =
     let upper = c .before .upper in
     (one-macro .kept .1 .0 ∙ loop .inv .0, one-macro .kept .1 .1 .0 ∙ loop .inv .1, reading-more (a .items .now) (a .work .now) (a .macros .now) (a .list) (a .w) (a .count) (a .top) (loop .work) (loop .macros) (loop .at) (loop .n) (loop .end) (loop .inv .2) _ _ _ (sym (word .ensures) ∙ if1 .taken) (reference .ensures) (reference2 .ensures) (element .ensures) _ _ _ (one-macro .ensures) _ (upper .given .1) (one-macro .kept .1 .0) (one-macro .kept .1 .1 .0))
 
-same-length-3 : tie.Need-same-length-3 Inv-loop μ-loop
-same-length-3 c = search needs
-
-same-length-4 : tie.Need-same-length-4 Inv-loop μ-loop
-same-length-4 c = search needs
-
 returns-2 : tie.Need-returns-2 Inv-loop μ-loop
 returns-2 c =
     let a = c .before .before .before .before .before .before .before .args in
@@ -122,19 +92,19 @@ all-macros-spec =
     Inv-loop
     μ-loop
     loop-holds
-    word-requires
-    reference-requires
-    element-requires
-    reference-requires-2
+    (λ c κs. search needs)  -- word-requires
+    (λ c κs. search needs)  -- reference-requires
+    (λ c κs. search needs)  -- element-requires
+    (λ c κs. search needs)  -- reference-requires-2
     one-macro-requires
-    enum-known-upper
-    enum-told
-    same-length
-    same-length-2
+    (λ c. search needs)  -- enum-known-upper
+    (λ c. search needs)  -- enum-told
+    (λ c. search needs)  -- same-length
+    (λ c. search needs)  -- same-length-2
     returns
     add-n
     loop-less
     loop-again
-    same-length-3
-    same-length-4
+    (λ c. search needs)  -- same-length-3
+    (λ c. search needs)  -- same-length-4
     returns-2)

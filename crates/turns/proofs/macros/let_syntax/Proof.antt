@@ -8,15 +8,6 @@ use Rattle.arena.specs.Arena.{treeAt}
 use Rattle.forms.specs.ScopeLaws.{macros-names}
 use Rattle.turns.specs.MacroTurnLaws.{macros-unshaped, macros-alike, macros-left}
 
-is-macros-requires : tie.Need-is-macros-requires
-is-macros-requires c κs = search needs
-
-refuse-requires : tie.Need-refuse-requires
-refuse-requires c κs = search needs
-
-same-length : tie.Need-same-length
-same-length c = search needs
-
 returns : tie.Need-returns
 returns c =
     let a = c .before .before .before .before .before .before .before .args in macros-unshaped (treeAt (a .items .now) (a .work .now) (a .node) (a .wrap)) (a .inside) (a .reached) _ (sym (c .before .before .is-macros .ensures (a .wrap)) ∙ not-true _ (c .before .if1 .taken)) (c .refuse .ensures)
@@ -24,12 +15,6 @@ returns c =
 keywords-distinct-requires : tie.Need-keywords-distinct-requires
 keywords-distinct-requires c κs =
     let a = c .before .before .before .before .before .before .before .args in macros-names (treeAt (a .items .now) (a .work .now) (a .node) (a .wrap)) 16 (sym (c .before .before .is-macros .ensures (a .wrap)) ∙ not-false _ (c .before .if1 .left))
-
-refuse-requires-2 : tie.Need-refuse-requires-2
-refuse-requires-2 c κs = search needs
-
-same-length-2 : tie.Need-same-length-2
-same-length-2 c = search needs
 
 returns-2 : tie.Need-returns-2
 returns-2 c =
@@ -39,12 +24,6 @@ macros-body-requires : tie.Need-macros-body-requires
 macros-body-requires c κs =
     let a = c .before .before .before .before .before .before .before .before .before .before .before .args in (c .before .before .before .before .before .before .before .before .before .before .before .pre, sym (c .before .before .before .before .before .before .is-macros .ensures (a .wrap)) ∙ not-false _ (c .before .before .before .before .before .if1 .left))
 
-same-length-3 : tie.Need-same-length-3
-same-length-3 c = search needs
-
-same-length-4 : tie.Need-same-length-4
-same-length-4 c = search needs
-
 returns-3 : tie.Need-returns-3
 returns-3 c =
     let a = c .before .before .before .before .before .before .before .before .before .before .before .before .before .before .before .before .args in macros-left (treeAt (a .items .now) (a .work .now) (a .node) (a .wrap)) (a .inside) (a .reached) (a .items .now) (a .work .now) (c .before .before .before .before .macros-body .last .1 .0) (a .macros .now) (c .before .before .before .before .macros-body .last .1 .1 .0) (c .before .before .before .before .macros-body .result) (sym (c .before .before .before .before .before .before .before .before .before .before .before .is-macros .ensures (a .wrap)) ∙ not-false _ (c .before .before .before .before .before .before .before .before .before .before .if1 .left)) (sym (c .before .before .before .before .before .before .before .before .keywords-distinct .ensures) ∙ not-false _ (c .before .before .before .before .before .before .before .if2 .left)) (c .before .before .before .before .macros-body .ensures)
@@ -53,15 +32,15 @@ pub let-syntax-spec : {M : Type 1} → statement M
 let-syntax-spec =
     tie.close
     (tie.spec
-    is-macros-requires
-    refuse-requires
-    same-length
+    (λ c κs. search needs)  -- is-macros-requires
+    (λ c κs. search needs)  -- refuse-requires
+    (λ c. search needs)  -- same-length
     returns
     keywords-distinct-requires
-    refuse-requires-2
-    same-length-2
+    (λ c κs. search needs)  -- refuse-requires-2
+    (λ c. search needs)  -- same-length-2
     returns-2
     macros-body-requires
-    same-length-3
-    same-length-4
+    (λ c. search needs)  -- same-length-3
+    (λ c. search needs)  -- same-length-4
     returns-3)

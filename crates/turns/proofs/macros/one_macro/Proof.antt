@@ -5,35 +5,11 @@ use Rattle.turns.proofs.macros.one_macro.Tie as tie
 use Rattle.rule_cells.specs.Built.{builtOf, built-bad, built-good}
 use Rattle.turns.specs.MacroRuleLaws.{one-bad, one-good}
 
-rules-requires : tie.Need-rules-requires
-rules-requires c κs = search needs
-
-same-length : tie.Need-same-length
-same-length c = search needs
-
 returns : tie.Need-returns
 returns c =
     let a = c .before .before .before .before .before .before .before .before .args in
     let r = c .before .before .before .rules in
     one-bad (a .items .now) (a .work .now) (a .macros .now) (a .form) (a .w) (a .count) (a .top) (c .before .before .before .before .before .before .before .before .pre) (r .last .1 .0) (builtOf (r .result)) (r .ensures) (a .macros .now) (built-bad (r .result) (c .if1 .taken))
-
-high-requires : tie.Need-high-requires
-high-requires c κs = search needs
-
-mul-macros : tie.Need-mul-macros
-mul-macros c = search needs
-
-slice-write-macros : tie.Need-slice-write-macros
-slice-write-macros c = search needs
-
-low-requires : tie.Need-low-requires
-low-requires c κs = search needs
-
-same-length-2 : tie.Need-same-length-2
-same-length-2 c = search needs
-
-same-length-3 : tie.Need-same-length-3
-same-length-3 c = search needs
 
 returns-2 : tie.Need-returns-2
 returns-2 c =
@@ -45,13 +21,13 @@ pub one-macro-spec : {M : Type 1} → statement M
 one-macro-spec =
     tie.close
     (tie.spec
-    rules-requires
-    same-length
+    (λ c κs. search needs)  -- rules-requires
+    (λ c. search needs)  -- same-length
     returns
-    high-requires
-    mul-macros
-    slice-write-macros
-    low-requires
-    same-length-2
-    same-length-3
+    (λ c κs. search needs)  -- high-requires
+    (λ c. search needs)  -- mul-macros
+    (λ c. search needs)  -- slice-write-macros
+    (λ c κs. search needs)  -- low-requires
+    (λ c. search needs)  -- same-length-2
+    (λ c. search needs)  -- same-length-3
     returns-2)

@@ -21,17 +21,9 @@ abbrev μ-loop : tie.MeasureT-loop
 μ-loop src out₀ at ink to i₀ out i =
     length src - i
 
-sub-if1 : tie.Need-sub-if1 Inv-loop μ-loop
-sub-if1 c =
-    search needs
-
 returns : tie.Need-returns Inv-loop μ-loop
 returns c =
     left-no-place (full (omega arith) (λ h. refl))
-
-add-to : tie.Need-add-to Inv-loop μ-loop
-add-to c =
-    search needs
 
 returns-2 : tie.Need-returns-2 Inv-loop μ-loop
 returns-2 c =
@@ -41,25 +33,9 @@ loop-holds : tie.Need-loop-holds Inv-loop μ-loop
 loop-holds c =
     (refl, omega arith, paste-zero (c .before .before .args .out .now) (c .before .before .args .at) (c .before .before .args .src .now))
 
-shared-slice-read-out : tie.Need-shared-slice-read-out Inv-loop μ-loop
-shared-slice-read-out c =
-    search needs
-
-add-out : tie.Need-add-out Inv-loop μ-loop
-add-out c =
-    search needs
-
 slice-write-out : tie.Need-slice-write-out Inv-loop μ-loop
 slice-write-out c =
     omega (arith, c .before .before .loop .inv .0)
-
-add-i : tie.Need-add-i Inv-loop μ-loop
-add-i c =
-    search needs
-
-loop-less : tie.Need-loop-less Inv-loop μ-loop
-loop-less c =
-    search needs
 
 loop-again : tie.Need-loop-again Inv-loop μ-loop
 loop-again c =
@@ -79,16 +55,16 @@ copy-spec =
     (tie.spec
     Inv-loop
     μ-loop
-    sub-if1
+    (λ c. search needs)  -- sub-if1
     returns
-    add-to
+    (λ c. search needs)  -- add-to
     returns-2
     loop-holds
-    shared-slice-read-out
-    add-out
+    (λ c. search needs)  -- shared-slice-read-out
+    (λ c. search needs)  -- add-out
     slice-write-out
-    add-i
-    loop-less
+    (λ c. search needs)  -- add-i
+    (λ c. search needs)  -- loop-less
     loop-again
     same-length
     returns-3)

@@ -28,22 +28,6 @@ digits-below t = and 1 digits-kinds.ps (falls 1 digits-kinds.ps _<_ μ-digits t)
 abbrev E : ℕ → digits-lts.Claims
 E t = (byte-reads.Asked, byte-reads.Learnt, digits-below t, digits.Post)
 
-digits-cast-byte : (t : ℕ) → digits-lts.Need-cast-byte (E t) (digits-at t) digits.Post
-digits-cast-byte t c =
-    search needs
-
-digits-add-byte : (t : ℕ) → digits-lts.Need-add-byte (E t) (digits-at t) digits.Post
-digits-add-byte t c =
-    search needs
-
-digits-byte-requires : (t : ℕ) → digits-lts.Need-byte-requires (E t) (digits-at t) digits.Post
-digits-byte-requires t c κs =
-    search needs
-
-digits-same-length : (t : ℕ) → digits-lts.Need-same-length (E t) (digits-at t) digits.Post
-digits-same-length t c =
-    search needs
-
 digits-returns : (t : ℕ) → digits-lts.Need-returns (E t) (digits-at t) digits.Post
 digits-returns t c =
     left-is (sym (decimal-one _ (c .before .before .before .before .if1 .taken))) (c .before .before .byte .ensures)
@@ -60,14 +44,6 @@ digits-returns-2 : (t : ℕ) → digits-lts.Need-returns-2 (E t) (digits-at t) d
 digits-returns-2 t c =
     left-is (sym (decimal-more _ (c .before .before .before .before .before .if1 .left))) (place-full (c .before .before .before .digits .ensures) _ (c .if2 .taken))
 
-digits-cast-byte-2 : (t : ℕ) → digits-lts.Need-cast-byte-2 (E t) (digits-at t) digits.Post
-digits-cast-byte-2 t c =
-    search needs
-
-digits-add-byte-2 : (t : ℕ) → digits-lts.Need-add-byte-2 (E t) (digits-at t) digits.Post
-digits-add-byte-2 t c =
-    search needs
-
 digits-byte-requires-2 : (t : ℕ) → digits-lts.Need-byte-requires-2 (E t) (digits-at t) digits.Post
 digits-byte-requires-2 t c κs =
     place-room (c .before .before .before .before .digits .ensures) (c .before .if2 .left)
@@ -83,16 +59,16 @@ digits-returns-3 t c =
 pub +digits-spec : {M : Type 1} → statement M
 +digits-spec = close μ-digits λ t. digits-lts.spec (E t) (digits-at t)
     digits.Post
-    (digits-cast-byte t)
-    (digits-add-byte t)
-    (digits-byte-requires t)
-    (digits-same-length t)
+    (λ c. search needs)  -- digits-cast-byte
+    (λ c. search needs)  -- digits-add-byte
+    (λ c κs. search needs)  -- digits-byte-requires
+    (λ c. search needs)  -- digits-same-length
     (digits-returns t)
     (digits-digits-requires t)
     (digits-same-length-2 t)
     (digits-returns-2 t)
-    (digits-cast-byte-2 t)
-    (digits-add-byte-2 t)
+    (λ c. search needs)  -- digits-cast-byte-2
+    (λ c. search needs)  -- digits-add-byte-2
     (digits-byte-requires-2 t)
     (digits-same-length-3 t)
     (digits-returns-3 t)

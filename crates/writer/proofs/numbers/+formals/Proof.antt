@@ -61,17 +61,9 @@ formals-add-formals : (t : ℕ) → formals-lts.Need-add-formals (E t) (formals-
 formals-add-formals t c =
     omega (arith, c .before .before .before .before .before .before .before .before .before .before .before .before .pre .1 .1, c .before .before .before .before .before .before .before .before .before .before .if1 .left)
 
-formals-sub-formals : (t : ℕ) → formals-lts.Need-sub-formals (E t) (formals-at t) formals.Post
-formals-sub-formals t c =
-    search needs
-
 formals-formals-requires : (t : ℕ) → formals-lts.Need-formals-requires (E t) (formals-at t) formals.Post
 formals-formals-requires t c κs =
     (omega (arith, c .before .before .before .before .before .before .before .before .before .before .before .if1 .left), (place-room (c .before .before .before .before .numbered .ensures) (c .before .if3 .left), omega (arith, c .before .before .before .before .before .before .before .before .before .before .before .before .before .pre .1 .1, c .before .before .before .before .before .before .before .before .before .before .before .if1 .left)))
-
-formals-same-length-3 : (t : ℕ) → formals-lts.Need-same-length-3 (E t) (formals-at t) formals.Post
-formals-same-length-3 t c =
-    search needs
 
 formals-returns-4 : (t : ℕ) → formals-lts.Need-returns-4 (E t) (formals-at t) formals.Post
 formals-returns-4 t c =
@@ -88,7 +80,7 @@ pub +formals-spec : {M : Type 1} → statement M
     (formals-same-length-2 t)
     (formals-returns-3 t)
     (formals-add-formals t)
-    (formals-sub-formals t)
+    (λ c. search needs)  -- formals-sub-formals
     (formals-formals-requires t)
-    (formals-same-length-3 t)
+    (λ c. search needs)  -- formals-same-length-3
     (formals-returns-4 t)

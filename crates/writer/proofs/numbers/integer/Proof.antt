@@ -15,14 +15,6 @@ use Rattle.writer.specs.LaidLaws.{left-is}
 use Rattle.core_term.specs.DecimalLaws.{integer-plain, integer-minus}
 use Rattle.core_term.specs.Decimal.{decimal}
 
-wide-requires : tie.Need-wide-requires
-wide-requires c κs =
-    search needs
-
-digits-requires : tie.Need-digits-requires
-digits-requires c κs =
-    search needs
-
 same-length : tie.Need-same-length
 same-length c =
     c .before .before .digits .kept .1 .0
@@ -31,21 +23,9 @@ returns : tie.Need-returns
 returns c =
     left-is (ap decimal (c .before .before .before .before .wide .ensures) ∙ sym (integer-plain _ (c .before .before .before .before .before .if1 .taken))) (c .before .before .digits .ensures)
 
-sub-wide : tie.Need-sub-wide
-sub-wide c =
-    search needs
-
-wide-requires-2 : tie.Need-wide-requires-2
-wide-requires-2 c κs =
-    search needs
-
 add-numbered : tie.Need-add-numbered
 add-numbered c =
     omega (arith, c .wide2 .ensures)
-
-numbered-requires : tie.Need-numbered-requires
-numbered-requires c κs =
-    search needs
 
 same-length-2 : tie.Need-same-length-2
 same-length-2 c =
@@ -59,13 +39,13 @@ pub integer-spec : {M : Type 1} → statement M
 integer-spec =
     tie.close
     (tie.spec
-    wide-requires
-    digits-requires
+    (λ c κs. search needs)  -- wide-requires
+    (λ c κs. search needs)  -- digits-requires
     same-length
     returns
-    sub-wide
-    wide-requires-2
+    (λ c. search needs)  -- sub-wide
+    (λ c κs. search needs)  -- wide-requires-2
     add-numbered
-    numbered-requires
+    (λ c κs. search needs)  -- numbered-requires
     same-length-2
     returns-2)

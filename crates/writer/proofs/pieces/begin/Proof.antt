@@ -23,10 +23,6 @@ shared-slice-read-code : tie.Need-shared-slice-read-code
 shared-slice-read-code c =
     let o = c .before .before .before .before .pre .1 in omega (arith, some-words (c .before .before .before .before .args .words .now) (o .it) (o .left) (o .is))
 
-slice-aggregate-copy : tie.Need-slice-aggregate-copy
-slice-aggregate-copy c =
-    search needs
-
 copy-requires : tie.Need-copy-requires
 copy-requires c κs =
     c .before .before .before .before .before .before .before .pre .0
@@ -42,10 +38,6 @@ returns c =
 shared-slice-read-wide : tie.Need-shared-slice-read-wide
 shared-slice-read-wide c =
     let o = c .before .before .before .before .before .before .pre .1 in omega (arith, two-words (c .before .before .before .before .before .before .args .words .now) (o .it) (o .left) (o .is) (c .before .if1 .left))
-
-wide-requires : tie.Need-wide-requires
-wide-requires c κs =
-    search needs
 
 numbered-requires : tie.Need-numbered-requires
 numbered-requires c κs =
@@ -87,10 +79,6 @@ shared-slice-read-wide-2 : tie.Need-shared-slice-read-wide-2
 shared-slice-read-wide-2 c =
     let o = c .before .before .before .before .before .before .before .before .before .before .before .before .pre .1 in omega (arith, three-words (c .before .before .before .before .before .before .before .before .before .before .before .before .args .words .now) (o .it) (o .left) (o .is) (c .before .if5 .taken))
 
-wide-requires-2 : tie.Need-wide-requires-2
-wide-requires-2 c κs =
-    search needs
-
 lambda-opening-requires : tie.Need-lambda-opening-requires
 lambda-opening-requires c κs =
     (c .before .before .before .before .before .before .before .before .before .before .before .before .before .before .pre .0, omega (arith, c .before .before .before .before .before .before .before .wide .ensures, c .before .wide2 .ensures, c .before .before .shared-slice-known5 .given 1, c .before .before .shared-slice-known5 .given 2))
@@ -120,12 +108,12 @@ begin-spec =
     tie.close
     (tie.spec
     shared-slice-read-code
-    slice-aggregate-copy
+    (λ c. search needs)  -- slice-aggregate-copy
     copy-requires
     same-length
     returns
     shared-slice-read-wide
-    wide-requires
+    (λ c κs. search needs)  -- wide-requires
     numbered-requires
     same-length-2
     returns-2
@@ -136,7 +124,7 @@ begin-spec =
     same-length-4
     returns-4
     shared-slice-read-wide-2
-    wide-requires-2
+    (λ c κs. search needs)  -- wide-requires-2
     lambda-opening-requires
     same-length-5
     returns-5

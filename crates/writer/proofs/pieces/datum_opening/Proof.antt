@@ -39,10 +39,6 @@ returns : tie.Need-returns
 returns c =
     λ x l h. left-is (opens-integer (c .before .before .before .before .before .before .before .before .before .before .args .words .now) x l h _ _ (c .before .before .before .before .if1 .taken)) (c .before .before .integer .ensures)
 
-slice-aggregate-copy : tie.Need-slice-aggregate-copy
-slice-aggregate-copy c =
-    search needs
-
 copy-requires : tie.Need-copy-requires
 copy-requires c κs =
     c .before .before .before .before .before .before .before .before .before .before .pre .0
@@ -55,10 +51,6 @@ returns-2 : tie.Need-returns-2
 returns-2 c =
     λ x l h. left-is (opens-false (c .before .before .before .before .before .before .before .before .before .before .before .before .before .args .words .now) x l h _ _ (c .before .before .before .before .before .before .if2 .taken) (c .before .before .before .before .before .if3 .taken)) (c .before .before .copy .ensures)
 
-slice-aggregate-copy-2 : tie.Need-slice-aggregate-copy-2
-slice-aggregate-copy-2 c =
-    search needs
-
 copy-requires-2 : tie.Need-copy-requires-2
 copy-requires-2 c κs =
     c .before .before .before .before .before .before .before .before .before .before .pre .0
@@ -70,10 +62,6 @@ same-length-3 c =
 returns-3 : tie.Need-returns-3
 returns-3 c =
     λ x l h. left-is (opens-true (c .before .before .before .before .before .before .before .before .before .before .before .before .before .args .words .now) x l h _ _ (c .before .before .before .before .before .before .if2 .taken) (c .before .before .before .before .before .if3 .left)) (c .before .before .copy2 .ensures)
-
-wide-requires : tie.Need-wide-requires
-wide-requires c κs =
-    search needs
 
 name-opening-requires : tie.Need-name-opening-requires
 name-opening-requires c κs =
@@ -99,10 +87,6 @@ returns-5 : tie.Need-returns-5
 returns-5 c =
     λ x l h. let e : getD (c .before .before .before .before .before .before .before .before .before .before .before .before .before .args .words .now) 0 0 ≡ 5 = omega (arith, c .before .before .before .before .before .before .before .before .before .before .before .before .before .pre .2, c .before .before .before .before .before .before .before .before .before .before .before .before .before .pre .3, c .before .before .before .before .before .before .before .if1 .left, c .before .before .before .before .before .before .if2 .left, c .before .before .before .before .before .if4 .left) in left-is (opens-inner (c .before .before .before .before .before .before .before .before .before .before .before .before .before .args .words .now) x l h _ _ e (c .before .before .before .before .if5 .taken)) (c .before .before .byte .ensures)
 
-slice-aggregate-copy-3 : tie.Need-slice-aggregate-copy-3
-slice-aggregate-copy-3 c =
-    search needs
-
 copy-requires-3 : tie.Need-copy-requires-3
 copy-requires-3 c κs =
     c .before .before .before .before .before .before .before .before .before .before .before .pre .0
@@ -124,22 +108,22 @@ datum-opening-spec =
     integer-requires
     same-length
     returns
-    slice-aggregate-copy
+    (λ c. search needs)  -- slice-aggregate-copy
     copy-requires
     same-length-2
     returns-2
-    slice-aggregate-copy-2
+    (λ c. search needs)  -- slice-aggregate-copy-2
     copy-requires-2
     same-length-3
     returns-3
-    wide-requires
+    (λ c κs. search needs)  -- wide-requires
     name-opening-requires
     same-length-4
     returns-4
     byte-requires
     same-length-5
     returns-5
-    slice-aggregate-copy-3
+    (λ c. search needs)  -- slice-aggregate-copy-3
     copy-requires-3
     same-length-6
     returns-6)

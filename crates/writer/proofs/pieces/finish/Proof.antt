@@ -12,10 +12,6 @@ use Rattle.writer.specs.LaidLaws.{left-is, left-none, left-place}
 use lib.ListN.{getD}
 use Rattle.writer.specs.OpenedLaws.{closes-leaf, closes-one, closes-list}
 
-shared-slice-read-code : tie.Need-shared-slice-read-code
-shared-slice-read-code c =
-    search needs
-
 returns : tie.Need-returns
 returns c =
     λ x l h. left-is (closes-leaf (c .before .before .before .before .args .words .now) x l h _ (c .if1 .taken)) (left-place (omega arith) (left-none (c .before .before .before .before .args .ink) _ (c .before .before .before .before .args .out .now) (c .before .before .before .before .pre .0)))
@@ -44,10 +40,6 @@ returns-3 : tie.Need-returns-3
 returns-3 c =
     λ x l h. left-is (closes-one (c .before .before .before .before .before .before .before .before .before .before .args .words .now) x l h (c .before .before .before .before .before .before .before .before .before .before .args .inner) (omega arith) (λ e. c .before .before .before .before .if3 .taken)) (c .before .before .byte2 .ensures)
 
-slice-aggregate-copy : tie.Need-slice-aggregate-copy
-slice-aggregate-copy c =
-    search needs
-
 copy-requires : tie.Need-copy-requires
 copy-requires c κs =
     c .before .before .before .before .before .before .before .before .pre .0
@@ -64,7 +56,7 @@ pub finish-spec : {M : Type 1} → statement M
 finish-spec =
     tie.close
     (tie.spec
-    shared-slice-read-code
+    (λ c. search needs)  -- shared-slice-read-code
     returns
     byte-requires
     same-length
@@ -72,7 +64,7 @@ finish-spec =
     byte-requires-2
     same-length-2
     returns-3
-    slice-aggregate-copy
+    (λ c. search needs)  -- slice-aggregate-copy
     copy-requires
     same-length-3
     returns-4)

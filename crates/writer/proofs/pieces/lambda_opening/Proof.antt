@@ -11,10 +11,6 @@ use mathlib.Core.Path.{sym, _∙_}
 use Rattle.writer.specs.LaidLaws.{place-room, place-full, place-then, left-is}
 use Rattle.writer.specs.PiecesLaws.{lambda-bytes}
 
-slice-aggregate-copy : tie.Need-slice-aggregate-copy
-slice-aggregate-copy c =
-    search needs
-
 copy-requires : tie.Need-copy-requires
 copy-requires c κs =
     c .before .before .before .pre .0
@@ -55,7 +51,7 @@ pub lambda-opening-spec : {M : Type 1} → statement M
 lambda-opening-spec =
     tie.close
     (tie.spec
-    slice-aggregate-copy
+    (λ c. search needs)  -- slice-aggregate-copy
     copy-requires
     same-length
     returns

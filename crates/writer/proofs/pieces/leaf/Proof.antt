@@ -18,10 +18,6 @@ shared-slice-read-wide : tie.Need-shared-slice-read-wide
 shared-slice-read-wide c =
     let s = c .before .before .before .before .before in let o = s .pre .1 in omega (arith, two-words (s .args .words .now) (o .it) (o .left) (o .is) (λ e. omega (arith, s .pre .2)))
 
-wide-requires : tie.Need-wide-requires
-wide-requires c κs =
-    search needs
-
 numbered-requires : tie.Need-numbered-requires
 numbered-requires c κs =
     c .before .before .before .before .before .before .before .before .pre .0
@@ -64,7 +60,7 @@ leaf-spec =
     (tie.spec
     shared-slice-read-code
     shared-slice-read-wide
-    wide-requires
+    (λ c κs. search needs)  -- wide-requires
     numbered-requires
     same-length
     returns

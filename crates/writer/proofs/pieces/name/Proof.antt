@@ -22,21 +22,9 @@ shared-slice-read-size : tie.Need-shared-slice-read-size
 shared-slice-read-size c =
     let s = slot-of _ _ (c .before .before .before .pre .1) in omega (arith, s .there)
 
-size-requires : tie.Need-size-requires
-size-requires c κs =
-    search needs
-
 add-to : tie.Need-add-to
 add-to c =
     let s = slot-of _ _ (c .before .before .before .before .pre .1) in omega (arith, s .few, s .short, c .size .ensures)
-
-sub-copy : tie.Need-sub-copy
-sub-copy c =
-    search needs
-
-part-copy-start : tie.Need-part-copy-start
-part-copy-start c =
-    search needs
 
 part-copy-end : tie.Need-part-copy-end
 part-copy-end c =
@@ -61,10 +49,10 @@ name-spec =
     mul-start
     add-from
     shared-slice-read-size
-    size-requires
+    (λ c κs. search needs)  -- size-requires
     add-to
-    sub-copy
-    part-copy-start
+    (λ c. search needs)  -- sub-copy
+    (λ c. search needs)  -- part-copy-start
     part-copy-end
     copy-requires
     same-length

@@ -23,10 +23,6 @@ returns : tie.Need-returns
 returns c =
     left-is (sym (name-inner _ _ _ (c .before .before .before .before .if1 .taken))) (c .before .before .name .ensures)
 
-slice-aggregate-copy : tie.Need-slice-aggregate-copy
-slice-aggregate-copy c =
-    search needs
-
 copy-requires : tie.Need-copy-requires
 copy-requires c κs =
     c .before .before .before .before .before .pre .0
@@ -70,7 +66,7 @@ name-opening-spec =
     name-requires
     same-length
     returns
-    slice-aggregate-copy
+    (λ c. search needs)  -- slice-aggregate-copy
     copy-requires
     same-length-2
     returns-2

@@ -85,10 +85,6 @@ part-returns-2 t c =
     let s = c .before .before .before .before .before .before .before .before .before .before in let w = s .args .words .now in
     for-any _ _ _ w (s .pre .1 .1) _ _ _ _ (leaf-walked _ _ _ w (s .pre .1 .1) _ _ _ _ (c .before .before .before .leaf .ensures) (c .before .before .before .before .before .if1 .taken) _ (put-done _ (c .if2 .left)))
 
-part-term-requires : (t : ℕ) → part-lts.Need-term-requires (P t) (part-at t) part.Post
-part-term-requires t c κs =
-    search needs
-
 part-same-length-3 : (t : ℕ) → part-lts.Need-same-length-3 (P t) (part-at t) part.Post
 part-same-length-3 t c =
     c .before .before .term .kept .1 .1 .0
@@ -141,21 +137,9 @@ term-part-part-start : (t : ℕ) → term-lts.Need-part-part-start (E t) (term-a
 term-part-part-start t c =
     let l = going-inside _ _ _ _ (c .before .before .before .before .before .before .before .before .before .before .before .before .before .before .before .before .args .words .now) _ _ _ _ _ _ _ (c .before .before .before .before .before .before .loop .inv) in omega arith
 
-term-part-part-end : (t : ℕ) → term-lts.Need-part-part-end (E t) (term-at t) term.Post term-Inv-loop term-μ-loop
-term-part-part-end t c =
-    search needs
-
 term-part-requires : (t : ℕ) → term-lts.Need-part-requires (E t) (term-at t) term.Post term-Inv-loop term-μ-loop
 term-part-requires t c κs =
     let g = c .before .before .before .before .before .before .before .before .loop .inv in (omega (arith, going-shorter _ _ _ _ (c .before .before .before .before .before .before .before .before .before .before .before .before .before .before .before .before .before .before .args .words .now) _ _ _ _ _ _ _ g, c .before .before .before .before .before .before .before .before .before .before .before .before .before .before .before .before .before .before .pre .0), (place-room (c .before .before .before .before .before .gap .ensures) (c .before .before .if2 .left), going-next _ _ _ _ (c .before .before .before .before .before .before .before .before .before .before .before .before .before .before .before .before .before .before .args .words .now) _ _ _ _ _ _ _ g (omega arith)))
-
-term-enum-known-used : (t : ℕ) → term-lts.Need-enum-known-used (E t) (term-at t) term.Post term-Inv-loop term-μ-loop
-term-enum-known-used t c =
-    search needs
-
-term-enum-told : (t : ℕ) → term-lts.Need-enum-told (E t) (term-at t) term.Post term-Inv-loop term-μ-loop
-term-enum-told t c =
-    search needs
 
 term-same-length-3 : (t : ℕ) → term-lts.Need-same-length-3 (E t) (term-at t) term.Post term-Inv-loop term-μ-loop
 term-same-length-3 t c =
@@ -168,14 +152,6 @@ term-returns-3 t c =
 term-add-from : (t : ℕ) → term-lts.Need-add-from (E t) (term-at t) term.Post term-Inv-loop term-μ-loop
 term-add-from t c =
     let g = c .before .before .before .before .before .before .before .before .before .before .before .before .before .before .loop .inv in omega (arith, c .before .before .before .before .before .before .before .before .before .before .before .before .before .before .before .before .before .before .before .before .before .before .before .before .good .0 .1, part-inside _ _ _ _ (c .before .before .before .before .before .before .before .before .before .before .before .before .before .before .before .before .before .before .before .before .before .before .before .before .args .words .now) _ _ _ _ _ _ _ g (omega arith) _ _ (c .before .before .before .before .before .before .before .before .before .before .before .gap .ensures) _ (put-done _ (c .before .before .before .before .before .before .before .before .if2 .left)) _ _ (c .before .before .before .before .before .part .ensures) _ _ (c .before .used .given .1))
-
-term-sub-left : (t : ℕ) → term-lts.Need-sub-left (E t) (term-at t) term.Post term-Inv-loop term-μ-loop
-term-sub-left t c =
-    search needs
-
-term-loop-less : (t : ℕ) → term-lts.Need-loop-less (E t) (term-at t) term.Post term-Inv-loop term-μ-loop
-term-loop-less t c =
-    search needs
 
 term-loop-again : (t : ℕ) → term-lts.Need-loop-again (E t) (term-at t) term.Post term-Inv-loop term-μ-loop
 term-loop-again t c =
@@ -210,7 +186,7 @@ pub +part+term-spec : {M : Type 1} → statement M
     (part-returns t)
     (part-same-length-2 t)
     (part-returns-2 t)
-    (part-term-requires t)
+    (λ c κs. search needs)  -- part-term-requires
     (part-same-length-3 t)
     (part-returns-3 t))
     λ t. term-lts.spec (E t) (term-at t)
@@ -228,15 +204,15 @@ pub +part+term-spec : {M : Type 1} → statement M
     (term-mul-part t)
     (term-sub-part t)
     (term-part-part-start t)
-    (term-part-part-end t)
+    (λ c. search needs)  -- term-part-part-end
     (term-part-requires t)
-    (term-enum-known-used t)
-    (term-enum-told t)
+    (λ c. search needs)  -- term-enum-known-used
+    (λ c. search needs)  -- term-enum-told
     (term-same-length-3 t)
     (term-returns-3 t)
     (term-add-from t)
-    (term-sub-left t)
-    (term-loop-less t)
+    (λ c. search needs)  -- term-sub-left
+    (λ c. search needs)  -- term-loop-less
     (term-loop-again t)
     (term-finish-requires t)
     (term-same-length-4 t)

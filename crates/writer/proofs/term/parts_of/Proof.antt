@@ -34,10 +34,6 @@ shared-slice-read-wide : tie.Need-shared-slice-read-wide
 shared-slice-read-wide c =
     let o = c .before .before .before .before .before .before .before .pre in omega (arith, two-words (c .before .before .before .before .before .before .before .args .words .now) (o .it) (o .left) (o .is) (c .before .before .before .if1 .left))
 
-wide-requires : tie.Need-wide-requires
-wide-requires c κs =
-    search needs
-
 returns-4 : tie.Need-returns-4
 unfolding shape
 returns-4 c =
@@ -61,7 +57,7 @@ parts-of-spec =
     returns-2
     returns-3
     shared-slice-read-wide
-    wide-requires
+    (λ c κs. search needs)  -- wide-requires
     returns-4
     add-t9
     returns-5)
