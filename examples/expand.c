@@ -1,4 +1,4 @@
-/* Expands the recipe on standard input and prints its core term, or the number for which it is turned back.
+/* Expands the recipe on standard input and prints its core term, or the number for which it is refused.
  *
  *   rt staticlib grebetallboy
  *   cc -Iinclude examples/expand.c target/staticlib/libgrebetallboy.a -o expand && ./expand < recipe.scm
@@ -8,13 +8,13 @@
 
 enum { FUEL = 512, ITEMS = 4095 };
 
-static uint8_t text[65536], names[GREBETALLBOY_NAME_BYTES], out[1 << 20];
+static uint8_t text[65536], names[GREBETALLBOY_NAME_BYTES], out[GREBETALLBOY_TEXT_BYTES(GREBETALLBOY_CORE_WORDS(ITEMS, FUEL))];
 static uint32_t items[GREBETALLBOY_ITEM_WORDS];
 static uint32_t work[GREBETALLBOY_WORK_WORDS(ITEMS, FUEL)], core[GREBETALLBOY_CORE_WORDS(ITEMS, FUEL)];
 
 static int refused(uint32_t ground)
 {
-    printf("turned back: %u\n", ground);
+    printf("refused with %u\n", ground);
     return 1;
 }
 

@@ -4,9 +4,9 @@
  * call overlap. It answers 0 where it accepts, else the number that README.md explains, and tells its numbers in `counts`, which
  * has room for three (a shorter table is left alone). Document 01 says what each table holds afterwards.
  *
- * Stack: a call takes 200 KiB, at most 1,000 bytes for each level that lists are nested, in the item table and in what macros
- * make of it, at most 800 for each element of a template's list, and at most 200 for each element of a list that a macro copies,
- * which is less than 8 MiB for every input.
+ * Stack: what a call takes at most is given below, by what it is lent. Reading and expanding take less than 8 MiB for every input;
+ * writing takes as much as its words are many, since each may open a part of the term inside the one before: 32,000 words may take
+ * 8 MiB. A call with less stack than it takes overruns it. docs/BENCHMARKS.md has what the deepest inputs take.
  */
 #ifndef GREBETALLBOY_H
 #define GREBETALLBOY_H
@@ -25,6 +25,15 @@ extern "C" {
 /* What to lend for expanding so many items with so much fuel (at most 8,192): words of the work table and of the core table. */
 #define GREBETALLBOY_WORK_WORDS(items, fuel) (24 * ((size_t)(items) + (size_t)(fuel)))
 #define GREBETALLBOY_CORE_WORDS(items, fuel) (2 * ((size_t)(items) + (size_t)(fuel)))
+
+/* What to lend for writing so many words (at most 10^9) so that the text of any term fits: bytes of output. */
+#define GREBETALLBOY_TEXT_BYTES(words) (36 * (size_t)(words))
+
+/* Bytes of stack that a call takes at most: reading; expanding so many items (at most 4,096) with so much fuel (at most 8,192);
+ * writing so many words. */
+#define GREBETALLBOY_READ_STACK ((size_t)16384)
+#define GREBETALLBOY_EXPAND_STACK(items, fuel) (262144 + 512 * ((size_t)(items) + (size_t)(fuel)))
+#define GREBETALLBOY_WRITE_STACK(words) (16384 + 256 * (size_t)(words))
 
 /* Reads a recipe text of at most 65,535 bytes. Accepted: counts has the items (three words each) and the names, then 0. */
 uint32_t grebetallboy_read(const uint8_t *text, size_t text_count, uint32_t *items, size_t items_count, uint8_t *names,

@@ -1,5 +1,7 @@
 //! The deepest inputs: lists nested as deep as a table lets them be, and results nested as deep as fuel lets them be.
 
+use reference::text;
+
 /// An item table under construction: items refer to higher ones, so that a list is opened before what stands in it.
 #[derive(Default)]
 pub struct Table(Vec<u32>);
@@ -128,7 +130,21 @@ fn use_nested(t: &mut Table, uses: usize) {
     t.list(2, &mut |t, place| if place == 0 { t.name(M) } else { use_nested(t, uses - 1) });
 }
 
-/// Each deepest input with its fuel, and how many levels its term or datum has, or how many copies or elements.
+/// A name that goes through some 800 uses before it is bound and referred to, so that it has as many marks.
+pub fn many_marks() -> Vec<u32> {
+    let counted = |i: usize| {
+        let rules: String = (0..15).map(|k| format!("((_ x {k} j) (m{i} x {} j))", k + 1)).collect();
+        let next = if i < 9 { format!("(m{} x 0 j)", i + 1) } else { "(n x j)".to_string() };
+        format!("(m{i} (syntax-rules () {rules} ((_ x 15 j) {next})))")
+    };
+    let macros: String = (0..10).map(counted).collect();
+    let rounds: String = (0..4).map(|j| format!("((_ x {j}) (m0 x 0 {}))", j + 1)).collect();
+    let n = format!("(n (syntax-rules () {rounds} ((_ x 4) (lambda (x) x))))");
+    let recipe = format!("() (letrec-syntax ({macros} {n}) (m0 y 0 0))");
+    text::read(recipe.as_bytes()).expect(&recipe).words()
+}
+
+/// Each deepest input with its fuel, and how many levels its term or datum has, or how many copies, elements or marks.
 pub fn inputs() -> Vec<(&'static str, Vec<u32>, u32, usize)> {
     vec![
         ("lists nested in a table", nested_lists(2_044), 0, 2_044),
@@ -138,5 +154,6 @@ pub fn inputs() -> Vec<(&'static str, Vec<u32>, u32, usize)> {
         ("results nested by many steps", nested_results(100, 30), 8_192, 3_000),
         ("copies along one list", copied_list(2_020), 8_192, 2_020),
         ("a template of one long list", long_template(2_020), 8_192, 2_020),
+        ("a name with a mark of each step", many_marks(), 8_192, 804),
     ]
 }

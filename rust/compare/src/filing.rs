@@ -1,6 +1,6 @@
 //! The three services one after another, as the filing program runs them.
 
-use grebetallboy::{expand, read, write, Refused};
+use grebetallboy::{expand, read, write, Error, Refused, ITEM_WORDS, NAME_BYTES, TEXT_RATE};
 
 /// The tables that the filing program lends, with any fuel.
 pub struct Tables {
@@ -13,11 +13,12 @@ pub struct Tables {
 
 impl Tables {
     pub fn new(work: usize, core: usize) -> Tables {
-        Tables { items: vec![0; 12_288], names: vec![0; 65_536], work: vec![0; work], core: vec![0; core], out: vec![0; 40 * core] }
+        let (items, names, out) = (vec![0; ITEM_WORDS], vec![0; NAME_BYTES], vec![0; TEXT_RATE * core]);
+        Tables { items, names, work: vec![0; work], core: vec![0; core], out }
     }
 
     /// Reads, expands and writes; answers steps, sum and the text's length.
-    pub fn run(&mut self, text: &[u8], fuel: u32) -> Result<(u32, u32, usize), Refused> {
+    pub fn run(&mut self, text: &[u8], fuel: u32) -> Result<(u32, u32, usize), Error> {
         let recipe = read(text, &mut self.items, &mut self.names)?;
         let term = expand(&self.items[..3 * recipe.items], fuel, &mut self.work, &mut self.core)?;
         let length = write(&self.core[..term.length], 256, &self.names, &mut self.out)?;
@@ -38,6 +39,7 @@ pub fn file(text: &[u8], fuel: u32) -> String {
     let mut tables = Tables::new(16_368, 2_046);
     match tables.run(text, fuel) {
         Ok((steps, sum, length)) => format!("accepted {steps} {sum}\n{}\n", String::from_utf8_lossy(&tables.out[..length])),
-        Err(Refused { ground, steps, sum }) => format!("refused {ground} {steps} {sum}\n"),
+        Err(Error::Refused(Refused { ground, steps, sum })) => format!("refused {ground} {steps} {sum}\n"),
+        Err(error) => panic!("{error}"),
     }
 }

@@ -1,16 +1,15 @@
-//! What the comparisons share: settings, random inputs, dirty tables.
+//! What the comparisons share: item tables, deep inputs, dirty tables, refusals.
 
 pub mod deep;
 pub mod filing;
-#[path = "../../tests/support/mod.rs"]
-pub mod support;
 pub mod tables;
 
-use support::Random;
+use grebetallboy::{Error, Refused};
+use inputs::Random;
 
-/// A number from the environment: `INPUTS=1000000 SEED=7 cargo test --release` makes a long run.
-pub fn setting(name: &str, default: u64) -> u64 {
-    std::env::var(name).ok().and_then(|v| v.parse().ok()).unwrap_or(default)
+/// What a call says that does not accept.
+pub fn refusal(error: Error) -> Refused {
+    error.refused().unwrap_or_else(|| panic!("{error}"))
 }
 
 /// A table with one word throughout, or zeros with a few words among them.

@@ -1,6 +1,6 @@
 //! Item tables, read or made otherwise: permuted, deep, broken.
 
-use crate::support::{patterns::Rules, Random, Recipes};
+use inputs::{patterns::Rules, Random, Recipes};
 use reference::text;
 
 /// An item table of a random recipe, often laid out or damaged in ways that reading never gives.

@@ -1,15 +1,18 @@
 //! Expansion beside the second expander's: the answer and every word of both lent tables, on tables read and made otherwise, with
 //! lent tables dirty, short, exact and over-long.
 
-use compare::support::Random;
-use compare::{dirty, setting, tables};
+use compare::{dirty, refusal, tables};
+use inputs::{setting, Random};
 use reference::expand;
 
 /// Ground, steps, sum and length of a call.
 fn expanded(items: &[u32], fuel: u32, work: &mut [u32], core: &mut [u32]) -> (u32, u32, u32, u32) {
     match grebetallboy::expand(items, fuel, work, core) {
         Ok(run) => (0, run.steps, run.sum, run.length as u32),
-        Err(refused) => (refused.ground, refused.steps, refused.sum, 0),
+        Err(error) => {
+            let refused = refusal(error);
+            (refused.ground, refused.steps, refused.sum, 0)
+        }
     }
 }
 

@@ -2,7 +2,8 @@
 //! are neither, and or, or2 and divide of document 002 as rules.
 
 use compare::filing::file;
-use compare::support::rows;
+use compare::{deep, refusal};
+use inputs::rows;
 use reference::text;
 
 #[test]
@@ -15,7 +16,10 @@ fn proved_rows() {
         let (mut work, mut core) = (vec![3; 16_368], vec![3; 2_046]);
         match grebetallboy::expand(&items, fuel, &mut work, &mut core) {
             Ok(run) => assert_eq!((0, run.steps, run.sum, &core[..run.length]), (ground, steps, sum, &words[..]), "{recipe}"),
-            Err(refused) => assert_eq!((refused.ground, refused.steps, refused.sum), (ground, steps, sum), "{recipe}"),
+            Err(error) => {
+                let refused = refusal(error);
+                assert_eq!((refused.ground, refused.steps, refused.sum), (ground, steps, sum), "{recipe}");
+            }
         }
     }
 }
@@ -77,16 +81,7 @@ fn examples() {
 /// A name with hundreds of marks, more than a small table of marks in hand has room for, bound and referred to.
 #[test]
 fn many_marks() {
-    let counted = |i: usize| {
-        let rules: String = (0..15).map(|k| format!("((_ x {k} j) (m{i} x {} j))", k + 1)).collect();
-        let next = if i < 9 { format!("(m{} x 0 j)", i + 1) } else { "(n x j)".to_string() };
-        format!("(m{i} (syntax-rules () {rules} ((_ x 15 j) {next})))")
-    };
-    let macros: String = (0..10).map(counted).collect();
-    let rounds: String = (0..4).map(|j| format!("((_ x {j}) (m0 x 0 {}))", j + 1)).collect();
-    let n = format!("(n (syntax-rules () {rounds} ((_ x 4) (lambda (x) x))))");
-    let recipe = format!("() (letrec-syntax ({macros} {n}) (m0 y 0 0))");
-    let items = text::read(recipe.as_bytes()).expect(&recipe).words();
+    let items = deep::many_marks();
     let (work, core) = grebetallboy::table_words(items.len() / 3, 8_192);
     let run = reference::expand::run(&items, 8_192, work, core);
     let (mut work, mut core) = (vec![3; work], vec![3; core]);

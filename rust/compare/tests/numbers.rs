@@ -1,28 +1,44 @@
-//! The numbers of README.md: each smallest input that it gives gets its number.
+//! The numbers of README.md: each smallest input that it gives gets its number, and the wrapper says of each what it means.
 
 use compare::filing::file;
-use grebetallboy::{expand, read, write, Refused};
-use std::path::Path;
+use compare::refusal;
+use grebetallboy::{expand, meaning, read, write, Error, Refused};
+use inputs::top;
 
-fn ground<T>(answer: Result<T, Refused>) -> u32 {
-    answer.err().map_or(0, |refused| refused.ground)
+fn ground<T>(answer: Result<T, Error>) -> u32 {
+    answer.err().map_or(0, |error| refusal(error).ground)
 }
 
-/// The number and the recipe text of each row that has one.
-fn rows() -> Vec<(u32, String)> {
-    let readme = std::fs::read_to_string(Path::new(env!("CARGO_MANIFEST_DIR")).join("../../README.md")).unwrap();
+/// The cells of each row: the number, what it means, and an input.
+fn rows() -> Vec<(u32, String, String)> {
+    let readme = std::fs::read_to_string(top().join("README.md")).unwrap();
     let row = |line: &str| {
         let mut cells = line.strip_prefix("| ")?.strip_suffix(" |")?.split(" | ");
-        let number = cells.next()?.parse().ok()?;
-        let recipe = cells.nth(1)?.strip_prefix('`')?.strip_suffix('`')?.to_string();
-        Some((number, recipe))
+        Some((cells.next()?.parse().ok()?, cells.next()?.to_string(), cells.next()?.to_string()))
     };
     readme.lines().filter_map(row).collect()
 }
 
 #[test]
-fn recipe_texts() {
+fn meanings() {
     let rows = rows();
+    assert_eq!(rows.iter().map(|row| row.0).collect::<Vec<_>>(), (1..=20).collect::<Vec<_>>());
+    for (number, said, _) in rows {
+        assert_eq!(meaning(number), Some(&said[..]));
+    }
+    assert_eq!((meaning(0), meaning(21)), (None, None));
+    let refused = Refused { ground: 14, steps: 0, sum: 0 };
+    assert_eq!(refused.to_string(), "refused with 14: two names bound by one form are the same");
+    assert_eq!(Error::from(refused).to_string(), refused.to_string());
+}
+
+#[test]
+fn recipe_texts() {
+    let recipe = |(number, _, input): (u32, String, String)| {
+        let recipe = input.strip_prefix('`')?.strip_suffix('`')?;
+        (!recipe.contains('`')).then(|| (number, recipe.to_string()))
+    };
+    let rows: Vec<(u32, String)> = rows().into_iter().filter_map(recipe).collect();
     assert_eq!(rows.iter().map(|(number, _)| *number).collect::<Vec<_>>(), [3, 4, 5, 7, 10, 11, 12, 13, 14, 15, 16, 17, 18]);
     for (number, recipe) in rows {
         assert!(file(recipe.as_bytes(), 512).starts_with(&format!("refused {number} ")), "{recipe}");

@@ -1,14 +1,14 @@
 //! Reading beside the second expander's: the answer and every word and byte of both tables, on recipes and damaged texts.
 
-use compare::support::{Random, Recipes};
-use compare::{dirty, setting};
+use compare::{dirty, refusal};
+use inputs::{setting, Random, Recipes};
 use reference::text;
 
 /// Ground, items and names of a call.
 fn read(source: &[u8], items: &mut [u32], names: &mut [u8]) -> (u32, u32, u32) {
     match grebetallboy::read(source, items, names) {
         Ok(read) => (0, read.items as u32, read.names as u32),
-        Err(refused) => (refused.ground, 0, 0),
+        Err(error) => (refusal(error).ground, 0, 0),
     }
 }
 

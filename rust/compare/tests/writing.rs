@@ -1,14 +1,14 @@
 //! Writing beside the second expander's: the answer and every byte of the output, on terms and damaged words.
 
-use compare::setting;
-use compare::support::{Random, Recipes};
+use compare::refusal;
+use inputs::{setting, Random, Recipes};
 use reference::{core, expand, text};
 
 /// Ground and length of a call.
 fn write(words: &[u32], operations: u32, names: &[u8], out: &mut [u8]) -> (u32, u32) {
     match grebetallboy::write(words, operations, names, out) {
         Ok(length) => (0, length as u32),
-        Err(refused) => (refused.ground, 0),
+        Err(error) => (refusal(error).ground, 0),
     }
 }
 

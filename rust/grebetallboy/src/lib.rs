@@ -1,23 +1,15 @@
-//! The proved services, called from Rust. The archive tests everything that it is lent, so each call is safe for any slices.
+//! The proved services, called from Rust. They test everything that they are lent, so each call is safe for any slices.
 //!
-//! A call needs stack for its nesting alone; the numbers stand in `include/grebetallboy.h`.
+//! Stack is no part of the proofs. A call takes at most [`READ_STACK`], [`expand_stack`] or [`write_stack`] bytes of it. Where the
+//! caller's thread has as much left, the call is made there; where it has not, or where the system does not tell (it is asked on
+//! Linux), on a thread of its own with as much; and where the system gives no such thread, the call is not made, no table is touched,
+//! and the answer is [`Error::NoStack`]. So no slices and no thread make a call overrun its stack.
 
-mod calls {
-    extern "C" {
-        pub fn grebetallboy_read(
-            text: *const u8, text_len: usize, items: *mut u32, items_len: usize, names: *mut u8, names_len: usize, counts: *mut u64,
-            counts_len: usize,
-        ) -> u32;
-        pub fn grebetallboy_expand(
-            items: *const u32, items_len: usize, fuel: u32, work: *mut u32, work_len: usize, core: *mut u32, core_len: usize,
-            counts: *mut u64, counts_len: usize,
-        ) -> u32;
-        pub fn grebetallboy_write(
-            words: *const u32, words_len: usize, operations: u32, names: *const u8, names_len: usize, out: *mut u8, out_len: usize,
-            counts: *mut u64, counts_len: usize,
-        ) -> u32;
-    }
-}
+pub mod calls;
+mod refused;
+mod stack;
+
+pub use refused::{meaning, Error, Refused};
 
 /// Words of an item table and bytes of a name table to lend for reading.
 pub const ITEM_WORDS: usize = 12_288;
@@ -29,12 +21,20 @@ pub fn table_words(items: usize, fuel: u32) -> (usize, usize) {
     (24 * need, 2 * need)
 }
 
-/// Why a recipe is turned back: the ground, and for 11 to 18 the counts of completed steps.
-#[derive(Clone, Copy, Debug, PartialEq, Eq)]
-pub struct Refused {
-    pub ground: u32,
-    pub steps: u32,
-    pub sum: u32,
+/// Bytes of output for each word of a core term that hold its text, whatever the term (of up to 10^9 words).
+pub const TEXT_RATE: usize = 36;
+
+/// Bytes of stack that reading takes at most.
+pub const READ_STACK: usize = 16 << 10;
+
+/// Bytes of stack that expanding takes at most. A table of more than 4,096 items and fuel above 8,192 are refused before they matter.
+pub fn expand_stack(items: usize, fuel: u32) -> usize {
+    (256 << 10) + 512 * (items.min(4_096) + fuel.min(8_192) as usize)
+}
+
+/// Bytes of stack that writing takes at most: each word may open a part of the term inside the one before.
+pub fn write_stack(words: usize) -> usize {
+    words.saturating_mul(256).saturating_add(16 << 10)
 }
 
 #[derive(Clone, Copy, Debug, PartialEq, Eq)]
@@ -50,38 +50,46 @@ pub struct Expanded {
     pub length: usize,
 }
 
-/// A call with a table for its numbers.
-fn call<T>(run: impl FnOnce(*mut u64, usize) -> u32, accepted: impl FnOnce([u64; 3]) -> T) -> Result<T, Refused> {
-    let mut counts = [0u64; 3];
-    match run(counts.as_mut_ptr(), counts.len()) {
-        0 => Ok(accepted(counts)),
-        ground => Err(Refused { ground, steps: counts[0] as u32, sum: counts[1] as u32 }),
+/// A call with so much stack and a table for its numbers, which it answers.
+fn call(bytes: usize, run: impl FnOnce(*mut u64, usize) -> u32 + Send) -> Result<[u64; 3], Error> {
+    let counted = || {
+        let mut counts = [0; 3];
+        (run(counts.as_mut_ptr(), counts.len()), counts)
+    };
+    match stack::with(bytes, counted) {
+        Some((0, counts)) => Ok(counts),
+        Some((ground, [steps, sum, _])) => Err(Error::Refused(Refused { ground, steps: steps as u32, sum: sum as u32 })),
+        None => Err(Error::NoStack(bytes)),
     }
 }
 
 /// Reads a recipe text into an item table and a name table.
-pub fn read(text: &[u8], items: &mut [u32], names: &mut [u8]) -> Result<Read, Refused> {
-    let (i, n) = ((items.as_mut_ptr(), items.len()), (names.as_mut_ptr(), names.len()));
-    call(
-        |counts, length| unsafe { calls::grebetallboy_read(text.as_ptr(), text.len(), i.0, i.1, n.0, n.1, counts, length) },
-        |counts| Read { items: counts[0] as usize, names: counts[1] as usize },
-    )
+pub fn read(text: &[u8], items: &mut [u32], names: &mut [u8]) -> Result<Read, Error> {
+    // SAFETY: each pointer has its slice's length behind it, the slices do not overlap, and the stack is lent.
+    let run = |counts, length| unsafe {
+        let (i, n) = (items.as_mut_ptr(), names.as_mut_ptr());
+        calls::grebetallboy_read(text.as_ptr(), text.len(), i, items.len(), n, names.len(), counts, length)
+    };
+    call(READ_STACK, run).map(|[items, names, _]| Read { items: items as usize, names: names as usize })
 }
 
 /// Expands an item table; an accepted term's words begin the core table.
-pub fn expand(items: &[u32], fuel: u32, work: &mut [u32], core: &mut [u32]) -> Result<Expanded, Refused> {
-    let (w, c) = ((work.as_mut_ptr(), work.len()), (core.as_mut_ptr(), core.len()));
-    call(
-        |counts, length| unsafe { calls::grebetallboy_expand(items.as_ptr(), items.len(), fuel, w.0, w.1, c.0, c.1, counts, length) },
-        |counts| Expanded { steps: counts[0] as u32, sum: counts[1] as u32, length: counts[2] as usize },
-    )
+pub fn expand(items: &[u32], fuel: u32, work: &mut [u32], core: &mut [u32]) -> Result<Expanded, Error> {
+    // SAFETY: as in `read`.
+    let run = |counts, length| unsafe {
+        let (w, c) = (work.as_mut_ptr(), core.as_mut_ptr());
+        calls::grebetallboy_expand(items.as_ptr(), items.len(), fuel, w, work.len(), c, core.len(), counts, length)
+    };
+    let accepted = |[steps, sum, length]: [u64; 3]| Expanded { steps: steps as u32, sum: sum as u32, length: length as usize };
+    call(expand_stack(items.len() / 3, fuel), run).map(accepted)
 }
 
 /// Writes the text of a core term: its length.
-pub fn write(words: &[u32], operations: u32, names: &[u8], out: &mut [u8]) -> Result<usize, Refused> {
-    let (n, o) = ((names.as_ptr(), names.len()), (out.as_mut_ptr(), out.len()));
-    call(
-        |counts, length| unsafe { calls::grebetallboy_write(words.as_ptr(), words.len(), operations, n.0, n.1, o.0, o.1, counts, length) },
-        |counts| counts[0] as usize,
-    )
+pub fn write(words: &[u32], operations: u32, names: &[u8], out: &mut [u8]) -> Result<usize, Error> {
+    // SAFETY: as in `read`.
+    let run = |counts, length| unsafe {
+        let (n, o) = (names.as_ptr(), out.as_mut_ptr());
+        calls::grebetallboy_write(words.as_ptr(), words.len(), operations, n, names.len(), o, out.len(), counts, length)
+    };
+    call(write_stack(words.len()), run).map(|[length, _, _]| length as usize)
 }

@@ -1,5 +1,6 @@
-//! The two examples, in C and in Rust, run on one recipe.
+//! The two examples, in C and in Rust, run on one recipe; and the C header's numbers are the wrapper's.
 
+use grebetallboy::{expand_stack, table_words, write_stack, ITEM_WORDS, NAME_BYTES, READ_STACK, TEXT_RATE};
 use std::io::Write;
 use std::path::{Path, PathBuf};
 use std::process::{Command, Stdio};
@@ -17,25 +18,62 @@ fn top() -> PathBuf {
     Path::new(env!("CARGO_MANIFEST_DIR")).join("../..")
 }
 
-#[test]
-fn in_c() {
+/// Compiles a C program, and runs it on each text.
+fn in_c(name: &str, source: &Path, texts: &[&str]) -> Vec<String> {
     let library = std::env::var_os("GREBETALLBOY_LIB").map_or(top().join("target/staticlib"), PathBuf::from).join("libgrebetallboy.a");
-    let program = std::env::temp_dir().join(format!("grebetallboy-expand-{}", std::process::id()));
-    let built = Command::new("cc")
-        .args(["-std=c99", "-Wall", "-Wextra", "-Werror", "-I"])
-        .args([top().join("include"), top().join("examples/expand.c"), library])
-        .arg("-o")
-        .arg(&program)
-        .status();
-    assert!(built.expect("a C compiler").success());
-    assert_eq!(printed(&mut Command::new(&program), RECIPE), TERM);
-    assert_eq!(printed(&mut Command::new(&program), "() (f 1)"), "turned back: 11\n");
+    let program = std::env::temp_dir().join(format!("grebetallboy-{name}-{}", std::process::id()));
+    let mut cc = Command::new("cc");
+    cc.args(["-std=c99", "-Wall", "-Wextra", "-Werror", "-I"]).arg(top().join("include")).args([source, &library]).arg("-o").arg(&program);
+    assert!(cc.status().expect("a C compiler").success());
+    let answers = texts.iter().map(|text| printed(&mut Command::new(&program), text)).collect();
     std::fs::remove_file(program).unwrap();
+    answers
 }
 
 #[test]
-fn in_rust() {
-    let mut cargo = Command::new(env!("CARGO"));
-    cargo.current_dir(env!("CARGO_MANIFEST_DIR")).args(["run", "--offline", "--quiet", "--example", "expand"]);
-    assert_eq!(printed(&mut cargo, RECIPE), TERM);
+fn c_example() {
+    assert_eq!(in_c("expand", &top().join("examples/expand.c"), &[RECIPE, "() (f 1)"]), [TERM, "refused with 11\n"]);
+}
+
+const NUMBERS: &str = r#"
+#include "grebetallboy.h"
+#include <stdio.h>
+
+int main(void)
+{
+    size_t numbers[] = { GREBETALLBOY_ITEM_WORDS, GREBETALLBOY_NAME_BYTES, GREBETALLBOY_WORK_WORDS(7, 5), GREBETALLBOY_CORE_WORDS(7, 5),
+                         GREBETALLBOY_TEXT_BYTES(7), GREBETALLBOY_READ_STACK, GREBETALLBOY_EXPAND_STACK(7, 5), GREBETALLBOY_WRITE_STACK(7) };
+    for (size_t i = 0; i < sizeof numbers / sizeof *numbers; i++)
+        printf("%zu ", numbers[i]);
+    return 0;
+}
+"#;
+
+#[test]
+fn c_numbers() {
+    let source = std::env::temp_dir().join(format!("grebetallboy-numbers-{}.c", std::process::id()));
+    std::fs::write(&source, NUMBERS).unwrap();
+    let told = in_c("numbers", &source, &[""]).remove(0);
+    std::fs::remove_file(source).unwrap();
+    let (work, core) = table_words(7, 5);
+    let own = [ITEM_WORDS, NAME_BYTES, work, core, 7 * TEXT_RATE, READ_STACK, expand_stack(7, 5), write_stack(7)];
+    assert_eq!(told.split_whitespace().map(|n| n.parse().unwrap()).collect::<Vec<usize>>(), own);
+}
+
+/// The rate by which the proved writer goes.
+#[test]
+fn text_rate() {
+    let writer = std::fs::read_to_string(top().join("crates/writer/src/lib.rt")).unwrap();
+    assert!(writer.contains(&format!("const TEXT_RATE: usize = {TEXT_RATE};")));
+}
+
+#[test]
+fn rust_example() {
+    let example = || {
+        let mut cargo = Command::new(env!("CARGO"));
+        cargo.current_dir(env!("CARGO_MANIFEST_DIR")).args(["run", "--offline", "--quiet", "--example", "expand"]);
+        cargo
+    };
+    assert_eq!(printed(&mut example(), RECIPE), TERM);
+    assert_eq!(printed(&mut example(), "() (f 1)"), "refused with 11: a name that is looked up means nothing\n");
 }

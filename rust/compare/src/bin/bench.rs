@@ -34,7 +34,7 @@ fn services(text: &str, fuel: u32) -> (f64, String) {
     let mut tables = tables(fuel);
     let answer = match tables.run(text.as_bytes(), fuel) {
         Ok((steps, sum, _)) => format!("{steps} steps, {sum} items"),
-        Err(refused) => format!("refused {}", refused.ground),
+        Err(error) => format!("refused {}", compare::refusal(error).ground),
     };
     let us = time(|| {
         let _ = std::hint::black_box(tables.run(text.as_bytes(), fuel));

@@ -1,19 +1,50 @@
-//! The stack that the deepest inputs take: bytes in all and for each level, found by lending less and less.
-//! `cargo run --release --bin stack`
+//! The stack that the deepest inputs take: bytes in all and for each level, found by lending less and less, beside the bytes that the
+//! wrapper sees to. `cargo run --release --bin stack`
 
 use compare::deep;
+use grebetallboy::{calls, expand_stack, table_words, write_stack};
 use std::process::{Command, Stdio};
+
+/// A call to measure: its name, how many levels it has, the bytes it may take, and the call itself.
+type Measured = (String, usize, usize, Box<dyn FnOnce() + Send>);
+
+fn expand(items: &[u32], fuel: u32) {
+    let (work, core) = table_words(items.len() / 3, fuel);
+    let (mut work, mut core, mut counts) = (vec![0; work], vec![0; core], [0; 3]);
+    let (w, c) = ((work.as_mut_ptr(), work.len()), (core.as_mut_ptr(), core.len()));
+    // SAFETY: each pointer has its table's length behind it; too little stack ends the process, as it is meant to.
+    unsafe { calls::grebetallboy_expand(items.as_ptr(), items.len(), fuel, w.0, w.1, c.0, c.1, counts.as_mut_ptr(), 3) };
+}
+
+fn write(words: &[u32]) {
+    let (mut out, mut counts) = (vec![0; words.len()], [0; 3]);
+    let names = [];
+    // SAFETY: as in `expand`.
+    unsafe {
+        let o = (out.as_mut_ptr(), out.len());
+        calls::grebetallboy_write(words.as_ptr(), words.len(), 256, names.as_ptr(), 0, o.0, o.1, counts.as_mut_ptr(), 3)
+    };
+}
+
+fn measured() -> Vec<Measured> {
+    let mut all: Vec<Measured> = Vec::new();
+    for (name, items, fuel, depth) in deep::inputs() {
+        let most = expand_stack(items.len() / 3, fuel);
+        all.push((format!("expanding {name}"), depth, most, Box::new(move || expand(&items, fuel))));
+    }
+    let levels = 40_000;
+    for (name, opening) in [("if", &[6][..]), ("quoted lists", &[5, 1]), ("lambdas", &[7, 0, 0]), ("applications", &[8, 0])] {
+        for (whole, end) in [("", &[2, 0][..]), (", broken off", &[])] {
+            let words = [&opening.repeat(levels), end].concat();
+            all.push((format!("writing nested {name}{whole}"), levels, write_stack(words.len()), Box::new(move || write(&words))));
+        }
+    }
+    all
+}
 
 /// One call in a thread with so many bytes of stack.
 fn call(place: usize, bytes: usize) {
-    let (_, items, fuel, _) = deep::inputs().swap_remove(place);
-    let (work, core) = grebetallboy::table_words(items.len() / 3, fuel);
-    let run = move || {
-        let (mut work, mut core) = (vec![0; work], vec![0; core]);
-        let term = grebetallboy::expand(&items, fuel, &mut work, &mut core).unwrap();
-        let mut out = vec![0; 40 * term.length];
-        grebetallboy::write(&core[..term.length], 256, &[], &mut out).unwrap();
-    };
+    let run = measured().swap_remove(place).3;
     std::thread::Builder::new().stack_size(bytes).spawn(run).unwrap().join().unwrap();
 }
 
@@ -28,7 +59,8 @@ fn main() {
     if let [place, bytes] = words[..] {
         return call(place, bytes);
     }
-    for (place, (name, _, _, depth)) in deep::inputs().into_iter().enumerate() {
+    println!("| input | levels | in all | bytes a level | at most |\n|---|---|---|---|---|");
+    for (place, (name, depth, most, _)) in measured().into_iter().enumerate() {
         let (mut low, mut high) = (0, 64 << 20);
         while high - low > 4_096 {
             let middle = (low + high) / 2;
@@ -38,6 +70,6 @@ fn main() {
                 low = middle;
             }
         }
-        println!("{name}: {depth} levels, {} KiB, {} bytes a level", high >> 10, high / depth);
+        println!("| {name} | {depth} | {} KiB | {} | {} KiB |", high >> 10, high / depth, most >> 10);
     }
 }

@@ -1,6 +1,6 @@
 //! Recipes about rules: patterns with nested ellipses, templates over their variables, uses that mostly fit.
 
-use super::Random;
+use crate::Random;
 
 const VARIABLES: &[&str] = &["a", "b", "c", "d", "e", "t", "x", "y"];
 const LITERALS: &[&str] = &["else", "=>", "t"];

@@ -1,12 +1,6 @@
 //! Recipes with right answers: those proved of the definition, whose rows are read from the specs themselves, and those of examples/.
 
-use std::path::{Path, PathBuf};
-
-/// The repository.
-fn top() -> PathBuf {
-    let mut above = Path::new(env!("CARGO_MANIFEST_DIR")).ancestors();
-    above.find(|folder| folder.join("crates.txt").exists()).expect("the repository").to_path_buf()
-}
+use crate::top;
 
 fn spec(path: &str) -> String {
     let path = top().join("crates").join(path);

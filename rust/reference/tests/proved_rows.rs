@@ -1,9 +1,7 @@
 //! The second expander on the recipes whose answers are proved of the definition, and on those of examples/.
 
-mod support;
-
+use inputs::rows;
 use reference::{expand, file, text};
-use support::rows;
 
 #[test]
 fn expansions() {

@@ -1,13 +1,11 @@
 //! Demand 3 tried on random recipes, with the new name unused anywhere and with one that is new to its template alone.
 //! `RECIPES=1000000 SEED=7 cargo test --release --test private_names` makes a long run.
 
-mod support;
-
+use inputs::{setting, Random, Recipes};
 use reference::expand::{run, Event, Run};
 use reference::tree::{Binding, Name, Tree};
 use reference::{rules, table, text};
 use std::collections::{HashMap, HashSet};
-use support::{Random, Recipes};
 
 const FUEL: u32 = 300;
 const WORDS: usize = 1 << 20;
@@ -109,10 +107,6 @@ fn try_recipe(source: &str, random: &mut Random, count: &mut Count) {
             }
         }
     }
-}
-
-fn setting(name: &str, default: u64) -> u64 {
-    std::env::var(name).ok().and_then(|v| v.parse().ok()).unwrap_or(default)
 }
 
 #[test]

@@ -1,9 +1,19 @@
-//! Random recipes, over few names so that they meet.
-
-#![allow(dead_code)] // each test takes its part
+//! What tests are run on: random recipes, over few names so that they meet, and in [`rows`] those with known answers.
 
 pub mod patterns;
 pub mod rows;
+
+use std::path::{Path, PathBuf};
+
+/// The repository.
+pub fn top() -> PathBuf {
+    Path::new(env!("CARGO_MANIFEST_DIR")).join("../..")
+}
+
+/// A number from the environment: `INPUTS=1000000 SEED=7 cargo test --release` makes a long run.
+pub fn setting(name: &str, default: u64) -> u64 {
+    std::env::var(name).ok().and_then(|v| v.parse().ok()).unwrap_or(default)
+}
 
 /// A small generator of numbers (xorshift), so that a seed gives one run.
 pub struct Random(u64);

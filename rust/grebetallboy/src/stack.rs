@@ -1,0 +1,59 @@
+//! The stack that a call runs on: its caller's where enough of it is left, else that of a thread made for the call.
+
+/// Kept free beside what a call takes: for this crate's own functions, for a signal's handler, and for making a thread.
+const SPARE: usize = 16 << 10;
+
+/// Makes a call with so many bytes of stack; none where the system gives no thread with them.
+pub fn with<T: Send>(bytes: usize, call: impl FnOnce() -> T + Send) -> Option<T> {
+    let bytes = bytes.saturating_add(SPARE);
+    if bytes <= left() {
+        return Some(call());
+    }
+    std::thread::scope(|scope| {
+        let thread = std::thread::Builder::new().stack_size(bytes).spawn_scoped(scope, call).ok()?;
+        Some(thread.join().expect("a call unwinds nowhere"))
+    })
+}
+
+/// The bytes of stack that this thread has left; 0 where they are not known.
+fn left() -> usize {
+    thread_local!(static ENDS: Option<(usize, usize)> = ends());
+    let local = 0u8;
+    let here = std::hint::black_box(&raw const local).addr();
+    ENDS.with(|ends| ends.map_or(0, |(low, high)| if (low..high).contains(&here) { here - low } else { 0 }))
+}
+
+/// Where this thread's stack begins and ends.
+#[cfg(target_os = "linux")]
+fn ends() -> Option<(usize, usize)> {
+    use std::ffi::{c_int, c_ulong, c_void};
+
+    /// Room for a `pthread_attr_t`, which has at most 64 bytes.
+    #[repr(C, align(16))]
+    struct Attributes([u8; 128]);
+
+    extern "C" {
+        fn pthread_self() -> c_ulong;
+        fn pthread_getattr_np(thread: c_ulong, attributes: *mut Attributes) -> c_int;
+        fn pthread_attr_getstack(attributes: *const Attributes, low: *mut *mut c_void, bytes: *mut usize) -> c_int;
+        fn pthread_attr_destroy(attributes: *mut Attributes) -> c_int;
+    }
+
+    let mut attributes = Attributes([0; 128]);
+    let (mut low, mut bytes) = (std::ptr::null_mut(), 0);
+    // SAFETY: the thread is this one; the attributes are initialised where the first call answers 0, and destroyed once.
+    let told = unsafe {
+        if pthread_getattr_np(pthread_self(), &mut attributes) != 0 {
+            return None;
+        }
+        let told = pthread_attr_getstack(&attributes, &mut low, &mut bytes);
+        pthread_attr_destroy(&mut attributes);
+        told
+    };
+    (told == 0).then(|| (low as usize, low as usize + bytes))
+}
+
+#[cfg(not(target_os = "linux"))]
+fn ends() -> Option<(usize, usize)> {
+    None
+}
