@@ -1,67 +1,11 @@
 //! The deepest inputs: lists nested as deep as a table lets them be, and results nested as deep as fuel lets them be.
 
+use inputs::items::Table;
 use reference::text;
-
-/// An item table under construction: items refer to higher ones, so that a list is opened before what stands in it.
-#[derive(Default)]
-pub struct Table(Vec<u32>);
-
-impl Table {
-    fn put(&mut self, item: [u32; 3]) -> usize {
-        self.0.extend(item);
-        self.0.len() / 3 - 1
-    }
-
-    /// The next item's number is what a pair refers to.
-    fn refer(&mut self, pair: usize, place: usize) {
-        self.0[3 * pair + place] = (self.0.len() / 3) as u32;
-    }
-
-    pub fn name(&mut self, number: u32) {
-        self.put([3, number, 0]);
-    }
-
-    pub fn integer(&mut self, word: u32) {
-        self.put([1, word, 0]);
-    }
-
-    /// A list of so many elements, each put by its place.
-    pub fn list(&mut self, count: usize, element: &mut dyn FnMut(&mut Table, usize)) {
-        for place in 0..count {
-            let pair = self.put([4, 0, 0]);
-            self.refer(pair, 1);
-            element(self, place);
-            self.refer(pair, 2);
-        }
-        self.put([0, 0, 0]);
-    }
-
-    /// `(... ((inner)) ...)`, without recursion.
-    pub fn nest(&mut self, depth: usize, inner: &mut dyn FnMut(&mut Table)) {
-        let pairs: Vec<usize> = (0..depth)
-            .map(|_| {
-                let pair = self.put([4, 0, 0]);
-                self.refer(pair, 1);
-                pair
-            })
-            .collect();
-        inner(self);
-        for pair in pairs.into_iter().rev() {
-            self.refer(pair, 2);
-            self.put([0, 0, 0]);
-        }
-    }
-
-    pub fn words(self) -> Vec<u32> {
-        self.0
-    }
-}
 
 /// No operations, and an expression.
 fn recipe(expression: &mut dyn FnMut(&mut Table)) -> Vec<u32> {
-    let mut table = Table::default();
-    table.list(2, &mut |t, place| if place == 0 { t.list(0, &mut |_, _| ()) } else { expression(t) });
-    table.words()
+    Table::recipe(&mut |t| t.empty(), expression)
 }
 
 /// `((( ... 1 ... )))`: each list is an application of the next.
@@ -130,8 +74,8 @@ fn use_nested(t: &mut Table, uses: usize) {
     t.list(2, &mut |t, place| if place == 0 { t.name(M) } else { use_nested(t, uses - 1) });
 }
 
-/// A name that goes through some 800 uses before it is bound and referred to, so that it has as many marks.
-pub fn many_marks() -> Vec<u32> {
+/// A name that goes through some 800 uses before it is bound and referred to, so that as many joined wraps wait on it.
+pub fn many_wraps() -> Vec<u32> {
     let counted = |i: usize| {
         let rules: String = (0..15).map(|k| format!("((_ x {k} j) (m{i} x {} j))", k + 1)).collect();
         let next = if i < 9 { format!("(m{} x 0 j)", i + 1) } else { "(n x j)".to_string() };
@@ -144,7 +88,21 @@ pub fn many_marks() -> Vec<u32> {
     text::read(recipe.as_bytes()).expect(&recipe).words()
 }
 
-/// Each deepest input with its fuel, and how many levels its term or datum has, or how many copies, elements or marks.
+/// Names x and y, spelled alike and inserted by two steps, which then go together through the templates of 16 macros a round: each
+/// adds a mark to both. What becomes of them is the body's.
+pub fn many_marks(rounds: usize, body: &str) -> Vec<u32> {
+    let inserted = |after: String| format!("(let-syntax ((j (syntax-rules () ((_) {after})))) (j))");
+    let steps: String = (0..15).map(|k| format!("((_ x y {k} r) {})", inserted(format!("(m x y {} r)", k + 1)))).collect();
+    let m = format!("(m (syntax-rules () {steps} ((_ x y 15 r) {})))", inserted("(n x y r)".to_string()));
+    let again: String = (1..rounds).map(|r| format!("((_ x y {r}) (m x y 0 {}))", r + 1)).collect();
+    let n = format!("(n (syntax-rules () {again} ((_ x y {rounds}) {body})))");
+    let recipe = format!(
+        "(f) (letrec-syntax ({m} {n} (first (syntax-rules () ((_) (second t)))) (second (syntax-rules () ((_ x) (m x t 0 1))))) (first))"
+    );
+    text::read(recipe.as_bytes()).expect(&recipe).words()
+}
+
+/// Each deepest input with its fuel, and how many levels its term or datum has, or how many copies, elements, wraps or marks.
 pub fn inputs() -> Vec<(&'static str, Vec<u32>, u32, usize)> {
     vec![
         ("lists nested in a table", nested_lists(2_044), 0, 2_044),
@@ -154,6 +112,7 @@ pub fn inputs() -> Vec<(&'static str, Vec<u32>, u32, usize)> {
         ("results nested by many steps", nested_results(100, 30), 8_192, 3_000),
         ("copies along one list", copied_list(2_020), 8_192, 2_020),
         ("a template of one long list", long_template(2_020), 8_192, 2_020),
-        ("a name with a mark of each step", many_marks(), 8_192, 804),
+        ("a name on which joined wraps wait", many_wraps(), 8_192, 804),
+        ("names with many marks", many_marks(10, "(lambda (x) (lambda (y) (f x y)))"), 8_192, 160),
     ]
 }

@@ -3,7 +3,7 @@
 
 use compare::filing::file;
 use compare::{deep, refusal};
-use inputs::rows;
+use inputs::{in_stack, rows};
 use reference::text;
 
 #[test]
@@ -35,6 +35,7 @@ fn of_the_papers() {
         (format!("{LIST} (l))"), "accepted 1 3\n(o0)\n"),
         (format!("{CASES} (c else))"), "accepted 1 1\n1\n"),
         (format!("{CASES} (lambda (else) (c else)))"), "accepted 1 1\n(lambda (v0) 2)\n"),
+        (format!("{CASES} (c other))"), "accepted 1 1\n2\n"),
         // or2 and or of document 002: a private t, and the curator's
         (
             "() (let-syntax ((or2 (syntax-rules () ((_ e1 e2) ((lambda (t) (if t t e2)) e1))))) (lambda (t) (or2 #f t)))".to_string(),
@@ -58,6 +59,18 @@ fn of_the_papers() {
     }
 }
 
+/// Steps that are not made.
+#[test]
+fn no_step() {
+    let rows = [("((_ a) a)", "(m 1 2)", 16), ("((_ a ... ...) 1)", "(m)", 15), ("((_ a) (1 ...))", "(m 1)", 15)];
+    for (rule, used, ground) in rows {
+        let recipe = format!("() (let-syntax ((m (syntax-rules () {rule}))) {used})");
+        assert_eq!(file(recipe.as_bytes(), 512), format!("refused {ground} 0 0\n"), "{recipe}");
+    }
+    let recipe = "() (let-syntax ((m (lambda () ((_ a) 1)))) (m 1))";
+    assert_eq!(file(recipe.as_bytes(), 512), "refused 15 0 0\n");
+}
+
 /// The widest recipes that the filing program and reading take.
 #[test]
 fn limits() {
@@ -78,15 +91,40 @@ fn examples() {
     }
 }
 
-/// A name with hundreds of marks, more than a small table of marks in hand has room for, bound and referred to.
+/// What both expanders answer for a table with the most fuel: ground, steps, and the term's words.
+fn both(items: &[u32]) -> (u32, u32, Vec<u32>) {
+    let (work, core) = grebetallboy::table_words(items.len() / 3, 8_192);
+    let run = in_stack(256 << 20, || reference::expand::run(items, 8_192, work, core));
+    let (mut work, mut core) = (vec![3; work], vec![3; core]);
+    let (ground, steps, sum, length) = match grebetallboy::expand(items, 8_192, &mut work, &mut core) {
+        Ok(own) => (0, own.steps, own.sum, own.length),
+        Err(error) => {
+            let refused = refusal(error);
+            (refused.ground, refused.steps, refused.sum, 0)
+        }
+    };
+    assert_eq!((ground, steps, sum, &core[..length]), (run.outcome.err().unwrap_or(0), run.steps, run.sum, &run.core[..]));
+    (ground, steps, run.core)
+}
+
+/// A name on which hundreds of joined wraps wait, bound and referred to.
+#[test]
+fn many_wraps() {
+    let (ground, steps, core) = both(&deep::many_wraps());
+    assert_eq!((ground, &core[..]), (0, &[7, 0, 1, 0, 0][..]), "(lambda (v0) v0)");
+    assert!(steps > 800, "{steps} steps");
+}
+
+/// Two names with as many marks, of which one differs: more than a small table of marks has room for, and many more.
 #[test]
 fn many_marks() {
-    let items = deep::many_marks();
-    let (work, core) = grebetallboy::table_words(items.len() / 3, 8_192);
-    let run = reference::expand::run(&items, 8_192, work, core);
-    let (mut work, mut core) = (vec![3; work], vec![3; core]);
-    let own = grebetallboy::expand(&items, 8_192, &mut work, &mut core).expect("accepted");
-    assert_eq!((own.steps, own.sum, &core[..own.length]), (run.steps, run.sum, &run.core[..]));
-    assert_eq!(core[..own.length], [7, 0, 1, 0, 0], "(lambda (v0) v0)");
-    assert!(2 * own.steps > 3 * 512, "{} steps", own.steps);
+    for rounds in [1, 2, 10] {
+        let answer = |body: &str| both(&deep::many_marks(rounds, body));
+        let (ground, steps, core) = answer("(lambda (x) (lambda (y) (f x y)))");
+        assert_eq!((ground, &core[..]), (0, &[7, 0, 1, 7, 1, 1, 8, 2, 1, 0, 0, 0, 0, 1][..]), "(lambda (v0) (lambda (v1) (o0 v0 v1)))");
+        assert!(steps as usize > 32 * rounds, "{steps} steps");
+        assert_eq!(answer("(lambda (x y) y)").2, [7, 0, 2, 0, 1], "(lambda (v0 v1) v1)");
+        assert_eq!(answer("(lambda (x x) y)").0, 14);
+        assert_eq!(answer("(lambda (x) y)").0, 11);
+    }
 }

@@ -63,23 +63,3 @@ fn reading() {
     println!("grounds of reading: {grounds:?}");
     assert!(grounds.iter().all(|&count| count > 0), "{grounds:?}");
 }
-
-/// Limits of reading: elements, names, nesting, bytes.
-#[test]
-fn limits() {
-    let wide = |n: usize| format!("() ({})", " 1".repeat(n));
-    let named = |n: usize| format!("() ({})", (0..n).map(|i| format!(" x{i}")).collect::<String>());
-    let nested = |n: usize| format!("() {}{}", "(".repeat(n), ")".repeat(n));
-    let long = |n: usize| format!("() {}7", "0".repeat(n - 4));
-    let mut texts = vec![named(1_016), named(1_017), "a ".repeat(2), "() ".to_string() + &"a".repeat(63), "() ".to_string() + &"a".repeat(64)];
-    for n in [0, 1] {
-        texts.extend([wide(2_045 + n), nested(64 + n), long(65_535 + n)]);
-    }
-    for source in texts {
-        let (mut items, mut names) = (vec![7; 12_288], vec![7; 65_536]);
-        let (mut items2, mut names2) = (items.clone(), names.clone());
-        let answer = read(source.as_bytes(), &mut items, &mut names);
-        assert_eq!(answer, text::read_call(source.as_bytes(), &mut items2, &mut names2));
-        assert!(items == items2 && names == names2);
-    }
-}

@@ -2,14 +2,11 @@
 
 use compare::deep;
 use grebetallboy::{expand, table_words, write, Error, Refused, TEXT_RATE};
+use inputs::in_stack;
 use reference::{core, expand::run};
 
 const LITTLE: usize = 64 << 10;
 const MUCH: usize = 1 << 30;
-
-fn in_stack<T: Send>(bytes: usize, run: impl FnOnce() -> T + Send) -> T {
-    std::thread::scope(|scope| std::thread::Builder::new().stack_size(bytes).spawn_scoped(scope, run).unwrap().join().unwrap())
-}
 
 #[test]
 fn deepest_tables() {

@@ -1,5 +1,7 @@
 //! What tests are run on: random recipes, over few names so that they meet, and in [`rows`] those with known answers.
 
+pub mod items;
+pub mod known;
 pub mod patterns;
 pub mod rows;
 
@@ -13,6 +15,11 @@ pub fn top() -> PathBuf {
 /// A number from the environment: `INPUTS=1000000 SEED=7 cargo test --release` makes a long run.
 pub fn setting(name: &str, default: u64) -> u64 {
     std::env::var(name).ok().and_then(|v| v.parse().ok()).unwrap_or(default)
+}
+
+/// Runs in a thread with so many bytes of stack.
+pub fn in_stack<T: Send>(bytes: usize, run: impl FnOnce() -> T + Send) -> T {
+    std::thread::scope(|scope| std::thread::Builder::new().stack_size(bytes).spawn_scoped(scope, run).unwrap().join().unwrap())
 }
 
 /// A small generator of numbers (xorshift), so that a seed gives one run.

@@ -1,7 +1,7 @@
 //! Demand 3 tried on random recipes, with the new name unused anywhere and with one that is new to its template alone.
 //! `RECIPES=1000000 SEED=7 cargo test --release --test private_names` makes a long run.
 
-use inputs::{setting, Random, Recipes};
+use inputs::{in_stack, setting, Random, Recipes};
 use reference::expand::{run, Event, Run};
 use reference::tree::{Binding, Name, Tree};
 use reference::{rules, table, text};
@@ -122,5 +122,5 @@ fn private_names_never_show() {
         println!("{recipes} recipes: {count:?}");
         assert!(count.with_lookups as u64 > recipes / 100 && count.differ_where_shown as u64 > recipes / 100, "{count:?}");
     };
-    std::thread::Builder::new().stack_size(256 << 20).spawn(body).unwrap().join().unwrap();
+    in_stack(256 << 20, body);
 }

@@ -1,0 +1,190 @@
+//! Texts, item tables and words with known answers, one by one.
+
+use crate::items::Table;
+
+/// Texts, and ground, items and names of reading each.
+pub fn readings() -> Vec<(Vec<u8>, (u32, u32, u32))> {
+    let refused = |ground| (ground, 0, 0);
+    let (long, longer) = ("a".repeat(63), "a".repeat(64));
+    let nested = format!("(){}{}", "(".repeat(64), ")".repeat(64));
+    let wide = |n: usize| format!("() ({})", " 1".repeat(n));
+    let named = |n: usize| (0..n).map(|i| format!("n{i} ")).collect::<String>();
+    let rows: &[(&str, (u32, u32, u32))] = &[
+        ("#t#f", (0, 5, 8)),
+        ("#tx", (0, 5, 9)),
+        ("() #tx", refused(5)),
+        ("(a)(b)", (0, 9, 10)),
+        ("1(2)", (0, 7, 8)),
+        ("() 1x", refused(3)),
+        ("() -", (0, 5, 9)),
+        ("() +5", (0, 5, 9)),
+        ("() .", refused(3)),
+        ("() ..", (0, 5, 9)),
+        ("() ...", (0, 5, 8)),
+        ("() 1.5", refused(3)),
+        ("() .5", (0, 5, 9)),
+        ("() 2147483647", (0, 5, 8)),
+        ("() 2147483648", refused(4)),
+        ("() -2147483648", (0, 5, 8)),
+        ("() -2147483649", refused(4)),
+        ("() 99999999999x", refused(3)),
+        ("() () a$", refused(5)),
+        ("() () 99999999999", refused(4)),
+        ("() ())", refused(5)),
+        (")", refused(5)),
+        ("", refused(5)),
+        ("()", refused(5)),
+        ("() (", refused(5)),
+        ("() A", refused(3)),
+        (&format!("() {long}"), (0, 5, 9)),
+        (&format!("() {longer}"), refused(3)),
+        (&nested, (0, 131, 8)),
+        (&format!("(){}", "(".repeat(65)), refused(6)),
+        ("() () (", refused(5)),
+        ("() #", refused(3)),
+        ("() -0", (0, 5, 8)),
+        ("1 2", (0, 5, 8)),
+        ("()\t\r(quote if lambda let-syntax letrec-syntax syntax-rules ... _ t t x)", (0, 27, 10)),
+        (&format!("() {}7", "0".repeat(70)), (0, 5, 8)),
+        (&format!("() {}7", "0".repeat(65_531)), (0, 5, 8)),
+        (&format!("() {}7", "0".repeat(65_532)), refused(2)),
+        ("() -1", (0, 5, 8)),
+        ("() -x", (0, 5, 9)),
+        ("() --1", (0, 5, 9)),
+        ("() 1-", refused(3)),
+        ("() -5-", refused(3)),
+        ("() \u{b}", refused(3)),
+        ("a$", refused(3)),
+        ("() a#t", refused(5)),
+        ("() #q", refused(3)),
+        (&wide(2_045), (0, 4_095, 8)),
+        (&wide(2_046), refused(6)),
+        (&format!("() () {longer}"), refused(3)),
+        (&format!("() ({})", named(1_016)), (0, 2_037, 1_024)),
+        (&format!("() ({})", named(1_017)), refused(6)),
+        (&format!("() ({} n7 if n1015)", named(1_016)), (0, 2_043, 1_024)),
+        ("() (let-syntax ((or2 (syntax-rules () ((_ a b) ((lambda (t) (if t t b)) a))))) (lambda (t) (or2 #f t)))", (0, 67, 12)),
+    ];
+    let texts = rows.iter().map(|(text, answer)| (text.as_bytes().to_vec(), *answer));
+    texts.chain([(b"() \x80".to_vec(), refused(3)), (vec![b' '; 65_535], refused(5)), (vec![b' '; 65_536], refused(2))]).collect()
+}
+
+/// An item table with fuel and lent tables of so many words, and the ground of expanding it, 0 where it is accepted.
+pub struct Layout {
+    pub name: &'static str,
+    pub items: Vec<u32>,
+    pub fuel: u32,
+    pub work: usize,
+    pub core: usize,
+    pub ground: u32,
+}
+
+/// The words of a table, a byte each: a digit its value, x 1,023, y 1,024.
+fn spelt(table: &str) -> Vec<u32> {
+    let word = |c: char| match c {
+        'x' => 1_023,
+        'y' => 1_024,
+        c => c.to_digit(10).unwrap(),
+    };
+    table.chars().filter(|c| *c != ' ').map(word).collect()
+}
+
+/// Tables of a few items, each spelt, with no fuel and ample tables.
+const SMALL: &[(&str, &str, u32)] = &[
+    ("two elements numbered otherwise than reading does", "421 443 000 000 150", 0),
+    ("two elements", "412 000 434 150 000", 0),
+    ("zeros behind the items", "412 000 434 150 000 000", 7),
+    ("an integer with a third word", "412 000 434 151 000", 7),
+    ("boolean 2", "412 000 434 220 000", 7),
+    ("name 1,024", "412 000 434 3y0 000", 7),
+    ("an item referred to twice", "412 000 444 150 000", 7),
+    ("an integer as first element", "412 170 434 150 000", 7),
+    ("three elements", "412 000 434 150 456 160 000", 7),
+    ("four items", "412 000 433 000", 7),
+    ("nothing", "", 7),
+    ("two items and two words", "412 000 43", 7),
+    ("boolean 1", "412 000 434 210 000", 0),
+    ("name 1,023", "412 000 434 3x0 000", 11),
+    ("kind 5", "412 000 434 500 000", 7),
+    ("an empty list with a word", "412 010 434 150 000", 7),
+    ("a reference to itself", "412 000 424 150 000", 7),
+    ("a reference past the items", "412 000 454 150 000", 7),
+    ("a tail that is a name", "412 000 434 150 380", 7),
+    ("an inner tail that is a name", "412 000 436 445 150 380 000", 7),
+    ("one element", "414 423 150 000 000", 7),
+    ("operation 7", "414 423 370 000 456 150 000", 10),
+    ("an integer among the operations", "414 423 170 000 456 150 000", 10),
+    ("a list among the operations", "414 423 000 000 456 150 000", 10),
+];
+
+/// Item tables of grounds 7 to 10, and such as pass them.
+pub fn layouts() -> Vec<Layout> {
+    let ample = |name, items, ground| Layout { name, items, fuel: 0, work: 98_304, core: 8_192, ground };
+    let bounded = |name, fuel, work, core, ground| Layout { name, items: spelt("412 000 434 150 000"), fuel, work, core, ground };
+    let flat = |n: usize| Table::recipe(&mut |t| t.empty(), &mut |t| t.list(n, &mut |t, place| t.integer(place as u32)));
+    let deep = |n: usize| Table::recipe(&mut |t| t.empty(), &mut |t| t.nest(n, &mut |t| t.empty()));
+    let operations = |numbers: &[u32]| {
+        let list = &mut |t: &mut Table| t.list(numbers.len(), &mut |t, place| t.name(numbers[place]));
+        Table::recipe(list, &mut |t| t.integer(5))
+    };
+    let many = |n: u32| operations(&(8..8 + n).chain([1_023]).collect::<Vec<_>>());
+    let small = SMALL.iter().map(|(name, table, ground)| ample(name, spelt(table), *ground));
+    let more = vec![
+        ample("4,095 items", flat(2_045), 0),
+        ample("4,096 items", [flat(2_045), vec![0; 3]].concat(), 7),
+        ample("4,097 items", flat(2_046), 7),
+        ample("2,045 lists deep", deep(2_045), 13),
+        ample("2,046 lists deep, two items cut off", deep(2_046)[..12_285].to_vec(), 7),
+        bounded("120 work words and 10 core words", 0, 120, 10, 0),
+        bounded("119 work words", 0, 119, 10, 9),
+        bounded("9 core words", 0, 120, 9, 9),
+        bounded("fuel 8,192", 8_192, 196_728, 16_394, 0),
+        bounded("fuel 8,192 and a work word less", 8_192, 196_727, 16_394, 9),
+        bounded("fuel 8,193", 8_193, 0, 0, 8),
+        Layout { name: "operation 7 and no tables", items: spelt("414 423 370 000 456 150 000"), fuel: 0, work: 0, core: 0, ground: 9 },
+        ample("one operation", operations(&[8]), 0),
+        ample("two operations", operations(&[8, 9]), 0),
+        ample("an operation twice", operations(&[8, 8]), 10),
+        ample("a form name among the operations", operations(&[8, 2]), 10),
+        ample("256 operations", many(255), 0),
+        ample("257 operations", many(256), 10),
+    ];
+    small.chain(more).collect()
+}
+
+/// Words, the count of operations, and the text; none is ground 19. Name 8 is x, and 1,023 is z.
+pub type Words = (&'static [u32], u32, Option<&'static str>);
+
+pub const WORDS: &[Words] = &[
+    (&[7, 0, 1, 0, 0], 256, Some("(lambda (v0) v0)")),
+    (&[6, 7, 0, 1, 0, 0, 7, 0, 1, 0, 0, 2, 0], 256, None),
+    (&[6, 7, 0, 1, 0, 0, 7, 1, 1, 0, 0, 2, 0], 256, None),
+    (&[6, 7, 0, 1, 0, 0, 7, 1, 1, 0, 1, 2, 0], 256, Some("(if (lambda (v0) v0) (lambda (v1) v1) 0)")),
+    (&[5, 2, 4, 8, 5, 0], 256, Some("(quote (x ()))")),
+    (&[5, 1, 0, 0], 256, None),
+    (&[2, 5, 2, 6], 256, None),
+    (&[8, 0], 256, None),
+    (&[8, u32::MAX, 2, 0], 256, None),
+    (&[3, 2], 256, None),
+    (&[7, 1, 0, 2, 5], 256, None),
+    (&[7, 0, 0, 2, 5], 256, Some("(lambda () 5)")),
+    (&[7, 0, 9, 2, 5], 256, None),
+    (&[1, 255], 256, Some("o255")),
+    (&[1, 255], 1, None),
+    (&[1, 255], 257, None),
+    (&[2, 1 << 31], 256, Some("-2147483648")),
+    (&[2, (1 << 31) - 1], 256, Some("2147483647")),
+    (&[4, 1_023], 256, Some("(quote z)")),
+    (&[4, 9], 256, None),
+    (&[5, 0], 256, Some("(quote ())")),
+    (&[7, 0, 1, 8, 1, 0, 0, 7, 1, 0, 0, 0], 256, Some("(lambda (v0) (v0 (lambda () v0)))")),
+    (&[], 256, None),
+];
+
+/// A name table for [`WORDS`].
+pub fn names() -> Vec<u8> {
+    let mut names = vec![0; 65_536];
+    names[64 * 8..][..2].copy_from_slice(b"\x01x");
+    names[64 * 1_023..][..2].copy_from_slice(b"\x01z");
+    names
+}
