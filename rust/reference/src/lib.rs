@@ -11,7 +11,7 @@ pub mod table;
 pub mod text;
 pub mod tree;
 
-/// A ground for turning back, 1 to 20.
+/// A ground for refusing, 1 to 20.
 pub type Ground = u32;
 
 /// Names 0 to 7.
