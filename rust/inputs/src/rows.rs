@@ -43,9 +43,11 @@ fn rows_of(specs: &str) -> Vec<Row> {
     rows
 }
 
-/// The rows of the definition of expansion.
+/// The rows of the definition of expansion, in its files of that name.
 pub fn expansions() -> Vec<Row> {
-    ["Rows", "RowsMore", "RowsShapes"].iter().flat_map(|file| rows_of(&spec(&format!("expansion/specs/{file}.antt")))).collect()
+    let files = top().join("crates/expansion/specs").read_dir().unwrap().map(|entry| entry.unwrap().file_name().into_string().unwrap());
+    let rows = files.filter(|file| file.starts_with("Rows") && file.ends_with(".antt"));
+    rows.flat_map(|file| rows_of(&spec(&format!("expansion/specs/{file}")))).collect()
 }
 
 /// A recipe, its fuel, and the whole output: `row "recipe" "output"` and `rowWith fuel "recipe" "output"`.
