@@ -1,8 +1,8 @@
 /* The proved services for C. Link libgrebetallboy.a, which `rt staticlib grebetallboy` writes to target/staticlib.
  *
  * A call has no requirement but that each pointer has so many elements behind it as its count says, that no two tables of a call
- * overlap, and that there is stack enough. It answers 0 where it accepts, else the number that README.md explains, and tells its numbers in `counts`, which
- * has room for three (a shorter table is left alone). Document 01 says what each table holds afterwards.
+ * overlap, and that there is stack enough. It answers 0 where it accepts, else the number that README.md explains, and tells its
+ * numbers in `counts`, which has room for three (a shorter table is left alone). Document 01 says what each table holds afterwards.
  *
  * Stack: what a call takes at most is given below, by what it is lent. Reading and expanding take less than 8 MiB for every input;
  * writing takes as much as its words are many, since each may open a part of the term inside the one before: 32,000 words may take
