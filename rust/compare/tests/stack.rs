@@ -1,12 +1,23 @@
 //! The inputs that take the most stack, from a thread with little of it, against the second expander in a thread with much.
 
 use compare::deep;
-use grebetallboy::{expand, table_words, write, Error, Refused, TEXT_RATE};
-use inputs::in_stack;
+use grebetallboy::{expand, read, table_words, write, Error, Read, Refused, ITEM_WORDS, NAME_BYTES, TEXT_RATE};
+use inputs::{in_stack, known};
 use reference::{core, expand::run};
 
-const LITTLE: usize = 64 << 10;
+/// The system gives a thread no less than some 16 KiB.
+const LITTLE: usize = 1;
 const MUCH: usize = 1 << 30;
+
+#[test]
+fn texts() {
+    for (source, (ground, items, names)) in known::readings() {
+        let (mut i, mut n) = (vec![9; ITEM_WORDS], vec![9; NAME_BYTES]);
+        let answer = in_stack(LITTLE, || read(&source, &mut i, &mut n));
+        let refused = Err(Error::Refused(Refused { ground, steps: 0, sum: 0 }));
+        assert_eq!(answer, if ground == 0 { Ok(Read { items: items as usize, names: names as usize }) } else { refused });
+    }
+}
 
 #[test]
 fn deepest_tables() {
