@@ -8,6 +8,7 @@ use mathlib.Core.Option.{Option, none, some}
 use Prim.Native.Nat.{ℕ, zero, suc, _+_, _*_, _-_, _/_, _%_}
 use lib.Dec.{eqb, ltb}
 use lib.ListN.{length, getD}
+use Rattle.words.specs.Limits.{namesMost}
 use Rattle.words.specs.Lists.{within, equal}
 use Rattle.datum.specs.Constant.{Constant}
 use Rattle.recipe.specs.Name.{Binding, variable, macro, Name, plainName, bindingKey, markName}
@@ -99,40 +100,38 @@ unfoldable pub wrapAt : List ℕ → ℕ → Name → Name
 wrapAt work w = wrapFrom work w w
 
 -- ---- nodes: a tree without what waits on it. Three words as an item's: kind and two words, a pair's its head and tail.
--- A name's are its item and its own wrap
+-- A name's are its origin and its own wrap
 
--- the number that a name item holds
-unfoldable pub numberAt : List ℕ → ℕ → ℕ
-numberAt items i = getD items (3 * i + 1) 0
+-- an origin, in one word: whether the name has stood in a step's result, its number, and the item that it stems from
+unfoldable pub originName : ℕ → Name
+originName o = record { number = o / 2 % namesMost; item = o / (2 * namesMost); produced = eqb (o % 2) 1; marks = []; binding = none }
 
--- the number of a name node
-unfoldable pub numberOf : (items work : List ℕ) → ℕ → ℕ
-numberOf items work node = numberAt items (wordAt work node 2)
+-- the name of a name node before any wrap
+unfoldable pub nodeName : List ℕ → ℕ → Name
+nodeName work node = originName (wordAt work node 2)
 
--- a node past those of the table's items has stood in a result
-unfoldable pub nodeName : (items work : List ℕ) → ℕ → Name
-nodeName items work node =
-    record { number = numberAt items (wordAt work node 2); item = wordAt work node 2; produced = ltb (length items) node; marks = []; binding = none }
+unfoldable pub numberOf : List ℕ → ℕ → ℕ
+numberOf work node = nodeName work node .number
 
 -- the name of a name node under a pending wrap: its own wrap, then the pending one
-unfoldable pub nameAt : (items work : List ℕ) → ℕ → ℕ → Name
-nameAt items work node w = wrapAt work w (wrapAt work (referenceAt work node 1) (nodeName items work node))
+unfoldable pub nameAt : List ℕ → ℕ → ℕ → Name
+nameAt work node w = wrapAt work w (wrapAt work (referenceAt work node 1) (nodeName work node))
 
 unfoldable pub constantAt : List ℕ → ℕ → Constant
 constantAt work node = record { kind = wordAt work node 3; first = wordAt work node 2; second = wordAt work node 1 }
 
 -- opening a list hands its wrap on unchanged
-unfoldable pub treeStep : (items work : List ℕ) → (ℕ → ℕ → Tree) → ℕ → ℕ → Tree
-treeStep items work below node w =
+unfoldable pub treeStep : List ℕ → (ℕ → ℕ → Tree) → ℕ → ℕ → Tree
+treeStep work below node w =
     byKind (wordAt work node 3)
     empty
-    (name (nameAt items work node w))
+    (name (nameAt work node w))
     (pair (below (referenceAt work node 2) w) (below (referenceAt work node 1) w))
     (constant (constantAt work node))
 
-unfoldable pub treeFrom : (items work : List ℕ) → ℕ → ℕ → ℕ → Tree
-treeFrom items work zero node w = empty
-treeFrom items work (suc gas) node w = treeStep items work (treeFrom items work gas) node w
+unfoldable pub treeFrom : List ℕ → ℕ → ℕ → ℕ → Tree
+treeFrom work zero node w = empty
+treeFrom work (suc gas) node w = treeStep work (treeFrom work gas) node w
 
-unfoldable pub treeAt : (items work : List ℕ) → ℕ → ℕ → Tree
-treeAt items work node w = treeFrom items work node node w
+unfoldable pub treeAt : List ℕ → ℕ → ℕ → Tree
+treeAt work node w = treeFrom work node node w

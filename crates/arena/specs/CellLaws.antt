@@ -3,16 +3,15 @@ use mathlib.Core.Path.{_≡_, refl, sym, ap, ap₂, _∙_}
 use mathlib.Core.List.{List}
 use Prim.Native.Nat.{ℕ, _+_, _-_, _≤_, _<_}
 use native.Mathlib.Omega.{arith}
-use lib.Dec.{ltb}
 use lib.ListN.{length, getD, take, set, length-set}
 use lib.Seq.{getD-set-same, getD-set-other, take-set-le}
 use Rattle.recipe.specs.Name.{Name, plainName, markName, bindName}
 use Rattle.recipe.specs.Tree.{empty, constant, name, pair, onNames, mark}
 use Rattle.recipe.specs.TreeLaws.{onNames-∘, onNames-cong}
-use Rattle.arena.specs.Arena.{wordAt, referenceAt, stepLimit, marked, ownMarks, wrapAt, nodeName, nameAt, constantAt, treeAt}
+use Rattle.arena.specs.Arena.{wordAt, referenceAt, stepLimit, marked, ownMarks, wrapAt, originName, nodeName, nameAt, constantAt, treeAt}
 use Rattle.arena.specs.ArenaLaws.{wordAt-in, wordAt-below, falling-is, take-less, wrapAt-below, wrapAt-mark, wrapAt-join, wrapAt-binder, marked-is, Own, rebound-is}
 use Rattle.arena.specs.NodeLaws.{treeAt-wrap, treeAt-below, treeAt-empty, treeAt-name, treeAt-pair, treeAt-constant}
-use Rattle.arena.specs.Cells.{itemName, Cell, Wrapped, Described, Bound, Grown}
+use Rattle.arena.specs.Cells.{Cell, Wrapped, Described, Bound, Grown}
 
 -- ---- three words at the top
 
@@ -145,61 +144,61 @@ module _ (number binding count mark own pending key parent : ℕ) (old one two n
 
 -- ---- nodes
 
-pub tree-kept : (items old new : List ℕ) (top node w : ℕ) → node ≤ top → w ≤ top → take top new ≡ take top old → treeAt items new node w ≡ treeAt items old node w
-tree-kept items old new top node w h l e = treeAt-below items new old node w (take-less new old node top h e) (take-less new old w top l e)
+pub tree-kept : (old new : List ℕ) (top node w : ℕ) → node ≤ top → w ≤ top → take top new ≡ take top old → treeAt new node w ≡ treeAt old node w
+tree-kept old new top node w h l e = treeAt-below new old node w (take-less new old node top h e) (take-less new old w top l e)
 
 module _ (old new : List ℕ) (top r : ℕ) where
-  pub grown-pair : (head tail : ℕ) → head ≤ top → tail ≤ top → Cell 4 head tail old new top r → Grown (λ items w. pair (treeAt items old head w) (treeAt items old tail w)) old new top r
+  pub grown-pair : (head tail : ℕ) → head ≤ top → tail ≤ top → Cell 4 head tail old new top r → Grown (λ w. pair (treeAt old head w) (treeAt old tail w)) old new top r
   grown-pair head tail h l c =
       record {
         end = c .end;
         kept = c .kept;
-        means = λ items w p.
-            treeAt-pair items new r w (c .first)
+        means = λ w p.
+            treeAt-pair new r w (c .first)
             ∙ ap₂ pair
-            (ap (λ (n : ℕ). treeAt items new n w) (reference-is new r 2 head (c .second) (omega (arith, c .end))) ∙ tree-kept items old new top head w h p (c .kept))
-            (ap (λ (n : ℕ). treeAt items new n w) (reference-is new r 1 tail (c .third) (omega (arith, c .end))) ∙ tree-kept items old new top tail w l p (c .kept));
+            (ap (λ (n : ℕ). treeAt new n w) (reference-is new r 2 head (c .second) (omega (arith, c .end))) ∙ tree-kept old new top head w h p (c .kept))
+            (ap (λ (n : ℕ). treeAt new n w) (reference-is new r 1 tail (c .third) (omega (arith, c .end))) ∙ tree-kept old new top tail w l p (c .kept));
       }
 
-  pub grown-name : (item own : ℕ) → own ≤ top → Cell 3 item own old new top r → Grown (λ items w. name (wrapAt old w (wrapAt old own (itemName items item (ltb (length items) (top + 3)))))) old new top r
-  unfolding nameAt nodeName itemName
-  grown-name item own h c =
+  pub grown-name : (origin own : ℕ) → own ≤ top → Cell 3 origin own old new top r → Grown (λ w. name (wrapAt old w (wrapAt old own (originName origin)))) old new top r
+  unfolding nameAt nodeName
+  grown-name origin own h c =
       record {
         end = c .end;
         kept = c .kept;
-        means = λ items w p.
-            treeAt-name items new r w (c .first)
+        means = λ w p.
+            treeAt-name new r w (c .first)
             ∙ ap name
-            (ap₂ (λ (u i : ℕ). wrapAt new w (wrapAt new u (itemName items i (ltb (length items) r)))) (reference-is new r 1 own (c .third) (omega (arith, c .end))) (c .second)
+            (ap₂ (λ (u o : ℕ). wrapAt new w (wrapAt new u (originName o))) (reference-is new r 1 own (c .third) (omega (arith, c .end))) (c .second)
             ∙ wrap-kept old new top w p (c .kept) _
-            ∙ ap (wrapAt old w) (wrap-kept old new top own h (c .kept) _ ∙ ap (λ (e : ℕ). wrapAt old own (itemName items item (ltb (length items) e))) (c .end)));
+            ∙ ap (wrapAt old w) (wrap-kept old new top own h (c .kept) _));
       }
 
-  pub grown-empty : (a b : ℕ) → Cell 0 a b old new top r → Grown (λ items w. empty) old new top r
-  grown-empty a b c = record { end = c .end; kept = c .kept; means = λ items w p. treeAt-empty items new r w (c .first) }
+  pub grown-empty : (a b : ℕ) → Cell 0 a b old new top r → Grown (λ w. empty) old new top r
+  grown-empty a b c = record { end = c .end; kept = c .kept; means = λ w p. treeAt-empty new r w (c .first) }
 
-  pub grown-constant : (k a b : ℕ) → (k ≡ 0 → ⊥) → (k ≡ 3 → ⊥) → (k ≡ 4 → ⊥) → Cell k a b old new top r → Grown (λ items w. constant (record { kind = k; first = a; second = b })) old new top r
+  pub grown-constant : (k a b : ℕ) → (k ≡ 0 → ⊥) → (k ≡ 3 → ⊥) → (k ≡ 4 → ⊥) → Cell k a b old new top r → Grown (λ w. constant (record { kind = k; first = a; second = b })) old new top r
   unfolding constantAt
   grown-constant k a b n3 n4 n5 c =
       record {
         end = c .end;
         kept = c .kept;
-        means = λ items w p.
-            treeAt-constant items new r w (λ z. n3 (sym (c .first) ∙ z)) (λ z. n4 (sym (c .first) ∙ z)) (λ z. n5 (sym (c .first) ∙ z))
+        means = λ w p.
+            treeAt-constant new r w (λ z. n3 (sym (c .first) ∙ z)) (λ z. n4 (sym (c .first) ∙ z)) (λ z. n5 (sym (c .first) ∙ z))
             ∙ rw (c .first, c .second, c .third);
       }
 
 -- ---- trees under a new wrap: what waits is carried through the tree under the parent
 
-module _ (items old new : List ℕ) (top r node : ℕ) (below : node ≤ top) (kept : take top new ≡ take top old) where
-  pub tree-after : (f : Name → Name) (v : ℕ) → ((x : Name) → wrapAt new r x ≡ f (wrapAt old v x)) → treeAt items new node r ≡ onNames f (treeAt items old node v)
+module _ (old new : List ℕ) (top r node : ℕ) (below : node ≤ top) (kept : take top new ≡ take top old) where
+  pub tree-after : (f : Name → Name) (v : ℕ) → ((x : Name) → wrapAt new r x ≡ f (wrapAt old v x)) → treeAt new node r ≡ onNames f (treeAt old node v)
   tree-after f v e =
-      treeAt-wrap items new node r
+      treeAt-wrap new node r
       ∙ onNames-cong _ _ e _
-      ∙ ap (onNames (λ x. f (wrapAt old v x))) (tree-kept items old new top node 0 below (omega arith) kept)
+      ∙ ap (onNames (λ x. f (wrapAt old v x))) (tree-kept old new top node 0 below (omega arith) kept)
       ∙ sym (onNames-∘ f (wrapAt old v) _)
-      ∙ ap (onNames f) (sym (treeAt-wrap items old node v))
+      ∙ ap (onNames f) (sym (treeAt-wrap old node v))
 
-  pub tree-mark : (m parent : ℕ) → Wrapped (λ x. markName m (wrapAt old parent x)) 3 old new top r → treeAt items new node r ≡ mark m (treeAt items old node parent)
+  pub tree-mark : (m parent : ℕ) → Wrapped (λ x. markName m (wrapAt old parent x)) 3 old new top r → treeAt new node r ≡ mark m (treeAt old node parent)
   unfolding mark
   tree-mark m parent c = tree-after (markName m) parent (c .means)

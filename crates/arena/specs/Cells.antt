@@ -1,13 +1,12 @@
 -- What the constructors of cells leave: the new cell above the old top, its meaning, and all below as it was.
 use mathlib.Core.Path.{_≡_}
-use mathlib.Core.Bool.{Bool}
-use mathlib.Core.List.{List, []}
-use mathlib.Core.Option.{none, some}
+use mathlib.Core.List.{List}
+use mathlib.Core.Option.{some}
 use Prim.Native.Nat.{ℕ, _+_, _^_, _≤_, _<_}
 use lib.ListN.{length, take}
 use Rattle.recipe.specs.Name.{Binding, Name, bindingKey, bindName, plainName}
 use Rattle.recipe.specs.Tree.{Tree}
-use Rattle.arena.specs.Arena.{wordAt, wrapAt, newest, numberAt, nameAt, treeAt}
+use Rattle.arena.specs.Arena.{wordAt, wrapAt, newest, nameAt, treeAt}
 
 -- room for a cell of n words: the budget of ground 9 gives it, and references fit a word
 pub record Room (work : List ℕ) (top n : ℕ) : Type 0 where
@@ -45,17 +44,13 @@ pub record Bound (number binding count mark own pending key parent : ℕ) (old n
       → (x : Name) → wrapAt new r x ≡ bindName i b (wrapAt old parent x)
 
 -- it binds the name of a node under a wrap
-pub record Binds (items : List ℕ) (node w key parent : ℕ) (old new : List ℕ) (top r : ℕ) : Type 0 where
+pub record Binds (node w key parent : ℕ) (old new : List ℕ) (top r : ℕ) : Type 0 where
   pub end : r ≡ top + 9
   pub kept : take top new ≡ take top old
-  pub means : (b : Binding) → key ≡ bindingKey (some b) → (x : Name) → wrapAt new r x ≡ bindName (nameAt items old node w) b (wrapAt old parent x)
-
--- a name item's name, produced or not, before any wrap
-unfoldable pub itemName : List ℕ → ℕ → Bool → Name
-itemName items i made = record { number = numberAt items i; item = i; produced = made; marks = []; binding = none }
+  pub means : (b : Binding) → key ≡ bindingKey (some b) → (x : Name) → wrapAt new r x ≡ bindName (nameAt old node w) b (wrapAt old parent x)
 
 -- a new node of a tree, under any wrap that waits on it
-pub record Grown (tree : (items : List ℕ) → ℕ → Tree) (old new : List ℕ) (top r : ℕ) : Type 0 where
+pub record Grown (tree : ℕ → Tree) (old new : List ℕ) (top r : ℕ) : Type 0 where
   pub end : r ≡ top + 3
   pub kept : take top new ≡ take top old
-  pub means : (items : List ℕ) (w : ℕ) → w ≤ top → treeAt items new r w ≡ tree items w
+  pub means : (w : ℕ) → w ≤ top → treeAt new r w ≡ tree w

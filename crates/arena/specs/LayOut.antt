@@ -7,17 +7,17 @@ use Prim.Native.Nat.{ℕ, zero, suc, _+_, _*_, _-_, _≤_, _<_}
 use native.Mathlib.Omega.{arith}
 use lib.Dec.{eqb, ltb, leb}
 use lib.ListN.{length, getD, take}
-use borrow.Author.Tests.{eqb-true, eqb-false, ne-eqb, leb-true, le-ltb}
+use borrow.Author.Tests.{eqb-true, eqb-false, ne-eqb, leb-true, ltb-true}
 use Rattle.words.specs.Lists.{within, allOf}
-use Rattle.words.specs.Limits.{itemsMost, itemsLeast}
+use Rattle.words.specs.Limits.{namesMost, itemsMost, itemsLeast}
 use Rattle.recipe.specs.Name.{plainName}
 use Rattle.recipe.specs.Tree.{Tree, empty, constant, name, pair}
 use Rattle.recipe.specs.Table.{Item, items, byKind, constantOf, isItem, isPairItem, kindAt, isLayout, trees, treeOf, itemCount}
-use Rattle.arena.specs.Arena.{wrapAt, treeAt, numberAt}
+use Rattle.arena.specs.Arena.{wrapAt, originName, treeAt}
 use Rattle.words.specs.ListLaws.{either}
 use Rattle.arena.specs.ArenaLaws.{wrapAt-none, take-less}
 use Rattle.arena.specs.NodeLaws.{treeAt-below}
-use Rattle.arena.specs.Cells.{Room, itemName, Grown}
+use Rattle.arena.specs.Cells.{Room, Grown}
 
 -- ---- definitions
 
@@ -31,7 +31,7 @@ nodeOf n i = 3 * (n - i)
 
 -- the last j items have their nodes
 pub record Laid (ws work : List ℕ) (j : ℕ) : Type 0 where
-  pub means : (i : ℕ) → i < itemCount ws → itemCount ws ≤ i + j → treeAt ws work (nodeOf (itemCount ws) i) 0 ≡ treeOfItem ws i
+  pub means : (i : ℕ) → i < itemCount ws → itemCount ws ≤ i + j → treeAt work (nodeOf (itemCount ws) i) 0 ≡ treeOfItem ws i
 
 -- what laying out one item more asks
 pub record Laying (ws work : List ℕ) (count j : ℕ) : Type 0 where
@@ -44,7 +44,7 @@ pub record Laying (ws work : List ℕ) (count j : ℕ) : Type 0 where
 -- the whole table is laid out
 pub record LaidOut (ws work : List ℕ) (r : ℕ) : Type 0 where
   pub end : r ≡ length ws
-  pub means : treeAt ws work r 0 ≡ treeOf ws
+  pub means : treeAt work r 0 ≡ treeOf ws
 
 -- ---- tests
 
@@ -143,6 +143,13 @@ module _ (ws : List ℕ) (layout : isLayout ws ≡ true) where
         tail-within = omega (arith, leb-true b (n - 1) (and-right (leb (suc i) b) (leb b (n - 1)) v));
       }
 
+  -- a name's number is one of the name table's
+  number-few : (i : ℕ) → i < itemCount ws → getD ws (3 * i) 0 ≡ 3 → getD ws (3 * i + 1) 0 < namesMost
+  unfolding isItem byKind itemAt
+  number-few i h e =
+      let t : (ltb (getD ws (3 * i + 1) 0) namesMost && eqb (getD ws (3 * i + 2) 0) 0) ≡ true = rw e at (is-item i h) in
+      ltb-true _ _ (and-left _ _ t)
+
   -- ---- the tree of an item
 
   tree-with : (i : ℕ) → i < itemCount ws → treeOfItem ws i ≡ treeWith (itemAt 0 ws i) (treeOfItem ws (suc i + (getD ws (3 * i + 1) 0 - suc (0 + i)))) (treeOfItem ws (suc i + (getD ws (3 * i + 2) 0 - suc (0 + i))))
@@ -174,7 +181,7 @@ module _ (ws : List ℕ) (layout : isLayout ws ≡ true) where
 -- ---- one node more
 
 -- the node of the item before the last j
-laid-next : (ws old new : List ℕ) (j : ℕ) → j < itemCount ws → Laid ws old j → take (3 * j) new ≡ take (3 * j) old → treeAt ws new (3 * j + 3) 0 ≡ treeOfItem ws (itemCount ws - 1 - j) → Laid ws new (j + 1)
+laid-next : (ws old new : List ℕ) (j : ℕ) → j < itemCount ws → Laid ws old j → take (3 * j) new ≡ take (3 * j) old → treeAt new (3 * j + 3) 0 ≡ treeOfItem ws (itemCount ws - 1 - j) → Laid ws new (j + 1)
 unfolding nodeOf
 laid-next ws old new j h l e t =
     record {
@@ -184,11 +191,11 @@ laid-next ws old new j h l e t =
           let f : i + j + 1 ≡ itemCount ws = eqb-true _ _ c in
           let n : 3 * (itemCount ws - i) ≡ 3 * j + 3 = omega arith in
           let m : itemCount ws - 1 - j ≡ i = omega arith in
-          ap (λ (k : ℕ). treeAt ws new k 0) n ∙ t ∙ ap (treeOfItem ws) m)
+          ap (λ (k : ℕ). treeAt new k 0) n ∙ t ∙ ap (treeOfItem ws) m)
           (λ c.
           let f : i + j + 1 ≡ itemCount ws → ⊥ = eqb-false _ _ c in
           let b : 3 * (itemCount ws - i) ≤ 3 * j = omega arith in
-          treeAt-below ws new old (3 * (itemCount ws - i)) 0 (take-less new old (3 * (itemCount ws - i)) (3 * j) b e) refl ∙ l .means i p (omega arith));
+          treeAt-below new old (3 * (itemCount ws - i)) 0 (take-less new old (3 * (itemCount ws - i)) (3 * j) b e) refl ∙ l .means i p (omega arith));
     }
 
 module _ (ws old : List ℕ) (count j : ℕ) (l : Laying ws old count j) where
@@ -205,35 +212,36 @@ module _ (ws old new : List ℕ) (count j i r : ℕ) (l : Laying ws old count j)
   layout : isLayout ws ≡ true
   layout = l .layout
 
-  next : (tree : List ℕ → ℕ → Tree) → Grown tree old new (3 * j) r → tree ws 0 ≡ treeOfItem ws i → Laid ws new (j + 1)
+  next : (tree : ℕ → Tree) → Grown tree old new (3 * j) r → tree 0 ≡ treeOfItem ws i → Laid ws new (j + 1)
   next tree g e =
       laid-next ws old new j (omega (arith, l .count-is, l .more)) (l .laid) (g .kept)
-      (ap (λ (k : ℕ). treeAt ws new k 0) (sym (g .end)) ∙ g .means ws 0 (omega arith) ∙ e ∙ ap (treeOfItem ws) (omega (arith, i-is, l .count-is)))
+      (ap (λ (k : ℕ). treeAt new k 0) (sym (g .end)) ∙ g .means 0 (omega arith) ∙ e ∙ ap (treeOfItem ws) (omega (arith, i-is, l .count-is)))
 
   i-within : i < itemCount ws
   i-within = omega (arith, i-is, l .more, l .count-is)
 
-  pub laid-empty : getD ws (3 * i) 0 ≡ 0 → Grown (λ items w. empty) old new (3 * j) r → Laid ws new (j + 1)
-  laid-empty e g = next (λ items w. empty) g (tree-empty ws layout i i-within e)
+  pub laid-empty : getD ws (3 * i) 0 ≡ 0 → Grown (λ w. empty) old new (3 * j) r → Laid ws new (j + 1)
+  laid-empty e g = next (λ w. empty) g (tree-empty ws layout i i-within e)
 
-  pub laid-name : getD ws (3 * i) 0 ≡ 3 → Grown (λ items w. name (wrapAt old w (wrapAt old 0 (itemName items i (ltb (length items) (3 * j + 3)))))) old new (3 * j) r → Laid ws new (j + 1)
-  unfolding itemName plainName numberAt
-  laid-name e g =
-      let f : ltb (length ws) (3 * j + 3) ≡ false = le-ltb (length ws) (3 * j + 3) (omega (arith, whole ws layout, l .count-is, l .more)) in
-      next (λ items w. name (wrapAt old w (wrapAt old 0 (itemName items i (ltb (length items) (3 * j + 3)))))) g
-      (ap name (wrapAt-none old _ ∙ wrapAt-none old _ ∙ ap (itemName ws i) f) ∙ tree-name ws layout i i-within e)
+  pub laid-name : (origin : ℕ) → getD ws (3 * i) 0 ≡ 3 → originName origin ≡ plainName (getD ws (3 * i + 1) 0) i → Grown (λ w. name (wrapAt old w (wrapAt old 0 (originName origin)))) old new (3 * j) r → Laid ws new (j + 1)
+  laid-name origin e o g =
+      next (λ w. name (wrapAt old w (wrapAt old 0 (originName origin)))) g
+      (ap name (wrapAt-none old _ ∙ wrapAt-none old _ ∙ o) ∙ tree-name ws layout i i-within e)
 
-  pub laid-pair : (head tail : ℕ) → getD ws (3 * i) 0 ≡ 4 → head ≡ nodeOf count (getD ws (3 * i + 1) 0) → tail ≡ nodeOf count (getD ws (3 * i + 2) 0) → Grown (λ items w. pair (treeAt items old head w) (treeAt items old tail w)) old new (3 * j) r → Laid ws new (j + 1)
+  pub laid-pair : (head tail : ℕ) → getD ws (3 * i) 0 ≡ 4 → head ≡ nodeOf count (getD ws (3 * i + 1) 0) → tail ≡ nodeOf count (getD ws (3 * i + 2) 0) → Grown (λ w. pair (treeAt old head w) (treeAt old tail w)) old new (3 * j) r → Laid ws new (j + 1)
   laid-pair head tail e p q g =
       let f = refers ws layout i i-within e in
-      next (λ items w. pair (treeAt items old head w) (treeAt items old tail w)) g
+      next (λ w. pair (treeAt old head w) (treeAt old tail w)) g
       (ap₂ pair
-      (ap (λ (k : ℕ). treeAt ws old k 0) (p ∙ ap (λ (n : ℕ). nodeOf n (getD ws (3 * i + 1) 0)) (l .count-is)) ∙ l .laid .means (getD ws (3 * i + 1) 0) (f .head-within) (omega (arith, f .head-rises, i-is, l .count-is, l .more)))
-      (ap (λ (k : ℕ). treeAt ws old k 0) (q ∙ ap (λ (n : ℕ). nodeOf n (getD ws (3 * i + 2) 0)) (l .count-is)) ∙ l .laid .means (getD ws (3 * i + 2) 0) (f .tail-within) (omega (arith, f .tail-rises, i-is, l .count-is, l .more)))
+      (ap (λ (k : ℕ). treeAt old k 0) (p ∙ ap (λ (n : ℕ). nodeOf n (getD ws (3 * i + 1) 0)) (l .count-is)) ∙ l .laid .means (getD ws (3 * i + 1) 0) (f .head-within) (omega (arith, f .head-rises, i-is, l .count-is, l .more)))
+      (ap (λ (k : ℕ). treeAt old k 0) (q ∙ ap (λ (n : ℕ). nodeOf n (getD ws (3 * i + 2) 0)) (l .count-is)) ∙ l .laid .means (getD ws (3 * i + 2) 0) (f .tail-within) (omega (arith, f .tail-rises, i-is, l .count-is, l .more)))
       ∙ tree-pair ws layout i i-within e)
 
-  pub laid-constant : (getD ws (3 * i) 0 ≡ 0 → ⊥) → (getD ws (3 * i) 0 ≡ 3 → ⊥) → (getD ws (3 * i) 0 ≡ 4 → ⊥) → Grown (λ items w. constant (record { kind = getD ws (3 * i) 0; first = getD ws (3 * i + 1) 0; second = getD ws (3 * i + 2) 0 })) old new (3 * j) r → Laid ws new (j + 1)
-  laid-constant x y z g = next (λ items w. constant (record { kind = getD ws (3 * i) 0; first = getD ws (3 * i + 1) 0; second = getD ws (3 * i + 2) 0 })) g (tree-constant ws layout i i-within x y z)
+  pub laid-constant : (getD ws (3 * i) 0 ≡ 0 → ⊥) → (getD ws (3 * i) 0 ≡ 3 → ⊥) → (getD ws (3 * i) 0 ≡ 4 → ⊥) → Grown (λ w. constant (record { kind = getD ws (3 * i) 0; first = getD ws (3 * i + 1) 0; second = getD ws (3 * i + 2) 0 })) old new (3 * j) r → Laid ws new (j + 1)
+  laid-constant x y z g = next (λ w. constant (record { kind = getD ws (3 * i) 0; first = getD ws (3 * i + 1) 0; second = getD ws (3 * i + 2) 0 })) g (tree-constant ws layout i i-within x y z)
+
+  pub name-few : getD ws (3 * i) 0 ≡ 3 → getD ws (3 * i + 1) 0 < namesMost
+  name-few e = number-few ws layout i i-within e
 
   -- a pair's nodes are below
   pub head-below : getD ws (3 * i) 0 ≡ 4 → nodeOf count (getD ws (3 * i + 1) 0) ≤ 3 * j
@@ -249,7 +257,7 @@ module _ (ws old new : List ℕ) (count j i r : ℕ) (l : Laying ws old count j)
 pub laid-none : (ws work : List ℕ) → Laid ws work 0
 laid-none ws work = record { means = λ i p q. absurd (omega arith) }
 
-laid-root : (ws work : List ℕ) (n : ℕ) → isLayout ws ≡ true → n ≡ itemCount ws → Laid ws work n → treeAt ws work (3 * n) 0 ≡ treeOf ws
+laid-root : (ws work : List ℕ) (n : ℕ) → isLayout ws ≡ true → n ≡ itemCount ws → Laid ws work n → treeAt work (3 * n) 0 ≡ treeOf ws
 unfolding nodeOf treeOf treeOfItem isLayout within
 laid-root ws work n layout e l =
     let least : itemsLeast ≤ itemCount ws = leb-true _ _ (and-left (leb itemsLeast (itemCount ws)) (leb (itemCount ws) itemsMost) (and-left _ _ (and-right (eqb (length ws) (3 * itemCount ws)) _ layout))) in

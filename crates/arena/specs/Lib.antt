@@ -2,6 +2,7 @@
 pub mod Arena
 pub mod ArenaLaws
 pub mod NodeLaws
+pub mod Origins
 pub mod Cells
 pub mod CellLaws
 pub mod Nodes

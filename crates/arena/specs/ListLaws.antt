@@ -15,44 +15,44 @@ use Rattle.arena.specs.Arena.{wordAt, referenceAt, nameAt, constantAt, t
 use Rattle.words.specs.ListLaws.{either}
 use Rattle.arena.specs.ArenaLaws.{wordAt-some, wordAt-none, referenceAt-most, referenceAt-falls}
 use Rattle.arena.specs.NodeLaws.{treeAt-empty, treeAt-name, treeAt-pair, treeAt-constant, nameAt-number}
-use Rattle.arena.specs.Lists.{Means, Counts, Tests, TestsIn, Counted, Walked}
+use Rattle.arena.specs.Lists.{Means, Counts, Tests, Counted, Walked}
 
 -- ---- what a node can be
 
 -- node 0 is the empty list
-pub treeAt-none : (items work : List ℕ) (w : ℕ) → treeAt items work 0 w ≡ empty
-treeAt-none items work w = treeAt-empty items work 0 w (wordAt-none work 3 (omega arith))
+pub treeAt-none : (work : List ℕ) (w : ℕ) → treeAt work 0 w ≡ empty
+treeAt-none work w = treeAt-empty work 0 w (wordAt-none work 3 (omega arith))
 
-module _ (items work : List ℕ) (node w : ℕ) where
-  pub tree-cases : (P : Tree → Type 0) → (wordAt work node 3 ≡ 0 → P empty) → (wordAt work node 3 ≡ 3 → P (name (nameAt items work node w))) → (wordAt work node 3 ≡ 4 → P (pair (treeAt items work (referenceAt work node 2) w) (treeAt items work (referenceAt work node 1) w))) → ((wordAt work node 3 ≡ 0 → ⊥) → (wordAt work node 3 ≡ 3 → ⊥) → (wordAt work node 3 ≡ 4 → ⊥) → P (constant (constantAt work node))) → P (treeAt items work node w)
+module _ (work : List ℕ) (node w : ℕ) where
+  pub tree-cases : (P : Tree → Type 0) → (wordAt work node 3 ≡ 0 → P empty) → (wordAt work node 3 ≡ 3 → P (name (nameAt work node w))) → (wordAt work node 3 ≡ 4 → P (pair (treeAt work (referenceAt work node 2) w) (treeAt work (referenceAt work node 1) w))) → ((wordAt work node 3 ≡ 0 → ⊥) → (wordAt work node 3 ≡ 3 → ⊥) → (wordAt work node 3 ≡ 4 → ⊥) → P (constant (constantAt work node))) → P (treeAt work node w)
   tree-cases P e n p c =
       let kind = wordAt work node 3 in
       either (eqb kind 0)
-      (λ t. subst P (sym (treeAt-empty items work node w (eqb-true kind 0 t))) (e (eqb-true kind 0 t)))
+      (λ t. subst P (sym (treeAt-empty work node w (eqb-true kind 0 t))) (e (eqb-true kind 0 t)))
       (λ t.
       either (eqb kind 3)
-      (λ u. subst P (sym (treeAt-name items work node w (eqb-true kind 3 u))) (n (eqb-true kind 3 u)))
+      (λ u. subst P (sym (treeAt-name work node w (eqb-true kind 3 u))) (n (eqb-true kind 3 u)))
       (λ u.
       either (eqb kind 4)
-      (λ v. subst P (sym (treeAt-pair items work node w (eqb-true kind 4 v))) (p (eqb-true kind 4 v)))
-      (λ v. subst P (sym (treeAt-constant items work node w (eqb-false kind 0 t) (eqb-false kind 3 u) (eqb-false kind 4 v))) (c (eqb-false kind 0 t) (eqb-false kind 3 u) (eqb-false kind 4 v)))))
+      (λ v. subst P (sym (treeAt-pair work node w (eqb-true kind 4 v))) (p (eqb-true kind 4 v)))
+      (λ v. subst P (sym (treeAt-constant work node w (eqb-false kind 0 t) (eqb-false kind 3 u) (eqb-false kind 4 v))) (c (eqb-false kind 0 t) (eqb-false kind 3 u) (eqb-false kind 4 v)))))
 
-  pub no-name : {A : Type 0} (f : Name → A) (a : A) → (wordAt work node 3 ≡ 3 → ⊥) → onName f a (treeAt items work node w) ≡ a
+  pub no-name : {A : Type 0} (f : Name → A) (a : A) → (wordAt work node 3 ≡ 3 → ⊥) → onName f a (treeAt work node w) ≡ a
   unfolding onName
   no-name f a n = tree-cases (λ t. onName f a t ≡ a) (λ e. refl) (λ e. absurd (n e)) (λ e. refl) (λ p q r. refl)
 
-  pub no-elements : (wordAt work node 3 ≡ 4 → ⊥) → elements (treeAt items work node w) ≡ []
+  pub no-elements : (wordAt work node 3 ≡ 4 → ⊥) → elements (treeAt work node w) ≡ []
   unfolding elements
   no-elements n = tree-cases (λ t. elements t ≡ []) (λ e. refl) (λ e. refl) (λ e. absurd (n e)) (λ p q r. refl)
 
 module _ (work : List ℕ) (node kind : ℕ) (kind-is : kind ≡ wordAt work node 3) where
   -- what holds of every tree that is no pair
   pub no-pair : (P : Tree → Type 0) → P empty → ((x : Name) → P (name x)) → ((a : Constant) → P (constant a)) → (kind ≡ 4 → ⊥)
-      → (items : List ℕ) (w : ℕ) → P (treeAt items work node w)
-  no-pair P e n c other items w = tree-cases items work node w P (λ z. e) (λ z. n _) (λ z. absurd (other (kind-is ∙ z))) (λ p q r. c _)
+      → (w : ℕ) → P (treeAt work node w)
+  no-pair P e n c other w = tree-cases work node w P (λ z. e) (λ z. n _) (λ z. absurd (other (kind-is ∙ z))) (λ p q r. c _)
 
-  pub a-pair : kind ≡ 4 → (items : List ℕ) (w : ℕ) → treeAt items work node w ≡ pair (treeAt items work (referenceAt work node 2) w) (treeAt items work (referenceAt work node 1) w)
-  a-pair e items w = treeAt-pair items work node w (sym kind-is ∙ e)
+  pub a-pair : kind ≡ 4 → (w : ℕ) → treeAt work node w ≡ pair (treeAt work (referenceAt work node 2) w) (treeAt work (referenceAt work node 1) w)
+  a-pair e w = treeAt-pair work node w (sym kind-is ∙ e)
 
   pub kind-some : kind ≡ 4 → 0 < node
   kind-some e = wordAt-some work node 3 (omega arith) (λ z. omega arith)
@@ -61,19 +61,19 @@ module _ (work : List ℕ) (node kind : ℕ) (kind-is : kind ≡ wordAt work nod
 
   pub first-none : (kind ≡ 4 → ⊥) → Means work node 0 (element 0)
   unfolding element elements
-  first-none other = record { is = λ items w. treeAt-none items work w ∙ no-pair (λ t. empty ≡ element 0 t) refl (λ x. refl) (λ a. refl) other items w; low = omega arith }
+  first-none other = record { is = λ w. treeAt-none work w ∙ no-pair (λ t. empty ≡ element 0 t) refl (λ x. refl) (λ a. refl) other w; low = omega arith }
 
   pub first-some : kind ≡ 4 → (r : ℕ) → r ≡ referenceAt work node 2 → Means work node r (element 0)
   unfolding element elements
-  first-some e r h = record { is = λ items w. rw (h, a-pair e items w) refl; low = omega (arith, referenceAt-most work node 2) }
+  first-some e r h = record { is = λ w. rw (h, a-pair e w) refl; low = omega (arith, referenceAt-most work node 2) }
 
   pub rest-none : (kind ≡ 4 → ⊥) → Means work node 0 tail
   unfolding tail onPair
-  rest-none other = record { is = λ items w. treeAt-none items work w ∙ no-pair (λ t. empty ≡ tail t) refl (λ x. refl) (λ a. refl) other items w; low = omega arith }
+  rest-none other = record { is = λ w. treeAt-none work w ∙ no-pair (λ t. empty ≡ tail t) refl (λ x. refl) (λ a. refl) other w; low = omega arith }
 
   pub rest-some : kind ≡ 4 → (r : ℕ) → r ≡ referenceAt work node 1 → Means work node r tail
   unfolding tail onPair
-  rest-some e r h = record { is = λ items w. rw (h, a-pair e items w) refl; low = omega (arith, referenceAt-most work node 1) }
+  rest-some e r h = record { is = λ w. rw (h, a-pair e w) refl; low = omega (arith, referenceAt-most work node 1) }
 
   -- ---- counting
 
@@ -81,7 +81,7 @@ module _ (work : List ℕ) (node kind : ℕ) (kind-is : kind ≡ wordAt work nod
   pub count-none : (list k : ℕ) → (kind ≡ 4 → ⊥) → Counted work list node k → Counts work list k
   count-none list k other c =
       record {
-        is = λ items w. sym (c .is items w ∙ ap (λ (l : List Tree). k + length l) (no-elements items work node w (λ z. other (kind-is ∙ z))) ∙ omega arith);
+        is = λ w. sym (c .is w ∙ ap (λ (l : List Tree). k + length l) (no-elements work node w (λ z. other (kind-is ∙ z))) ∙ omega arith);
         low = omega (arith, c .low);
       }
 
@@ -89,7 +89,7 @@ module _ (work : List ℕ) (node kind : ℕ) (kind-is : kind ≡ wordAt work nod
   unfolding elements
   count-more list k r e h c =
       record {
-        is = λ items w. c .is items w ∙ rw (h, a-pair e items w) (omega arith);
+        is = λ w. c .is w ∙ rw (h, a-pair e w) (omega arith);
         low = omega (arith, c .low, referenceAt-falls work node 1 (kind-some e));
       }
 
@@ -97,18 +97,18 @@ module _ (work : List ℕ) (node kind : ℕ) (kind-is : kind ≡ wordAt work nod
 
   pub name-test : Tests isName work node (eqb kind 3)
   unfolding isName onName
-  name-test items w =
-      tree-cases items work node w (λ t. eqb kind 3 ≡ isName t)
+  name-test w =
+      tree-cases work node w (λ t. eqb kind 3 ≡ isName t)
       (λ z. ne-eqb kind 3 (λ y. omega arith)) (λ z. eq-eqb kind 3 (kind-is ∙ z)) (λ z. ne-eqb kind 3 (λ y. omega arith)) (λ p q r. ne-eqb kind 3 (λ y. q (sym kind-is ∙ y)))
 
   pub list-empty : kind ≡ 0 → Tests isList work node true
   unfolding isList onEmpty
-  list-empty e items w = rw (treeAt-empty items work node w (sym kind-is ∙ e))
+  list-empty e w = rw (treeAt-empty work node w (sym kind-is ∙ e))
 
   pub list-pair : (kind ≡ 0 → ⊥) → Tests isList work node (eqb kind 4)
   unfolding isList onEmpty onPair
-  list-pair other items w =
-      tree-cases items work node w (λ t. eqb kind 4 ≡ isList t)
+  list-pair other w =
+      tree-cases work node w (λ t. eqb kind 4 ≡ isList t)
       (λ z. absurd (other (kind-is ∙ z))) (λ z. ne-eqb kind 4 (λ y. omega arith)) (λ z. eq-eqb kind 4 (kind-is ∙ z)) (λ p q r. ne-eqb kind 4 (λ y. r (sym kind-is ∙ y)))
 
 -- a pair's parts stand below it
@@ -116,52 +116,52 @@ pub pair-falls : (work : List ℕ) (node k : ℕ) → wordAt work node 3 ≡ 4 �
 pair-falls work node k e = referenceAt-falls work node k (kind-some work node _ refl e)
 
 pub count-begins : (work : List ℕ) (list : ℕ) → Counted work list list 0
-count-begins work list = record { is = λ items w. omega arith; low = omega arith }
+count-begins work list = record { is = λ w. omega arith; low = omega arith }
 
 -- ---- walking to an element
 
 module _ (work : List ℕ) (list i : ℕ) where
   pub walk-begins : Walked work list i list i
-  walk-begins = record { is = λ items w. refl; low = omega arith }
+  walk-begins = record { is = λ w. refl; low = omega arith }
 
   pub walk-more : (node k r : ℕ) → (k ≡ 0 → ⊥) → Means work node r tail → Walked work list i node k → Walked work list i r (k - 1)
   walk-more node zero r p m c = absurd (p refl)
   walk-more node (suc k) r p m c =
       let e : suc k - 1 ≡ k = omega arith in
       record {
-        is = λ items w. c .is items w ∙ sym (element-tail k _) ∙ rw (e, m .is items w) refl;
+        is = λ w. c .is w ∙ sym (element-tail k _) ∙ rw (e, m .is w) refl;
         low = omega (arith, m .low, c .low);
       }
 
   pub walk-ends : (node k r : ℕ) → k ≡ 0 → Means work node r (element 0) → Walked work list i node k → Means work list r (element i)
-  walk-ends node k r e m c = record { is = λ items w. m .is items w ∙ sym (c .is items w ∙ rw e); low = omega (arith, m .low, c .low) }
+  walk-ends node k r e m c = record { is = λ w. m .is w ∙ sym (c .is w ∙ rw e); low = omega (arith, m .low, c .low) }
 
 -- ---- lists of n elements
 
 module _ (work : List ℕ) (node n : ℕ) (r : Bool) (listed : Tests isList work node r) where
   pub list-of : (k : ℕ) → r ≡ true → Counts work node k → Tests (isListOf n) work node (eqb k n)
   unfolding isListOf
-  list-of k e c items w = rw (sym (listed items w) ∙ e, c .is items w)
+  list-of k e c w = rw (sym (listed w) ∙ e, c .is w)
 
   pub list-not : r ≡ false → Tests (isListOf n) work node false
   unfolding isListOf
-  list-not e items w = rw (sym (listed items w) ∙ e)
+  list-not e w = rw (sym (listed w) ∙ e)
 
 -- ---- names that may be bound
 
-module _ (items work : List ℕ) (node kind : ℕ) (kind-is : kind ≡ wordAt work node 3) where
-  pub ordinary-other : (kind ≡ 3 → ⊥) → TestsIn isOrdinaryName items work node false
+module _ (work : List ℕ) (node kind : ℕ) (kind-is : kind ≡ wordAt work node 3) where
+  pub ordinary-other : (kind ≡ 3 → ⊥) → Tests isOrdinaryName work node false
   unfolding isOrdinaryName
-  ordinary-other other w = sym (no-name items work node w isOrdinary false (λ z. other (kind-is ∙ z)))
+  ordinary-other other w = sym (no-name work node w isOrdinary false (λ z. other (kind-is ∙ z)))
 
-  module _ (number : ℕ) (number-is : number ≡ numberOf items work node) (a-name : kind ≡ 3) where
-    number-same : (w : ℕ) → nameAt items work node w .number ≡ number
-    number-same w = nameAt-number items work node w ∙ sym number-is
+  module _ (number : ℕ) (number-is : number ≡ numberOf work node) (a-name : kind ≡ 3) where
+    number-same : (w : ℕ) → nameAt work node w .number ≡ number
+    number-same w = nameAt-number work node w ∙ sym number-is
 
-    pub ordinary-ellipsis : number ≡ 6 → TestsIn isOrdinaryName items work node false
+    pub ordinary-ellipsis : number ≡ 6 → Tests isOrdinaryName work node false
     unfolding isOrdinaryName onName isOrdinary isEllipsis isWildcard
-    ordinary-ellipsis e w = rw (treeAt-name items work node w (sym kind-is ∙ a-name), number-same w, e)
+    ordinary-ellipsis e w = rw (treeAt-name work node w (sym kind-is ∙ a-name), number-same w, e)
 
-    pub ordinary-last : (number ≡ 6 → ⊥) → TestsIn isOrdinaryName items work node (not (eqb number 7))
+    pub ordinary-last : (number ≡ 6 → ⊥) → Tests isOrdinaryName work node (not (eqb number 7))
     unfolding isOrdinaryName onName isOrdinary isEllipsis isWildcard
-    ordinary-last e w = rw (treeAt-name items work node w (sym kind-is ∙ a-name), number-same w, ne-eqb number 6 e)
+    ordinary-last e w = rw (treeAt-name work node w (sym kind-is ∙ a-name), number-same w, ne-eqb number 6 e)

@@ -1,4 +1,4 @@
--- Lists in the arena: what the functions that read a node answer, under every item table and every wrap that waits on it.
+-- Lists in the arena: what the functions that read a node answer, under every wrap that waits on it.
 use mathlib.Core.Path.{_≡_}
 use mathlib.Core.Bool.{Bool}
 use mathlib.Core.List.{List}
@@ -9,27 +9,24 @@ use Rattle.arena.specs.Arena.{treeAt}
 
 -- r is f of the node, and a reference no higher
 pub record Means (work : List ℕ) (node r : ℕ) (f : Tree → Tree) : Type 0 where
-  pub is : (items : List ℕ) (w : ℕ) → treeAt items work r w ≡ f (treeAt items work node w)
+  pub is : (w : ℕ) → treeAt work r w ≡ f (treeAt work node w)
   pub low : r ≤ node
 
 -- n is the count of the node's elements
 pub record Counts (work : List ℕ) (node n : ℕ) : Type 0 where
-  pub is : (items : List ℕ) (w : ℕ) → n ≡ length (elements (treeAt items work node w))
+  pub is : (w : ℕ) → n ≡ length (elements (treeAt work node w))
   pub low : n ≤ node
 
--- r is a test of the node; the second under one item table, as a test that reads numbers of names is
+-- r is a test of the node
 abbrev pub Tests : (f : Tree → Bool) (work : List ℕ) (node : ℕ) (r : Bool) → Type 0
-Tests f work node r = (items : List ℕ) (w : ℕ) → r ≡ f (treeAt items work node w)
-
-abbrev pub TestsIn : (f : Tree → Bool) (items work : List ℕ) (node : ℕ) (r : Bool) → Type 0
-TestsIn f items work node r = (w : ℕ) → r ≡ f (treeAt items work node w)
+Tests f work node r = (w : ℕ) → r ≡ f (treeAt work node w)
 
 -- k elements are counted, and the node's are left
 pub record Counted (work : List ℕ) (list node k : ℕ) : Type 0 where
-  pub is : (items : List ℕ) (w : ℕ) → length (elements (treeAt items work list w)) ≡ k + length (elements (treeAt items work node w))
+  pub is : (w : ℕ) → length (elements (treeAt work list w)) ≡ k + length (elements (treeAt work node w))
   pub low : node + k ≤ list
 
 -- element i of the list is element k of the node
 pub record Walked (work : List ℕ) (list i node k : ℕ) : Type 0 where
-  pub is : (items : List ℕ) (w : ℕ) → element i (treeAt items work list w) ≡ element k (treeAt items work node w)
+  pub is : (w : ℕ) → element i (treeAt work list w) ≡ element k (treeAt work node w)
   pub low : node ≤ list

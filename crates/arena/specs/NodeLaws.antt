@@ -11,119 +11,115 @@ use Rattle.words.specs.Lists.{within}
 use Rattle.recipe.specs.Name.{Name}
 use Rattle.recipe.specs.Tree.{Tree, empty, constant, name, pair, onNames}
 use Rattle.recipe.specs.Table.{byKind}
-use Rattle.arena.specs.Arena.{wordAt, referenceAt, wrapAt, numberOf, nodeName, nameAt, constantAt, treeStep, treeFrom, treeAt}
+use Rattle.arena.specs.Arena.{wordAt, referenceAt, wrapAt, originName, nodeName, numberOf, nameAt, constantAt, treeStep, treeFrom, treeAt}
 use Rattle.words.specs.ListLaws.{either}
 use Rattle.arena.specs.ArenaLaws.{wordAt-below, referenceAt-below, referenceAt-falls, take-less, wrapAt-below, wrapAt-none, wrapAt-number}
 
 -- a name's number is its node's, whatever waits on it
-pub nameAt-number : (items work : List ℕ) (node w : ℕ) → nameAt items work node w .number ≡ numberOf items work node
-unfolding nameAt numberOf nodeName
-nameAt-number items work node w = wrapAt-number work w _ ∙ wrapAt-number work _ _
+pub nameAt-number : (work : List ℕ) (node w : ℕ) → nameAt work node w .number ≡ numberOf work node
+unfolding nameAt numberOf
+nameAt-number work node w = wrapAt-number work w _ ∙ wrapAt-number work _ _
 
 -- ---- what a node means depends on the words below it alone
 
 byKind-cong : (k : ℕ) (n n′ p p′ c c′ : Tree) → n ≡ n′ → p ≡ p′ → c ≡ c′ → byKind k empty n p c ≡ byKind k empty n′ p′ c′
 byKind-cong k n n′ p p′ c c′ e f g = rw (e, f, g)
 
-module _ (items a b : List ℕ) (node w : ℕ) (some-word : 0 < node) (e : take node a ≡ take node b) (d : take w a ≡ take w b) where
-  nodeName-agree : nodeName items a node ≡ nodeName items b node
-  unfolding nodeName
-  nodeName-agree = rw (wordAt-below a b node 2 (omega arith) e)
-
-  pub nameAt-agree : nameAt items a node w ≡ nameAt items b node w
-  unfolding nameAt
+module _ (a b : List ℕ) (node w : ℕ) (some-word : 0 < node) (e : take node a ≡ take node b) (d : take w a ≡ take w b) where
+  pub nameAt-agree : nameAt a node w ≡ nameAt b node w
+  unfolding nameAt nodeName
   nameAt-agree =
       let own = referenceAt a node 1 in
       let l : own ≤ node = omega (arith, referenceAt-falls a node 1 some-word) in
       wrapAt-below a b w d _
-      ∙ ap (wrapAt b w) (wrapAt-below a b own (take-less a b own node l e) _ ∙ ap₂ (wrapAt b) (referenceAt-below a b node 1 (omega arith) e) nodeName-agree)
+      ∙ ap (wrapAt b w) (wrapAt-below a b own (take-less a b own node l e) _ ∙ ap₂ (wrapAt b) (referenceAt-below a b node 1 (omega arith) e) (ap originName (wordAt-below a b node 2 (omega arith) e)))
 
   constantAt-agree : constantAt a node ≡ constantAt b node
   unfolding constantAt
   constantAt-agree = rw (wordAt-below a b node 3 (omega arith) e, wordAt-below a b node 2 (omega arith) e, wordAt-below a b node 1 (omega arith) e)
 
-  treeStep-agree : (f g : ℕ → ℕ → Tree) → ((r : ℕ) → r < node → f r w ≡ g r w) → treeStep items a f node w ≡ treeStep items b g node w
+  treeStep-agree : (f g : ℕ → ℕ → Tree) → ((r : ℕ) → r < node → f r w ≡ g r w) → treeStep a f node w ≡ treeStep b g node w
   unfolding treeStep
   treeStep-agree f g same =
       let child : (k : ℕ) → 0 < k → f (referenceAt a node k) w ≡ g (referenceAt b node k) w = λ k p. same _ (referenceAt-falls a node k some-word) ∙ ap (λ (r : ℕ). g r w) (referenceAt-below a b node k p e) in
       rw (wordAt-below a b node 3 (omega arith) e)
       (byKind-cong (wordAt b node 3) _ _ _ _ _ _ (ap name nameAt-agree) (ap₂ pair (child 2 (omega arith)) (child 1 (omega arith))) (ap constant constantAt-agree))
 
-treeFrom-none : (items work : List ℕ) (gas w : ℕ) → treeFrom items work gas 0 w ≡ empty
+treeFrom-none : (work : List ℕ) (gas w : ℕ) → treeFrom work gas 0 w ≡ empty
 unfolding treeFrom treeStep byKind wordAt within
-treeFrom-none items work zero w = refl
-treeFrom-none items work (suc gas) w = refl
+treeFrom-none work zero w = refl
+treeFrom-none work (suc gas) w = refl
 
-abbrev Agree : (items a b : List ℕ) (g h w node : ℕ) → Type 0
-Agree items a b g h w node = node ≤ g → node ≤ h → take node a ≡ take node b → treeFrom items a g node w ≡ treeFrom items b h node w
+abbrev Agree : (a b : List ℕ) (g h w node : ℕ) → Type 0
+Agree a b g h w node = node ≤ g → node ≤ h → take node a ≡ take node b → treeFrom a g node w ≡ treeFrom b h node w
 
-module _ (items a b : List ℕ) (w : ℕ) (d : take w a ≡ take w b) where
-  treeFrom-more : (g h : ℕ) → ((node : ℕ) → Agree items a b g h w node) → (node : ℕ) → Agree items a b (suc g) (suc h) w node
+module _ (a b : List ℕ) (w : ℕ) (d : take w a ≡ take w b) where
+  treeFrom-more : (g h : ℕ) → ((node : ℕ) → Agree a b g h w node) → (node : ℕ) → Agree a b (suc g) (suc h) w node
   unfolding treeFrom
-  treeFrom-more g h ih zero p q e = treeFrom-none items a (suc g) w ∙ sym (treeFrom-none items b (suc h) w)
+  treeFrom-more g h ih zero p q e = treeFrom-none a (suc g) w ∙ sym (treeFrom-none b (suc h) w)
   treeFrom-more g h ih (suc node) p q e =
-      treeStep-agree items a b (suc node) w (omega arith) e d (treeFrom items a g) (treeFrom items b h)
+      treeStep-agree a b (suc node) w (omega arith) e d (treeFrom a g) (treeFrom b h)
       (λ r l. ih r (omega arith) (omega arith) (take-less a b r (suc node) (omega arith) e))
 
-  treeFrom-empty : (g h node : ℕ) → node ≡ 0 → treeFrom items a g node w ≡ treeFrom items b h node w
-  treeFrom-empty g h node e = rw e (treeFrom-none items a g w ∙ sym (treeFrom-none items b h w))
+  treeFrom-empty : (g h node : ℕ) → node ≡ 0 → treeFrom a g node w ≡ treeFrom b h node w
+  treeFrom-empty g h node e = rw e (treeFrom-none a g w ∙ sym (treeFrom-none b h w))
 
-  treeFrom-agree : (g h node : ℕ) → Agree items a b g h w node
+  treeFrom-agree : (g h node : ℕ) → Agree a b g h w node
   treeFrom-agree zero h node p q e = treeFrom-empty zero h node (omega arith)
   treeFrom-agree (suc g) zero node p q e = treeFrom-empty (suc g) zero node (omega arith)
   treeFrom-agree (suc g) (suc h) node p q e = treeFrom-more g h (treeFrom-agree g h) node p q e
 
 -- appending above changes no earlier meaning
-pub treeAt-below : (items a b : List ℕ) (node w : ℕ) → take node a ≡ take node b → take w a ≡ take w b → treeAt items a node w ≡ treeAt items b node w
+pub treeAt-below : (a b : List ℕ) (node w : ℕ) → take node a ≡ take node b → take w a ≡ take w b → treeAt a node w ≡ treeAt b node w
 unfolding treeAt
-treeAt-below items a b node w e d = treeFrom-agree items a b w d node node node (omega arith) (omega arith) e
+treeAt-below a b node w e d = treeFrom-agree a b w d node node node (omega arith) (omega arith) e
 
 -- ---- what each node means
 
-treeAt-step : (items work : List ℕ) (node w : ℕ) → treeAt items work node w ≡ treeStep items work (treeAt items work) node w
+treeAt-step : (work : List ℕ) (node w : ℕ) → treeAt work node w ≡ treeStep work (treeAt work) node w
 unfolding treeAt treeFrom treeStep byKind wordAt within
-treeAt-step items work zero w = refl
-treeAt-step items work (suc node) w =
-    treeStep-agree items work work (suc node) w (omega arith) refl refl (treeFrom items work node) (treeAt items work)
-    (λ r l. treeFrom-agree items work work w refl node r r (omega arith) (omega arith) refl)
+treeAt-step work zero w = refl
+treeAt-step work (suc node) w =
+    treeStep-agree work work (suc node) w (omega arith) refl refl (treeFrom work node) (treeAt work)
+    (λ r l. treeFrom-agree work work w refl node r r (omega arith) (omega arith) refl)
 
-module _ (items work : List ℕ) (node w : ℕ) where
-  pub treeAt-empty : wordAt work node 3 ≡ 0 → treeAt items work node w ≡ empty
+module _ (work : List ℕ) (node w : ℕ) where
+  pub treeAt-empty : wordAt work node 3 ≡ 0 → treeAt work node w ≡ empty
   unfolding treeStep byKind
-  treeAt-empty e = treeAt-step items work node w ∙ rw e refl
+  treeAt-empty e = treeAt-step work node w ∙ rw e refl
 
-  pub treeAt-name : wordAt work node 3 ≡ 3 → treeAt items work node w ≡ name (nameAt items work node w)
+  pub treeAt-name : wordAt work node 3 ≡ 3 → treeAt work node w ≡ name (nameAt work node w)
   unfolding treeStep byKind
-  treeAt-name e = treeAt-step items work node w ∙ rw e refl
+  treeAt-name e = treeAt-step work node w ∙ rw e refl
 
   -- opening a list hands its wrap on
-  pub treeAt-pair : wordAt work node 3 ≡ 4 → treeAt items work node w ≡ pair (treeAt items work (referenceAt work node 2) w) (treeAt items work (referenceAt work node 1) w)
+  pub treeAt-pair : wordAt work node 3 ≡ 4 → treeAt work node w ≡ pair (treeAt work (referenceAt work node 2) w) (treeAt work (referenceAt work node 1) w)
   unfolding treeStep byKind
-  treeAt-pair e = treeAt-step items work node w ∙ rw e refl
+  treeAt-pair e = treeAt-step work node w ∙ rw e refl
 
-  pub treeAt-constant : (wordAt work node 3 ≡ 0 → ⊥) → (wordAt work node 3 ≡ 3 → ⊥) → (wordAt work node 3 ≡ 4 → ⊥) → treeAt items work node w ≡ constant (constantAt work node)
+  pub treeAt-constant : (wordAt work node 3 ≡ 0 → ⊥) → (wordAt work node 3 ≡ 3 → ⊥) → (wordAt work node 3 ≡ 4 → ⊥) → treeAt work node w ≡ constant (constantAt work node)
   unfolding treeStep byKind
-  treeAt-constant a b c = treeAt-step items work node w ∙ rw (ne-eqb _ _ a, ne-eqb _ _ b, ne-eqb _ _ c)
+  treeAt-constant a b c = treeAt-step work node w ∙ rw (ne-eqb _ _ a, ne-eqb _ _ b, ne-eqb _ _ c)
 
 -- ---- waiting is carrying through
 
-nameAt-wrap : (items work : List ℕ) (node w : ℕ) → nameAt items work node w ≡ wrapAt work w (nameAt items work node 0)
+nameAt-wrap : (work : List ℕ) (node w : ℕ) → nameAt work node w ≡ wrapAt work w (nameAt work node 0)
 unfolding nameAt
-nameAt-wrap items work node w = ap (wrapAt work w) (sym (wrapAt-none work _))
+nameAt-wrap work node w = ap (wrapAt work w) (sym (wrapAt-none work _))
 
 onNames-byKind : (f : Name → Name) (k : ℕ) (n p c : Tree) → onNames f (byKind k empty n p c) ≡ byKind k empty (onNames f n) (onNames f p) (onNames f c)
 unfolding byKind onNames
 onNames-byKind f k n p c =
     either (eqb k 0) (λ t. rw t refl) (λ t. either (eqb k 3) (λ u. rw (t, u) refl) (λ u. either (eqb k 4) (λ v. rw (t, u, v) refl) (λ v. rw (t, u, v) refl)))
 
-treeFrom-wrap : (items work : List ℕ) (gas node w : ℕ) → treeFrom items work gas node w ≡ onNames (wrapAt work w) (treeFrom items work gas node 0)
+treeFrom-wrap : (work : List ℕ) (gas node w : ℕ) → treeFrom work gas node w ≡ onNames (wrapAt work w) (treeFrom work gas node 0)
 unfolding treeFrom treeStep onNames
-treeFrom-wrap items work zero node w = refl
-treeFrom-wrap items work (suc gas) node w =
-    byKind-cong (wordAt work node 3) _ _ _ _ _ _ (ap name (nameAt-wrap items work node w)) (ap₂ pair (treeFrom-wrap items work gas _ w) (treeFrom-wrap items work gas _ w)) refl
+treeFrom-wrap work zero node w = refl
+treeFrom-wrap work (suc gas) node w =
+    byKind-cong (wordAt work node 3) _ _ _ _ _ _ (ap name (nameAt-wrap work node w)) (ap₂ pair (treeFrom-wrap work gas _ w) (treeFrom-wrap work gas _ w)) refl
     ∙ sym (onNames-byKind (wrapAt work w) (wordAt work node 3) _ _ _)
 
 -- what waits on a tree is carried through it
-pub treeAt-wrap : (items work : List ℕ) (node w : ℕ) → treeAt items work node w ≡ onNames (wrapAt work w) (treeAt items work node 0)
+pub treeAt-wrap : (work : List ℕ) (node w : ℕ) → treeAt work node w ≡ onNames (wrapAt work w) (treeAt work node 0)
 unfolding treeAt
-treeAt-wrap items work node w = treeFrom-wrap items work node node w
+treeAt-wrap work node w = treeFrom-wrap work node node w

@@ -10,36 +10,36 @@ use Rattle.arena.specs.NodeLaws.{treeAt-empty, treeAt-name, treeAt-pair,
 use Rattle.arena.specs.declared.nodes.Node.{Node}
 use Rattle.arena.specs.declared.nodes.Node.the-variants.{Empty, Name, Pair, Constant}
 
-pub record OpensName (work : List ℕ) (node item own : ℕ) : Type 0 where
-  pub item-is : item ≡ wordAt work node 2
+pub record OpensName (work : List ℕ) (node origin own : ℕ) : Type 0 where
+  pub origin-is : origin ≡ wordAt work node 2
   pub own-is : own ≡ referenceAt work node 1
-  pub tree : (items : List ℕ) (w : ℕ) → treeAt items work node w ≡ name (nameAt items work node w)
+  pub tree : (w : ℕ) → treeAt work node w ≡ name (nameAt work node w)
 
 -- head and tail stand below
 pub record OpensPair (work : List ℕ) (node head tail : ℕ) : Type 0 where
   pub head-falls : head < node
   pub tail-falls : tail < node
-  pub tree : (items : List ℕ) (w : ℕ) → treeAt items work node w ≡ pair (treeAt items work head w) (treeAt items work tail w)
+  pub tree : (w : ℕ) → treeAt work node w ≡ pair (treeAt work head w) (treeAt work tail w)
 
 -- a constant's kind is no other node's
 pub record OpensConstant (work : List ℕ) (node k a b : ℕ) : Type 0 where
   pub not-empty : k ≡ 0 → ⊥
   pub not-name : k ≡ 3 → ⊥
   pub not-pair : k ≡ 4 → ⊥
-  pub tree : (items : List ℕ) (w : ℕ) → treeAt items work node w ≡ constant (record { kind = k; first = a; second = b })
+  pub tree : (w : ℕ) → treeAt work node w ≡ constant (record { kind = k; first = a; second = b })
 
 abbrev pub Opens : List ℕ → ℕ → Node → Type 0
-Opens work node Empty = (items : List ℕ) (w : ℕ) → treeAt items work node w ≡ empty
-Opens work node (Name item own) = OpensName work node item own
+Opens work node Empty = (w : ℕ) → treeAt work node w ≡ empty
+Opens work node (Name origin own) = OpensName work node origin own
 Opens work node (Pair head tail) = OpensPair work node head tail
 Opens work node (Constant k a b) = OpensConstant work node k a b
 
 module _ (work : List ℕ) (node kind : ℕ) (kind-is : kind ≡ wordAt work node 3) where
   pub opens-empty : kind ≡ 0 → Opens work node Empty
-  opens-empty e items w = treeAt-empty items work node w (sym kind-is ∙ e)
+  opens-empty e w = treeAt-empty work node w (sym kind-is ∙ e)
 
-  pub opens-name : (item own : ℕ) → kind ≡ 3 → item ≡ wordAt work node 2 → own ≡ referenceAt work node 1 → Opens work node (Name item own)
-  opens-name item own e p q = record { item-is = p; own-is = q; tree = λ items w. treeAt-name items work node w (sym kind-is ∙ e) }
+  pub opens-name : (origin own : ℕ) → kind ≡ 3 → origin ≡ wordAt work node 2 → own ≡ referenceAt work node 1 → Opens work node (Name origin own)
+  opens-name origin own e p q = record { origin-is = p; own-is = q; tree = λ w. treeAt-name work node w (sym kind-is ∙ e) }
 
   pub opens-pair : (head tail : ℕ) → kind ≡ 4 → head ≡ referenceAt work node 2 → tail ≡ referenceAt work node 1 → Opens work node (Pair head tail)
   opens-pair head tail e p q =
@@ -47,7 +47,7 @@ module _ (work : List ℕ) (node kind : ℕ) (kind-is : kind ≡ wordAt work nod
       record {
         head-falls = rw p (referenceAt-falls work node 2 some);
         tail-falls = rw q (referenceAt-falls work node 1 some);
-        tree = λ items w. rw (p, q) (treeAt-pair items work node w (sym kind-is ∙ e));
+        tree = λ w. rw (p, q) (treeAt-pair work node w (sym kind-is ∙ e));
       }
 
   pub opens-constant : (a b : ℕ) → (kind ≡ 0 → ⊥) → (kind ≡ 3 → ⊥) → (kind ≡ 4 → ⊥) → a ≡ wordAt work node 2 → b ≡ wordAt work node 1 → Opens work node (Constant kind a b)
@@ -57,5 +57,5 @@ module _ (work : List ℕ) (node kind : ℕ) (kind-is : kind ≡ wordAt work nod
         not-empty = x;
         not-name = y;
         not-pair = z;
-        tree = λ items w. rw (kind-is, p, q) (treeAt-constant items work node w (λ h. x (kind-is ∙ h)) (λ h. y (kind-is ∙ h)) (λ h. z (kind-is ∙ h)));
+        tree = λ w. rw (kind-is, p, q) (treeAt-constant work node w (λ h. x (kind-is ∙ h)) (λ h. y (kind-is ∙ h)) (λ h. z (kind-is ∙ h)));
       }

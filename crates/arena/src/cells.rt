@@ -4,13 +4,12 @@
 ghost use mathlib.Core.Path.{_≡_};
 ghost use mathlib.Core.Bool.{true, false};
 ghost use Prim.Native.Nat.{_+_, _-_, _≤_, _<_};
-ghost use lib.Dec.{ltb};
 ghost use lib.ListN.{length};
 ghost use Rattle.words.specs.Lists.{within};
 ghost use Rattle.recipe.specs.Name.{markName};
 ghost use Rattle.recipe.specs.Tree.{empty, constant, name, pair};
-ghost use Rattle.arena.specs.Arena.{wordAt, referenceAt, stepLimit, wrapAt, treeAt};
-ghost use Rattle.arena.specs.Cells.{Room, Cell, Wrapped, Bound, itemName, Grown};
+ghost use Rattle.arena.specs.Arena.{wordAt, referenceAt, stepLimit, wrapAt, originName, treeAt};
+ghost use Rattle.arena.specs.Cells.{Room, Cell, Wrapped, Bound, Grown};
 use std::num;
 
 // Kinds of nodes, as of items; every other is a constant's.
@@ -27,11 +26,11 @@ pub const JOIN: u32 = 2;
 
 pub const BINDER: u32 = 3;
 
-// Where the words of a node stand, counted back from its end: its kind; a name's item and own wrap; a pair's head and tail;
+// Where the words of a node stand, counted back from its end: its kind; a name's origin and own wrap; a pair's head and tail;
 // a constant's two words.
 pub const KIND: u32 = 3;
 
-pub const ITEM: u32 = 2;
+pub const ORIGIN: u32 = 2;
 
 pub const OWN: u32 = 1;
 
@@ -184,23 +183,23 @@ pub fn put_binder(
 // A pair of two nodes.
 pub fn put_pair(work: &mut [u32], top: u32, head: u32, tail: u32) -> u32
     requires { ⌜ (Room (now work) top 3) × (head ≤ top) × (tail ≤ top) ⌝ }
-    ensures { λ r. ⌜ Grown (λ items w. pair (treeAt items (now (work .entry)) head w) (treeAt items (now (work .entry)) tail w)) (now (work .entry)) (now (work .exit)) top r ⌝ }
+    ensures { λ r. ⌜ Grown (λ w. pair (treeAt (now (work .entry)) head w) (treeAt (now (work .entry)) tail w)) (now (work .entry)) (now (work .exit)) top r ⌝ }
 {
     put(work, top, PAIR, head, tail)
 }
 
-// A name that stems from an item, with a wrap of its own.
-pub fn put_name(work: &mut [u32], top: u32, item: u32, own: u32) -> u32
+// A name by its origin, with a wrap of its own.
+pub fn put_name(work: &mut [u32], top: u32, origin: u32, own: u32) -> u32
     requires { ⌜ (Room (now work) top 3) × (own ≤ top) ⌝ }
-    ensures { λ r. ⌜ Grown (λ items w. name (wrapAt (now (work .entry)) w (wrapAt (now (work .entry)) own (itemName items item (ltb (length items) (top + 3)))))) (now (work .entry)) (now (work .exit)) top r ⌝ }
+    ensures { λ r. ⌜ Grown (λ w. name (wrapAt (now (work .entry)) w (wrapAt (now (work .entry)) own (originName origin)))) (now (work .entry)) (now (work .exit)) top r ⌝ }
 {
-    put(work, top, NAME, item, own)
+    put(work, top, NAME, origin, own)
 }
 
 // An empty list.
 pub fn put_empty(work: &mut [u32], top: u32) -> u32
     requires { ⌜ Room (now work) top 3 ⌝ }
-    ensures { λ r. ⌜ Grown (λ items w. empty) (now (work .entry)) (now (work .exit)) top r ⌝ }
+    ensures { λ r. ⌜ Grown (λ w. empty) (now (work .entry)) (now (work .exit)) top r ⌝ }
 {
     put(work, top, EMPTY, 0, 0)
 }
@@ -208,7 +207,7 @@ pub fn put_empty(work: &mut [u32], top: u32) -> u32
 // A constant, by its item's three words.
 pub fn put_constant(work: &mut [u32], top: u32, kind: u32, first: u32, second: u32) -> u32
     requires { ⌜ (Room (now work) top 3) × (kind ≡ 0 → ⊥) × (kind ≡ 3 → ⊥) × (kind ≡ 4 → ⊥) ⌝ }
-    ensures { λ r. ⌜ Grown (λ items w. constant (record { kind = kind; first = first; second = second })) (now (work .entry)) (now (work .exit)) top r ⌝ }
+    ensures { λ r. ⌜ Grown (λ w. constant (record { kind = kind; first = first; second = second })) (now (work .entry)) (now (work .exit)) top r ⌝ }
 {
     put(work, top, kind, first, second)
 }

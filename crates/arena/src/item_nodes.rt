@@ -9,6 +9,7 @@ ghost use Rattle.recipe.specs.Table.{isLayout, treeOf};
 ghost use Rattle.arena.specs.Arena.{treeAt};
 ghost use Rattle.arena.specs.LayOut.{nodeOf, Laid, Laying, LaidOut};
 use crate::cells;
+use crate::origins;
 
 // The reference of an item's node.
 pub fn node_of(count: u32, item: u32) -> u32
@@ -34,7 +35,9 @@ fn lay_item(items: &[u32], work: &mut [u32], count: u32, laid: u32) -> u32
         return cells::put_empty(work, top);
     }
     if kind == cells::NAME {
-        return cells::put_name(work, top, item, 0);
+        let number = items[at + 1];
+        let origin = origins::of_item(number, item);
+        return cells::put_name(work, top, origin, 0);
     }
     let first = items[at + 1];
     let second = items[at + 2];

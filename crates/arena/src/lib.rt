@@ -4,3 +4,4 @@ pub mod cells;
 pub mod item_nodes;
 pub mod lists;
 pub mod nodes;
+pub mod origins;

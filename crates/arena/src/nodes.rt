@@ -5,7 +5,7 @@ ghost use Rattle.arena.specs.Nodes.{Opens};
 ghost use Rattle.arena.specs.Lists.{Tests};
 use crate::cells;
 
-// A name's item and own wrap, a pair's head and tail, a constant's kind and two words.
+// A name's origin and own wrap, a pair's head and tail, a constant's kind and two words.
 pub enum Node {
     Empty,
     Name(u32, u32),
@@ -21,9 +21,9 @@ pub fn opened(work: &[u32], node: u32) -> Node
         return Node::Empty;
     }
     if kind == cells::NAME {
-        let item = cells::word(work, node, cells::ITEM);
+        let origin = cells::word(work, node, cells::ORIGIN);
         let own = cells::reference(work, node, cells::OWN);
-        return Node::Name(item, own);
+        return Node::Name(origin, own);
     }
     if kind == cells::PAIR {
         let head = cells::reference(work, node, cells::HEAD);

@@ -19,44 +19,44 @@ use Rattle.environments.specs.Lengths.{driving, AllOf, Copies, Flat, Len
 
 -- a template's cell without parts
 pub leaf-other : (P : Template → Type 0) → ((x : _) → P (insertT x)) → ((a : _) → P (constantT a)) → P emptyT
-    → (items work : List ℕ) (t tag : ℕ) → tag ≡ wordAt work t 1 → (tag ≡ 1 → ⊥) → (tag ≡ 6 → ⊥) → (tag ≡ 7 → ⊥) → P (templateAt items work t)
-leaf-other P forInsert forConstant forEmpty items work t tag tag-is n1 n6 n7 =
+    → (work : List ℕ) (t tag : ℕ) → tag ≡ wordAt work t 1 → (tag ≡ 1 → ⊥) → (tag ≡ 6 → ⊥) → (tag ≡ 7 → ⊥) → P (templateAt work t)
+leaf-other P forInsert forConstant forEmpty work t tag tag-is n1 n6 n7 =
     either (eqb tag 2)
-    (λ b. subst P (sym (templateAt-insert items work t (sym tag-is ∙ eqb-true tag 2 b))) (forInsert _))
+    (λ b. subst P (sym (templateAt-insert work t (sym tag-is ∙ eqb-true tag 2 b))) (forInsert _))
     (λ b.
     either (eqb tag 4)
-    (λ c. subst P (sym (templateAt-constant items work t (sym tag-is ∙ eqb-true tag 4 c))) (forConstant _))
+    (λ c. subst P (sym (templateAt-constant work t (sym tag-is ∙ eqb-true tag 4 c))) (forConstant _))
     (λ c.
     subst P
-    (sym (templateAt-empty items work t (λ z. n1 (tag-is ∙ z)) (λ z. eqb-false tag 2 b (tag-is ∙ z)) (λ z. eqb-false tag 4 c (tag-is ∙ z)) (λ z. n6 (tag-is ∙ z)) (λ z. n7 (tag-is ∙ z))))
+    (sym (templateAt-empty work t (λ z. n1 (tag-is ∙ z)) (λ z. eqb-false tag 2 b (tag-is ∙ z)) (λ z. eqb-false tag 4 c (tag-is ∙ z)) (λ z. n6 (tag-is ∙ z)) (λ z. n7 (tag-is ∙ z))))
     forEmpty))
 
 pub leaf-cell : (P : Template → Type 0) → ((k d : ℕ) → P (variableT k d)) → ((x : _) → P (insertT x)) → ((a : _) → P (constantT a)) → P emptyT
-    → (items work : List ℕ) (t tag : ℕ) → tag ≡ wordAt work t 1 → (tag ≡ 6 → ⊥) → (tag ≡ 7 → ⊥) → P (templateAt items work t)
-leaf-cell P forVariable forInsert forConstant forEmpty items work t tag tag-is n6 n7 =
+    → (work : List ℕ) (t tag : ℕ) → tag ≡ wordAt work t 1 → (tag ≡ 6 → ⊥) → (tag ≡ 7 → ⊥) → P (templateAt work t)
+leaf-cell P forVariable forInsert forConstant forEmpty work t tag tag-is n6 n7 =
     either (eqb tag 1)
-    (λ a. subst P (sym (templateAt-variable items work t (sym tag-is ∙ eqb-true tag 1 a))) (forVariable _ _))
-    (λ a. leaf-other P forInsert forConstant forEmpty items work t tag tag-is (eqb-false tag 1 a) n6 n7)
+    (λ a. subst P (sym (templateAt-variable work t (sym tag-is ∙ eqb-true tag 1 a))) (forVariable _ _))
+    (λ a. leaf-other P forInsert forConstant forEmpty work t tag tag-is (eqb-false tag 1 a) n6 n7)
 
 -- ---- a cell with parts
 
-module _ (items work : List ℕ) (t tag head rest : ℕ) (tag-is : tag ≡ wordAt work t 1) (head-is : head ≡ referenceAt work t 3) (rest-is : rest ≡ referenceAt work t 2) where
-  pub pair-is : tag ≡ 6 → templateAt items work t ≡ pairT (templateAt items work head) (templateAt items work rest)
-  pair-is e = templateAt-pair items work t (sym tag-is ∙ e) ∙ rw (head-is, rest-is) refl
+module _ (work : List ℕ) (t tag head rest : ℕ) (tag-is : tag ≡ wordAt work t 1) (head-is : head ≡ referenceAt work t 3) (rest-is : rest ≡ referenceAt work t 2) where
+  pub pair-is : tag ≡ 6 → templateAt work t ≡ pairT (templateAt work head) (templateAt work rest)
+  pair-is e = templateAt-pair work t (sym tag-is ∙ e) ∙ rw (head-is, rest-is) refl
 
-  pub ellipsis-is : tag ≡ 7 → templateAt items work t ≡ ellipsisT (templateAt items work head) (templateAt items work rest)
-  ellipsis-is e = templateAt-ellipsis items work t (sym tag-is ∙ e) ∙ rw (head-is, rest-is) refl
+  pub ellipsis-is : tag ≡ 7 → templateAt work t ≡ ellipsisT (templateAt work head) (templateAt work rest)
+  ellipsis-is e = templateAt-ellipsis work t (sym tag-is ∙ e) ∙ rw (head-is, rest-is) refl
 
 -- ---- templates without an ellipsis
 
 module _ (work : List ℕ) (t tag : ℕ) (tag-is : tag ≡ wordAt work t 1) where
   pub flat-leaf : (tag ≡ 6 → ⊥) → (tag ≡ 7 → ⊥) → Flat work t
   unfolding agreeBy
-  flat-leaf n6 n7 items v = leaf-cell (λ s. true ≡ agreeBy v s) (λ k d. refl) (λ y. refl) (λ a. refl) refl items work t tag tag-is n6 n7
+  flat-leaf n6 n7 v = leaf-cell (λ s. true ≡ agreeBy v s) (λ k d. refl) (λ y. refl) (λ a. refl) refl work t tag tag-is n6 n7
 
   pub flat-pair : (head rest : ℕ) → tag ≡ 6 → head ≡ referenceAt work t 3 → rest ≡ referenceAt work t 2 → Flat work head → Flat work rest → Flat work t
   unfolding agreeBy
-  flat-pair head rest e head-is rest-is f g items v = rw (pair-is items work t tag head rest tag-is head-is rest-is e, ← f items v, ← g items v) refl
+  flat-pair head rest e head-is rest-is f g v = rw (pair-is work t tag head rest tag-is head-is rest-is e, ← f v, ← g v) refl
 
 below-true : (f : ℕ → Bool) (c : ℕ) → ((k : ℕ) → true ≡ f k) → true ≡ allBelow f c
 unfolding allBelow
@@ -64,45 +64,45 @@ below-true f zero h = refl
 below-true f (suc c) h = rw (← below-true f c h, ← h c) refl
 
 pub copies-flat : (work env : List ℕ) (e c : ℕ) → Flat work e → CopiesAgree work env e c true
-copies-flat work env e c f items w = below-true _ c (λ k. f items _)
+copies-flat work env e c f w = below-true _ c (λ k. f _)
 
 -- ---- all of a template
 
 module _ (work env : List ℕ) where
   module _ (t tag : ℕ) (tag-is : tag ≡ wordAt work t 1) where
     pub agree-leaf : (tag ≡ 6 → ⊥) → (tag ≡ 7 → ⊥) → LengthsAgree work env t true
-    agree-leaf n6 n7 items w = flat-leaf work t tag tag-is n6 n7 items _
+    agree-leaf n6 n7 w = flat-leaf work t tag tag-is n6 n7 _
 
     module _ (head rest : ℕ) (head-is : head ≡ referenceAt work t 3) (rest-is : rest ≡ referenceAt work t 2) where
       pub agree-head-no : (b : Bool) → tag ≡ 6 → LengthsAgree work env head b → b ≡ false → LengthsAgree work env t false
       unfolding agreeBy
-      agree-head-no b e f bad items w =
-          rw (pair-is items work t tag head rest tag-is head-is rest-is e, ← f items w, bad) refl
+      agree-head-no b e f bad w =
+          rw (pair-is work t tag head rest tag-is head-is rest-is e, ← f w, bad) refl
 
       pub agree-tail : (b r : Bool) → tag ≡ 6 → LengthsAgree work env head b → b ≡ true → LengthsAgree work env rest r → LengthsAgree work env t r
       unfolding agreeBy
-      agree-tail b r e f good g items w =
-          rw (pair-is items work t tag head rest tag-is head-is rest-is e, ← f items w, good) (g items w)
+      agree-tail b r e f good g w =
+          rw (pair-is work t tag head rest tag-is head-is rest-is e, ← f w, good) (g w)
 
       module _ (e : tag ≡ 7) (c : ℕ) (c-is : Copies work env head c) (b : Bool) (b-is : AllOf work env 0 head c b) where
-        here : (items : List ℕ) (w : ℕ) → allOf (eqb (countBy (environmentAt items work env w) (templateAt items work head))) (lengthsBy (environmentAt items work env w) 0 (templateAt items work head)) ≡ b
+        here : (w : ℕ) → allOf (eqb (countBy (environmentAt work env w) (templateAt work head))) (lengthsBy (environmentAt work env w) 0 (templateAt work head)) ≡ b
         unfolding driving
-        here items w = rw (← c-is items w) (sym (b-is items w))
+        here w = rw (← c-is w) (sym (b-is w))
 
         pub agree-differ : b ≡ false → LengthsAgree work env t false
         unfolding agreeBy
-        agree-differ bad items w = rw (ellipsis-is items work t tag head rest tag-is head-is rest-is e, here items w, bad) refl
+        agree-differ bad w = rw (ellipsis-is work t tag head rest tag-is head-is rest-is e, here w, bad) refl
 
         module _ (good : b ≡ true) (d : Bool) (d-is : CopiesAgree work env head c d) where
           pub agree-copies-no : d ≡ false → LengthsAgree work env t false
           unfolding agreeBy
-          agree-copies-no bad items w =
-              rw (ellipsis-is items work t tag head rest tag-is head-is rest-is e, here items w, good, ← c-is items w, ← d-is items w, bad) refl
+          agree-copies-no bad w =
+              rw (ellipsis-is work t tag head rest tag-is head-is rest-is e, here w, good, ← c-is w, ← d-is w, bad) refl
 
           pub agree-rest : (r : Bool) → d ≡ true → LengthsAgree work env rest r → LengthsAgree work env t r
           unfolding agreeBy
-          agree-rest r too g items w =
-              rw (ellipsis-is items work t tag head rest tag-is head-is rest-is e, here items w, good, ← c-is items w, ← d-is items w, too) (g items w)
+          agree-rest r too g w =
+              rw (ellipsis-is work t tag head rest tag-is head-is rest-is e, here w, good, ← c-is w, ← d-is w, too) (g w)
 
 -- ---- copies
 
@@ -129,18 +129,18 @@ below-at f c k h e = either (f k) (λ t. t) (λ t. absurd (false≢true (sym (be
 module _ (work env : List ℕ) (e : ℕ) where
   pub begun-copies : CopiesAgree work env e 0 true
   unfolding allBelow
-  begun-copies items w = refl
+  begun-copies w = refl
 
   -- the table stood before copy k, and has entered it
   module _ (k : ℕ) (old new : List ℕ) (b : Bool) (along : AlongAll work env k old) (enters : Enters work old new) (b-is : LengthsAgree work new e b) where
-    copy-is : (items : List ℕ) (w : ℕ) → agreeBy (enter k (environmentAt items work env w)) (templateAt items work e) ≡ b
-    copy-is items w = rw (← enters .goes env k along .1 items w) (sym (b-is items w))
+    copy-is : (w : ℕ) → agreeBy (enter k (environmentAt work env w)) (templateAt work e) ≡ b
+    copy-is w = rw (← enters .goes env k along .1 w) (sym (b-is w))
 
     pub copies-no : (c : ℕ) → k < c → b ≡ false → CopiesAgree work env e c false
-    copies-no c h bad items w = sym (below-false _ c k h (copy-is items w ∙ bad))
+    copies-no c h bad w = sym (below-false _ c k h (copy-is w ∙ bad))
 
     pub copies-more : b ≡ true → CopiesAgree work env e k true → CopiesAgree work env e (k + 1) true
     unfolding allBelow
-    copies-more good g items w =
+    copies-more good g w =
         let s : k + 1 ≡ suc k = omega arith in
-        rw s (rw (← g items w, copy-is items w, good) refl)
+        rw s (rw (← g w, copy-is w, good) refl)

@@ -25,19 +25,19 @@ pub record BindsOne (k : ℕ) (x : Entry) (old new : List ℕ) : Type 0 where
   pub low : (b : ℕ) → Low x b → Under old b → Under new b
 
 -- the second ellipsis over variable k: one that is known already, or the first inside the element
-unfoldable pub secondOf : (items work : List ℕ) (second k : ℕ) → Pattern → Option Pattern
-secondOf items work second k p = cond (eqb second 0) (entered k p) (some (patternAt items work second))
+unfoldable pub secondOf : (work : List ℕ) (second k : ℕ) → Pattern → Option Pattern
+secondOf work second k p = cond (eqb second 0) (entered k p) (some (patternAt work second))
 
 -- the variables of an element take the list
 pub record BindsList (work : List ℕ) (p list first second : ℕ) (old new : List ℕ) : Type 0 where
-  pub held : (items : List ℕ) (k : ℕ) → k < patternVariablesMost → holds k (patternAt items work p) ≡ true
-      → (entryAt new k ≡ bound list first (entryAt new k .second)) × (patternIn items work (entryAt new k .second) ≡ secondOf items work second k (patternAt items work p))
-  pub other : (items : List ℕ) (k : ℕ) → holds k (patternAt items work p) ≡ false → entryAt new k ≡ entryAt old k
+  pub held : (k : ℕ) → k < patternVariablesMost → holds k (patternAt work p) ≡ true
+      → (entryAt new k ≡ bound list first (entryAt new k .second)) × (patternIn work (entryAt new k .second) ≡ secondOf work second k (patternAt work p))
+  pub other : (k : ℕ) → holds k (patternAt work p) ≡ false → entryAt new k ≡ entryAt old k
   pub low : (b : ℕ) → p ≤ b → list ≤ b → first ≤ b → second ≤ b → Under old b → Under new b
 
 -- the variables of a pattern take what it takes from the use
 pub record Binds (work : List ℕ) (p u : ℕ) (old new : List ℕ) : Type 0 where
-  pub held : (items : List ℕ) (w k : ℕ) → k < patternVariablesMost → holds k (patternAt items work p) ≡ true
-      → takingOf items work w (entryAt new k) ≡ environment (patternAt items work p) (treeAt items work u w) k
-  pub other : (items : List ℕ) (k : ℕ) → holds k (patternAt items work p) ≡ false → entryAt new k ≡ entryAt old k
+  pub held : (w k : ℕ) → k < patternVariablesMost → holds k (patternAt work p) ≡ true
+      → takingOf work w (entryAt new k) ≡ environment (patternAt work p) (treeAt work u w) k
+  pub other : (k : ℕ) → holds k (patternAt work p) ≡ false → entryAt new k ≡ entryAt old k
   pub low : (b : ℕ) → p ≤ b → u ≤ b → Under old b → Under new b

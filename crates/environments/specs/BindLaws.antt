@@ -46,10 +46,10 @@ bound-low node first second b p q r =
     record { whole-low = p; one-low = p; two-low = p; first-low = q; second-low = r; along-low = omega arith; across-low = omega arith }
 
 -- a cell that holds a variable is no cell 0
-some-cell : (items work : List ℕ) (p k : ℕ) → holds k (patternAt items work p) ≡ true → p ≡ 0 → ⊥
-some-cell items work p k h e =
+some-cell : (work : List ℕ) (p k : ℕ) → holds k (patternAt work p) ≡ true → p ≡ 0 → ⊥
+some-cell work p k h e =
     let tag-none : wordAt work p 1 ≡ 0 = ap (λ (n : ℕ). wordAt work n 1) e ∙ wordAt-none work 1 (omega arith) in
-    let n : false ≡ holds k (patternAt items work p) = holds-none work p _ refl k (λ z. omega arith) (λ z. omega arith) (λ z. omega arith) items in
+    let n : false ≡ holds k (patternAt work p) = holds-none work p _ refl k (λ z. omega arith) (λ z. omega arith) (λ z. omega arith) in
     let z : _≡_ {A = ℕ} 0 1 = ap (λ b. cond b 1 0) (n ∙ h) in omega arith
 
 both-false : (a b : Bool) → a || b ≡ false → (a ≡ false) × (b ≡ false)
@@ -63,8 +63,8 @@ module _ (work : List ℕ) (p tag : ℕ) (tag-is : tag ≡ wordAt work p 1) (old
     pub list-none : (tag ≡ 1 → ⊥) → (tag ≡ 6 → ⊥) → (tag ≡ 7 → ⊥) → BindsList work p list first second old old
     list-none a b c =
         record {
-          held = λ items k l h. absurd (false≢true (holds-none work p tag tag-is k a b c items ∙ h));
-          other = λ items k h. refl;
+          held = λ k l h. absurd (false≢true (holds-none work p tag tag-is k a b c ∙ h));
+          other = λ k h. refl;
           low = λ b p q r s u. u;
         }
 
@@ -73,11 +73,11 @@ module _ (work : List ℕ) (p tag : ℕ) (tag-is : tag ≡ wordAt work p 1) (old
       unfolding holds secondOf entered patternIn bound
       list-variable j e j-is c =
           record {
-            held = λ items k l h.
-                let s : k ≡ j = eqb-true k j (rw (patternAt-variable items work p (sym tag-is ∙ e), ← j-is) at h) in
+            held = λ k l h.
+                let s : k ≡ j = eqb-true k j (rw (patternAt-variable work p (sym tag-is ∙ e), ← j-is) at h) in
                 let is : entryAt new k ≡ bound list first second = ap (entryAt new) s ∙ c .here (omega arith) in
-                (is ∙ rw is refl, rw (is, patternAt-variable items work p (sym tag-is ∙ e)) refl);
-            other = λ items k h. c .other k (eqb-false k j (rw (patternAt-variable items work p (sym tag-is ∙ e), ← j-is) at h));
+                (is ∙ rw is refl, rw (is, patternAt-variable work p (sym tag-is ∙ e)) refl);
+            other = λ k h. c .other k (eqb-false k j (rw (patternAt-variable work p (sym tag-is ∙ e), ← j-is) at h));
             low = λ b q r s t u. c .low b (bound-low list first second b r s t) u;
           }
 
@@ -87,11 +87,11 @@ module _ (work : List ℕ) (p tag : ℕ) (tag-is : tag ≡ wordAt work p 1) (old
         unfolding holds secondOf entered
         list-second e c =
             record {
-              held = λ items k l h.
-                  let g : holds k (patternAt items work rest) ≡ true = rw (patternAt-ellipsis items work p (sym tag-is ∙ ellipsis), ← rest-is) at h in
-                  let d = c .held items k l g in
-                  (d .0, d .1 ∙ rw (e, patternAt-ellipsis items work p (sym tag-is ∙ ellipsis), ← rest-is, ne-eqb rest 0 (some-cell items work rest k g)) refl);
-              other = λ items k h. c .other items k (rw (patternAt-ellipsis items work p (sym tag-is ∙ ellipsis), ← rest-is) at h);
+              held = λ k l h.
+                  let g : holds k (patternAt work rest) ≡ true = rw (patternAt-ellipsis work p (sym tag-is ∙ ellipsis), ← rest-is) at h in
+                  let d = c .held k l g in
+                  (d .0, d .1 ∙ rw (e, patternAt-ellipsis work p (sym tag-is ∙ ellipsis), ← rest-is, ne-eqb rest 0 (some-cell work rest k g)) refl);
+              other = λ k h. c .other k (rw (patternAt-ellipsis work p (sym tag-is ∙ ellipsis), ← rest-is) at h);
               low = λ b q r s t u. let l : rest ≤ b = omega (arith, referenceAt-most work p 2) in c .low b l r s l u;
             }
 
@@ -99,33 +99,33 @@ module _ (work : List ℕ) (p tag : ℕ) (tag-is : tag ≡ wordAt work p 1) (old
         unfolding holds secondOf
         list-known n c =
             record {
-              held = λ items k l h.
-                  let d = c .held items k l (rw (patternAt-ellipsis items work p (sym tag-is ∙ ellipsis), ← rest-is) at h) in
+              held = λ k l h.
+                  let d = c .held k l (rw (patternAt-ellipsis work p (sym tag-is ∙ ellipsis), ← rest-is) at h) in
                   (d .0, d .1 ∙ rw (ne-eqb second 0 n) refl);
-              other = λ items k h. c .other items k (rw (patternAt-ellipsis items work p (sym tag-is ∙ ellipsis), ← rest-is) at h);
+              other = λ k h. c .other k (rw (patternAt-ellipsis work p (sym tag-is ∙ ellipsis), ← rest-is) at h);
               low = λ b q r s t u. c .low b (omega (arith, referenceAt-most work p 2)) r s t u;
             }
 
   -- a pair: first the tail, then the head
   module _ (head rest : ℕ) (pair : tag ≡ 6) (rest-is : rest ≡ referenceAt work p 2) (head-is : head ≡ referenceAt work p 3) (mid new : List ℕ) where
-    pair-is : (items : List ℕ) → patternAt items work p ≡ pairP (patternAt items work head) (patternAt items work rest)
-    pair-is items = rw (head-is, rest-is) (patternAt-pair items work p (sym tag-is ∙ pair))
+    pair-is : patternAt work p ≡ pairP (patternAt work head) (patternAt work rest)
+    pair-is = rw (head-is, rest-is) (patternAt-pair work p (sym tag-is ∙ pair))
 
-    neither : (items : List ℕ) (k : ℕ) → holds k (patternAt items work p) ≡ false → (holds k (patternAt items work head) ≡ false) × (holds k (patternAt items work rest) ≡ false)
+    neither : (k : ℕ) → holds k (patternAt work p) ≡ false → (holds k (patternAt work head) ≡ false) × (holds k (patternAt work rest) ≡ false)
     unfolding holds
-    neither items k h = both-false _ _ (rw (pair-is items) at h)
+    neither k h = both-false _ _ (rw pair-is at h)
 
     pub list-pair : (list first second : ℕ) → BindsList work rest list first second old mid → BindsList work head list first second mid new → BindsList work p list first second old new
     unfolding holds secondOf entered
     list-pair list first second c d =
         record {
-          held = λ items k l h.
-              either (holds k (patternAt items work head))
-              (λ t. let e = d .held items k l t in (e .0, e .1 ∙ rw (pair-is items, t) refl))
+          held = λ k l h.
+              either (holds k (patternAt work head))
+              (λ t. let e = d .held k l t in (e .0, e .1 ∙ rw (pair-is, t) refl))
               (λ t.
-              let e = c .held items k l (rw (pair-is items, t) at h) in
-              rw (d .other items k t, pair-is items, t) e);
-          other = λ items k h. let n = neither items k h in d .other items k (n .0) ∙ c .other items k (n .1);
+              let e = c .held k l (rw (pair-is, t) at h) in
+              rw (d .other k t, pair-is, t) e);
+          other = λ k h. let n = neither k h in d .other k (n .0) ∙ c .other k (n .1);
           low = λ b q r s t u. d .low b (omega (arith, referenceAt-most work p 3)) r s t (c .low b (omega (arith, referenceAt-most work p 2)) r s t u);
         }
 
@@ -133,11 +133,11 @@ module _ (work : List ℕ) (p tag : ℕ) (tag-is : tag ≡ wordAt work p 1) (old
     unfolding holds environment taking part entered enteredNext
     pattern-pair u later first m c f d =
         record {
-          held = λ items w k l h.
-              either (holds k (patternAt items work head))
-              (λ t. d .held items w k l t ∙ rw (pair-is items, t, f .is items w) refl)
-              (λ t. ap (takingOf items work w) (d .other items k t) ∙ c .held items w k l (rw (pair-is items, t) at h) ∙ rw (pair-is items, t, m .is items w) refl);
-          other = λ items k h. let n = neither items k h in d .other items k (n .0) ∙ c .other items k (n .1);
+          held = λ w k l h.
+              either (holds k (patternAt work head))
+              (λ t. d .held w k l t ∙ rw (pair-is, t, f .is w) refl)
+              (λ t. ap (takingOf work w) (d .other k t) ∙ c .held w k l (rw (pair-is, t) at h) ∙ rw (pair-is, t, m .is w) refl);
+          other = λ k h. let n = neither k h in d .other k (n .0) ∙ c .other k (n .1);
           low = λ b q r u. d .low b (omega (arith, referenceAt-most work p 3)) (omega (arith, f .low)) (c .low b (omega (arith, referenceAt-most work p 2)) (omega (arith, m .low)) u);
         }
 
@@ -145,8 +145,8 @@ module _ (work : List ℕ) (p tag : ℕ) (tag-is : tag ≡ wordAt work p 1) (old
     pub pattern-none : (tag ≡ 1 → ⊥) → (tag ≡ 6 → ⊥) → (tag ≡ 7 → ⊥) → Binds work p u old old
     pattern-none a b c =
         record {
-          held = λ items w k l h. absurd (false≢true (holds-none work p tag tag-is k a b c items ∙ h));
-          other = λ items k h. refl;
+          held = λ w k l h. absurd (false≢true (holds-none work p tag tag-is k a b c ∙ h));
+          other = λ k h. refl;
           low = λ b p q u. u;
         }
 
@@ -155,11 +155,11 @@ module _ (work : List ℕ) (p tag : ℕ) (tag-is : tag ≡ wordAt work p 1) (old
       unfolding holds bound takingOf patternIn environment taking part entered enteredNext
       pattern-variable j e j-is c =
           record {
-            held = λ items w k l h.
-                let s : k ≡ j = eqb-true k j (rw (patternAt-variable items work p (sym tag-is ∙ e), ← j-is) at h) in
+            held = λ w k l h.
+                let s : k ≡ j = eqb-true k j (rw (patternAt-variable work p (sym tag-is ∙ e), ← j-is) at h) in
                 let is : entryAt new k ≡ bound u 0 0 = ap (entryAt new) s ∙ c .here (omega arith) in
-                ap (takingOf items work w) is ∙ rw (patternAt-variable items work p (sym tag-is ∙ e)) refl;
-            other = λ items k h. c .other k (eqb-false k j (rw (patternAt-variable items work p (sym tag-is ∙ e), ← j-is) at h));
+                ap (takingOf work w) is ∙ rw (patternAt-variable work p (sym tag-is ∙ e)) refl;
+            other = λ k h. c .other k (eqb-false k j (rw (patternAt-variable work p (sym tag-is ∙ e), ← j-is) at h));
             low = λ b q r t. c .low b (bound-low u 0 0 b r (omega arith) (omega arith)) t;
           }
 
@@ -167,11 +167,11 @@ module _ (work : List ℕ) (p tag : ℕ) (tag-is : tag ≡ wordAt work p 1) (old
       unfolding holds bound takingOf environment taking part entered enteredNext secondOf
       pattern-ellipsis rest ellipsis rest-is c =
           record {
-            held = λ items w k l h.
-                let g : holds k (patternAt items work rest) ≡ true = rw (patternAt-ellipsis items work p (sym tag-is ∙ ellipsis), ← rest-is) at h in
-                let d = c .held items k l g in
-                ap (takingOf items work w) (d .0)
-                ∙ rw (patternAt-ellipsis items work p (sym tag-is ∙ ellipsis), ← rest-is, d .1, patternIn-some items work rest (some-cell items work rest k g)) refl;
-            other = λ items k h. c .other items k (rw (patternAt-ellipsis items work p (sym tag-is ∙ ellipsis), ← rest-is) at h);
+            held = λ w k l h.
+                let g : holds k (patternAt work rest) ≡ true = rw (patternAt-ellipsis work p (sym tag-is ∙ ellipsis), ← rest-is) at h in
+                let d = c .held k l g in
+                ap (takingOf work w) (d .0)
+                ∙ rw (patternAt-ellipsis work p (sym tag-is ∙ ellipsis), ← rest-is, d .1, patternIn-some work rest (some-cell work rest k g)) refl;
+            other = λ k h. c .other k (rw (patternAt-ellipsis work p (sym tag-is ∙ ellipsis), ← rest-is) at h);
             low = λ b q r t. let l : rest ≤ b = omega (arith, referenceAt-most work p 2) in c .low b l r l (omega arith) t;
           }

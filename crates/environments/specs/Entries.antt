@@ -31,21 +31,21 @@ entryAt env k =
     record { whole = field env k 0; one = field env k 1; two = field env k 2; first = field env k 3; second = field env k 4; along = field env k 5; across = field env k 6 }
 
 -- a cell of a pattern, where it is one
-unfoldable pub patternIn : (items work : List ℕ) → ℕ → Option Pattern
-patternIn items work q = cond (eqb q 0) none (some (patternAt items work q))
+unfoldable pub patternIn : (work : List ℕ) → ℕ → Option Pattern
+patternIn work q = cond (eqb q 0) none (some (patternAt work q))
 
-unfoldable pub takingOf : (items work : List ℕ) (w : ℕ) → Entry → Taking
-takingOf items work w x =
+unfoldable pub takingOf : (work : List ℕ) (w : ℕ) → Entry → Taking
+takingOf work w x =
     record {
-      whole = treeAt items work (x .whole) w;
-      one = treeAt items work (x .one) w;
-      two = treeAt items work (x .two) w;
-      first = patternIn items work (x .first);
-      second = patternIn items work (x .second);
+      whole = treeAt work (x .whole) w;
+      one = treeAt work (x .one) w;
+      two = treeAt work (x .two) w;
+      first = patternIn work (x .first);
+      second = patternIn work (x .second);
     }
 
-unfoldable pub environmentAt : (items work env : List ℕ) (w : ℕ) → Environment
-environmentAt items work env w k = takingOf items work w (entryAt env k)
+unfoldable pub environmentAt : (work env : List ℕ) (w : ℕ) → Environment
+environmentAt work env w k = takingOf work w (entryAt env k)
 
 -- the word of an entry that d indices lead to
 unfoldable pub level : ℕ → ℕ
@@ -91,7 +91,7 @@ pub record Moving (env : List ℕ) (n : ℕ) : Type 0 where
 
 -- the node is the list after its first i elements
 pub record Ahead (work : List ℕ) (list i node : ℕ) : Type 0 where
-  pub is : (items : List ℕ) (w m : ℕ) → element (i + m) (treeAt items work list w) ≡ element m (treeAt items work node w)
+  pub is : (w m : ℕ) → element (i + m) (treeAt work list w) ≡ element m (treeAt work node w)
 
 -- the entry of an element before its first copy, from the entry outside
 unfoldable pub begun : Entry → Entry
@@ -114,17 +114,17 @@ AlongAll work outer i inner = (k : ℕ) → Along work (entryAt outer k) i (entr
 -- what variable k takes of a list's first element by the element's pattern; without a pattern, what it took before
 pub record Within (work : List ℕ) (q k list before r : ℕ) : Type 0 where
   pub flat : q ≡ 0 → r ≡ before
-  pub is : (q ≡ 0 → ⊥) → (items : List ℕ) (w : ℕ) → treeAt items work r w ≡ part (patternAt items work q) k [] (element 0 (treeAt items work list w))
+  pub is : (q ≡ 0 → ⊥) → (w : ℕ) → treeAt work r w ≡ part (patternAt work q) k [] (element 0 (treeAt work list w))
   pub low : (b : ℕ) → list ≤ b → before ≤ b → r ≤ b
 
 -- y is the entry of variable k in the copy that x stands before, and stands before the next
 pub record Next (work : List ℕ) (k : ℕ) (x y : Entry) : Type 0 where
   pub goes : (o : Entry) (i : ℕ) → Along work o i x
-      → (Along work o (i + 1) y) × ((items : List ℕ) (w : ℕ) → takingOf items work w y ≡ entering k i (patternIn items work (o .first)) (takingOf items work w o))
+      → (Along work o (i + 1) y) × ((w : ℕ) → takingOf work w y ≡ entering k i (patternIn work (o .first)) (takingOf work w o))
   pub low : (b : ℕ) → Low x b → Low y b
 
 -- the environment of the copy that the table stands before; the table stands before the next
 pub record Enters (work old new : List ℕ) : Type 0 where
   pub goes : (outer : List ℕ) (i : ℕ) → AlongAll work outer i old
-      → (AlongAll work outer (i + 1) new) × ((items : List ℕ) (w : ℕ) → environmentAt items work new w ≡ enter i (environmentAt items work outer w))
+      → (AlongAll work outer (i + 1) new) × ((w : ℕ) → environmentAt work new w ≡ enter i (environmentAt work outer w))
   pub low : (b : ℕ) → Under old b → Under new b

@@ -198,8 +198,8 @@ begun-along work o =
       second-is = refl;
       flat = λ e. refl;
       narrow = λ e. refl;
-      along-is = λ h. record { is = λ items w m. rw (let e : 0 + m ≡ m = omega arith in e) };
-      across-is = λ h g. record { is = λ items w m. rw (let e : 0 + m ≡ m = omega arith in e) };
+      along-is = λ h. record { is = λ w m. rw (let e : 0 + m ≡ m = omega arith in e) };
+      across-is = λ h g. record { is = λ w m. rw (let e : 0 + m ≡ m = omega arith in e) };
     }
 
 begun-low : (x : Entry) (b : ℕ) → Low x b → Low (begun x) b
@@ -288,30 +288,30 @@ module _ (work : List ℕ) (q k list before : ℕ) where
   within-part first r h m c =
       record {
         flat = λ e. absurd (h e);
-        is = λ z items w. c .is-part items w ∙ ap (part (patternAt items work q) k []) (m .is items w);
+        is = λ z w. c .is-part w ∙ ap (part (patternAt work q) k []) (m .is w);
         low = λ b l n. omega (arith, c .low, m .low);
       }
 
 ahead-more : (work : List ℕ) (list i node r : ℕ) → Means work node r tail → Ahead work list i node → Ahead work list (i + 1) r
 ahead-more work list i node r t a =
     record {
-      is = λ items w m.
-          ap (λ (n : ℕ). element n (treeAt items work list w)) (let e : (i + 1) + m ≡ i + suc m = omega arith in e)
-          ∙ a .is items w (suc m)
+      is = λ w m.
+          ap (λ (n : ℕ). element n (treeAt work list w)) (let e : (i + 1) + m ≡ i + suc m = omega arith in e)
+          ∙ a .is w (suc m)
           ∙ sym (element-tail m _)
-          ∙ ap (element m) (sym (t .is items w));
+          ∙ ap (element m) (sym (t .is w));
     }
 
-ahead-first : (work : List ℕ) (list i node : ℕ) → Ahead work list i node → (items : List ℕ) (w : ℕ) → element 0 (treeAt items work node w) ≡ element i (treeAt items work list w)
-ahead-first work list i node a items w = sym (a .is items w 0) ∙ ap (λ (n : ℕ). element n (treeAt items work list w)) (let e : i + 0 ≡ i = omega arith in e)
+ahead-first : (work : List ℕ) (list i node : ℕ) → Ahead work list i node → (w : ℕ) → element 0 (treeAt work node w) ≡ element i (treeAt work list w)
+ahead-first work list i node a w = sym (a .is w 0) ∙ ap (λ (n : ℕ). element n (treeAt work list w)) (let e : i + 0 ≡ i = omega arith in e)
 
-patternIn-none : (items work : List ℕ) (q : ℕ) → q ≡ 0 → patternIn items work q ≡ none
+patternIn-none : (work : List ℕ) (q : ℕ) → q ≡ 0 → patternIn work q ≡ none
 unfolding patternIn
-patternIn-none items work q e = rw e
+patternIn-none work q e = rw e
 
-pub patternIn-some : (items work : List ℕ) (q : ℕ) → (q ≡ 0 → ⊥) → patternIn items work q ≡ some (patternAt items work q)
+pub patternIn-some : (work : List ℕ) (q : ℕ) → (q ≡ 0 → ⊥) → patternIn work q ≡ some (patternAt work q)
 unfolding patternIn
-patternIn-some items work q h = rw (ne-eqb q 0 h)
+patternIn-some work q h = rw (ne-eqb q 0 h)
 
 -- the next entry, by what its words are
 unfoldable pub nextOf : Entry → (one two along across : ℕ) → Entry
@@ -338,30 +338,30 @@ module _ (work : List ℕ) (k : ℕ) (x : Entry) (one two along across : ℕ) (s
           across-is = λ h g. ahead-more work (o .one) i (x .across) across across-rest (a .across-is h g);
         }
 
-    module _ (items : List ℕ) (w : ℕ) where
-      next-one : treeAt items work one w ≡ part (patternAt items work (o .first)) k [] (element i (treeAt items work (o .whole) w))
-      next-one = one-is .is some-pattern items w ∙ rw (a .first-is) (ap (part (patternAt items work (o .first)) k []) (ahead-first work (o .whole) i (x .along) (a .along-is next-first) items w))
+    module _ (w : ℕ) where
+      next-one : treeAt work one w ≡ part (patternAt work (o .first)) k [] (element i (treeAt work (o .whole) w))
+      next-one = one-is .is some-pattern w ∙ rw (a .first-is) (ap (part (patternAt work (o .first)) k []) (ahead-first work (o .whole) i (x .along) (a .along-is next-first) w))
 
-      next-two : treeAt items work two w ≡ within k i (patternIn items work (o .second)) (treeAt items work (o .one) w)
+      next-two : treeAt work two w ≡ within k i (patternIn work (o .second)) (treeAt work (o .one) w)
       unfolding within
       next-two =
           either (eqb (o .second) 0)
-          (λ t. let e = eqb-true (o .second) 0 t in rw (patternIn-none items work (o .second) e, next-narrow e))
+          (λ t. let e = eqb-true (o .second) 0 t in rw (patternIn-none work (o .second) e, next-narrow e))
           (λ t.
           let h = eqb-false (o .second) 0 t in
-          rw (patternIn-some items work (o .second) h)
-          (two-is .is (λ z. h (sym (a .second-is) ∙ z)) items w
-          ∙ rw (a .second-is) (ap (part (patternAt items work (o .second)) k []) (ahead-first work (o .one) i (x .across) (a .across-is next-first h) items w))))
+          rw (patternIn-some work (o .second) h)
+          (two-is .is (λ z. h (sym (a .second-is) ∙ z)) w
+          ∙ rw (a .second-is) (ap (part (patternAt work (o .second)) k []) (ahead-first work (o .one) i (x .across) (a .across-is next-first h) w))))
 
-      next-taking : takingOf items work w (nextOf x one two along across) ≡ entering k i (patternIn items work (o .first)) (takingOf items work w o)
+      next-taking : takingOf work w (nextOf x one two along across) ≡ entering k i (patternIn work (o .first)) (takingOf work w o)
       unfolding nextOf takingOf entering
-      next-taking = rw (a .whole-is, a .first-is, a .second-is, next-one, next-two, patternIn-some items work (o .first) next-first)
+      next-taking = rw (a .whole-is, a .first-is, a .second-is, next-one, next-two, patternIn-some work (o .first) next-first)
 
   pub next-is : Next work k x (nextOf x one two along across)
   unfolding nextOf
   next-is =
       record {
-        goes = λ o i a. (next-along o i a, λ items w. next-taking o i a items w);
+        goes = λ o i a. (next-along o i a, λ w. next-taking o i a w);
         low = λ b l.
             record {
               whole-low = l .whole-low;
@@ -389,7 +389,7 @@ follows-low work k x y b f l =
 
 -- an entry without a pattern is the same before and in every copy
 flat-goes : (work : List ℕ) (k : ℕ) (x : Entry) (o : Entry) (i : ℕ) → x .first ≡ 0 → Along work o i x
-    → (Along work o (i + 1) x) × ((items : List ℕ) (w : ℕ) → takingOf items work w x ≡ entering k i (patternIn items work (o .first)) (takingOf items work w o))
+    → (Along work o (i + 1) x) × ((w : ℕ) → takingOf work w x ≡ entering k i (patternIn work (o .first)) (takingOf work w o))
 unfolding takingOf entering begun
 flat-goes work k x o i e a =
     let z : o .first ≡ 0 = sym (a .first-is) ∙ e in (
@@ -402,11 +402,11 @@ flat-goes work k x o i e a =
         along-is = λ h. absurd (h z);
         across-is = λ h g. absurd (h z);
       },
-      λ items w. rw (a .flat z, patternIn-none items work (o .first) z),
+      λ w. rw (a .flat z, patternIn-none work (o .first) z),
     )
 
 follows-goes : (work : List ℕ) (k : ℕ) (x y : Entry) → Follows work k x y → (o : Entry) (i : ℕ) → Along work o i x
-    → (Along work o (i + 1) y) × ((items : List ℕ) (w : ℕ) → takingOf items work w y ≡ entering k i (patternIn items work (o .first)) (takingOf items work w o))
+    → (Along work o (i + 1) y) × ((w : ℕ) → takingOf work w y ≡ entering k i (patternIn work (o .first)) (takingOf work w o))
 follows-goes work k x y f o i a =
     either (eqb (x .first) 0)
     (λ t. let e = eqb-true _ 0 t in rw (f .flat e) (flat-goes work k x o i e a))
@@ -457,7 +457,7 @@ module _ (work old : List ℕ) where
         record {
           goes = λ outer i a. (
             λ k. follows-goes work k _ _ (all-follow k) (entryAt outer k) i (a k) .0,
-            λ items w. fun-ext (λ k. follows-goes work k _ _ (all-follow k) (entryAt outer k) i (a k) .1 items w),
+            λ w. fun-ext (λ k. follows-goes work k _ _ (all-follow k) (entryAt outer k) i (a k) .1 w),
           );
           low = λ b u. under-low new b (λ k. follows-low work k _ _ b (all-follow k) (entry-low old b u k));
         }

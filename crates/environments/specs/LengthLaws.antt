@@ -36,33 +36,33 @@ pub deeper-most : (tag j : ℕ) → deeper tag j ≤ j + 1
 unfolding deeper
 deeper-most tag j = either (eqb tag 7) (λ e. rw e (omega arith)) (λ e. rw e (omega arith))
 
-module _ (items work : List ℕ) (t tag : ℕ) (tag-is : tag ≡ wordAt work t 1) (j : ℕ) where
-  drivers-none : (tag ≡ 1 → ⊥) → (tag ≡ 6 → ⊥) → (tag ≡ 7 → ⊥) → drivers j (templateAt items work t) ≡ []
+module _ (work : List ℕ) (t tag : ℕ) (tag-is : tag ≡ wordAt work t 1) (j : ℕ) where
+  drivers-none : (tag ≡ 1 → ⊥) → (tag ≡ 6 → ⊥) → (tag ≡ 7 → ⊥) → drivers j (templateAt work t) ≡ []
   unfolding drivers
   drivers-none a b c =
       either (eqb tag 2)
-      (λ i. rw (templateAt-insert items work t (sym tag-is ∙ eqb-true tag 2 i)) refl)
+      (λ i. rw (templateAt-insert work t (sym tag-is ∙ eqb-true tag 2 i)) refl)
       (λ i.
       either (eqb tag 4)
-      (λ k. rw (templateAt-constant items work t (sym tag-is ∙ eqb-true tag 4 k)) refl)
-      (λ k. rw (templateAt-empty items work t (λ z. a (tag-is ∙ z)) (λ z. eqb-false tag 2 i (tag-is ∙ z)) (λ z. eqb-false tag 4 k (tag-is ∙ z)) (λ z. b (tag-is ∙ z)) (λ z. c (tag-is ∙ z))) refl))
+      (λ k. rw (templateAt-constant work t (sym tag-is ∙ eqb-true tag 4 k)) refl)
+      (λ k. rw (templateAt-empty work t (λ z. a (tag-is ∙ z)) (λ z. eqb-false tag 2 i (tag-is ∙ z)) (λ z. eqb-false tag 4 k (tag-is ∙ z)) (λ z. b (tag-is ∙ z)) (λ z. c (tag-is ∙ z))) refl))
 
-  drivers-few : (d : ℕ) → tag ≡ 1 → d ≡ wordAt work t 2 → d ≤ j → drivers j (templateAt items work t) ≡ []
+  drivers-few : (d : ℕ) → tag ≡ 1 → d ≡ wordAt work t 2 → d ≤ j → drivers j (templateAt work t) ≡ []
   unfolding drivers
-  drivers-few d e d-is h = rw (templateAt-variable items work t (sym tag-is ∙ e), ← d-is, le-ltb j d h) refl
+  drivers-few d e d-is h = rw (templateAt-variable work t (sym tag-is ∙ e), ← d-is, le-ltb j d h) refl
 
-  drivers-one : (d k : ℕ) → tag ≡ 1 → d ≡ wordAt work t 2 → k ≡ wordAt work t 3 → j < d → drivers j (templateAt items work t) ≡ (k, d - j - 1) ∷ []
+  drivers-one : (d k : ℕ) → tag ≡ 1 → d ≡ wordAt work t 2 → k ≡ wordAt work t 3 → j < d → drivers j (templateAt work t) ≡ (k, d - j - 1) ∷ []
   unfolding drivers
   drivers-one d k e d-is k-is h =
       let s : d - suc j ≡ d - j - 1 = omega arith in
-      rw (templateAt-variable items work t (sym tag-is ∙ e), ← d-is, ← k-is, lt-ltb j d h, s) refl
+      rw (templateAt-variable work t (sym tag-is ∙ e), ← d-is, ← k-is, lt-ltb j d h, s) refl
 
-  drivers-both : (i head rest : ℕ) → 6 ≤ tag → tag ≤ 7 → i ≡ deeper tag j → head ≡ referenceAt work t 3 → rest ≡ referenceAt work t 2 → drivers j (templateAt items work t) ≡ drivers i (templateAt items work head) ++ drivers j (templateAt items work rest)
+  drivers-both : (i head rest : ℕ) → 6 ≤ tag → tag ≤ 7 → i ≡ deeper tag j → head ≡ referenceAt work t 3 → rest ≡ referenceAt work t 2 → drivers j (templateAt work t) ≡ drivers i (templateAt work head) ++ drivers j (templateAt work rest)
   unfolding drivers deeper
   drivers-both i head rest l h i-is head-is rest-is =
       either (eqb tag 7)
-      (λ e. rw (templateAt-ellipsis items work t (sym tag-is ∙ eqb-true tag 7 e), ← head-is, ← rest-is, i-is, e) refl)
-      (λ e. let s : tag ≡ 6 = omega (arith, eqb-false tag 7 e) in rw (templateAt-pair items work t (sym tag-is ∙ s), ← head-is, ← rest-is, i-is, e) refl)
+      (λ e. rw (templateAt-ellipsis work t (sym tag-is ∙ eqb-true tag 7 e), ← head-is, ← rest-is, i-is, e) refl)
+      (λ e. let s : tag ≡ 6 = omega (arith, eqb-false tag 7 e) in rw (templateAt-pair work t (sym tag-is ∙ s), ← head-is, ← rest-is, i-is, e) refl)
 
 -- ---- lists
 
@@ -102,80 +102,80 @@ first-alone f false x = refl
 -- ---- driving lists
 
 -- what a variable takes is the node of its entry
-pub taken-is : (items work env : List ℕ) (w k d : ℕ) → takes d (environmentAt items work env w k) ≡ treeAt items work (takenIn env k d) w
+pub taken-is : (work env : List ℕ) (w k d : ℕ) → takes d (environmentAt work env w k) ≡ treeAt work (takenIn env k d) w
 unfolding takes environmentAt takingOf entryAt takenIn level
-taken-is items work env w k zero = refl
-taken-is items work env w k (suc zero) = refl
-taken-is items work env w k (suc (suc d)) = refl
+taken-is work env w k zero = refl
+taken-is work env w k (suc zero) = refl
+taken-is work env w k (suc (suc d)) = refl
 
 module _ (work env : List ℕ) where
   module _ (t tag : ℕ) (tag-is : tag ≡ wordAt work t 1) (j : ℕ) where
-    driving-nothing : (items : List ℕ) (w : ℕ) → drivers j (templateAt items work t) ≡ [] → driving items work env w j t ≡ []
+    driving-nothing : (w : ℕ) → drivers j (templateAt work t) ≡ [] → driving work env w j t ≡ []
     unfolding driving lengthsBy
-    driving-nothing items w e = rw e refl
+    driving-nothing w e = rw e refl
 
-    driving-one : (items : List ℕ) (w d k list c : ℕ) → tag ≡ 1 → d ≡ wordAt work t 2 → k ≡ wordAt work t 3 → j < d → list ≡ takenIn env k (d - j - 1) → Counts work list c → driving items work env w j t ≡ c ∷ []
+    driving-one : (w d k list c : ℕ) → tag ≡ 1 → d ≡ wordAt work t 2 → k ≡ wordAt work t 3 → j < d → list ≡ takenIn env k (d - j - 1) → Counts work list c → driving work env w j t ≡ c ∷ []
     unfolding driving lengthsBy
-    driving-one items w d k list c e d-is k-is h g l =
-        rw (drivers-one items work t tag tag-is j d k e d-is k-is h) (ap (λ (x : ℕ). x ∷ []) (ap (λ (x : Tree). length (elements x)) (taken-is items work env w k (d - j - 1) ∙ rw g refl) ∙ sym (l .is items w)))
+    driving-one w d k list c e d-is k-is h g l =
+        rw (drivers-one work t tag tag-is j d k e d-is k-is h) (ap (λ (x : ℕ). x ∷ []) (ap (λ (x : Tree). length (elements x)) (taken-is work env w k (d - j - 1) ∙ rw g refl) ∙ sym (l .is w)))
 
     pub drives-none : (tag ≡ 1 → ⊥) → (tag ≡ 6 → ⊥) → (tag ≡ 7 → ⊥) → Drives work env j t None
     unfolding heading
-    drives-none a b c items w = rw (driving-nothing items w (drivers-none items work t tag tag-is j a b c)) refl
+    drives-none a b c w = rw (driving-nothing w (drivers-none work t tag tag-is j a b c)) refl
 
     pub drives-few : (d : ℕ) → tag ≡ 1 → d ≡ wordAt work t 2 → d ≤ j → Drives work env j t None
     unfolding heading
-    drives-few d e d-is h items w = rw (driving-nothing items w (drivers-few items work t tag tag-is j d e d-is h)) refl
+    drives-few d e d-is h w = rw (driving-nothing w (drivers-few work t tag tag-is j d e d-is h)) refl
 
     pub drives-one : (d k list c : ℕ) → tag ≡ 1 → d ≡ wordAt work t 2 → k ≡ wordAt work t 3 → j < d → list ≡ takenIn env k (d - j - 1) → Counts work list c → Drives work env j t (Length c)
     unfolding heading
-    drives-one d k list c e d-is k-is h g l items w = rw (driving-one items w d k list c e d-is k-is h g l) refl
+    drives-one d k list c e d-is k-is h g l w = rw (driving-one w d k list c e d-is k-is h g l) refl
 
     module _ (c : ℕ) where
       pub all-none : (tag ≡ 1 → ⊥) → (tag ≡ 6 → ⊥) → (tag ≡ 7 → ⊥) → AllOf work env j t c true
       unfolding allOf
-      all-none x y z items w = rw (driving-nothing items w (drivers-none items work t tag tag-is j x y z)) refl
+      all-none x y z w = rw (driving-nothing w (drivers-none work t tag tag-is j x y z)) refl
 
       pub all-few : (d : ℕ) → tag ≡ 1 → d ≡ wordAt work t 2 → d ≤ j → AllOf work env j t c true
       unfolding allOf
-      all-few d e d-is h items w = rw (driving-nothing items w (drivers-few items work t tag tag-is j d e d-is h)) refl
+      all-few d e d-is h w = rw (driving-nothing w (drivers-few work t tag tag-is j d e d-is h)) refl
 
       pub all-one : (d k list l : ℕ) → tag ≡ 1 → d ≡ wordAt work t 2 → k ≡ wordAt work t 3 → j < d → list ≡ takenIn env k (d - j - 1) → Counts work list l → AllOf work env j t c (eqb c l)
       unfolding allOf
-      all-one d k list l e d-is k-is h g s items w = rw (driving-one items w d k list l e d-is k-is h g s) (sym (and-true (eqb c l)))
+      all-one d k list l e d-is k-is h g s w = rw (driving-one w d k list l e d-is k-is h g s) (sym (and-true (eqb c l)))
 
     module _ (i head rest : ℕ) (low : 6 ≤ tag) (high : tag ≤ 7) (i-is : i ≡ deeper tag j) (head-is : head ≡ referenceAt work t 3) (rest-is : rest ≡ referenceAt work t 2) where
-      driving-both : (items : List ℕ) (w : ℕ) → driving items work env w j t ≡ driving items work env w i head ++ driving items work env w j rest
+      driving-both : (w : ℕ) → driving work env w j t ≡ driving work env w i head ++ driving work env w j rest
       unfolding driving lengthsBy
-      driving-both items w =
-          let f : (ℕ × ℕ) → ℕ = λ v. length (elements (takes (v .1) (environmentAt items work env w (v .0)))) in
-          ap (map f) (drivers-both items work t tag tag-is j i head rest low high i-is head-is rest-is) ∙ map-append f (drivers i (templateAt items work head)) (drivers j (templateAt items work rest))
+      driving-both w =
+          let f : (ℕ × ℕ) → ℕ = λ v. length (elements (takes (v .1) (environmentAt work env w (v .0)))) in
+          ap (map f) (drivers-both work t tag tag-is j i head rest low high i-is head-is rest-is) ∙ map-append f (drivers i (templateAt work head)) (drivers j (templateAt work rest))
 
       pub drives-first : (c : ℕ) → Drives work env i head (Length c) → Drives work env j t (Length c)
-      drives-first c f items w = rw (driving-both items w) (heading-first _ _ c (f items w))
+      drives-first c f w = rw (driving-both w) (heading-first _ _ c (f w))
 
       pub drives-rest : (r : Driving) → Drives work env i head None → Drives work env j rest r → Drives work env j t r
-      drives-rest r f g items w = g items w ∙ rw (driving-both items w) (heading-rest _ _ (f items w))
+      drives-rest r f g w = g w ∙ rw (driving-both w) (heading-rest _ _ (f w))
 
       pub all-no : (c : ℕ) (b : Bool) → AllOf work env i head c b → b ≡ false → AllOf work env j t c false
-      all-no c b f e items w = rw (driving-both items w, all-both (eqb c), ← f items w, e) refl
+      all-no c b f e w = rw (driving-both w, all-both (eqb c), ← f w, e) refl
 
       pub all-rest : (c : ℕ) (b r : Bool) → AllOf work env i head c b → b ≡ true → AllOf work env j rest c r → AllOf work env j t c r
-      all-rest c b r f e g items w = rw (driving-both items w, all-both (eqb c), ← f items w, e) (g items w)
+      all-rest c b r f e g w = rw (driving-both w, all-both (eqb c), ← f w, e) (g w)
 
   -- ---- the number of copies
 
   copies-of : (e : ℕ) (r : Driving) → Drives work env 0 e r → Copies work env e (lengthOr r)
   unfolding countBy driving
-  copies-of e r f items w = sym (heading-count _ r (f items w))
+  copies-of e r f w = sym (heading-count _ r (f w))
 
   pub copies-some : (e c : ℕ) (r : Driving) → r ≡ Length c → Drives work env 0 e r → Copies work env e c
   unfolding lengthOr
-  copies-some e c r i f items w = sym (ap lengthOr i) ∙ copies-of e r f items w
+  copies-some e c r i f w = sym (ap lengthOr i) ∙ copies-of e r f w
 
   pub copies-none : (e : ℕ) (r : Driving) → r ≡ None → Drives work env 0 e r → Copies work env e 0
   unfolding lengthOr
-  copies-none e r i f items w = sym (ap lengthOr i) ∙ copies-of e r f items w
+  copies-none e r i f w = sym (ap lengthOr i) ∙ copies-of e r f w
 
   module _ (e tag : ℕ) (tag-is : tag ≡ wordAt work e 1) (one : tag ≡ 1) where
     pub copies-unlisted : (d : ℕ) → d ≡ wordAt work e 2 → d ≡ 0 → Copies work env e 0
@@ -189,5 +189,5 @@ module _ (work env : List ℕ) where
     -- a variable is driven by no list or by one, which has the length of the first
     pub all-own : (c : ℕ) → Copies work env e c → AllOf work env 0 e c true
     unfolding countBy driving lengthsBy drivers
-    all-own c f items w =
-        rw (f items w, templateAt-variable items work e (sym tag-is ∙ one)) (first-alone _ (ltb 0 (wordAt work e 2)) _)
+    all-own c f w =
+        rw (f w, templateAt-variable work e (sym tag-is ∙ one)) (first-alone _ (ltb 0 (wordAt work e 2)) _)

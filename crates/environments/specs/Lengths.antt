@@ -13,8 +13,8 @@ use Rattle.environments.specs.declared.lengths.Driving.{Driving}
 use Rattle.environments.specs.declared.lengths.Driving.the-variants.{None, Length}
 
 -- the lengths of the lists that drive an element; t is the part of it under j ellipses
-unfoldable pub driving : (items work env : List ℕ) (w j t : ℕ) → List ℕ
-driving items work env w j t = lengthsBy (environmentAt items work env w) j (templateAt items work t)
+unfoldable pub driving : (work env : List ℕ) (w j t : ℕ) → List ℕ
+driving work env w j t = lengthsBy (environmentAt work env w) j (templateAt work t)
 
 -- the first of them
 unfoldable pub heading : List ℕ → Driving
@@ -26,14 +26,14 @@ lengthOr None = 0
 lengthOr (Length c) = c
 
 abbrev pub Drives : (work env : List ℕ) (j t : ℕ) → Driving → Type 0
-Drives work env j t r = (items : List ℕ) (w : ℕ) → r ≡ heading (driving items work env w j t)
+Drives work env j t r = (w : ℕ) → r ≡ heading (driving work env w j t)
 
 -- all of them are c
 abbrev pub AllOf : (work env : List ℕ) (j t c : ℕ) → Bool → Type 0
-AllOf work env j t c r = (items : List ℕ) (w : ℕ) → r ≡ allOf (eqb c) (driving items work env w j t)
+AllOf work env j t c r = (w : ℕ) → r ≡ allOf (eqb c) (driving work env w j t)
 
 abbrev pub Copies : (work env : List ℕ) (e : ℕ) → ℕ → Type 0
-Copies work env e r = (items : List ℕ) (w : ℕ) → r ≡ countBy (environmentAt items work env w) (templateAt items work e)
+Copies work env e r = (w : ℕ) → r ≡ countBy (environmentAt work env w) (templateAt work e)
 
 -- the ellipses round the first part of a cell: one more for an element
 unfoldable pub deeper : ℕ → ℕ → ℕ
@@ -43,12 +43,12 @@ deeper tag j = cond (eqb tag 7) (suc j) j
 
 -- nothing is compared in a template without an ellipsis
 abbrev pub Flat : (work : List ℕ) (t : ℕ) → Type 0
-Flat work t = (items : List ℕ) (v : Environment) → true ≡ agreeBy v (templateAt items work t)
+Flat work t = (v : Environment) → true ≡ agreeBy v (templateAt work t)
 
 -- driving lists are of one length in all of a template
 abbrev pub LengthsAgree : (work env : List ℕ) (t : ℕ) → Bool → Type 0
-LengthsAgree work env t r = (items : List ℕ) (w : ℕ) → r ≡ agreeBy (environmentAt items work env w) (templateAt items work t)
+LengthsAgree work env t r = (w : ℕ) → r ≡ agreeBy (environmentAt work env w) (templateAt work t)
 
 -- in the first c copies of an element
 abbrev pub CopiesAgree : (work env : List ℕ) (e c : ℕ) → Bool → Type 0
-CopiesAgree work env e c r = (items : List ℕ) (w : ℕ) → r ≡ allBelow (λ k. agreeBy (enter k (environmentAt items work env w)) (templateAt items work e)) c
+CopiesAgree work env e c r = (w : ℕ) → r ≡ allBelow (λ k. agreeBy (enter k (environmentAt work env w)) (templateAt work e)) c

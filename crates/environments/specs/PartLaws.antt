@@ -29,58 +29,58 @@ module _ (work : List ℕ) (p tag : ℕ) (tag-is : tag ≡ wordAt work p 1) wher
   pub tag-falls : (k r : ℕ) → (tag ≡ 0 → ⊥) → r ≡ referenceAt work p k → r < p
   tag-falls k r h e = omega (arith, referenceAt-falls work p k (tag-some h))
 
-  bare : (items : List ℕ) → (tag ≡ 1 → ⊥) → (tag ≡ 6 → ⊥) → (tag ≡ 7 → ⊥) → Bare (patternAt items work p)
+  bare : (tag ≡ 1 → ⊥) → (tag ≡ 6 → ⊥) → (tag ≡ 7 → ⊥) → Bare (patternAt work p)
   unfolding holds part
-  bare items a b c =
+  bare a b c =
       either (eqb tag 2)
-      (λ t. rw (patternAt-literal items work p (sym tag-is ∙ eqb-true tag 2 t)) (λ k. (refl, λ is t. refl)))
+      (λ t. rw (patternAt-literal work p (sym tag-is ∙ eqb-true tag 2 t)) (λ k. (refl, λ is t. refl)))
       (λ t.
       either (eqb tag 3)
-      (λ u. rw (patternAt-wildcard items work p (sym tag-is ∙ eqb-true tag 3 u)) (λ k. (refl, λ is t. refl)))
+      (λ u. rw (patternAt-wildcard work p (sym tag-is ∙ eqb-true tag 3 u)) (λ k. (refl, λ is t. refl)))
       (λ u.
       either (eqb tag 4)
-      (λ v. rw (patternAt-constant items work p (sym tag-is ∙ eqb-true tag 4 v)) (λ k. (refl, λ is t. refl)))
+      (λ v. rw (patternAt-constant work p (sym tag-is ∙ eqb-true tag 4 v)) (λ k. (refl, λ is t. refl)))
       (λ v.
-      rw (patternAt-empty items work p (λ z. a (tag-is ∙ z)) (λ z. eqb-false tag 2 t (tag-is ∙ z)) (λ z. eqb-false tag 3 u (tag-is ∙ z)) (λ z. eqb-false tag 4 v (tag-is ∙ z)) (λ z. b (tag-is ∙ z)) (λ z. c (tag-is ∙ z)))
+      rw (patternAt-empty work p (λ z. a (tag-is ∙ z)) (λ z. eqb-false tag 2 t (tag-is ∙ z)) (λ z. eqb-false tag 3 u (tag-is ∙ z)) (λ z. eqb-false tag 4 v (tag-is ∙ z)) (λ z. b (tag-is ∙ z)) (λ z. c (tag-is ∙ z)))
       (λ k. (refl, λ is t. refl)))))
 
   module _ (k : ℕ) where
     pub holds-variable : (j : ℕ) → tag ≡ 1 → j ≡ wordAt work p 2 → Holds work p k (eqb k j)
     unfolding holds
-    holds-variable j e h items = rw (h, patternAt-variable items work p (sym tag-is ∙ e)) refl
+    holds-variable j e h = rw (h, patternAt-variable work p (sym tag-is ∙ e)) refl
 
     pub holds-ellipsis : (e : ℕ) (r : Bool) → tag ≡ 7 → e ≡ referenceAt work p 2 → Holds work e k r → Holds work p k r
     unfolding holds
-    holds-ellipsis e r t h c items = c items ∙ rw (h, patternAt-ellipsis items work p (sym tag-is ∙ t)) refl
+    holds-ellipsis e r t h c = c ∙ rw (h, patternAt-ellipsis work p (sym tag-is ∙ t)) refl
 
     pub holds-none : (tag ≡ 1 → ⊥) → (tag ≡ 6 → ⊥) → (tag ≡ 7 → ⊥) → Holds work p k false
-    holds-none a b c items = sym (bare items a b c k .0)
+    holds-none a b c = sym (bare a b c k .0)
 
     module _ (head : ℕ) (left : Bool) (pair : tag ≡ 6) (head-is : head ≡ referenceAt work p 3) (left-is : Holds work head k left) where
       pub holds-head : left ≡ true → Holds work p k true
       unfolding holds
-      holds-head e items = rw (patternAt-pair items work p (sym tag-is ∙ pair), ← head-is, ← left-is items, e) refl
+      holds-head e = rw (patternAt-pair work p (sym tag-is ∙ pair), ← head-is, ← left-is, e) refl
 
       pub holds-tail : (tail : ℕ) (r : Bool) → left ≡ false → tail ≡ referenceAt work p 2 → Holds work tail k r → Holds work p k r
       unfolding holds
-      holds-tail tail r e h c items = rw (patternAt-pair items work p (sym tag-is ∙ pair), ← head-is, ← left-is items, e) (c items ∙ rw h refl)
+      holds-tail tail r e h c = rw (patternAt-pair work p (sym tag-is ∙ pair), ← head-is, ← left-is, e) (c ∙ rw h refl)
 
     module _ (u : ℕ) where
       pub part-variable : tag ≡ 1 → Part work p k u u
       unfolding part
-      part-variable e = record { is-part = λ items w. rw (patternAt-variable items work p (sym tag-is ∙ e)) refl; low = omega arith }
+      part-variable e = record { is-part = λ w. rw (patternAt-variable work p (sym tag-is ∙ e)) refl; low = omega arith }
 
       pub part-none : (tag ≡ 1 → ⊥) → (tag ≡ 6 → ⊥) → (tag ≡ 7 → ⊥) → Part work p k u 0
-      part-none a b c = record { is-part = λ items w. treeAt-none items work w ∙ sym (bare items a b c k .1 _ _); low = omega arith }
+      part-none a b c = record { is-part = λ w. treeAt-none work w ∙ sym (bare a b c k .1 _ _); low = omega arith }
 
       module _ (head : ℕ) (left : Bool) (pair : tag ≡ 6) (head-is : head ≡ referenceAt work p 3) (left-is : Holds work head k left) (v r : ℕ) where
         pub part-head : left ≡ true → Means work u v (element 0) → Part work head k v r → Part work p k u r
         unfolding part
         part-head e m c =
             record {
-              is-part = λ items w.
-                  c .is-part items w
-                  ∙ rw (patternAt-pair items work p (sym tag-is ∙ pair), ← head-is, ← left-is items, e) (ap (part (patternAt items work head) k []) (m .is items w));
+              is-part = λ w.
+                  c .is-part w
+                  ∙ rw (patternAt-pair work p (sym tag-is ∙ pair), ← head-is, ← left-is, e) (ap (part (patternAt work head) k []) (m .is w));
               low = omega (arith, c .low, m .low);
             }
 
@@ -88,15 +88,15 @@ module _ (work : List ℕ) (p tag : ℕ) (tag-is : tag ≡ wordAt work p 1) wher
         unfolding part
         part-tail rest e h m c =
             record {
-              is-part = λ items w.
-                  c .is-part items w
-                  ∙ rw (patternAt-pair items work p (sym tag-is ∙ pair), ← head-is, ← left-is items, e, ← h) (ap (part (patternAt items work rest) k []) (m .is items w));
+              is-part = λ w.
+                  c .is-part w
+                  ∙ rw (patternAt-pair work p (sym tag-is ∙ pair), ← head-is, ← left-is, e, ← h) (ap (part (patternAt work rest) k []) (m .is w));
               low = omega (arith, c .low, m .low);
             }
 
       pub part-list : tag ≡ 7 → Part work p k u u
       unfolding part
-      part-list e = record { is-part = λ items w. rw (patternAt-ellipsis items work p (sym tag-is ∙ e)) refl; low = omega arith }
+      part-list e = record { is-part = λ w. rw (patternAt-ellipsis work p (sym tag-is ∙ e)) refl; low = omega arith }
 
 -- what variable k takes of the node by the pattern at `at`, it takes of the use by the whole pattern
 abbrev pub Leads : (work : List ℕ) (p k u at node : ℕ) → Type 0

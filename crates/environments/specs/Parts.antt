@@ -9,9 +9,9 @@ use Rattle.rule_cells.specs.Cells.{patternAt}
 
 -- whether a pattern's cell holds variable k
 abbrev pub Holds : (work : List ℕ) (p k : ℕ) → Bool → Type 0
-Holds work p k r = (items : List ℕ) → r ≡ holds k (patternAt items work p)
+Holds work p k r = r ≡ holds k (patternAt work p)
 
 -- r is the part of the use that variable k takes
 pub record Part (work : List ℕ) (p k u r : ℕ) : Type 0 where
-  pub is-part : (items : List ℕ) (w : ℕ) → treeAt items work r w ≡ part (patternAt items work p) k [] (treeAt items work u w)
+  pub is-part : (w : ℕ) → treeAt work r w ≡ part (patternAt work p) k [] (treeAt work u w)
   pub low : r ≤ u

@@ -21,11 +21,9 @@ use Rattle.recipe.specs.Tidy.{Tidy, tidyEmpty, tidyConstant, tidyName, tidyPair
 use Rattle.recipe.specs.TableTidy.{IsConstant}
 use Rattle.expansion.specs.Rules.{Pattern, pairP, ellipsisP, Template, constantT, pairT, ellipsisT, depthFits, variableFrom, nameTemplate, areVariables, dotsNext, depthBefore, isVariable, variables, patternOf, templateOf, ruleOf, isRulesForm, rulesOf}
 use Rattle.expansion.specs.Match.{holds}
-use Rattle.arena.specs.Arena.{wordAt, referenceAt}
 use Rattle.words.specs.ListLaws.{either}
 use Rattle.rule_cells.specs.PatternLaws.{count-pair}
-use Rattle.rule_cells.specs.Cells.{templateStep, templateFrom, templateAt}
-use Rattle.environments.specs.Sound.{Sound, SoundRule, Plain}
+use Rattle.environments.specs.Sound.{Sound, SoundRule}
 
 -- ---- answers
 
@@ -165,35 +163,3 @@ module _ {N : Name → Type 0} where
   unfolding rulesOf
   rulesOf-sound {r} s =
       given-guard (isRulesForm r) (given-traverse (each-weaken (λ t f. ruleOf-sound isEllipsis (names (element 1 r)) f) (tidy-elements (tidy-tail (tidy-tail s)))))
-
--- ---- whether a template is plain does not depend on the items
-
-plain-from : (a b work : List ℕ) (gas at : ℕ) → Plain (templateFrom a work gas at) → Plain (templateFrom b work gas at)
-unfolding templateFrom templateStep
-plain-from a b work zero at = λ x. x
-plain-from a b work (suc gas) at =
-    either (eqb (wordAt work at 1) 1)
-    (λ t1. rw t1 (λ x. x))
-    (λ t1.
-    either (eqb (wordAt work at 1) 2)
-    (λ t2. rw (t1, t2) (λ x. Plain.insert))
-    (λ t2.
-    either (eqb (wordAt work at 1) 4)
-    (λ t4. rw (t1, t2, t4) (λ x. x))
-    (λ t4.
-    either (eqb (wordAt work at 1) 6)
-    (λ t6. rw (t1, t2, t4, t6) (in-pair _ _ _ _ (plain-from a b work gas (referenceAt work at 3)) (plain-from a b work gas (referenceAt work at 2))))
-    (λ t6.
-    either (eqb (wordAt work at 1) 7)
-    (λ t7. rw (t1, t2, t4, t6, t7) (in-ellipsis _ _ _ _ (plain-from a b work gas (referenceAt work at 3)) (plain-from a b work gas (referenceAt work at 2))))
-    (λ t7. rw (t1, t2, t4, t6, t7) (λ x. x))))))
-  where
-    in-pair : (s t y z : Template) → (Plain s → Plain y) → (Plain t → Plain z) → Plain (pairT s t) → Plain (pairT y z)
-    in-pair s t y z f g (Plain.pairs m n) = Plain.pairs (f m) (g n)
-
-    in-ellipsis : (s t y z : Template) → (Plain s → Plain y) → (Plain t → Plain z) → Plain (ellipsisT s t) → Plain (ellipsisT y z)
-    in-ellipsis s t y z f g (Plain.ellipsis m n) = Plain.ellipsis (f m) (g n)
-
-pub plain-any : (a b work : List ℕ) (t : ℕ) → Plain (templateAt a work t) → Plain (templateAt b work t)
-unfolding templateAt
-plain-any a b work t x = plain-from a b work t t x

@@ -9,41 +9,41 @@ use Rattle.arena.specs.Nodes.{OpensConstant, opens-empty, opens-name, opens-con
 use Rattle.turns.specs.declared.answers.Reached.{Reached}
 use Rattle.turns.specs.declared.answers.Ended.{Ended}
 use Rattle.turns.specs.Memory.{tables, CoreRoom, Ready, Placed}
-use Rattle.turns.specs.Turns.{operationsOf, Ends, Expands}
+use Rattle.turns.specs.Turns.{Ends, Expands}
 use Rattle.turns.specs.Leaves.{Refuses, Leaf, nameEnd, ConstantLeft}
 use Rattle.turns.specs.DispatchLaws.{empty-over, name-over, constant-over, constant-kind, leaf-room}
 use Rattle.expander.specs.CycleLaws.{going-start, going-over}
 
-module _ (items work core macros : List ℕ) (fuel node w : ℕ) (r : Reached) (placed : Placed items work (r .top) node w)
-    (ready : Ready items fuel (size (treeAt items work node w)) r (tables work core macros)) where
+module _ (work core macros : List ℕ) (fuel node w : ℕ) (r : Reached) (placed : Placed work (r .top) node w)
+    (ready : Ready fuel (size (treeAt work node w)) r (tables work core macros)) where
   abbrev here : Tree
-  here = treeAt items work node w
+  here = treeAt work node w
 
   -- a first turn that is over is the whole expression's
-  over-expands : (core′ : List ℕ) (e : Ended) → Ends items fuel here r (tables work core macros) (tables work core′ macros) e → Expands items fuel here r (tables work core macros) (tables work core′ macros) e
-  over-expands core′ e x =
+  over-expands : (operations core′ : List ℕ) (e : Ended) → Ends operations fuel here r (tables work core macros) (tables work core′ macros) e → Expands operations fuel here r (tables work core macros) (tables work core′ macros) e
+  over-expands operations core′ e x =
       let a = tables work core macros in
-      going-over items fuel here r a node w r a (going-start items fuel node w r a ready placed) (tables work core′ macros) e x
+      going-over operations fuel here r a node w r a (going-start operations fuel node w r a ready placed) (tables work core′ macros) e x
 
   pub operand-room : CoreRoom core (r .at) 2
-  operand-room = leaf-room items work core macros fuel node w r ready placed
+  operand-room = leaf-room work core macros fuel node w r ready placed
 
   module _ (kind : ℕ) (kind-is : kind ≡ wordAt work node 3) where
-    pub name-expands : kind ≡ 3 → (core′ : List ℕ) (e : Ended) → Leaf (nameEnd (lookup (operationsOf items) (nameAt items work node w))) 2 r core core′ e
-        → Expands items fuel here r (tables work core macros) (tables work core′ macros) e
-    name-expands is core′ e l =
-        over-expands core′ e
-        (name-over items work core macros fuel node w r ready core′ (wordAt work node 2) (referenceAt work node 1) (opens-name work node kind kind-is _ _ is refl refl) e l)
+    pub name-expands : (operations : List ℕ) → kind ≡ 3 → (core′ : List ℕ) (e : Ended) → Leaf (nameEnd (lookup operations (nameAt work node w))) 2 r core core′ e
+        → Expands operations fuel here r (tables work core macros) (tables work core′ macros) e
+    name-expands operations is core′ e l =
+        over-expands operations core′ e
+        (name-over operations work core macros fuel node w r ready core′ (wordAt work node 2) (referenceAt work node 1) (opens-name work node kind kind-is _ _ is refl refl) e l)
 
-    pub empty-expands : kind ≡ 0 → (e : Ended) → Refuses 13 r e → Expands items fuel here r (tables work core macros) (tables work core macros) e
-    empty-expands is e l = over-expands core e (empty-over items work core macros fuel node w r ready (opens-empty work node kind kind-is is) e l)
+    pub empty-expands : (operations : List ℕ) → kind ≡ 0 → (e : Ended) → Refuses 13 r e → Expands operations fuel here r (tables work core macros) (tables work core macros) e
+    empty-expands operations is e l = over-expands operations core e (empty-over operations work core macros fuel node w r ready (opens-empty work node kind kind-is is) e l)
 
     module _ (some : kind ≡ 0 → ⊥) (no-name : kind ≡ 3 → ⊥) (no-pair : kind ≡ 4 → ⊥) (first : ℕ) (first-is : first ≡ wordAt work node 2) where
       constant-opens : OpensConstant work node kind first (wordAt work node 1)
       constant-opens = opens-constant work node kind kind-is first (wordAt work node 1) some no-name no-pair first-is refl
 
       pub constant-asks : CoreRoom core (r .at) 2 × (kind ≤ 2)
-      constant-asks = (operand-room, constant-kind items work (r .top) node w kind first (wordAt work node 1) constant-opens placed)
+      constant-asks = (operand-room, constant-kind work (r .top) node w kind first (wordAt work node 1) constant-opens placed)
 
-      pub constant-expands : (core′ : List ℕ) (e : Ended) → ConstantLeft kind first r core core′ e → Expands items fuel here r (tables work core macros) (tables work core′ macros) e
-      constant-expands core′ e l = over-expands core′ e (constant-over items work core macros fuel node w r ready core′ kind first (wordAt work node 1) constant-opens e l)
+      pub constant-expands : (operations core′ : List ℕ) (e : Ended) → ConstantLeft kind first r core core′ e → Expands operations fuel here r (tables work core macros) (tables work core′ macros) e
+      constant-expands operations core′ e l = over-expands operations core′ e (constant-over operations work core macros fuel node w r ready core′ kind first (wordAt work node 1) constant-opens e l)

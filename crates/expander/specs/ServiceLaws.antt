@@ -29,7 +29,6 @@ use Rattle.turns.specs.declared.answers.Reached.{Reached}
 use Rattle.turns.specs.declared.answers.Ended.{Ended}
 use Rattle.turns.specs.declared.answers.Ended.the-variants.{Done}
 use Rattle.turns.specs.declared.answers.Ended.the-variants as ends
-use Rattle.turns.specs.Turns.{operationsOf}
 use Rattle.expander.specs.Service.{Numbers, numbersOf, groundOf, runNumbers, leftBy, coreAfter, workAfter, Served}
 use Rattle.words.specs.Tables.{filled}
 use Rattle.expander.specs.Start.{Lends, endNumbers, Expanded, keptTo, Finished}
@@ -72,7 +71,7 @@ module _ (items : List ℕ) (fuel : ℕ) (work core : List ℕ) where
 
         -- ---- past the tests
 
-        pub lends : (operations : List ℕ) → areOperations (treeOf items) ≡ true → Places operations (operationsOf items) → length operations ≡ namesMost → Lends items work core operations fuel
+        pub lends : (operations : List ℕ) → areOperations (treeOf items) ≡ true → Places operations (operationNumbers (treeOf items)) → length operations ≡ namesMost → Lends items work core operations fuel
         lends operations good placed long =
             let rooms = and-parts (leb (workRate * (itemCount items + fuel)) (length work)) (leb (coreRate * (itemCount items + fuel)) (length core)) roomy in
             record {

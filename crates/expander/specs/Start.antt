@@ -4,7 +4,8 @@ use mathlib.Core.List.{List, _++_}
 use Prim.Native.Nat.{ℕ, _-_}
 use lib.ListN.{length, take, replicate}
 use Rattle.words.specs.Limits.{namesMost}
-use Rattle.expansion.specs.Run.{Run}
+use Rattle.recipe.specs.Table.{treeOf}
+use Rattle.expansion.specs.Run.{Run, operationNumbers}
 use Rattle.expansion.specs.RunLaws.{Begun}
 use Rattle.layout.specs.Places.{Places}
 use Rattle.expander.specs.declared.Expansion.{Expansion}
@@ -12,12 +13,11 @@ use Rattle.turns.specs.declared.answers.Reached.{Reached}
 use Rattle.turns.specs.declared.answers.Ended.{Ended}
 use Rattle.turns.specs.declared.answers.Ended.the-variants.{Done, Refused}
 use Rattle.expander.specs.Service.{Numbers, numbersOf, runNumbers}
-use Rattle.turns.specs.Turns.{operationsOf}
 
 -- the tests are passed, and the operations have their places
 pub record Lends (items work core operations : List ℕ) (fuel : ℕ) : Type 0 where
   pub begun : Begun items fuel (length work) (length core)
-  pub placed : Places operations (operationsOf items)
+  pub placed : Places operations (operationNumbers (treeOf items))
   pub long : length operations ≡ namesMost
 
 -- before the first turn: the arena is laid out, and nothing else is done

@@ -32,38 +32,42 @@ use Rattle.turns.specs.declared.answers.Ended.{Ended}
 use Rattle.turns.specs.declared.answers.Ended.the-variants.{Done, Refused}
 use Rattle.turns.specs.Ends.{endOf}
 use Rattle.turns.specs.Memory.{macroItems, Tables, tables, macrosAt, stateAt, workNeed, coreNeed, variableNeed, macroNeed, Placed, Ready}
-use Rattle.turns.specs.Turns.{operationsOf, Lent, Left, Expands}
+use Rattle.turns.specs.Turns.{Lent, Left, ExpandsBy}
 use Rattle.expander.specs.LentLaws.{places-lent}
+use Rattle.expander.specs.Cycle.{Lending}
 use Rattle.expander.specs.Service.{groundOf, runNumbers}
 use Rattle.expander.specs.Start.{Lends, atStart, endNumbers, Expanded}
 
 -- ---- ends
 
 -- an end as the definition's, from the core table's start, is the run's
-expanded : (items core : List ℕ) (r : Reached) (last : Tables) (out : Out (Term Name)) (e : Ended) → r .at ≡ 0 → Left items encode r core last (endOf out) e → Expanded (ended out) (last .core) e
+expanded : (core : List ℕ) (r : Reached) (last : Tables) (out : Out (Term Name)) (e : Ended) → r .at ≡ 0 → Left encode r core last (endOf out) e → Expanded (ended out) (last .core) e
 unfolding endOf ended endNumbers runNumbers groundOf stateAt
-expanded items core r last (done t s l) (Done q) z (i, w) =
+expanded core r last (done t s l) (Done q) z (i, w) =
     let steps : q .steps ≡ s .steps = sym (ap (λ (u : State). u .steps) i) in
     let sum : q .sum ≡ s .sum = sym (ap (λ (u : State). u .sum) i) in
     let until : q .at ≡ length (encode t) = omega (arith, w .until) in
     let begins : last .core ≡ encode t ++ drop (q .at) core = w .table ∙ rw z in
     record { numbers = rw (steps, sum, until); words = ap (take (length (encode t))) begins ∙ take-append-seam (encode t) (drop (q .at) core) }
-expanded items core r last (done t s l) (Refused h n m) z x = absurd x
-expanded items core r last (refused g s l) (Done q) z x = absurd x
-expanded items core r last (refused g s l) (Refused h n m) z (i, j, k) = record { numbers = rw (i, j, k); words = refl }
-expanded items core r last (starved l) e z x = absurd x
+expanded core r last (done t s l) (Refused h n m) z x = absurd x
+expanded core r last (refused g s l) (Done q) z x = absurd x
+expanded core r last (refused g s l) (Refused h n m) z (i, j, k) = record { numbers = rw (i, j, k); words = refl }
+expanded core r last (starved l) e z x = absurd x
 
 -- ---- the start
 
 module _ (items work core operations : List ℕ) (fuel : ℕ) (l : Lends items work core operations fuel) where
-  operations-small : allOf (λ x. ltb x namesMost) (operationsOf items) ≡ true
-  unfolding operationsOf operationNumbers
+  operations-small : allOf (λ x. ltb x namesMost) (operationNumbers (treeOf items)) ≡ true
+  unfolding operationNumbers
   operations-small =
       true-each (λ x. ltb x namesMost)
       (each-map (λ (x : Name). x .number) (λ x p. lt-ltb _ _ (p .small)) (tidy-names (tidy-element 0 (treeOf-tidy items (l .begun .layout)))))
 
-  pub start-lent : Lent items operations
-  start-lent = record { places = places-lent operations (operationsOf items) (l .placed) (l .long) operations-small }
+  start-lent : Lent (operationNumbers (treeOf items)) operations
+  start-lent = record { places-are = places-lent operations (operationNumbers (treeOf items)) (l .placed) (l .long) operations-small }
+
+  pub start-lending : Lending operations
+  start-lending = record { operations = operationNumbers (treeOf items); lent = start-lent }
 
   -- the items fit the work table
   pub start-fits : length items ≤ length work
@@ -74,13 +78,13 @@ module _ (items work core operations : List ℕ) (fuel : ℕ) (l : Lends items w
   start-most = omega (arith, isLayout-parts items (l .begun .layout) .count .1, l .begun .fuelled)
 
   module _ (work′ : List ℕ) (top body : ℕ) (laid : LaidOut items work′ top) (second : Means work′ top body (element 1)) where
-    start-tree : treeAt items work′ body 0 ≡ element 1 (treeOf items)
-    start-tree = second .is items 0 ∙ ap (element 1) (laid .means)
+    start-tree : treeAt work′ body 0 ≡ element 1 (treeOf items)
+    start-tree = second .is 0 ∙ ap (element 1) (laid .means)
 
-    start-size : size (treeAt items work′ body 0) ≤ size (treeOf items)
+    start-size : size (treeAt work′ body 0) ≤ size (treeOf items)
     start-size = rw start-tree (element-size 1 (treeOf items))
 
-    pub start-placed : Placed items work′ top body 0
+    pub start-placed : Placed work′ top body 0
     start-placed =
         record {
           node-below = second .low;
@@ -88,11 +92,11 @@ module _ (items work core operations : List ℕ) (fuel : ℕ) (l : Lends items w
           proper = rw start-tree (tidy-element 1 (tidy-weaken (λ x p. tt) (treeOf-tidy items (l .begun .layout))));
         }
 
-    pub start-ready : (macros : List ℕ) → length work′ ≡ length work → itemCount items + fuel ≤ macroItems * length macros → Ready items fuel (size (treeAt items work′ body 0)) (atStart top) (tables work′ core macros)
+    pub start-ready : (macros : List ℕ) → length work′ ≡ length work → itemCount items + fuel ≤ macroItems * length macros → Ready fuel (size (treeAt work′ body 0)) (atStart top) (tables work′ core macros)
     unfolding atStart workNeed coreNeed variableNeed macroNeed macrosAt
     start-ready macros long h =
         let parts = isLayout-parts items (l .begun .layout) in
-        let n : size (treeAt items work′ body 0) ≤ itemCount items = omega (arith, start-size, treeOf-size items (l .begun .layout)) in
+        let n : size (treeAt work′ body 0) ≤ itemCount items = omega (arith, start-size, treeOf-size items (l .begun .layout)) in
         let most : itemCount items ≤ 4096 = parts .count .1 in
         let fuelled : fuel ≤ 8192 = l .begun .fuelled in
         let high : top ≡ 3 * itemCount items = laid .end ∙ parts .words in
@@ -100,7 +104,6 @@ module _ (items work core operations : List ℕ) (fuel : ℕ) (l : Lends items w
           fuelled = fuelled;
           spent = omega arith;
           stepped = omega arith;
-          items-below = omega (arith, laid .end);
           room = omega (arith, l .begun .work-room);
           core-room = omega (arith, l .begun .core-room);
           macro-room = omega arith;
@@ -111,11 +114,11 @@ module _ (items work core operations : List ℕ) (fuel : ℕ) (l : Lends items w
           macros-are = record { below = λ k b. absurd (omega arith); proper = noneOf; sound = noneOf };
         }
 
-    pub start-expanded : (macros : List ℕ) (last : Tables) (e : Ended) → Expands items fuel (treeAt items work′ body 0) (atStart top) (tables work′ core macros) last e
+    pub start-expanded : (macros : List ℕ) (last : Tables) (e : Ended) → ExpandsBy operations fuel (treeAt work′ body 0) (atStart top) (tables work′ core macros) last e
         → Expanded (ended (expandRecipe fuel (treeOf items))) (last .core) e
-    unfolding expandRecipe start atStart stateAt macrosAt operationsOf
+    unfolding expandRecipe start atStart stateAt macrosAt
     start-expanded macros last e x =
         let gas : ℕ = size (treeOf items) + fuel in
-        expanded items core (atStart top) last (expandRecipe fuel (treeOf items)) e refl
-        (subst (λ t. Left items encode (atStart top) core last (endOf (expand macrosMost (operationsOf items) fuel gas t start)) e) start-tree
-        (x .means gas (omega (arith, start-size))))
+        expanded core (atStart top) last (expandRecipe fuel (treeOf items)) e refl
+        (subst (λ t. Left encode (atStart top) core last (endOf (expand macrosMost (operationNumbers (treeOf items)) fuel gas t start)) e) start-tree
+        (x (operationNumbers (treeOf items)) start-lent .means gas (omega (arith, start-size))))

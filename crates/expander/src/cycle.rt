@@ -4,7 +4,8 @@ ghost use Prim.Native.Nat.{_-_};
 ghost use Rattle.recipe.specs.Tree.{size};
 ghost use Rattle.arena.specs.Arena.{treeAt};
 ghost use Rattle.turns.specs.Memory.{tables, Placed, Ready};
-ghost use Rattle.turns.specs.Turns.{Lent, Expands, ExpandsAll};
+ghost use Rattle.turns.specs.Turns.{ExpandsBy, ExpandsAllBy};
+ghost use Rattle.expander.specs.Cycle.{Lending};
 use arena::cells;
 use turns::answers::Ended;
 use turns::answers::Reached;
@@ -13,7 +14,6 @@ use turns::dispatch;
 use turns::leaf;
 
 pub fn expression(
-    items: &[u32],
     work: &mut [u32],
     core: &mut [u32],
     known: &mut [u32],
@@ -23,31 +23,21 @@ pub fn expression(
     outer: u32,
     from: Reached,
 ) -> Ended
-    requires { ⌜ (Lent (now items) (now operations)) × (Placed (now items) (now work) (from .top) start outer) × (Ready (now items) fuel (size (treeAt (now items) (now work) start outer)) from (tables (now work) (now core) (now known))) ⌝ }
-    ensures { λ r. ⌜ Expands (now (items .entry)) fuel (treeAt (now (items .entry)) (now (work .entry)) start outer) from (tables (now (work .entry)) (now (core .entry)) (now (known .entry))) (tables (now (work .exit)) (now (core .exit)) (now (known .exit))) r ⌝ }
+    requires { ⌜ (Lending (now operations)) × (Placed (now work) (from .top) start outer) × (Ready fuel (size (treeAt (now work) start outer)) from (tables (now work) (now core) (now known))) ⌝ }
+    ensures { λ r. ⌜ ExpandsBy (now (operations .entry)) fuel (treeAt (now (work .entry)) start outer) from (tables (now (work .entry)) (now (core .entry)) (now (known .entry))) (tables (now (work .exit)) (now (core .exit)) (now (known .exit))) r ⌝ }
 {
     let mut node = start;
     let mut wrap = outer;
     let mut reached = from;
     loop {
-        match dispatch::turn(
-            items,
-            work,
-            core,
-            known,
-            operations,
-            fuel,
-            node,
-            wrap,
-            reached,
-        ) {
+        match dispatch::turn(work, core, known, operations, fuel, node, wrap, reached) {
             Turn::Again(n, w, q) => {
                 node = n;
                 wrap = w;
                 reached = q;
             }
             Turn::Operands(l, w, q) => {
-                return operands(items, work, core, known, operations, fuel, l, w, q);
+                return operands(work, core, known, operations, fuel, l, w, q);
             }
             Turn::Over(e) => {
                 return e;
@@ -58,7 +48,6 @@ pub fn expression(
 
 // An operand: a pair is expanded by turns; a name, a constant or an empty list is done at once.
 pub fn operand(
-    items: &[u32],
     work: &mut [u32],
     core: &mut [u32],
     known: &mut [u32],
@@ -68,15 +57,15 @@ pub fn operand(
     wrap: u32,
     from: Reached,
 ) -> Ended
-    requires { ⌜ (Lent (now items) (now operations)) × (Placed (now items) (now work) (from .top) node wrap) × (Ready (now items) fuel (size (treeAt (now items) (now work) node wrap)) from (tables (now work) (now core) (now known))) ⌝ }
-    ensures { λ r. ⌜ Expands (now (items .entry)) fuel (treeAt (now (items .entry)) (now (work .entry)) node wrap) from (tables (now (work .entry)) (now (core .entry)) (now (known .entry))) (tables (now (work .exit)) (now (core .exit)) (now (known .exit))) r ⌝ }
+    requires { ⌜ (Lending (now operations)) × (Placed (now work) (from .top) node wrap) × (Ready fuel (size (treeAt (now work) node wrap)) from (tables (now work) (now core) (now known))) ⌝ }
+    ensures { λ r. ⌜ ExpandsBy (now (operations .entry)) fuel (treeAt (now (work .entry)) node wrap) from (tables (now (work .entry)) (now (core .entry)) (now (known .entry))) (tables (now (work .exit)) (now (core .exit)) (now (known .exit))) r ⌝ }
 {
     let kind = cells::word(work, node, cells::KIND);
     if kind == cells::NAME {
-        return leaf::bare_name(items, work, core, operations, node, wrap, from);
+        return leaf::bare_name(work, core, operations, node, wrap, from);
     }
     if kind == cells::PAIR {
-        return expression(items, work, core, known, operations, fuel, node, wrap, from);
+        return expression(work, core, known, operations, fuel, node, wrap, from);
     }
     if kind == cells::EMPTY {
         return leaf::refuse(13, from);
@@ -85,7 +74,6 @@ pub fn operand(
 }
 
 pub fn operands(
-    items: &[u32],
     work: &mut [u32],
     core: &mut [u32],
     known: &mut [u32],
@@ -95,24 +83,14 @@ pub fn operands(
     wrap: u32,
     from: Reached,
 ) -> Ended
-    requires { ⌜ (Lent (now items) (now operations)) × (Placed (now items) (now work) (from .top) first wrap) × (Ready (now items) fuel (size (treeAt (now items) (now work) first wrap) - 1) from (tables (now work) (now core) (now known))) ⌝ }
-    ensures { λ r. ⌜ ExpandsAll (now (items .entry)) fuel (treeAt (now (items .entry)) (now (work .entry)) first wrap) from (tables (now (work .entry)) (now (core .entry)) (now (known .entry))) (tables (now (work .exit)) (now (core .exit)) (now (known .exit))) r ⌝ }
+    requires { ⌜ (Lending (now operations)) × (Placed (now work) (from .top) first wrap) × (Ready fuel (size (treeAt (now work) first wrap) - 1) from (tables (now work) (now core) (now known))) ⌝ }
+    ensures { λ r. ⌜ ExpandsAllBy (now (operations .entry)) fuel (treeAt (now (work .entry)) first wrap) from (tables (now (work .entry)) (now (core .entry)) (now (known .entry))) (tables (now (work .exit)) (now (core .exit)) (now (known .exit))) r ⌝ }
 {
     let mut list = first;
     let mut reached = from;
     while cells::word(work, list, cells::KIND) == cells::PAIR {
         let head = cells::reference(work, list, cells::HEAD);
-        let ended = operand(
-            items,
-            work,
-            core,
-            known,
-            operations,
-            fuel,
-            head,
-            wrap,
-            reached,
-        );
+        let ended = operand(work, core, known, operations, fuel, head, wrap, reached);
         let Ended::Done(done) = ended else {
             return ended;
         };

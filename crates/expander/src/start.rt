@@ -41,7 +41,7 @@ fn run(
         variables: 0,
         macros: 0,
     };
-    cycle::expression(items, work, core, known, operations, fuel, body, 0, from)
+    cycle::expression(work, core, known, operations, fuel, body, 0, from)
 }
 
 // Past the tests of grounds 7 to 10: the run of the recipe, its term's words from the core table's start.

@@ -22,11 +22,11 @@ use Rattle.forms.specs.Binders.{AllNames, ownNames, namesIn, Opened}
 
 -- ---- names
 
-ordinary-name : (items work : List ℕ) (node w : ℕ) → isOrdinaryName (treeAt items work node w) ≡ true → treeAt items work node w ≡ name (nameAt items work node w)
-ordinary-name items work node w h =
+ordinary-name : (work : List ℕ) (node w : ℕ) → isOrdinaryName (treeAt work node w) ≡ true → treeAt work node w ≡ name (nameAt work node w)
+ordinary-name work node w h =
     either (eqb (wordAt work node 3) 3)
-    (λ t. treeAt-name items work node w (eqb-true (wordAt work node 3) 3 t))
-    (λ t. never h (sym (ordinary-other items work node (wordAt work node 3) refl (eqb-false (wordAt work node 3) 3 t) w)))
+    (λ t. treeAt-name work node w (eqb-true (wordAt work node 3) 3 t))
+    (λ t. never h (sym (ordinary-other work node (wordAt work node 3) refl (eqb-false (wordAt work node 3) 3 t) w)))
 
 -- an element that binds as it should has an ordinary name
 pub binds-ordinary : (macros : Bool) (c : Tree) → bindsOne macros c ≡ true → isOrdinaryName (ownName macros c) ≡ true
@@ -34,14 +34,14 @@ unfolding bindsOne ownName isMacro
 binds-ordinary false c h = h
 binds-ordinary true c h = and-right (isListOf 2 c) (isOrdinaryName (element 0 c)) h
 
-module _ (items work : List ℕ) (list kind : ℕ) (kind-is : kind ≡ wordAt work list 3) (w : ℕ) (macros : Bool) where
+module _ (work : List ℕ) (list kind : ℕ) (kind-is : kind ≡ wordAt work list 3) (w : ℕ) (macros : Bool) where
   -- the list's tree, and another's under the same wrap
   abbrev at : ℕ → Tree
-  at node = treeAt items work node w
+  at node = treeAt work node w
 
   pub names-none : (kind ≡ 4 → ⊥) → namesIn macros (at list) ≡ []
   unfolding namesIn elements ownNames
-  names-none other = no-pair work list kind kind-is (λ t. namesIn macros t ≡ []) refl (λ x. refl) (λ a. refl) other items w
+  names-none other = no-pair work list kind kind-is (λ t. namesIn macros t ≡ []) refl (λ x. refl) (λ a. refl) other w
 
   module _ (a-list : kind ≡ 4) where
     part-falls : (k rest : ℕ) → rest ≡ referenceAt work list k → rest < list
@@ -52,22 +52,22 @@ module _ (items work : List ℕ) (list kind : ℕ) (kind-is : kind ≡ wordAt wo
     rest-names : AllNames macros (at list) → (rest : ℕ) → rest ≡ referenceAt work list 1 → AllNames macros (at rest)
     unfolding elements
     rest-names h rest e =
-        let g : AllNames macros (pair (at (referenceAt work list 2)) (at (referenceAt work list 1))) = rw (a-pair work list kind kind-is a-list items w) at h in
+        let g : AllNames macros (pair (at (referenceAt work list 2)) (at (referenceAt work list 1))) = rw (a-pair work list kind kind-is a-list w) at h in
         rw e (all-parts (bindsOne macros) (at (referenceAt work list 2)) (elements (at (referenceAt work list 1))) g .1)
 
-    first-name : AllNames macros (at list) → (first own : ℕ) → first ≡ referenceAt work list 2 → Means work first own (ownName macros) → ownName macros (at first) ≡ name (nameAt items work own w)
+    first-name : AllNames macros (at list) → (first own : ℕ) → first ≡ referenceAt work list 2 → Means work first own (ownName macros) → ownName macros (at first) ≡ name (nameAt work own w)
     unfolding elements
     first-name h first own e p =
-        let g : AllNames macros (pair (at (referenceAt work list 2)) (at (referenceAt work list 1))) = rw (a-pair work list kind kind-is a-list items w) at h in
+        let g : AllNames macros (pair (at (referenceAt work list 2)) (at (referenceAt work list 1))) = rw (a-pair work list kind kind-is a-list w) at h in
         let b : bindsOne macros (at first) ≡ true = rw e (all-parts (bindsOne macros) (at (referenceAt work list 2)) (elements (at (referenceAt work list 1))) g .0) in
-        sym (p .is items w) ∙ ordinary-name items work own w (rw (p .is items w) (binds-ordinary macros (at first) b))
+        sym (p .is w) ∙ ordinary-name work own w (rw (p .is w) (binds-ordinary macros (at first) b))
 
-    names-more : AllNames macros (at list) → (first own rest : ℕ) → first ≡ referenceAt work list 2 → Means work first own (ownName macros) → rest ≡ referenceAt work list 1 → namesIn macros (at list) ≡ nameAt items work own w ∷ namesIn macros (at rest)
+    names-more : AllNames macros (at list) → (first own rest : ℕ) → first ≡ referenceAt work list 2 → Means work first own (ownName macros) → rest ≡ referenceAt work list 1 → namesIn macros (at list) ≡ nameAt work own w ∷ namesIn macros (at rest)
     unfolding namesIn elements ownNames names
     names-more h first own rest e p q =
-        rw (a-pair work list kind kind-is a-list items w, sym e, sym q, first-name h first own e p)
+        rw (a-pair work list kind kind-is a-list w, sym e, sym q, first-name h first own e p)
 
-    pub opened : AllNames macros (at list) → (first own rest : ℕ) → first ≡ referenceAt work list 2 → Means work first own (ownName macros) → rest ≡ referenceAt work list 1 → Opened items work list w macros own rest
+    pub opened : AllNames macros (at list) → (first own rest : ℕ) → first ≡ referenceAt work list 2 → Means work first own (ownName macros) → rest ≡ referenceAt work list 1 → Opened work list w macros own rest
     opened h first own rest e p q =
         record {
           own-low = omega (arith, p .low, part-falls 2 first e);

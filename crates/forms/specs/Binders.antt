@@ -38,11 +38,11 @@ bindNames f k [] x = x
 bindNames f k (y ∷ ys) x = bindNames f (suc k) ys (bindName y (f k) x)
 
 -- what opening a list that binds tells: the name of its first element, and the rest
-pub record Opened (items work : List ℕ) (list w : ℕ) (macros : Bool) (own rest : ℕ) : Type 0 where
+pub record Opened (work : List ℕ) (list w : ℕ) (macros : Bool) (own rest : ℕ) : Type 0 where
   pub own-low : own < list
   pub rest-low : rest < list
-  pub names-are : namesIn macros (treeAt items work list w) ≡ nameAt items work own w ∷ namesIn macros (treeAt items work rest w)
-  pub ordinary : AllNames macros (treeAt items work rest w)
+  pub names-are : namesIn macros (treeAt work list w) ≡ nameAt work own w ∷ namesIn macros (treeAt work rest w)
+  pub ordinary : AllNames macros (treeAt work rest w)
 
 -- room for binders of names xs: nine words a name, and numbers that fit a word; node and wraps as they should be
 pub record Space (xs : List Name) (work : List ℕ) (node w number parent top : ℕ) : Type 0 where
@@ -61,8 +61,8 @@ pub record Scoped (f : ℕ → Binding) (k : ℕ) (xs : List Name) (parent : ℕ
   pub means : (x : Name) → wrapAt new wrap x ≡ bindNames f k xs (wrapAt old parent x)
 
 -- names are bound up to the node's: where those are bound, all names of the list are
-pub record Scoping (items old : List ℕ) (list w : ℕ) (macros : Bool) (number parent top : ℕ) (work : List ℕ) (node n wrap end : ℕ) : Type 0 where
-  pub ordinary : AllNames macros (treeAt items work node w)
-  pub space : Space (namesIn macros (treeAt items work node w)) work node w n wrap end
-  pub whole : (new : List ℕ) (x y : ℕ) → Scoped (bindsTo macros) n (namesIn macros (treeAt items work node w)) wrap work new end x y
-      → Scoped (bindsTo macros) number (namesIn macros (treeAt items old list w)) parent old new top x y
+pub record Scoping (old : List ℕ) (list w : ℕ) (macros : Bool) (number parent top : ℕ) (work : List ℕ) (node n wrap end : ℕ) : Type 0 where
+  pub ordinary : AllNames macros (treeAt work node w)
+  pub space : Space (namesIn macros (treeAt work node w)) work node w n wrap end
+  pub whole : (new : List ℕ) (x y : ℕ) → Scoped (bindsTo macros) n (namesIn macros (treeAt work node w)) wrap work new end x y
+      → Scoped (bindsTo macros) number (namesIn macros (treeAt old list w)) parent old new top x y

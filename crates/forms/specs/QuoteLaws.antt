@@ -77,9 +77,9 @@ module _ (f : Name → Name) (same : (x : Name) → f x .number ≡ x .number) w
     tail-onNames (name x) = refl
     tail-onNames (pair h t) = ap₂ D.moreD (strip-onNames h) (tail-onNames t)
 
-pub quoted-any : (items work : List ℕ) (node w : ℕ) → datumWords (strip (treeAt items work node w)) ≡ quotedAt items work node
+pub quoted-any : (work : List ℕ) (node w : ℕ) → datumWords (strip (treeAt work node w)) ≡ quotedAt work node
 unfolding quotedAt
-quoted-any items work node w = ap datumWords (ap strip (treeAt-wrap items work node w) ∙ strip-onNames (wrapAt work w) (wrapAt-number work w) (treeAt items work node 0))
+quoted-any work node w = ap datumWords (ap strip (treeAt-wrap work node w) ∙ strip-onNames (wrapAt work w) (wrapAt-number work w) (treeAt work node 0))
 
 -- ---- the parts of what may be quoted
 
@@ -96,8 +96,8 @@ quotable-onNames f (pair h t) q =
     tidyPair (quotable-onNames f h (g .0)) (quotable-onNames f t (g .1)) (sym (onNames-isList f t) ∙ g .2)
 
 -- whatever waits on it
-pub quotable-any : (items work : List ℕ) (node w : ℕ) → Quotable (treeAt items work node w) → Quotable (treeAt items work node 0)
-quotable-any items work node w q = quotable-onNames (wrapAt work w) (treeAt items work node 0) (subst Quotable (treeAt-wrap items work node w) q)
+pub quotable-any : (work : List ℕ) (node w : ℕ) → Quotable (treeAt work node w) → Quotable (treeAt work node 0)
+quotable-any work node w q = quotable-onNames (wrapAt work w) (treeAt work node 0) (subst Quotable (treeAt-wrap work node w) q)
 
 kind-most : (k : ℕ) (a b : Bool) → getD (false ∷ a ∷ b ∷ []) k false ≡ true → k ≤ 2
 kind-most zero a b h = omega arith
@@ -118,73 +118,73 @@ count-elements (constant a) = refl
 count-elements (name x) = refl
 count-elements (pair h t) = ap suc (count-elements t)
 
-module _ (items work : List ℕ) (node kind : ℕ) (kind-is : kind ≡ wordAt work node 3) where
-  pub quoted-empty : kind ≡ 0 → 5 ∷ 0 ∷ [] ≡ quotedAt items work node
+module _ (work : List ℕ) (node kind : ℕ) (kind-is : kind ≡ wordAt work node 3) where
+  pub quoted-empty : kind ≡ 0 → 5 ∷ 0 ∷ [] ≡ quotedAt work node
   unfolding quotedAt strip datumWords nodeWords D.count
-  quoted-empty e = rw (treeAt-empty items work node 0 (sym kind-is ∙ e))
+  quoted-empty e = rw (treeAt-empty work node 0 (sym kind-is ∙ e))
 
-  pub quoted-name : kind ≡ 3 → (number : ℕ) → number ≡ numberOf items work node → 4 ∷ number ∷ [] ≡ quotedAt items work node
+  pub quoted-name : kind ≡ 3 → (number : ℕ) → number ≡ numberOf work node → 4 ∷ number ∷ [] ≡ quotedAt work node
   unfolding quotedAt strip datumWords nodeWords
-  quoted-name e number n = rw (treeAt-name items work node 0 (sym kind-is ∙ e), nameAt-number items work node 0, n)
+  quoted-name e number n = rw (treeAt-name work node 0 (sym kind-is ∙ e), nameAt-number work node 0, n)
 
   module _ (not-empty : kind ≡ 0 → ⊥) (not-name : kind ≡ 3 → ⊥) (not-pair : kind ≡ 4 → ⊥) where
-    constant-is : treeAt items work node 0 ≡ constant (constantAt work node)
-    constant-is = treeAt-constant items work node 0 (λ z. not-empty (kind-is ∙ z)) (λ z. not-name (kind-is ∙ z)) (λ z. not-pair (kind-is ∙ z))
+    constant-is : treeAt work node 0 ≡ constant (constantAt work node)
+    constant-is = treeAt-constant work node 0 (λ z. not-empty (kind-is ∙ z)) (λ z. not-name (kind-is ∙ z)) (λ z. not-pair (kind-is ∙ z))
 
-    pub quoted-constant : (first : ℕ) → first ≡ wordAt work node 2 → (kind + 1) ∷ first ∷ [] ≡ quotedAt items work node
+    pub quoted-constant : (first : ℕ) → first ≡ wordAt work node 2 → (kind + 1) ∷ first ∷ [] ≡ quotedAt work node
     unfolding quotedAt strip datumWords nodeWords constantWords constantAt
     quoted-constant first e = rw (constant-is, kind-is, e, add-one (wordAt work node 3))
 
-    pub constant-small : Quotable (treeAt items work node 0) → kind ≤ 2
+    pub constant-small : Quotable (treeAt work node 0) → kind ≤ 2
     unfolding constantAt
     constant-small q = rw kind-is (constant-kind (subst Quotable constant-is q))
 
-  pub quoted-pair : kind ≡ 4 → (count : ℕ) → Counts work node count → (5 ∷ count ∷ []) ++ elementsAt items work node ≡ quotedAt items work node
+  pub quoted-pair : kind ≡ 4 → (count : ℕ) → Counts work node count → (5 ∷ count ∷ []) ++ elementsAt work node ≡ quotedAt work node
   unfolding quotedAt elementsAt strip datumWords nodeWords D.count elements
   quoted-pair e count c =
-      let t = a-pair work node kind kind-is e items 0 in
-      let n : count ≡ D.count (stripTail (treeAt items work node 0)) = c .is items 0 ∙ sym (count-elements (treeAt items work node 0)) in
+      let t = a-pair work node kind kind-is e 0 in
+      let n : count ≡ D.count (stripTail (treeAt work node 0)) = c .is 0 ∙ sym (count-elements (treeAt work node 0)) in
       rw (n, t)
 
-  pub quoted-list : kind ≡ 4 → (count : ℕ) → Counts work node count → (d e g : List ℕ) (at n r : ℕ) → at + length (quotedAt items work node) ≤ length d
-      → Written (5 ∷ count ∷ []) d e at n → Written (elementsAt items work node) e g n r → Written (quotedAt items work node) d g at r
+  pub quoted-list : kind ≡ 4 → (count : ℕ) → Counts work node count → (d e g : List ℕ) (at n r : ℕ) → at + length (quotedAt work node) ≤ length d
+      → Written (5 ∷ count ∷ []) d e at n → Written (elementsAt work node) e g n r → Written (quotedAt work node) d g at r
   quoted-list h count c d e g at n r room p q =
       let same = quoted-pair h count c in
-      written-as _ (quotedAt items work node) d g at r same
-      (written-then at d (5 ∷ count ∷ []) (elementsAt items work node) e g n r (omega (arith, ap length same, p .end, q .end)) p q)
+      written-as _ (quotedAt work node) d g at r same
+      (written-then at d (5 ∷ count ∷ []) (elementsAt work node) e g n r (omega (arith, ap length same, p .end, q .end)) p q)
 
   -- ---- a list's elements
 
-  pub elements-none : (kind ≡ 4 → ⊥) → elementsAt items work node ≡ []
+  pub elements-none : (kind ≡ 4 → ⊥) → elementsAt work node ≡ []
   unfolding elementsAt strip datumWords
-  elements-none other = no-pair work node kind kind-is (λ t. dataWords (stripTail t) ≡ []) refl (λ x. refl) (λ a. refl) other items 0
+  elements-none other = no-pair work node kind kind-is (λ t. dataWords (stripTail t) ≡ []) refl (λ x. refl) (λ a. refl) other 0
 
   module _ (a-list : kind ≡ 4) (first rest : ℕ) (first-is : first ≡ referenceAt work node 2) (rest-is : rest ≡ referenceAt work node 1) where
-    pub elements-more : elementsAt items work node ≡ quotedAt items work first ++ elementsAt items work rest
+    pub elements-more : elementsAt work node ≡ quotedAt work first ++ elementsAt work rest
     unfolding elementsAt quotedAt strip datumWords
-    elements-more = rw (a-pair work node kind kind-is a-list items 0, first-is, rest-is)
+    elements-more = rw (a-pair work node kind kind-is a-list 0, first-is, rest-is)
 
-    parts-of : Quotable (treeAt items work node 0) → (Quotable (treeAt items work first 0)) × (Quotable (treeAt items work rest 0))
+    parts-of : Quotable (treeAt work node 0) → (Quotable (treeAt work first 0)) × (Quotable (treeAt work rest 0))
     parts-of q =
-        let g = pair-parts (subst Quotable (a-pair work node kind kind-is a-list items 0) q) in
+        let g = pair-parts (subst Quotable (a-pair work node kind kind-is a-list 0) q) in
         (rw first-is (g .0), rw rest-is (g .1))
 
-    pub first-good : Quotable (treeAt items work node 0) → Quotable (treeAt items work first 0)
+    pub first-good : Quotable (treeAt work node 0) → Quotable (treeAt work first 0)
     first-good q = parts-of q .0
 
-    pub rest-good : Quotable (treeAt items work node 0) → Quotable (treeAt items work rest 0)
+    pub rest-good : Quotable (treeAt work node 0) → Quotable (treeAt work rest 0)
     rest-good q = parts-of q .1
 
 -- ---- the loop over elements
 
-pub walked-none : (items work : List ℕ) (list at : ℕ) (d : List ℕ) → Quotable (treeAt items work list 0) → Walked items work list at d list at d
-walked-none items work list at d q = record { sofar = []; whole = refl; written = written-none d at; low = omega arith; good = q; same = refl }
+pub walked-none : (work : List ℕ) (list at : ℕ) (d : List ℕ) → Quotable (treeAt work list 0) → Walked work list at d list at d
+walked-none work list at d q = record { sofar = []; whole = refl; written = written-none d at; low = omega arith; good = q; same = refl }
 
-module _ (items work : List ℕ) (list at : ℕ) (d : List ℕ) (rest n : ℕ) (e : List ℕ) (walked : Walked items work list at d rest n e)
+module _ (work : List ℕ) (list at : ℕ) (d : List ℕ) (rest n : ℕ) (e : List ℕ) (walked : Walked work list at d rest n e)
     (kind : ℕ) (kind-is : kind ≡ wordAt work rest 3) where
-  pub walked-end : (kind ≡ 4 → ⊥) → Written (elementsAt items work list) d e at n
+  pub walked-end : (kind ≡ 4 → ⊥) → Written (elementsAt work list) d e at n
   walked-end other =
-      subst (λ (ws : List ℕ). Written ws d e at n) (sym (walked .whole ∙ ap (λ (l : List ℕ). walked .sofar ++ l) (elements-none items work rest kind kind-is other) ∙ append-nil (walked .sofar)))
+      subst (λ (ws : List ℕ). Written ws d e at n) (sym (walked .whole ∙ ap (λ (l : List ℕ). walked .sofar ++ l) (elements-none work rest kind kind-is other) ∙ append-nil (walked .sofar)))
       (walked .written)
 
   module _ (a-list : kind ≡ 4) (first : ℕ) (first-is : first ≡ referenceAt work rest 2) where
@@ -200,25 +200,25 @@ module _ (items work : List ℕ) (list at : ℕ) (d : List ℕ) (rest n : ℕ) (
     pub first-low : first < list
     first-low = omega (arith, walked .low, first-is, referenceAt-falls work rest 2 some-word)
 
-    pub first-quotable : Quotable (treeAt items work first 0)
-    first-quotable = first-good items work rest kind kind-is a-list first after first-is refl (walked .good)
+    pub first-quotable : Quotable (treeAt work first 0)
+    first-quotable = first-good work rest kind kind-is a-list first after first-is refl (walked .good)
 
-    whole-length : length (elementsAt items work list) ≡ length (walked .sofar) + (length (quotedAt items work first) + length (elementsAt items work after))
+    whole-length : length (elementsAt work list) ≡ length (walked .sofar) + (length (quotedAt work first) + length (elementsAt work after))
     whole-length =
-        ap length (walked .whole ∙ ap (λ (l : List ℕ). walked .sofar ++ l) (elements-more items work rest kind kind-is a-list first after first-is refl))
-        ∙ length-append (walked .sofar) _ ∙ ap (λ (k : ℕ). length (walked .sofar) + k) (length-append (quotedAt items work first) (elementsAt items work after))
+        ap length (walked .whole ∙ ap (λ (l : List ℕ). walked .sofar ++ l) (elements-more work rest kind kind-is a-list first after first-is refl))
+        ∙ length-append (walked .sofar) _ ∙ ap (λ (k : ℕ). length (walked .sofar) + k) (length-append (quotedAt work first) (elementsAt work after))
 
-    pub walked-room : at + length (elementsAt items work list) ≤ length d → n + length (quotedAt items work first) ≤ length e
+    pub walked-room : at + length (elementsAt work list) ≤ length d → n + length (quotedAt work first) ≤ length e
     walked-room h = omega (arith, whole-length, walked .written .end, walked .same)
 
-    pub walked-more : at + length (elementsAt items work list) ≤ length d → (next : ℕ) → next ≡ after → (g : List ℕ) (r : ℕ) → length g ≡ length e → Written (quotedAt items work first) e g n r → Walked items work list at d next r g
+    pub walked-more : at + length (elementsAt work list) ≤ length d → (next : ℕ) → next ≡ after → (g : List ℕ) (r : ℕ) → length g ≡ length e → Written (quotedAt work first) e g n r → Walked work list at d next r g
     walked-more h next e′ g r l v =
         record {
-          sofar = walked .sofar ++ quotedAt items work first;
-          whole = walked .whole ∙ ap (λ (ws : List ℕ). walked .sofar ++ ws) (elements-more items work rest kind kind-is a-list first next first-is e′) ∙ sym (append-assoc (walked .sofar) (quotedAt items work first) (elementsAt items work next));
-          written = written-then at d (walked .sofar) (quotedAt items work first) e g n r (omega (arith, whole-length, walked .written .end, v .end)) (walked .written) v;
+          sofar = walked .sofar ++ quotedAt work first;
+          whole = walked .whole ∙ ap (λ (ws : List ℕ). walked .sofar ++ ws) (elements-more work rest kind kind-is a-list first next first-is e′) ∙ sym (append-assoc (walked .sofar) (quotedAt work first) (elementsAt work next));
+          written = written-then at d (walked .sofar) (quotedAt work first) e g n r (omega (arith, whole-length, walked .written .end, v .end)) (walked .written) v;
           low = omega (arith, walked .low, e′, referenceAt-falls work rest 1 some-word);
-          good = rest-good items work rest kind kind-is a-list first next first-is e′ (walked .good);
+          good = rest-good work rest kind kind-is a-list first next first-is e′ (walked .good);
           same = l ∙ walked .same;
         }
 

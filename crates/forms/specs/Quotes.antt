@@ -11,12 +11,12 @@ use Rattle.core_term.specs.Words.{datumWords, dataWords}
 use Rattle.arena.specs.Arena.{treeAt}
 
 -- a node's words do not depend on what waits on it (QuoteLaws)
-unfoldable pub quotedAt : (items work : List ℕ) → ℕ → List ℕ
-quotedAt items work node = datumWords (strip (treeAt items work node 0))
+unfoldable pub quotedAt : (work : List ℕ) → ℕ → List ℕ
+quotedAt work node = datumWords (strip (treeAt work node 0))
 
 -- those of its elements
-unfoldable pub elementsAt : (items work : List ℕ) → ℕ → List ℕ
-elementsAt items work list = dataWords (stripTail (treeAt items work list 0))
+unfoldable pub elementsAt : (work : List ℕ) → ℕ → List ℕ
+elementsAt work list = dataWords (stripTail (treeAt work list 0))
 
 -- every constant in it is one
 abbrev pub Quotable : Tree → Type 0
@@ -28,10 +28,10 @@ pub record Written (ws old new : List ℕ) (at r : ℕ) : Type 0 where
   pub words : new ≡ take at old ++ ws ++ drop r old
 
 -- the elements of `list` have been written from `at` on, up to `rest`
-pub record Walked (items work : List ℕ) (list at : ℕ) (old : List ℕ) (rest n : ℕ) (new : List ℕ) : Type 0 where
+pub record Walked (work : List ℕ) (list at : ℕ) (old : List ℕ) (rest n : ℕ) (new : List ℕ) : Type 0 where
   pub sofar : List ℕ
-  pub whole : elementsAt items work list ≡ sofar ++ elementsAt items work rest
+  pub whole : elementsAt work list ≡ sofar ++ elementsAt work rest
   pub written : Written sofar old new at n
   pub low : rest ≤ list
-  pub good : Quotable (treeAt items work rest 0)
+  pub good : Quotable (treeAt work rest 0)
   pub same : length new ≡ length old

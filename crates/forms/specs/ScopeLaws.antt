@@ -36,9 +36,9 @@ scoped-none f k xs parent old top e h = record { end-is = rw e (omega arith); wr
 
 -- ---- one name more
 
-module _ (items old : List ℕ) (list w : ℕ) (macros : Bool) (number parent top own rest : ℕ)
-    (space : Space (namesIn macros (treeAt items old list w)) old list w number parent top) (open′ : Opened items old list w macros own rest) where
-  count-is : length (namesIn macros (treeAt items old list w)) ≡ suc (length (namesIn macros (treeAt items old rest w)))
+module _ (old : List ℕ) (list w : ℕ) (macros : Bool) (number parent top own rest : ℕ)
+    (space : Space (namesIn macros (treeAt old list w)) old list w number parent top) (open′ : Opened old list w macros own rest) where
+  count-is : length (namesIn macros (treeAt old list w)) ≡ suc (length (namesIn macros (treeAt old rest w)))
   count-is = ap length (open′ .names-are)
 
   pub own-below : own ≤ top
@@ -50,20 +50,20 @@ module _ (items old : List ℕ) (list w : ℕ) (macros : Bool) (number parent to
   pub number-small : number < 2 ^ 30
   number-small = omega (arith, space .numbers, count-is)
 
-  module _ (key next : ℕ) (mid : List ℕ) (key-is : key ≡ bindingKey (some (bindsTo macros number))) (bound : Binds items own w key parent old mid top next) where
-    rest-kept : treeAt items mid rest w ≡ treeAt items old rest w
-    rest-kept = tree-kept items old mid top rest w (omega (arith, space .node-below, open′ .rest-low)) (space .w-below) (bound .kept)
+  module _ (key next : ℕ) (mid : List ℕ) (key-is : key ≡ bindingKey (some (bindsTo macros number))) (bound : Binds own w key parent old mid top next) where
+    rest-kept : treeAt mid rest w ≡ treeAt old rest w
+    rest-kept = tree-kept old mid top rest w (omega (arith, space .node-below, open′ .rest-low)) (space .w-below) (bound .kept)
 
-    more-is : namesIn macros (treeAt items old list w) ≡ nameAt items old own w ∷ namesIn macros (treeAt items mid rest w)
+    more-is : namesIn macros (treeAt old list w) ≡ nameAt old own w ∷ namesIn macros (treeAt mid rest w)
     more-is = rw rest-kept (open′ .names-are)
 
-    more-count : length (namesIn macros (treeAt items old list w)) ≡ suc (length (namesIn macros (treeAt items mid rest w)))
+    more-count : length (namesIn macros (treeAt old list w)) ≡ suc (length (namesIn macros (treeAt mid rest w)))
     more-count = ap length more-is
 
-    ordinary-next : AllNames macros (treeAt items mid rest w)
+    ordinary-next : AllNames macros (treeAt mid rest w)
     ordinary-next = rw rest-kept (open′ .ordinary)
 
-    space-next : length mid ≡ length old → Space (namesIn macros (treeAt items mid rest w)) mid rest w (number + 1) next next
+    space-next : length mid ≡ length old → Space (namesIn macros (treeAt mid rest w)) mid rest w (number + 1) next next
     space-next l =
         record {
           fits = omega (arith, space .fits, more-count, bound .end);
@@ -74,8 +74,8 @@ module _ (items old : List ℕ) (list w : ℕ) (macros : Bool) (number parent to
           parent-below = omega arith;
         }
 
-    scoped-more : (new : List ℕ) (wrap end : ℕ) → Scoped (bindsTo macros) (number + 1) (namesIn macros (treeAt items mid rest w)) next mid new next wrap end
-        → Scoped (bindsTo macros) number (namesIn macros (treeAt items old list w)) parent old new top wrap end
+    scoped-more : (new : List ℕ) (wrap end : ℕ) → Scoped (bindsTo macros) (number + 1) (namesIn macros (treeAt mid rest w)) next mid new next wrap end
+        → Scoped (bindsTo macros) number (namesIn macros (treeAt old list w)) parent old new top wrap end
     unfolding bindNames
     scoped-more new wrap end s =
         record {
@@ -84,30 +84,30 @@ module _ (items old : List ℕ) (list w : ℕ) (macros : Bool) (number parent to
           kept = take-less new mid top next (omega (arith, bound .end)) (s .kept) ∙ bound .kept;
           means = λ x.
               s .means x
-              ∙ ap (λ (k : ℕ). bindNames (bindsTo macros) k (namesIn macros (treeAt items mid rest w)) (wrapAt mid next x)) (add-one number)
-              ∙ ap (bindNames (bindsTo macros) (suc number) (namesIn macros (treeAt items mid rest w))) (bound .means (bindsTo macros number) key-is x)
+              ∙ ap (λ (k : ℕ). bindNames (bindsTo macros) k (namesIn macros (treeAt mid rest w)) (wrapAt mid next x)) (add-one number)
+              ∙ ap (bindNames (bindsTo macros) (suc number) (namesIn macros (treeAt mid rest w))) (bound .means (bindsTo macros number) key-is x)
               ∙ ap (λ (l : List Name). bindNames (bindsTo macros) number l (wrapAt old parent x)) (sym more-is);
         }
 
 -- ---- name after name
 
-module _ (items old : List ℕ) (list w : ℕ) (macros : Bool) (number parent top : ℕ) where
-  pub scoping-begins : AllNames macros (treeAt items old list w) → Space (namesIn macros (treeAt items old list w)) old list w number parent top
-      → Scoping items old list w macros number parent top old list number parent top
+module _ (old : List ℕ) (list w : ℕ) (macros : Bool) (number parent top : ℕ) where
+  pub scoping-begins : AllNames macros (treeAt old list w) → Space (namesIn macros (treeAt old list w)) old list w number parent top
+      → Scoping old list w macros number parent top old list number parent top
   scoping-begins h s = record { ordinary = h; space = s; whole = λ new x y r. r }
 
-  module _ (work : List ℕ) (node n wrap end : ℕ) (inv : Scoping items old list w macros number parent top work node n wrap end) where
-    pub scoping-ends : namesIn macros (treeAt items work node w) ≡ [] → Scoped (bindsTo macros) number (namesIn macros (treeAt items old list w)) parent old work top wrap end
+  module _ (work : List ℕ) (node n wrap end : ℕ) (inv : Scoping old list w macros number parent top work node n wrap end) where
+    pub scoping-ends : namesIn macros (treeAt work node w) ≡ [] → Scoped (bindsTo macros) number (namesIn macros (treeAt old list w)) parent old work top wrap end
     scoping-ends e = inv .whole work wrap end (scoped-none (bindsTo macros) n _ wrap work end e (inv .space .parent-below))
 
-    pub scoping-more : (own rest : ℕ) → Opened items work node w macros own rest → (key next : ℕ) (mid : List ℕ) → key ≡ bindingKey (some (bindsTo macros n)) → Binds items own w key wrap work mid end next → length mid ≡ length work
-        → Scoping items old list w macros number parent top mid rest (n + 1) next next
+    pub scoping-more : (own rest : ℕ) → Opened work node w macros own rest → (key next : ℕ) (mid : List ℕ) → key ≡ bindingKey (some (bindsTo macros n)) → Binds own w key wrap work mid end next → length mid ≡ length work
+        → Scoping old list w macros number parent top mid rest (n + 1) next next
     scoping-more own rest o key next mid k b l =
         let s = inv .space in
         record {
-          ordinary = ordinary-next items work node w macros n wrap end own rest s o key next mid k b;
-          space = space-next items work node w macros n wrap end own rest s o key next mid k b l;
-          whole = λ new x y r. inv .whole new x y (scoped-more items work node w macros n wrap end own rest s o key next mid k b new x y r);
+          ordinary = ordinary-next work node w macros n wrap end own rest s o key next mid k b;
+          space = space-next work node w macros n wrap end own rest s o key next mid k b l;
+          whole = λ new x y r. inv .whole new x y (scoped-more work node w macros n wrap end own rest s o key next mid k b new x y r);
         }
 
 -- ---- trees
@@ -125,9 +125,9 @@ bindNames-tree f k (y ∷ ys) t = sym (onNames-∘ (bindNames f (suc k) ys) (bin
 
 -- every tree below, under the new wrap
 pub scoped-tree : (f : ℕ → Binding) (k : ℕ) (xs : List Name) (parent : ℕ) (old new : List ℕ) (top wrap end : ℕ) → Scoped f k xs parent old new top wrap end
-    → (items : List ℕ) (node : ℕ) → node ≤ top → treeAt items new node wrap ≡ bindAll f k xs (treeAt items old node parent)
-scoped-tree f k xs parent old new top wrap end s items node h =
-    tree-after items old new top wrap node h (s .kept) (bindNames f k xs) parent (s .means) ∙ bindNames-tree f k xs (treeAt items old node parent)
+    → (node : ℕ) → node ≤ top → treeAt new node wrap ≡ bindAll f k xs (treeAt old node parent)
+scoped-tree f k xs parent old new top wrap end s node h =
+    tree-after old new top wrap node h (s .kept) (bindNames f k xs) parent (s .means) ∙ bindNames-tree f k xs (treeAt old node parent)
 
 -- ---- a form's names
 

@@ -17,15 +17,15 @@ use arena::lists;
 use resolution::names;
 
 // Whether a name is the same as one that the list binds.
-pub fn is_among(items: &[u32], work: &[u32], node: u32, list: u32, w: u32, macros: bool) -> bool
-    requires { ⌜ AllNames macros (treeAt (now items) (now work) list w) ⌝ }
-    ensures { λ r. ⌜ r ≡ anyOf (same (nameAt (now (items .entry)) (now (work .entry)) node w)) (namesIn macros (treeAt (now (items .entry)) (now (work .entry)) list w)) ⌝ }
+pub fn is_among(work: &[u32], node: u32, list: u32, w: u32, macros: bool) -> bool
+    requires { ⌜ AllNames macros (treeAt (now work) list w) ⌝ }
+    ensures { λ r. ⌜ r ≡ anyOf (same (nameAt (now (work .entry)) node w)) (namesIn macros (treeAt (now (work .entry)) list w)) ⌝ }
 {
     let mut at = list;
     while cells::word(work, at, 3) == cells::PAIR {
         let first = cells::reference(work, at, 2);
         let own = shapes::own_name(work, first, macros);
-        if names::same_names(items, work, node, w, own, w) {
+        if names::same_names(work, node, w, own, w) {
             return true;
         }
         at = cells::reference(work, at, 1);
@@ -34,16 +34,16 @@ pub fn is_among(items: &[u32], work: &[u32], node: u32, list: u32, w: u32, macro
 }
 
 // Whether no two of the names that a list binds are the same.
-pub fn are_distinct(items: &[u32], work: &[u32], list: u32, w: u32, macros: bool) -> bool
-    requires { ⌜ AllNames macros (treeAt (now items) (now work) list w) ⌝ }
-    ensures { λ r. ⌜ r ≡ distinct (namesIn macros (treeAt (now (items .entry)) (now (work .entry)) list w)) ⌝ }
+pub fn are_distinct(work: &[u32], list: u32, w: u32, macros: bool) -> bool
+    requires { ⌜ AllNames macros (treeAt (now work) list w) ⌝ }
+    ensures { λ r. ⌜ r ≡ distinct (namesIn macros (treeAt (now (work .entry)) list w)) ⌝ }
 {
     let mut at = list;
     while cells::word(work, at, 3) == cells::PAIR {
         let first = cells::reference(work, at, 2);
         let own = shapes::own_name(work, first, macros);
         at = cells::reference(work, at, 1);
-        if is_among(items, work, own, at, w, macros) {
+        if is_among(work, own, at, w, macros) {
             return false;
         }
     }
@@ -51,21 +51,21 @@ pub fn are_distinct(items: &[u32], work: &[u32], list: u32, w: u32, macros: bool
 }
 
 // No two names of a lambda are the same.
-pub fn formals_distinct(items: &[u32], work: &[u32], node: u32, w: u32) -> bool
-    requires { ⌜ (isLambda (treeAt (now items) (now work) node w) ≡ true) × (Proper (treeAt (now items) (now work) node w)) ⌝ }
-    ensures { λ r. ⌜ r ≡ distinct (formals (treeAt (now (items .entry)) (now (work .entry)) node w)) ⌝ }
+pub fn formals_distinct(work: &[u32], node: u32, w: u32) -> bool
+    requires { ⌜ (isLambda (treeAt (now work) node w) ≡ true) × (Proper (treeAt (now work) node w)) ⌝ }
+    ensures { λ r. ⌜ r ≡ distinct (formals (treeAt (now (work .entry)) node w)) ⌝ }
 {
     let list = lists::element(work, node, 1);
-    are_distinct(items, work, list, w, false)
+    are_distinct(work, list, w, false)
 }
 
 // No two names of macros are the same.
-pub fn keywords_distinct(items: &[u32], work: &[u32], node: u32, w: u32) -> bool
-    requires { ⌜ AllNames true (element 1 (treeAt (now items) (now work) node w)) ⌝ }
-    ensures { λ r. ⌜ r ≡ distinct (keywords (treeAt (now (items .entry)) (now (work .entry)) node w)) ⌝ }
+pub fn keywords_distinct(work: &[u32], node: u32, w: u32) -> bool
+    requires { ⌜ AllNames true (element 1 (treeAt (now work) node w)) ⌝ }
+    ensures { λ r. ⌜ r ≡ distinct (keywords (treeAt (now (work .entry)) node w)) ⌝ }
 {
     let list = lists::element(work, node, 1);
-    are_distinct(items, work, list, w, true)
+    are_distinct(work, list, w, true)
 }
 
 // The key of variable or macro n.
@@ -88,7 +88,6 @@ pub struct Scope {
 // A binder for each name that the list binds, numbered from `number`, after what `parent` means. Each own name is resolved
 // under w, the wrap that waits on the form.
 pub fn bind_names(
-    items: &[u32],
     work: &mut [u32],
     list: u32,
     w: u32,
@@ -97,8 +96,8 @@ pub fn bind_names(
     parent: u32,
     top: u32,
 ) -> Scope
-    requires { ⌜ (AllNames macros (treeAt (now items) (now work) list w)) × (Space (namesIn macros (treeAt (now items) (now work) list w)) (now work) list w number parent top) ⌝ }
-    ensures { λ r. ⌜ Scoped (bindsTo macros) number (namesIn macros (treeAt (now (items .entry)) (now (work .entry)) list w)) parent (now (work .entry)) (now (work .exit)) top (r .wrap) (r .top) ⌝ }
+    requires { ⌜ (AllNames macros (treeAt (now work) list w)) × (Space (namesIn macros (treeAt (now work) list w)) (now work) list w number parent top) ⌝ }
+    ensures { λ r. ⌜ Scoped (bindsTo macros) number (namesIn macros (treeAt (now (work .entry)) list w)) parent (now (work .entry)) (now (work .exit)) top (r .wrap) (r .top) ⌝ }
 {
     let mut at = list;
     let mut n = number;
@@ -109,7 +108,7 @@ pub fn bind_names(
         let own = shapes::own_name(work, first, macros);
         at = cells::reference(work, at, 1);
         let key = key_of(macros, n);
-        wrap = names::bind(items, work, end, own, w, key, wrap);
+        wrap = names::bind(work, end, own, w, key, wrap);
         end = wrap;
         n += 1;
     }
@@ -120,33 +119,19 @@ pub fn bind_names(
 }
 
 // Binders for a lambda's names, variables from `first`.
-pub fn bind_formals(
-    items: &[u32],
-    work: &mut [u32],
-    node: u32,
-    w: u32,
-    first: u32,
-    top: u32,
-) -> Scope
-    requires { ⌜ (isLambda (treeAt (now items) (now work) node w) ≡ true) × (Proper (treeAt (now items) (now work) node w)) × (Space (formals (treeAt (now items) (now work) node w)) (now work) node w first w top) ⌝ }
-    ensures { λ r. ⌜ Scoped variable first (formals (treeAt (now (items .entry)) (now (work .entry)) node w)) w (now (work .entry)) (now (work .exit)) top (r .wrap) (r .top) ⌝ }
+pub fn bind_formals(work: &mut [u32], node: u32, w: u32, first: u32, top: u32) -> Scope
+    requires { ⌜ (isLambda (treeAt (now work) node w) ≡ true) × (Proper (treeAt (now work) node w)) × (Space (formals (treeAt (now work) node w)) (now work) node w first w top) ⌝ }
+    ensures { λ r. ⌜ Scoped variable first (formals (treeAt (now (work .entry)) node w)) w (now (work .entry)) (now (work .exit)) top (r .wrap) (r .top) ⌝ }
 {
     let list = lists::element(work, node, 1);
-    bind_names(items, work, list, w, false, first, w, top)
+    bind_names(work, list, w, false, first, w, top)
 }
 
 // Binders for the names of macros, numbered from `first`.
-pub fn bind_macros(
-    items: &[u32],
-    work: &mut [u32],
-    node: u32,
-    w: u32,
-    first: u32,
-    top: u32,
-) -> Scope
-    requires { ⌜ (AllNames true (element 1 (treeAt (now items) (now work) node w))) × (Space (keywords (treeAt (now items) (now work) node w)) (now work) node w first w top) ⌝ }
-    ensures { λ r. ⌜ Scoped macro first (keywords (treeAt (now (items .entry)) (now (work .entry)) node w)) w (now (work .entry)) (now (work .exit)) top (r .wrap) (r .top) ⌝ }
+pub fn bind_macros(work: &mut [u32], node: u32, w: u32, first: u32, top: u32) -> Scope
+    requires { ⌜ (AllNames true (element 1 (treeAt (now work) node w))) × (Space (keywords (treeAt (now work) node w)) (now work) node w first w top) ⌝ }
+    ensures { λ r. ⌜ Scoped macro first (keywords (treeAt (now (work .entry)) node w)) w (now (work .entry)) (now (work .exit)) top (r .wrap) (r .top) ⌝ }
 {
     let list = lists::element(work, node, 1);
-    bind_names(items, work, list, w, true, first, w, top)
+    bind_names(work, list, w, true, first, w, top)
 }

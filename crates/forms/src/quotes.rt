@@ -25,18 +25,18 @@ fn put_two(core: &mut [u32], at: usize, a: u32, b: u32) -> usize
 }
 
 // The words of a node, from `at`; answers where the next stand.
-pub fn quote(items: &[u32], work: &[u32], node: u32, core: &mut [u32], at: usize) -> usize
-    requires { ⌜ (at + length (quotedAt (now items) (now work) node) ≤ length (now core)) × (Quotable (treeAt (now items) (now work) node 0)) ⌝ }
-    ensures { λ r. ⌜ Written (quotedAt (now (items .entry)) (now (work .entry)) node) (now (core .entry)) (now (core .exit)) at r ⌝ }
+pub fn quote(work: &[u32], node: u32, core: &mut [u32], at: usize) -> usize
+    requires { ⌜ (at + length (quotedAt (now work) node) ≤ length (now core)) × (Quotable (treeAt (now work) node 0)) ⌝ }
+    ensures { λ r. ⌜ Written (quotedAt (now (work .entry)) node) (now (core .entry)) (now (core .exit)) at r ⌝ }
 {
     let kind = cells::word(work, node, 3);
     if kind == cells::PAIR {
         let count = lists::count(work, node);
         let n = put_two(core, at, QUOTED_LIST, count);
-        return quote_all(items, work, node, core, n);
+        return quote_all(work, node, core, n);
     }
     if kind == cells::NAME {
-        let number = names::number_of(items, work, node);
+        let number = names::number_of(work, node);
         return put_two(core, at, QUOTED_NAME, number);
     }
     if kind == cells::EMPTY {
@@ -47,15 +47,15 @@ pub fn quote(items: &[u32], work: &[u32], node: u32, core: &mut [u32], at: usize
 }
 
 // The words of a list's elements.
-fn quote_all(items: &[u32], work: &[u32], list: u32, core: &mut [u32], at: usize) -> usize
-    requires { ⌜ (at + length (elementsAt (now items) (now work) list) ≤ length (now core)) × (Quotable (treeAt (now items) (now work) list 0)) ⌝ }
-    ensures { λ r. ⌜ Written (elementsAt (now (items .entry)) (now (work .entry)) list) (now (core .entry)) (now (core .exit)) at r ⌝ }
+fn quote_all(work: &[u32], list: u32, core: &mut [u32], at: usize) -> usize
+    requires { ⌜ (at + length (elementsAt (now work) list) ≤ length (now core)) × (Quotable (treeAt (now work) list 0)) ⌝ }
+    ensures { λ r. ⌜ Written (elementsAt (now (work .entry)) list) (now (core .entry)) (now (core .exit)) at r ⌝ }
 {
     let mut rest = list;
     let mut n = at;
     while cells::word(work, rest, 3) == cells::PAIR {
         let first = cells::reference(work, rest, 2);
-        n = quote(items, work, first, core, n);
+        n = quote(work, first, core, n);
         rest = cells::reference(work, rest, 1);
     }
     n

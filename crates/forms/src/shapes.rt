@@ -2,7 +2,7 @@
 // letrec-syntax's has (name rules).
 
 ghost use Rattle.expansion.specs.Forms.{isLambda, isMacro, isMacros};
-ghost use Rattle.arena.specs.Lists.{Means, TestsIn};
+ghost use Rattle.arena.specs.Lists.{Means, Tests};
 ghost use Rattle.forms.specs.Shapes.{ownName, bindsOne, bindsAll};
 use arena::cells;
 use arena::lists;
@@ -22,29 +22,29 @@ pub fn own_name(work: &[u32], node: u32, macros: bool) -> u32
 }
 
 // (name rules)
-pub fn is_macro(items: &[u32], work: &[u32], node: u32) -> bool
-    ensures { λ r. ⌜ TestsIn isMacro (now (items .entry)) (now (work .entry)) node r ⌝ }
+pub fn is_macro(work: &[u32], node: u32) -> bool
+    ensures { λ r. ⌜ Tests isMacro (now (work .entry)) node r ⌝ }
 {
     if !lists::is_list_of(work, node, 2) {
         return false;
     }
     let own = lists::element(work, node, 0);
-    names::is_ordinary(items, work, own)
+    names::is_ordinary(work, own)
 }
 
 // Whether an element of the list binds as it should.
-pub fn binds_one(items: &[u32], work: &[u32], node: u32, macros: bool) -> bool
-    ensures { λ r. ⌜ TestsIn (bindsOne macros) (now (items .entry)) (now (work .entry)) node r ⌝ }
+pub fn binds_one(work: &[u32], node: u32, macros: bool) -> bool
+    ensures { λ r. ⌜ Tests (bindsOne macros) (now (work .entry)) node r ⌝ }
 {
     if macros {
-        return is_macro(items, work, node);
+        return is_macro(work, node);
     }
-    names::is_ordinary(items, work, node)
+    names::is_ordinary(work, node)
 }
 
 // Whether all elements of a list do, and are at most so many.
-pub fn binds_all(items: &[u32], work: &[u32], list: u32, macros: bool, most: u32) -> bool
-    ensures { λ r. ⌜ TestsIn (bindsAll macros most) (now (items .entry)) (now (work .entry)) list r ⌝ }
+pub fn binds_all(work: &[u32], list: u32, macros: bool, most: u32) -> bool
+    ensures { λ r. ⌜ Tests (bindsAll macros most) (now (work .entry)) list r ⌝ }
 {
     let mut node = list;
     let mut left = most;
@@ -53,7 +53,7 @@ pub fn binds_all(items: &[u32], work: &[u32], list: u32, macros: bool, most: u32
             return false;
         }
         let first = cells::reference(work, node, 2);
-        if !binds_one(items, work, first, macros) {
+        if !binds_one(work, first, macros) {
             return false;
         }
         node = cells::reference(work, node, 1);
@@ -63,8 +63,8 @@ pub fn binds_all(items: &[u32], work: &[u32], list: u32, macros: bool, most: u32
 }
 
 // (lambda (name ...) body)
-pub fn is_lambda(items: &[u32], work: &[u32], node: u32) -> bool
-    ensures { λ r. ⌜ TestsIn isLambda (now (items .entry)) (now (work .entry)) node r ⌝ }
+pub fn is_lambda(work: &[u32], node: u32) -> bool
+    ensures { λ r. ⌜ Tests isLambda (now (work .entry)) node r ⌝ }
 {
     if !lists::is_list_of(work, node, 3) {
         return false;
@@ -73,12 +73,12 @@ pub fn is_lambda(items: &[u32], work: &[u32], node: u32) -> bool
     if !lists::is_list(work, list) {
         return false;
     }
-    binds_all(items, work, list, false, FORMALS_MOST)
+    binds_all(work, list, false, FORMALS_MOST)
 }
 
 // (let-syntax ((name rules) ...) body), at most `limit` macros
-pub fn is_macros(items: &[u32], work: &[u32], node: u32, limit: u32) -> bool
-    ensures { λ r. ⌜ TestsIn (isMacros limit) (now (items .entry)) (now (work .entry)) node r ⌝ }
+pub fn is_macros(work: &[u32], node: u32, limit: u32) -> bool
+    ensures { λ r. ⌜ Tests (isMacros limit) (now (work .entry)) node r ⌝ }
 {
     if !lists::is_list_of(work, node, 3) {
         return false;
@@ -87,5 +87,5 @@ pub fn is_macros(items: &[u32], work: &[u32], node: u32, limit: u32) -> bool
     if cells::word(work, list, 3) != cells::PAIR {
         return false;
     }
-    binds_all(items, work, list, true, limit)
+    binds_all(work, list, true, limit)
 }

@@ -9,7 +9,7 @@ use lib.Dec.{eqb}
 use lib.ListN.{length}
 use borrow.Author.Tests.{ne-eqb, eqb-true}
 use Rattle.recipe.specs.Name.{Name, bindingKey, markName, toggle}
-use Rattle.arena.specs.Arena.{wordAt, referenceAt, stepLimit, newest, giveKey, marked, isOwn, rebound, wrapAt, nodeName, nameAt, numberOf}
+use Rattle.arena.specs.Arena.{wordAt, referenceAt, stepLimit, newest, giveKey, marked, isOwn, rebound, wrapAt, originName, nodeName, nameAt, numberOf}
 use Rattle.words.specs.ListLaws.{either}
 use Rattle.arena.specs.ArenaLaws.{wordAt-some, wrapAt-none, wrapAt-mark, wrapAt-binder, wrapAt-number, marked-is, marked-binding, bindingKey-of}
 use Rattle.resolution.specs.BinderLaws.{own-number, own-binding, own-count, own-newest, few-same, own-all}
@@ -126,17 +126,17 @@ module _ (work : List ℕ) (number own w : ℕ) where
   only-pending r l n z m k x e = ap (wrapAt work w) (n (omega arith) x e ∙ ap (λ (v : ℕ). markOnce v x) z) ∙ m k x e
 
 -- a node's name is bare before any wrap
-node-bare : (items work : List ℕ) (node number : ℕ) → number ≡ numberOf items work node → Bare number (nodeName items work node)
-unfolding nodeName numberOf
-node-bare items work node number n = record { number-is = sym n; no-marks = refl; no-binding = refl }
+node-bare : (work : List ℕ) (node number : ℕ) → number ≡ numberOf work node → Bare number (nodeName work node)
+unfolding nodeName originName numberOf
+node-bare work node number n = record { number-is = sym n; no-marks = refl; no-binding = refl }
 
 -- so that one mark or none is all of its summary
-pub marked-summed : (items work : List ℕ) (node w number own m k : ℕ) → number ≡ numberOf items work node → own ≡ referenceAt work node 1 → OnlyMark work number own w m → m < stepLimit → k ≡ countOf m → Summed (nameAt items work node w) 0 k m
+pub marked-summed : (work : List ℕ) (node w number own m k : ℕ) → number ≡ numberOf work node → own ≡ referenceAt work node 1 → OnlyMark work number own w m → m < stepLimit → k ≡ countOf m → Summed (nameAt work node w) 0 k m
 unfolding nameAt bindingKey
-marked-summed items work node w number own m k n o f l e =
-    let x = nodeName items work node in
-    let bare = node-bare items work node number n in
-    let means : nameAt items work node w ≡ markOnce m x = ap (λ (v : ℕ). wrapAt work w (wrapAt work v x)) (sym o) ∙ f l x (bare .number-is) in
+marked-summed work node w number own m k n o f l e =
+    let x = nodeName work node in
+    let bare = node-bare work node number n in
+    let means : nameAt work node w ≡ markOnce m x = ap (λ (v : ℕ). wrapAt work w (wrapAt work v x)) (sym o) ∙ f l x (bare .number-is) in
     rw means
     (record {
       binding-is = sym (ap bindingKey (once-binding number m x bare));
@@ -183,10 +183,10 @@ module _ (work : List ℕ) (number w mark : ℕ) where
 
 -- ---- what is found
 
-pub finds-name : (items work : List ℕ) (node w number own r : ℕ) → number ≡ numberOf items work node → own ≡ referenceAt work node 1 → Finds work number own w r → (r ≡ unknown → ⊥) → r ≡ bindingKey (nameAt items work node w .binding)
+pub finds-name : (work : List ℕ) (node w number own r : ℕ) → number ≡ numberOf work node → own ≡ referenceAt work node 1 → Finds work number own w r → (r ≡ unknown → ⊥) → r ≡ bindingKey (nameAt work node w .binding)
 unfolding nameAt
-finds-name items work node w number own r n o f h =
-    f h (nodeName items work node) (node-bare items work node number n) ∙ ap (λ (v : ℕ). bindingKey (wrapAt work w (wrapAt work v (nodeName items work node)) .binding)) o
+finds-name work node w number own r n o f h =
+    f h (nodeName work node) (node-bare work node number n) ∙ ap (λ (v : ℕ). bindingKey (wrapAt work w (wrapAt work v (nodeName work node)) .binding)) o
 
 module _ (work : List ℕ) (number own w : ℕ) where
   pub finds-nothing : Finds work number own w unknown

@@ -13,7 +13,7 @@ use Rattle.words.specs.Parts.{rest}
 use Rattle.words.specs.ListLaws.{rest-is}
 use Rattle.recipe.specs.Name.{Binding, variable, macro, Name, plainName, bindingKey, isBound, same}
 use Rattle.expansion.specs.Lookup.{orUnbound, agree}
-use Rattle.arena.specs.Arena.{referenceAt, newest, bindingOf, wrapAt, nodeName, nameAt, numberOf}
+use Rattle.arena.specs.Arena.{referenceAt, newest, bindingOf, wrapAt, originName, nodeName, nameAt, numberOf}
 use Rattle.arena.specs.ArenaLaws.{bindingOf-key, wrapAt-marks}
 use Rattle.arena.specs.NodeLaws.{nameAt-number}
 use Rattle.resolution.specs.Marks.{marksIn, Holds, NameAfter}
@@ -21,19 +21,20 @@ use Rattle.resolution.specs.MarkLaws.{marksIn-length, marksIn-below}
 use Rattle.resolution.specs.HandLaws.{count-most}
 use Rattle.resolution.specs.BinderLaws.{equal-lengths}
 use Rattle.arena.specs.Cells.{Described, Bound, Binds}
-use Rattle.resolution.specs.Names.{Resolved, Summed, meansOf, operationAt, unboundIn, lookupIn, Agrees}
-use Rattle.resolution.specs.declared.names.Meaning.{Meaning}
-use Rattle.resolution.specs.declared.names.Meaning.the-variants.{Variable, Macro, Form, Operation, Nothing}
+use Rattle.resolution.specs.Names.{Resolved, Summed, meansOf, foundOf, operationAt, unboundIn, lookupIn, Agrees}
+use Rattle.resolution.specs.declared.names.Meaning.the-variants.{Variable, Macro, Form, Operation}
+use Rattle.resolution.specs.declared.names.Looked.{Looked}
+use Rattle.resolution.specs.declared.names.Looked.the-variants.{Finds, Nothing}
 
 -- ---- resolving
 
 -- the own wrap, then the pending one
-pub resolved : (items work : List ℕ) (node w own number : ℕ) → own ≡ referenceAt work node 1 → number ≡ numberOf items work node → (old mid new : List ℕ) (s k c r d : ℕ) → NameAfter (wrapAt work own) old mid s number 0 0 k c → NameAfter (wrapAt work w) mid new s number k c r d → Resolved items work node w old new s r d
-unfolding numberOf nameAt nodeName marksIn bindingKey
-resolved items work node w own number p e old mid new s k c r d f g =
-    let plain : Holds (nodeName items work node) old s 0 number 0 = record { number-is = sym e; marks-are = refl; binding-is = refl } in
-    let h = g .holds _ (f .holds (nodeName items work node) plain) in
-    let i : nameAt items work node w ≡ wrapAt work w (wrapAt work own (nodeName items work node)) = ap (λ (u : ℕ). wrapAt work w (wrapAt work u (nodeName items work node))) (sym p) in
+pub resolved : (work : List ℕ) (node w own number : ℕ) → own ≡ referenceAt work node 1 → number ≡ numberOf work node → (old mid new : List ℕ) (s k c r d : ℕ) → NameAfter (wrapAt work own) old mid s number 0 0 k c → NameAfter (wrapAt work w) mid new s number k c r d → Resolved work node w old new s r d
+unfolding numberOf nameAt nodeName originName marksIn bindingKey
+resolved work node w own number p e old mid new s k c r d f g =
+    let plain : Holds (nodeName work node) old s 0 number 0 = record { number-is = sym e; marks-are = refl; binding-is = refl } in
+    let h = g .holds _ (f .holds (nodeName work node) plain) in
+    let i : nameAt work node w ≡ wrapAt work w (wrapAt work own (nodeName work node)) = ap (λ (u : ℕ). wrapAt work w (wrapAt work u (nodeName work node))) (sym p) in
     record {
       holds = rw i (record { number-is = h .number-is ∙ e; marks-are = h .marks-are; binding-is = h .binding-is });
       hand = g .hand;
@@ -42,24 +43,24 @@ resolved items work node w own number p e old mid new s k c r d f g =
 
 -- ---- plain names
 
-no-marks : (items work : List ℕ) (node : ℕ) → plainName 0 0 .marks ≡ nodeName items work node .marks
-unfolding plainName nodeName
-no-marks items work node = refl
+no-marks : (work : List ℕ) (node : ℕ) → plainName 0 0 .marks ≡ nodeName work node .marks
+unfolding plainName nodeName originName
+no-marks work node = refl
 
 -- a name in the parts that are all of both tables
-pub whole-name : (items work : List ℕ) (node w : ℕ) → nameAt (rest 0 items) (rest 0 work) node w ≡ nameAt items work node w
-whole-name items work node w = ap₂ (λ (i s : List ℕ). nameAt i s node w) (rest-is 0 items) (rest-is 0 work)
+pub whole-name : (work : List ℕ) (node w : ℕ) → nameAt (rest 0 work) node w ≡ nameAt work node w
+whole-name work node w = ap (λ (s : List ℕ). nameAt s node w) (rest-is 0 work)
 
-pub whole-same : (items work : List ℕ) (a v b w : ℕ) → same (nameAt (rest 0 items) (rest 0 work) a v) (nameAt (rest 0 items) (rest 0 work) b w) ≡ same (nameAt items work a v) (nameAt items work b w)
-whole-same items work a v b w = ap₂ same (whole-name items work a v) (whole-name items work b w)
+pub whole-same : (work : List ℕ) (a v b w : ℕ) → same (nameAt (rest 0 work) a v) (nameAt (rest 0 work) b w) ≡ same (nameAt work a v) (nameAt work b w)
+whole-same work a v b w = ap₂ same (whole-name work a v) (whole-name work b w)
 
-pub whole-summed : (items work : List ℕ) (node w binding count m : ℕ) → Summed (nameAt (rest 0 items) (rest 0 work) node w) binding count m → Summed (nameAt items work node w) binding count m
-whole-summed items work node w binding count m h = subst (λ (x : Name). Summed x binding count m) (whole-name items work node w) h
+pub whole-summed : (work : List ℕ) (node w binding count m : ℕ) → Summed (nameAt (rest 0 work) node w) binding count m → Summed (nameAt work node w) binding count m
+whole-summed work node w binding count m h = subst (λ (x : Name). Summed x binding count m) (whole-name work node w) h
 
 -- ---- binders
 
-pub summed : (items work : List ℕ) (node w : ℕ) (old new : List ℕ) (count binding m : ℕ) → Resolved items work node w old new 0 count binding → m ≡ newest (marksIn new 0 count) → Summed (nameAt items work node w) binding count m
-summed items work node w old new count binding m h f =
+pub summed : (work : List ℕ) (node w : ℕ) (old new : List ℕ) (count binding m : ℕ) → Resolved work node w old new 0 count binding → m ≡ newest (marksIn new 0 count) → Summed (nameAt work node w) binding count m
+summed work node w old new count binding m h f =
     record {
       binding-is = sym (h .holds .binding-is);
       count-is = sym (ap length (h .holds .marks-are) ∙ marksIn-length new 0 count);
@@ -68,19 +69,19 @@ summed items work node w old new count binding m h f =
     }
 
 -- a name's summary is that of the binder's own name
-pub described : (items work : List ℕ) (node w own number : ℕ) → own ≡ referenceAt work node 1 → number ≡ numberOf items work node → (binding count m : ℕ) → Summed (nameAt items work node w) binding count m → Described work (nameAt items work node w) number binding count m own w
+pub described : (work : List ℕ) (node w own number : ℕ) → own ≡ referenceAt work node 1 → number ≡ numberOf work node → (binding count m : ℕ) → Summed (nameAt work node w) binding count m → Described work (nameAt work node w) number binding count m own w
 unfolding nameAt
-described items work node w own number p e binding count m h =
+described work node w own number p e binding count m h =
     record {
-      number-is = e ∙ sym (nameAt-number items work node w);
+      number-is = e ∙ sym (nameAt-number work node w);
       binding-is = h .binding-is;
       count-is = h .count-is;
       newest-is = h .newest-is;
-      marks-are = rw p (wrapAt-marks work w _ _ (wrapAt-marks work (referenceAt work node 1) (plainName 0 0) (nodeName items work node) (no-marks items work node)));
+      marks-are = rw p (wrapAt-marks work w _ _ (wrapAt-marks work (referenceAt work node 1) (plainName 0 0) (nodeName work node) (no-marks work node)));
     }
 
-pub binds-name : (items : List ℕ) (node w key parent number binding count m own : ℕ) (old new : List ℕ) (top r : ℕ) → Described old (nameAt items old node w) number binding count m own w → Bound number binding count m own w key parent old new top r → Binds items node w key parent old new top r
-binds-name items node w key parent number binding count m own old new top r d c = record { end = c .end; kept = c .kept; means = λ b e x. c .means (nameAt items old node w) b d e x }
+pub binds-name : (node w key parent number binding count m own : ℕ) (old new : List ℕ) (top r : ℕ) → Described old (nameAt old node w) number binding count m own w → Bound number binding count m own w key parent old new top r → Binds node w key parent old new top r
+binds-name node w key parent number binding count m own old new top r d c = record { end = c .end; kept = c .kept; means = λ b e x. c .means (nameAt old node w) b d e x }
 
 -- ---- sameness
 
@@ -92,72 +93,72 @@ and-true : (a : Bool) → (a && true) ≡ a
 and-true true = refl
 and-true false = refl
 
-module _ (items work : List ℕ) (a v b w : ℕ) where
+module _ (work : List ℕ) (a v b w : ℕ) where
   abbrev Same : Bool
-  Same = same (nameAt items work a v) (nameAt items work b w)
+  Same = same (nameAt work a v) (nameAt work b w)
 
-  module _ (m n : ℕ) (m-is : m ≡ numberOf items work a) (n-is : n ≡ numberOf items work b) where
+  module _ (m n : ℕ) (m-is : m ≡ numberOf work a) (n-is : n ≡ numberOf work b) where
     pub differ-numbers : (m ≡ n → ⊥) → false ≡ Same
     unfolding same
-    differ-numbers h = rw (nameAt-number items work a v, nameAt-number items work b w, ← m-is, ← n-is, ne-eqb m n h)
+    differ-numbers h = rw (nameAt-number work a v, nameAt-number work b w, ← m-is, ← n-is, ne-eqb m n h)
 
     -- x in hand from the start, y behind it
-    module _ (old one two : List ℕ) (j p k q : ℕ) (x : Resolved items work a v old one 0 j p) (y : Resolved items work b w one two j k q) where
-      marks-x : nameAt items work a v .marks ≡ marksIn two 0 j
+    module _ (old one two : List ℕ) (j p k q : ℕ) (x : Resolved work a v old one 0 j p) (y : Resolved work b w one two j k q) where
+      marks-x : nameAt work a v .marks ≡ marksIn two 0 j
       marks-x = let z : 0 + j ≡ j = omega arith in x .holds .marks-are ∙ marksIn-below one two 0 j (rw z (sym (y .kept)))
 
       pub differ-bindings : (p ≡ q → ⊥) → false ≡ Same
       unfolding same
-      differ-bindings h = rw (x .holds .binding-is, y .holds .binding-is, ne-eqb p q h, and-false (equal (nameAt items work a v .marks) (nameAt items work b w .marks)), and-false (eqb (nameAt items work a v .number) (nameAt items work b w .number)))
+      differ-bindings h = rw (x .holds .binding-is, y .holds .binding-is, ne-eqb p q h, and-false (equal (nameAt work a v .marks) (nameAt work b w .marks)), and-false (eqb (nameAt work a v .number) (nameAt work b w .number)))
 
       pub differ-counts : (j ≡ k → ⊥) → false ≡ Same
       unfolding same
       differ-counts h =
-          let d : equal (nameAt items work a v .marks) (nameAt items work b w .marks) ≡ false =
+          let d : equal (nameAt work a v .marks) (nameAt work b w .marks) ≡ false =
           equal-lengths _ _ (λ z. h (sym (ap length (x .holds .marks-are) ∙ marksIn-length one 0 j) ∙ z ∙ ap length (y .holds .marks-are) ∙ marksIn-length two j k)) in
-          rw (d, and-false (eqb (nameAt items work a v .number) (nameAt items work b w .number)))
+          rw (d, and-false (eqb (nameAt work a v .number) (nameAt work b w .number)))
 
       pub same-marks : m ≡ n → p ≡ q → j ≡ k → (r : Bool) → r ≡ equal (marksIn two 0 j) (marksIn two j j) → r ≡ Same
       unfolding same
       same-marks e f g r h =
-          let d : eqb (nameAt items work a v .number) (nameAt items work b w .number) ≡ true = eq-eqb _ _ (nameAt-number items work a v ∙ sym m-is ∙ e ∙ n-is ∙ sym (nameAt-number items work b w)) in
-          let i : eqb (bindingKey (nameAt items work a v .binding)) (bindingKey (nameAt items work b w .binding)) ≡ true = eq-eqb _ _ (x .holds .binding-is ∙ f ∙ sym (y .holds .binding-is)) in
-          let u : nameAt items work b w .marks ≡ marksIn two j j = y .holds .marks-are ∙ ap (marksIn two j) (sym g) in
+          let d : eqb (nameAt work a v .number) (nameAt work b w .number) ≡ true = eq-eqb _ _ (nameAt-number work a v ∙ sym m-is ∙ e ∙ n-is ∙ sym (nameAt-number work b w)) in
+          let i : eqb (bindingKey (nameAt work a v .binding)) (bindingKey (nameAt work b w .binding)) ≡ true = eq-eqb _ _ (x .holds .binding-is ∙ f ∙ sym (y .holds .binding-is)) in
+          let u : nameAt work b w .marks ≡ marksIn two j j = y .holds .marks-are ∙ ap (marksIn two j) (sym g) in
           rw (d, i, marks-x, u, and-true (equal (marksIn two 0 j) (marksIn two j j))) h
 
 -- ---- lookups
 
-module _ (operations : List ℕ) (n : ℕ) where
-  pub unbound-form : n < 8 → meansOf (Form n) ≡ unboundIn operations n
-  unfolding meansOf unboundIn
+module _ (places : List ℕ) (n : ℕ) where
+  pub unbound-form : n < 8 → foundOf (Finds (Form n)) ≡ unboundIn places n
+  unfolding foundOf meansOf unboundIn
   unbound-form h = rw (lt-ltb n 8 h)
 
-  pub unbound-out : 8 ≤ n → length operations ≤ n → meansOf Nothing ≡ unboundIn operations n
-  unfolding meansOf unboundIn operationAt
-  unbound-out h l = rw (le-ltb n 8 h, List·getD-eq-default operations 0 l)
+  pub unbound-out : 8 ≤ n → length places ≤ n → foundOf Nothing ≡ unboundIn places n
+  unfolding foundOf meansOf unboundIn operationAt
+  unbound-out h l = rw (le-ltb n 8 h, List·getD-eq-default places 0 l)
 
-  pub unbound-none : 8 ≤ n → getD operations n 0 ≡ 0 → meansOf Nothing ≡ unboundIn operations n
-  unfolding meansOf unboundIn operationAt
+  pub unbound-none : 8 ≤ n → getD places n 0 ≡ 0 → foundOf Nothing ≡ unboundIn places n
+  unfolding foundOf meansOf unboundIn operationAt
   unbound-none h e = rw (le-ltb n 8 h, e)
 
-  pub unbound-some : 8 ≤ n → (getD operations n 0 ≡ 0 → ⊥) → meansOf (Operation (getD operations n 0 - 1)) ≡ unboundIn operations n
-  unfolding meansOf unboundIn operationAt
+  pub unbound-some : 8 ≤ n → (getD places n 0 ≡ 0 → ⊥) → foundOf (Finds (Operation (getD places n 0 - 1))) ≡ unboundIn places n
+  unfolding foundOf meansOf unboundIn operationAt
   unbound-some h e = rw (le-ltb n 8 h, ne-eqb _ _ e)
 
-module _ (operations : List ℕ) (x : Name) (b : ℕ) (b-is : b ≡ bindingKey (x .binding)) where
+module _ (places : List ℕ) (x : Name) (b : ℕ) (b-is : b ≡ bindingKey (x .binding)) where
   binding-is : x .binding ≡ bindingOf b
   binding-is = sym (bindingOf-key (x .binding)) ∙ ap bindingOf (sym b-is)
 
-  pub lookup-none : b ≡ 0 → (n : ℕ) → n ≡ x .number → (r : Meaning) → meansOf r ≡ unboundIn operations n → meansOf r ≡ lookupIn operations x
+  pub lookup-none : b ≡ 0 → (n : ℕ) → n ≡ x .number → (r : Looked) → foundOf r ≡ unboundIn places n → foundOf r ≡ lookupIn places x
   unfolding lookupIn orUnbound bindingOf
   lookup-none e n h r p = rw (binding-is, e, ← h) p
 
-  pub lookup-variable : (b ≡ 0 → ⊥) → b % 2 ≡ 1 → meansOf (Variable (b / 2)) ≡ lookupIn operations x
-  unfolding lookupIn orUnbound bindingOf meansOf
+  pub lookup-variable : (b ≡ 0 → ⊥) → b % 2 ≡ 1 → foundOf (Finds (Variable (b / 2))) ≡ lookupIn places x
+  unfolding lookupIn orUnbound bindingOf foundOf meansOf
   lookup-variable z e = rw (binding-is, ne-eqb _ _ z, eq-eqb _ _ e)
 
-  pub lookup-macro : (b ≡ 0 → ⊥) → (b % 2 ≡ 1 → ⊥) → meansOf (Macro (b / 2 - 1)) ≡ lookupIn operations x
-  unfolding lookupIn orUnbound bindingOf meansOf
+  pub lookup-macro : (b ≡ 0 → ⊥) → (b % 2 ≡ 1 → ⊥) → foundOf (Finds (Macro (b / 2 - 1))) ≡ lookupIn places x
+  unfolding lookupIn orUnbound bindingOf foundOf meansOf
   lookup-macro z e = rw (binding-is, ne-eqb _ _ z, ne-eqb _ _ e)
 
 -- ---- literals

@@ -11,11 +11,13 @@ use Rattle.expansion.specs.Lookup.{Found, bound, form, operation, nothing, form
 use Rattle.arena.specs.Arena.{stepLimit, newest, numberOf, nameAt}
 use Rattle.resolution.specs.Marks.{Hand, Holds}
 use Rattle.resolution.specs.declared.names.Meaning.{Meaning}
-use Rattle.resolution.specs.declared.names.Meaning.the-variants.{Variable, Macro, Form, Operation, Nothing}
+use Rattle.resolution.specs.declared.names.Meaning.the-variants.{Variable, Macro, Form, Operation}
+use Rattle.resolution.specs.declared.names.Looked.{Looked}
+use Rattle.resolution.specs.declared.names.Looked.the-variants.{Finds, Nothing}
 
 -- the name of a node under a wrap is in hand
-pub record Resolved (items work : List ℕ) (node w : ℕ) (old new : List ℕ) (start count binding : ℕ) : Type 0 where
-  pub holds : Holds (nameAt items work node w) new start count (numberOf items work node) binding
+pub record Resolved (work : List ℕ) (node w : ℕ) (old new : List ℕ) (start count binding : ℕ) : Type 0 where
+  pub holds : Holds (nameAt work node w) new start count (numberOf work node) binding
   pub hand : Hand new start count
   pub kept : take start new ≡ take start old
 
@@ -34,17 +36,20 @@ meansOf (Variable n) = bound (variable n)
 meansOf (Macro n) = bound (macro n)
 meansOf (Form k) = form (formOf k)
 meansOf (Operation p) = operation p
-meansOf Nothing = nothing
+
+unfoldable pub foundOf : Looked → Found
+foundOf (Finds m) = meansOf m
+foundOf Nothing = nothing
 
 -- operations by number: a table that holds each one's place, counted from 1; 0 is no operation
 unfoldable pub operationAt : ℕ → Found
 operationAt p = cond (eqb p 0) nothing (operation (p - 1))
 
-unfoldable pub unboundIn : (operations : List ℕ) → ℕ → Found
-unboundIn operations n = cond (ltb n baseNameCount) (form (formOf n)) (operationAt (getD operations n 0))
+unfoldable pub unboundIn : (places : List ℕ) → ℕ → Found
+unboundIn places n = cond (ltb n baseNameCount) (form (formOf n)) (operationAt (getD places n 0))
 
-unfoldable pub lookupIn : (operations : List ℕ) → Name → Found
-lookupIn operations x = orUnbound (x .binding) (unboundIn operations (x .number))
+unfoldable pub lookupIn : (places : List ℕ) → Name → Found
+lookupIn places x = orUnbound (x .binding) (unboundIn places (x .number))
 
 -- a literal, by its number and its binding's key, agrees with a name
 abbrev pub Agrees : (number binding : ℕ) → Name → Bool → Type 0

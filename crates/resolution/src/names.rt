@@ -11,15 +11,16 @@ ghost use Rattle.recipe.specs.Name.{variable, macro, same, bindingKey};
 ghost use Rattle.recipe.specs.Tree.{isOrdinaryName};
 ghost use Rattle.arena.specs.Arena.{stepLimit, nameAt, numberOf};
 ghost use Rattle.arena.specs.Cells.{Room, Binds};
-ghost use Rattle.arena.specs.Lists.{TestsIn};
+ghost use Rattle.arena.specs.Lists.{Tests};
 ghost use Rattle.resolution.specs.Marks.{Fits, Tells};
-ghost use Rattle.resolution.specs.Names.{Resolved, Summed, meansOf, lookupIn, unboundIn, Agrees};
+ghost use Rattle.resolution.specs.Names.{Resolved, Summed, foundOf, lookupIn, unboundIn, Agrees};
 use crate::direct;
 use crate::marks;
 use crate::marks::Compared;
 use crate::wraps;
 use crate::wraps::InHand;
 use arena::cells;
+use arena::origins;
 
 // The numbers of `...` and `_`.
 pub const ELLIPSIS: u32 = 6;
@@ -34,12 +35,17 @@ const MORE_WORDS: usize = 1536;
 
 const LARGE_WORDS: usize = 24583;
 
-// What a lookup finds: bound variable n, macro n, form k, the place of an operation, or nothing.
+// What a name means: bound variable n, macro n, form k, or the place of an operation.
 pub enum Meaning {
     Variable(u32),
     Macro(u32),
     Form(u32),
     Operation(u32),
+}
+
+// What a lookup finds.
+pub enum Looked {
+    Finds(Meaning),
     Nothing,
 }
 
@@ -59,30 +65,19 @@ pub fn macro_key(n: u32) -> u32
     2 + 2 * n
 }
 
-// The number of a name node, read from the item that it stems from.
-pub fn number_of(items: &[u32], work: &[u32], node: u32) -> u32
-    ensures { λ r. ⌜ r ≡ numberOf (now (items .entry)) (now (work .entry)) node ⌝ }
+// The number of a name node.
+pub fn number_of(work: &[u32], node: u32) -> u32
+    ensures { λ r. ⌜ r ≡ numberOf (now (work .entry)) node ⌝ }
 {
-    let at = 3 * (cells::word(work, node, cells::ITEM) as usize) + 1;
-    if at < items.len() {
-        return items[at];
-    }
-    0
+    origins::number(cells::word(work, node, cells::ORIGIN))
 }
 
 // A name node under a pending wrap: its marks from `start`, their count, and its binding's key.
-pub fn resolve(
-    items: &[u32],
-    work: &[u32],
-    table: &mut [u32],
-    start: usize,
-    node: u32,
-    w: u32,
-) -> InHand
+pub fn resolve(work: &[u32], table: &mut [u32], start: usize, node: u32, w: u32) -> InHand
     requires { ⌜ start ≤ length (now table) ⌝ }
-    ensures { λ r. ⌜ Fits (now (table .exit)) (start + stepLimit + stepLimit) (r .count) (Resolved (now (items .entry)) (now (work .entry)) node w (now (table .entry)) (now (table .exit)) start (r .count) (r .binding)) ⌝ }
+    ensures { λ r. ⌜ Fits (now (table .exit)) (start + stepLimit + stepLimit) (r .count) (Resolved (now (work .entry)) node w (now (table .entry)) (now (table .exit)) start (r .count) (r .binding)) ⌝ }
 {
-    let number = number_of(items, work, node);
+    let number = number_of(work, node);
     let own = cells::reference(work, node, cells::OWN);
     let s = wraps::walked(work, table, start, 0, number, 0, own);
     let n = s.count;
@@ -97,13 +92,13 @@ pub fn resolve(
 }
 
 // Whether a node is a name that may be bound: other than `...` and `_`, which are known by number alone.
-pub fn is_ordinary(items: &[u32], work: &[u32], node: u32) -> bool
-    ensures { λ r. ⌜ TestsIn isOrdinaryName (now (items .entry)) (now (work .entry)) node r ⌝ }
+pub fn is_ordinary(work: &[u32], node: u32) -> bool
+    ensures { λ r. ⌜ Tests isOrdinaryName (now (work .entry)) node r ⌝ }
 {
     if cells::word(work, node, cells::KIND) != cells::NAME {
         return false;
     }
-    let number = number_of(items, work, node);
+    let number = number_of(work, node);
     if number == ELLIPSIS {
         return false;
     }
@@ -118,10 +113,10 @@ pub struct Summary {
 }
 
 // A name's summary, where the table has room for its marks.
-pub fn summary_in(items: &[u32], work: &[u32], table: &mut [u32], node: u32, w: u32) -> Summary
-    ensures { λ r. ⌜ Fits (now (table .exit)) (2 * stepLimit) (r .count) (Summed (nameAt (now (items .entry)) (now (work .entry)) node w) (r .binding) (r .count) (r .newest)) ⌝ }
+pub fn summary_in(work: &[u32], table: &mut [u32], node: u32, w: u32) -> Summary
+    ensures { λ r. ⌜ Fits (now (table .exit)) (2 * stepLimit) (r .count) (Summed (nameAt (now (work .entry)) node w) (r .binding) (r .count) (r .newest)) ⌝ }
 {
-    let x = resolve(items, work, table, 0, node, w);
+    let x = resolve(work, table, 0, node, w);
     let count = x.count;
     if table.len() < count {
         return Summary {
@@ -140,35 +135,35 @@ pub fn summary_in(items: &[u32], work: &[u32], table: &mut [u32], node: u32, w: 
 
 // A name's summary, in the table or, where its marks do not fit, in a larger one. It calls itself with that, and what calls
 // itself is not inlined: the large frame is taken only where it is needed.
-pub fn summary_grown(items: &[u32], work: &[u32], table: &mut [u32], node: u32, w: u32) -> Summary
-    ensures { λ r. ⌜ Summed (nameAt (now (items .entry)) (now (work .entry)) node w) (r .binding) (r .count) (r .newest) ⌝ }
+pub fn summary_grown(work: &[u32], table: &mut [u32], node: u32, w: u32) -> Summary
+    ensures { λ r. ⌜ Summed (nameAt (now (work .entry)) node w) (r .binding) (r .count) (r .newest) ⌝ }
 {
-    let s = summary_in(items, work, table, node, w);
+    let s = summary_in(work, table, node, w);
     if s.count <= table.len() {
         return s;
     }
     let mut larger = [0u32; LARGE_WORDS];
-    summary_grown(items, work, &mut larger, node, w)
+    summary_grown(work, &mut larger, node, w)
 }
 
 // A name's summary, by walking what waits on it.
-fn summary_walked(items: &[u32], work: &[u32], node: u32, w: u32) -> Summary
-    ensures { λ r. ⌜ Summed (nameAt (now (items .entry)) (now (work .entry)) node w) (r .binding) (r .count) (r .newest) ⌝ }
+fn summary_walked(work: &[u32], node: u32, w: u32) -> Summary
+    ensures { λ r. ⌜ Summed (nameAt (now (work .entry)) node w) (r .binding) (r .count) (r .newest) ⌝ }
 {
     let mut few = [0u32; FEW_WORDS];
-    let s = summary_in(items, work, &mut few, node, w);
+    let s = summary_in(work, &mut few, node, w);
     if s.count <= FEW_WORDS {
         return s;
     }
     let mut more = [0u32; MORE_WORDS];
-    summary_grown(items, work, &mut more, node, w)
+    summary_grown(work, &mut more, node, w)
 }
 
 // A name's summary: of one mark or none where that is all that waits, else by walking what waits.
-pub fn summary_of(items: &[u32], work: &[u32], node: u32, w: u32) -> Summary
-    ensures { λ r. ⌜ Summed (nameAt (now (items .entry)) (now (work .entry)) node w) (r .binding) (r .count) (r .newest) ⌝ }
+pub fn summary_of(work: &[u32], node: u32, w: u32) -> Summary
+    ensures { λ r. ⌜ Summed (nameAt (now (work .entry)) node w) (r .binding) (r .count) (r .newest) ⌝ }
 {
-    let number = number_of(items, work, node);
+    let number = number_of(work, node);
     let own = cells::reference(work, node, cells::OWN);
     let mark = direct::only_mark(work, number, own, w);
     if mark < marks::STEP_LIMIT {
@@ -178,44 +173,36 @@ pub fn summary_of(items: &[u32], work: &[u32], node: u32, w: u32) -> Summary
             newest: mark,
         };
     }
-    summary_walked(&items[0..], &work[0..], node, w)
+    summary_walked(&work[0..], node, w)
 }
 
 // The key of a name's binding, found from the outside in or else by walking what waits.
-pub fn binding_of(items: &[u32], work: &[u32], node: u32, w: u32) -> u32
-    ensures { λ r. ⌜ r ≡ bindingKey (nameAt (now (items .entry)) (now (work .entry)) node w .binding) ⌝ }
+pub fn binding_of(work: &[u32], node: u32, w: u32) -> u32
+    ensures { λ r. ⌜ r ≡ bindingKey (nameAt (now (work .entry)) node w .binding) ⌝ }
 {
-    let number = number_of(items, work, node);
+    let number = number_of(work, node);
     let own = cells::reference(work, node, cells::OWN);
     let key = direct::binding(work, number, own, w);
     if key != direct::UNKNOWN {
         return key;
     }
-    let s = summary_walked(&items[0..], &work[0..], node, w);
+    let s = summary_walked(&work[0..], node, w);
     s.binding
 }
 
 // Whether two names are the same, where the table has room for the marks of both: number, marks and binding together.
-pub fn compare(
-    items: &[u32],
-    work: &[u32],
-    table: &mut [u32],
-    a: u32,
-    v: u32,
-    b: u32,
-    w: u32,
-) -> Compared
-    ensures { λ r. ⌜ Tells (now (table .exit)) (3 * stepLimit) (λ t. t ≡ same (nameAt (now (items .entry)) (now (work .entry)) a v) (nameAt (now (items .entry)) (now (work .entry)) b w)) r ⌝ }
+pub fn compare(work: &[u32], table: &mut [u32], a: u32, v: u32, b: u32, w: u32) -> Compared
+    ensures { λ r. ⌜ Tells (now (table .exit)) (3 * stepLimit) (λ t. t ≡ same (nameAt (now (work .entry)) a v) (nameAt (now (work .entry)) b w)) r ⌝ }
 {
-    if number_of(items, work, a) != number_of(items, work, b) {
+    if number_of(work, a) != number_of(work, b) {
         return Compared::Other;
     }
-    let x = resolve(items, work, table, 0, a, v);
+    let x = resolve(work, table, 0, a, v);
     let count = x.count;
     if table.len() < count {
         return Compared::Full;
     }
-    let y = resolve(items, work, table, count, b, w);
+    let y = resolve(work, table, count, b, w);
     if table.len() < y.count {
         return Compared::Full;
     }
@@ -232,67 +219,51 @@ pub fn compare(
 }
 
 // Whether two names are the same, in the table or, where their marks do not fit, in a larger one, as `summary_grown`.
-pub fn same_grown(
-    items: &[u32],
-    work: &[u32],
-    table: &mut [u32],
-    a: u32,
-    v: u32,
-    b: u32,
-    w: u32,
-) -> bool
-    ensures { λ r. ⌜ r ≡ same (nameAt (now (items .entry)) (now (work .entry)) a v) (nameAt (now (items .entry)) (now (work .entry)) b w) ⌝ }
+pub fn same_grown(work: &[u32], table: &mut [u32], a: u32, v: u32, b: u32, w: u32) -> bool
+    ensures { λ r. ⌜ r ≡ same (nameAt (now (work .entry)) a v) (nameAt (now (work .entry)) b w) ⌝ }
 {
-    match compare(items, work, table, a, v, b, w) {
+    match compare(work, table, a, v, b, w) {
         Compared::Same => true,
         Compared::Other => false,
         Compared::Full => {
             let mut larger = [0u32; LARGE_WORDS];
-            same_grown(items, work, &mut larger, a, v, b, w)
+            same_grown(work, &mut larger, a, v, b, w)
         }
     }
 }
 
 // Whether two names are the same, by walking what waits on them.
-fn same_walked(items: &[u32], work: &[u32], a: u32, v: u32, b: u32, w: u32) -> bool
-    ensures { λ r. ⌜ r ≡ same (nameAt (now (items .entry)) (now (work .entry)) a v) (nameAt (now (items .entry)) (now (work .entry)) b w) ⌝ }
+fn same_walked(work: &[u32], a: u32, v: u32, b: u32, w: u32) -> bool
+    ensures { λ r. ⌜ r ≡ same (nameAt (now (work .entry)) a v) (nameAt (now (work .entry)) b w) ⌝ }
 {
     let mut few = [0u32; FEW_WORDS];
-    match compare(items, work, &mut few, a, v, b, w) {
+    match compare(work, &mut few, a, v, b, w) {
         Compared::Same => true,
         Compared::Other => false,
         Compared::Full => {
             let mut more = [0u32; MORE_WORDS];
-            same_grown(items, work, &mut more, a, v, b, w)
+            same_grown(work, &mut more, a, v, b, w)
         }
     }
 }
 
 // Whether two names are the same. Their numbers tell most apart.
-pub fn same_names(items: &[u32], work: &[u32], a: u32, v: u32, b: u32, w: u32) -> bool
-    ensures { λ r. ⌜ r ≡ same (nameAt (now (items .entry)) (now (work .entry)) a v) (nameAt (now (items .entry)) (now (work .entry)) b w) ⌝ }
+pub fn same_names(work: &[u32], a: u32, v: u32, b: u32, w: u32) -> bool
+    ensures { λ r. ⌜ r ≡ same (nameAt (now (work .entry)) a v) (nameAt (now (work .entry)) b w) ⌝ }
 {
-    if number_of(items, work, a) != number_of(items, work, b) {
+    if number_of(work, a) != number_of(work, b) {
         return false;
     }
-    same_walked(&items[0..], &work[0..], a, v, b, w)
+    same_walked(&work[0..], a, v, b, w)
 }
 
 // A binder of a name under wrap w, after what `parent` means: the binding with this key goes to every name that is the same.
-pub fn bind(
-    items: &[u32],
-    work: &mut [u32],
-    top: u32,
-    node: u32,
-    w: u32,
-    key: u32,
-    parent: u32,
-) -> u32
+pub fn bind(work: &mut [u32], top: u32, node: u32, w: u32, key: u32, parent: u32) -> u32
     requires { ⌜ (Room (now work) top 9) × (node ≤ top) × (w ≤ top) × (parent ≤ top) ⌝ }
-    ensures { λ r. ⌜ Binds (now (items .entry)) node w key parent (now (work .entry)) (now (work .exit)) top r ⌝ }
+    ensures { λ r. ⌜ Binds node w key parent (now (work .entry)) (now (work .exit)) top r ⌝ }
 {
-    let number = number_of(items, work, node);
-    let s = summary_of(items, work, node, w);
+    let number = number_of(work, node);
+    let s = summary_of(work, node, w);
     let own = cells::reference(work, node, cells::OWN);
     cells::put_binder(
         work,
@@ -309,48 +280,48 @@ pub fn bind(
 }
 
 // What a name without a binding means: a base form, an operation by the table of their places, or nothing.
-pub fn unbound(operations: &[u16], number: u32) -> Meaning
-    ensures { λ r. ⌜ meansOf r ≡ unboundIn (now (operations .entry)) number ⌝ }
+pub fn unbound(operations: &[u16], number: u32) -> Looked
+    ensures { λ r. ⌜ foundOf r ≡ unboundIn (now (operations .entry)) number ⌝ }
 {
     if number < 8 {
-        return Meaning::Form(number);
+        return Looked::Finds(Meaning::Form(number));
     }
     let i = number as usize;
     if operations.len() <= i {
-        return Meaning::Nothing;
+        return Looked::Nothing;
     }
     let place = operations[i] as u32;
     if place == 0 {
-        return Meaning::Nothing;
+        return Looked::Nothing;
     }
-    Meaning::Operation(place - 1)
+    Looked::Finds(Meaning::Operation(place - 1))
 }
 
 // A lookup finds the binding; without one, a base form, an operation, or nothing.
-pub fn lookup(items: &[u32], work: &[u32], operations: &[u16], node: u32, w: u32) -> Meaning
-    ensures { λ r. ⌜ meansOf r ≡ lookupIn (now (operations .entry)) (nameAt (now (items .entry)) (now (work .entry)) node w) ⌝ }
+pub fn lookup(work: &[u32], operations: &[u16], node: u32, w: u32) -> Looked
+    ensures { λ r. ⌜ foundOf r ≡ lookupIn (now (operations .entry)) (nameAt (now (work .entry)) node w) ⌝ }
 {
-    let b = binding_of(items, work, node, w);
+    let b = binding_of(work, node, w);
     if b == 0 {
-        let number = number_of(items, work, node);
+        let number = number_of(work, node);
         return unbound(operations, number);
     }
     if b % 2 == 1 {
-        return Meaning::Variable(b / 2);
+        return Looked::Finds(Meaning::Variable(b / 2));
     }
-    Meaning::Macro(b / 2 - 1)
+    Looked::Finds(Meaning::Macro(b / 2 - 1))
 }
 
 // Whether a literal, by its number and its binding's key, agrees with a name.
-pub fn agrees(items: &[u32], work: &[u32], number: u32, binding: u32, node: u32, w: u32) -> bool
-    ensures { λ r. ⌜ Agrees number binding (nameAt (now (items .entry)) (now (work .entry)) node w) r ⌝ }
+pub fn agrees(work: &[u32], number: u32, binding: u32, node: u32, w: u32) -> bool
+    ensures { λ r. ⌜ Agrees number binding (nameAt (now (work .entry)) node w) r ⌝ }
 {
-    let b = binding_of(items, work, node, w);
+    let b = binding_of(work, node, w);
     if b != binding {
         return false;
     }
     if b != 0 {
         return true;
     }
-    number == number_of(items, work, node)
+    number == number_of(work, node)
 }

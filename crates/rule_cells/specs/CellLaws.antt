@@ -17,26 +17,26 @@ use Rattle.rule_cells.specs.Cells.{constantBefore, literalAt, patternSte
 
 -- ---- names and constants
 
-pub nameAt-below : (items a b : List ℕ) (node w : ℕ) → take node a ≡ take node b → take w a ≡ take w b → nameAt items a node w ≡ nameAt items b node w
+pub nameAt-below : (a b : List ℕ) (node w : ℕ) → take node a ≡ take node b → take w a ≡ take w b → nameAt a node w ≡ nameAt b node w
 unfolding nameAt nodeName referenceAt wordAt within falling wrapFrom wrapAt
-nameAt-below items a b zero w e d = wrapAt-below a b w d _
-nameAt-below items a b (suc node) w e d = nameAt-agree items a b (suc node) w (omega arith) e d
+nameAt-below a b zero w e d = wrapAt-below a b w d _
+nameAt-below a b (suc node) w e d = nameAt-agree a b (suc node) w (omega arith) e d
 
 -- two references of one cell
-module _ (items a b : List ℕ) (at : ℕ) (some-word : 0 < at) (e : take at a ≡ take at b) where
+module _ (a b : List ℕ) (at : ℕ) (some-word : 0 < at) (e : take at a ≡ take at b) where
   kept-under : (k : ℕ) → take (referenceAt a at k) a ≡ take (referenceAt a at k) b
   kept-under k = take-less a b (referenceAt a at k) at (omega (arith, referenceAt-falls a at k some-word)) e
 
-  child-name : (j k : ℕ) → 0 < j → 0 < k → nameAt items a (referenceAt a at j) (referenceAt a at k) ≡ nameAt items b (referenceAt b at j) (referenceAt b at k)
+  child-name : (j k : ℕ) → 0 < j → 0 < k → nameAt a (referenceAt a at j) (referenceAt a at k) ≡ nameAt b (referenceAt b at j) (referenceAt b at k)
   child-name j k p q =
-      nameAt-below items a b (referenceAt a at j) (referenceAt a at k) (kept-under j) (kept-under k)
-      ∙ ap₂ (nameAt items b) (referenceAt-below a b at j p e) (referenceAt-below a b at k q e)
+      nameAt-below a b (referenceAt a at j) (referenceAt a at k) (kept-under j) (kept-under k)
+      ∙ ap₂ (nameAt b) (referenceAt-below a b at j p e) (referenceAt-below a b at k q e)
 
   constantBefore-agree : constantBefore a at ≡ constantBefore b at
   unfolding constantBefore
   constantBefore-agree = rw (wordAt-below a b at 4 (omega arith) e, wordAt-below a b at 3 (omega arith) e, wordAt-below a b at 2 (omega arith) e)
 
-  literalAt-agree : literalAt items a at ≡ literalAt items b at
+  literalAt-agree : literalAt a at ≡ literalAt b at
   unfolding literalAt
   literalAt-agree = rw (child-name 5 4 (omega arith) (omega arith), wordAt-below a b at 3 (omega arith) e, wordAt-below a b at 2 (omega arith) e)
 
@@ -47,20 +47,20 @@ module _ (items a b : List ℕ) (at : ℕ) (some-word : 0 < at) (e : take at a �
 
 -- ---- what a reference means depends on the words below it alone
 
-module _ (items a b : List ℕ) (at : ℕ) (some-word : 0 < at) (e : take at a ≡ take at b) where
-  patternStep-agree : (f g : ℕ → Pattern) → ((r : ℕ) → r < at → f r ≡ g r) → patternStep items a f at ≡ patternStep items b g at
+module _ (a b : List ℕ) (at : ℕ) (some-word : 0 < at) (e : take at a ≡ take at b) where
+  patternStep-agree : (f g : ℕ → Pattern) → ((r : ℕ) → r < at → f r ≡ g r) → patternStep a f at ≡ patternStep b g at
   unfolding patternStep
   patternStep-agree f g agree =
-      rw (wordAt-below a b at 1 (omega arith) e, wordAt-below a b at 2 (omega arith) e, literalAt-agree items a b at some-word e, constantBefore-agree items a b at some-word e, child items a b at some-word e f g agree 3 (omega arith), child items a b at some-word e f g agree 2 (omega arith))
+      rw (wordAt-below a b at 1 (omega arith) e, wordAt-below a b at 2 (omega arith) e, literalAt-agree a b at some-word e, constantBefore-agree a b at some-word e, child a b at some-word e f g agree 3 (omega arith), child a b at some-word e f g agree 2 (omega arith))
 
-  templateStep-agree : (f g : ℕ → Template) → ((r : ℕ) → r < at → f r ≡ g r) → templateStep items a f at ≡ templateStep items b g at
+  templateStep-agree : (f g : ℕ → Template) → ((r : ℕ) → r < at → f r ≡ g r) → templateStep a f at ≡ templateStep b g at
   unfolding templateStep
   templateStep-agree f g agree =
-      rw (wordAt-below a b at 1 (omega arith) e, wordAt-below a b at 3 (omega arith) e, wordAt-below a b at 2 (omega arith) e, child-name items a b at some-word e 3 2 (omega arith) (omega arith), constantBefore-agree items a b at some-word e, child items a b at some-word e f g agree 3 (omega arith), child items a b at some-word e f g agree 2 (omega arith))
+      rw (wordAt-below a b at 1 (omega arith) e, wordAt-below a b at 3 (omega arith) e, wordAt-below a b at 2 (omega arith) e, child-name a b at some-word e 3 2 (omega arith) (omega arith), constantBefore-agree a b at some-word e, child a b at some-word e f g agree 3 (omega arith), child a b at some-word e f g agree 2 (omega arith))
 
-  ruleAt-agree : ((r : ℕ) → r < at → patternAt items a r ≡ patternAt items b r) → ((r : ℕ) → r < at → templateAt items a r ≡ templateAt items b r) → ruleAt items a at ≡ ruleAt items b at
+  ruleAt-agree : ((r : ℕ) → r < at → patternAt a r ≡ patternAt b r) → ((r : ℕ) → r < at → templateAt a r ≡ templateAt b r) → ruleAt a at ≡ ruleAt b at
   unfolding ruleAt
-  ruleAt-agree p t = rw (child items a b at some-word e (patternAt items a) (patternAt items b) p 3 (omega arith), child items a b at some-word e (templateAt items a) (templateAt items b) t 2 (omega arith))
+  ruleAt-agree p t = rw (child a b at some-word e (patternAt a) (patternAt b) p 3 (omega arith), child a b at some-word e (templateAt a) (templateAt b) t 2 (omega arith))
 
 -- any reading of cells in steps, given enough gas: `from` is what gas and a reference mean, `step` one step of it
 module _ {A : Type 0} (from : List ℕ → ℕ → ℕ → A) (step : List ℕ → (ℕ → A) → ℕ → A) (nothing : A) (from-step : (w : List ℕ) (g at : ℕ) → from w (suc g) at ≡ step w (from w g) at) (from-none : (w : List ℕ) (g : ℕ) → from w g 0 ≡ nothing) (step-agree : (a b : List ℕ) (at : ℕ) → 0 < at → take at a ≡ take at b → (f g : ℕ → A) → ((r : ℕ) → r < at → f r ≡ g r) → step a f at ≡ step b g at) where
@@ -89,143 +89,142 @@ module _ {A : Type 0} (from : List ℕ → ℕ → ℕ → A) (step : List ℕ �
       from-step w at (suc at)
       ∙ step-agree w w (suc at) h refl (from w at) (λ r. from w r r) (λ r l. from-agree w w at r r (omega arith) (omega arith) refl)
 
-module _ (items : List ℕ) where
-  patternFrom-step : (w : List ℕ) (g at : ℕ) → patternFrom items w (suc g) at ≡ patternStep items w (patternFrom items w g) at
-  unfolding patternFrom
-  patternFrom-step w g at = refl
+patternFrom-step : (w : List ℕ) (g at : ℕ) → patternFrom w (suc g) at ≡ patternStep w (patternFrom w g) at
+unfolding patternFrom
+patternFrom-step w g at = refl
 
-  patternFrom-none : (w : List ℕ) (g : ℕ) → patternFrom items w g 0 ≡ emptyP
-  unfolding patternFrom patternStep wordAt within
-  patternFrom-none w zero = refl
-  patternFrom-none w (suc g) = refl
+patternFrom-none : (w : List ℕ) (g : ℕ) → patternFrom w g 0 ≡ emptyP
+unfolding patternFrom patternStep wordAt within
+patternFrom-none w zero = refl
+patternFrom-none w (suc g) = refl
 
-  pub patternAt-below : (a b : List ℕ) (at : ℕ) → take at a ≡ take at b → patternAt items a at ≡ patternAt items b at
-  unfolding patternAt
-  patternAt-below = from-below (patternFrom items) (patternStep items) emptyP patternFrom-step patternFrom-none (patternStep-agree items)
+pub patternAt-below : (a b : List ℕ) (at : ℕ) → take at a ≡ take at b → patternAt a at ≡ patternAt b at
+unfolding patternAt
+patternAt-below = from-below patternFrom patternStep emptyP patternFrom-step patternFrom-none patternStep-agree
 
-  patternAt-whole : (w : List ℕ) (at : ℕ) → 0 < at → patternAt items w at ≡ patternStep items w (patternAt items w) at
-  unfolding patternAt
-  patternAt-whole = from-whole (patternFrom items) (patternStep items) emptyP patternFrom-step patternFrom-none (patternStep-agree items)
+patternAt-whole : (w : List ℕ) (at : ℕ) → 0 < at → patternAt w at ≡ patternStep w (patternAt w) at
+unfolding patternAt
+patternAt-whole = from-whole patternFrom patternStep emptyP patternFrom-step patternFrom-none patternStep-agree
 
-  patternAt-step : (w : List ℕ) (at : ℕ) → patternAt items w at ≡ patternStep items w (patternAt items w) at
-  unfolding patternAt patternFrom patternStep wordAt within
-  patternAt-step w zero = refl
-  patternAt-step w (suc at) = patternAt-whole w (suc at) (omega arith)
+patternAt-step : (w : List ℕ) (at : ℕ) → patternAt w at ≡ patternStep w (patternAt w) at
+unfolding patternAt patternFrom patternStep wordAt within
+patternAt-step w zero = refl
+patternAt-step w (suc at) = patternAt-whole w (suc at) (omega arith)
 
-  templateFrom-step : (w : List ℕ) (g at : ℕ) → templateFrom items w (suc g) at ≡ templateStep items w (templateFrom items w g) at
-  unfolding templateFrom
-  templateFrom-step w g at = refl
+templateFrom-step : (w : List ℕ) (g at : ℕ) → templateFrom w (suc g) at ≡ templateStep w (templateFrom w g) at
+unfolding templateFrom
+templateFrom-step w g at = refl
 
-  templateFrom-none : (w : List ℕ) (g : ℕ) → templateFrom items w g 0 ≡ emptyT
-  unfolding templateFrom templateStep wordAt within
-  templateFrom-none w zero = refl
-  templateFrom-none w (suc g) = refl
+templateFrom-none : (w : List ℕ) (g : ℕ) → templateFrom w g 0 ≡ emptyT
+unfolding templateFrom templateStep wordAt within
+templateFrom-none w zero = refl
+templateFrom-none w (suc g) = refl
 
-  pub templateAt-below : (a b : List ℕ) (at : ℕ) → take at a ≡ take at b → templateAt items a at ≡ templateAt items b at
-  unfolding templateAt
-  templateAt-below = from-below (templateFrom items) (templateStep items) emptyT templateFrom-step templateFrom-none (templateStep-agree items)
+pub templateAt-below : (a b : List ℕ) (at : ℕ) → take at a ≡ take at b → templateAt a at ≡ templateAt b at
+unfolding templateAt
+templateAt-below = from-below templateFrom templateStep emptyT templateFrom-step templateFrom-none templateStep-agree
 
-  templateAt-whole : (w : List ℕ) (at : ℕ) → 0 < at → templateAt items w at ≡ templateStep items w (templateAt items w) at
-  unfolding templateAt
-  templateAt-whole = from-whole (templateFrom items) (templateStep items) emptyT templateFrom-step templateFrom-none (templateStep-agree items)
+templateAt-whole : (w : List ℕ) (at : ℕ) → 0 < at → templateAt w at ≡ templateStep w (templateAt w) at
+unfolding templateAt
+templateAt-whole = from-whole templateFrom templateStep emptyT templateFrom-step templateFrom-none templateStep-agree
 
-  templateAt-step : (w : List ℕ) (at : ℕ) → templateAt items w at ≡ templateStep items w (templateAt items w) at
-  unfolding templateAt templateFrom templateStep wordAt within
-  templateAt-step w zero = refl
-  templateAt-step w (suc at) = templateAt-whole w (suc at) (omega arith)
+templateAt-step : (w : List ℕ) (at : ℕ) → templateAt w at ≡ templateStep w (templateAt w) at
+unfolding templateAt templateFrom templateStep wordAt within
+templateAt-step w zero = refl
+templateAt-step w (suc at) = templateAt-whole w (suc at) (omega arith)
 
-  -- one rule, then those after it
-  rulesStep : List ℕ → (ℕ → List Rule) → ℕ → List Rule
-  rulesStep w later at = cond (eqb at 0) [] (ruleAt items w at ∷ later (referenceAt w at 1))
+-- one rule, then those after it
+rulesStep : List ℕ → (ℕ → List Rule) → ℕ → List Rule
+rulesStep w later at = cond (eqb at 0) [] (ruleAt w at ∷ later (referenceAt w at 1))
 
-  rulesStep-agree : (a b : List ℕ) (at : ℕ) → 0 < at → take at a ≡ take at b → (f g : ℕ → List Rule) → ((r : ℕ) → r < at → f r ≡ g r) → rulesStep a f at ≡ rulesStep b g at
-  unfolding rulesStep
-  rulesStep-agree a b at some-word e f g agree =
-      let under : (r : ℕ) → r < at → take r a ≡ take r b = λ r l. take-less a b r at (omega arith) e in
-      rw (ruleAt-agree items a b at some-word e (λ r l. patternAt-below a b r (under r l)) (λ r l. templateAt-below a b r (under r l)), child items a b at some-word e f g agree 1 (omega arith))
+rulesStep-agree : (a b : List ℕ) (at : ℕ) → 0 < at → take at a ≡ take at b → (f g : ℕ → List Rule) → ((r : ℕ) → r < at → f r ≡ g r) → rulesStep a f at ≡ rulesStep b g at
+unfolding rulesStep
+rulesStep-agree a b at some-word e f g agree =
+    let under : (r : ℕ) → r < at → take r a ≡ take r b = λ r l. take-less a b r at (omega arith) e in
+    rw (ruleAt-agree a b at some-word e (λ r l. patternAt-below a b r (under r l)) (λ r l. templateAt-below a b r (under r l)), child a b at some-word e f g agree 1 (omega arith))
 
-  rulesFrom-step : (w : List ℕ) (g at : ℕ) → rulesFrom items w (suc g) at ≡ rulesStep w (rulesFrom items w g) at
-  unfolding rulesFrom rulesStep
-  rulesFrom-step w g at = refl
+rulesFrom-step : (w : List ℕ) (g at : ℕ) → rulesFrom w (suc g) at ≡ rulesStep w (rulesFrom w g) at
+unfolding rulesFrom rulesStep
+rulesFrom-step w g at = refl
 
-  rulesFrom-none : (w : List ℕ) (g : ℕ) → rulesFrom items w g 0 ≡ []
-  unfolding rulesFrom
-  rulesFrom-none w zero = refl
-  rulesFrom-none w (suc g) = refl
+rulesFrom-none : (w : List ℕ) (g : ℕ) → rulesFrom w g 0 ≡ []
+unfolding rulesFrom
+rulesFrom-none w zero = refl
+rulesFrom-none w (suc g) = refl
 
-  pub rulesAt-below : (a b : List ℕ) (at : ℕ) → take at a ≡ take at b → rulesAt items a at ≡ rulesAt items b at
-  unfolding rulesAt
-  rulesAt-below = from-below (rulesFrom items) rulesStep [] rulesFrom-step rulesFrom-none rulesStep-agree
+pub rulesAt-below : (a b : List ℕ) (at : ℕ) → take at a ≡ take at b → rulesAt a at ≡ rulesAt b at
+unfolding rulesAt
+rulesAt-below = from-below rulesFrom rulesStep [] rulesFrom-step rulesFrom-none rulesStep-agree
 
-  rulesAt-whole : (w : List ℕ) (at : ℕ) → 0 < at → rulesAt items w at ≡ rulesStep w (rulesAt items w) at
-  unfolding rulesAt
-  rulesAt-whole = from-whole (rulesFrom items) rulesStep [] rulesFrom-step rulesFrom-none rulesStep-agree
+rulesAt-whole : (w : List ℕ) (at : ℕ) → 0 < at → rulesAt w at ≡ rulesStep w (rulesAt w) at
+unfolding rulesAt
+rulesAt-whole = from-whole rulesFrom rulesStep [] rulesFrom-step rulesFrom-none rulesStep-agree
 
 -- ---- what each cell of a pattern means
 
-module _ (items work : List ℕ) (at : ℕ) where
-  pub patternAt-variable : wordAt work at 1 ≡ 1 → patternAt items work at ≡ variableP (wordAt work at 2)
+module _ (work : List ℕ) (at : ℕ) where
+  pub patternAt-variable : wordAt work at 1 ≡ 1 → patternAt work at ≡ variableP (wordAt work at 2)
   unfolding patternStep
-  patternAt-variable e = patternAt-step items work at ∙ rw e refl
+  patternAt-variable e = patternAt-step work at ∙ rw e refl
 
-  pub patternAt-literal : wordAt work at 1 ≡ 2 → patternAt items work at ≡ literalP (literalAt items work at)
+  pub patternAt-literal : wordAt work at 1 ≡ 2 → patternAt work at ≡ literalP (literalAt work at)
   unfolding patternStep
-  patternAt-literal e = patternAt-step items work at ∙ rw e refl
+  patternAt-literal e = patternAt-step work at ∙ rw e refl
 
-  pub patternAt-wildcard : wordAt work at 1 ≡ 3 → patternAt items work at ≡ wildcardP
+  pub patternAt-wildcard : wordAt work at 1 ≡ 3 → patternAt work at ≡ wildcardP
   unfolding patternStep
-  patternAt-wildcard e = patternAt-step items work at ∙ rw e refl
+  patternAt-wildcard e = patternAt-step work at ∙ rw e refl
 
-  pub patternAt-constant : wordAt work at 1 ≡ 4 → patternAt items work at ≡ constantP (constantBefore work at)
+  pub patternAt-constant : wordAt work at 1 ≡ 4 → patternAt work at ≡ constantP (constantBefore work at)
   unfolding patternStep
-  patternAt-constant e = patternAt-step items work at ∙ rw e refl
+  patternAt-constant e = patternAt-step work at ∙ rw e refl
 
-  pub patternAt-pair : wordAt work at 1 ≡ 6 → patternAt items work at ≡ pairP (patternAt items work (referenceAt work at 3)) (patternAt items work (referenceAt work at 2))
+  pub patternAt-pair : wordAt work at 1 ≡ 6 → patternAt work at ≡ pairP (patternAt work (referenceAt work at 3)) (patternAt work (referenceAt work at 2))
   unfolding patternStep
-  patternAt-pair e = patternAt-step items work at ∙ rw e refl
+  patternAt-pair e = patternAt-step work at ∙ rw e refl
 
-  pub patternAt-ellipsis : wordAt work at 1 ≡ 7 → patternAt items work at ≡ ellipsisP (patternAt items work (referenceAt work at 2))
+  pub patternAt-ellipsis : wordAt work at 1 ≡ 7 → patternAt work at ≡ ellipsisP (patternAt work (referenceAt work at 2))
   unfolding patternStep
-  patternAt-ellipsis e = patternAt-step items work at ∙ rw e refl
+  patternAt-ellipsis e = patternAt-step work at ∙ rw e refl
 
   -- any other tag
-  pub patternAt-empty : (wordAt work at 1 ≡ 1 → ⊥) → (wordAt work at 1 ≡ 2 → ⊥) → (wordAt work at 1 ≡ 3 → ⊥) → (wordAt work at 1 ≡ 4 → ⊥) → (wordAt work at 1 ≡ 6 → ⊥) → (wordAt work at 1 ≡ 7 → ⊥) → patternAt items work at ≡ emptyP
+  pub patternAt-empty : (wordAt work at 1 ≡ 1 → ⊥) → (wordAt work at 1 ≡ 2 → ⊥) → (wordAt work at 1 ≡ 3 → ⊥) → (wordAt work at 1 ≡ 4 → ⊥) → (wordAt work at 1 ≡ 6 → ⊥) → (wordAt work at 1 ≡ 7 → ⊥) → patternAt work at ≡ emptyP
   unfolding patternStep
-  patternAt-empty n1 n2 n3 n4 n6 n7 = patternAt-step items work at ∙ rw (ne-eqb _ _ n1, ne-eqb _ _ n2, ne-eqb _ _ n3, ne-eqb _ _ n4, ne-eqb _ _ n6, ne-eqb _ _ n7)
+  patternAt-empty n1 n2 n3 n4 n6 n7 = patternAt-step work at ∙ rw (ne-eqb _ _ n1, ne-eqb _ _ n2, ne-eqb _ _ n3, ne-eqb _ _ n4, ne-eqb _ _ n6, ne-eqb _ _ n7)
 
   -- ---- what each cell of a template means
 
-  pub templateAt-variable : wordAt work at 1 ≡ 1 → templateAt items work at ≡ variableT (wordAt work at 3) (wordAt work at 2)
+  pub templateAt-variable : wordAt work at 1 ≡ 1 → templateAt work at ≡ variableT (wordAt work at 3) (wordAt work at 2)
   unfolding templateStep
-  templateAt-variable e = templateAt-step items work at ∙ rw e refl
+  templateAt-variable e = templateAt-step work at ∙ rw e refl
 
-  pub templateAt-insert : wordAt work at 1 ≡ 2 → templateAt items work at ≡ insertT (nameAt items work (referenceAt work at 3) (referenceAt work at 2))
+  pub templateAt-insert : wordAt work at 1 ≡ 2 → templateAt work at ≡ insertT (nameAt work (referenceAt work at 3) (referenceAt work at 2))
   unfolding templateStep
-  templateAt-insert e = templateAt-step items work at ∙ rw e refl
+  templateAt-insert e = templateAt-step work at ∙ rw e refl
 
-  pub templateAt-constant : wordAt work at 1 ≡ 4 → templateAt items work at ≡ constantT (constantBefore work at)
+  pub templateAt-constant : wordAt work at 1 ≡ 4 → templateAt work at ≡ constantT (constantBefore work at)
   unfolding templateStep
-  templateAt-constant e = templateAt-step items work at ∙ rw e refl
+  templateAt-constant e = templateAt-step work at ∙ rw e refl
 
-  pub templateAt-pair : wordAt work at 1 ≡ 6 → templateAt items work at ≡ pairT (templateAt items work (referenceAt work at 3)) (templateAt items work (referenceAt work at 2))
+  pub templateAt-pair : wordAt work at 1 ≡ 6 → templateAt work at ≡ pairT (templateAt work (referenceAt work at 3)) (templateAt work (referenceAt work at 2))
   unfolding templateStep
-  templateAt-pair e = templateAt-step items work at ∙ rw e refl
+  templateAt-pair e = templateAt-step work at ∙ rw e refl
 
-  pub templateAt-ellipsis : wordAt work at 1 ≡ 7 → templateAt items work at ≡ ellipsisT (templateAt items work (referenceAt work at 3)) (templateAt items work (referenceAt work at 2))
+  pub templateAt-ellipsis : wordAt work at 1 ≡ 7 → templateAt work at ≡ ellipsisT (templateAt work (referenceAt work at 3)) (templateAt work (referenceAt work at 2))
   unfolding templateStep
-  templateAt-ellipsis e = templateAt-step items work at ∙ rw e refl
+  templateAt-ellipsis e = templateAt-step work at ∙ rw e refl
 
   -- any other tag
-  pub templateAt-empty : (wordAt work at 1 ≡ 1 → ⊥) → (wordAt work at 1 ≡ 2 → ⊥) → (wordAt work at 1 ≡ 4 → ⊥) → (wordAt work at 1 ≡ 6 → ⊥) → (wordAt work at 1 ≡ 7 → ⊥) → templateAt items work at ≡ emptyT
+  pub templateAt-empty : (wordAt work at 1 ≡ 1 → ⊥) → (wordAt work at 1 ≡ 2 → ⊥) → (wordAt work at 1 ≡ 4 → ⊥) → (wordAt work at 1 ≡ 6 → ⊥) → (wordAt work at 1 ≡ 7 → ⊥) → templateAt work at ≡ emptyT
   unfolding templateStep
-  templateAt-empty n1 n2 n4 n6 n7 = templateAt-step items work at ∙ rw (ne-eqb _ _ n1, ne-eqb _ _ n2, ne-eqb _ _ n4, ne-eqb _ _ n6, ne-eqb _ _ n7)
+  templateAt-empty n1 n2 n4 n6 n7 = templateAt-step work at ∙ rw (ne-eqb _ _ n1, ne-eqb _ _ n2, ne-eqb _ _ n4, ne-eqb _ _ n6, ne-eqb _ _ n7)
 
   -- ---- lists of rules
 
-  pub rulesAt-none : at ≡ 0 → rulesAt items work at ≡ []
+  pub rulesAt-none : at ≡ 0 → rulesAt work at ≡ []
   unfolding rulesAt
-  rulesAt-none e = rw e (rulesFrom-none items work 0)
+  rulesAt-none e = rw e (rulesFrom-none work 0)
 
-  pub rulesAt-more : 0 < at → rulesAt items work at ≡ ruleAt items work at ∷ rulesAt items work (referenceAt work at 1)
+  pub rulesAt-more : 0 < at → rulesAt work at ≡ ruleAt work at ∷ rulesAt work (referenceAt work at 1)
   unfolding rulesStep
-  rulesAt-more h = rulesAt-whole items work at h ∙ rw (ne-eqb at 0 (λ z. omega arith))
+  rulesAt-more h = rulesAt-whole work at h ∙ rw (ne-eqb at 0 (λ z. omega arith))

@@ -16,18 +16,18 @@ constantBefore work at = record { kind = wordAt work at 4; first = wordAt work a
 -- ---- patterns
 
 -- a literal's cell keeps what its lookup has found, number and binding, beside its name's node and pending wrap
-unfoldable pub literalAt : (items work : List ℕ) → ℕ → Name
-literalAt items work at =
-    let x = nameAt items work (referenceAt work at 5) (referenceAt work at 4) in
+unfoldable pub literalAt : List ℕ → ℕ → Name
+literalAt work at =
+    let x = nameAt work (referenceAt work at 5) (referenceAt work at 4) in
     record { number = wordAt work at 3; item = x .item; produced = x .produced; marks = x .marks; binding = bindingOf (wordAt work at 2) }
 
 -- tags: 1 variable (k), 2 literal (node, wrap, number, binding), 3 wildcard, 4 constant (three words), 6 pair (head, tail),
 -- 7 ellipsis (element); any other the empty list
-unfoldable pub patternStep : (items work : List ℕ) → (ℕ → Pattern) → ℕ → Pattern
-patternStep items work below at =
+unfoldable pub patternStep : List ℕ → (ℕ → Pattern) → ℕ → Pattern
+patternStep work below at =
     let tag = wordAt work at 1 in
     cond (eqb tag 1) (variableP (wordAt work at 2))
-    (cond (eqb tag 2) (literalP (literalAt items work at))
+    (cond (eqb tag 2) (literalP (literalAt work at))
     (cond (eqb tag 3) wildcardP
     (cond (eqb tag 4) (constantP (constantBefore work at))
     (cond (eqb tag 6) (pairP (below (referenceAt work at 3)) (below (referenceAt work at 2)))
@@ -35,42 +35,42 @@ patternStep items work below at =
     emptyP)))))
 
 -- references fall, so that the reference itself is gas enough
-unfoldable pub patternFrom : (items work : List ℕ) → ℕ → ℕ → Pattern
-patternFrom items work zero at = emptyP
-patternFrom items work (suc gas) at = patternStep items work (patternFrom items work gas) at
+unfoldable pub patternFrom : List ℕ → ℕ → ℕ → Pattern
+patternFrom work zero at = emptyP
+patternFrom work (suc gas) at = patternStep work (patternFrom work gas) at
 
-unfoldable pub patternAt : (items work : List ℕ) → ℕ → Pattern
-patternAt items work at = patternFrom items work at at
+unfoldable pub patternAt : List ℕ → ℕ → Pattern
+patternAt work at = patternFrom work at at
 
 -- ---- templates
 
 -- tags: 1 variable (k, d), 2 inserted name (node, wrap), 4 constant (three words), 6 pair (head, tail), 7 ellipsis (element, rest);
 -- any other the empty list
-unfoldable pub templateStep : (items work : List ℕ) → (ℕ → Template) → ℕ → Template
-templateStep items work below at =
+unfoldable pub templateStep : List ℕ → (ℕ → Template) → ℕ → Template
+templateStep work below at =
     let tag = wordAt work at 1 in
     cond (eqb tag 1) (variableT (wordAt work at 3) (wordAt work at 2))
-    (cond (eqb tag 2) (insertT (nameAt items work (referenceAt work at 3) (referenceAt work at 2)))
+    (cond (eqb tag 2) (insertT (nameAt work (referenceAt work at 3) (referenceAt work at 2)))
     (cond (eqb tag 4) (constantT (constantBefore work at))
     (cond (eqb tag 6) (pairT (below (referenceAt work at 3)) (below (referenceAt work at 2)))
     (cond (eqb tag 7) (ellipsisT (below (referenceAt work at 3)) (below (referenceAt work at 2)))
     emptyT))))
 
-unfoldable pub templateFrom : (items work : List ℕ) → ℕ → ℕ → Template
-templateFrom items work zero at = emptyT
-templateFrom items work (suc gas) at = templateStep items work (templateFrom items work gas) at
+unfoldable pub templateFrom : List ℕ → ℕ → ℕ → Template
+templateFrom work zero at = emptyT
+templateFrom work (suc gas) at = templateStep work (templateFrom work gas) at
 
-unfoldable pub templateAt : (items work : List ℕ) → ℕ → Template
-templateAt items work at = templateFrom items work at at
+unfoldable pub templateAt : List ℕ → ℕ → Template
+templateAt work at = templateFrom work at at
 
 -- ---- lists of rules: a rule's pattern, template and the rules after it; 0 is no rule
 
-unfoldable pub ruleAt : (items work : List ℕ) → ℕ → Rule
-ruleAt items work at = record { pattern = patternAt items work (referenceAt work at 3); template = templateAt items work (referenceAt work at 2) }
+unfoldable pub ruleAt : List ℕ → ℕ → Rule
+ruleAt work at = record { pattern = patternAt work (referenceAt work at 3); template = templateAt work (referenceAt work at 2) }
 
-unfoldable pub rulesFrom : (items work : List ℕ) → ℕ → ℕ → List Rule
-rulesFrom items work zero at = []
-rulesFrom items work (suc gas) at = let later = rulesFrom items work gas (referenceAt work at 1) in cond (eqb at 0) [] (ruleAt items work at ∷ later)
+unfoldable pub rulesFrom : List ℕ → ℕ → ℕ → List Rule
+rulesFrom work zero at = []
+rulesFrom work (suc gas) at = let later = rulesFrom work gas (referenceAt work at 1) in cond (eqb at 0) [] (ruleAt work at ∷ later)
 
-unfoldable pub rulesAt : (items work : List ℕ) → ℕ → List Rule
-rulesAt items work at = rulesFrom items work at at
+unfoldable pub rulesAt : List ℕ → ℕ → List Rule
+rulesAt work at = rulesFrom work at at

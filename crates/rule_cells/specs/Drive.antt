@@ -20,10 +20,10 @@ unfoldable pub drives : ℕ → Template → Bool
 drives j t = ltb 0 (length (drivers j t))
 
 abbrev pub Drives : (work : List ℕ) (at j : ℕ) → Bool → Type 0
-Drives work at j r = (items : List ℕ) → r ≡ drives j (templateAt items work at)
+Drives work at j r = r ≡ drives j (templateAt work at)
 
 abbrev pub Accepts : (work : List ℕ) (dots : Bool) (at : ℕ) → Bool → Type 0
-Accepts work dots at r = (items : List ℕ) → r ≡ (not dots || drives 0 (templateAt items work at))
+Accepts work dots at r = r ≡ (not dots || drives 0 (templateAt work at))
 
 -- ---- laws
 
@@ -45,23 +45,23 @@ drives-ellipsis j e r = some-of (drivers (suc j) e) (drivers j r)
 
 module _ (work : List ℕ) (at j : ℕ) where
   pub driven-variable : (d : ℕ) → wordAt work at 1 ≡ 1 → d ≡ wordAt work at 2 → Drives work at j (ltb j d)
-  driven-variable d e f items = rw f (drives-variable j (wordAt work at 3) (wordAt work at 2)) ∙ sym (ap (drives j) (templateAt-variable items work at e))
+  driven-variable d e f = rw f (drives-variable j (wordAt work at 3) (wordAt work at 2)) ∙ sym (ap (drives j) (templateAt-variable work at e))
 
-  driven-leaf : (t : Template) (items : List ℕ) → templateAt items work at ≡ t → false ≡ drives j t → false ≡ drives j (templateAt items work at)
-  driven-leaf t items e d = d ∙ sym (ap (drives j) e)
+  driven-leaf : (t : Template) → templateAt work at ≡ t → false ≡ drives j t → false ≡ drives j (templateAt work at)
+  driven-leaf t e d = d ∙ sym (ap (drives j) e)
 
   pub driven-other : (tag : ℕ) → tag ≡ wordAt work at 1 → (tag ≡ 1 → ⊥) → (tag ≡ 6 → ⊥) → (tag ≡ 7 → ⊥) → Drives work at j false
   unfolding drives drivers
-  driven-other tag g n1 n6 n7 items =
+  driven-other tag g n1 n6 n7 =
       let m1 : wordAt work at 1 ≡ 1 → ⊥ = λ z. n1 (g ∙ z) in
       let m6 : wordAt work at 1 ≡ 6 → ⊥ = λ z. n6 (g ∙ z) in
       let m7 : wordAt work at 1 ≡ 7 → ⊥ = λ z. n7 (g ∙ z) in
       either (eqb (wordAt work at 1) 2)
-      (λ t. driven-leaf _ items (templateAt-insert items work at (eqb-true (wordAt work at 1) 2 t)) refl)
+      (λ t. driven-leaf _ (templateAt-insert work at (eqb-true (wordAt work at 1) 2 t)) refl)
       (λ t.
       either (eqb (wordAt work at 1) 4)
-      (λ u. driven-leaf _ items (templateAt-constant items work at (eqb-true (wordAt work at 1) 4 u)) refl)
-      (λ u. driven-leaf emptyT items (templateAt-empty items work at m1 (eqb-false (wordAt work at 1) 2 t) (eqb-false (wordAt work at 1) 4 u) m6 m7) refl))
+      (λ u. driven-leaf _ (templateAt-constant work at (eqb-true (wordAt work at 1) 4 u)) refl)
+      (λ u. driven-leaf emptyT (templateAt-empty work at m1 (eqb-false (wordAt work at 1) 2 t) (eqb-false (wordAt work at 1) 4 u) m6 m7) refl))
 
   -- a pair or an ellipsis: its tag says how much deeper its first part lies
   module _ (tag first rest : ℕ) (g : tag ≡ wordAt work at 1) (low : 6 ≤ tag) (high : tag ≤ 7) (f : first ≡ referenceAt work at 3) (h : rest ≡ referenceAt work at 2) where
@@ -70,30 +70,30 @@ module _ (work : List ℕ) (at j : ℕ) where
         let p : 0 < at = wordAt-some work at 1 (omega arith) (λ z. omega arith) in
         (omega (arith, referenceAt-falls work at 3 p), omega (arith, referenceAt-falls work at 2 p))
 
-    driven-parts : (items : List ℕ) → drives j (templateAt items work at) ≡ (drives (j + (tag - 6)) (templateAt items work first) || drives j (templateAt items work rest))
-    driven-parts items =
+    driven-parts : drives j (templateAt work at) ≡ (drives (j + (tag - 6)) (templateAt work first) || drives j (templateAt work rest))
+    driven-parts =
         either (eqb tag 6)
         (λ t.
         let e : tag ≡ 6 = eqb-true tag 6 t in
         let z : j + (tag - 6) ≡ j = omega arith in
-        rw (templateAt-pair items work at (sym g ∙ e), z, f, h) (drives-pair j (templateAt items work (referenceAt work at 3)) (templateAt items work (referenceAt work at 2))))
+        rw (templateAt-pair work at (sym g ∙ e), z, f, h) (drives-pair j (templateAt work (referenceAt work at 3)) (templateAt work (referenceAt work at 2))))
         (λ t.
         let n : tag ≡ 6 → ⊥ = eqb-false tag 6 t in
         let e : tag ≡ 7 = omega arith in
         let z : j + (tag - 6) ≡ suc j = omega arith in
-        rw (templateAt-ellipsis items work at (sym g ∙ e), z, f, h) (drives-ellipsis j (templateAt items work (referenceAt work at 3)) (templateAt items work (referenceAt work at 2))))
+        rw (templateAt-ellipsis work at (sym g ∙ e), z, f, h) (drives-ellipsis j (templateAt work (referenceAt work at 3)) (templateAt work (referenceAt work at 2))))
 
     pub driven-first : Drives work first (j + (tag - 6)) true → Drives work at j true
-    driven-first d items = sym (driven-parts items ∙ ap (λ (b : Bool). b || drives j (templateAt items work rest)) (sym (d items)))
+    driven-first d = sym (driven-parts ∙ ap (λ (b : Bool). b || drives j (templateAt work rest)) (sym d))
 
     pub driven-rest : (r : Bool) → Drives work first (j + (tag - 6)) false → Drives work rest j r → Drives work at j r
-    driven-rest r d k items = k items ∙ sym (driven-parts items ∙ ap (λ (b : Bool). b || drives j (templateAt items work rest)) (sym (d items)))
+    driven-rest r d k = k ∙ sym (driven-parts ∙ ap (λ (b : Bool). b || drives j (templateAt work rest)) (sym d))
 
 pub accepted-dots : (work : List ℕ) (at : ℕ) (dots r : Bool) → dots ≡ true → Drives work at 0 r → Accepts work dots at r
-accepted-dots work at dots r e d items = rw e (d items)
+accepted-dots work at dots r e d = rw e d
 
 pub accepted-plain : (work : List ℕ) (at : ℕ) (dots : Bool) → dots ≡ false → Accepts work dots at true
-accepted-plain work at dots e items = rw e refl
+accepted-plain work at dots e = rw e refl
 
 pub depth-none : (d here : ℕ) → d ≡ 0 → true ≡ depthFits d here
 unfolding depthFits
@@ -105,9 +105,9 @@ depth-same d here n = rw (ne-eqb d 0 n) refl
 
 -- ---- an ellipsis or a pair
 
-module _ (e r : List ℕ → Template) (old new : List ℕ) (top at : ℕ) (dots : Bool) where
-  pub made-dots : dots ≡ true → Made templateAt (λ items. ellipsisT (e items) (r items)) old new top at → Made templateAt (λ items. cond dots (ellipsisT (e items) (r items)) (pairT (e items) (r items))) old new top at
-  made-dots d m = record { end = m .end; kept = m .kept; means = λ items. m .means items ∙ rw d refl }
+module _ (e r : Template) (old new : List ℕ) (top at : ℕ) (dots : Bool) where
+  pub made-dots : dots ≡ true → Made templateAt (ellipsisT e r) old new top at → Made templateAt (cond dots (ellipsisT e r) (pairT e r)) old new top at
+  made-dots d m = record { end = m .end; kept = m .kept; means = m .means ∙ rw d refl }
 
-  pub made-plain : dots ≡ false → Made templateAt (λ items. pairT (e items) (r items)) old new top at → Made templateAt (λ items. cond dots (ellipsisT (e items) (r items)) (pairT (e items) (r items))) old new top at
-  made-plain d m = record { end = m .end; kept = m .kept; means = λ items. m .means items ∙ rw d refl }
+  pub made-plain : dots ≡ false → Made templateAt (pairT e r) old new top at → Made templateAt (cond dots (ellipsisT e r) (pairT e r)) old new top at
+  made-plain d m = record { end = m .end; kept = m .kept; means = m .means ∙ rw d refl }

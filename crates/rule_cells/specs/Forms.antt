@@ -16,7 +16,7 @@ use Rattle.expansion.specs.Lookup.{isSyntaxRules}
 use Rattle.expansion.specs.Rules.{isRulesForm}
 use Rattle.arena.specs.Arena.{wordAt, referenceAt, nameAt, treeAt, numberOf}
 use Rattle.arena.specs.NodeLaws.{treeAt-name, treeAt-pair, nameAt-number}
-use Rattle.arena.specs.Lists.{Means, Counts, Tests, TestsIn}
+use Rattle.arena.specs.Lists.{Means, Counts, Tests}
 use Rattle.arena.specs.ListLaws.{no-name, no-elements}
 
 -- every element of a list is a name other than `...` and `_`
@@ -29,45 +29,45 @@ literalsGood t = isList t && (ordinaryAll t && leb (length (elements t)) literal
 
 -- ---- ordinary names
 
-module _ (items work : List ℕ) (node : ℕ) where
-  pub all-end : (wordAt work node 3 ≡ 4 → ⊥) → TestsIn ordinaryAll items work node true
+module _ (work : List ℕ) (node : ℕ) where
+  pub all-end : (wordAt work node 3 ≡ 4 → ⊥) → Tests ordinaryAll work node true
   unfolding ordinaryAll allOf
-  all-end n w = rw (no-elements items work node w n) refl
+  all-end n w = rw (no-elements work node w n) refl
 
   module _ (first : ℕ) (e : wordAt work node 3 ≡ 4) (f : first ≡ referenceAt work node 2) where
-    pub all-no : TestsIn isOrdinaryName items work first false → TestsIn ordinaryAll items work node false
+    pub all-no : Tests isOrdinaryName work first false → Tests ordinaryAll work node false
     unfolding ordinaryAll allOf elements
-    all-no h w = rw (treeAt-pair items work node w e, ← f, ← h w) refl
+    all-no h w = rw (treeAt-pair work node w e, ← f, ← h w) refl
 
-    pub all-more : (rest : ℕ) (r : Bool) → rest ≡ referenceAt work node 1 → TestsIn isOrdinaryName items work first true → TestsIn ordinaryAll items work rest r → TestsIn ordinaryAll items work node r
+    pub all-more : (rest : ℕ) (r : Bool) → rest ≡ referenceAt work node 1 → Tests isOrdinaryName work first true → Tests ordinaryAll work rest r → Tests ordinaryAll work node r
     unfolding ordinaryAll allOf elements
-    all-more rest r g h k w = rw (treeAt-pair items work node w e, ← f, ← g, ← h w) (k w)
+    all-more rest r g h k w = rw (treeAt-pair work node w e, ← f, ← g, ← h w) (k w)
 
   -- ---- literals
 
-  pub literals-no : Tests isList work node false → TestsIn literalsGood items work node false
+  pub literals-no : Tests isList work node false → Tests literalsGood work node false
   unfolding literalsGood
-  literals-no h w = rw (← h items w) refl
+  literals-no h w = rw (← h w) refl
 
   module _ (l : Tests isList work node true) where
-    pub literals-other : TestsIn ordinaryAll items work node false → TestsIn literalsGood items work node false
+    pub literals-other : Tests ordinaryAll work node false → Tests literalsGood work node false
     unfolding literalsGood
-    literals-other h w = rw (← l items w, ← h w) refl
+    literals-other h w = rw (← l w, ← h w) refl
 
-    pub literals-most : (n : ℕ) → TestsIn ordinaryAll items work node true → Counts work node n → TestsIn literalsGood items work node (leb n 8)
+    pub literals-most : (n : ℕ) → Tests ordinaryAll work node true → Counts work node n → Tests literalsGood work node (leb n 8)
     unfolding literalsGood
-    literals-most n h c w = rw (← l items w, ← h w, ← c .is items w) refl
+    literals-most n h c w = rw (← l w, ← h w, ← c .is w) refl
 
 -- ---- the head
 
-module _ (items work : List ℕ) (node w : ℕ) where
-  pub head-no : (wordAt work node 3 ≡ 3 → ⊥) → false ≡ onName isSyntaxRules false (treeAt items work node w)
-  head-no n = sym (no-name items work node w isSyntaxRules false n)
+module _ (work : List ℕ) (node w : ℕ) where
+  pub head-no : (wordAt work node 3 ≡ 3 → ⊥) → false ≡ onName isSyntaxRules false (treeAt work node w)
+  head-no n = sym (no-name work node w isSyntaxRules false n)
 
-  module _ (n : ℕ) (e : wordAt work node 3 ≡ 3) (f : n ≡ numberOf items work node) where
-    head-is : onName isSyntaxRules false (treeAt items work node w) ≡ (eqb (bindingKey (nameAt items work node w .binding)) 0 && eqb n 5)
+  module _ (n : ℕ) (e : wordAt work node 3 ≡ 3) (f : n ≡ numberOf work node) where
+    head-is : onName isSyntaxRules false (treeAt work node w) ≡ (eqb (bindingKey (nameAt work node w .binding)) 0 && eqb n 5)
     unfolding onName isSyntaxRules
-    head-is = rw (treeAt-name items work node w e, nameAt-number items work node w, ← f) refl
+    head-is = rw (treeAt-name work node w e, nameAt-number work node w, ← f) refl
 
     and-false : (b : Bool) → (b && false) ≡ false
     and-false true = refl
@@ -77,11 +77,11 @@ module _ (items work : List ℕ) (node w : ℕ) where
     and-true true = refl
     and-true false = refl
 
-    pub head-other : (n ≡ 5 → ⊥) → false ≡ onName isSyntaxRules false (treeAt items work node w)
-    head-other d = sym (head-is ∙ rw (ne-eqb n 5 d) (and-false (eqb (bindingKey (nameAt items work node w .binding)) 0)))
+    pub head-other : (n ≡ 5 → ⊥) → false ≡ onName isSyntaxRules false (treeAt work node w)
+    head-other d = sym (head-is ∙ rw (ne-eqb n 5 d) (and-false (eqb (bindingKey (nameAt work node w .binding)) 0)))
 
-    pub head-yes : (k : ℕ) → n ≡ 5 → k ≡ bindingKey (nameAt items work node w .binding) → eqb k 0 ≡ onName isSyntaxRules false (treeAt items work node w)
-    head-yes k d b = rw b (sym (head-is ∙ rw d (and-true (eqb (bindingKey (nameAt items work node w .binding)) 0))))
+    pub head-yes : (k : ℕ) → n ≡ 5 → k ≡ bindingKey (nameAt work node w .binding) → eqb k 0 ≡ onName isSyntaxRules false (treeAt work node w)
+    head-yes k d b = rw b (sym (head-is ∙ rw d (and-true (eqb (bindingKey (nameAt work node w .binding)) 0))))
 
 -- ---- the form
 
@@ -104,25 +104,25 @@ within-some : (n : ℕ) → (n ≡ 0 → ⊥) → within 1 rulesMost n ≡ leb n
 unfolding within
 within-some n h = rw (le-leb 1 n (let l : 1 ≤ n = omega arith in l)) refl
 
-module _ (items work : List ℕ) (node w first : ℕ) (p : Means work node first (element 0)) where
-  pub form-no : false ≡ onName isSyntaxRules false (treeAt items work first w) → false ≡ isRulesForm (treeAt items work node w)
-  form-no h = sym (form-is (treeAt items work node w) ∙ rw (← p .is items w, ← h) refl)
+module _ (work : List ℕ) (node w first : ℕ) (p : Means work node first (element 0)) where
+  pub form-no : false ≡ onName isSyntaxRules false (treeAt work first w) → false ≡ isRulesForm (treeAt work node w)
+  form-no h = sym (form-is (treeAt work node w) ∙ rw (← p .is w, ← h) refl)
 
-  module _ (h : true ≡ onName isSyntaxRules false (treeAt items work first w)) (after literals : ℕ) (a : Means work node after tail) (l : Means work after literals (element 0)) where
-    literals-are : element 1 (treeAt items work node w) ≡ treeAt items work literals w
-    literals-are = sym (l .is items w ∙ ap (element 0) (a .is items w) ∙ element-tail 0 (treeAt items work node w))
+  module _ (h : true ≡ onName isSyntaxRules false (treeAt work first w)) (after literals : ℕ) (a : Means work node after tail) (l : Means work after literals (element 0)) where
+    literals-are : element 1 (treeAt work node w) ≡ treeAt work literals w
+    literals-are = sym (l .is w ∙ ap (element 0) (a .is w) ∙ element-tail 0 (treeAt work node w))
 
-    pub form-literals : TestsIn literalsGood items work literals false → false ≡ isRulesForm (treeAt items work node w)
-    form-literals g = sym (form-is (treeAt items work node w) ∙ rw (← p .is items w, ← h, literals-are, ← g w) refl)
+    pub form-literals : Tests literalsGood work literals false → false ≡ isRulesForm (treeAt work node w)
+    form-literals g = sym (form-is (treeAt work node w) ∙ rw (← p .is w, ← h, literals-are, ← g w) refl)
 
-    module _ (g : TestsIn literalsGood items work literals true) (list n : ℕ) (b : Means work after list tail) (c : Counts work list n) where
-      form-count : isRulesForm (treeAt items work node w) ≡ within 1 rulesMost n
+    module _ (g : Tests literalsGood work literals true) (list n : ℕ) (b : Means work after list tail) (c : Counts work list n) where
+      form-count : isRulesForm (treeAt work node w) ≡ within 1 rulesMost n
       form-count =
-          let e : tail (tail (treeAt items work node w)) ≡ treeAt items work list w = sym (b .is items w ∙ ap tail (a .is items w)) in
-          form-is (treeAt items work node w) ∙ rw (← p .is items w, ← h, literals-are, ← g w, e, ← c .is items w) refl
+          let e : tail (tail (treeAt work node w)) ≡ treeAt work list w = sym (b .is w ∙ ap tail (a .is w)) in
+          form-is (treeAt work node w) ∙ rw (← p .is w, ← h, literals-are, ← g w, e, ← c .is w) refl
 
-      pub form-none : n ≡ 0 → false ≡ isRulesForm (treeAt items work node w)
+      pub form-none : n ≡ 0 → false ≡ isRulesForm (treeAt work node w)
       form-none z = sym (form-count ∙ rw z within-none)
 
-      pub form-some : (n ≡ 0 → ⊥) → leb n 16 ≡ isRulesForm (treeAt items work node w)
+      pub form-some : (n ≡ 0 → ⊥) → leb n 16 ≡ isRulesForm (treeAt work node w)
       form-some z = sym (form-count ∙ within-some n z)

@@ -44,24 +44,24 @@ module _ (literals : List Name) (x : Name) where
 
 -- ---- leaves
 
-module _ (items work : List ℕ) (node w : ℕ) (literals : List Name) where
-  pub leaf-no-name : (wordAt work node 3 ≡ 3 → ⊥) → 0 ≡ leafCount literals (treeAt items work node w)
+module _ (work : List ℕ) (node w : ℕ) (literals : List Name) where
+  pub leaf-no-name : (wordAt work node 3 ≡ 3 → ⊥) → 0 ≡ leafCount literals (treeAt work node w)
   unfolding leafCount
-  leaf-no-name n = sym (no-name items work node w (λ x. cond (isVariable isEllipsis literals x) 1 0) 0 n)
+  leaf-no-name n = sym (no-name work node w (λ x. cond (isVariable isEllipsis literals x) 1 0) 0 n)
 
-  pub leaf-none : wordAt work node 3 ≡ 3 → isVariable isEllipsis literals (nameAt items work node w) ≡ false → 0 ≡ leafCount literals (treeAt items work node w)
+  pub leaf-none : wordAt work node 3 ≡ 3 → isVariable isEllipsis literals (nameAt work node w) ≡ false → 0 ≡ leafCount literals (treeAt work node w)
   unfolding leafCount onName
-  leaf-none e v = rw (treeAt-name items work node w e, v) refl
+  leaf-none e v = rw (treeAt-name work node w e, v) refl
 
-  pub leaf-one : wordAt work node 3 ≡ 3 → isVariable isEllipsis literals (nameAt items work node w) ≡ true → 1 ≡ leafCount literals (treeAt items work node w)
+  pub leaf-one : wordAt work node 3 ≡ 3 → isVariable isEllipsis literals (nameAt work node w) ≡ true → 1 ≡ leafCount literals (treeAt work node w)
   unfolding leafCount onName
-  leaf-one e v = rw (treeAt-name items work node w e, v) refl
+  leaf-one e v = rw (treeAt-name work node w e, v) refl
 
 -- an element lies at most one deeper than its list
-pub deeper-most : (items work : List ℕ) (rest d r : ℕ) → Deeper items work rest d r → r ≤ d + 1
+pub deeper-most : (work : List ℕ) (rest d r : ℕ) → Deeper work rest d r → r ≤ d + 1
 unfolding depthBefore
-deeper-most items work rest d r h =
-    either (dotsNext isEllipsis (treeAt items work rest 0))
+deeper-most work rest d r h =
+    either (dotsNext isEllipsis (treeAt work rest 0))
     (λ t. let e : r ≡ suc d = rw t at (h 0) in omega arith)
     (λ t. let e : r ≡ d = rw t at (h 0) in omega arith)
 
@@ -76,80 +76,80 @@ unfolding keptOf
 kept-count n h = rw (ne-eqb _ _ h) refl
 
 -- a count is at most 16
-pub gathered-count : (more : List (Name × ℕ)) (items work : List ℕ) (w node n : ℕ) (old new : List ℕ) (m : ℕ) → Gathered more items work w node n old new (Count m) → Gathered more items work w node n old new (keptOf m)
-gathered-count more items work w node n old new m s =
+pub gathered-count : (more : List (Name × ℕ)) (work : List ℕ) (w node n : ℕ) (old new : List ℕ) (m : ℕ) → Gathered more work w node n old new (Count m) → Gathered more work w node n old new (keptOf m)
+gathered-count more work w node n old new m s =
     let small : m ≡ 4294967295 → ⊥ = λ z. omega (arith, s .held .most) in
-    subst (λ (k : Kept). Gathered more items work w node n old new k) (sym (kept-count m small)) s
+    subst (λ (k : Kept). Gathered more work w node n old new k) (sym (kept-count m small)) s
 
 -- ---- what is gathered
 
-module _ (items work : List ℕ) (w node n : ℕ) (old : List ℕ) where
-  gathered-is : (more more′ : List (Name × ℕ)) (new : List ℕ) (r : Kept) → more ≡ more′ → Gathered more items work w node n old new r → Gathered more′ items work w node n old new r
-  gathered-is more more′ new r e g = subst (λ (m : List (Name × ℕ)). Gathered m items work w node n old new r) e g
+module _ (work : List ℕ) (w node n : ℕ) (old : List ℕ) where
+  gathered-is : (more more′ : List (Name × ℕ)) (new : List ℕ) (r : Kept) → more ≡ more′ → Gathered more work w node n old new r → Gathered more′ work w node n old new r
+  gathered-is more more′ new r e g = subst (λ (m : List (Name × ℕ)). Gathered m work w node n old new r) e g
 
-  pub gathered-stored : (more : List (Name × ℕ)) (new : List ℕ) (r : Kept) (m : ℕ) → r ≡ Count m → Gathered more items work w node n old new r → Stored more items work w node n old new m
-  gathered-stored more new r m e g = subst (λ (k : Kept). Gathered more items work w node n old new k) e g
+  pub gathered-stored : (more : List (Name × ℕ)) (new : List ℕ) (r : Kept) (m : ℕ) → r ≡ Count m → Gathered more work w node n old new r → Stored more work w node n old new m
+  gathered-stored more new r m e g = subst (λ (k : Kept). Gathered more work w node n old new k) e g
 
-  gathered-none : Held items work w old n → Gathered [] items work w node n old old (Count n)
-  gathered-none h = record { list = sym (append-nil (variablesFrom items work w old 0 n)); held = h; under = λ b l u. u }
+  gathered-none : Held work w old n → Gathered [] work w node n old old (Count n)
+  gathered-none h = record { list = sym (append-nil (variablesFrom work w old 0 n)); held = h; under = λ b l u. u }
 
   module _ (literals : List Name) (d : ℕ) where
     -- a name that is no variable
-    pub gathered-no : (x : Name) → isVariable isEllipsis literals x ≡ false → Held items work w old n → Gathered (variables isEllipsis literals d (name x)) items work w node n old old (Count n)
+    pub gathered-no : (x : Name) → isVariable isEllipsis literals x ≡ false → Held work w old n → Gathered (variables isEllipsis literals d (name x)) work w node n old old (Count n)
     gathered-no x e h = gathered-is [] _ old (Count n) (sym (variables-none literals x d e)) (gathered-none h)
 
-    pub gathered-one : (x : Name) (new : List ℕ) (r : Kept) → isVariable isEllipsis literals x ≡ true → Gathered ((x, d) ∷ []) items work w node n old new r → Gathered (variables isEllipsis literals d (name x)) items work w node n old new r
+    pub gathered-one : (x : Name) (new : List ℕ) (r : Kept) → isVariable isEllipsis literals x ≡ true → Gathered ((x, d) ∷ []) work w node n old new r → Gathered (variables isEllipsis literals d (name x)) work w node n old new r
     gathered-one x new r e g = gathered-is _ _ new r (sym (variables-one literals x d e)) g
 
-    pub gathered-name : (new : List ℕ) (r : Kept) → wordAt work node 3 ≡ 3 → Gathered (variables isEllipsis literals d (name (nameAt items work node w))) items work w node n old new r → Gathered (variables isEllipsis literals d (treeAt items work node w)) items work w node n old new r
-    gathered-name new r e g = gathered-is _ _ new r (ap (variables isEllipsis literals d) (sym (treeAt-name items work node w e))) g
+    pub gathered-name : (new : List ℕ) (r : Kept) → wordAt work node 3 ≡ 3 → Gathered (variables isEllipsis literals d (name (nameAt work node w))) work w node n old new r → Gathered (variables isEllipsis literals d (treeAt work node w)) work w node n old new r
+    gathered-name new r e g = gathered-is _ _ new r (ap (variables isEllipsis literals d) (sym (treeAt-name work node w e))) g
 
-    variables-other : (wordAt work node 3 ≡ 3 → ⊥) → (wordAt work node 3 ≡ 4 → ⊥) → variables isEllipsis literals d (treeAt items work node w) ≡ []
+    variables-other : (wordAt work node 3 ≡ 3 → ⊥) → (wordAt work node 3 ≡ 4 → ⊥) → variables isEllipsis literals d (treeAt work node w) ≡ []
     unfolding variables
-    variables-other m k = tree-cases items work node w (λ t. variables isEllipsis literals d t ≡ []) (λ e. refl) (λ e. absurd (m e)) (λ e. absurd (k e)) (λ p q s. refl)
+    variables-other m k = tree-cases work node w (λ t. variables isEllipsis literals d t ≡ []) (λ e. refl) (λ e. absurd (m e)) (λ e. absurd (k e)) (λ p q s. refl)
 
-    pub gathered-other : (wordAt work node 3 ≡ 3 → ⊥) → (wordAt work node 3 ≡ 4 → ⊥) → Held items work w old n → Gathered (variables isEllipsis literals d (treeAt items work node w)) items work w node n old old (Count n)
+    pub gathered-other : (wordAt work node 3 ≡ 3 → ⊥) → (wordAt work node 3 ≡ 4 → ⊥) → Held work w old n → Gathered (variables isEllipsis literals d (treeAt work node w)) work w node n old old (Count n)
     gathered-other m k h = gathered-is [] _ old (Count n) (sym (variables-other m k)) (gathered-none h)
 
-    pub gathering-begins : Held items work w old n → Gathering literals d items work w node n old node n old
+    pub gathering-begins : Held work w old n → Gathering literals d work w node n old node n old
     gathering-begins h = record { low = omega arith; held = h; all = λ last r k. k }
 
     -- a pair: the variables of its head, then those of its tail
-    module _ (head rest inner : ℕ) (e : wordAt work node 3 ≡ 4) (f : head ≡ referenceAt work node 2) (g : rest ≡ referenceAt work node 1) (deeper : Deeper items work rest d inner) where
+    module _ (head rest inner : ℕ) (e : wordAt work node 3 ≡ 4) (f : head ≡ referenceAt work node 2) (g : rest ≡ referenceAt work node 1) (deeper : Deeper work rest d inner) where
       abbrev first : List (Name × ℕ)
-      first = variables isEllipsis literals inner (treeAt items work head w)
+      first = variables isEllipsis literals inner (treeAt work head w)
 
       abbrev later : List (Name × ℕ)
-      later = variables isEllipsis literals d (treeAt items work rest w)
+      later = variables isEllipsis literals d (treeAt work rest w)
 
-      variables-pair : first ++ later ≡ variables isEllipsis literals d (treeAt items work node w)
+      variables-pair : first ++ later ≡ variables isEllipsis literals d (treeAt work node w)
       unfolding variables
-      variables-pair = rw (treeAt-pair items work node w e, ← f, ← g, ← deeper w) refl
+      variables-pair = rw (treeAt-pair work node w e, ← f, ← g, ← deeper w) refl
 
-      pub gathered-bad : (new : List ℕ) (r : Kept) → r ≡ Bad → Gathered first items work w head n old new r → Gathered (variables isEllipsis literals d (treeAt items work node w)) items work w node n old new Bad
+      pub gathered-bad : (new : List ℕ) (r : Kept) → r ≡ Bad → Gathered first work w head n old new r → Gathered (variables isEllipsis literals d (treeAt work node w)) work w node n old new Bad
       gathered-bad new r b g =
-          let h : Gathered first items work w head n old new Bad = subst (λ (k : Kept). Gathered first items work w head n old new k) b g in
+          let h : Gathered first work w head n old new Bad = subst (λ (k : Kept). Gathered first work w head n old new k) b g in
           gathered-is (first ++ later) _ new Bad variables-pair
-          (λ more. ap (λ (l : List (Name × ℕ)). areVariables (variablesFrom items work w old 0 n ++ l)) (append-assoc first later more) ∙ h (later ++ more))
+          (λ more. ap (λ (l : List (Name × ℕ)). areVariables (variablesFrom work w old 0 n ++ l)) (append-assoc first later more) ∙ h (later ++ more))
 
-      both : (mid new : List ℕ) (m : ℕ) (r : Kept) → Stored first items work w head n old mid m → Gathered later items work w rest m mid new r → Gathered (first ++ later) items work w node n old new r
+      both : (mid new : List ℕ) (m : ℕ) (r : Kept) → Stored first work w head n old mid m → Gathered later work w rest m mid new r → Gathered (first ++ later) work w node n old new r
       both mid new m (Count k) a b =
           record {
-            list = b .list ∙ ap (λ (l : List (Name × ℕ)). l ++ later) (a .list) ∙ append-assoc (variablesFrom items work w old 0 n) first later;
+            list = b .list ∙ ap (λ (l : List (Name × ℕ)). l ++ later) (a .list) ∙ append-assoc (variablesFrom work w old 0 n) first later;
             held = b .held;
             under = λ c l u. b .under c (omega (arith, pair-falls work node 1 e)) (a .under c (omega (arith, pair-falls work node 2 e)) u);
           }
       both mid new m Bad a b =
           λ more.
-          ap (λ (l : List (Name × ℕ)). areVariables (variablesFrom items work w old 0 n ++ l)) (append-assoc first later more)
-          ∙ ap areVariables (sym (append-assoc (variablesFrom items work w old 0 n) first (later ++ more)))
+          ap (λ (l : List (Name × ℕ)). areVariables (variablesFrom work w old 0 n ++ l)) (append-assoc first later more)
+          ∙ ap areVariables (sym (append-assoc (variablesFrom work w old 0 n) first (later ++ more)))
           ∙ ap (λ (l : List (Name × ℕ)). areVariables (l ++ (later ++ more))) (sym (a .list))
           ∙ b more
 
-      gathered-pair : (mid new : List ℕ) (m : ℕ) (r : Kept) → Stored first items work w head n old mid m → Gathered later items work w rest m mid new r → Gathered (variables isEllipsis literals d (treeAt items work node w)) items work w node n old new r
+      gathered-pair : (mid new : List ℕ) (m : ℕ) (r : Kept) → Stored first work w head n old mid m → Gathered later work w rest m mid new r → Gathered (variables isEllipsis literals d (treeAt work node w)) work w node n old new r
       gathered-pair mid new m r a b = gathered-is (first ++ later) _ new r variables-pair (both mid new m r a b)
 
-      pub gathering-more : (list b : ℕ) (start new : List ℕ) (m : ℕ) → Stored first items work w head n old new m → Gathering literals d items work w list b start node n old → Gathering literals d items work w list b start rest m new
+      pub gathering-more : (list b : ℕ) (start new : List ℕ) (m : ℕ) → Stored first work w head n old new m → Gathering literals d work w list b start node n old → Gathering literals d work w list b start rest m new
       gathering-more list b start new m s h =
           record {
             low = omega (arith, h .low, pair-falls work node 1 e);

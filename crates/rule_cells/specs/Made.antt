@@ -19,14 +19,14 @@ pub record Five (a b c d e : ℕ) (old new : List ℕ) (top r : ℕ) : Type 0 wh
   pub first : wordAt new r 1 ≡ e
 
 -- a new cell, read by `at`: what it means, whatever the items
-pub record Made {A : Type 0} (at : (items work : List ℕ) → ℕ → A) (value : List ℕ → A) (old new : List ℕ) (top r : ℕ) : Type 0 where
+pub record Made {A : Type 0} (at : List ℕ → ℕ → A) (value : A) (old new : List ℕ) (top r : ℕ) : Type 0 where
   pub end : r ≡ top + 5
   pub kept : take top new ≡ take top old
-  pub means : (items : List ℕ) → at items new r ≡ value items
+  pub means : at new r ≡ value
 
 -- a literal's cell is given what its lookup has found
 pub record MadeLiteral (node w number key : ℕ) (old new : List ℕ) (top r : ℕ) : Type 0 where
   pub end : r ≡ top + 5
   pub kept : take top new ≡ take top old
-  pub means : (items : List ℕ) → number ≡ nameAt items old node w .number → key ≡ bindingKey (nameAt items old node w .binding)
-      → patternAt items new r ≡ literalP (nameAt items old node w)
+  pub means : number ≡ nameAt old node w .number → key ≡ bindingKey (nameAt old node w .binding)
+      → patternAt new r ≡ literalP (nameAt old node w)

@@ -67,18 +67,18 @@ module _ (t : List ℕ) (top a b c d e : ℕ) (fits : top + 5 ≤ length t) wher
 
 -- ---- what stood below the top means what it meant
 
-module _ (items old new : List ℕ) (top : ℕ) (kept : take top new ≡ take top old) where
-  pub pattern-kept : (p : ℕ) → p ≤ top → patternAt items new p ≡ patternAt items old p
-  pattern-kept p h = patternAt-below items new old p (take-less new old p top h kept)
+module _ (old new : List ℕ) (top : ℕ) (kept : take top new ≡ take top old) where
+  pub pattern-kept : (p : ℕ) → p ≤ top → patternAt new p ≡ patternAt old p
+  pattern-kept p h = patternAt-below new old p (take-less new old p top h kept)
 
-  pub template-kept : (t : ℕ) → t ≤ top → templateAt items new t ≡ templateAt items old t
-  template-kept t h = templateAt-below items new old t (take-less new old t top h kept)
+  pub template-kept : (t : ℕ) → t ≤ top → templateAt new t ≡ templateAt old t
+  template-kept t h = templateAt-below new old t (take-less new old t top h kept)
 
-  pub rules-kept : (r : ℕ) → r ≤ top → rulesAt items new r ≡ rulesAt items old r
-  rules-kept r h = rulesAt-below items new old r (take-less new old r top h kept)
+  pub rules-kept : (r : ℕ) → r ≤ top → rulesAt new r ≡ rulesAt old r
+  rules-kept r h = rulesAt-below new old r (take-less new old r top h kept)
 
-  pub name-kept : (node w : ℕ) → node ≤ top → w ≤ top → nameAt items new node w ≡ nameAt items old node w
-  name-kept node w h l = nameAt-below items new old node w (take-less new old node top h kept) (take-less new old w top l kept)
+  pub name-kept : (node w : ℕ) → node ≤ top → w ≤ top → nameAt new node w ≡ nameAt old node w
+  name-kept node w h l = nameAt-below new old node w (take-less new old node top h kept) (take-less new old w top l kept)
 
 -- a word of the new cell that refers below the top
 refers : (old new : List ℕ) (top r k p : ℕ) → r ≡ top + 5 → wordAt new r k ≡ p → p ≤ top → referenceAt new r k ≡ p
@@ -87,104 +87,104 @@ refers old new top r k p e g h = reference-is new r k p g (omega arith)
 -- ---- patterns
 
 module _ (old new : List ℕ) (top r : ℕ) where
-  pub made-variable : (k : ℕ) → Five 0 0 0 k 1 old new top r → Made patternAt (λ items. variableP k) old new top r
-  made-variable k c = record { end = c .end; kept = c .kept; means = λ items. patternAt-variable items new r (c .first) ∙ ap variableP (c .second) }
+  pub made-variable : (k : ℕ) → Five 0 0 0 k 1 old new top r → Made patternAt (variableP k) old new top r
+  made-variable k c = record { end = c .end; kept = c .kept; means = patternAt-variable new r (c .first) ∙ ap variableP (c .second) }
 
-  pub made-wildcard : Five 0 0 0 0 3 old new top r → Made patternAt (λ items. wildcardP) old new top r
-  made-wildcard c = record { end = c .end; kept = c .kept; means = λ items. patternAt-wildcard items new r (c .first) }
+  pub made-wildcard : Five 0 0 0 0 3 old new top r → Made patternAt wildcardP old new top r
+  made-wildcard c = record { end = c .end; kept = c .kept; means = patternAt-wildcard new r (c .first) }
 
-  pub made-constant : (k a b : ℕ) → Five 0 k a b 4 old new top r → Made patternAt (λ items. constantP (record { kind = k; first = a; second = b })) old new top r
+  pub made-constant : (k a b : ℕ) → Five 0 k a b 4 old new top r → Made patternAt (constantP (record { kind = k; first = a; second = b })) old new top r
   unfolding constantBefore
-  made-constant k a b c = record { end = c .end; kept = c .kept; means = λ items. patternAt-constant items new r (c .first) ∙ rw (c .fourth, c .third, c .second) }
+  made-constant k a b c = record { end = c .end; kept = c .kept; means = patternAt-constant new r (c .first) ∙ rw (c .fourth, c .third, c .second) }
 
-  pub made-pair : (head tail : ℕ) → head ≤ top → tail ≤ top → Five 0 0 head tail 6 old new top r → Made patternAt (λ items. pairP (patternAt items old head) (patternAt items old tail)) old new top r
+  pub made-pair : (head tail : ℕ) → head ≤ top → tail ≤ top → Five 0 0 head tail 6 old new top r → Made patternAt (pairP (patternAt old head) (patternAt old tail)) old new top r
   made-pair head tail h l c =
       record {
         end = c .end;
         kept = c .kept;
-        means = λ items.
-            patternAt-pair items new r (c .first)
-            ∙ ap₂ (λ (p q : ℕ). pairP (patternAt items new p) (patternAt items new q)) (refers old new top r 3 head (c .end) (c .third) h) (refers old new top r 2 tail (c .end) (c .second) l)
-            ∙ ap₂ pairP (pattern-kept items old new top (c .kept) head h) (pattern-kept items old new top (c .kept) tail l);
+        means =
+            patternAt-pair new r (c .first)
+            ∙ ap₂ (λ (p q : ℕ). pairP (patternAt new p) (patternAt new q)) (refers old new top r 3 head (c .end) (c .third) h) (refers old new top r 2 tail (c .end) (c .second) l)
+            ∙ ap₂ pairP (pattern-kept old new top (c .kept) head h) (pattern-kept old new top (c .kept) tail l);
       }
 
-  pub made-ellipsis : (element : ℕ) → element ≤ top → Five 0 0 0 element 7 old new top r → Made patternAt (λ items. ellipsisP (patternAt items old element)) old new top r
+  pub made-ellipsis : (element : ℕ) → element ≤ top → Five 0 0 0 element 7 old new top r → Made patternAt (ellipsisP (patternAt old element)) old new top r
   made-ellipsis element h c =
       record {
         end = c .end;
         kept = c .kept;
-        means = λ items.
-            patternAt-ellipsis items new r (c .first)
-            ∙ ap (λ (p : ℕ). ellipsisP (patternAt items new p)) (refers old new top r 2 element (c .end) (c .second) h)
-            ∙ ap ellipsisP (pattern-kept items old new top (c .kept) element h);
+        means =
+            patternAt-ellipsis new r (c .first)
+            ∙ ap (λ (p : ℕ). ellipsisP (patternAt new p)) (refers old new top r 2 element (c .end) (c .second) h)
+            ∙ ap ellipsisP (pattern-kept old new top (c .kept) element h);
       }
 
   -- the name that a cell refers to
-  child-is : (items : List ℕ) (j k node w : ℕ) → r ≡ top + 5 → take top new ≡ take top old → wordAt new r j ≡ node → wordAt new r k ≡ w → node ≤ top → w ≤ top → nameAt items new (referenceAt new r j) (referenceAt new r k) ≡ nameAt items old node w
-  child-is items j k node w e kept p q h l =
-      ap₂ (nameAt items new) (refers old new top r j node e p h) (refers old new top r k w e q l) ∙ name-kept items old new top kept node w h l
+  child-is : (j k node w : ℕ) → r ≡ top + 5 → take top new ≡ take top old → wordAt new r j ≡ node → wordAt new r k ≡ w → node ≤ top → w ≤ top → nameAt new (referenceAt new r j) (referenceAt new r k) ≡ nameAt old node w
+  child-is j k node w e kept p q h l =
+      ap₂ (nameAt new) (refers old new top r j node e p h) (refers old new top r k w e q l) ∙ name-kept old new top kept node w h l
 
-  literal-is : (items : List ℕ) (node w number key : ℕ) → node ≤ top → w ≤ top → Five node w number key 2 old new top r → number ≡ nameAt items old node w .number → key ≡ bindingKey (nameAt items old node w .binding) → literalAt items new r ≡ nameAt items old node w
+  literal-is : (node w number key : ℕ) → node ≤ top → w ≤ top → Five node w number key 2 old new top r → number ≡ nameAt old node w .number → key ≡ bindingKey (nameAt old node w .binding) → literalAt new r ≡ nameAt old node w
   unfolding literalAt
-  literal-is items node w number key h l c e f =
-      rw (child-is items 5 4 node w (c .end) (c .kept) (c .fifth) (c .fourth) h l, c .third, c .second, e, f, bindingOf-key (nameAt items old node w .binding))
+  literal-is node w number key h l c e f =
+      rw (child-is 5 4 node w (c .end) (c .kept) (c .fifth) (c .fourth) h l, c .third, c .second, e, f, bindingOf-key (nameAt old node w .binding))
 
   pub made-literal : (node w number key : ℕ) → node ≤ top → w ≤ top → Five node w number key 2 old new top r → MadeLiteral node w number key old new top r
   made-literal node w number key h l c =
       record {
         end = c .end;
         kept = c .kept;
-        means = λ items e f. patternAt-literal items new r (c .first) ∙ ap literalP (literal-is items node w number key h l c e f);
+        means = λ e f. patternAt-literal new r (c .first) ∙ ap literalP (literal-is node w number key h l c e f);
       }
 
   -- ---- templates
 
-  pub made-variableT : (k d : ℕ) → Five 0 0 k d 1 old new top r → Made templateAt (λ items. variableT k d) old new top r
-  made-variableT k d c = record { end = c .end; kept = c .kept; means = λ items. templateAt-variable items new r (c .first) ∙ ap₂ variableT (c .third) (c .second) }
+  pub made-variableT : (k d : ℕ) → Five 0 0 k d 1 old new top r → Made templateAt (variableT k d) old new top r
+  made-variableT k d c = record { end = c .end; kept = c .kept; means = templateAt-variable new r (c .first) ∙ ap₂ variableT (c .third) (c .second) }
 
-  pub made-insert : (node w : ℕ) → node ≤ top → w ≤ top → Five 0 0 node w 2 old new top r → Made templateAt (λ items. insertT (nameAt items old node w)) old new top r
+  pub made-insert : (node w : ℕ) → node ≤ top → w ≤ top → Five 0 0 node w 2 old new top r → Made templateAt (insertT (nameAt old node w)) old new top r
   made-insert node w h l c =
       record {
         end = c .end;
         kept = c .kept;
-        means = λ items. templateAt-insert items new r (c .first) ∙ ap insertT (child-is items 3 2 node w (c .end) (c .kept) (c .third) (c .second) h l);
+        means = templateAt-insert new r (c .first) ∙ ap insertT (child-is 3 2 node w (c .end) (c .kept) (c .third) (c .second) h l);
       }
 
-  pub made-constantT : (k a b : ℕ) → Five 0 k a b 4 old new top r → Made templateAt (λ items. constantT (record { kind = k; first = a; second = b })) old new top r
+  pub made-constantT : (k a b : ℕ) → Five 0 k a b 4 old new top r → Made templateAt (constantT (record { kind = k; first = a; second = b })) old new top r
   unfolding constantBefore
-  made-constantT k a b c = record { end = c .end; kept = c .kept; means = λ items. templateAt-constant items new r (c .first) ∙ rw (c .fourth, c .third, c .second) }
+  made-constantT k a b c = record { end = c .end; kept = c .kept; means = templateAt-constant new r (c .first) ∙ rw (c .fourth, c .third, c .second) }
 
-  pub made-pairT : (head tail : ℕ) → head ≤ top → tail ≤ top → Five 0 0 head tail 6 old new top r → Made templateAt (λ items. pairT (templateAt items old head) (templateAt items old tail)) old new top r
+  pub made-pairT : (head tail : ℕ) → head ≤ top → tail ≤ top → Five 0 0 head tail 6 old new top r → Made templateAt (pairT (templateAt old head) (templateAt old tail)) old new top r
   made-pairT head tail h l c =
       record {
         end = c .end;
         kept = c .kept;
-        means = λ items.
-            templateAt-pair items new r (c .first)
-            ∙ ap₂ (λ (p q : ℕ). pairT (templateAt items new p) (templateAt items new q)) (refers old new top r 3 head (c .end) (c .third) h) (refers old new top r 2 tail (c .end) (c .second) l)
-            ∙ ap₂ pairT (template-kept items old new top (c .kept) head h) (template-kept items old new top (c .kept) tail l);
+        means =
+            templateAt-pair new r (c .first)
+            ∙ ap₂ (λ (p q : ℕ). pairT (templateAt new p) (templateAt new q)) (refers old new top r 3 head (c .end) (c .third) h) (refers old new top r 2 tail (c .end) (c .second) l)
+            ∙ ap₂ pairT (template-kept old new top (c .kept) head h) (template-kept old new top (c .kept) tail l);
       }
 
-  pub made-ellipsisT : (element rest : ℕ) → element ≤ top → rest ≤ top → Five 0 0 element rest 7 old new top r → Made templateAt (λ items. ellipsisT (templateAt items old element) (templateAt items old rest)) old new top r
+  pub made-ellipsisT : (element rest : ℕ) → element ≤ top → rest ≤ top → Five 0 0 element rest 7 old new top r → Made templateAt (ellipsisT (templateAt old element) (templateAt old rest)) old new top r
   made-ellipsisT element rest h l c =
       record {
         end = c .end;
         kept = c .kept;
-        means = λ items.
-            templateAt-ellipsis items new r (c .first)
-            ∙ ap₂ (λ (p q : ℕ). ellipsisT (templateAt items new p) (templateAt items new q)) (refers old new top r 3 element (c .end) (c .third) h) (refers old new top r 2 rest (c .end) (c .second) l)
-            ∙ ap₂ ellipsisT (template-kept items old new top (c .kept) element h) (template-kept items old new top (c .kept) rest l);
+        means =
+            templateAt-ellipsis new r (c .first)
+            ∙ ap₂ (λ (p q : ℕ). ellipsisT (templateAt new p) (templateAt new q)) (refers old new top r 3 element (c .end) (c .third) h) (refers old new top r 2 rest (c .end) (c .second) l)
+            ∙ ap₂ ellipsisT (template-kept old new top (c .kept) element h) (template-kept old new top (c .kept) rest l);
       }
 
   -- ---- rules
 
-  pub made-rule : (pattern template next : ℕ) → pattern ≤ top → template ≤ top → next ≤ top → Five 0 0 pattern template next old new top r → Made rulesAt (λ items. record { pattern = patternAt items old pattern; template = templateAt items old template } ∷ rulesAt items old next) old new top r
+  pub made-rule : (pattern template next : ℕ) → pattern ≤ top → template ≤ top → next ≤ top → Five 0 0 pattern template next old new top r → Made rulesAt (record { pattern = patternAt old pattern; template = templateAt old template } ∷ rulesAt old next) old new top r
   unfolding ruleAt
   made-rule pattern template next h l m c =
       record {
         end = c .end;
         kept = c .kept;
-        means = λ items.
-            rulesAt-more items new r (omega (arith, c .end))
-            ∙ rw (refers old new top r 3 pattern (c .end) (c .third) h, refers old new top r 2 template (c .end) (c .second) l, refers old new top r 1 next (c .end) (c .first) m, pattern-kept items old new top (c .kept) pattern h, template-kept items old new top (c .kept) template l, rules-kept items old new top (c .kept) next m);
+        means =
+            rulesAt-more new r (omega (arith, c .end))
+            ∙ rw (refers old new top r 3 pattern (c .end) (c .third) h, refers old new top r 2 template (c .end) (c .second) l, refers old new top r 1 next (c .end) (c .first) m, pattern-kept old new top (c .kept) pattern h, template-kept old new top (c .kept) template l, rules-kept old new top (c .kept) next m);
       }

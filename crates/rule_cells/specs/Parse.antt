@@ -17,10 +17,10 @@ use Rattle.rule_cells.specs.Built.{Built}
 use Rattle.rule_cells.specs.Built as built
 
 -- a tree below the top, with room for its cells and a word to spare, so that no top is the largest word (`words::packed`)
-pub record Asks (items work : List ℕ) (node w top : ℕ) : Type 0 where
+pub record Asks (work : List ℕ) (node w top : ℕ) : Type 0 where
   pub node-below : node ≤ top
   pub wrap-below : w ≤ top
-  pub room : Room work top (5 * size (treeAt items work node w) + 1)
+  pub room : Room work top (5 * size (treeAt work node w) + 1)
 
 -- new cells for a tree: reference `at`, top `upper`
 pub record Grows (t : Tree) (old new : List ℕ) (top at upper : ℕ) : Type 0 where
@@ -32,23 +32,23 @@ pub record Grows (t : Tree) (old new : List ℕ) (top at upper : ℕ) : Type 0 w
 -- ---- patterns
 
 -- the pattern's cells, and the number of the next variable
-pub record PatternMade (literals : List Name) (k : ℕ) (t : Tree) (items old new : List ℕ) (top at upper next : ℕ) : Type 0 where
-  pub means : patternOf isEllipsis literals k t ≡ some (patternAt items new at)
+pub record PatternMade (literals : List Name) (k : ℕ) (t : Tree) (old new : List ℕ) (top at upper next : ℕ) : Type 0 where
+  pub means : patternOf isEllipsis literals k t ≡ some (patternAt new at)
   pub counts : next ≡ k + length (variables isEllipsis literals 0 t)
   pub grows : Grows t old new top at upper
 
 -- bad exactly where the definition has no pattern
-abbrev pub PatternLeft : (literals : List Name) (k : ℕ) (t : Tree) (items old new : List ℕ) (top : ℕ) → Parsed → Type 0
-PatternLeft literals k t items old new top (Good at upper next) = PatternMade literals k t items old new top at upper next
-PatternLeft literals k t items old new top Bad = (patternOf isEllipsis literals k t ≡ none) × (take top new ≡ take top old)
+abbrev pub PatternLeft : (literals : List Name) (k : ℕ) (t : Tree) (old new : List ℕ) (top : ℕ) → Parsed → Type 0
+PatternLeft literals k t old new top (Good at upper next) = PatternMade literals k t old new top at upper next
+PatternLeft literals k t old new top Bad = (patternOf isEllipsis literals k t ≡ none) × (take top new ≡ take top old)
 
 -- ---- templates
 
-pub record TemplateMade (vs : List (Name × ℕ)) (d : ℕ) (taken : Bool) (t : Tree) (items old new : List ℕ) (top at upper : ℕ) : Type 0 where
-  pub means : templateOf isEllipsis vs d taken t ≡ some (templateAt items new at)
+pub record TemplateMade (vs : List (Name × ℕ)) (d : ℕ) (taken : Bool) (t : Tree) (old new : List ℕ) (top at upper : ℕ) : Type 0 where
+  pub means : templateOf isEllipsis vs d taken t ≡ some (templateAt new at)
   pub grows : Grows t old new top at upper
 
 -- bad exactly where the definition has no template
-abbrev pub TemplateLeft : (vs : List (Name × ℕ)) (d : ℕ) (taken : Bool) (t : Tree) (items old new : List ℕ) (top : ℕ) → Built → Type 0
-TemplateLeft vs d taken t items old new top (built.Good at upper) = TemplateMade vs d taken t items old new top at upper
-TemplateLeft vs d taken t items old new top built.Bad = (templateOf isEllipsis vs d taken t ≡ none) × (take top new ≡ take top old)
+abbrev pub TemplateLeft : (vs : List (Name × ℕ)) (d : ℕ) (taken : Bool) (t : Tree) (old new : List ℕ) (top : ℕ) → Built → Type 0
+TemplateLeft vs d taken t old new top (built.Good at upper) = TemplateMade vs d taken t old new top at upper
+TemplateLeft vs d taken t old new top built.Bad = (templateOf isEllipsis vs d taken t ≡ none) × (take top new ≡ take top old)

@@ -33,23 +33,23 @@ kept-both h old mid new top a upper g e = take-less new mid top upper (g .up) e 
 
 -- ---- what is asked of the parts of a pair
 
-module _ (items work : List ℕ) (node w top : ℕ) (asks : Asks items work node w top) where
+module _ (work : List ℕ) (node w top : ℕ) (asks : Asks work node w top) where
   -- no top of its cells is the largest word
-  pub packs : top + 5 * size (treeAt items work node w) < 4294967295
+  pub packs : top + 5 * size (treeAt work node w) < 4294967295
   packs = omega (arith, asks .room .small)
 
   pub leaf-packs : top + 5 < 4294967295
-  leaf-packs = omega (arith, packs, size-positive (treeAt items work node w))
+  leaf-packs = omega (arith, packs, size-positive (treeAt work node w))
 
   -- room for a leaf's cell
   pub room-leaf : Room work top 5
-  room-leaf = let l = size-positive (treeAt items work node w) in record { fits = omega (arith, asks .room .fits); small = omega (arith, asks .room .small) }
+  room-leaf = let l = size-positive (treeAt work node w) in record { fits = omega (arith, asks .room .fits); small = omega (arith, asks .room .small) }
 
   module _ (head rest : ℕ) (e : wordAt work node 3 ≡ 4) (f : head ≡ referenceAt work node 2) (g : rest ≡ referenceAt work node 1) where
-    pub tree-is : treeAt items work node w ≡ pair (treeAt items work head w) (treeAt items work rest w)
-    tree-is = rw (treeAt-pair items work node w e, f, g) refl
+    pub tree-is : treeAt work node w ≡ pair (treeAt work head w) (treeAt work rest w)
+    tree-is = rw (treeAt-pair work node w e, f, g) refl
 
-    pub size-is : size (treeAt items work node w) ≡ suc (size (treeAt items work head w) + size (treeAt items work rest w))
+    pub size-is : size (treeAt work node w) ≡ suc (size (treeAt work head w) + size (treeAt work rest w))
     unfolding size
     size-is = ap size tree-is
 
@@ -59,7 +59,7 @@ module _ (items work : List ℕ) (node w top : ℕ) (asks : Asks items work node
     pub rest-below : rest < node
     rest-below = omega (arith, pair-falls work node 1 e)
 
-    pub asks-head : Asks items work head w top
+    pub asks-head : Asks work head w top
     asks-head =
         record {
           node-below = omega (arith, head-below, asks .node-below);
@@ -67,7 +67,7 @@ module _ (items work : List ℕ) (node w top : ℕ) (asks : Asks items work node
           room = record { fits = omega (arith, asks .room .fits, size-is); small = omega (arith, asks .room .small, size-is) };
         }
 
-    pub asks-tail : Asks items work rest w top
+    pub asks-tail : Asks work rest w top
     asks-tail =
         record {
           node-below = omega (arith, rest-below, asks .node-below);
@@ -76,11 +76,11 @@ module _ (items work : List ℕ) (node w top : ℕ) (asks : Asks items work node
         }
 
     -- after the cells of the head
-    module _ (mid : List ℕ) (a upper : ℕ) (same-length : length mid ≡ length work) (grows : Grows (treeAt items work head w) work mid top a upper) where
-      pub rest-kept : treeAt items mid rest w ≡ treeAt items work rest w
-      rest-kept = tree-kept items work mid top rest w (omega (arith, rest-below, asks .node-below)) (asks .wrap-below) (grows .kept)
+    module _ (mid : List ℕ) (a upper : ℕ) (same-length : length mid ≡ length work) (grows : Grows (treeAt work head w) work mid top a upper) where
+      pub rest-kept : treeAt mid rest w ≡ treeAt work rest w
+      rest-kept = tree-kept work mid top rest w (omega (arith, rest-below, asks .node-below)) (asks .wrap-below) (grows .kept)
 
-      pub asks-rest : Asks items mid rest w upper
+      pub asks-rest : Asks mid rest w upper
       asks-rest =
           record {
             node-below = omega (arith, rest-below, asks .node-below, grows .up);
@@ -95,15 +95,15 @@ module _ (items work : List ℕ) (node w top : ℕ) (asks : Asks items work node
       room-over = record { fits = omega (arith, asks .room .fits, size-is, grows .words); small = omega (arith, asks .room .small, size-is, grows .words) }
 
       -- and after those of the rest
-      pub room-pair : (last : List ℕ) (b higher : ℕ) → length last ≡ length mid → Grows (treeAt items mid rest w) mid last upper b higher → Room last higher 5
+      pub room-pair : (last : List ℕ) (b higher : ℕ) → length last ≡ length mid → Grows (treeAt mid rest w) mid last upper b higher → Room last higher 5
       room-pair last b higher same k =
-          let s : higher ≤ upper + 5 * size (treeAt items work rest w) = rw rest-kept at (k .words) in
+          let s : higher ≤ upper + 5 * size (treeAt work rest w) = rw rest-kept at (k .words) in
           record { fits = omega (arith, asks .room .fits, size-is, grows .words); small = omega (arith, asks .room .small, size-is, grows .words) }
 
       -- a pair's cell over both
-      pub grows-pair : (last new : List ℕ) (b higher r : ℕ) → Grows (treeAt items mid rest w) mid last upper b higher → r ≡ higher + 5 → take higher new ≡ take higher last → Grows (treeAt items work node w) work new top r r
+      pub grows-pair : (last new : List ℕ) (b higher r : ℕ) → Grows (treeAt mid rest w) mid last upper b higher → r ≡ higher + 5 → take higher new ≡ take higher last → Grows (treeAt work node w) work new top r r
       grows-pair last new b higher r k re kept =
-          let k′ : Grows (treeAt items work rest w) mid last upper b higher = rw rest-kept at k in
+          let k′ : Grows (treeAt work rest w) mid last upper b higher = rw rest-kept at k in
           record {
             at-most = omega arith;
             up = omega (arith, grows .up, k .up);

@@ -28,9 +28,9 @@ use Rattle.rule_cells.specs.declared.patterns.Parsed.{Parsed}
 use Rattle.rule_cells.specs.declared.patterns.Parsed.the-variants.{Good, Bad}
 
 -- the empty pattern is reference 0
-pub patternAt-none : (items work : List ℕ) → patternAt items work 0 ≡ emptyP
+pub patternAt-none : (work : List ℕ) → patternAt work 0 ≡ emptyP
 unfolding patternAt patternFrom
-patternAt-none items work = refl
+patternAt-none work = refl
 
 -- ---- names
 
@@ -60,51 +60,51 @@ module _ (literals : List Name) (k : ℕ) (x : Name) where
   name-literal n m e = rw (e, ne-eqb _ _ n, ne-eqb _ _ m) refl
 
   -- what is left after each
-  module _ (items old : List ℕ) (top : ℕ) where
-    pub left-dots : x .number ≡ 6 → PatternLeft literals k (name x) items old old top Bad
+  module _ (old : List ℕ) (top : ℕ) where
+    pub left-dots : x .number ≡ 6 → PatternLeft literals k (name x) old old top Bad
     left-dots e = (name-dots e, refl)
 
-    pub left-wildcard : (new : List ℕ) (r : ℕ) → (x .number ≡ 6 → ⊥) → x .number ≡ 7 → Made patternAt (λ i. wildcardP) old new top r → PatternLeft literals k (name x) items old new top (Good r r k)
+    pub left-wildcard : (new : List ℕ) (r : ℕ) → (x .number ≡ 6 → ⊥) → x .number ≡ 7 → Made patternAt wildcardP old new top r → PatternLeft literals k (name x) old new top (Good r r k)
     left-wildcard new r n m c =
         let v = wildcard-no-variable literals x n m in
-        record { means = name-wildcard n m v ∙ ap some (sym (c .means items)); counts = count-none v; grows = grows-leaf (name x) old new top r (c .end) (c .kept) }
+        record { means = name-wildcard n m v ∙ ap some (sym (c .means)); counts = count-none v; grows = grows-leaf (name x) old new top r (c .end) (c .kept) }
 
-    pub left-literal : (node w number key : ℕ) (new : List ℕ) (r : ℕ) → x ≡ nameAt items old node w → (x .number ≡ 6 → ⊥) → (x .number ≡ 7 → ⊥) → true ≡ anyOf (same x) literals → number ≡ x .number → key ≡ bindingKey (x .binding) → MadeLiteral node w number key old new top r → PatternLeft literals k (name x) items old new top (Good r r k)
+    pub left-literal : (node w number key : ℕ) (new : List ℕ) (r : ℕ) → x ≡ nameAt old node w → (x .number ≡ 6 → ⊥) → (x .number ≡ 7 → ⊥) → true ≡ anyOf (same x) literals → number ≡ x .number → key ≡ bindingKey (x .binding) → MadeLiteral node w number key old new top r → PatternLeft literals k (name x) old new top (Good r r k)
     left-literal node w number key new r is n m l e f c =
         let v = literal-no-variable literals x n m l in
         record {
-          means = name-literal n m v ∙ ap some (ap literalP is ∙ sym (c .means items (e ∙ ap (λ (y : Name). y .number) is) (f ∙ ap (λ (y : Name). bindingKey (y .binding)) is)));
+          means = name-literal n m v ∙ ap some (ap literalP is ∙ sym (c .means (e ∙ ap (λ (y : Name). y .number) is) (f ∙ ap (λ (y : Name). bindingKey (y .binding)) is)));
           counts = count-none v;
           grows = grows-leaf (name x) old new top r (c .end) (c .kept);
         }
 
-    pub left-variable : (new : List ℕ) (r : ℕ) → (x .number ≡ 6 → ⊥) → (x .number ≡ 7 → ⊥) → false ≡ anyOf (same x) literals → Made patternAt (λ i. variableP k) old new top r → PatternLeft literals k (name x) items old new top (Good r r (k + 1))
+    pub left-variable : (new : List ℕ) (r : ℕ) → (x .number ≡ 6 → ⊥) → (x .number ≡ 7 → ⊥) → false ≡ anyOf (same x) literals → Made patternAt (variableP k) old new top r → PatternLeft literals k (name x) old new top (Good r r (k + 1))
     left-variable new r n m l c =
         let v = a-variable literals x n m l in
-        record { means = name-variable n v ∙ ap some (sym (c .means items)); counts = count-one v; grows = grows-leaf (name x) old new top r (c .end) (c .kept) }
+        record { means = name-variable n v ∙ ap some (sym (c .means)); counts = count-one v; grows = grows-leaf (name x) old new top r (c .end) (c .kept) }
 
 -- ---- leaves
 
-module _ (literals : List Name) (k : ℕ) (items old : List ℕ) (node w top : ℕ) where
-  pub left-name : (new : List ℕ) (r : Parsed) → wordAt old node 3 ≡ 3 → PatternLeft literals k (name (nameAt items old node w)) items old new top r → PatternLeft literals k (treeAt items old node w) items old new top r
-  left-name new r e g = subst (λ (t : Tree). PatternLeft literals k t items old new top r) (sym (treeAt-name items old node w e)) g
+module _ (literals : List Name) (k : ℕ) (old : List ℕ) (node w top : ℕ) where
+  pub left-name : (new : List ℕ) (r : Parsed) → wordAt old node 3 ≡ 3 → PatternLeft literals k (name (nameAt old node w)) old new top r → PatternLeft literals k (treeAt old node w) old new top r
+  left-name new r e g = subst (λ (t : Tree). PatternLeft literals k t old new top r) (sym (treeAt-name old node w e)) g
 
-  empty-left : PatternLeft literals k empty items old old top (Good 0 top k)
+  empty-left : PatternLeft literals k empty old old top (Good 0 top k)
   unfolding patternOf variables
-  empty-left = record { means = ap some (sym (patternAt-none items old)); counts = omega arith; grows = grows-nothing empty old top }
+  empty-left = record { means = ap some (sym (patternAt-none old)); counts = omega arith; grows = grows-nothing empty old top }
 
-  pub left-empty : wordAt old node 3 ≡ 0 → PatternLeft literals k (treeAt items old node w) items old old top (Good 0 top k)
-  left-empty e = subst (λ (t : Tree). PatternLeft literals k t items old old top (Good 0 top k)) (sym (treeAt-empty items old node w e)) empty-left
+  pub left-empty : wordAt old node 3 ≡ 0 → PatternLeft literals k (treeAt old node w) old old top (Good 0 top k)
+  left-empty e = subst (λ (t : Tree). PatternLeft literals k t old old top (Good 0 top k)) (sym (treeAt-empty old node w e)) empty-left
 
-  constant-left : (a : Constant) (new : List ℕ) (r : ℕ) → Made patternAt (λ i. constantP a) old new top r → PatternLeft literals k (constant a) items old new top (Good r r k)
+  constant-left : (a : Constant) (new : List ℕ) (r : ℕ) → Made patternAt (constantP a) old new top r → PatternLeft literals k (constant a) old new top (Good r r k)
   unfolding patternOf variables
-  constant-left a new r c = record { means = ap some (sym (c .means items)); counts = omega arith; grows = grows-leaf (constant a) old new top r (c .end) (c .kept) }
+  constant-left a new r c = record { means = ap some (sym (c .means)); counts = omega arith; grows = grows-leaf (constant a) old new top r (c .end) (c .kept) }
 
-  pub left-constant : (kind first second : ℕ) (new : List ℕ) (r : ℕ) → kind ≡ wordAt old node 3 → first ≡ wordAt old node 2 → second ≡ wordAt old node 1 → (wordAt old node 3 ≡ 0 → ⊥) → (wordAt old node 3 ≡ 3 → ⊥) → (wordAt old node 3 ≡ 4 → ⊥) → Made patternAt (λ i. constantP (record { kind = kind; first = first; second = second })) old new top r → PatternLeft literals k (treeAt items old node w) items old new top (Good r r k)
+  pub left-constant : (kind first second : ℕ) (new : List ℕ) (r : ℕ) → kind ≡ wordAt old node 3 → first ≡ wordAt old node 2 → second ≡ wordAt old node 1 → (wordAt old node 3 ≡ 0 → ⊥) → (wordAt old node 3 ≡ 3 → ⊥) → (wordAt old node 3 ≡ 4 → ⊥) → Made patternAt (constantP (record { kind = kind; first = first; second = second })) old new top r → PatternLeft literals k (treeAt old node w) old new top (Good r r k)
   unfolding constantAt
   left-constant kind first second new r e f g n0 n3 n4 c =
-      let is : constant (record { kind = kind; first = first; second = second }) ≡ treeAt items old node w = rw (e, f, g) (sym (treeAt-constant items old node w n0 n3 n4)) in
-      subst (λ (t : Tree). PatternLeft literals k t items old new top (Good r r k)) is (constant-left (record { kind = kind; first = first; second = second }) new r c)
+      let is : constant (record { kind = kind; first = first; second = second }) ≡ treeAt old node w = rw (e, f, g) (sym (treeAt-constant old node w n0 n3 n4)) in
+      subst (λ (t : Tree). PatternLeft literals k t old new top (Good r r k)) is (constant-left (record { kind = kind; first = first; second = second }) new r c)
 
 -- ---- the variables of a pattern, counted
 
@@ -182,55 +182,55 @@ module _ (literals : List Name) (k : ℕ) (h s : Tree) where
       (λ d. rw (d, e) refl)
 
 -- what is left after each way through a pair
-module _ (items old : List ℕ) (literals node w k top : ℕ) (asks : Asks items old node w top) (literals-below : literals ≤ top) (head rest : ℕ) (e : wordAt old node 3 ≡ 4) (f : head ≡ referenceAt old node 2) (g : rest ≡ referenceAt old node 1) where
+module _ (old : List ℕ) (literals node w k top : ℕ) (asks : Asks old node w top) (literals-below : literals ≤ top) (head rest : ℕ) (e : wordAt old node 3 ≡ 4) (f : head ≡ referenceAt old node 2) (g : rest ≡ referenceAt old node 1) where
   abbrev listed : List Name
-  listed = names (treeAt items old literals w)
+  listed = names (treeAt old literals w)
 
   abbrev h : Tree
-  h = treeAt items old head w
+  h = treeAt old head w
 
   abbrev s : Tree
-  s = treeAt items old rest w
+  s = treeAt old rest w
 
-  whole-is : treeAt items old node w ≡ pair h s
-  whole-is = tree-is items old node w top asks head rest e f g
+  whole-is : treeAt old node w ≡ pair h s
+  whole-is = tree-is old node w top asks head rest e f g
 
-  whole-size : size (treeAt items old node w) ≡ suc (size h + size s)
-  whole-size = size-is items old node w top asks head rest e f g
+  whole-size : size (treeAt old node w) ≡ suc (size h + size s)
+  whole-size = size-is old node w top asks head rest e f g
 
-  pub small-head : k + size (treeAt items old node w) < 2 ^ 32 → k + size h < 2 ^ 32
+  pub small-head : k + size (treeAt old node w) < 2 ^ 32 → k + size h < 2 ^ 32
   small-head l = omega (arith, whole-size)
 
-  pub left-long : true ≡ dotsNext isEllipsis s → false ≡ isListOf 1 s → PatternLeft listed k (treeAt items old node w) items old old top Bad
+  pub left-long : true ≡ dotsNext isEllipsis s → false ≡ isListOf 1 s → PatternLeft listed k (treeAt old node w) old old top Bad
   left-long d l = (ap (patternOf isEllipsis listed k) whole-is ∙ pair-long listed k h s d l, refl)
 
-  pub left-bad : (mid : List ℕ) (r : Parsed) → r ≡ Bad → PatternLeft listed k h items old mid top r → PatternLeft listed k (treeAt items old node w) items old mid top Bad
+  pub left-bad : (mid : List ℕ) (r : Parsed) → r ≡ Bad → PatternLeft listed k h old mid top r → PatternLeft listed k (treeAt old node w) old mid top Bad
   left-bad mid r b p =
-      let q : PatternLeft listed k h items old mid top Bad = subst (λ (z : Parsed). PatternLeft listed k h items old mid top z) b p in
+      let q : PatternLeft listed k h old mid top Bad = subst (λ (z : Parsed). PatternLeft listed k h old mid top z) b p in
       (ap (patternOf isEllipsis listed k) whole-is ∙ pair-bad listed k h s (q .0), q .1)
 
-  pub made-head : (mid : List ℕ) (r : Parsed) (a t n : ℕ) → r ≡ Good a t n → PatternLeft listed k h items old mid top r → PatternMade listed k h items old mid top a t n
-  made-head mid r a t n b p = subst (λ (z : Parsed). PatternLeft listed k h items old mid top z) b p
+  pub made-head : (mid : List ℕ) (r : Parsed) (a t n : ℕ) → r ≡ Good a t n → PatternLeft listed k h old mid top r → PatternMade listed k h old mid top a t n
+  made-head mid r a t n b p = subst (λ (z : Parsed). PatternLeft listed k h old mid top z) b p
 
-  module _ (mid : List ℕ) (a t n : ℕ) (made : PatternMade listed k h items old mid top a t n) where
-    pub left-ellipsis : (new : List ℕ) (r more : ℕ) → true ≡ dotsNext isEllipsis s → true ≡ isListOf 1 s → more ≡ leafCount listed (tail s) → Made patternAt (λ i. ellipsisP (patternAt i mid a)) mid new t r → PatternLeft listed k (treeAt items old node w) items old new top (Good r r (n + more))
+  module _ (mid : List ℕ) (a t n : ℕ) (made : PatternMade listed k h old mid top a t n) where
+    pub left-ellipsis : (new : List ℕ) (r more : ℕ) → true ≡ dotsNext isEllipsis s → true ≡ isListOf 1 s → more ≡ leafCount listed (tail s) → Made patternAt (ellipsisP (patternAt mid a)) mid new t r → PatternLeft listed k (treeAt old node w) old new top (Good r r (n + more))
     unfolding mapSome
     left-ellipsis new r more d l c m =
         record {
-          means = ap (patternOf isEllipsis listed k) whole-is ∙ pair-ellipsis listed k h s d l ∙ ap (mapSome ellipsisP) (made .means) ∙ ap some (sym (m .means items));
+          means = ap (patternOf isEllipsis listed k) whole-is ∙ pair-ellipsis listed k h s d l ∙ ap (mapSome ellipsisP) (made .means) ∙ ap some (sym (m .means));
           counts = rw (whole-is) (omega (arith, made .counts, count-pair isEllipsis listed h s, count-dots listed s d l));
-          grows = grows-over (treeAt items old node w) h old mid new top a t r (made .grows) (omega (arith, whole-size)) (m .end) (m .kept);
+          grows = grows-over (treeAt old node w) h old mid new top a t r (made .grows) (omega (arith, whole-size)) (m .end) (m .kept);
         }
 
-    pub small-ellipsis : (more : ℕ) → k + size (treeAt items old node w) < 2 ^ 32 → true ≡ dotsNext isEllipsis s → true ≡ isListOf 1 s → more ≡ leafCount listed (tail s) → n + more < 2 ^ 32
+    pub small-ellipsis : (more : ℕ) → k + size (treeAt old node w) < 2 ^ 32 → true ≡ dotsNext isEllipsis s → true ≡ isListOf 1 s → more ≡ leafCount listed (tail s) → n + more < 2 ^ 32
     small-ellipsis more l d o c = omega (arith, whole-size, made .counts, variables-size listed 0 h, variables-size listed 0 s, count-dots listed s d o)
 
-    same-listed : names (treeAt items mid literals w) ≡ listed
-    same-listed = ap names (tree-kept items old mid top literals w literals-below (asks .wrap-below) (made .grows .kept))
+    same-listed : names (treeAt mid literals w) ≡ listed
+    same-listed = ap names (tree-kept old mid top literals w literals-below (asks .wrap-below) (made .grows .kept))
 
-    pub small-rest : k + size (treeAt items old node w) < 2 ^ 32 → length mid ≡ length old → n + size (treeAt items mid rest w) < 2 ^ 32
+    pub small-rest : k + size (treeAt old node w) < 2 ^ 32 → length mid ≡ length old → n + size (treeAt mid rest w) < 2 ^ 32
     small-rest l q =
-        rw (rest-kept items old node w top asks head rest e f g mid a t q (made .grows))
+        rw (rest-kept old node w top asks head rest e f g mid a t q (made .grows))
         (omega (arith, whole-size, made .counts, variables-size listed 0 h))
 
     pub literals-still : literals ≤ t
@@ -238,24 +238,24 @@ module _ (items old : List ℕ) (literals node w k top : ℕ) (asks : Asks items
 
     module _ (same-length : length mid ≡ length old) (plain : false ≡ dotsNext isEllipsis s) where
       abbrev again : Tree
-      again = treeAt items mid rest w
+      again = treeAt mid rest w
 
       s-is : again ≡ s
-      s-is = rest-kept items old node w top asks head rest e f g mid a t same-length (made .grows)
+      s-is = rest-kept old node w top asks head rest e f g mid a t same-length (made .grows)
 
-      rest-means : patternOf isEllipsis (names (treeAt items mid literals w)) n again ≡ patternOf isEllipsis listed (k + length (variables isEllipsis listed 0 h)) s
+      rest-means : patternOf isEllipsis (names (treeAt mid literals w)) n again ≡ patternOf isEllipsis listed (k + length (variables isEllipsis listed 0 h)) s
       rest-means = rw (same-listed, s-is, made .counts) refl
 
-      pub left-bad-rest : (new : List ℕ) (r : Parsed) → r ≡ Bad → PatternLeft (names (treeAt items mid literals w)) n again items mid new t r → PatternLeft listed k (treeAt items old node w) items old new top Bad
+      pub left-bad-rest : (new : List ℕ) (r : Parsed) → r ≡ Bad → PatternLeft (names (treeAt mid literals w)) n again mid new t r → PatternLeft listed k (treeAt old node w) old new top Bad
       unfolding mapBoth mapSome
       left-bad-rest new r b p =
-          let q : PatternLeft (names (treeAt items mid literals w)) n again items mid new t Bad = subst (λ (z : Parsed). PatternLeft (names (treeAt items mid literals w)) n again items mid new t z) b p in
+          let q : PatternLeft (names (treeAt mid literals w)) n again mid new t Bad = subst (λ (z : Parsed). PatternLeft (names (treeAt mid literals w)) n again mid new t z) b p in
           (ap (patternOf isEllipsis listed k) whole-is ∙ pair-plain listed k h s plain ∙ ap₂ (mapBoth pairP) (made .means) (sym rest-means ∙ q .0), kept-both h old mid new top a t (made .grows) (q .1))
 
-      pub made-rest : (last : List ℕ) (r : Parsed) (b u m : ℕ) → r ≡ Good b u m → PatternLeft (names (treeAt items mid literals w)) n again items mid last t r → PatternMade (names (treeAt items mid literals w)) n again items mid last t b u m
-      made-rest last r b u m q p = subst (λ (z : Parsed). PatternLeft (names (treeAt items mid literals w)) n again items mid last t z) q p
+      pub made-rest : (last : List ℕ) (r : Parsed) (b u m : ℕ) → r ≡ Good b u m → PatternLeft (names (treeAt mid literals w)) n again mid last t r → PatternMade (names (treeAt mid literals w)) n again mid last t b u m
+      made-rest last r b u m q p = subst (λ (z : Parsed). PatternLeft (names (treeAt mid literals w)) n again mid last t z) q p
 
-      pub left-pair : (last new : List ℕ) (b u m r : ℕ) → PatternMade (names (treeAt items mid literals w)) n again items mid last t b u m → Made patternAt (λ i. pairP (patternAt i last a) (patternAt i last b)) last new u r → PatternLeft listed k (treeAt items old node w) items old new top (Good r r m)
+      pub left-pair : (last new : List ℕ) (b u m r : ℕ) → PatternMade (names (treeAt mid literals w)) n again mid last t b u m → Made patternAt (pairP (patternAt last a) (patternAt last b)) last new u r → PatternLeft listed k (treeAt old node w) old new top (Good r r m)
       unfolding mapBoth mapSome
       left-pair last new b u m r second c =
           record {
@@ -263,7 +263,7 @@ module _ (items old : List ℕ) (literals node w k top : ℕ) (asks : Asks items
                 ap (patternOf isEllipsis listed k) whole-is
                 ∙ pair-plain listed k h s plain
                 ∙ ap₂ (mapBoth pairP) (made .means) (sym rest-means ∙ second .means)
-                ∙ ap some (ap (λ (p : Pattern). pairP p (patternAt items last b)) (sym (pattern-kept items mid last t (second .grows .kept) a (made .grows .at-most))) ∙ sym (c .means items));
+                ∙ ap some (ap (λ (p : Pattern). pairP p (patternAt last b)) (sym (pattern-kept mid last t (second .grows .kept) a (made .grows .at-most))) ∙ sym (c .means));
             counts = rw (whole-is) (let q : m ≡ n + length (variables isEllipsis listed 0 s) = (rw (same-listed, s-is) at (second .counts)) in omega (arith, made .counts, count-pair isEllipsis listed h s));
-            grows = grows-pair items old node w top asks head rest e f g mid a t same-length (made .grows) last new b u r (second .grows) (c .end) (c .kept);
+            grows = grows-pair old node w top asks head rest e f g mid a t same-length (made .grows) last new b u r (second .grows) (c .end) (c .kept);
           }

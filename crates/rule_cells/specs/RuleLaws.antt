@@ -52,24 +52,24 @@ module _ (literals : List Name) (p q : Tree) where
   parts-both x y v e f = rw (v, e, f) refl
 
 -- the word of what is left
-pub rule-packed : (o : Option Rule) (s : ℕ) (items old new : List ℕ) (next top at upper p : ℕ) → top + 5 * s < 4294967295 → p ≡ packed at upper → RuleLeft o s items old new next top (Good at upper) → RuleLeft o s items old new next top (builtOf p)
-rule-packed o s items old new next top at upper p l e m =
-    subst (λ (z : Built). RuleLeft o s items old new next top z) (sym (built-packed p at upper e (omega (arith, m .words)))) m
+pub rule-packed : (o : Option Rule) (s : ℕ) (old new : List ℕ) (next top at upper p : ℕ) → top + 5 * s < 4294967295 → p ≡ packed at upper → RuleLeft o s old new next top (Good at upper) → RuleLeft o s old new next top (builtOf p)
+rule-packed o s old new next top at upper p l e m =
+    subst (λ (z : Built). RuleLeft o s old new next top z) (sym (built-packed p at upper e (omega (arith, m .words)))) m
 
 -- the table holds nothing at first
-pub held-none : (items work : List ℕ) (w : ℕ) (vars : List ℕ) → Held items work w vars 0
+pub held-none : (work : List ℕ) (w : ℕ) (vars : List ℕ) → Held work w vars 0
 unfolding variablesFrom areVariables distinct allOf
-held-none items work w vars = record { most = omega arith; good = refl }
+held-none work w vars = record { most = omega arith; good = refl }
 
-module _ (items old : List ℕ) (literals p q w next top : ℕ) (ask : PartsAsk items old literals p q w next top) where
+module _ (old : List ℕ) (literals p q w next top : ℕ) (ask : PartsAsk old literals p q w next top) where
   abbrev listed : List Name
-  listed = names (treeAt items old literals w)
+  listed = names (treeAt old literals w)
 
   abbrev pt : Tree
-  pt = treeAt items old p w
+  pt = treeAt old p w
 
   abbrev qt : Tree
-  qt = treeAt items old q w
+  qt = treeAt old q w
 
   abbrev s : ℕ
   s = size pt + size qt + 1
@@ -83,7 +83,7 @@ module _ (items old : List ℕ) (literals p q w next top : ℕ) (ask : PartsAsk 
   pub small-p : 0 + p < 2 ^ 32
   small-p = omega (arith, ask .p-below, ask .room .small)
 
-  pub asks-p : Asks items old p w top
+  pub asks-p : Asks old p w top
   asks-p =
       record {
         node-below = ask .p-below;
@@ -94,40 +94,40 @@ module _ (items old : List ℕ) (literals p q w next top : ℕ) (ask : PartsAsk 
   pub small-size : 0 + size pt < 2 ^ 32
   small-size = omega (arith, ask .room .small)
 
-  pub left-variables : (vars new : List ℕ) (r : Kept) → r ≡ kept-is.Bad → Gathered (variables isEllipsis listed 0 pt) items old w p 0 vars new r → RuleLeft o s items old old next top Bad
+  pub left-variables : (vars new : List ℕ) (r : Kept) → r ≡ kept-is.Bad → Gathered (variables isEllipsis listed 0 pt) old w p 0 vars new r → RuleLeft o s old old next top Bad
   unfolding variablesFrom
   left-variables vars new r b g =
-      let h : Gathered (variables isEllipsis listed 0 pt) items old w p 0 vars new kept-is.Bad = subst (λ (z : Kept). Gathered (variables isEllipsis listed 0 pt) items old w p 0 vars new z) b g in
+      let h : Gathered (variables isEllipsis listed 0 pt) old w p 0 vars new kept-is.Bad = subst (λ (z : Kept). Gathered (variables isEllipsis listed 0 pt) old w p 0 vars new z) b g in
       (parts-variables listed pt qt (ap areVariables (sym (append-nil (variables isEllipsis listed 0 pt))) ∙ h []), refl)
 
-  pub left-pattern : (mid : List ℕ) (r : Parsed) → r ≡ parsed.Bad → PatternLeft listed 0 pt items old mid top r → RuleLeft o s items old mid next top Bad
+  pub left-pattern : (mid : List ℕ) (r : Parsed) → r ≡ parsed.Bad → PatternLeft listed 0 pt old mid top r → RuleLeft o s old mid next top Bad
   left-pattern mid r b g =
-      let h : PatternLeft listed 0 pt items old mid top parsed.Bad = subst (λ (z : Parsed). PatternLeft listed 0 pt items old mid top z) b g in
+      let h : PatternLeft listed 0 pt old mid top parsed.Bad = subst (λ (z : Parsed). PatternLeft listed 0 pt old mid top z) b g in
       (parts-pattern listed pt qt (h .0), h .1)
 
-  pub made-pattern : (mid : List ℕ) (r : Parsed) (a t m : ℕ) → r ≡ parsed.Good a t m → PatternLeft listed 0 pt items old mid top r → PatternMade listed 0 pt items old mid top a t m
-  made-pattern mid r a t m b g = subst (λ (z : Parsed). PatternLeft listed 0 pt items old mid top z) b g
+  pub made-pattern : (mid : List ℕ) (r : Parsed) (a t m : ℕ) → r ≡ parsed.Good a t m → PatternLeft listed 0 pt old mid top r → PatternMade listed 0 pt old mid top a t m
+  made-pattern mid r a t m b g = subst (λ (z : Parsed). PatternLeft listed 0 pt old mid top z) b g
 
   -- after the variables and the pattern
-  module _ (none-yet vars : List ℕ) (n : ℕ) (stored : Stored (variables isEllipsis listed 0 pt) items old w p 0 none-yet vars n) (mid : List ℕ) (a t m : ℕ) (same-length : length mid ≡ length old) (made : PatternMade listed 0 pt items old mid top a t m) where
+  module _ (none-yet vars : List ℕ) (n : ℕ) (stored : Stored (variables isEllipsis listed 0 pt) old w p 0 none-yet vars n) (mid : List ℕ) (a t m : ℕ) (same-length : length mid ≡ length old) (made : PatternMade listed 0 pt old mid top a t m) where
     pub under-top : Under vars n t
     under-top = stored .under t (omega (arith, ask .p-below, made .grows .up)) (λ i l. absurd (omega arith))
 
     under-old : Under vars n top
     under-old = stored .under top (ask .p-below) (λ i l. absurd (omega arith))
 
-    variables-are : variablesFrom items mid w vars 0 n ≡ variables isEllipsis listed 0 pt
+    variables-are : variablesFrom mid w vars 0 n ≡ variables isEllipsis listed 0 pt
     unfolding variablesFrom
-    variables-are = variables-kept items old mid w top (ask .wrap-below) (made .grows .kept) vars n under-old ∙ stored .list
+    variables-are = variables-kept old mid w top (ask .wrap-below) (made .grows .kept) vars n under-old ∙ stored .list
 
-    q-is : treeAt items mid q w ≡ qt
-    q-is = tree-kept items old mid top q w (ask .q-below) (ask .wrap-below) (made .grows .kept)
+    q-is : treeAt mid q w ≡ qt
+    q-is = tree-kept old mid top q w (ask .q-below) (ask .wrap-below) (made .grows .kept)
 
     limits : areVariables (variables isEllipsis listed 0 pt) ≡ true
     unfolding variablesFrom
     limits = ap areVariables (sym (stored .list)) ∙ stored .held .good
 
-    pub asks-q : Asks items mid q w t
+    pub asks-q : Asks mid q w t
     asks-q =
         record {
           node-below = omega (arith, ask .q-below, made .grows .up);
@@ -141,18 +141,18 @@ module _ (items old : List ℕ) (literals p q w next top : ℕ) (ask : PartsAsk 
     pub small-q : 0 + q < 2 ^ 32
     small-q = omega (arith, ask .q-below, ask .room .small)
 
-    template-is : templateOf isEllipsis (variablesFrom items mid w vars 0 n) 0 false (treeAt items mid q w) ≡ templateOf isEllipsis (variables isEllipsis listed 0 pt) 0 false qt
+    template-is : templateOf isEllipsis (variablesFrom mid w vars 0 n) 0 false (treeAt mid q w) ≡ templateOf isEllipsis (variables isEllipsis listed 0 pt) 0 false qt
     template-is = rw (variables-are, q-is) refl
 
-    pub left-template : (new : List ℕ) (r : Built) → r ≡ Bad → TemplateLeft (variablesFrom items mid w vars 0 n) 0 false (treeAt items mid q w) items mid new t r → RuleLeft o s items old new next top Bad
+    pub left-template : (new : List ℕ) (r : Built) → r ≡ Bad → TemplateLeft (variablesFrom mid w vars 0 n) 0 false (treeAt mid q w) mid new t r → RuleLeft o s old new next top Bad
     left-template new r b g =
-        let h : TemplateLeft (variablesFrom items mid w vars 0 n) 0 false (treeAt items mid q w) items mid new t Bad = subst (λ (z : Built). TemplateLeft (variablesFrom items mid w vars 0 n) 0 false (treeAt items mid q w) items mid new t z) b g in
-        (parts-template listed pt qt (patternAt items mid a) (made .means) (sym template-is ∙ h .0), take-less new mid top t (made .grows .up) (h .1) ∙ made .grows .kept)
+        let h : TemplateLeft (variablesFrom mid w vars 0 n) 0 false (treeAt mid q w) mid new t Bad = subst (λ (z : Built). TemplateLeft (variablesFrom mid w vars 0 n) 0 false (treeAt mid q w) mid new t z) b g in
+        (parts-template listed pt qt (patternAt mid a) (made .means) (sym template-is ∙ h .0), take-less new mid top t (made .grows .up) (h .1) ∙ made .grows .kept)
 
-    pub made-template : (last : List ℕ) (r : Built) (b u : ℕ) → r ≡ Good b u → TemplateLeft (variablesFrom items mid w vars 0 n) 0 false (treeAt items mid q w) items mid last t r → TemplateMade (variablesFrom items mid w vars 0 n) 0 false (treeAt items mid q w) items mid last t b u
-    made-template last r b u e g = subst (λ (z : Built). TemplateLeft (variablesFrom items mid w vars 0 n) 0 false (treeAt items mid q w) items mid last t z) e g
+    pub made-template : (last : List ℕ) (r : Built) (b u : ℕ) → r ≡ Good b u → TemplateLeft (variablesFrom mid w vars 0 n) 0 false (treeAt mid q w) mid last t r → TemplateMade (variablesFrom mid w vars 0 n) 0 false (treeAt mid q w) mid last t b u
+    made-template last r b u e g = subst (λ (z : Built). TemplateLeft (variablesFrom mid w vars 0 n) 0 false (treeAt mid q w) mid last t z) e g
 
-    module _ (last : List ℕ) (b u : ℕ) (same-last : length last ≡ length mid) (second : TemplateMade (variablesFrom items mid w vars 0 n) 0 false (treeAt items mid q w) items mid last t b u) where
+    module _ (last : List ℕ) (b u : ℕ) (same-last : length last ≡ length mid) (second : TemplateMade (variablesFrom mid w vars 0 n) 0 false (treeAt mid q w) mid last t b u) where
       words-two : u ≤ t + 5 * size qt
       words-two = rw q-is at (second .grows .words)
 
@@ -163,14 +163,14 @@ module _ (items old : List ℕ) (literals p q w next top : ℕ) (ask : PartsAsk 
       kept-two : take top last ≡ take top old
       kept-two = take-less last mid top t (made .grows .up) (second .grows .kept) ∙ made .grows .kept
 
-      pub left-rule : (new : List ℕ) (r : ℕ) → Made rulesAt (λ i. record { pattern = patternAt i last a; template = templateAt i last b } ∷ rulesAt i last next) last new u r → RuleLeft o s items old new next top (Good r r)
+      pub left-rule : (new : List ℕ) (r : ℕ) → Made rulesAt (record { pattern = patternAt last a; template = templateAt last b } ∷ rulesAt last next) last new u r → RuleLeft o s old new next top (Good r r)
       left-rule new r c =
           record {
-            rule = record { pattern = patternAt items mid a; template = templateAt items last b };
-            is = parts-both listed pt qt (patternAt items mid a) (templateAt items last b) limits (made .means) (sym template-is ∙ second .means);
+            rule = record { pattern = patternAt mid a; template = templateAt last b };
+            is = parts-both listed pt qt (patternAt mid a) (templateAt last b) limits (made .means) (sym template-is ∙ second .means);
             means =
-                c .means items
-                ∙ ap₂ (λ (x : Pattern) (l : List Rule). record { pattern = x; template = templateAt items last b } ∷ l) (pattern-kept items mid last t (second .grows .kept) a (made .grows .at-most)) (rules-kept items old last top kept-two next (ask .next-below));
+                c .means
+                ∙ ap₂ (λ (x : Pattern) (l : List Rule). record { pattern = x; template = templateAt last b } ∷ l) (pattern-kept mid last t (second .grows .kept) a (made .grows .at-most)) (rules-kept old last top kept-two next (ask .next-below));
             at-most = omega arith;
             up = omega (arith, c .end, made .grows .up, second .grows .up);
             words = omega (arith, c .end, made .grows .words, words-two);

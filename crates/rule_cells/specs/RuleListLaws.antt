@@ -30,26 +30,26 @@ use Rattle.rule_cells.specs.RuleParse.{ruleShape, partsOf, PartsAsk, Rul
 
 -- ---- a rule's shape
 
-module _ (items work : List ℕ) (node w : ℕ) where
-  pub shape-no : false ≡ isListOf 2 (treeAt items work node w) → false ≡ ruleShape (treeAt items work node w)
+module _ (work : List ℕ) (node w : ℕ) where
+  pub shape-no : false ≡ isListOf 2 (treeAt work node w) → false ≡ ruleShape (treeAt work node w)
   unfolding ruleShape
   shape-no e = rw (← e) refl
 
-  module _ (pattern first : ℕ) (l : true ≡ isListOf 2 (treeAt items work node w)) (p : Means work node pattern (element 0)) (q : Means work pattern first (element 0)) where
-    first-is : element 0 (element 0 (treeAt items work node w)) ≡ treeAt items work first w
-    first-is = sym (q .is items w ∙ ap (element 0) (p .is items w))
+  module _ (pattern first : ℕ) (l : true ≡ isListOf 2 (treeAt work node w)) (p : Means work node pattern (element 0)) (q : Means work pattern first (element 0)) where
+    first-is : element 0 (element 0 (treeAt work node w)) ≡ treeAt work first w
+    first-is = sym (q .is w ∙ ap (element 0) (p .is w))
 
-    pub shape-other : (wordAt work first 3 ≡ 3 → ⊥) → false ≡ ruleShape (treeAt items work node w)
+    pub shape-other : (wordAt work first 3 ≡ 3 → ⊥) → false ≡ ruleShape (treeAt work node w)
     unfolding ruleShape
-    shape-other n = rw (← l, first-is, no-name items work first w (λ x. not (isEllipsis x)) false n) refl
+    shape-other n = rw (← l, first-is, no-name work first w (λ x. not (isEllipsis x)) false n) refl
 
-    pub shape-dots : (n : ℕ) → wordAt work first 3 ≡ 3 → n ≡ numberOf items work first → n ≡ 6 → false ≡ ruleShape (treeAt items work node w)
+    pub shape-dots : (n : ℕ) → wordAt work first 3 ≡ 3 → n ≡ numberOf work first → n ≡ 6 → false ≡ ruleShape (treeAt work node w)
     unfolding ruleShape onName isEllipsis
-    shape-dots n e f d = rw (← l, first-is, treeAt-name items work first w e, nameAt-number items work first w, ← f, d) refl
+    shape-dots n e f d = rw (← l, first-is, treeAt-name work first w e, nameAt-number work first w, ← f, d) refl
 
-    pub shape-yes : (n : ℕ) → wordAt work first 3 ≡ 3 → n ≡ numberOf items work first → (n ≡ 6 → ⊥) → true ≡ ruleShape (treeAt items work node w)
+    pub shape-yes : (n : ℕ) → wordAt work first 3 ≡ 3 → n ≡ numberOf work first → (n ≡ 6 → ⊥) → true ≡ ruleShape (treeAt work node w)
     unfolding ruleShape onName isEllipsis
-    shape-yes n e f d = rw (← l, first-is, treeAt-name items work first w e, nameAt-number items work first w, ← f, ne-eqb n 6 d) refl
+    shape-yes n e f d = rw (← l, first-is, treeAt-name work first w e, nameAt-number work first w, ← f, ne-eqb n 6 d) refl
 
 -- ---- a rule
 
@@ -94,32 +94,32 @@ shape-size t e =
     let l : (isList t && eqb (length (elements t)) 2) ≡ true = and-left (isListOf 2 t) first (sym e) in
     list-size t (eqb-true (length (elements t)) 2 (and-right (isList t) (eqb (length (elements t)) 2) l))
 
-rule-as : (o o′ : Option Rule) (s s′ : ℕ) (items old new : List ℕ) (next top : ℕ) (r : Built) → o ≡ o′ → s ≤ s′ → RuleLeft o s items old new next top r → RuleLeft o′ s′ items old new next top r
-rule-as o o′ s s′ items old new next top (Good at upper) e l m =
+rule-as : (o o′ : Option Rule) (s s′ : ℕ) (old new : List ℕ) (next top : ℕ) (r : Built) → o ≡ o′ → s ≤ s′ → RuleLeft o s old new next top r → RuleLeft o′ s′ old new next top r
+rule-as o o′ s s′ old new next top (Good at upper) e l m =
     record { rule = m .rule; is = sym e ∙ m .is; means = m .means; at-most = m .at-most; up = m .up; words = omega (arith, m .words); kept = m .kept }
-rule-as o o′ s s′ items old new next top Bad e l m = (sym e ∙ m .0, m .1)
+rule-as o o′ s s′ old new next top Bad e l m = (sym e ∙ m .0, m .1)
 
-module _ (items old : List ℕ) (literals node w next top : ℕ) (asks : Asks items old node w top) (literals-below : literals ≤ top) (next-below : next ≤ top) where
+module _ (old : List ℕ) (literals node w next top : ℕ) (asks : Asks old node w top) (literals-below : literals ≤ top) (next-below : next ≤ top) where
   abbrev listed : List Name
-  listed = names (treeAt items old literals w)
+  listed = names (treeAt old literals w)
 
   abbrev t : Tree
-  t = treeAt items old node w
+  t = treeAt old node w
 
-  pub left-shape : false ≡ ruleShape t → RuleLeft (ruleOf isEllipsis listed t) (size t) items old old next top Bad
+  pub left-shape : false ≡ ruleShape t → RuleLeft (ruleOf isEllipsis listed t) (size t) old old next top Bad
   left-shape e = (rule-none listed t e, refl)
 
   module _ (pattern p after q : ℕ) (shape : true ≡ ruleShape t) (a : Means old node pattern (element 0)) (b : Means old pattern p tail) (c : Means old node after tail) (d : Means old after q (element 0)) where
-    p-is : treeAt items old p w ≡ tail (element 0 t)
-    p-is = b .is items w ∙ ap tail (a .is items w)
+    p-is : treeAt old p w ≡ tail (element 0 t)
+    p-is = b .is w ∙ ap tail (a .is w)
 
-    q-is : treeAt items old q w ≡ element 1 t
-    q-is = d .is items w ∙ ap (element 0) (c .is items w) ∙ element-tail 0 t
+    q-is : treeAt old q w ≡ element 1 t
+    q-is = d .is w ∙ ap (element 0) (c .is w) ∙ element-tail 0 t
 
-    fits : size (treeAt items old p w) + size (treeAt items old q w) + 1 ≤ size t
+    fits : size (treeAt old p w) + size (treeAt old q w) + 1 ≤ size t
     fits = rw (p-is, q-is) (shape-size t shape)
 
-    pub parts-ask : PartsAsk items old literals p q w next top
+    pub parts-ask : PartsAsk old literals p q w next top
     parts-ask =
         record {
           literals-below = literals-below;
@@ -130,33 +130,33 @@ module _ (items old : List ℕ) (literals node w next top : ℕ) (asks : Asks it
           room = record { fits = omega (arith, asks .room .fits, fits); small = omega (arith, asks .room .small, fits) };
         }
 
-    pub left-parts : (new : List ℕ) (r : Built) → RuleLeft (partsOf listed (treeAt items old p w) (treeAt items old q w)) (size (treeAt items old p w) + size (treeAt items old q w) + 1) items old new next top r → RuleLeft (ruleOf isEllipsis listed t) (size t) items old new next top r
-    left-parts new r m = rule-as _ _ _ _ items old new next top r (rw (p-is, q-is) (rule-is listed t shape)) fits m
+    pub left-parts : (new : List ℕ) (r : Built) → RuleLeft (partsOf listed (treeAt old p w) (treeAt old q w)) (size (treeAt old p w) + size (treeAt old q w) + 1) old new next top r → RuleLeft (ruleOf isEllipsis listed t) (size t) old new next top r
+    left-parts new r m = rule-as _ _ _ _ old new next top r (rw (p-is, q-is) (rule-is listed t shape)) fits m
 
 -- ---- lists of rules
 
 -- the word of what is left
-pub rules-packed : (o : Option (List Rule)) (s : ℕ) (items old new : List ℕ) (top at upper p : ℕ) → top + 5 * s < 4294967295 → p ≡ packed at upper → RulesLeft o s items old new top (Good at upper) → RulesLeft o s items old new top (builtOf p)
-rules-packed o s items old new top at upper p l e m =
-    subst (λ (z : Built). RulesLeft o s items old new top z) (sym (built-packed p at upper e (omega (arith, m .words)))) m
+pub rules-packed : (o : Option (List Rule)) (s : ℕ) (old new : List ℕ) (top at upper p : ℕ) → top + 5 * s < 4294967295 → p ≡ packed at upper → RulesLeft o s old new top (Good at upper) → RulesLeft o s old new top (builtOf p)
+rules-packed o s old new top at upper p l e m =
+    subst (λ (z : Built). RulesLeft o s old new top z) (sym (built-packed p at upper e (omega (arith, m .words)))) m
 
 traverse-bad : (f : Tree → Option Rule) (x : Option Rule) (ys : Option (List Rule)) → ys ≡ none → mapBoth _∷_ x ys ≡ none
 unfolding mapBoth mapSome
 traverse-bad f none ys e = refl
 traverse-bad f (some x) ys e = rw e refl
 
-module _ (items old : List ℕ) (literals node w top : ℕ) (asks : Asks items old node w top) (literals-below : literals ≤ top) where
+module _ (old : List ℕ) (literals node w top : ℕ) (asks : Asks old node w top) (literals-below : literals ≤ top) where
   abbrev names-listed : List Name
-  names-listed = names (treeAt items old literals w)
+  names-listed = names (treeAt old literals w)
 
   abbrev answer : Tree → Option (List Rule)
   answer t = traverse (ruleOf isEllipsis names-listed) (elements t)
 
-  pub left-end : (wordAt old node 3 ≡ 4 → ⊥) → RulesLeft (answer (treeAt items old node w)) (size (treeAt items old node w)) items old old top (Good 0 top)
+  pub left-end : (wordAt old node 3 ≡ 4 → ⊥) → RulesLeft (answer (treeAt old node w)) (size (treeAt old node w)) old old top (Good 0 top)
   unfolding traverse
   left-end n =
       record {
-        means = ap (traverse (ruleOf isEllipsis names-listed)) (no-elements items old node w n) ∙ ap some (sym (rulesAt-none items old 0 refl));
+        means = ap (traverse (ruleOf isEllipsis names-listed)) (no-elements old node w n) ∙ ap some (sym (rulesAt-none old 0 refl));
         at-most = omega arith;
         up = omega arith;
         words = omega arith;
@@ -165,38 +165,38 @@ module _ (items old : List ℕ) (literals node w top : ℕ) (asks : Asks items o
 
   module _ (head rest : ℕ) (e : wordAt old node 3 ≡ 4) (f : head ≡ referenceAt old node 2) (g : rest ≡ referenceAt old node 1) where
     abbrev h : Tree
-    h = treeAt items old head w
+    h = treeAt old head w
 
     abbrev s : Tree
-    s = treeAt items old rest w
+    s = treeAt old rest w
 
-    answer-is : answer (treeAt items old node w) ≡ mapBoth _∷_ (ruleOf isEllipsis names-listed h) (answer s)
+    answer-is : answer (treeAt old node w) ≡ mapBoth _∷_ (ruleOf isEllipsis names-listed h) (answer s)
     unfolding traverse elements
-    answer-is = ap answer (tree-is items old node w top asks head rest e f g)
+    answer-is = ap answer (tree-is old node w top asks head rest e f g)
 
-    pub left-later : (mid : List ℕ) (r : Built) → r ≡ Bad → RulesLeft (answer s) (size s) items old mid top r → RulesLeft (answer (treeAt items old node w)) (size (treeAt items old node w)) items old mid top Bad
+    pub left-later : (mid : List ℕ) (r : Built) → r ≡ Bad → RulesLeft (answer s) (size s) old mid top r → RulesLeft (answer (treeAt old node w)) (size (treeAt old node w)) old mid top Bad
     left-later mid r b p =
-        let q : RulesLeft (answer s) (size s) items old mid top Bad = subst (λ (z : Built). RulesLeft (answer s) (size s) items old mid top z) b p in
+        let q : RulesLeft (answer s) (size s) old mid top Bad = subst (λ (z : Built). RulesLeft (answer s) (size s) old mid top z) b p in
         (answer-is ∙ traverse-bad (ruleOf isEllipsis names-listed) (ruleOf isEllipsis names-listed h) (answer s) (q .0), q .1)
 
-    pub made-later : (mid : List ℕ) (r : Built) (next upper : ℕ) → r ≡ Good next upper → RulesLeft (answer s) (size s) items old mid top r → RulesMade (answer s) (size s) items old mid top next upper
-    made-later mid r next upper b p = subst (λ (z : Built). RulesLeft (answer s) (size s) items old mid top z) b p
+    pub made-later : (mid : List ℕ) (r : Built) (next upper : ℕ) → r ≡ Good next upper → RulesLeft (answer s) (size s) old mid top r → RulesMade (answer s) (size s) old mid top next upper
+    made-later mid r next upper b p = subst (λ (z : Built). RulesLeft (answer s) (size s) old mid top z) b p
 
     -- after the later rules
-    module _ (mid : List ℕ) (next upper : ℕ) (same-length : length mid ≡ length old) (made : RulesMade (answer s) (size s) items old mid top next upper) where
-      head-is : treeAt items mid head w ≡ h
-      head-is = tree-kept items old mid top head w (omega (arith, head-below items old node w top asks head rest e f g, asks .node-below)) (asks .wrap-below) (made .kept)
+    module _ (mid : List ℕ) (next upper : ℕ) (same-length : length mid ≡ length old) (made : RulesMade (answer s) (size s) old mid top next upper) where
+      head-is : treeAt mid head w ≡ h
+      head-is = tree-kept old mid top head w (omega (arith, head-below old node w top asks head rest e f g, asks .node-below)) (asks .wrap-below) (made .kept)
 
-      listed-is : names (treeAt items mid literals w) ≡ names-listed
-      listed-is = ap names (tree-kept items old mid top literals w literals-below (asks .wrap-below) (made .kept))
+      listed-is : names (treeAt mid literals w) ≡ names-listed
+      listed-is = ap names (tree-kept old mid top literals w literals-below (asks .wrap-below) (made .kept))
 
-      whole-size : size (treeAt items old node w) ≡ suc (size h + size s)
-      whole-size = size-is items old node w top asks head rest e f g
+      whole-size : size (treeAt old node w) ≡ suc (size h + size s)
+      whole-size = size-is old node w top asks head rest e f g
 
-      pub asks-first : Asks items mid head w upper
+      pub asks-first : Asks mid head w upper
       asks-first =
           record {
-            node-below = omega (arith, head-below items old node w top asks head rest e f g, asks .node-below, made .up);
+            node-below = omega (arith, head-below old node w top asks head rest e f g, asks .node-below, made .up);
             wrap-below = omega (arith, asks .wrap-below, made .up);
             room = record {
               fits = rw head-is (omega (arith, asks .room .fits, whole-size, made .words));
@@ -208,12 +208,12 @@ module _ (items old : List ℕ) (literals node w top : ℕ) (asks : Asks items o
       literals-still = omega (arith, made .up)
 
       abbrev one : Option Rule
-      one = ruleOf isEllipsis (names (treeAt items mid literals w)) (treeAt items mid head w)
+      one = ruleOf isEllipsis (names (treeAt mid literals w)) (treeAt mid head w)
 
       one-is : one ≡ ruleOf isEllipsis names-listed h
       one-is = rw (listed-is, head-is) refl
 
-      pub left-both : (new : List ℕ) (r : Built) → RuleLeft one (size (treeAt items mid head w)) items mid new next upper r → RulesLeft (answer (treeAt items old node w)) (size (treeAt items old node w)) items old new top r
+      pub left-both : (new : List ℕ) (r : Built) → RuleLeft one (size (treeAt mid head w)) mid new next upper r → RulesLeft (answer (treeAt old node w)) (size (treeAt old node w)) old new top r
       unfolding mapBoth mapSome
       left-both new (Good at higher) m =
           let words : higher ≤ upper + 5 * size h = rw head-is at (m .words) in
@@ -237,25 +237,25 @@ rules-are : (t : Tree) → true ≡ isRulesForm t → traverse (ruleOf isEllipsi
 unfolding rulesOf onlyIf
 rules-are t e = rw (← e) refl
 
-rules-as : (o o′ : Option (List Rule)) (s s′ : ℕ) (items old new : List ℕ) (top : ℕ) (r : Built) → o ≡ o′ → s ≤ s′ → RulesLeft o s items old new top r → RulesLeft o′ s′ items old new top r
-rules-as o o′ s s′ items old new top (Good at upper) e l m = record { means = sym e ∙ m .means; at-most = m .at-most; up = m .up; words = omega (arith, m .words); kept = m .kept }
-rules-as o o′ s s′ items old new top Bad e l m = (sym e ∙ m .0, m .1)
+rules-as : (o o′ : Option (List Rule)) (s s′ : ℕ) (old new : List ℕ) (top : ℕ) (r : Built) → o ≡ o′ → s ≤ s′ → RulesLeft o s old new top r → RulesLeft o′ s′ old new top r
+rules-as o o′ s s′ old new top (Good at upper) e l m = record { means = sym e ∙ m .means; at-most = m .at-most; up = m .up; words = omega (arith, m .words); kept = m .kept }
+rules-as o o′ s s′ old new top Bad e l m = (sym e ∙ m .0, m .1)
 
-module _ (items old : List ℕ) (node w top : ℕ) (asks : Asks items old node w top) where
-  pub left-no-form : false ≡ isRulesForm (treeAt items old node w) → RulesLeft (rulesOf (treeAt items old node w)) (size (treeAt items old node w)) items old old top Bad
-  left-no-form e = (rules-none (treeAt items old node w) e, refl)
+module _ (old : List ℕ) (node w top : ℕ) (asks : Asks old node w top) where
+  pub left-no-form : false ≡ isRulesForm (treeAt old node w) → RulesLeft (rulesOf (treeAt old node w)) (size (treeAt old node w)) old old top Bad
+  left-no-form e = (rules-none (treeAt old node w) e, refl)
 
   module _ (after literals list : ℕ) (a : Means old node after tail) (b : Means old after literals (element 0)) (c : Means old after list tail) where
-    literals-are : treeAt items old literals w ≡ element 1 (treeAt items old node w)
-    literals-are = b .is items w ∙ ap (element 0) (a .is items w) ∙ element-tail 0 (treeAt items old node w)
+    literals-are : treeAt old literals w ≡ element 1 (treeAt old node w)
+    literals-are = b .is w ∙ ap (element 0) (a .is w) ∙ element-tail 0 (treeAt old node w)
 
-    list-is : treeAt items old list w ≡ tail (tail (treeAt items old node w))
-    list-is = c .is items w ∙ ap tail (a .is items w)
+    list-is : treeAt old list w ≡ tail (tail (treeAt old node w))
+    list-is = c .is w ∙ ap tail (a .is w)
 
-    smaller : size (treeAt items old list w) ≤ size (treeAt items old node w)
-    smaller = rw list-is (omega (arith, tail-size (treeAt items old node w), tail-size (tail (treeAt items old node w))))
+    smaller : size (treeAt old list w) ≤ size (treeAt old node w)
+    smaller = rw list-is (omega (arith, tail-size (treeAt old node w), tail-size (tail (treeAt old node w))))
 
-    pub asks-list : Asks items old list w top
+    pub asks-list : Asks old list w top
     asks-list =
         record {
           node-below = omega (arith, a .low, c .low, asks .node-below);
@@ -266,5 +266,5 @@ module _ (items old : List ℕ) (node w top : ℕ) (asks : Asks items old node w
     pub literals-under : literals ≤ top
     literals-under = omega (arith, a .low, b .low, asks .node-below)
 
-    pub left-form : (new : List ℕ) (r : Built) → true ≡ isRulesForm (treeAt items old node w) → RulesLeft (traverse (ruleOf isEllipsis (names (treeAt items old literals w))) (elements (treeAt items old list w))) (size (treeAt items old list w)) items old new top r → RulesLeft (rulesOf (treeAt items old node w)) (size (treeAt items old node w)) items old new top r
-    left-form new r e m = rules-as _ _ _ _ items old new top r (rw (literals-are, list-is) (rules-are (treeAt items old node w) e)) smaller m
+    pub left-form : (new : List ℕ) (r : Built) → true ≡ isRulesForm (treeAt old node w) → RulesLeft (traverse (ruleOf isEllipsis (names (treeAt old literals w))) (elements (treeAt old list w))) (size (treeAt old list w)) old new top r → RulesLeft (rulesOf (treeAt old node w)) (size (treeAt old node w)) old new top r
+    left-form new r e m = rules-as _ _ _ _ old new top r (rw (literals-are, list-is) (rules-are (treeAt old node w) e)) smaller m

@@ -24,38 +24,38 @@ partsOf literals p q =
     let vs = variables isEllipsis literals 0 p in
     onlyIf (areVariables vs) (mapBoth (λ x y. record { pattern = x; template = y }) (patternOf isEllipsis literals 0 p) (templateOf isEllipsis vs 0 false q))
 
-pub record PartsAsk (items work : List ℕ) (literals p q w next top : ℕ) : Type 0 where
+pub record PartsAsk (work : List ℕ) (literals p q w next top : ℕ) : Type 0 where
   pub literals-below : literals ≤ top
   pub p-below : p ≤ top
   pub q-below : q ≤ top
   pub wrap-below : w ≤ top
   pub next-below : next ≤ top
-  pub room : Room work top (5 * (size (treeAt items work p w) + size (treeAt items work q w) + 1) + 1)
+  pub room : Room work top (5 * (size (treeAt work p w) + size (treeAt work q w) + 1) + 1)
 
 -- a rule's cell before those at `next`, for a tree of `items` s
-pub record RuleMade (o : Option Rule) (s : ℕ) (items old new : List ℕ) (next top at upper : ℕ) : Type 0 where
+pub record RuleMade (o : Option Rule) (s : ℕ) (old new : List ℕ) (next top at upper : ℕ) : Type 0 where
   pub rule : Rule
   pub is : o ≡ some rule
-  pub means : rulesAt items new at ≡ rule ∷ rulesAt items old next
+  pub means : rulesAt new at ≡ rule ∷ rulesAt old next
   pub at-most : at ≤ upper
   pub up : top ≤ upper
   pub words : upper ≤ top + 5 * s
   pub kept : take top new ≡ take top old
 
 -- bad exactly where the definition has no rule
-abbrev pub RuleLeft : (o : Option Rule) (s : ℕ) (items old new : List ℕ) (next top : ℕ) → Built → Type 0
-RuleLeft o s items old new next top (Good at upper) = RuleMade o s items old new next top at upper
-RuleLeft o s items old new next top Bad = (o ≡ none) × (take top new ≡ take top old)
+abbrev pub RuleLeft : (o : Option Rule) (s : ℕ) (old new : List ℕ) (next top : ℕ) → Built → Type 0
+RuleLeft o s old new next top (Good at upper) = RuleMade o s old new next top at upper
+RuleLeft o s old new next top Bad = (o ≡ none) × (take top new ≡ take top old)
 
 -- the cells of a list of rules
-pub record RulesMade (o : Option (List Rule)) (s : ℕ) (items old new : List ℕ) (top at upper : ℕ) : Type 0 where
-  pub means : o ≡ some (rulesAt items new at)
+pub record RulesMade (o : Option (List Rule)) (s : ℕ) (old new : List ℕ) (top at upper : ℕ) : Type 0 where
+  pub means : o ≡ some (rulesAt new at)
   pub at-most : at ≤ upper
   pub up : top ≤ upper
   pub words : upper ≤ top + 5 * s
   pub kept : take top new ≡ take top old
 
 -- bad exactly where the definition has no rules
-abbrev pub RulesLeft : (o : Option (List Rule)) (s : ℕ) (items old new : List ℕ) (top : ℕ) → Built → Type 0
-RulesLeft o s items old new top (Good at upper) = RulesMade o s items old new top at upper
-RulesLeft o s items old new top Bad = (o ≡ none) × (take top new ≡ take top old)
+abbrev pub RulesLeft : (o : Option (List Rule)) (s : ℕ) (old new : List ℕ) (top : ℕ) → Built → Type 0
+RulesLeft o s old new top (Good at upper) = RulesMade o s old new top at upper
+RulesLeft o s old new top Bad = (o ≡ none) × (take top new ≡ take top old)

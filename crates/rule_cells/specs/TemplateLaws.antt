@@ -28,15 +28,15 @@ use Rattle.rule_cells.specs.Parse.{Asks, TemplateMade, TemplateLeft}
 use Rattle.rule_cells.specs.ParseLaws.{grows-nothing, grows-leaf, kept-both, tree-is, size-is, rest-kept, grows-pair}
 
 -- the empty template is reference 0
-pub templateAt-none : (items work : List ℕ) → templateAt items work 0 ≡ emptyT
+pub templateAt-none : (work : List ℕ) → templateAt work 0 ≡ emptyT
 unfolding templateAt templateFrom
-templateAt-none items work = refl
+templateAt-none work = refl
 
 -- ---- the word of what is left
 
-pub left-packed : (vs : List (Name × ℕ)) (d : ℕ) (taken : Bool) (t : Tree) (items old new : List ℕ) (top at upper p : ℕ) → top + 5 * size t < 4294967295 → p ≡ packed at upper → TemplateLeft vs d taken t items old new top (Good at upper) → TemplateLeft vs d taken t items old new top (builtOf p)
-left-packed vs d taken t items old new top at upper p l e m =
-    subst (λ (z : Built). TemplateLeft vs d taken t items old new top z) (sym (built-packed p at upper e (omega (arith, m .grows .words)))) m
+pub left-packed : (vs : List (Name × ℕ)) (d : ℕ) (taken : Bool) (t : Tree) (old new : List ℕ) (top at upper p : ℕ) → top + 5 * size t < 4294967295 → p ≡ packed at upper → TemplateLeft vs d taken t old new top (Good at upper) → TemplateLeft vs d taken t old new top (builtOf p)
+left-packed vs d taken t old new top at upper p l e m =
+    subst (λ (z : Built). TemplateLeft vs d taken t old new top z) (sym (built-packed p at upper e (omega (arith, m .grows .words)))) m
 
 -- ---- names
 
@@ -57,51 +57,51 @@ module _ (vs : List (Name × ℕ)) (d : ℕ) (x : Name) where
   unfolding nameTemplate
   name-insert f = rw f refl
 
-  module _ (items old : List ℕ) (top : ℕ) where
-    pub left-dots : x .number ≡ 6 → TemplateLeft vs d false (name x) items old old top Bad
+  module _ (old : List ℕ) (top : ℕ) where
+    pub left-dots : x .number ≡ 6 → TemplateLeft vs d false (name x) old old top Bad
     left-dots e = (name-dots e, refl)
 
-    pub left-depth : (k e : ℕ) → (x .number ≡ 6 → ⊥) → variableFrom 0 vs x ≡ some (k, e) → false ≡ depthFits e d → TemplateLeft vs d false (name x) items old old top Bad
+    pub left-depth : (k e : ℕ) → (x .number ≡ 6 → ⊥) → variableFrom 0 vs x ≡ some (k, e) → false ≡ depthFits e d → TemplateLeft vs d false (name x) old old top Bad
     unfolding onlyIf
     left-depth k e n f h = (name-is n ∙ name-variable k e f ∙ ap (λ (b : Bool). onlyIf b (some (variableT k e))) (sym h), refl)
 
-    pub left-variable : (k e : ℕ) (new : List ℕ) (r : ℕ) → (x .number ≡ 6 → ⊥) → variableFrom 0 vs x ≡ some (k, e) → true ≡ depthFits e d → Made templateAt (λ i. variableT k e) old new top r → TemplateLeft vs d false (name x) items old new top (Good r r)
+    pub left-variable : (k e : ℕ) (new : List ℕ) (r : ℕ) → (x .number ≡ 6 → ⊥) → variableFrom 0 vs x ≡ some (k, e) → true ≡ depthFits e d → Made templateAt (variableT k e) old new top r → TemplateLeft vs d false (name x) old new top (Good r r)
     unfolding onlyIf
     left-variable k e new r n f h c =
         record {
-          means = name-is n ∙ name-variable k e f ∙ ap (λ (b : Bool). onlyIf b (some (variableT k e))) (sym h) ∙ ap some (sym (c .means items));
+          means = name-is n ∙ name-variable k e f ∙ ap (λ (b : Bool). onlyIf b (some (variableT k e))) (sym h) ∙ ap some (sym (c .means));
           grows = grows-leaf (name x) old new top r (c .end) (c .kept);
         }
 
-    pub left-insert : (node w : ℕ) (new : List ℕ) (r : ℕ) → x ≡ nameAt items old node w → (x .number ≡ 6 → ⊥) → variableFrom 0 vs x ≡ none → Made templateAt (λ i. insertT (nameAt i old node w)) old new top r → TemplateLeft vs d false (name x) items old new top (Good r r)
+    pub left-insert : (node w : ℕ) (new : List ℕ) (r : ℕ) → x ≡ nameAt old node w → (x .number ≡ 6 → ⊥) → variableFrom 0 vs x ≡ none → Made templateAt (insertT (nameAt old node w)) old new top r → TemplateLeft vs d false (name x) old new top (Good r r)
     left-insert node w new r is n f c =
         record {
-          means = name-is n ∙ name-insert f ∙ ap some (ap insertT is ∙ sym (c .means items));
+          means = name-is n ∙ name-insert f ∙ ap some (ap insertT is ∙ sym (c .means));
           grows = grows-leaf (name x) old new top r (c .end) (c .kept);
         }
 
 -- ---- leaves
 
-module _ (vs : List (Name × ℕ)) (d : ℕ) (items old : List ℕ) (node w top : ℕ) where
-  pub left-name : (new : List ℕ) (r : Built) → wordAt old node 3 ≡ 3 → TemplateLeft vs d false (name (nameAt items old node w)) items old new top r → TemplateLeft vs d false (treeAt items old node w) items old new top r
-  left-name new r e g = subst (λ (t : Tree). TemplateLeft vs d false t items old new top r) (sym (treeAt-name items old node w e)) g
+module _ (vs : List (Name × ℕ)) (d : ℕ) (old : List ℕ) (node w top : ℕ) where
+  pub left-name : (new : List ℕ) (r : Built) → wordAt old node 3 ≡ 3 → TemplateLeft vs d false (name (nameAt old node w)) old new top r → TemplateLeft vs d false (treeAt old node w) old new top r
+  left-name new r e g = subst (λ (t : Tree). TemplateLeft vs d false t old new top r) (sym (treeAt-name old node w e)) g
 
-  empty-left : TemplateLeft vs d false empty items old old top (Good 0 top)
+  empty-left : TemplateLeft vs d false empty old old top (Good 0 top)
   unfolding templateOf
-  empty-left = record { means = ap some (sym (templateAt-none items old)); grows = grows-nothing empty old top }
+  empty-left = record { means = ap some (sym (templateAt-none old)); grows = grows-nothing empty old top }
 
-  pub left-empty : wordAt old node 3 ≡ 0 → TemplateLeft vs d false (treeAt items old node w) items old old top (Good 0 top)
-  left-empty e = subst (λ (t : Tree). TemplateLeft vs d false t items old old top (Good 0 top)) (sym (treeAt-empty items old node w e)) empty-left
+  pub left-empty : wordAt old node 3 ≡ 0 → TemplateLeft vs d false (treeAt old node w) old old top (Good 0 top)
+  left-empty e = subst (λ (t : Tree). TemplateLeft vs d false t old old top (Good 0 top)) (sym (treeAt-empty old node w e)) empty-left
 
-  constant-left : (a : Constant) (new : List ℕ) (r : ℕ) → Made templateAt (λ i. constantT a) old new top r → TemplateLeft vs d false (constant a) items old new top (Good r r)
+  constant-left : (a : Constant) (new : List ℕ) (r : ℕ) → Made templateAt (constantT a) old new top r → TemplateLeft vs d false (constant a) old new top (Good r r)
   unfolding templateOf
-  constant-left a new r c = record { means = ap some (sym (c .means items)); grows = grows-leaf (constant a) old new top r (c .end) (c .kept) }
+  constant-left a new r c = record { means = ap some (sym (c .means)); grows = grows-leaf (constant a) old new top r (c .end) (c .kept) }
 
-  pub left-constant : (kind first second : ℕ) (new : List ℕ) (r : ℕ) → kind ≡ wordAt old node 3 → first ≡ wordAt old node 2 → second ≡ wordAt old node 1 → (wordAt old node 3 ≡ 0 → ⊥) → (wordAt old node 3 ≡ 3 → ⊥) → (wordAt old node 3 ≡ 4 → ⊥) → Made templateAt (λ i. constantT (record { kind = kind; first = first; second = second })) old new top r → TemplateLeft vs d false (treeAt items old node w) items old new top (Good r r)
+  pub left-constant : (kind first second : ℕ) (new : List ℕ) (r : ℕ) → kind ≡ wordAt old node 3 → first ≡ wordAt old node 2 → second ≡ wordAt old node 1 → (wordAt old node 3 ≡ 0 → ⊥) → (wordAt old node 3 ≡ 3 → ⊥) → (wordAt old node 3 ≡ 4 → ⊥) → Made templateAt (constantT (record { kind = kind; first = first; second = second })) old new top r → TemplateLeft vs d false (treeAt old node w) old new top (Good r r)
   unfolding constantAt
   left-constant kind first second new r e f g n0 n3 n4 c =
-      let is : constant (record { kind = kind; first = first; second = second }) ≡ treeAt items old node w = rw (e, f, g) (sym (treeAt-constant items old node w n0 n3 n4)) in
-      subst (λ (t : Tree). TemplateLeft vs d false t items old new top (Good r r)) is (constant-left (record { kind = kind; first = first; second = second }) new r c)
+      let is : constant (record { kind = kind; first = first; second = second }) ≡ treeAt old node w = rw (e, f, g) (sym (treeAt-constant old node w n0 n3 n4)) in
+      subst (λ (t : Tree). TemplateLeft vs d false t old new top (Good r r)) is (constant-left (record { kind = kind; first = first; second = second }) new r c)
 
 -- ---- pairs
 
@@ -154,26 +154,26 @@ module _ (vs : List (Name × ℕ)) (d : ℕ) (h s : Tree) where
 
 -- ---- the table of variables, after new cells
 
-module _ (items old new : List ℕ) (w top : ℕ) (wrap-below : w ≤ top) (kept : take top new ≡ take top old) (vars : List ℕ) where
-  variables-from : (i n : ℕ) → ((j : ℕ) → j < i + n → getD vars (2 * j) 0 ≤ top) → variablesFrom items new w vars i n ≡ variablesFrom items old w vars i n
+module _ (old new : List ℕ) (w top : ℕ) (wrap-below : w ≤ top) (kept : take top new ≡ take top old) (vars : List ℕ) where
+  variables-from : (i n : ℕ) → ((j : ℕ) → j < i + n → getD vars (2 * j) 0 ≤ top) → variablesFrom new w vars i n ≡ variablesFrom old w vars i n
   unfolding variablesFrom variableAt
   variables-from i zero u = refl
   variables-from i (suc n) u =
-      ap₂ _∷_ (ap (λ (x : Name). (x, getD vars (2 * i + 1) 0)) (name-kept items old new top kept (getD vars (2 * i) 0) w (u i (omega arith)) wrap-below))
+      ap₂ _∷_ (ap (λ (x : Name). (x, getD vars (2 * i + 1) 0)) (name-kept old new top kept (getD vars (2 * i) 0) w (u i (omega arith)) wrap-below))
       (variables-from (suc i) n (λ j l. u j (omega arith)))
 
-  pub variables-kept : (n : ℕ) → Under vars n top → variablesFrom items new w vars 0 n ≡ variablesFrom items old w vars 0 n
+  pub variables-kept : (n : ℕ) → Under vars n top → variablesFrom new w vars 0 n ≡ variablesFrom old w vars 0 n
   variables-kept n u = variables-from 0 n (λ j l. u j (omega arith))
 
 -- a leaf may begin after `...` or not
-leaf-taken : (vs : List (Name × ℕ)) (d : ℕ) (taken : Bool) (items old : List ℕ) (node w : ℕ) → (wordAt old node 3 ≡ 4 → ⊥) → templateOf isEllipsis vs d false (treeAt items old node w) ≡ templateOf isEllipsis vs d taken (treeAt items old node w)
+leaf-taken : (vs : List (Name × ℕ)) (d : ℕ) (taken : Bool) (old : List ℕ) (node w : ℕ) → (wordAt old node 3 ≡ 4 → ⊥) → templateOf isEllipsis vs d false (treeAt old node w) ≡ templateOf isEllipsis vs d taken (treeAt old node w)
 unfolding templateOf
-leaf-taken vs d taken items old node w n =
-    tree-cases items old node w (λ t. templateOf isEllipsis vs d false t ≡ templateOf isEllipsis vs d taken t) (λ e. refl) (λ e. refl) (λ e. absurd (n e)) (λ p q r. refl)
+leaf-taken vs d taken old node w n =
+    tree-cases old node w (λ t. templateOf isEllipsis vs d false t ≡ templateOf isEllipsis vs d taken t) (λ e. refl) (λ e. refl) (λ e. absurd (n e)) (λ p q r. refl)
 
 -- one tree's template is another's, no larger
-module _ (vs : List (Name × ℕ)) (items old new : List ℕ) (top d e : ℕ) (taken held : Bool) (t s : Tree) (same : templateOf isEllipsis vs e held s ≡ templateOf isEllipsis vs d taken t) (smaller : size s ≤ size t) where
-  pub left-as : (r : Built) → TemplateLeft vs e held s items old new top r → TemplateLeft vs d taken t items old new top r
+module _ (vs : List (Name × ℕ)) (old new : List ℕ) (top d e : ℕ) (taken held : Bool) (t s : Tree) (same : templateOf isEllipsis vs e held s ≡ templateOf isEllipsis vs d taken t) (smaller : size s ≤ size t) where
+  pub left-as : (r : Built) → TemplateLeft vs e held s old new top r → TemplateLeft vs d taken t old new top r
   left-as (Good at upper) m =
       record {
         means = sym same ∙ m .means;
@@ -181,78 +181,78 @@ module _ (vs : List (Name × ℕ)) (items old new : List ℕ) (top d e : ℕ) (t
       }
   left-as Bad m = (sym same ∙ m .0, m .1)
 
-pub left-leaf : (vs : List (Name × ℕ)) (d : ℕ) (taken : Bool) (items old : List ℕ) (node w top : ℕ) (new : List ℕ) (r : Built) → (wordAt old node 3 ≡ 4 → ⊥) → TemplateLeft vs d false (treeAt items old node w) items old new top r → TemplateLeft vs d taken (treeAt items old node w) items old new top r
-left-leaf vs d taken items old node w top new r n m = left-as vs items old new top d d taken false _ _ (leaf-taken vs d taken items old node w n) (omega arith) r m
+pub left-leaf : (vs : List (Name × ℕ)) (d : ℕ) (taken : Bool) (old : List ℕ) (node w top : ℕ) (new : List ℕ) (r : Built) → (wordAt old node 3 ≡ 4 → ⊥) → TemplateLeft vs d false (treeAt old node w) old new top r → TemplateLeft vs d taken (treeAt old node w) old new top r
+left-leaf vs d taken old node w top new r n m = left-as vs old new top d d taken false _ _ (leaf-taken vs d taken old node w n) (omega arith) r m
 
 -- what is left after each way through a pair
-module _ (items old : List ℕ) (vars : List ℕ) (count node w d top : ℕ) (asks : Asks items old node w top) (under : Under vars count top) (head rest : ℕ) (e : wordAt old node 3 ≡ 4) (f : head ≡ referenceAt old node 2) (g : rest ≡ referenceAt old node 1) where
+module _ (old : List ℕ) (vars : List ℕ) (count node w d top : ℕ) (asks : Asks old node w top) (under : Under vars count top) (head rest : ℕ) (e : wordAt old node 3 ≡ 4) (f : head ≡ referenceAt old node 2) (g : rest ≡ referenceAt old node 1) where
   abbrev vs : List (Name × ℕ)
-  vs = variablesFrom items old w vars 0 count
+  vs = variablesFrom old w vars 0 count
 
   abbrev h : Tree
-  h = treeAt items old head w
+  h = treeAt old head w
 
   abbrev s : Tree
-  s = treeAt items old rest w
+  s = treeAt old rest w
 
-  whole-is : treeAt items old node w ≡ pair h s
-  whole-is = tree-is items old node w top asks head rest e f g
+  whole-is : treeAt old node w ≡ pair h s
+  whole-is = tree-is old node w top asks head rest e f g
 
-  whole-size : size (treeAt items old node w) ≡ suc (size h + size s)
-  whole-size = size-is items old node w top asks head rest e f g
+  whole-size : size (treeAt old node w) ≡ suc (size h + size s)
+  whole-size = size-is old node w top asks head rest e f g
 
-  pub left-taken : (taken : Bool) (new : List ℕ) (r : Built) → taken ≡ true → TemplateLeft vs d false s items old new top r → TemplateLeft vs d taken (treeAt items old node w) items old new top r
-  left-taken taken new r q m = left-as vs items old new top d d taken false (treeAt items old node w) s (rw (q, whole-is) (sym (pair-taken vs d h s))) (omega (arith, whole-size)) r m
+  pub left-taken : (taken : Bool) (new : List ℕ) (r : Built) → taken ≡ true → TemplateLeft vs d false s old new top r → TemplateLeft vs d taken (treeAt old node w) old new top r
+  left-taken taken new r q m = left-as vs old new top d d taken false (treeAt old node w) s (rw (q, whole-is) (sym (pair-taken vs d h s))) (omega (arith, whole-size)) r m
 
-  module _ (taken dots : Bool) (inner : ℕ) (untaken : taken ≡ false) (next : dots ≡ dotsNext isEllipsis s) (deeper : Deeper items old rest d inner) where
+  module _ (taken dots : Bool) (inner : ℕ) (untaken : taken ≡ false) (next : dots ≡ dotsNext isEllipsis s) (deeper : Deeper old rest d inner) where
     first-is : templateOf isEllipsis vs inner false h ≡ firstOf vs d h s
     first-is = rw (deeper w) refl
 
-    whole : templateOf isEllipsis vs d taken (treeAt items old node w) ≡ templateOf isEllipsis vs d false (pair h s)
+    whole : templateOf isEllipsis vs d taken (treeAt old node w) ≡ templateOf isEllipsis vs d false (pair h s)
     whole = rw (untaken, whole-is) refl
 
-    pub left-bad : (mid : List ℕ) (r : Built) → r ≡ Bad → TemplateLeft vs inner false h items old mid top r → TemplateLeft vs d taken (treeAt items old node w) items old mid top Bad
+    pub left-bad : (mid : List ℕ) (r : Built) → r ≡ Bad → TemplateLeft vs inner false h old mid top r → TemplateLeft vs d taken (treeAt old node w) old mid top Bad
     left-bad mid r b p =
-        let q : TemplateLeft vs inner false h items old mid top Bad = subst (λ (z : Built). TemplateLeft vs inner false h items old mid top z) b p in
+        let q : TemplateLeft vs inner false h old mid top Bad = subst (λ (z : Built). TemplateLeft vs inner false h old mid top z) b p in
         (whole ∙ pair-bad vs d h s (sym first-is ∙ q .0), q .1)
 
-    pub made-head : (mid : List ℕ) (r : Built) (a t : ℕ) → r ≡ Good a t → TemplateLeft vs inner false h items old mid top r → TemplateMade vs inner false h items old mid top a t
-    made-head mid r a t b p = subst (λ (z : Built). TemplateLeft vs inner false h items old mid top z) b p
+    pub made-head : (mid : List ℕ) (r : Built) (a t : ℕ) → r ≡ Good a t → TemplateLeft vs inner false h old mid top r → TemplateMade vs inner false h old mid top a t
+    made-head mid r a t b p = subst (λ (z : Built). TemplateLeft vs inner false h old mid top z) b p
 
-    module _ (mid : List ℕ) (a t : ℕ) (same-length : length mid ≡ length old) (made : TemplateMade vs inner false h items old mid top a t) where
-      head-means : firstOf vs d h s ≡ some (templateAt items mid a)
+    module _ (mid : List ℕ) (a t : ℕ) (same-length : length mid ≡ length old) (made : TemplateMade vs inner false h old mid top a t) where
+      head-means : firstOf vs d h s ≡ some (templateAt mid a)
       head-means = sym first-is ∙ made .means
 
-      pub left-undriven : false ≡ (not dots || drives 0 (templateAt items mid a)) → TemplateLeft vs d taken (treeAt items old node w) items old mid top Bad
-      left-undriven u = (whole ∙ pair-undriven vs d h s (templateAt items mid a) head-means (u ∙ ap (λ (b : Bool). not b || drives 0 (templateAt items mid a)) next), made .grows .kept)
+      pub left-undriven : false ≡ (not dots || drives 0 (templateAt mid a)) → TemplateLeft vs d taken (treeAt old node w) old mid top Bad
+      left-undriven u = (whole ∙ pair-undriven vs d h s (templateAt mid a) head-means (u ∙ ap (λ (b : Bool). not b || drives 0 (templateAt mid a)) next), made .grows .kept)
 
       pub under-still : Under vars count t
       under-still i l = omega (arith, under i l, made .grows .up)
 
       abbrev again : Tree
-      again = treeAt items mid rest w
+      again = treeAt mid rest w
 
       abbrev vs-again : List (Name × ℕ)
-      vs-again = variablesFrom items mid w vars 0 count
+      vs-again = variablesFrom mid w vars 0 count
 
       rest-means : templateOf isEllipsis vs-again d dots again ≡ laterOf vs d h s
-      rest-means = rw (variables-kept items old mid w top (asks .wrap-below) (made .grows .kept) vars count under, rest-kept items old node w top asks head rest e f g mid a t same-length (made .grows), next) refl
+      rest-means = rw (variables-kept old mid w top (asks .wrap-below) (made .grows .kept) vars count under, rest-kept old node w top asks head rest e f g mid a t same-length (made .grows), next) refl
 
-      pub left-bad-rest : (new : List ℕ) (r : Built) → r ≡ Bad → TemplateLeft vs-again d dots again items mid new t r → TemplateLeft vs d taken (treeAt items old node w) items old new top Bad
+      pub left-bad-rest : (new : List ℕ) (r : Built) → r ≡ Bad → TemplateLeft vs-again d dots again mid new t r → TemplateLeft vs d taken (treeAt old node w) old new top Bad
       left-bad-rest new r b p =
-          let q : TemplateLeft vs-again d dots again items mid new t Bad = subst (λ (z : Built). TemplateLeft vs-again d dots again items mid new t z) b p in
-          (whole ∙ pair-bad-rest vs d h s (templateAt items mid a) head-means (sym rest-means ∙ q .0), kept-both h old mid new top a t (made .grows) (q .1))
+          let q : TemplateLeft vs-again d dots again mid new t Bad = subst (λ (z : Built). TemplateLeft vs-again d dots again mid new t z) b p in
+          (whole ∙ pair-bad-rest vs d h s (templateAt mid a) head-means (sym rest-means ∙ q .0), kept-both h old mid new top a t (made .grows) (q .1))
 
-      pub made-rest : (last : List ℕ) (r : Built) (b u : ℕ) → r ≡ Good b u → TemplateLeft vs-again d dots again items mid last t r → TemplateMade vs-again d dots again items mid last t b u
-      made-rest last r b u q p = subst (λ (z : Built). TemplateLeft vs-again d dots again items mid last t z) q p
+      pub made-rest : (last : List ℕ) (r : Built) (b u : ℕ) → r ≡ Good b u → TemplateLeft vs-again d dots again mid last t r → TemplateMade vs-again d dots again mid last t b u
+      made-rest last r b u q p = subst (λ (z : Built). TemplateLeft vs-again d dots again mid last t z) q p
 
-      pub left-list : (last new : List ℕ) (b u r : ℕ) → true ≡ (not dots || drives 0 (templateAt items mid a)) → TemplateMade vs-again d dots again items mid last t b u → Made templateAt (λ i. cond dots (ellipsisT (templateAt i last a) (templateAt i last b)) (pairT (templateAt i last a) (templateAt i last b))) last new u r → TemplateLeft vs d taken (treeAt items old node w) items old new top (Good r r)
+      pub left-list : (last new : List ℕ) (b u r : ℕ) → true ≡ (not dots || drives 0 (templateAt mid a)) → TemplateMade vs-again d dots again mid last t b u → Made templateAt (cond dots (ellipsisT (templateAt last a) (templateAt last b)) (pairT (templateAt last a) (templateAt last b))) last new u r → TemplateLeft vs d taken (treeAt old node w) old new top (Good r r)
       left-list last new b u r ok second c =
-          let x-is : templateAt items last a ≡ templateAt items mid a = template-kept items mid last t (second .grows .kept) a (made .grows .at-most) in
+          let x-is : templateAt last a ≡ templateAt mid a = template-kept mid last t (second .grows .kept) a (made .grows .at-most) in
           record {
             means =
                 whole
-                ∙ pair-both vs d h s (templateAt items mid a) head-means (templateAt items last b) (ok ∙ ap (λ (z : Bool). not z || drives 0 (templateAt items mid a)) next) (sym rest-means ∙ second .means)
-                ∙ ap some (ap₂ (λ (z : Bool) (x : Template). cond z (ellipsisT x (templateAt items last b)) (pairT x (templateAt items last b))) (sym next) (sym x-is) ∙ sym (c .means items));
-            grows = grows-pair items old node w top asks head rest e f g mid a t same-length (made .grows) last new b u r (second .grows) (c .end) (c .kept);
+                ∙ pair-both vs d h s (templateAt mid a) head-means (templateAt last b) (ok ∙ ap (λ (z : Bool). not z || drives 0 (templateAt mid a)) next) (sym rest-means ∙ second .means)
+                ∙ ap some (ap₂ (λ (z : Bool) (x : Template). cond z (ellipsisT x (templateAt last b)) (pairT x (templateAt last b))) (sym next) (sym x-is) ∙ sym (c .means));
+            grows = grows-pair old node w top asks head rest e f g mid a t same-length (made .grows) last new b u r (second .grows) (c .end) (c .kept);
           }

@@ -39,48 +39,48 @@ any-append f (x ∷ a) b = rw (any-append f a b) (or-assoc (f x) (anyOf f a) (an
     or-assoc false q r = refl
 
 -- the names of a tree in the arena that pass a test
-module _ (items work : List ℕ) (list w : ℕ) (f : Name → Bool) where
-  pub any-name : (b : Bool) → wordAt work list 3 ≡ 3 → b ≡ f (nameAt items work list w) → b ≡ anyOf f (names (treeAt items work list w))
+module _ (work : List ℕ) (list w : ℕ) (f : Name → Bool) where
+  pub any-name : (b : Bool) → wordAt work list 3 ≡ 3 → b ≡ f (nameAt work list w) → b ≡ anyOf f (names (treeAt work list w))
   unfolding anyOf names
-  any-name b e h = rw (treeAt-name items work list w e, or-false (f (nameAt items work list w))) h
+  any-name b e h = rw (treeAt-name work list w e, or-false (f (nameAt work list w))) h
 
-  pub any-head : (r : ℕ) → wordAt work list 3 ≡ 4 → r ≡ referenceAt work list 2 → true ≡ anyOf f (names (treeAt items work r w)) → true ≡ anyOf f (names (treeAt items work list w))
+  pub any-head : (r : ℕ) → wordAt work list 3 ≡ 4 → r ≡ referenceAt work list 2 → true ≡ anyOf f (names (treeAt work r w)) → true ≡ anyOf f (names (treeAt work list w))
   unfolding names
   any-head r e g h =
-      rw (treeAt-pair items work list w e, ← g, any-append f (names (treeAt items work r w)) (names (treeAt items work (referenceAt work list 1) w)), ← h) refl
+      rw (treeAt-pair work list w e, ← g, any-append f (names (treeAt work r w)) (names (treeAt work (referenceAt work list 1) w)), ← h) refl
 
-  pub any-rest : (r s : ℕ) (b : Bool) → wordAt work list 3 ≡ 4 → r ≡ referenceAt work list 2 → s ≡ referenceAt work list 1 → false ≡ anyOf f (names (treeAt items work r w)) → b ≡ anyOf f (names (treeAt items work s w)) → b ≡ anyOf f (names (treeAt items work list w))
+  pub any-rest : (r s : ℕ) (b : Bool) → wordAt work list 3 ≡ 4 → r ≡ referenceAt work list 2 → s ≡ referenceAt work list 1 → false ≡ anyOf f (names (treeAt work r w)) → b ≡ anyOf f (names (treeAt work s w)) → b ≡ anyOf f (names (treeAt work list w))
   unfolding names
   any-rest r s b e g k h j =
-      rw (treeAt-pair items work list w e, ← g, ← k, any-append f (names (treeAt items work r w)) (names (treeAt items work s w)), ← h) j
+      rw (treeAt-pair work list w e, ← g, ← k, any-append f (names (treeAt work r w)) (names (treeAt work s w)), ← h) j
 
-  pub any-other : (wordAt work list 3 ≡ 3 → ⊥) → (wordAt work list 3 ≡ 4 → ⊥) → false ≡ anyOf f (names (treeAt items work list w))
+  pub any-other : (wordAt work list 3 ≡ 3 → ⊥) → (wordAt work list 3 ≡ 4 → ⊥) → false ≡ anyOf f (names (treeAt work list w))
   unfolding names anyOf
-  any-other m n = tree-cases items work list w (λ t. false ≡ anyOf f (names t)) (λ e. refl) (λ e. absurd (m e)) (λ e. absurd (n e)) (λ p q r. refl)
+  any-other m n = tree-cases work list w (λ t. false ≡ anyOf f (names t)) (λ e. refl) (λ e. absurd (m e)) (λ e. absurd (n e)) (λ p q r. refl)
 
 -- ---- known variables
 
-module _ (items work : List ℕ) (w : ℕ) (vars : List ℕ) (x : Name) where
-  pub known-all : (i left : ℕ) → knownFrom items work w vars x (i + left) i ≡ variableFrom i (variablesFrom items work w vars i left) x
+module _ (work : List ℕ) (w : ℕ) (vars : List ℕ) (x : Name) where
+  pub known-all : (i left : ℕ) → knownFrom work w vars x (i + left) i ≡ variableFrom i (variablesFrom work w vars i left) x
   known-all i left = let e : i + left - i ≡ left = omega arith in rw e refl
 
   module _ (end i : ℕ) where
-    pub known-none : end ≤ i → knownOf Not ≡ knownFrom items work w vars x end i
+    pub known-none : end ≤ i → knownOf Not ≡ knownFrom work w vars x end i
     unfolding knownOf variablesFrom variableFrom
     known-none h = let e : end - i ≡ 0 = omega arith in rw e refl
 
-    known-step : i < end → knownFrom items work w vars x end i ≡ cond (same (nameAt items work (getD vars (2 * i) 0) w) x) (some (i, getD vars (2 * i + 1) 0)) (knownFrom items work w vars x end (i + 1))
+    known-step : i < end → knownFrom work w vars x end i ≡ cond (same (nameAt work (getD vars (2 * i) 0) w) x) (some (i, getD vars (2 * i + 1) 0)) (knownFrom work w vars x end (i + 1))
     unfolding variablesFrom variableFrom variableAt
     known-step h =
         let e : end - i ≡ suc (end - (i + 1)) = omega arith in
         let d : i + 1 ≡ suc i = omega arith in
         rw (e, d) refl
 
-    pub known-here : i < end → true ≡ same (nameAt items work (getD vars (2 * i) 0) w) x → knownOf (At i (getD vars (2 * i + 1) 0)) ≡ knownFrom items work w vars x end i
+    pub known-here : i < end → true ≡ same (nameAt work (getD vars (2 * i) 0) w) x → knownOf (At i (getD vars (2 * i + 1) 0)) ≡ knownFrom work w vars x end i
     unfolding knownOf
     known-here h e = rw (known-step h, ← e) refl
 
-    pub known-more : i < end → false ≡ same (nameAt items work (getD vars (2 * i) 0) w) x → knownFrom items work w vars x end (i + 1) ≡ knownFrom items work w vars x end i
+    pub known-more : i < end → false ≡ same (nameAt work (getD vars (2 * i) 0) w) x → knownFrom work w vars x end (i + 1) ≡ knownFrom work w vars x end i
     known-more h e = rw (known-step h, ← e) refl
 
 -- ---- limits
@@ -168,21 +168,21 @@ module _ (vs : List (Name × ℕ)) (x : Name) (d : ℕ) where
 
 -- ---- the table
 
-module _ (items work : List ℕ) (w : ℕ) where
-  variablesFrom-length : (vars : List ℕ) (i n : ℕ) → length (variablesFrom items work w vars i n) ≡ n
+module _ (work : List ℕ) (w : ℕ) where
+  variablesFrom-length : (vars : List ℕ) (i n : ℕ) → length (variablesFrom work w vars i n) ≡ n
   unfolding variablesFrom
   variablesFrom-length vars i zero = refl
   variablesFrom-length vars i (suc n) = ap suc (variablesFrom-length vars (suc i) n)
 
-  variablesFrom-last : (vars : List ℕ) (i n : ℕ) → variablesFrom items work w vars i (suc n) ≡ variablesFrom items work w vars i n ++ (variableAt items work w vars (i + n) ∷ [])
+  variablesFrom-last : (vars : List ℕ) (i n : ℕ) → variablesFrom work w vars i (suc n) ≡ variablesFrom work w vars i n ++ (variableAt work w vars (i + n) ∷ [])
   unfolding variablesFrom
   variablesFrom-last vars i zero = let e : i + 0 ≡ i = omega arith in rw e refl
   variablesFrom-last vars i (suc n) =
       let e : suc i + n ≡ i + suc n = omega arith in
-      ap (λ (l : List (Name × ℕ)). variableAt items work w vars i ∷ l) (variablesFrom-last vars (suc i) n ∙ ap (λ (j : ℕ). variablesFrom items work w vars (suc i) n ++ (variableAt items work w vars j ∷ [])) e)
+      ap (λ (l : List (Name × ℕ)). variableAt work w vars i ∷ l) (variablesFrom-last vars (suc i) n ∙ ap (λ (j : ℕ). variablesFrom work w vars (suc i) n ++ (variableAt work w vars j ∷ [])) e)
 
   -- the table's variables depend on its first words alone
-  variablesFrom-same : (a b : List ℕ) (i n : ℕ) → ((j : ℕ) → j < 2 * (i + n) → getD a j 0 ≡ getD b j 0) → variablesFrom items work w a i n ≡ variablesFrom items work w b i n
+  variablesFrom-same : (a b : List ℕ) (i n : ℕ) → ((j : ℕ) → j < 2 * (i + n) → getD a j 0 ≡ getD b j 0) → variablesFrom work w a i n ≡ variablesFrom work w b i n
   unfolding variablesFrom variableAt
   variablesFrom-same a b i zero h = refl
   variablesFrom-same a b i (suc n) h =
@@ -202,12 +202,12 @@ module _ (items work : List ℕ) (w : ℕ) where
     added-depth : getD added (2 * n + 1) 0 ≡ d
     added-depth = getD-set-same (set vars (2 * n) node) (2 * n + 1) d 0 (simp length-set (omega arith))
 
-    added-list : variablesFrom items work w added 0 (n + 1) ≡ variablesFrom items work w vars 0 n ++ ((nameAt items work node w, d) ∷ [])
+    added-list : variablesFrom work w added 0 (n + 1) ≡ variablesFrom work w vars 0 n ++ ((nameAt work node w, d) ∷ [])
     unfolding variableAt
     added-list =
         let e : n + 1 ≡ suc n = omega arith in
         let z : 0 + n ≡ n = omega arith in
-        ap (variablesFrom items work w added 0) e
+        ap (variablesFrom work w added 0) e
         ∙ variablesFrom-last added 0 n
         ∙ ap₂ (λ (l : List (Name × ℕ)) (v : Name × ℕ). l ++ (v ∷ [])) (variablesFrom-same added vars 0 n (λ j h. added-below j (omega arith))) (rw (z, added-node, added-depth))
 
@@ -217,26 +217,26 @@ module _ (items work : List ℕ) (w : ℕ) where
         (λ t. rw (eqb-true i n t, added-node) h)
         (λ t. let e : i ≡ n → ⊥ = eqb-false i n t in rw (added-below (2 * i) (omega arith)) (u i (omega arith)))
 
-    pub add-one : Held items work w vars n → n < 16 → d ≤ 2 → variableFrom 0 (variablesFrom items work w vars 0 n) (nameAt items work node w) ≡ none → Stored ((nameAt items work node w, d) ∷ []) items work w node n vars added (n + 1)
+    pub add-one : Held work w vars n → n < 16 → d ≤ 2 → variableFrom 0 (variablesFrom work w vars 0 n) (nameAt work node w) ≡ none → Stored ((nameAt work node w, d) ∷ []) work w node n vars added (n + 1)
     add-one h l s e =
         record {
           list = added-list;
           held = record {
             most = omega arith;
-            good = rw added-list (one-more (variablesFrom items work w vars 0 n) (nameAt items work node w) d 0 (h .good) (omega (arith, variablesFrom-length vars 0 n)) s e);
+            good = rw added-list (one-more (variablesFrom work w vars 0 n) (nameAt work node w) d 0 (h .good) (omega (arith, variablesFrom-length vars 0 n)) s e);
           };
           under = added-under;
         }
 
   module _ (vars : List ℕ) (n node d : ℕ) where
-    pub add-deep : 2 < d → (rest : List (Name × ℕ)) → areVariables (variablesFrom items work w vars 0 n ++ ((nameAt items work node w, d) ∷ rest)) ≡ false
-    add-deep h rest = too-deep (variablesFrom items work w vars 0 n) (nameAt items work node w) d rest h
+    pub add-deep : 2 < d → (rest : List (Name × ℕ)) → areVariables (variablesFrom work w vars 0 n ++ ((nameAt work node w, d) ∷ rest)) ≡ false
+    add-deep h rest = too-deep (variablesFrom work w vars 0 n) (nameAt work node w) d rest h
 
-    pub add-many : 16 ≤ n → (rest : List (Name × ℕ)) → areVariables (variablesFrom items work w vars 0 n ++ ((nameAt items work node w, d) ∷ rest)) ≡ false
-    add-many h rest = too-many (variablesFrom items work w vars 0 n) (nameAt items work node w) d rest (omega (arith, variablesFrom-length vars 0 n))
+    pub add-many : 16 ≤ n → (rest : List (Name × ℕ)) → areVariables (variablesFrom work w vars 0 n ++ ((nameAt work node w, d) ∷ rest)) ≡ false
+    add-many h rest = too-many (variablesFrom work w vars 0 n) (nameAt work node w) d rest (omega (arith, variablesFrom-length vars 0 n))
 
-    pub add-twice : (p : ℕ × ℕ) → variableFrom 0 (variablesFrom items work w vars 0 n) (nameAt items work node w) ≡ some p → (rest : List (Name × ℕ)) → areVariables (variablesFrom items work w vars 0 n ++ ((nameAt items work node w, d) ∷ rest)) ≡ false
-    add-twice p e rest = twice (variablesFrom items work w vars 0 n) (nameAt items work node w) d rest 0 p e
+    pub add-twice : (p : ℕ × ℕ) → variableFrom 0 (variablesFrom work w vars 0 n) (nameAt work node w) ≡ some p → (rest : List (Name × ℕ)) → areVariables (variablesFrom work w vars 0 n ++ ((nameAt work node w, d) ∷ rest)) ≡ false
+    add-twice p e rest = twice (variablesFrom work w vars 0 n) (nameAt work node w) d rest 0 p e
 
 -- what `find` has answered
 pub found-at : (r : Known) (k e : ℕ) (o : Option (ℕ × ℕ)) → r ≡ At k e → knownOf r ≡ o → o ≡ some (k, e)
@@ -249,7 +249,7 @@ found-not r o h g = sym g ∙ ap knownOf h
 
 -- ---- depths
 
-module _ (items work : List ℕ) (rest d : ℕ) where
-  pub deeper-by : (dots : Bool) (r : ℕ) → r ≡ cond dots (d + 1) d → ((w : ℕ) → dots ≡ dotsNext isEllipsis (treeAt items work rest w)) → Deeper items work rest d r
+module _ (work : List ℕ) (rest d : ℕ) where
+  pub deeper-by : (dots : Bool) (r : ℕ) → r ≡ cond dots (d + 1) d → ((w : ℕ) → dots ≡ dotsNext isEllipsis (treeAt work rest w)) → Deeper work rest d r
   unfolding depthBefore
   deeper-by dots r e h w = let one : d + 1 ≡ suc d = omega arith in e ∙ rw (← h w, one) refl

@@ -18,25 +18,25 @@ unfoldable pub leafCount : List Name → Tree → ℕ
 leafCount literals = onName (λ x. cond (isVariable isEllipsis literals x) 1 0) 0
 
 -- variable i of the table, with the number of ellipses it lies under
-unfoldable pub variableAt : (items work : List ℕ) (w : ℕ) (vars : List ℕ) → ℕ → Name × ℕ
-variableAt items work w vars i = (nameAt items work (getD vars (2 * i) 0) w, getD vars (2 * i + 1) 0)
+unfoldable pub variableAt : (work : List ℕ) (w : ℕ) (vars : List ℕ) → ℕ → Name × ℕ
+variableAt work w vars i = (nameAt work (getD vars (2 * i) 0) w, getD vars (2 * i + 1) 0)
 
 -- n variables from number i on
-unfoldable pub variablesFrom : (items work : List ℕ) (w : ℕ) (vars : List ℕ) → (i n : ℕ) → List (Name × ℕ)
-variablesFrom items work w vars i zero = []
-variablesFrom items work w vars i (suc n) = variableAt items work w vars i ∷ variablesFrom items work w vars (suc i) n
+unfoldable pub variablesFrom : (work : List ℕ) (w : ℕ) (vars : List ℕ) → (i n : ℕ) → List (Name × ℕ)
+variablesFrom work w vars i zero = []
+variablesFrom work w vars i (suc n) = variableAt work w vars i ∷ variablesFrom work w vars (suc i) n
 
 unfoldable pub knownOf : Known → Option (ℕ × ℕ)
 knownOf (At k d) = some (k, d)
 knownOf Not = none
 
 -- what the variables from number i up to `end` say of a name
-abbrev pub knownFrom : (items work : List ℕ) (w : ℕ) (vars : List ℕ) (x : Name) → (end i : ℕ) → Option (ℕ × ℕ)
-knownFrom items work w vars x end i = variableFrom i (variablesFrom items work w vars i (end - i)) x
+abbrev pub knownFrom : (work : List ℕ) (w : ℕ) (vars : List ℕ) (x : Name) → (end i : ℕ) → Option (ℕ × ℕ)
+knownFrom work w vars x end i = variableFrom i (variablesFrom work w vars i (end - i)) x
 
 -- the depth of an element before this rest of its list, whatever waits on it
-abbrev pub Deeper : (items work : List ℕ) (rest d r : ℕ) → Type 0
-Deeper items work rest d r = (w : ℕ) → r ≡ depthBefore isEllipsis (treeAt items work rest w) d
+abbrev pub Deeper : (work : List ℕ) (rest d r : ℕ) → Type 0
+Deeper work rest d r = (w : ℕ) → r ≡ depthBefore isEllipsis (treeAt work rest w) d
 
 -- ---- gathering
 
@@ -50,27 +50,27 @@ unfoldable pub keptOf : ℕ → Kept
 keptOf n = cond (eqb n 4294967295) Bad (Count n)
 
 -- the table's variables keep the limits
-pub record Held (items work : List ℕ) (w : ℕ) (vars : List ℕ) (n : ℕ) : Type 0 where
+pub record Held (work : List ℕ) (w : ℕ) (vars : List ℕ) (n : ℕ) : Type 0 where
   pub most : n ≤ 16
-  pub good : areVariables (variablesFrom items work w vars 0 n) ≡ true
+  pub good : areVariables (variablesFrom work w vars 0 n) ≡ true
 
 -- the nodes of the table's variables stand below b
 abbrev pub Under : (vars : List ℕ) (n b : ℕ) → Type 0
 Under vars n b = (i : ℕ) → i < n → getD vars (2 * i) 0 ≤ b
 
 -- the variables `more`, of nodes up to `node`, behind the n of the table
-pub record Stored (more : List (Name × ℕ)) (items work : List ℕ) (w node n : ℕ) (old new : List ℕ) (m : ℕ) : Type 0 where
-  pub list : variablesFrom items work w new 0 m ≡ variablesFrom items work w old 0 n ++ more
-  pub held : Held items work w new m
+pub record Stored (more : List (Name × ℕ)) (work : List ℕ) (w node n : ℕ) (old new : List ℕ) (m : ℕ) : Type 0 where
+  pub list : variablesFrom work w new 0 m ≡ variablesFrom work w old 0 n ++ more
+  pub held : Held work w new m
   pub under : (b : ℕ) → node ≤ b → Under old n b → Under new m b
 
 -- they are stored, or break the limits, whatever comes after them
-abbrev pub Gathered : (more : List (Name × ℕ)) (items work : List ℕ) (w node n : ℕ) (old new : List ℕ) → Kept → Type 0
-Gathered more items work w node n old new (Count m) = Stored more items work w node n old new m
-Gathered more items work w node n old new Bad = (rest : List (Name × ℕ)) → areVariables (variablesFrom items work w old 0 n ++ (more ++ rest)) ≡ false
+abbrev pub Gathered : (more : List (Name × ℕ)) (work : List ℕ) (w node n : ℕ) (old new : List ℕ) → Kept → Type 0
+Gathered more work w node n old new (Count m) = Stored more work w node n old new m
+Gathered more work w node n old new Bad = (rest : List (Name × ℕ)) → areVariables (variablesFrom work w old 0 n ++ (more ++ rest)) ≡ false
 
 -- the list `at` is left of the node's, and its variables behind the m of the table are all the node's behind the n
-pub record Gathering (literals : List Name) (d : ℕ) (items work : List ℕ) (w node n : ℕ) (old : List ℕ) (at m : ℕ) (vars : List ℕ) : Type 0 where
+pub record Gathering (literals : List Name) (d : ℕ) (work : List ℕ) (w node n : ℕ) (old : List ℕ) (at m : ℕ) (vars : List ℕ) : Type 0 where
   pub low : at ≤ node
-  pub held : Held items work w vars m
-  pub all : (new : List ℕ) (r : Kept) → Gathered (variables isEllipsis literals d (treeAt items work at w)) items work w at m vars new r → Gathered (variables isEllipsis literals d (treeAt items work node w)) items work w node n old new r
+  pub held : Held work w vars m
+  pub all : (new : List ℕ) (r : Kept) → Gathered (variables isEllipsis literals d (treeAt work at w)) work w at m vars new r → Gathered (variables isEllipsis literals d (treeAt work node w)) work w node n old new r

@@ -42,7 +42,7 @@ fn put(work: &mut [u32], top: u32, a: u32, b: u32, c: u32, d: u32, tag: u32) -> 
 // Pattern variable k.
 pub fn put_variable(work: &mut [u32], top: u32, k: u32) -> u32
     requires { ⌜ Room (now work) top 5 ⌝ }
-    ensures { λ r. ⌜ Made patternAt (λ items. variableP k) (now (work .entry)) (now (work .exit)) top r ⌝ }
+    ensures { λ r. ⌜ Made patternAt (variableP k) (now (work .entry)) (now (work .exit)) top r ⌝ }
 {
     put(work, top, 0, 0, 0, k, VARIABLE)
 }
@@ -58,7 +58,7 @@ pub fn put_literal(work: &mut [u32], top: u32, node: u32, w: u32, number: u32, k
 // The wildcard.
 pub fn put_wildcard(work: &mut [u32], top: u32) -> u32
     requires { ⌜ Room (now work) top 5 ⌝ }
-    ensures { λ r. ⌜ Made patternAt (λ items. wildcardP) (now (work .entry)) (now (work .exit)) top r ⌝ }
+    ensures { λ r. ⌜ Made patternAt (wildcardP) (now (work .entry)) (now (work .exit)) top r ⌝ }
 {
     put(work, top, 0, 0, 0, 0, WILDCARD)
 }
@@ -66,7 +66,7 @@ pub fn put_wildcard(work: &mut [u32], top: u32) -> u32
 // A constant, by its item's three words.
 pub fn put_constant(work: &mut [u32], top: u32, kind: u32, first: u32, second: u32) -> u32
     requires { ⌜ Room (now work) top 5 ⌝ }
-    ensures { λ r. ⌜ Made patternAt (λ items. constantP (record { kind = kind; first = first; second = second })) (now (work .entry)) (now (work .exit)) top r ⌝ }
+    ensures { λ r. ⌜ Made patternAt (constantP (record { kind = kind; first = first; second = second })) (now (work .entry)) (now (work .exit)) top r ⌝ }
 {
     put(work, top, 0, kind, first, second, CONSTANT)
 }
@@ -74,7 +74,7 @@ pub fn put_constant(work: &mut [u32], top: u32, kind: u32, first: u32, second: u
 // A pair of two patterns.
 pub fn put_pair(work: &mut [u32], top: u32, head: u32, tail: u32) -> u32
     requires { ⌜ (Room (now work) top 5) × (head ≤ top) × (tail ≤ top) ⌝ }
-    ensures { λ r. ⌜ Made patternAt (λ items. pairP (patternAt items (now (work .entry)) head) (patternAt items (now (work .entry)) tail)) (now (work .entry)) (now (work .exit)) top r ⌝ }
+    ensures { λ r. ⌜ Made patternAt (pairP (patternAt (now (work .entry)) head) (patternAt (now (work .entry)) tail)) (now (work .entry)) (now (work .exit)) top r ⌝ }
 {
     put(work, top, 0, 0, head, tail, PAIR)
 }
@@ -82,7 +82,7 @@ pub fn put_pair(work: &mut [u32], top: u32, head: u32, tail: u32) -> u32
 // An element followed by `...`, last in its list.
 pub fn put_ellipsis(work: &mut [u32], top: u32, element: u32) -> u32
     requires { ⌜ (Room (now work) top 5) × (element ≤ top) ⌝ }
-    ensures { λ r. ⌜ Made patternAt (λ items. ellipsisP (patternAt items (now (work .entry)) element)) (now (work .entry)) (now (work .exit)) top r ⌝ }
+    ensures { λ r. ⌜ Made patternAt (ellipsisP (patternAt (now (work .entry)) element)) (now (work .entry)) (now (work .exit)) top r ⌝ }
 {
     put(work, top, 0, 0, 0, element, ELLIPSIS)
 }
@@ -92,7 +92,7 @@ pub fn put_ellipsis(work: &mut [u32], top: u32, element: u32) -> u32
 // Variable k, under d ellipses in the pattern.
 pub fn put_variable_template(work: &mut [u32], top: u32, k: u32, d: u32) -> u32
     requires { ⌜ Room (now work) top 5 ⌝ }
-    ensures { λ r. ⌜ Made templateAt (λ items. variableT k d) (now (work .entry)) (now (work .exit)) top r ⌝ }
+    ensures { λ r. ⌜ Made templateAt (variableT k d) (now (work .entry)) (now (work .exit)) top r ⌝ }
 {
     put(work, top, 0, 0, k, d, VARIABLE)
 }
@@ -100,7 +100,7 @@ pub fn put_variable_template(work: &mut [u32], top: u32, k: u32, d: u32) -> u32
 // An inserted name, by its node and pending wrap.
 pub fn put_insert(work: &mut [u32], top: u32, node: u32, w: u32) -> u32
     requires { ⌜ (Room (now work) top 5) × (node ≤ top) × (w ≤ top) ⌝ }
-    ensures { λ r. ⌜ Made templateAt (λ items. insertT (nameAt items (now (work .entry)) node w)) (now (work .entry)) (now (work .exit)) top r ⌝ }
+    ensures { λ r. ⌜ Made templateAt (insertT (nameAt (now (work .entry)) node w)) (now (work .entry)) (now (work .exit)) top r ⌝ }
 {
     put(work, top, 0, 0, node, w, NAME)
 }
@@ -108,7 +108,7 @@ pub fn put_insert(work: &mut [u32], top: u32, node: u32, w: u32) -> u32
 // A constant, by its item's three words.
 pub fn put_constant_template(work: &mut [u32], top: u32, kind: u32, first: u32, second: u32) -> u32
     requires { ⌜ Room (now work) top 5 ⌝ }
-    ensures { λ r. ⌜ Made templateAt (λ items. constantT (record { kind = kind; first = first; second = second })) (now (work .entry)) (now (work .exit)) top r ⌝ }
+    ensures { λ r. ⌜ Made templateAt (constantT (record { kind = kind; first = first; second = second })) (now (work .entry)) (now (work .exit)) top r ⌝ }
 {
     put(work, top, 0, kind, first, second, CONSTANT)
 }
@@ -116,7 +116,7 @@ pub fn put_constant_template(work: &mut [u32], top: u32, kind: u32, first: u32, 
 // A pair of two templates.
 pub fn put_pair_template(work: &mut [u32], top: u32, head: u32, tail: u32) -> u32
     requires { ⌜ (Room (now work) top 5) × (head ≤ top) × (tail ≤ top) ⌝ }
-    ensures { λ r. ⌜ Made templateAt (λ items. pairT (templateAt items (now (work .entry)) head) (templateAt items (now (work .entry)) tail)) (now (work .entry)) (now (work .exit)) top r ⌝ }
+    ensures { λ r. ⌜ Made templateAt (pairT (templateAt (now (work .entry)) head) (templateAt (now (work .entry)) tail)) (now (work .entry)) (now (work .exit)) top r ⌝ }
 {
     put(work, top, 0, 0, head, tail, PAIR)
 }
@@ -124,7 +124,7 @@ pub fn put_pair_template(work: &mut [u32], top: u32, head: u32, tail: u32) -> u3
 // An element followed by `...`, then the rest of its list.
 pub fn put_ellipsis_template(work: &mut [u32], top: u32, element: u32, rest: u32) -> u32
     requires { ⌜ (Room (now work) top 5) × (element ≤ top) × (rest ≤ top) ⌝ }
-    ensures { λ r. ⌜ Made templateAt (λ items. ellipsisT (templateAt items (now (work .entry)) element) (templateAt items (now (work .entry)) rest)) (now (work .entry)) (now (work .exit)) top r ⌝ }
+    ensures { λ r. ⌜ Made templateAt (ellipsisT (templateAt (now (work .entry)) element) (templateAt (now (work .entry)) rest)) (now (work .entry)) (now (work .exit)) top r ⌝ }
 {
     put(work, top, 0, 0, element, rest, ELLIPSIS)
 }
@@ -134,7 +134,7 @@ pub fn put_ellipsis_template(work: &mut [u32], top: u32, element: u32, rest: u32
 // A rule and the rules after it.
 pub fn put_rule(work: &mut [u32], top: u32, pattern: u32, template: u32, next: u32) -> u32
     requires { ⌜ (Room (now work) top 5) × (pattern ≤ top) × (template ≤ top) × (next ≤ top) ⌝ }
-    ensures { λ r. ⌜ Made rulesAt (λ items. record { pattern = patternAt items (now (work .entry)) pattern; template = templateAt items (now (work .entry)) template } ∷ rulesAt items (now (work .entry)) next) (now (work .entry)) (now (work .exit)) top r ⌝ }
+    ensures { λ r. ⌜ Made rulesAt (record { pattern = patternAt (now (work .entry)) pattern; template = templateAt (now (work .entry)) template } ∷ rulesAt (now (work .entry)) next) (now (work .entry)) (now (work .exit)) top r ⌝ }
 {
     put(work, top, 0, 0, pattern, template, next)
 }

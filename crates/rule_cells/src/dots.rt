@@ -2,28 +2,28 @@
 
 ghost use Rattle.recipe.specs.Name.{isEllipsis};
 ghost use Rattle.expansion.specs.Rules.{dotsNext};
-ghost use Rattle.arena.specs.Lists.{TestsIn};
+ghost use Rattle.arena.specs.Lists.{Tests};
 ghost use Rattle.rule_cells.specs.Dots.{isDots};
 use arena::cells;
 use resolution::names;
 
 // Whether a tree is `...`.
-pub fn is_dots(items: &[u32], work: &[u32], node: u32) -> bool
-    ensures { λ r. ⌜ TestsIn isDots (now (items .entry)) (now (work .entry)) node r ⌝ }
+pub fn is_dots(work: &[u32], node: u32) -> bool
+    ensures { λ r. ⌜ Tests isDots (now (work .entry)) node r ⌝ }
 {
     if cells::word(work, node, 3) != cells::NAME {
         return false;
     }
-    names::number_of(items, work, node) == names::ELLIPSIS
+    names::number_of(work, node) == names::ELLIPSIS
 }
 
 // Whether a list begins with `...`.
-pub fn dots_next(items: &[u32], work: &[u32], node: u32) -> bool
-    ensures { λ r. ⌜ TestsIn (dotsNext isEllipsis) (now (items .entry)) (now (work .entry)) node r ⌝ }
+pub fn dots_next(work: &[u32], node: u32) -> bool
+    ensures { λ r. ⌜ Tests (dotsNext isEllipsis) (now (work .entry)) node r ⌝ }
 {
     if cells::word(work, node, 3) != cells::PAIR {
         return false;
     }
     let first = cells::reference(work, node, 2);
-    is_dots(items, work, first)
+    is_dots(work, first)
 }

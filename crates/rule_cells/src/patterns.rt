@@ -19,19 +19,11 @@ pub enum Parsed {
 }
 
 // A pattern's name, with k variables to its left: `...` itself is none.
-pub fn pattern_name(
-    items: &[u32],
-    work: &mut [u32],
-    literals: u32,
-    node: u32,
-    w: u32,
-    k: u32,
-    top: u32,
-) -> Parsed
+pub fn pattern_name(work: &mut [u32], literals: u32, node: u32, w: u32, k: u32, top: u32) -> Parsed
     requires { ⌜ (Room (now work) top 5) × (node ≤ top) × (w ≤ top) × (k + 1 < 2 ^ 32) ⌝ }
-    ensures { λ r. ⌜ PatternLeft (names (treeAt (now (items .entry)) (now (work .entry)) literals w)) k (name (nameAt (now (items .entry)) (now (work .entry)) node w)) (now (items .entry)) (now (work .entry)) (now (work .exit)) top r ⌝ }
+    ensures { λ r. ⌜ PatternLeft (names (treeAt (now (work .entry)) literals w)) k (name (nameAt (now (work .entry)) node w)) (now (work .entry)) (now (work .exit)) top r ⌝ }
 {
-    let number = names::number_of(items, work, node);
+    let number = names::number_of(work, node);
     if number == names::ELLIPSIS {
         return Parsed::Bad;
     }
@@ -39,8 +31,8 @@ pub fn pattern_name(
         let r = cells::put_wildcard(work, top);
         return Parsed::Good(r, r, k);
     }
-    if variables::is_literal(items, work, literals, node, w) {
-        let key = names::binding_of(items, work, node, w);
+    if variables::is_literal(work, literals, node, w) {
+        let key = names::binding_of(work, node, w);
         let r = cells::put_literal(work, top, node, w, number, key);
         return Parsed::Good(r, r, k);
     }
@@ -49,21 +41,13 @@ pub fn pattern_name(
 }
 
 // A part of a pattern that is no pair.
-pub fn pattern_leaf(
-    items: &[u32],
-    work: &mut [u32],
-    literals: u32,
-    node: u32,
-    w: u32,
-    k: u32,
-    top: u32,
-) -> Parsed
-    requires { ⌜ (Asks (now items) (now work) node w top) × (k + 1 < 2 ^ 32) × (wordAt (now work) node 3 ≡ 4 → ⊥) ⌝ }
-    ensures { λ r. ⌜ PatternLeft (names (treeAt (now (items .entry)) (now (work .entry)) literals w)) k (treeAt (now (items .entry)) (now (work .entry)) node w) (now (items .entry)) (now (work .entry)) (now (work .exit)) top r ⌝ }
+pub fn pattern_leaf(work: &mut [u32], literals: u32, node: u32, w: u32, k: u32, top: u32) -> Parsed
+    requires { ⌜ (Asks (now work) node w top) × (k + 1 < 2 ^ 32) × (wordAt (now work) node 3 ≡ 4 → ⊥) ⌝ }
+    ensures { λ r. ⌜ PatternLeft (names (treeAt (now (work .entry)) literals w)) k (treeAt (now (work .entry)) node w) (now (work .entry)) (now (work .exit)) top r ⌝ }
 {
     let kind = arena::cells::word(work, node, 3);
     if kind == arena::cells::NAME {
-        return pattern_name(items, work, literals, node, w, k, top);
+        return pattern_name(work, literals, node, w, k, top);
     }
     if kind == arena::cells::EMPTY {
         return Parsed::Good(0, top, k);
@@ -75,28 +59,20 @@ pub fn pattern_leaf(
 }
 
 // A part of a pattern, with k variables to its left. `...` may only stand last in its list, after an element.
-pub fn pattern(
-    items: &[u32],
-    work: &mut [u32],
-    literals: u32,
-    node: u32,
-    w: u32,
-    k: u32,
-    top: u32,
-) -> Parsed
-    requires { ⌜ (Asks (now items) (now work) node w top) × (literals ≤ top) × (k + size (treeAt (now items) (now work) node w) < 2 ^ 32) ⌝ }
-    ensures { λ r. ⌜ PatternLeft (names (treeAt (now (items .entry)) (now (work .entry)) literals w)) k (treeAt (now (items .entry)) (now (work .entry)) node w) (now (items .entry)) (now (work .entry)) (now (work .exit)) top r ⌝ }
+pub fn pattern(work: &mut [u32], literals: u32, node: u32, w: u32, k: u32, top: u32) -> Parsed
+    requires { ⌜ (Asks (now work) node w top) × (literals ≤ top) × (k + size (treeAt (now work) node w) < 2 ^ 32) ⌝ }
+    ensures { λ r. ⌜ PatternLeft (names (treeAt (now (work .entry)) literals w)) k (treeAt (now (work .entry)) node w) (now (work .entry)) (now (work .exit)) top r ⌝ }
 {
     if arena::cells::word(work, node, 3) != arena::cells::PAIR {
-        return pattern_leaf(items, work, literals, node, w, k, top);
+        return pattern_leaf(work, literals, node, w, k, top);
     }
     let head = arena::cells::reference(work, node, 2);
     let rest = arena::cells::reference(work, node, 1);
-    if dots::dots_next(items, work, rest) {
+    if dots::dots_next(work, rest) {
         if lists::is_list_of(work, rest, 1) {
             let last = lists::rest(work, rest);
-            let more = variables::leaf_count(items, work, literals, last, w);
-            let Parsed::Good(a, t, n) = pattern(items, work, literals, head, w, k, top) else {
+            let more = variables::leaf_count(work, literals, last, w);
+            let Parsed::Good(a, t, n) = pattern(work, literals, head, w, k, top) else {
                 return Parsed::Bad;
             };
             let r = cells::put_ellipsis(work, t, a);
@@ -104,10 +80,10 @@ pub fn pattern(
         }
         return Parsed::Bad;
     }
-    let Parsed::Good(a, t, n) = pattern(items, work, literals, head, w, k, top) else {
+    let Parsed::Good(a, t, n) = pattern(work, literals, head, w, k, top) else {
         return Parsed::Bad;
     };
-    let Parsed::Good(b, u, m) = pattern(items, work, literals, rest, w, n, t) else {
+    let Parsed::Good(b, u, m) = pattern(work, literals, rest, w, n, t) else {
         return Parsed::Bad;
     };
     let r = cells::put_pair(work, u, a, b);

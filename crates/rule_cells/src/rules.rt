@@ -8,7 +8,7 @@ ghost use Rattle.words.specs.Options.{traverse};
 ghost use Rattle.recipe.specs.Name.{isEllipsis};
 ghost use Rattle.expansion.specs.Rules.{ruleOf, rulesOf};
 ghost use Rattle.arena.specs.Arena.{treeAt};
-ghost use Rattle.arena.specs.Lists.{TestsIn};
+ghost use Rattle.arena.specs.Lists.{Tests};
 ghost use Rattle.rule_cells.specs.Built.{builtOf};
 ghost use Rattle.rule_cells.specs.Parse.{Asks};
 ghost use Rattle.rule_cells.specs.RuleParse.{ruleShape, partsOf, PartsAsk, RuleLeft, RulesLeft};
@@ -24,7 +24,6 @@ use words::packed;
 
 // A rule from the rest p of its pattern and its template q, before the rules at `next`.
 pub fn rule_parts(
-    items: &[u32],
     work: &mut [u32],
     literals: u32,
     p: u32,
@@ -33,18 +32,18 @@ pub fn rule_parts(
     next: u32,
     top: u32,
 ) -> u64
-    requires { ⌜ PartsAsk (now items) (now work) literals p q w next top ⌝ }
-    ensures { λ r. ⌜ RuleLeft (partsOf (names (treeAt (now (items .entry)) (now (work .entry)) literals w)) (treeAt (now (items .entry)) (now (work .entry)) p w) (treeAt (now (items .entry)) (now (work .entry)) q w)) (size (treeAt (now (items .entry)) (now (work .entry)) p w) + size (treeAt (now (items .entry)) (now (work .entry)) q w) + 1) (now (items .entry)) (now (work .entry)) (now (work .exit)) next top (builtOf r) ⌝ }
+    requires { ⌜ PartsAsk (now work) literals p q w next top ⌝ }
+    ensures { λ r. ⌜ RuleLeft (partsOf (names (treeAt (now (work .entry)) literals w)) (treeAt (now (work .entry)) p w) (treeAt (now (work .entry)) q w)) (size (treeAt (now (work .entry)) p w) + size (treeAt (now (work .entry)) q w) + 1) (now (work .entry)) (now (work .exit)) next top (builtOf r) ⌝ }
 {
     let mut vars = [0u32; 32];
-    let n = variables::gather(items, work, &mut vars, literals, p, w, 0, 0);
+    let n = variables::gather(work, &mut vars, literals, p, w, 0, 0);
     if n == variables::BAD {
         return packed::NONE;
     }
-    let Parsed::Good(a, t, m) = patterns::pattern(items, work, literals, p, w, 0, top) else {
+    let Parsed::Good(a, t, m) = patterns::pattern(work, literals, p, w, 0, top) else {
         return packed::NONE;
     };
-    let b = templates::template(items, work, &vars, n, q, w, 0, false, t);
+    let b = templates::template(work, &vars, n, q, w, 0, false, t);
     if b == packed::NONE {
         return packed::NONE;
     }
@@ -53,8 +52,8 @@ pub fn rule_parts(
 }
 
 // Whether a tree is a list of two whose first begins with a name other than `...`.
-pub fn rule_shape(items: &[u32], work: &[u32], node: u32) -> bool
-    ensures { λ r. ⌜ TestsIn ruleShape (now (items .entry)) (now (work .entry)) node r ⌝ }
+pub fn rule_shape(work: &[u32], node: u32) -> bool
+    ensures { λ r. ⌜ Tests ruleShape (now (work .entry)) node r ⌝ }
 {
     if lists::is_list_of(work, node, 2) {
         let pattern = lists::first(work, node);
@@ -62,7 +61,7 @@ pub fn rule_shape(items: &[u32], work: &[u32], node: u32) -> bool
         if arena::cells::word(work, first, 3) != arena::cells::NAME {
             return false;
         }
-        if names::number_of(items, work, first) == names::ELLIPSIS {
+        if names::number_of(work, first) == names::ELLIPSIS {
             return false;
         }
         return true;
@@ -71,44 +70,35 @@ pub fn rule_shape(items: &[u32], work: &[u32], node: u32) -> bool
 }
 
 // A rule, (pattern template), before the rules at `next`.
-pub fn rule(
-    items: &[u32],
-    work: &mut [u32],
-    literals: u32,
-    node: u32,
-    w: u32,
-    next: u32,
-    top: u32,
-) -> u64
-    requires { ⌜ (Asks (now items) (now work) node w top) × (literals ≤ top) × (next ≤ top) ⌝ }
-    ensures { λ r. ⌜ RuleLeft (ruleOf isEllipsis (names (treeAt (now (items .entry)) (now (work .entry)) literals w)) (treeAt (now (items .entry)) (now (work .entry)) node w)) (size (treeAt (now (items .entry)) (now (work .entry)) node w)) (now (items .entry)) (now (work .entry)) (now (work .exit)) next top (builtOf r) ⌝ }
+pub fn rule(work: &mut [u32], literals: u32, node: u32, w: u32, next: u32, top: u32) -> u64
+    requires { ⌜ (Asks (now work) node w top) × (literals ≤ top) × (next ≤ top) ⌝ }
+    ensures { λ r. ⌜ RuleLeft (ruleOf isEllipsis (names (treeAt (now (work .entry)) literals w)) (treeAt (now (work .entry)) node w)) (size (treeAt (now (work .entry)) node w)) (now (work .entry)) (now (work .exit)) next top (builtOf r) ⌝ }
 {
-    if rule_shape(items, work, node) {
+    if rule_shape(work, node) {
         let pattern = lists::first(work, node);
         let p = lists::rest(work, pattern);
         let after = lists::rest(work, node);
         let q = lists::first(work, after);
-        return rule_parts(items, work, literals, p, q, w, next, top);
+        return rule_parts(work, literals, p, q, w, next, top);
     }
     packed::NONE
 }
 
 // A list of rules, the last first.
-pub fn rule_list(items: &[u32], work: &mut [u32], literals: u32, node: u32, w: u32, top: u32) -> u64
-    requires { ⌜ (Asks (now items) (now work) node w top) × (literals ≤ top) ⌝ }
-    ensures { λ r. ⌜ RulesLeft (traverse (ruleOf isEllipsis (names (treeAt (now (items .entry)) (now (work .entry)) literals w))) (elements (treeAt (now (items .entry)) (now (work .entry)) node w))) (size (treeAt (now (items .entry)) (now (work .entry)) node w)) (now (items .entry)) (now (work .entry)) (now (work .exit)) top (builtOf r) ⌝ }
+pub fn rule_list(work: &mut [u32], literals: u32, node: u32, w: u32, top: u32) -> u64
+    requires { ⌜ (Asks (now work) node w top) × (literals ≤ top) ⌝ }
+    ensures { λ r. ⌜ RulesLeft (traverse (ruleOf isEllipsis (names (treeAt (now (work .entry)) literals w))) (elements (treeAt (now (work .entry)) node w))) (size (treeAt (now (work .entry)) node w)) (now (work .entry)) (now (work .exit)) top (builtOf r) ⌝ }
 {
     if arena::cells::word(work, node, 3) != arena::cells::PAIR {
         return packed::pair(0, top);
     }
     let head = arena::cells::reference(work, node, 2);
     let rest = arena::cells::reference(work, node, 1);
-    let later = rule_list(items, work, literals, rest, w, top);
+    let later = rule_list(work, literals, rest, w, top);
     if later == packed::NONE {
         return packed::NONE;
     }
     rule(
-        items,
         work,
         literals,
         head,
@@ -119,15 +109,15 @@ pub fn rule_list(items: &[u32], work: &mut [u32], literals: u32, node: u32, w: u
 }
 
 // The rules of a form.
-pub fn rules(items: &[u32], work: &mut [u32], node: u32, w: u32, top: u32) -> u64
-    requires { ⌜ Asks (now items) (now work) node w top ⌝ }
-    ensures { λ r. ⌜ RulesLeft (rulesOf (treeAt (now (items .entry)) (now (work .entry)) node w)) (size (treeAt (now (items .entry)) (now (work .entry)) node w)) (now (items .entry)) (now (work .entry)) (now (work .exit)) top (builtOf r) ⌝ }
+pub fn rules(work: &mut [u32], node: u32, w: u32, top: u32) -> u64
+    requires { ⌜ Asks (now work) node w top ⌝ }
+    ensures { λ r. ⌜ RulesLeft (rulesOf (treeAt (now (work .entry)) node w)) (size (treeAt (now (work .entry)) node w)) (now (work .entry)) (now (work .exit)) top (builtOf r) ⌝ }
 {
-    if rules_form::is_rules_form(items, work, node, w) {
+    if rules_form::is_rules_form(work, node, w) {
         let after = lists::rest(work, node);
         let literals = lists::first(work, after);
         let list = lists::rest(work, after);
-        return rule_list(items, work, literals, list, w, top);
+        return rule_list(work, literals, list, w, top);
     }
     packed::NONE
 }

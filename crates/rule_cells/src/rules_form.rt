@@ -6,7 +6,7 @@ ghost use Rattle.recipe.specs.Tree.{onName};
 ghost use Rattle.expansion.specs.Lookup.{isSyntaxRules};
 ghost use Rattle.expansion.specs.Rules.{isRulesForm};
 ghost use Rattle.arena.specs.Arena.{treeAt};
-ghost use Rattle.arena.specs.Lists.{TestsIn};
+ghost use Rattle.arena.specs.Lists.{Tests};
 ghost use Rattle.rule_cells.specs.Forms.{ordinaryAll, literalsGood};
 use arena::cells;
 use arena::lists;
@@ -20,13 +20,13 @@ pub const LITERALS: u32 = 8;
 pub const RULES: u32 = 16;
 
 // Whether all elements of a list are names other than `...` and `_`.
-pub fn all_ordinary(items: &[u32], work: &[u32], node: u32) -> bool
-    ensures { λ r. ⌜ TestsIn ordinaryAll (now (items .entry)) (now (work .entry)) node r ⌝ }
+pub fn all_ordinary(work: &[u32], node: u32) -> bool
+    ensures { λ r. ⌜ Tests ordinaryAll (now (work .entry)) node r ⌝ }
 {
     let mut at = node;
     while cells::word(work, at, 3) == cells::PAIR {
         let first = cells::reference(work, at, 2);
-        if names::is_ordinary(items, work, first) {
+        if names::is_ordinary(work, first) {
             at = cells::reference(work, at, 1);
         } else {
             return false;
@@ -36,11 +36,11 @@ pub fn all_ordinary(items: &[u32], work: &[u32], node: u32) -> bool
 }
 
 // Whether a tree is a list of at most 8 such names.
-pub fn literals_good(items: &[u32], work: &[u32], node: u32) -> bool
-    ensures { λ r. ⌜ TestsIn literalsGood (now (items .entry)) (now (work .entry)) node r ⌝ }
+pub fn literals_good(work: &[u32], node: u32) -> bool
+    ensures { λ r. ⌜ Tests literalsGood (now (work .entry)) node r ⌝ }
 {
     if lists::is_list(work, node) {
-        if all_ordinary(items, work, node) {
+        if all_ordinary(work, node) {
             return lists::count(work, node) <= LITERALS;
         }
         return false;
@@ -49,27 +49,27 @@ pub fn literals_good(items: &[u32], work: &[u32], node: u32) -> bool
 }
 
 // Whether a tree is a name whose lookup finds the base form syntax-rules.
-pub fn is_syntax_rules(items: &[u32], work: &[u32], node: u32, w: u32) -> bool
-    ensures { λ r. ⌜ r ≡ onName isSyntaxRules false (treeAt (now (items .entry)) (now (work .entry)) node w) ⌝ }
+pub fn is_syntax_rules(work: &[u32], node: u32, w: u32) -> bool
+    ensures { λ r. ⌜ r ≡ onName isSyntaxRules false (treeAt (now (work .entry)) node w) ⌝ }
 {
     if cells::word(work, node, 3) != cells::NAME {
         return false;
     }
-    if names::number_of(items, work, node) != SYNTAX_RULES {
+    if names::number_of(work, node) != SYNTAX_RULES {
         return false;
     }
-    names::binding_of(items, work, node, w) == 0
+    names::binding_of(work, node, w) == 0
 }
 
 // Whether a tree has the shape of a rules form.
-pub fn is_rules_form(items: &[u32], work: &[u32], node: u32, w: u32) -> bool
-    ensures { λ r. ⌜ r ≡ isRulesForm (treeAt (now (items .entry)) (now (work .entry)) node w) ⌝ }
+pub fn is_rules_form(work: &[u32], node: u32, w: u32) -> bool
+    ensures { λ r. ⌜ r ≡ isRulesForm (treeAt (now (work .entry)) node w) ⌝ }
 {
     let first = lists::first(work, node);
-    if is_syntax_rules(items, work, first, w) {
+    if is_syntax_rules(work, first, w) {
         let after = lists::rest(work, node);
         let literals = lists::first(work, after);
-        if literals_good(items, work, literals) {
+        if literals_good(work, literals) {
             let list = lists::rest(work, after);
             let n = lists::count(work, list);
             if n == 0 {

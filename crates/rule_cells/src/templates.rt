@@ -70,7 +70,7 @@ pub fn depth_fits(d: u32, here: u32) -> bool
 // An element and the rest of its list: an ellipsis where `...` follows the element, a pair otherwise.
 pub fn put_list(work: &mut [u32], top: u32, dots: bool, element: u32, rest: u32) -> u32
     requires { ⌜ (Room (now work) top 5) × (element ≤ top) × (rest ≤ top) ⌝ }
-    ensures { λ r. ⌜ Made templateAt (λ items. cond dots (ellipsisT (templateAt items (now (work .entry)) element) (templateAt items (now (work .entry)) rest)) (pairT (templateAt items (now (work .entry)) element) (templateAt items (now (work .entry)) rest))) (now (work .entry)) (now (work .exit)) top r ⌝ }
+    ensures { λ r. ⌜ Made templateAt (cond dots (ellipsisT (templateAt (now (work .entry)) element) (templateAt (now (work .entry)) rest)) (pairT (templateAt (now (work .entry)) element) (templateAt (now (work .entry)) rest))) (now (work .entry)) (now (work .exit)) top r ⌝ }
 {
     if dots {
         return cells::put_ellipsis_template(work, top, element, rest);
@@ -80,7 +80,6 @@ pub fn put_list(work: &mut [u32], top: u32, dots: bool, element: u32, rest: u32)
 
 // A template's name under d ellipses: a variable, or inserted; `...` itself is none.
 pub fn template_name(
-    items: &[u32],
     work: &mut [u32],
     vars: &[u32],
     count: u32,
@@ -90,12 +89,12 @@ pub fn template_name(
     top: u32,
 ) -> u64
     requires { ⌜ (Room (now work) top 5) × (top + 5 < 4294967295) × (node ≤ top) × (w ≤ top) × (count ≤ 16) × (32 ≤ length (now vars)) ⌝ }
-    ensures { λ r. ⌜ TemplateLeft (variablesFrom (now (items .entry)) (now (work .entry)) w (now (vars .entry)) 0 count) d false (name (nameAt (now (items .entry)) (now (work .entry)) node w)) (now (items .entry)) (now (work .entry)) (now (work .exit)) top (builtOf r) ⌝ }
+    ensures { λ r. ⌜ TemplateLeft (variablesFrom (now (work .entry)) w (now (vars .entry)) 0 count) d false (name (nameAt (now (work .entry)) node w)) (now (work .entry)) (now (work .exit)) top (builtOf r) ⌝ }
 {
-    if names::number_of(items, work, node) == names::ELLIPSIS {
+    if names::number_of(work, node) == names::ELLIPSIS {
         return packed::NONE;
     }
-    match variables::find(items, work, vars, 0, count, node, w) {
+    match variables::find(work, vars, 0, count, node, w) {
         Known::At(k, e) => {
             if depth_fits(e, d) {
                 let r = cells::put_variable_template(work, top, k, e);
@@ -111,7 +110,6 @@ pub fn template_name(
 
 // A part of a template that is no pair.
 pub fn template_leaf(
-    items: &[u32],
     work: &mut [u32],
     vars: &[u32],
     count: u32,
@@ -120,12 +118,12 @@ pub fn template_leaf(
     d: u32,
     top: u32,
 ) -> u64
-    requires { ⌜ (Asks (now items) (now work) node w top) × (count ≤ 16) × (32 ≤ length (now vars)) × (wordAt (now work) node 3 ≡ 4 → ⊥) ⌝ }
-    ensures { λ r. ⌜ TemplateLeft (variablesFrom (now (items .entry)) (now (work .entry)) w (now (vars .entry)) 0 count) d false (treeAt (now (items .entry)) (now (work .entry)) node w) (now (items .entry)) (now (work .entry)) (now (work .exit)) top (builtOf r) ⌝ }
+    requires { ⌜ (Asks (now work) node w top) × (count ≤ 16) × (32 ≤ length (now vars)) × (wordAt (now work) node 3 ≡ 4 → ⊥) ⌝ }
+    ensures { λ r. ⌜ TemplateLeft (variablesFrom (now (work .entry)) w (now (vars .entry)) 0 count) d false (treeAt (now (work .entry)) node w) (now (work .entry)) (now (work .exit)) top (builtOf r) ⌝ }
 {
     let kind = arena::cells::word(work, node, 3);
     if kind == arena::cells::NAME {
-        return template_name(items, work, vars, count, node, w, d, top);
+        return template_name(work, vars, count, node, w, d, top);
     }
     if kind == arena::cells::EMPTY {
         return packed::pair(0, top);
@@ -138,7 +136,6 @@ pub fn template_leaf(
 
 // A part of a template under d ellipses; `taken` where it begins with the `...` that the element before it has taken.
 pub fn template(
-    items: &[u32],
     work: &mut [u32],
     vars: &[u32],
     count: u32,
@@ -148,26 +145,26 @@ pub fn template(
     taken: bool,
     top: u32,
 ) -> u64
-    requires { ⌜ (Asks (now items) (now work) node w top) × (count ≤ 16) × (32 ≤ length (now vars)) × (Under (now vars) count top) × (d + node < 2 ^ 32) ⌝ }
-    ensures { λ r. ⌜ TemplateLeft (variablesFrom (now (items .entry)) (now (work .entry)) w (now (vars .entry)) 0 count) d taken (treeAt (now (items .entry)) (now (work .entry)) node w) (now (items .entry)) (now (work .entry)) (now (work .exit)) top (builtOf r) ⌝ }
+    requires { ⌜ (Asks (now work) node w top) × (count ≤ 16) × (32 ≤ length (now vars)) × (Under (now vars) count top) × (d + node < 2 ^ 32) ⌝ }
+    ensures { λ r. ⌜ TemplateLeft (variablesFrom (now (work .entry)) w (now (vars .entry)) 0 count) d taken (treeAt (now (work .entry)) node w) (now (work .entry)) (now (work .exit)) top (builtOf r) ⌝ }
 {
     if arena::cells::word(work, node, 3) != arena::cells::PAIR {
-        return template_leaf(items, work, vars, count, node, w, d, top);
+        return template_leaf(work, vars, count, node, w, d, top);
     }
     let head = arena::cells::reference(work, node, 2);
     let rest = arena::cells::reference(work, node, 1);
     if taken {
-        return template(items, work, vars, count, rest, w, d, false, top);
+        return template(work, vars, count, rest, w, d, false, top);
     }
-    let dots = dots::dots_next(items, work, rest);
+    let dots = dots::dots_next(work, rest);
     let inner = variables::element_depth(dots, d);
-    let b = template(items, work, vars, count, head, w, inner, false, top);
+    let b = template(work, vars, count, head, w, inner, false, top);
     if b == packed::NONE {
         return packed::NONE;
     }
     let a = packed::high(b);
     if accepted(work, dots, a) {
-        let l = template(items, work, vars, count, rest, w, d, dots, packed::low(b));
+        let l = template(work, vars, count, rest, w, d, dots, packed::low(b));
         if l == packed::NONE {
             return packed::NONE;
         }

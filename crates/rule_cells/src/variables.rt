@@ -28,63 +28,55 @@ pub enum Known {
 }
 
 // Whether a name is the same as one of the names of a list.
-pub fn is_literal(items: &[u32], work: &[u32], list: u32, node: u32, w: u32) -> bool
-    ensures { λ r. ⌜ r ≡ anyOf (same (nameAt (now (items .entry)) (now (work .entry)) node w)) (names (treeAt (now (items .entry)) (now (work .entry)) list w)) ⌝ }
+pub fn is_literal(work: &[u32], list: u32, node: u32, w: u32) -> bool
+    ensures { λ r. ⌜ r ≡ anyOf (same (nameAt (now (work .entry)) node w)) (names (treeAt (now (work .entry)) list w)) ⌝ }
 {
     let mut at = list;
     let mut kind = cells::word(work, at, 3);
     while kind == cells::PAIR {
         let first = cells::reference(work, at, 2);
-        if is_literal(items, work, first, node, w) {
+        if is_literal(work, first, node, w) {
             return true;
         }
         at = cells::reference(work, at, 1);
         kind = cells::word(work, at, 3);
     }
     if kind == cells::NAME {
-        return names::same_names(items, work, node, w, at, w);
+        return names::same_names(work, node, w, at, w);
     }
     false
 }
 
 // How many variables a leaf of a pattern is, none or one.
-pub fn leaf_count(items: &[u32], work: &[u32], literals: u32, node: u32, w: u32) -> u32
-    ensures { λ r. ⌜ r ≡ leafCount (names (treeAt (now (items .entry)) (now (work .entry)) literals w)) (treeAt (now (items .entry)) (now (work .entry)) node w) ⌝ }
+pub fn leaf_count(work: &[u32], literals: u32, node: u32, w: u32) -> u32
+    ensures { λ r. ⌜ r ≡ leafCount (names (treeAt (now (work .entry)) literals w)) (treeAt (now (work .entry)) node w) ⌝ }
 {
     if cells::word(work, node, 3) != cells::NAME {
         return 0;
     }
-    let number = names::number_of(items, work, node);
+    let number = names::number_of(work, node);
     if number == names::ELLIPSIS {
         return 0;
     }
     if number == names::WILDCARD {
         return 0;
     }
-    if is_literal(items, work, literals, node, w) {
+    if is_literal(work, literals, node, w) {
         return 0;
     }
     1
 }
 
 // Which of `left` variables from number i on a name is the same as.
-pub fn find(
-    items: &[u32],
-    work: &[u32],
-    vars: &[u32],
-    i: u32,
-    left: u32,
-    node: u32,
-    w: u32,
-) -> Known
+pub fn find(work: &[u32], vars: &[u32], i: u32, left: u32, node: u32, w: u32) -> Known
     requires { ⌜ (i + left ≤ 16) × (32 ≤ length (now vars)) ⌝ }
-    ensures { λ r. ⌜ knownOf r ≡ variableFrom i (variablesFrom (now (items .entry)) (now (work .entry)) w (now (vars .entry)) i left) (nameAt (now (items .entry)) (now (work .entry)) node w) ⌝ }
+    ensures { λ r. ⌜ knownOf r ≡ variableFrom i (variablesFrom (now (work .entry)) w (now (vars .entry)) i left) (nameAt (now (work .entry)) node w) ⌝ }
 {
     let end = i + left;
     let mut k = i;
     while k < end {
         let at = 2 * (k as usize);
-        if names::same_names(items, work, vars[at], w, node, w) {
+        if names::same_names(work, vars[at], w, node, w) {
             return Known::At(k, vars[at + 1]);
         }
         k += 1;
@@ -107,17 +99,17 @@ pub fn element_depth(dots: bool, d: u32) -> u32
 }
 
 // The depth of an element before this rest of its list.
-pub fn depth_before(items: &[u32], work: &[u32], rest: u32, d: u32) -> u32
+pub fn depth_before(work: &[u32], rest: u32, d: u32) -> u32
     requires { ⌜ d + 1 < 2 ^ 32 ⌝ }
-    ensures { λ r. ⌜ Deeper (now (items .entry)) (now (work .entry)) rest d r ⌝ }
+    ensures { λ r. ⌜ Deeper (now (work .entry)) rest d r ⌝ }
 {
-    element_depth(dots::dots_next(items, work, rest), d)
+    element_depth(dots::dots_next(work, rest), d)
 }
 
 // One more variable behind the n of the table, under d ellipses: how many the table then holds, or BAD.
-pub fn add(items: &[u32], work: &[u32], vars: &mut [u32], node: u32, w: u32, d: u32, n: u32) -> u32
-    requires { ⌜ (32 ≤ length (now vars)) × (Held (now items) (now work) w (now vars) n) ⌝ }
-    ensures { λ r. ⌜ Gathered ((nameAt (now (items .entry)) (now (work .entry)) node w, d) ∷ []) (now (items .entry)) (now (work .entry)) w node n (now (vars .entry)) (now (vars .exit)) (keptOf r) ⌝ }
+pub fn add(work: &[u32], vars: &mut [u32], node: u32, w: u32, d: u32, n: u32) -> u32
+    requires { ⌜ (32 ≤ length (now vars)) × (Held (now work) w (now vars) n) ⌝ }
+    ensures { λ r. ⌜ Gathered ((nameAt (now (work .entry)) node w, d) ∷ []) (now (work .entry)) w node n (now (vars .entry)) (now (vars .exit)) (keptOf r) ⌝ }
 {
     if DEPTH < d {
         return BAD;
@@ -125,7 +117,7 @@ pub fn add(items: &[u32], work: &[u32], vars: &mut [u32], node: u32, w: u32, d: 
     if MOST <= n {
         return BAD;
     }
-    match find(items, work, vars, 0, n, node, w) {
+    match find(work, vars, 0, n, node, w) {
         Known::At(k, e) => {
             return BAD;
         }
@@ -139,7 +131,6 @@ pub fn add(items: &[u32], work: &[u32], vars: &mut [u32], node: u32, w: u32, d: 
 
 // The variable of a pattern's name, where it is one: how many the table then holds, or BAD.
 pub fn gather_name(
-    items: &[u32],
     work: &[u32],
     vars: &mut [u32],
     literals: u32,
@@ -148,26 +139,25 @@ pub fn gather_name(
     d: u32,
     n: u32,
 ) -> u32
-    requires { ⌜ (32 ≤ length (now vars)) × (Held (now items) (now work) w (now vars) n) ⌝ }
-    ensures { λ r. ⌜ Gathered (variables isEllipsis (names (treeAt (now (items .entry)) (now (work .entry)) literals w)) d (name (nameAt (now (items .entry)) (now (work .entry)) node w))) (now (items .entry)) (now (work .entry)) w node n (now (vars .entry)) (now (vars .exit)) (keptOf r) ⌝ }
+    requires { ⌜ (32 ≤ length (now vars)) × (Held (now work) w (now vars) n) ⌝ }
+    ensures { λ r. ⌜ Gathered (variables isEllipsis (names (treeAt (now (work .entry)) literals w)) d (name (nameAt (now (work .entry)) node w))) (now (work .entry)) w node n (now (vars .entry)) (now (vars .exit)) (keptOf r) ⌝ }
 {
-    let number = names::number_of(items, work, node);
+    let number = names::number_of(work, node);
     if number == names::ELLIPSIS {
         return n;
     }
     if number == names::WILDCARD {
         return n;
     }
-    if is_literal(items, work, literals, node, w) {
+    if is_literal(work, literals, node, w) {
         return n;
     }
-    add(items, work, vars, node, w, d, n)
+    add(work, vars, node, w, d, n)
 }
 
 // The variables of a pattern from the left, each with the number of ellipses it lies under, behind the n of the table: how many
 // the table then holds, or BAD.
 pub fn gather(
-    items: &[u32],
     work: &[u32],
     vars: &mut [u32],
     literals: u32,
@@ -176,16 +166,16 @@ pub fn gather(
     d: u32,
     n: u32,
 ) -> u32
-    requires { ⌜ (32 ≤ length (now vars)) × (Held (now items) (now work) w (now vars) n) × (d + node < 2 ^ 32) ⌝ }
-    ensures { λ r. ⌜ Gathered (variables isEllipsis (names (treeAt (now (items .entry)) (now (work .entry)) literals w)) d (treeAt (now (items .entry)) (now (work .entry)) node w)) (now (items .entry)) (now (work .entry)) w node n (now (vars .entry)) (now (vars .exit)) (keptOf r) ⌝ }
+    requires { ⌜ (32 ≤ length (now vars)) × (Held (now work) w (now vars) n) × (d + node < 2 ^ 32) ⌝ }
+    ensures { λ r. ⌜ Gathered (variables isEllipsis (names (treeAt (now (work .entry)) literals w)) d (treeAt (now (work .entry)) node w)) (now (work .entry)) w node n (now (vars .entry)) (now (vars .exit)) (keptOf r) ⌝ }
 {
     let mut at = node;
     let mut m = n;
     while cells::word(work, at, 3) == cells::PAIR {
         let head = cells::reference(work, at, 2);
         let rest = cells::reference(work, at, 1);
-        let inner = depth_before(items, work, rest, d);
-        let k = gather(items, work, vars, literals, head, w, inner, m);
+        let inner = depth_before(work, rest, d);
+        let k = gather(work, vars, literals, head, w, inner, m);
         if k == BAD {
             return BAD;
         }
@@ -193,7 +183,7 @@ pub fn gather(
         at = rest;
     }
     if cells::word(work, at, 3) == cells::NAME {
-        return gather_name(items, work, vars, literals, at, w, d, m);
+        return gather_name(work, vars, literals, at, w, d, m);
     }
     m
 }

@@ -16,7 +16,6 @@ use Rattle.arena.specs.Arena.{referenceAt, treeAt}
 use Rattle.arena.specs.ArenaLaws.{referenceAt-most}
 use Rattle.rule_cells.specs.Cells.{patternAt, templateAt, ruleAt, rulesAt}
 use Rattle.environments.specs.Sound.{Sound, sound-plain}
-use Rattle.environments.specs.SoundRules.{plain-any}
 use Rattle.environments.specs.EnvironmentLaws.{Agrees, result-is, agree-is}
 use Rattle.environments.specs.Entries.{tableWords, environmentAt, Under}
 use Rattle.environments.specs.Bind.{Binds}
@@ -51,27 +50,27 @@ module _ (old : List ℕ) (top : ℕ) (env : List ℕ) (w t limit : ℕ) (ok : T
     unfolding Answers outcomeAt resultAt agreesAt
     transcribed-done root left m =
         record {
-          is = λ items l.
-              rw (m .agrees items, le-leb (size (resultAt items old env w t)) limit (omega (arith, m .paid .spent items)))
-              (omega (arith, m .paid .spent items), m .paid .means items l, m .paid .above, omega (arith, m .paid .most, m .paid .spent items));
+          is =
+              rw (m .agrees, le-leb (size (resultAt old env w t)) limit (omega (arith, m .paid .spent)))
+              (omega (arith, m .paid .spent), m .paid .means, m .paid .above, omega (arith, m .paid .most, m .paid .spent));
           kept = m .paid .kept;
         }
 
     -- there is no result: the lengths, compared after it, tell on which ground
     module _ (m : Stops old new top limit env w t) (b : Bool) (agrees : LengthsAgree new env t b) where
-      agrees-is : (items : List ℕ) → agreesAt items old env w t ≡ b
+      agrees-is : agreesAt old env w t ≡ b
       unfolding agreesAt
-      agrees-is items = sym (agrees-kept items old new top (m .kept) env w t (ok .wrap-below) (ok .template-below) (ok .under)) ∙ sym (agrees items w)
+      agrees-is = sym (agrees-kept old new top (m .kept) env w t (ok .wrap-below) (ok .template-below) (ok .under)) ∙ sym (agrees w)
 
       pub transcribed-differ : b ≡ false → Transcribed old new top env w t limit A.Differ
       unfolding Answers outcomeAt agreesAt
-      transcribed-differ e = record { is = λ items l. rw (agrees-is items, e) refl; kept = m .kept }
+      transcribed-differ e = record { is = rw (agrees-is, e) refl; kept = m .kept }
 
       pub transcribed-costly : b ≡ true → Transcribed old new top env w t limit A.Costly
       unfolding Answers outcomeAt resultAt agreesAt
       transcribed-costly e =
           record {
-            is = λ items l. rw (agrees-is items, e, lt-leb (size (resultAt items old env w t)) limit (m .over items (agrees-is items ∙ e))) refl;
+            is = rw (agrees-is, e, lt-leb (size (resultAt old env w t)) limit (m .over (agrees-is ∙ e))) refl;
             kept = m .kept;
           }
 
@@ -82,42 +81,42 @@ zeros-under zero top i = omega arith
 zeros-under (suc n) top zero = omega arith
 zeros-under (suc n) top (suc i) = zeros-under n top i
 
-module _ (items old : List ℕ) (top rules u w limit : ℕ) (ok : Stepping items old top rules u w limit) (rule : ℕ) (found : FirstFit items old rules u w rule) where
+module _ (old : List ℕ) (top rules u w limit : ℕ) (ok : Stepping old top rules u w limit) (rule : ℕ) (found : FirstFit old rules u w rule) where
   abbrev Used : Tree
-  Used = treeAt items old u w
+  Used = treeAt old u w
 
-  pub apply-none : rule ≡ 0 → Stepped items old old top rules u w limit A.NoRule
+  pub apply-none : rule ≡ 0 → Stepped old old top rules u w limit A.NoRule
   unfolding ruleOr stepOf Answers
-  apply-none e = record { is = subst (λ o. Answers items old top (stepOf limit Used o) A.NoRule) (found .is) (rw e refl); kept = refl }
+  apply-none e = record { is = subst (λ o. Answers old top (stepOf limit Used o) A.NoRule) (found .is) (rw e refl); kept = refl }
 
   module _ (some-rule : rule ≡ 0 → ⊥) (p t : ℕ) (p-is : p ≡ referenceAt old rule 3) (t-is : t ≡ referenceAt old rule 2) (env : List ℕ) (binds : Binds old p u (replicate tableWords 0) env) where
-    rule-is : firstFit (rulesAt items old rules) Used .1 ≡ some (ruleAt items old rule)
+    rule-is : firstFit (rulesAt old rules) Used .1 ≡ some (ruleAt old rule)
     unfolding ruleOr
     rule-is = sym (found .is) ∙ rw (ne-eqb rule 0 some-rule) refl
 
-    sound-here : Sound (patternAt items old p) 0 (templateAt items old t)
+    sound-here : Sound (patternAt old p) 0 (templateAt old t)
     unfolding ruleAt
     sound-here = rw (p-is, t-is) (given-at (firstFit-each Used (ok .sound)) rule-is)
 
-    agrees-here : Agrees (patternAt items old p) Used (environmentAt items old env w)
+    agrees-here : Agrees (patternAt old p) Used (environmentAt old env w)
     unfolding environmentAt
-    agrees-here k l h = binds .held items w k l h
+    agrees-here k l h = binds .held w k l h
 
     pub apply-asks : Transcribing old top env w t limit
     apply-asks =
         record {
-          plain = λ i. plain-any items i old t (sound-plain sound-here);
+          plain = sound-plain sound-here;
           under = binds .low top (omega (arith, referenceAt-most old rule 3, found .low, ok .rules-below)) (ok .use-below) (zeros-under tableWords top);
           wrap-below = ok .wrap-below;
           template-below = omega (arith, referenceAt-most old rule 2, found .low, ok .rules-below);
           room = ok .room;
         }
 
-    outcome-is : outcomeAt items old env w t limit ≡ stepOf limit Used (firstFit (rulesAt items old rules) Used .1)
+    outcome-is : outcomeAt old env w t limit ≡ stepOf limit Used (firstFit (rulesAt old rules) Used .1)
     unfolding stepOf applied ruleAt outcomeAt
     outcome-is =
-        rw (result-is (patternAt items old p) Used (environmentAt items old env w) (templateAt items old t) agrees-here sound-here, agree-is (patternAt items old p) Used (environmentAt items old env w) (templateAt items old t) agrees-here sound-here)
+        rw (result-is (patternAt old p) Used (environmentAt old env w) (templateAt old t) agrees-here sound-here, agree-is (patternAt old p) Used (environmentAt old env w) (templateAt old t) agrees-here sound-here)
         (rw (p-is, t-is) (sym (ap (stepOf limit Used) rule-is)))
 
-    pub apply-stepped : (new : List ℕ) (r : Applied) → Transcribed old new top env w t limit r → Stepped items old new top rules u w limit r
-    apply-stepped new r x = record { is = subst (λ o. Answers items new top o r) outcome-is (x .is items (ok .items-below)); kept = x .kept }
+    pub apply-stepped : (new : List ℕ) (r : Applied) → Transcribed old new top env w t limit r → Stepped old new top rules u w limit r
+    apply-stepped new r x = record { is = subst (λ o. Answers new top o r) outcome-is (x .is); kept = x .kept }

@@ -6,16 +6,15 @@ use Prim.Native.Nat.{ℕ, _+_, _*_, _-_, _≤_, _<_}
 use native.Mathlib.Omega.{arith}
 use lib.Dec.{ltb}
 use lib.ListN.{length, take}
-use borrow.Author.Tests.{lt-ltb}
 use Rattle.recipe.specs.Name.{Name, markName, produceName}
 use Rattle.recipe.specs.Tree.{Tree, empty, constant, name, pair, size, onNames, produce}
 use Rattle.recipe.specs.TreeLaws.{size-positive}
-use Rattle.arena.specs.Arena.{wordAt, referenceAt, stepLimit, marked, giveKey, isOwn, rebound, wrapAt, nodeName, nameAt, constantAt, treeAt}
+use Rattle.arena.specs.Arena.{wordAt, referenceAt, stepLimit, marked, giveKey, isOwn, rebound, wrapAt, originName, nodeName, nameAt, constantAt, treeAt}
 use Rattle.words.specs.ListLaws.{either}
 use Rattle.words.specs.Packed.{packed}
 use Rattle.arena.specs.ArenaLaws.{take-less, referenceAt-most, wrapAt-none, wrapAt-keeps}
 use Rattle.arena.specs.NodeLaws.{treeAt-empty, treeAt-name, treeAt-pair, treeAt-constant}
-use Rattle.arena.specs.Cells.{Room, Wrapped, itemName, Grown}
+use Rattle.arena.specs.Cells.{Room, Wrapped, Grown}
 use Rattle.arena.specs.CellLaws.{tree-kept}
 use Rattle.steps.specs.Built.{Built, At, Stopped, builtOf, built-packed}
 use Rattle.steps.specs.Build.{nodeWords, Fresh, Paid, Unpaid, Pays, Waiting}
@@ -33,55 +32,51 @@ rebound-produce work f w x y e = rw e (either (isOwn work f w y) (λ t. rw t ref
 wrapAt-produce : (work : List ℕ) (w : ℕ) (x : Name) → wrapAt work w (produceName x) ≡ produceName (wrapAt work w x)
 wrapAt-produce work w x = wrapAt-keeps work (λ a b. a ≡ produceName b) marked-produce (rebound-produce work) w (produceName x) x refl
 
--- a name node past the items has stood in a result
-fresh-name : (items work : List ℕ) (node item : ℕ) → item ≡ wordAt work node 2 → produceName (nodeName items work node) ≡ itemName items item true
-unfolding produceName nodeName itemName
-fresh-name items work node item e = rw e refl
-
 -- ---- nodes of one item
 
-fresh-one : (A : List ℕ → Tree) (old new : List ℕ) (top r : ℕ) → r ≡ top + 3 → take top new ≡ take top old → ((items : List ℕ) → length items ≤ top → treeAt items new r 0 ≡ produce (A items)) → Fresh A old new top r
+fresh-one : (A : Tree) (old new : List ℕ) (top r : ℕ) → r ≡ top + 3 → take top new ≡ take top old → (treeAt new r 0 ≡ produce A) → Fresh A old new top r
 fresh-one A old new top r e k m = record { above = omega arith; most = omega arith; kept = k; means = m }
 
-pub fresh-empty : (old new : List ℕ) (top r : ℕ) → Grown (λ items w. empty) old new top r → Fresh (λ items. empty) old new top r
+pub fresh-empty : (old new : List ℕ) (top r : ℕ) → Grown (λ w. empty) old new top r → Fresh empty old new top r
 unfolding produce onNames
-fresh-empty old new top r g = fresh-one _ old new top r (g .end) (g .kept) (λ items l. g .means items 0 (omega arith))
+fresh-empty old new top r g = fresh-one _ old new top r (g .end) (g .kept) (g .means 0 (omega arith))
 
-pub fresh-constant : (old new : List ℕ) (top r k a b : ℕ) → Grown (λ items w. constant (record { kind = k; first = a; second = b })) old new top r → Fresh (λ items. constant (record { kind = k; first = a; second = b })) old new top r
+pub fresh-constant : (old new : List ℕ) (top r k a b : ℕ) → Grown (λ w. constant (record { kind = k; first = a; second = b })) old new top r → Fresh (constant (record { kind = k; first = a; second = b })) old new top r
 unfolding produce onNames
-fresh-constant old new top r k a b g = fresh-one _ old new top r (g .end) (g .kept) (λ items l. g .means items 0 (omega arith))
+fresh-constant old new top r k a b g = fresh-one _ old new top r (g .end) (g .kept) (g .means 0 (omega arith))
 
-module _ (old : List ℕ) (top node w item own : ℕ) (item-is : item ≡ wordAt old node 2) (own-is : own ≡ referenceAt old node 1) where
-  pub fresh-bare : (new : List ℕ) (r : ℕ) → own ≡ 0 → Grown (λ items v. name (wrapAt old v (wrapAt old w (itemName items item (ltb (length items) (top + 3)))))) old new top r → Fresh (λ items. name (nameAt items old node w)) old new top r
+module _ (old : List ℕ) (top node w word origin own : ℕ) (word-is : word ≡ wordAt old node 2) (produced : originName origin ≡ produceName (originName word)) (own-is : own ≡ referenceAt old node 1) where
+  origin-is : originName origin ≡ produceName (nodeName old node)
+  unfolding nodeName
+  origin-is = produced ∙ ap (λ (o : ℕ). produceName (originName o)) word-is
+
+  pub fresh-bare : (new : List ℕ) (r : ℕ) → own ≡ 0 → Grown (λ v. name (wrapAt old v (wrapAt old w (originName origin)))) old new top r → Fresh (name (nameAt old node w)) old new top r
   unfolding produce onNames nameAt
   fresh-bare new r e g =
       fresh-one _ old new top r (g .end) (g .kept)
-      (λ items l.
-      g .means items 0 (omega arith)
+      (g .means 0 (omega arith)
       ∙ ap name
       (wrapAt-none old _
-      ∙ ap (λ (b : Bool). wrapAt old w (itemName items item b)) (lt-ltb (length items) (top + 3) (omega arith))
-      ∙ ap (wrapAt old w) (sym (fresh-name items old node item item-is))
+      ∙ ap (wrapAt old w) origin-is
       ∙ wrapAt-produce old w _
       ∙ ap (λ (x : Name). produceName (wrapAt old w x)) (sym (rw (← own-is, e) (wrapAt-none old _)))))
 
-  pub fresh-joined : (one new : List ℕ) (j r : ℕ) → Wrapped (λ x. wrapAt old w (wrapAt old own x)) 3 old one top j → Grown (λ items v. name (wrapAt one v (wrapAt one j (itemName items item (ltb (length items) (j + 3)))))) one new j r → Fresh (λ items. name (nameAt items old node w)) old new top r
+  pub fresh-joined : (one new : List ℕ) (j r : ℕ) → Wrapped (λ x. wrapAt old w (wrapAt old own x)) 3 old one top j → Grown (λ v. name (wrapAt one v (wrapAt one j (originName origin)))) one new j r → Fresh (name (nameAt old node w)) old new top r
   unfolding produce onNames nameAt
   fresh-joined one new j r f g =
       record {
         above = omega (arith, f .end, g .end);
         most = omega (arith, f .end, g .end);
         kept = take-less new one top j (omega (arith, f .end)) (g .kept) ∙ f .kept;
-        means = λ items l.
-            g .means items 0 (omega arith)
+        means =
+            g .means 0 (omega arith)
             ∙ ap name
             (wrapAt-none one _
-            ∙ ap (λ (b : Bool). wrapAt one j (itemName items item b)) (lt-ltb (length items) (j + 3) (omega (arith, f .end)))
             ∙ f .means _
-            ∙ ap (λ (x : Name). wrapAt old w (wrapAt old own x)) (sym (fresh-name items old node item item-is))
+            ∙ ap (λ (x : Name). wrapAt old w (wrapAt old own x)) origin-is
             ∙ ap (wrapAt old w) (wrapAt-produce old own _)
             ∙ wrapAt-produce old w _
-            ∙ ap (λ (v : ℕ). produceName (wrapAt old w (wrapAt old v (nodeName items old node)))) own-is);
+            ∙ ap (λ (v : ℕ). produceName (wrapAt old w (wrapAt old v (nodeName old node)))) own-is);
       }
 
 -- ---- room
@@ -105,92 +100,80 @@ built-at P work top fuel p root left room h e x =
 
 -- ---- trees whose items are paid for
 
-module _ (A B : List ℕ → Tree) (old new : List ℕ) (top fuel : ℕ) (e : (items : List ℕ) → A items ≡ B items) where
-  pub pays-is : (r : Built) → Pays A old new top fuel r → Pays B old new top fuel r
-  pays-is (At root left) p =
-      record {
-        spent = λ items. rw (← e items) (p .spent items);
-        above = p .above;
-        most = p .most;
-        kept = p .kept;
-        means = λ items l. p .means items l ∙ ap produce (e items);
-      }
-  pays-is Stopped p = record { over = λ items. rw (← e items) (p .over items); kept = p .kept }
+pub pays-is : (A B : Tree) (old new : List ℕ) (top fuel : ℕ) → A ≡ B → (r : Built) → Pays A old new top fuel r → Pays B old new top fuel r
+pays-is A B old new top fuel e r p = subst (λ (t : Tree). Pays t old new top fuel r) e p
 
 -- what an answer says
-pub paid-at : (A : List ℕ → Tree) (old new : List ℕ) (top fuel : ℕ) (r : Built) (root left : ℕ) → r ≡ At root left → Pays A old new top fuel r → Paid A old new top fuel root left
+pub paid-at : (A : Tree) (old new : List ℕ) (top fuel : ℕ) (r : Built) (root left : ℕ) → r ≡ At root left → Pays A old new top fuel r → Paid A old new top fuel root left
 paid-at A old new top fuel r root left e p = subst (Pays A old new top fuel) e p
 
-pub unpaid-at : (A : List ℕ → Tree) (old new : List ℕ) (top fuel : ℕ) (r : Built) → r ≡ Stopped → Pays A old new top fuel r → Unpaid A old new top fuel
+pub unpaid-at : (A : Tree) (old new : List ℕ) (top fuel : ℕ) (r : Built) → r ≡ Stopped → Pays A old new top fuel r → Unpaid A old new top fuel
 unpaid-at A old new top fuel r e p = subst (Pays A old new top fuel) e p
 
-pub pays-packed : (A : List ℕ → Tree) (old new : List ℕ) (top fuel p root left : ℕ) → Room old top (nodeWords * fuel) → p ≡ packed root left → Paid A old new top fuel root left → Pays A old new top fuel (builtOf p)
-pays-packed A old new top fuel p root left room e x = built-at (Pays A old new top fuel) old top fuel p root left room (omega (arith, x .spent [])) e x
+pub pays-packed : (A : Tree) (old new : List ℕ) (top fuel p root left : ℕ) → Room old top (nodeWords * fuel) → p ≡ packed root left → Paid A old new top fuel root left → Pays A old new top fuel (builtOf p)
+pays-packed A old new top fuel p root left room e x = built-at (Pays A old new top fuel) old top fuel p root left room (omega (arith, x .spent)) e x
 
 -- every tree has an item
-pub unpaid-none : (A : List ℕ → Tree) (old : List ℕ) (top fuel : ℕ) → fuel ≡ 0 → Unpaid A old old top fuel
-unpaid-none A old top fuel e = record { over = λ items. omega (arith, size-positive (A items)); kept = refl }
+pub unpaid-none : (A : Tree) (old : List ℕ) (top fuel : ℕ) → fuel ≡ 0 → Unpaid A old old top fuel
+unpaid-none A old top fuel e = record { over = omega (arith, size-positive A); kept = refl }
 
-pub paid-one : (A : List ℕ → Tree) (old new : List ℕ) (top fuel r left : ℕ) → (fuel ≡ 0 → ⊥) → left ≡ fuel - 1 → ((items : List ℕ) → size (A items) ≡ 1) → Fresh A old new top r → Paid A old new top fuel r left
+pub paid-one : (A : Tree) (old new : List ℕ) (top fuel r left : ℕ) → (fuel ≡ 0 → ⊥) → left ≡ fuel - 1 → (size A ≡ 1) → Fresh A old new top r → Paid A old new top fuel r left
 paid-one A old new top fuel r left h e one f =
-    record { spent = λ items. omega (arith, one items); above = f .above; most = omega (arith, f .most); kept = f .kept; means = f .means }
+    record { spent = omega (arith, one); above = f .above; most = omega (arith, f .most); kept = f .kept; means = f .means }
 
 -- a pair: its own item first, then the tail, then the head
-module _ (A B : List ℕ → Tree) (old one : List ℕ) (top fuel left : ℕ) (some-fuel : fuel ≡ 0 → ⊥) (left-is : left ≡ fuel - 1) where
-  pub unpaid-tail : Unpaid B old one top left → Unpaid (λ items. pair (A items) (B items)) old one top fuel
+module _ (A B : Tree) (old one : List ℕ) (top fuel left : ℕ) (some-fuel : fuel ≡ 0 → ⊥) (left-is : left ≡ fuel - 1) where
+  pub unpaid-tail : Unpaid B old one top left → Unpaid (pair A B) old one top fuel
   unfolding size
-  unpaid-tail b = record { over = λ items. omega (arith, b .over items); kept = b .kept }
+  unpaid-tail b = record { over = omega (arith, b .over); kept = b .kept }
 
   module _ (t f : ℕ) (b : Paid B old one top left t f) (two : List ℕ) where
-    pub unpaid-head : Unpaid A one two t f → Unpaid (λ items. pair (A items) (B items)) old two top fuel
+    pub unpaid-head : Unpaid A one two t f → Unpaid (pair A B) old two top fuel
     unfolding size
-    unpaid-head a = record { over = λ items. omega (arith, a .over items, b .spent items); kept = take-less two one top t (b .above) (a .kept) ∙ b .kept }
+    unpaid-head a = record { over = omega (arith, a .over, b .spent); kept = take-less two one top t (b .above) (a .kept) ∙ b .kept }
 
     module _ (h g : ℕ) (a : Paid A one two t f h g) where
       pub pair-most : h + 3 + nodeWords * g ≤ top + nodeWords * fuel
       pair-most = omega (arith, a .most, b .most)
 
-      pub paid-pair : (new : List ℕ) (r : ℕ) → Grown (λ items w. pair (treeAt items two h w) (treeAt items two t w)) two new h r → Paid (λ items. pair (A items) (B items)) old new top fuel r g
+      pub paid-pair : (new : List ℕ) (r : ℕ) → Grown (λ w. pair (treeAt two h w) (treeAt two t w)) two new h r → Paid (pair A B) old new top fuel r g
       unfolding produce onNames size
       paid-pair new r p =
           record {
-            spent = λ items. omega (arith, a .spent items, b .spent items);
+            spent = omega (arith, a .spent, b .spent);
             above = omega (arith, a .above, b .above, p .end);
             most = omega (arith, pair-most, p .end);
             kept = take-less new one top t (b .above) (take-less new two t h (a .above) (p .kept) ∙ a .kept) ∙ b .kept;
-            means = λ items l.
-                p .means items 0 (omega arith)
-                ∙ ap₂ pair (a .means items (omega (arith, b .above))) (tree-kept items one two t t 0 (omega arith) (omega arith) (a .kept) ∙ b .means items l);
+            means =
+                p .means 0 (omega arith)
+                ∙ ap₂ pair (a .means) (tree-kept one two t t 0 (omega arith) (omega arith) (a .kept) ∙ b .means);
           }
 
 -- ---- copies of a tree
 
-abbrev pub Whole : (work : List ℕ) (node w : ℕ) → List ℕ → Tree
-Whole work node w = λ items. treeAt items work node w
-
 module _ (old : List ℕ) (top fuel node w left : ℕ) (some-fuel : fuel ≡ 0 → ⊥) (left-is : left ≡ fuel - 1) (kind : ℕ) (kind-is : kind ≡ wordAt old node 3) where
-  pub copied-empty : (new : List ℕ) (r : ℕ) → kind ≡ 0 → Grown (λ items v. empty) old new top r → Pays (Whole old node w) old new top fuel (At r left)
+  pub copied-empty : (new : List ℕ) (r : ℕ) → kind ≡ 0 → Grown (λ v. empty) old new top r → Pays (treeAt old node w) old new top fuel (At r left)
   unfolding size
   copied-empty new r e g =
-      pays-is (λ items. empty) _ old new top fuel (λ items. sym (treeAt-empty items old node w (sym kind-is ∙ e))) (At r left)
-      (paid-one (λ items. empty) old new top fuel r left some-fuel left-is (λ items. refl) (fresh-empty old new top r g))
+      pays-is empty _ old new top fuel (sym (treeAt-empty old node w (sym kind-is ∙ e))) (At r left)
+      (paid-one empty old new top fuel r left some-fuel left-is refl (fresh-empty old new top r g))
 
-  pub copied-name : (new : List ℕ) (r : ℕ) → kind ≡ 3 → Fresh (λ items. name (nameAt items old node w)) old new top r → Pays (Whole old node w) old new top fuel (At r left)
+  pub copied-name : (new : List ℕ) (r : ℕ) → kind ≡ 3 → Fresh (name (nameAt old node w)) old new top r → Pays (treeAt old node w) old new top fuel (At r left)
   unfolding size
   copied-name new r e f =
-      pays-is (λ items. name (nameAt items old node w)) _ old new top fuel (λ items. sym (treeAt-name items old node w (sym kind-is ∙ e))) (At r left)
-      (paid-one (λ items. name (nameAt items old node w)) old new top fuel r left some-fuel left-is (λ items. refl) f)
+      pays-is (name (nameAt old node w)) _ old new top fuel (sym (treeAt-name old node w (sym kind-is ∙ e))) (At r left)
+      (paid-one (name (nameAt old node w)) old new top fuel r left some-fuel left-is refl f)
 
-  pub copied-constant : (new : List ℕ) (r a b : ℕ) → (kind ≡ 0 → ⊥) → (kind ≡ 3 → ⊥) → (wordAt old node 3 ≡ 4 → ⊥) → a ≡ wordAt old node 2 → b ≡ wordAt old node 1 → Grown (λ items v. constant (record { kind = kind; first = a; second = b })) old new top r → Pays (Whole old node w) old new top fuel (At r left)
+  pub copied-constant : (new : List ℕ) (r a b : ℕ) → (kind ≡ 0 → ⊥) → (kind ≡ 3 → ⊥) → (wordAt old node 3 ≡ 4 → ⊥) → a ≡ wordAt old node 2 → b ≡ wordAt old node 1 → Grown (λ v. constant (record { kind = kind; first = a; second = b })) old new top r → Pays (treeAt old node w) old new top fuel (At r left)
   unfolding constantAt size
   copied-constant new r a b n0 n3 n4 a-is b-is g =
-      pays-is (λ items. constant (record { kind = kind; first = a; second = b })) _ old new top fuel
-      (λ items. rw (kind-is, a-is, b-is) (sym (treeAt-constant items old node w (λ z. n0 (kind-is ∙ z)) (λ z. n3 (kind-is ∙ z)) n4))) (At r left)
-      (paid-one _ old new top fuel r left some-fuel left-is (λ items. refl) (fresh-constant old new top r kind a b g))
+      pays-is (constant (record { kind = kind; first = a; second = b })) _ old new top fuel
+      (rw (kind-is, a-is, b-is) (sym (treeAt-constant old node w (λ z. n0 (kind-is ∙ z)) (λ z. n3 (kind-is ∙ z)) n4))) (At r left)
+      (paid-one _ old new top fuel r left some-fuel left-is refl (fresh-constant old new top r kind a b g))
 
   module _ (head tail : ℕ) (e : kind ≡ 4) (head-is : head ≡ referenceAt old node 2) (tail-is : tail ≡ referenceAt old node 1) (waits : Waiting old top fuel node w) where
-    whole-pair : (items : List ℕ) → pair (Whole old head w items) (Whole old tail w items) ≡ Whole old node w items
-    whole-pair items = sym (treeAt-pair items old node w (sym kind-is ∙ e) ∙ rw (head-is, tail-is) refl)
+    pair-is : pair (treeAt old head w) (treeAt old tail w) ≡ treeAt old node w
+    pair-is = sym (treeAt-pair old node w (sym kind-is ∙ e) ∙ rw (head-is, tail-is) refl)
 
     pub waiting-tail : Waiting old top left tail w
     waiting-tail =
@@ -200,12 +183,12 @@ module _ (old : List ℕ) (top fuel node w left : ℕ) (some-fuel : fuel ≡ 0 �
           wrap-below = waits .wrap-below;
         }
 
-    pub copied-tail-costly : (one : List ℕ) → Unpaid (Whole old tail w) old one top left → Pays (Whole old node w) old one top fuel Stopped
-    copied-tail-costly one b = pays-is _ _ old one top fuel whole-pair Stopped (unpaid-tail (Whole old head w) (Whole old tail w) old one top fuel left some-fuel left-is b)
+    pub copied-tail-costly : (one : List ℕ) → Unpaid (treeAt old tail w) old one top left → Pays (treeAt old node w) old one top fuel Stopped
+    copied-tail-costly one b = pays-is _ _ old one top fuel pair-is Stopped (unpaid-tail (treeAt old head w) (treeAt old tail w) old one top fuel left some-fuel left-is b)
 
-    module _ (one : List ℕ) (t f : ℕ) (b : Paid (Whole old tail w) old one top left t f) (long : length one ≡ length old) where
-      head-same : (items : List ℕ) → Whole one head w items ≡ Whole old head w items
-      head-same items = tree-kept items old one top head w (omega (arith, waits .node-below, referenceAt-most old node 2)) (waits .wrap-below) (b .kept)
+    module _ (one : List ℕ) (t f : ℕ) (b : Paid (treeAt old tail w) old one top left t f) (long : length one ≡ length old) where
+      head-same : treeAt one head w ≡ treeAt old head w
+      head-same = tree-kept old one top head w (omega (arith, waits .node-below, referenceAt-most old node 2)) (waits .wrap-below) (b .kept)
 
       pub waiting-head : Waiting one t f head w
       waiting-head =
@@ -215,21 +198,21 @@ module _ (old : List ℕ) (top fuel node w left : ℕ) (some-fuel : fuel ≡ 0 �
             wrap-below = omega (arith, waits .wrap-below, b .above);
           }
 
-      pub copied-head-costly : (two : List ℕ) → Unpaid (Whole one head w) one two t f → Pays (Whole old node w) old two top fuel Stopped
+      pub copied-head-costly : (two : List ℕ) → Unpaid (treeAt one head w) one two t f → Pays (treeAt old node w) old two top fuel Stopped
       copied-head-costly two a =
-          pays-is _ _ old two top fuel whole-pair Stopped
-          (unpaid-head (Whole old head w) (Whole old tail w) old one top fuel left some-fuel left-is t f b two (pays-is _ _ one two t f head-same Stopped a))
+          pays-is _ _ old two top fuel pair-is Stopped
+          (unpaid-head (treeAt old head w) (treeAt old tail w) old one top fuel left some-fuel left-is t f b two (pays-is _ _ one two t f head-same Stopped a))
 
-      module _ (two : List ℕ) (h g : ℕ) (a : Paid (Whole one head w) one two t f h g) where
-        head-paid : Paid (Whole old head w) one two t f h g
+      module _ (two : List ℕ) (h g : ℕ) (a : Paid (treeAt one head w) one two t f h g) where
+        head-paid : Paid (treeAt old head w) one two t f h g
         head-paid = pays-is _ _ one two t f head-same (At h g) a
 
         pub copied-room : length two ≡ length one → Room two h 3
         copied-room far =
             room-left old two top fuel h g 3 (far ∙ long)
-            (omega (arith, pair-most (Whole old head w) (Whole old tail w) old one top fuel left some-fuel left-is t f b two h g head-paid)) (waits .room)
+            (omega (arith, pair-most (treeAt old head w) (treeAt old tail w) old one top fuel left some-fuel left-is t f b two h g head-paid)) (waits .room)
 
-        pub copied-pair : (new : List ℕ) (r : ℕ) → Grown (λ items v. pair (treeAt items two h v) (treeAt items two t v)) two new h r → Pays (Whole old node w) old new top fuel (At r g)
+        pub copied-pair : (new : List ℕ) (r : ℕ) → Grown (λ v. pair (treeAt two h v) (treeAt two t v)) two new h r → Pays (treeAt old node w) old new top fuel (At r g)
         copied-pair new r p =
-            pays-is _ _ old new top fuel whole-pair (At r g)
-            (paid-pair (Whole old head w) (Whole old tail w) old one top fuel left some-fuel left-is t f b two h g head-paid new r p)
+            pays-is _ _ old new top fuel pair-is (At r g)
+            (paid-pair (treeAt old head w) (treeAt old tail w) old one top fuel left some-fuel left-is t f b two h g head-paid new r p)

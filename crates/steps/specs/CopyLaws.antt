@@ -26,7 +26,7 @@ use Rattle.environments.specs.Entries.{field, entryAt, patternIn, takingOf, env
 use Rattle.environments.specs.EntryLaws.{entry-low}
 use Rattle.environments.specs.AgreeLaws.{flat-leaf, copies-flat, below-at}
 use Rattle.steps.specs.Built.{Built, At, Stopped, builtOf}
-use Rattle.steps.specs.Build.{nodeWords, Paid, Unpaid, Waiting, resultAt, agreesAt, copyAt, copyAgrees, Buildable, Gives, Stops, added, Turned, elementsAt, ElementsUnpaid, ElementsBackwards, copiesAt, CopiesAgreed, CopiesStop, Backwards, Reversed, Copied}
+use Rattle.steps.specs.Build.{nodeWords, Paid, Unpaid, Waiting, resultAt, agreesAt, copyAt, copyAgrees, Buildable, Gives, Stops, added, Turned, elementsAt, ElementsUnpaid, ElementsBackwards, copyAt, CopiesAgreed, CopiesStop, Backwards, Reversed, Copied}
 use Rattle.steps.specs.BuildLaws.{room-left, built-at, pays-is}
 use Rattle.steps.specs.ResultLaws.{copy-kept, copy-agrees-kept, buildable-left}
 
@@ -80,22 +80,22 @@ added-among f k c h = let e : c ≡ suc k + (c - suc k) = omega arith in subst (
 
 ahead-kept : (old new : List ℕ) (top list i node : ℕ) → take top new ≡ take top old → list ≤ top → node ≤ top → Ahead old list i node → Ahead new list i node
 ahead-kept old new top list i node kept l n a =
-    record { is = λ items w m. side items w list l (i + m) ∙ ap (onNames (wrapAt new w)) (a .is items 0 m) ∙ sym (side items w node n m) }
+    record { is = λ w m. side w list l (i + m) ∙ ap (onNames (wrapAt new w)) (a .is 0 m) ∙ sym (side w node n m) }
   where
-    side : (items : List ℕ) (w at : ℕ) → at ≤ top → (m : ℕ) → element m (treeAt items new at w) ≡ onNames (wrapAt new w) (element m (treeAt items old at 0))
-    side items w at h m =
-        ap (element m) (treeAt-wrap items new at w) ∙ onNames-element (wrapAt new w) m (treeAt items new at 0)
-        ∙ ap (λ (t : Tree). onNames (wrapAt new w) (element m t)) (tree-kept items old new top at 0 h (omega arith) kept)
+    side : (w at : ℕ) → at ≤ top → (m : ℕ) → element m (treeAt new at w) ≡ onNames (wrapAt new w) (element m (treeAt old at 0))
+    side w at h m =
+        ap (element m) (treeAt-wrap new at w) ∙ onNames-element (wrapAt new w) m (treeAt new at 0)
+        ∙ ap (λ (t : Tree). onNames (wrapAt new w) (element m t)) (tree-kept old new top at 0 h (omega arith) kept)
 
 -- the list after one element more
 ahead-more : (old cur : List ℕ) (top list k node later : ℕ) → take top cur ≡ take top old → list ≤ top → node ≤ top → Ahead old list k node → Means cur node later tail → Ahead old list (suc k) later
 ahead-more old cur top list k node later kept l n a goes =
     ahead-kept cur old top list (suc k) later (sym kept) l (omega (arith, goes .low))
     (record {
-      is = λ items w m.
+      is = λ w m.
           let z : suc k + m ≡ k + suc m = omega arith in
-          rw z (ahead-kept old cur top list k node kept l n a .is items w (suc m))
-          ∙ sym (element-tail m (treeAt items cur node w)) ∙ ap (element m) (sym (goes .is items w));
+          rw z (ahead-kept old cur top list k node kept l n a .is w (suc m))
+          ∙ sym (element-tail m (treeAt cur node w)) ∙ ap (element m) (sym (goes .is w));
     })
 
 pub along-kept : (old new outer : List ℕ) (top i : ℕ) (inner : List ℕ) → take top new ≡ take top old → Under outer top → Under inner top → AlongAll old outer i inner → AlongAll new outer i inner
@@ -115,43 +115,43 @@ along-kept old new outer top i inner kept u v a k =
 
 -- ---- copies, the last first
 
-module _ (copy : List ℕ → ℕ → Tree) (old : List ℕ) (top fuel : ℕ) (room : Room old top (nodeWords * fuel)) where
+module _ (copy : ℕ → Tree) (old : List ℕ) (top fuel : ℕ) (room : Room old top (nodeWords * fuel)) where
   pub turned-begins : Turned copy old old top fuel 0 top fuel
   unfolding added
-  turned-begins = record { spent = λ items. omega arith; above = omega arith; most = omega arith; kept = refl; means = λ items l m h. absurd (omega arith) }
+  turned-begins = record { spent = omega arith; above = omega arith; most = omega arith; kept = refl; means = λ m h. absurd (omega arith) }
 
   module _ (cur : List ℕ) (k list left : ℕ) (inv : Turned copy old cur top fuel k list left) where
     -- there is no fuel for a pair more, or for its head
-    pub turned-over : (c : ℕ) → k < c → (items : List ℕ) → left < suc (size (copy items k)) → fuel < added (copy items) c
-    turned-over c more items h = omega (arith, inv .spent items, added-among (copy items) k c more)
+    pub turned-over : (c : ℕ) → k < c → left < suc (size (copy k)) → fuel < added copy c
+    turned-over c more h = omega (arith, inv .spent, added-among copy k c more)
 
-    pub turned-none : (c : ℕ) → k < c → left ≡ 0 → (items : List ℕ) → fuel < added (copy items) c
-    turned-none c more z items = turned-over c more items (omega arith)
+    pub turned-none : (c : ℕ) → k < c → left ≡ 0 → fuel < added copy c
+    turned-none c more z = turned-over c more (omega arith)
 
-    module _ (some-fuel : left ≡ 0 → ⊥) (two : List ℕ) (h g : ℕ) (b : Paid (λ items. copy items k) cur two list (left - 1) h g) where
+    module _ (some-fuel : left ≡ 0 → ⊥) (two : List ℕ) (h g : ℕ) (b : Paid (copy k) cur two list (left - 1) h g) where
       pub turned-room : length two ≡ length old → Room two h 3
       turned-room long = room-left old two top fuel h g 3 long (omega (arith, b .most, inv .most)) room
 
-      module _ (new : List ℕ) (r : ℕ) (p : Grown (λ items v. pair (treeAt items two h v) (treeAt items two list v)) two new h r) where
+      module _ (new : List ℕ) (r : ℕ) (p : Grown (λ v. pair (treeAt two h v) (treeAt two list v)) two new h r) where
         pub kept-list : take list new ≡ take list cur
         kept-list = take-less new two list h (b .above) (p .kept) ∙ b .kept
 
-        list-is : (items : List ℕ) → length items ≤ top → treeAt items new r 0 ≡ pair (produce (copy items k)) (treeAt items cur list 0)
-        list-is items l =
-            p .means items 0 (omega arith)
-            ∙ ap₂ pair (b .means items (omega (arith, inv .above))) (tree-kept items cur two list list 0 (omega arith) (omega arith) (b .kept))
+        list-is : treeAt new r 0 ≡ pair (produce (copy k)) (treeAt cur list 0)
+        list-is =
+            p .means 0 (omega arith)
+            ∙ ap₂ pair (b .means) (tree-kept cur two list list 0 (omega arith) (omega arith) (b .kept))
 
-        copies-are : (items : List ℕ) → length items ≤ top → (m : ℕ) → m < suc k → element m (treeAt items new r 0) ≡ produce (copy items (suc k - suc m))
-        copies-are items l zero h′ = ap (element 0) (list-is items l) ∙ element-first _ _ ∙ (let z : k ≡ suc k - 1 = omega arith in ap (λ (i : ℕ). produce (copy items i)) z)
-        copies-are items l (suc m) h′ =
+        copies-are : (m : ℕ) → m < suc k → element m (treeAt new r 0) ≡ produce (copy (suc k - suc m))
+        copies-are zero h′ = ap (element 0) list-is ∙ element-first _ _ ∙ (let z : k ≡ suc k - 1 = omega arith in ap (λ (i : ℕ). produce (copy i)) z)
+        copies-are (suc m) h′ =
             let z : k - suc m ≡ suc k - suc (suc m) = omega arith in
-            ap (element (suc m)) (list-is items l) ∙ element-later m _ _ ∙ inv .means items l m (omega arith) ∙ ap (λ (i : ℕ). produce (copy items i)) z
+            ap (element (suc m)) list-is ∙ element-later m _ _ ∙ inv .means m (omega arith) ∙ ap (λ (i : ℕ). produce (copy i)) z
 
         pub turned-more : Turned copy old new top fuel (suc k) r g
         unfolding added
         turned-more =
             record {
-              spent = λ items. omega (arith, inv .spent items, b .spent items);
+              spent = omega (arith, inv .spent, b .spent);
               above = omega (arith, inv .above, b .above, p .end);
               most = omega (arith, inv .most, b .most, p .end);
               kept = take-less new cur top list (inv .above) kept-list ∙ inv .kept;
@@ -162,7 +162,7 @@ module _ (copy : List ℕ → ℕ → Tree) (old : List ℕ) (top fuel : ℕ) (r
 
 -- k of c copies are built, and the table stands before the next
 pub record Turning (old cur : List ℕ) (top fuel : ℕ) (env : List ℕ) (w e c k list left : ℕ) (table : List ℕ) : Type 0 where
-  pub turned : Turned (copiesAt old env w e) old cur top fuel k list left
+  pub turned : Turned (copyAt old env w e) old cur top fuel k list left
   pub agreed : CopiesAgreed old env w e k
   pub along : AlongAll cur env k table
   pub under : Under table list
@@ -170,30 +170,30 @@ pub record Turning (old cur : List ℕ) (top fuel : ℕ) (env : List ℕ) (w e c
   pub long : length cur ≡ length old
 
 module _ (old : List ℕ) (top fuel : ℕ) (env : List ℕ) (w e c : ℕ) (ok : Buildable old top fuel env w e) where
-  abbrev Copy : List ℕ → ℕ → Tree
-  Copy items = copyAt items old env w e
+  abbrev Copy : ℕ → Tree
+  Copy = copyAt old env w e
 
   pub turning-begins : (table : List ℕ) → AlongAll old env 0 table → ((b : ℕ) → Under env b → Under table b) → Turning old old top fuel env w e c 0 top fuel table
   unfolding allBelow
   turning-begins table a u =
-      record { turned = turned-begins (copiesAt old env w e) old top fuel (ok .room); agreed = λ items. refl; along = a; under = u top (ok .under); among = omega arith; long = refl }
+      record { turned = turned-begins (copyAt old env w e) old top fuel (ok .room); agreed = refl; along = a; under = u top (ok .under); among = omega arith; long = refl }
 
   module _ (cur : List ℕ) (k list left : ℕ) (table : List ℕ) (inv : Turning old cur top fuel env w e c k list left table) (more : k < c) where
     pub copies-none : left ≡ 0 → CopiesStop old cur top fuel env w e c
-    copies-none z = record { over = λ items a. turned-none (copiesAt old env w e) old top fuel (ok .room) cur k list left (inv .turned) c more z items; kept = inv .turned .kept }
+    copies-none z = record { over = λ a. turned-none (copyAt old env w e) old top fuel (ok .room) cur k list left (inv .turned) c more z; kept = inv .turned .kept }
 
     module _ (some-fuel : left ≡ 0 → ⊥) (next : List ℕ) (enters : Enters cur table next) where
-      copy-is : (items : List ℕ) → resultAt items cur next w e ≡ Copy items k
+      copy-is : resultAt cur next w e ≡ Copy k
       unfolding resultAt copyAt
-      copy-is items =
-          rw (enters .goes env k (inv .along) .1 items w)
-          (copy-kept items old cur top (inv .turned .kept) env w e k (ok .wrap-below) (ok .template-below) (ok .under))
+      copy-is =
+          rw (enters .goes env k (inv .along) .1 w)
+          (copy-kept old cur top (inv .turned .kept) env w e k (ok .wrap-below) (ok .template-below) (ok .under))
 
-      agrees-is : (items : List ℕ) → agreesAt items cur next w e ≡ copyAgrees items old env w e k
+      agrees-is : agreesAt cur next w e ≡ copyAgrees old env w e k
       unfolding agreesAt copyAgrees
-      agrees-is items =
-          rw (enters .goes env k (inv .along) .1 items w)
-          (copy-agrees-kept items old cur top (inv .turned .kept) env w e k (ok .wrap-below) (ok .template-below) (ok .under))
+      agrees-is =
+          rw (enters .goes env k (inv .along) .1 w)
+          (copy-agrees-kept old cur top (inv .turned .kept) env w e k (ok .wrap-below) (ok .template-below) (ok .under))
 
       pub copy-buildable : Buildable cur list (left - 1) next w e
       copy-buildable =
@@ -203,22 +203,22 @@ module _ (old : List ℕ) (top fuel : ℕ) (env : List ℕ) (w e c : ℕ) (ok : 
       pub copy-costly : (two : List ℕ) → Stops cur two list (left - 1) next w e → CopiesStop old two top fuel env w e c
       copy-costly two b =
           record {
-            over = λ items a.
-                turned-over (copiesAt old env w e) old top fuel (ok .room) cur k list left (inv .turned) c more items
-                (omega (arith, b .over items (agrees-is items ∙ below-at _ c k more a), ap size (copy-is items)));
+            over = λ a.
+                turned-over (copyAt old env w e) old top fuel (ok .room) cur k list left (inv .turned) c more
+                (omega (arith, b .over (agrees-is ∙ below-at _ c k more a), ap size copy-is));
             kept = take-less two cur top list (inv .turned .above) (b .kept) ∙ inv .turned .kept;
           }
 
       module _ (two : List ℕ) (h g : ℕ) (b : Gives cur two list (left - 1) next w e h g) (far : length two ≡ length cur) where
-        copy-paid : Paid (λ items. Copy items k) cur two list (left - 1) h g
+        copy-paid : Paid (Copy k) cur two list (left - 1) h g
         copy-paid = pays-is _ _ cur two list (left - 1) copy-is (At h g) (b .paid)
 
         pub copy-room : Room two h 3
-        copy-room = turned-room (copiesAt old env w e) old top fuel (ok .room) cur k list left (inv .turned) some-fuel two h g copy-paid (far ∙ inv .long)
+        copy-room = turned-room (copyAt old env w e) old top fuel (ok .room) cur k list left (inv .turned) some-fuel two h g copy-paid (far ∙ inv .long)
 
-        module _ (new : List ℕ) (r : ℕ) (p : Grown (λ items v. pair (treeAt items two h v) (treeAt items two list v)) two new h r) (end : length new ≡ length two) where
+        module _ (new : List ℕ) (r : ℕ) (p : Grown (λ v. pair (treeAt two h v) (treeAt two list v)) two new h r) (end : length new ≡ length two) where
           kept-here : take list new ≡ take list cur
-          kept-here = kept-list (copiesAt old env w e) old top fuel (ok .room) cur k list left (inv .turned) some-fuel two h g copy-paid new r p
+          kept-here = kept-list (copyAt old env w e) old top fuel (ok .room) cur k list left (inv .turned) some-fuel two h g copy-paid new r p
 
           pub turning-more : Turning old new top fuel env w e c (k + 1) r g next
           unfolding allBelow
@@ -226,8 +226,8 @@ module _ (old : List ℕ) (top fuel : ℕ) (env : List ℕ) (w e c : ℕ) (ok : 
               let s : k + 1 ≡ suc k = omega arith in
               rw s
               (record {
-                turned = turned-more (copiesAt old env w e) old top fuel (ok .room) cur k list left (inv .turned) some-fuel two h g copy-paid new r p;
-                agreed = λ items. rw (inv .agreed items, ← agrees-is items, b .agrees items) refl;
+                turned = turned-more (copyAt old env w e) old top fuel (ok .room) cur k list left (inv .turned) some-fuel two h g copy-paid new r p;
+                agreed = rw (inv .agreed, ← agrees-is, b .agrees) refl;
                 along = along-kept cur new env list (suc k) next kept-here (λ i. omega (arith, ok .under i, inv .turned .above)) (enters .low list (inv .under)) (subst (λ (i : ℕ). AlongAll cur env i next) s (enters .goes env k (inv .along) .0));
                 under = λ i. omega (arith, enters .low list (inv .under) i, b .paid .above, p .end);
                 among = omega arith;
@@ -237,10 +237,10 @@ module _ (old : List ℕ) (top fuel : ℕ) (env : List ℕ) (w e c : ℕ) (ok : 
   pub turning-ends : (cur : List ℕ) (k list left : ℕ) (table : List ℕ) → Turning old cur top fuel env w e c k list left table → c ≤ k → Backwards old cur top fuel env w e c (At list left)
   turning-ends cur k list left table inv h =
       let z : k ≡ c = omega (arith, inv .among) in
-      (subst (λ (n : ℕ). Turned (copiesAt old env w e) old cur top fuel n list left) z (inv .turned), subst (λ (n : ℕ). CopiesAgreed old env w e n) z (inv .agreed))
+      (subst (λ (n : ℕ). Turned (copyAt old env w e) old cur top fuel n list left) z (inv .turned), subst (λ (n : ℕ). CopiesAgreed old env w e n) z (inv .agreed))
 
   pub backwards-packed : (new : List ℕ) (p list left : ℕ) → p ≡ packed list left → Backwards old new top fuel env w e c (At list left) → Backwards old new top fuel env w e c (builtOf p)
-  backwards-packed new p list left q b = built-at (Backwards old new top fuel env w e c) old top fuel p list left (ok .room) (omega (arith, b .0 .spent [])) q b
+  backwards-packed new p list left q b = built-at (Backwards old new top fuel env w e c) old top fuel p list left (ok .room) (omega (arith, b .0 .spent)) q b
 
 -- ---- elements of a list
 
@@ -257,7 +257,7 @@ module _ (old : List ℕ) (top fuel list w c : ℕ) (ok : Waiting old top fuel l
   going-begins =
       record {
         turned = turned-begins (elementsAt old list w) old top fuel (ok .room);
-        ahead = record { is = λ items v m. let z : 0 + m ≡ m = omega arith in rw z refl };
+        ahead = record { is = λ v m. let z : 0 + m ≡ m = omega arith in rw z refl };
         node-low = ok .node-below;
         among = omega arith;
         long = refl;
@@ -269,13 +269,13 @@ module _ (old : List ℕ) (top fuel list w c : ℕ) (ok : Waiting old top fuel l
 
     module _ (more : k < c) where
       pub elements-none : left ≡ 0 → ElementsUnpaid old cur top fuel list w c
-      elements-none z = record { over = λ items. turned-none (elementsAt old list w) old top fuel (ok .room) cur k at left (inv .turned) c more z items; kept = inv .turned .kept }
+      elements-none z = record { over = turned-none (elementsAt old list w) old top fuel (ok .room) cur k at left (inv .turned) c more z; kept = inv .turned .kept }
 
       module _ (some-fuel : left ≡ 0 → ⊥) (first : ℕ) (means : Means cur node first (element 0)) where
-        element-at : (items : List ℕ) → treeAt items cur first w ≡ elementsAt old list w items k
-        element-at items =
+        element-at : treeAt cur first w ≡ elementsAt old list w k
+        element-at =
             let z : k + 0 ≡ k = omega arith in
-            means .is items w ∙ ap (element 0) (tree-kept items old cur top node w (inv .node-low) (ok .wrap-below) (inv .turned .kept)) ∙ sym (inv .ahead .is items w 0) ∙ rw z refl
+            means .is w ∙ ap (element 0) (tree-kept old cur top node w (inv .node-low) (ok .wrap-below) (inv .turned .kept)) ∙ sym (inv .ahead .is w 0) ∙ rw z refl
 
         pub element-waits : Waiting cur at (left - 1) first w
         element-waits =
@@ -285,15 +285,15 @@ module _ (old : List ℕ) (top fuel list w c : ℕ) (ok : Waiting old top fuel l
               wrap-below = omega (arith, ok .wrap-below, inv .turned .above);
             }
 
-        pub element-costly : (two : List ℕ) → Unpaid (λ items. treeAt items cur first w) cur two at (left - 1) → ElementsUnpaid old two top fuel list w c
+        pub element-costly : (two : List ℕ) → Unpaid (treeAt cur first w) cur two at (left - 1) → ElementsUnpaid old two top fuel list w c
         element-costly two b =
             record {
-              over = λ items. turned-over (elementsAt old list w) old top fuel (ok .room) cur k at left (inv .turned) c more items (omega (arith, b .over items, ap size (element-at items)));
+              over = turned-over (elementsAt old list w) old top fuel (ok .room) cur k at left (inv .turned) c more (omega (arith, b .over, ap size element-at));
               kept = take-less two cur top at (inv .turned .above) (b .kept) ∙ inv .turned .kept;
             }
 
-        module _ (two : List ℕ) (h g : ℕ) (b : Paid (λ items. treeAt items cur first w) cur two at (left - 1) h g) (far : length two ≡ length cur) where
-          element-paid : Paid (λ items. elementsAt old list w items k) cur two at (left - 1) h g
+        module _ (two : List ℕ) (h g : ℕ) (b : Paid (treeAt cur first w) cur two at (left - 1) h g) (far : length two ≡ length cur) where
+          element-paid : Paid (elementsAt old list w k) cur two at (left - 1) h g
           element-paid = pays-is _ _ cur two at (left - 1) element-at (At h g) b
 
           pub element-room : Room two h 3
@@ -302,7 +302,7 @@ module _ (old : List ℕ) (top fuel list w c : ℕ) (ok : Waiting old top fuel l
           two-kept : take top two ≡ take top old
           two-kept = take-less two cur top at (inv .turned .above) (b .kept) ∙ inv .turned .kept
 
-          pub going-more : (later : ℕ) → Means two node later tail → (new : List ℕ) (r : ℕ) → Grown (λ items v. pair (treeAt items two h v) (treeAt items two at v)) two new h r → length new ≡ length two → Going old new top fuel list w c (k + 1) r later g
+          pub going-more : (later : ℕ) → Means two node later tail → (new : List ℕ) (r : ℕ) → Grown (λ v. pair (treeAt two h v) (treeAt two at v)) two new h r → length new ≡ length two → Going old new top fuel list w c (k + 1) r later g
           going-more later goes new r p end =
               let s : k + 1 ≡ suc k = omega arith in
               rw s
@@ -315,7 +315,7 @@ module _ (old : List ℕ) (top fuel list w c : ℕ) (ok : Waiting old top fuel l
               })
 
   pub elements-packed : (new : List ℕ) (p at left : ℕ) → p ≡ packed at left → Turned (elementsAt old list w) old new top fuel c at left → ElementsBackwards old new top fuel list w c (builtOf p)
-  elements-packed new p at left q t = built-at (ElementsBackwards old new top fuel list w c) old top fuel p at left (ok .room) (omega (arith, t .spent [])) q t
+  elements-packed new p at left q t = built-at (ElementsBackwards old new top fuel list w c) old top fuel p at left (ok .room) (omega (arith, t .spent)) q t
 
 -- ---- a list turned round before a tail
 
@@ -328,7 +328,7 @@ pub record Reversing (old cur : List ℕ) (top list tail c k at node rest : ℕ)
   pub kept : take top cur ≡ take top old
   pub ahead : Ahead old list k node
   pub among : k ≤ c
-  pub means : (items : List ℕ) → treeAt items cur rest 0 ≡ copies (λ i. element (c - suc i) (treeAt items old list 0)) (c - k) k (treeAt items old tail 0)
+  pub means : treeAt cur rest 0 ≡ copies (λ i. element (c - suc i) (treeAt old list 0)) (c - k) k (treeAt old tail 0)
   pub long : length cur ≡ length old
 
 module _ (old : List ℕ) (top list behind c : ℕ) (room : Room old top (3 * c)) (list-low : list ≤ top) (tail-low : behind ≤ top) where
@@ -341,9 +341,9 @@ module _ (old : List ℕ) (top list behind c : ℕ) (room : Room old top (3 * c)
         rest-low = tail-low;
         above = omega arith;
         kept = refl;
-        ahead = record { is = λ items w m. let z : 0 + m ≡ m = omega arith in rw z refl };
+        ahead = record { is = λ w m. let z : 0 + m ≡ m = omega arith in rw z refl };
         among = omega arith;
-        means = λ items. refl;
+        means = refl;
         long = refl;
       }
 
@@ -355,9 +355,9 @@ module _ (old : List ℕ) (top list behind c : ℕ) (room : Room old top (3 * c)
           above = inv .above;
           most = omega (arith, inv .rest-low, inv .at-is);
           kept = inv .kept;
-          means = λ items.
+          means =
               let y : c - k ≡ 0 = omega arith in
-              inv .means items ∙ rw (y, z) refl;
+              inv .means ∙ rw (y, z) refl;
         }
 
     module _ (more : k < c) (first : ℕ) (means : Means cur node first (element 0)) where
@@ -368,14 +368,14 @@ module _ (old : List ℕ) (top list behind c : ℕ) (room : Room old top (3 * c)
         inv .rest-low,
       )
 
-      module _ (new : List ℕ) (r : ℕ) (p : Grown (λ items v. pair (treeAt items cur first v) (treeAt items cur rest v)) cur new at r) (end : length new ≡ length cur) where
+      module _ (new : List ℕ) (r : ℕ) (p : Grown (λ v. pair (treeAt cur first v) (treeAt cur rest v)) cur new at r) (end : length new ≡ length cur) where
         kept-top : take top new ≡ take top cur
         kept-top = take-less new cur top at (omega (arith, inv .at-is)) (p .kept)
 
-        first-is : (items : List ℕ) → treeAt items cur first 0 ≡ element k (treeAt items old list 0)
-        first-is items =
+        first-is : treeAt cur first 0 ≡ element k (treeAt old list 0)
+        first-is =
             let z : k + 0 ≡ k = omega arith in
-            means .is items 0 ∙ ap (element 0) (tree-kept items old cur top node 0 (inv .node-low) (omega arith) (inv .kept)) ∙ sym (inv .ahead .is items 0 0) ∙ rw z refl
+            means .is 0 ∙ ap (element 0) (tree-kept old cur top node 0 (inv .node-low) (omega arith) (inv .kept)) ∙ sym (inv .ahead .is 0 0) ∙ rw z refl
 
         pub reversing-more : (later : ℕ) → Means new node later tail → Reversing old new top list behind c (k + 1) r later r
         unfolding copies
@@ -390,13 +390,13 @@ module _ (old : List ℕ) (top list behind c : ℕ) (room : Room old top (3 * c)
               kept = kept-top ∙ inv .kept;
               ahead = ahead-more old new top list k node later (kept-top ∙ inv .kept) list-low (inv .node-low) (inv .ahead) goes;
               among = omega arith;
-              means = λ items.
+              means =
                   let a : suc (c - suc k) ≡ c - k = omega arith in
                   let b : c - suc (c - suc k) ≡ k = omega arith in
-                  p .means items 0 (omega arith)
+                  p .means 0 (omega arith)
                   ∙ ap₂ pair
-                  (first-is items ∙ ap (λ (i : ℕ). element i (treeAt items old list 0)) (sym b))
-                  (inv .means items ∙ ap (λ (i : ℕ). copies (λ j. element (c - suc j) (treeAt items old list 0)) i k (treeAt items old behind 0)) (sym a));
+                  (first-is ∙ ap (λ (i : ℕ). element i (treeAt old list 0)) (sym b))
+                  (inv .means ∙ ap (λ (i : ℕ). copies (λ j. element (c - suc j) (treeAt old list 0)) i k (treeAt old behind 0)) (sym a));
               long = end ∙ inv .long;
             })
 
@@ -413,18 +413,18 @@ module _ (old : List ℕ) (top fuel : ℕ) (env : List ℕ) (w e c : ℕ) (ok : 
         above = a .above;
         most = omega (arith, a .most, b .0 .most);
         kept = take-less new mid top list (b .0 .above) (a .kept) ∙ b .0 .kept;
-        means = λ items l.
-            a .means items
+        means =
+            a .means
             ∙ copies-below _ _ 0 c _ _
             (λ i h.
             let z : c - suc (c - suc i) ≡ i = omega arith in
-            b .0 .means items l (c - suc i) (omega arith) ∙ ap (λ (j : ℕ). produce (copyAt items old env w e j)) z)
-            (tree-kept items old mid top top 0 (omega arith) (omega arith) (b .0 .kept));
+            b .0 .means (c - suc i) (omega arith) ∙ ap (λ (j : ℕ). produce (copyAt old env w e j)) z)
+            (tree-kept old mid top top 0 (omega arith) (omega arith) (b .0 .kept));
         agreed = b .1;
       }
 
   pub copied-packed : (new : List ℕ) (r p : ℕ) → p ≡ packed r left → Reversed mid new list list top c r → Copied old new top fuel env w e c (builtOf p)
-  copied-packed new r p q a = built-at (Copied old new top fuel env w e c) old top fuel p r left (ok .room) (omega (arith, b .0 .spent [])) q (copied new r a)
+  copied-packed new r p q a = built-at (Copied old new top fuel env w e c) old top fuel p r left (ok .room) (omega (arith, b .0 .spent)) q (copied new r a)
 
 -- ---- a variable that takes a list's elements
 
@@ -437,30 +437,30 @@ module _ (old : List ℕ) (top fuel : ℕ) (env : List ℕ) (w e c : ℕ) (ok : 
   unfolding wordAt within
   none-tag h = omega (arith, h)
 
-  pattern-some : (items : List ℕ) → patternIn items old (field env k 3) ≡ some (variableP (wordAt old (field env k 3) 2))
+  pattern-some : patternIn old (field env k 3) ≡ some (variableP (wordAt old (field env k 3) 2))
   unfolding patternIn
-  pattern-some items =
+  pattern-some =
       let q : wordAt old (field env k 3) 1 ≡ 1 = rw k-is (listed .element-is) in
-      rw (ne-eqb (field env k 3) 0 (λ z. none-tag (subst (λ (x : ℕ). wordAt old x 1 ≡ 1) z q)), patternAt-variable items old (field env k 3) q) refl
+      rw (ne-eqb (field env k 3) 0 (λ z. none-tag (subst (λ (x : ℕ). wordAt old x 1 ≡ 1) z q)), patternAt-variable old (field env k 3) q) refl
 
-  pub listed-copy : (items : List ℕ) (i : ℕ) → copyAt items old env w e i ≡ elementsAt old list w items i
+  pub listed-copy : (i : ℕ) → copyAt old env w e i ≡ elementsAt old list w i
   unfolding copyAt resultBy takes enter entering environmentAt takingOf entryAt part takenIn level
-  listed-copy items i =
-      rw (templateAt-variable items old e (listed .variable), listed .once, ← k-is, list-is, pattern-some items) refl
+  listed-copy i =
+      rw (templateAt-variable old e (listed .variable), listed .once, ← k-is, list-is, pattern-some) refl
 
-  listed-agrees : (items : List ℕ) → allBelow (copyAgrees items old env w e) c ≡ true
+  listed-agrees : allBelow (copyAgrees old env w e) c ≡ true
   unfolding copyAgrees
-  listed-agrees items = sym (copies-flat old env e c (flat-leaf old e _ refl (λ z. omega (arith, listed .variable)) (λ z. omega (arith, listed .variable))) items w)
+  listed-agrees = sym (copies-flat old env e c (flat-leaf old e _ refl (λ z. omega (arith, listed .variable)) (λ z. omega (arith, listed .variable))) w)
 
   pub listed-backwards : (new : List ℕ) (r : Built) → ElementsBackwards old new top fuel list w c r → Backwards old new top fuel env w e c r
   listed-backwards new (At l left) t = (
     record {
-      spent = λ items. omega (arith, t .spent items, added-cong _ _ c (listed-copy items));
+      spent = omega (arith, t .spent, added-cong _ _ c listed-copy);
       above = t .above;
       most = t .most;
       kept = t .kept;
-      means = λ items h m n. t .means items h m n ∙ ap produce (sym (listed-copy items (c - suc m)));
+      means = λ m n. t .means m n ∙ ap produce (sym (listed-copy (c - suc m)));
     },
     listed-agrees,
   )
-  listed-backwards new Stopped t = record { over = λ items a. omega (arith, t .over items, added-cong _ _ c (listed-copy items)); kept = t .kept }
+  listed-backwards new Stopped t = record { over = λ a. omega (arith, t .over, added-cong _ _ c listed-copy); kept = t .kept }

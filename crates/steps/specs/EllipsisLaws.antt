@@ -23,55 +23,55 @@ use Rattle.steps.specs.CopyLaws.{produce-copies, size-all-copies, added-
 
 module _ (old : List ℕ) (top fuel : ℕ) (env : List ℕ) (w t tag : ℕ) (tag-is : tag ≡ wordAt old t 1) (ok : Buildable old top fuel env w t) (head rest : ℕ) (head-is : head ≡ referenceAt old t 3) (rest-is : rest ≡ referenceAt old t 2)
     (e : tag ≡ 7) (c : ℕ) (c-is : Copies old env head c) (b : Bool) (b-is : AllOf old env 0 head c b) where
-  template-is : (items : List ℕ) → templateAt items old t ≡ ellipsisT (templateAt items old head) (templateAt items old rest)
-  template-is items = ellipsis-is items old t tag head rest tag-is head-is rest-is e
+  template-is : templateAt old t ≡ ellipsisT (templateAt old head) (templateAt old rest)
+  template-is = ellipsis-is old t tag head rest tag-is head-is rest-is e
 
-  parts-plain : (items : List ℕ) → Plain (templateAt items old head) × Plain (templateAt items old rest)
-  parts-plain items = plain-ellipsis _ _ (subst Plain (template-is items) (ok .plain items))
+  parts-plain : Plain (templateAt old head) × Plain (templateAt old rest)
+  parts-plain = plain-ellipsis _ _ (subst Plain template-is (ok .plain))
 
-  abbrev Copy : List ℕ → ℕ → Tree
-  Copy items = copyAt items old env w head
+  abbrev Copy : ℕ → Tree
+  Copy = copyAt old env w head
 
-  of-ellipsis : (items : List ℕ) → resultAt items old env w t ≡ copies (Copy items) 0 c (resultAt items old env w rest)
+  of-ellipsis : resultAt old env w t ≡ copies Copy 0 c (resultAt old env w rest)
   unfolding resultAt copyAt resultBy
-  of-ellipsis items = rw (template-is items, c-is items w) refl
+  of-ellipsis = rw (template-is, c-is w) refl
 
-  size-ellipsis : (items : List ℕ) → size (resultAt items old env w t) ≡ added (Copy items) c + size (resultAt items old env w rest)
-  size-ellipsis items = ap size (of-ellipsis items) ∙ size-all-copies (Copy items) c (resultAt items old env w rest)
+  size-ellipsis : size (resultAt old env w t) ≡ added Copy c + size (resultAt old env w rest)
+  size-ellipsis = ap size of-ellipsis ∙ size-all-copies Copy c (resultAt old env w rest)
 
-  agrees-ellipsis : (items : List ℕ) → agreesAt items old env w t ≡ (b && (allBelow (copyAgrees items old env w head) c && agreesAt items old env w rest))
+  agrees-ellipsis : agreesAt old env w t ≡ (b && (allBelow (copyAgrees old env w head) c && agreesAt old env w rest))
   unfolding agreesAt copyAgrees agreeBy driving
-  agrees-ellipsis items = rw (template-is items, ← c-is items w, ← b-is items w) refl
+  agrees-ellipsis = rw (template-is, ← c-is w, ← b-is w) refl
 
   pub ellipsis-differs : b ≡ false → Made old old top fuel env w t Stopped
-  ellipsis-differs bad = record { over = λ items a. absurd (false≢true (sym bad ∙ both b _ (sym (agrees-ellipsis items) ∙ a) .0)); kept = refl }
+  ellipsis-differs bad = record { over = λ a. absurd (false≢true (sym bad ∙ both b _ (sym agrees-ellipsis ∙ a) .0)); kept = refl }
 
-  rest-agrees : (items : List ℕ) → agreesAt items old env w t ≡ true → (allBelow (copyAgrees items old env w head) c ≡ true) × (agreesAt items old env w rest ≡ true)
-  rest-agrees items a = both (allBelow (copyAgrees items old env w head) c) _ (both b _ (sym (agrees-ellipsis items) ∙ a) .1)
+  rest-agrees : agreesAt old env w t ≡ true → (allBelow (copyAgrees old env w head) c ≡ true) × (agreesAt old env w rest ≡ true)
+  rest-agrees a = both (allBelow (copyAgrees old env w head) c) _ (both b _ (sym agrees-ellipsis ∙ a) .1)
 
   pub ellipsis-rest : Buildable old top fuel env w rest
-  ellipsis-rest = record { room = ok .room; plain = λ items. parts-plain items .1; under = ok .under; wrap-below = ok .wrap-below; template-below = omega (arith, ok .template-below, referenceAt-most old t 2) }
+  ellipsis-rest = record { room = ok .room; plain = parts-plain .1; under = ok .under; wrap-below = ok .wrap-below; template-below = omega (arith, ok .template-below, referenceAt-most old t 2) }
 
   pub ellipsis-rest-costly : (one : List ℕ) → Stops old one top fuel env w rest → Made old one top fuel env w t Stopped
-  ellipsis-rest-costly one s = record { over = λ items a. omega (arith, s .over items (rest-agrees items a .1), size-ellipsis items); kept = s .kept }
+  ellipsis-rest-costly one s = record { over = λ a. omega (arith, s .over (rest-agrees a .1), size-ellipsis); kept = s .kept }
 
   module _ (good : b ≡ true) (one : List ℕ) (s f : ℕ) (g : Gives old one top fuel env w rest s f) (long : length one ≡ length old) where
     head-buildable : Buildable old top fuel env w head
-    head-buildable = record { room = ok .room; plain = λ items. parts-plain items .0; under = ok .under; wrap-below = ok .wrap-below; template-below = omega (arith, ok .template-below, referenceAt-most old t 3) }
+    head-buildable = record { room = ok .room; plain = parts-plain .0; under = ok .under; wrap-below = ok .wrap-below; template-below = omega (arith, ok .template-below, referenceAt-most old t 3) }
 
     pub ellipsis-copies : Buildable one s f env w head
     ellipsis-copies = buildable-left old one top fuel s f env w head head-buildable (g .paid .kept) long (g .paid .above) (g .paid .most)
 
-    at-kept : (items : List ℕ) (i : ℕ) → copyAt items one env w head i ≡ Copy items i
-    at-kept items i = copy-kept items old one top (g .paid .kept) env w head i (ok .wrap-below) (head-buildable .template-below) (ok .under)
+    at-kept : (i : ℕ) → copyAt one env w head i ≡ Copy i
+    at-kept i = copy-kept old one top (g .paid .kept) env w head i (ok .wrap-below) (head-buildable .template-below) (ok .under)
 
-    agreed-kept : (items : List ℕ) → allBelow (copyAgrees items one env w head) c ≡ allBelow (copyAgrees items old env w head) c
-    agreed-kept items = below-cong _ _ c (λ i. copy-agrees-kept items old one top (g .paid .kept) env w head i (ok .wrap-below) (head-buildable .template-below) (ok .under))
+    agreed-kept : allBelow (copyAgrees one env w head) c ≡ allBelow (copyAgrees old env w head) c
+    agreed-kept = below-cong _ _ c (λ i. copy-agrees-kept old one top (g .paid .kept) env w head i (ok .wrap-below) (head-buildable .template-below) (ok .under))
 
     ellipsis-costly : (new : List ℕ) → Copied one new s f env w head c Stopped → Made old new top fuel env w t Stopped
     ellipsis-costly new a =
         record {
-          over = λ items h. omega (arith, a .over items (agreed-kept items ∙ rest-agrees items h .0), added-cong _ _ c (at-kept items), g .paid .spent items, size-ellipsis items);
+          over = λ h. omega (arith, a .over (agreed-kept ∙ rest-agrees h .0), added-cong _ _ c at-kept, g .paid .spent, size-ellipsis);
           kept = take-less new one top s (g .paid .above) (a .kept) ∙ g .paid .kept;
         }
 
@@ -80,16 +80,16 @@ module _ (old : List ℕ) (top fuel : ℕ) (env : List ℕ) (w t tag : ℕ) (tag
         record {
           paid =
               record {
-                spent = λ items. omega (arith, a .spent items, added-cong _ _ c (at-kept items), g .paid .spent items, size-ellipsis items);
+                spent = omega (arith, a .spent, added-cong _ _ c at-kept, g .paid .spent, size-ellipsis);
                 above = omega (arith, a .above, g .paid .above);
                 most = omega (arith, a .most, g .paid .most);
                 kept = take-less new one top s (g .paid .above) (a .kept) ∙ g .paid .kept;
-                means = λ items h.
-                    a .means items (omega (arith, g .paid .above))
-                    ∙ copies-cong _ _ 0 c _ _ (λ i. ap produce (at-kept items i)) (g .paid .means items h)
-                    ∙ sym (ap produce (of-ellipsis items) ∙ produce-copies (Copy items) 0 c (resultAt items old env w rest));
+                means =
+                    a .means
+                    ∙ copies-cong _ _ 0 c _ _ (λ i. ap produce (at-kept i)) (g .paid .means)
+                    ∙ sym (ap produce of-ellipsis ∙ produce-copies Copy 0 c (resultAt old env w rest));
               };
-          agrees = λ items. agrees-ellipsis items ∙ rw (good, ← agreed-kept items, a .agreed items, g .agrees items) refl;
+          agrees = agrees-ellipsis ∙ rw (good, ← agreed-kept, a .agreed, g .agrees) refl;
         }
 
     pub made-copies : (new : List ℕ) (r : Built) → Copied one new s f env w head c r → Made old new top fuel env w t r

@@ -35,38 +35,38 @@ bothFit-fits f g = andThen-fits (f .0) (f .1) g
 
 -- ---- what a node is matched with
 
-module _ (items work : List ℕ) (u w kind : ℕ) (kind-is : kind ≡ wordAt work u 3) where
-  pub literal-no-name : (p : ℕ) → (kind ≡ 3 → ⊥) → LiteralFits items work p u w false
+module _ (work : List ℕ) (u w kind : ℕ) (kind-is : kind ≡ wordAt work u 3) where
+  pub literal-no-name : (p : ℕ) → (kind ≡ 3 → ⊥) → LiteralFits work p u w false
   unfolding fit onName misfit
   literal-no-name p other =
-      tree-cases items work u w (λ t. false ≡ fit (literalP (literalAt items work p)) t .1) (λ z. refl) (λ z. absurd (other (kind-is ∙ z))) (λ z. refl) (λ a b c. refl)
+      tree-cases work u w (λ t. false ≡ fit (literalP (literalAt work p)) t .1) (λ z. refl) (λ z. absurd (other (kind-is ∙ z))) (λ z. refl) (λ a b c. refl)
 
-  pub literal-name : (p number binding : ℕ) (r : Bool) → kind ≡ 3 → number ≡ wordAt work p 3 → binding ≡ wordAt work p 2 → Agrees number binding (nameAt items work u w) r → LiteralFits items work p u w r
+  pub literal-name : (p number binding : ℕ) (r : Bool) → kind ≡ 3 → number ≡ wordAt work p 3 → binding ≡ wordAt work p 2 → Agrees number binding (nameAt work u w) r → LiteralFits work p u w r
   unfolding fit onName literalAt
-  literal-name p number binding r e h l a = rw (treeAt-name items work u w (sym kind-is ∙ e)) (a (literalAt items work p) (sym h) (bindingKey-of _ ∙ sym l))
+  literal-name p number binding r e h l a = rw (treeAt-name work u w (sym kind-is ∙ e)) (a (literalAt work p) (sym h) (bindingKey-of _ ∙ sym l))
 
-  pub pair-no-pair : (p : ℕ) (q s : Pattern) → (kind ≡ 4 → ⊥) → false ≡ fit (pairP q s) (treeAt items work u w) .1
+  pub pair-no-pair : (p : ℕ) (q s : Pattern) → (kind ≡ 4 → ⊥) → false ≡ fit (pairP q s) (treeAt work u w) .1
   unfolding fit onPair misfit
-  pair-no-pair p q s other = no-pair work u kind kind-is (λ t. false ≡ fit (pairP q s) t .1) refl (λ x. refl) (λ a. refl) other items w
+  pair-no-pair p q s other = no-pair work u kind kind-is (λ t. false ≡ fit (pairP q s) t .1) refl (λ x. refl) (λ a. refl) other w
 
-  pub pair-pair : (q s : Pattern) → kind ≡ 4 → fit (pairP q s) (treeAt items work u w) .1 ≡ (fit q (treeAt items work (referenceAt work u 2) w) .1 && fit s (treeAt items work (referenceAt work u 1) w) .1)
+  pub pair-pair : (q s : Pattern) → kind ≡ 4 → fit (pairP q s) (treeAt work u w) .1 ≡ (fit q (treeAt work (referenceAt work u 2) w) .1 && fit s (treeAt work (referenceAt work u 1) w) .1)
   unfolding fit onPair
-  pair-pair q s e = rw (treeAt-pair items work u w (sym kind-is ∙ e)) (bothFit-fits _ _)
+  pair-pair q s e = rw (treeAt-pair work u w (sym kind-is ∙ e)) (bothFit-fits _ _)
 
-  pub each-pair : (q : Pattern) → kind ≡ 4 → eachFits (fit q) (treeAt items work u w) .1 ≡ (fit q (treeAt items work (referenceAt work u 2) w) .1 && eachFits (fit q) (treeAt items work (referenceAt work u 1) w) .1)
+  pub each-pair : (q : Pattern) → kind ≡ 4 → eachFits (fit q) (treeAt work u w) .1 ≡ (fit q (treeAt work (referenceAt work u 2) w) .1 && eachFits (fit q) (treeAt work (referenceAt work u 1) w) .1)
   unfolding eachFits
-  each-pair q e = rw (treeAt-pair items work u w (sym kind-is ∙ e)) (bothFit-fits _ _)
+  each-pair q e = rw (treeAt-pair work u w (sym kind-is ∙ e)) (bothFit-fits _ _)
 
-  pub each-end : (p : ℕ) → (kind ≡ 4 → ⊥) → EachFits items work p u w (eqb kind 0)
+  pub each-end : (p : ℕ) → (kind ≡ 4 → ⊥) → EachFits work p u w (eqb kind 0)
   unfolding eachFits fitting misfit
   each-end p other =
-      tree-cases items work u w (λ t. eqb kind 0 ≡ eachFits (fit (patternAt items work p)) t .1)
+      tree-cases work u w (λ t. eqb kind 0 ≡ eachFits (fit (patternAt work p)) t .1)
       (λ z. eq-eqb kind 0 (kind-is ∙ z)) (λ z. ne-eqb kind 0 (λ y. omega arith)) (λ z. absurd (other (kind-is ∙ z))) (λ a b c. ne-eqb kind 0 (λ y. a (sym kind-is ∙ y)))
 
-  pub empty-fits : eqb kind 0 ≡ fit emptyP (treeAt items work u w) .1
+  pub empty-fits : eqb kind 0 ≡ fit emptyP (treeAt work u w) .1
   unfolding fit onEmpty fitting misfit
   empty-fits =
-      tree-cases items work u w (λ t. eqb kind 0 ≡ fit emptyP t .1)
+      tree-cases work u w (λ t. eqb kind 0 ≡ fit emptyP t .1)
       (λ z. eq-eqb kind 0 (kind-is ∙ z)) (λ z. ne-eqb kind 0 (λ y. omega arith)) (λ z. ne-eqb kind 0 (λ y. omega arith)) (λ a b c. ne-eqb kind 0 (λ y. a (sym kind-is ∙ y)))
 
   -- ---- constants
@@ -75,125 +75,125 @@ module _ (items work : List ℕ) (u w kind : ℕ) (kind-is : kind ≡ wordAt wor
     abbrev Against : Tree → Type 0
     Against t = false ≡ fit (constantP (constantBefore work p)) t .1
 
-    pub constant-empty : kind ≡ 0 → Against (treeAt items work u w)
+    pub constant-empty : kind ≡ 0 → Against (treeAt work u w)
     unfolding fit onConstant misfit
-    constant-empty e = rw (treeAt-empty items work u w (sym kind-is ∙ e)) refl
+    constant-empty e = rw (treeAt-empty work u w (sym kind-is ∙ e)) refl
 
-    pub constant-name : kind ≡ 3 → Against (treeAt items work u w)
+    pub constant-name : kind ≡ 3 → Against (treeAt work u w)
     unfolding fit onConstant misfit
-    constant-name e = rw (treeAt-name items work u w (sym kind-is ∙ e)) refl
+    constant-name e = rw (treeAt-name work u w (sym kind-is ∙ e)) refl
 
-    pub constant-pair : kind ≡ 4 → Against (treeAt items work u w)
+    pub constant-pair : kind ≡ 4 → Against (treeAt work u w)
     unfolding fit onConstant misfit
-    constant-pair e = rw (treeAt-pair items work u w (sym kind-is ∙ e)) refl
+    constant-pair e = rw (treeAt-pair work u w (sym kind-is ∙ e)) refl
 
-    pub constant-constant : (kind ≡ 0 → ⊥) → (kind ≡ 3 → ⊥) → (kind ≡ 4 → ⊥) → fit (constantP (constantBefore work p)) (treeAt items work u w) .1 ≡ (eqb (wordAt work p 4) kind && (eqb (wordAt work p 3) (wordAt work u 2) && eqb (wordAt work p 2) (wordAt work u 1)))
+    pub constant-constant : (kind ≡ 0 → ⊥) → (kind ≡ 3 → ⊥) → (kind ≡ 4 → ⊥) → fit (constantP (constantBefore work p)) (treeAt work u w) .1 ≡ (eqb (wordAt work p 4) kind && (eqb (wordAt work p 3) (wordAt work u 2) && eqb (wordAt work p 2) (wordAt work u 1)))
     unfolding fit onConstant matches constantBefore constantAt
-    constant-constant a b c = rw (treeAt-constant items work u w (λ z. a (kind-is ∙ z)) (λ z. b (kind-is ∙ z)) (λ z. c (kind-is ∙ z)), kind-is) refl
+    constant-constant a b c = rw (treeAt-constant work u w (λ z. a (kind-is ∙ z)) (λ z. b (kind-is ∙ z)) (λ z. c (kind-is ∙ z)), kind-is) refl
 
 -- one of the three words differs, or none before the last
 module _ (work : List ℕ) (p u kind : ℕ) (kind-is : kind ≡ wordAt work u 3) where
   pub constant-no : (kind ≡ 0) ⊎ ((kind ≡ 3) ⊎ (kind ≡ 4)) → ConstantFits work p u false
-  constant-no (inl e) items w = constant-empty items work u w kind kind-is p e
-  constant-no (inr (inl e)) items w = constant-name items work u w kind kind-is p e
-  constant-no (inr (inr e)) items w = constant-pair items work u w kind kind-is p e
+  constant-no (inl e) w = constant-empty work u w kind kind-is p e
+  constant-no (inr (inl e)) w = constant-name work u w kind kind-is p e
+  constant-no (inr (inr e)) w = constant-pair work u w kind kind-is p e
 
   module _ (a : kind ≡ 0 → ⊥) (b : kind ≡ 3 → ⊥) (c : kind ≡ 4 → ⊥) (k : ℕ) (k-is : k ≡ wordAt work p 4) where
     pub constant-kinds : (k ≡ kind → ⊥) → ConstantFits work p u false
-    constant-kinds n items w = sym (constant-constant items work u w kind kind-is p a b c ∙ rw (← k-is, ne-eqb k kind n))
+    constant-kinds n w = sym (constant-constant work u w kind kind-is p a b c ∙ rw (← k-is, ne-eqb k kind n))
 
     module _ (same : k ≡ kind) (x y : ℕ) (x-is : x ≡ wordAt work p 3) (y-is : y ≡ wordAt work u 2) where
       pub constant-firsts : (x ≡ y → ⊥) → ConstantFits work p u false
-      constant-firsts n items w = sym (constant-constant items work u w kind kind-is p a b c ∙ rw (← k-is, eq-eqb k kind same, ← x-is, ← y-is, ne-eqb x y n))
+      constant-firsts n w = sym (constant-constant work u w kind kind-is p a b c ∙ rw (← k-is, eq-eqb k kind same, ← x-is, ← y-is, ne-eqb x y n))
 
       pub constant-seconds : x ≡ y → (v z : ℕ) → v ≡ wordAt work p 2 → z ≡ wordAt work u 1 → ConstantFits work p u (eqb v z)
-      constant-seconds e v z v-is z-is items w = sym (constant-constant items work u w kind kind-is p a b c ∙ rw (← k-is, eq-eqb k kind same, ← x-is, ← y-is, eq-eqb x y e, ← v-is, ← z-is) refl)
+      constant-seconds e v z v-is z-is w = sym (constant-constant work u w kind kind-is p a b c ∙ rw (← k-is, eq-eqb k kind same, ← x-is, ← y-is, eq-eqb x y e, ← v-is, ← z-is) refl)
 
 -- ---- patterns
 
 -- one pattern fits one node where another fits another
-abbrev pub Same : (items work : List ℕ) (w p u s v : ℕ) → Type 0
-Same items work w p u s v = fit (patternAt items work p) (treeAt items work u w) .1 ≡ fit (patternAt items work s) (treeAt items work v w) .1
+abbrev pub Same : (work : List ℕ) (w p u s v : ℕ) → Type 0
+Same work w p u s v = fit (patternAt work p) (treeAt work u w) .1 ≡ fit (patternAt work s) (treeAt work v w) .1
 
-module _ (items work : List ℕ) (p tag : ℕ) (tag-is : tag ≡ wordAt work p 1) (u w : ℕ) where
-  pub fits-variable : tag ≡ 1 → Fits items work p u w true
+module _ (work : List ℕ) (p tag : ℕ) (tag-is : tag ≡ wordAt work p 1) (u w : ℕ) where
+  pub fits-variable : tag ≡ 1 → Fits work p u w true
   unfolding fit fitting
-  fits-variable e = rw (patternAt-variable items work p (sym tag-is ∙ e)) refl
+  fits-variable e = rw (patternAt-variable work p (sym tag-is ∙ e)) refl
 
-  pub fits-wildcard : tag ≡ 3 → Fits items work p u w true
+  pub fits-wildcard : tag ≡ 3 → Fits work p u w true
   unfolding fit fitting
-  fits-wildcard e = rw (patternAt-wildcard items work p (sym tag-is ∙ e)) refl
+  fits-wildcard e = rw (patternAt-wildcard work p (sym tag-is ∙ e)) refl
 
-  pub fits-literal : (r : Bool) → tag ≡ 2 → LiteralFits items work p u w r → Fits items work p u w r
-  fits-literal r e c = rw (patternAt-literal items work p (sym tag-is ∙ e)) c
+  pub fits-literal : (r : Bool) → tag ≡ 2 → LiteralFits work p u w r → Fits work p u w r
+  fits-literal r e c = rw (patternAt-literal work p (sym tag-is ∙ e)) c
 
-  pub fits-constant : (r : Bool) → tag ≡ 4 → ConstantFits work p u r → Fits items work p u w r
-  fits-constant r e c = rw (patternAt-constant items work p (sym tag-is ∙ e)) (c items w)
+  pub fits-constant : (r : Bool) → tag ≡ 4 → ConstantFits work p u r → Fits work p u w r
+  fits-constant r e c = rw (patternAt-constant work p (sym tag-is ∙ e)) (c w)
 
-  pub fits-ellipsis : (e : ℕ) (r : Bool) → tag ≡ 7 → e ≡ referenceAt work p 2 → EachFits items work e u w r → Fits items work p u w r
+  pub fits-ellipsis : (e : ℕ) (r : Bool) → tag ≡ 7 → e ≡ referenceAt work p 2 → EachFits work e u w r → Fits work p u w r
   unfolding fit
-  fits-ellipsis e r t h c = rw (patternAt-ellipsis items work p (sym tag-is ∙ t), ← h) c
+  fits-ellipsis e r t h c = rw (patternAt-ellipsis work p (sym tag-is ∙ t), ← h) c
 
   module _ (kind : ℕ) (kind-is : kind ≡ wordAt work u 3) where
-    pub fits-no-pair : tag ≡ 6 → (kind ≡ 4 → ⊥) → Fits items work p u w false
-    fits-no-pair t other = rw (patternAt-pair items work p (sym tag-is ∙ t)) (pair-no-pair items work u w kind kind-is p _ _ other)
+    pub fits-no-pair : tag ≡ 6 → (kind ≡ 4 → ⊥) → Fits work p u w false
+    fits-no-pair t other = rw (patternAt-pair work p (sym tag-is ∙ t)) (pair-no-pair work u w kind kind-is p _ _ other)
 
-    module _ (q h : ℕ) (b : Bool) (t : tag ≡ 6) (k : kind ≡ 4) (q-is : q ≡ referenceAt work p 3) (h-is : h ≡ referenceAt work u 2) (head : Fits items work q h w b) where
-      head-first : fit (patternAt items work p) (treeAt items work u w) .1 ≡ (b && fit (patternAt items work (referenceAt work p 2)) (treeAt items work (referenceAt work u 1) w) .1)
+    module _ (q h : ℕ) (b : Bool) (t : tag ≡ 6) (k : kind ≡ 4) (q-is : q ≡ referenceAt work p 3) (h-is : h ≡ referenceAt work u 2) (head : Fits work q h w b) where
+      head-first : fit (patternAt work p) (treeAt work u w) .1 ≡ (b && fit (patternAt work (referenceAt work p 2)) (treeAt work (referenceAt work u 1) w) .1)
       head-first =
-          ap (λ (x : Pattern). fit x (treeAt items work u w) .1) (patternAt-pair items work p (sym tag-is ∙ t)) ∙ pair-pair items work u w kind kind-is _ _ k ∙ rw (← q-is, ← h-is, ← head) refl
+          ap (λ (x : Pattern). fit x (treeAt work u w) .1) (patternAt-pair work p (sym tag-is ∙ t)) ∙ pair-pair work u w kind kind-is _ _ k ∙ rw (← q-is, ← h-is, ← head) refl
 
-      pub fits-head-no : b ≡ false → Fits items work p u w false
+      pub fits-head-no : b ≡ false → Fits work p u w false
       fits-head-no e = sym (head-first ∙ rw e refl)
 
-      pub fits-tail : (s v : ℕ) → b ≡ true → s ≡ referenceAt work p 2 → v ≡ referenceAt work u 1 → Same items work w p u s v
+      pub fits-tail : (s v : ℕ) → b ≡ true → s ≡ referenceAt work p 2 → v ≡ referenceAt work u 1 → Same work w p u s v
       fits-tail s v e s-is v-is = head-first ∙ rw (e, ← s-is, ← v-is) refl
 
-    pub fits-empty : (tag ≡ 1 → ⊥) → (tag ≡ 2 → ⊥) → (tag ≡ 3 → ⊥) → (tag ≡ 4 → ⊥) → (wordAt work p 1 ≡ 6 → ⊥) → (tag ≡ 7 → ⊥) → Fits items work p u w (eqb kind 0)
+    pub fits-empty : (tag ≡ 1 → ⊥) → (tag ≡ 2 → ⊥) → (tag ≡ 3 → ⊥) → (tag ≡ 4 → ⊥) → (wordAt work p 1 ≡ 6 → ⊥) → (tag ≡ 7 → ⊥) → Fits work p u w (eqb kind 0)
     fits-empty n1 n2 n3 n4 n6 n7 =
-        rw (patternAt-empty items work p (λ z. n1 (tag-is ∙ z)) (λ z. n2 (tag-is ∙ z)) (λ z. n3 (tag-is ∙ z)) (λ z. n4 (tag-is ∙ z)) n6 (λ z. n7 (tag-is ∙ z)))
-        (empty-fits items work u w kind kind-is)
+        rw (patternAt-empty work p (λ z. n1 (tag-is ∙ z)) (λ z. n2 (tag-is ∙ z)) (λ z. n3 (tag-is ∙ z)) (λ z. n4 (tag-is ∙ z)) n6 (λ z. n7 (tag-is ∙ z)))
+        (empty-fits work u w kind kind-is)
 
 -- ---- along the pattern's list
 
 -- the pattern fits the use where the rest of its list fits the node
-pub record Along (items work : List ℕ) (p u w at node : ℕ) : Type 0 where
-  pub is : Same items work w p u at node
+pub record Along (work : List ℕ) (p u w at node : ℕ) : Type 0 where
+  pub is : Same work w p u at node
   pub low : at ≤ p
 
-module _ (items work : List ℕ) (p u w : ℕ) where
-  pub along-begins : Along items work p u w p u
+module _ (work : List ℕ) (p u w : ℕ) where
+  pub along-begins : Along work p u w p u
   along-begins = record { is = refl; low = omega arith }
 
-  module _ (at node : ℕ) (inv : Along items work p u w at node) where
-    pub along-ends : (r : Bool) → Fits items work at node w r → Fits items work p u w r
+  module _ (at node : ℕ) (inv : Along work p u w at node) where
+    pub along-ends : (r : Bool) → Fits work at node w r → Fits work p u w r
     along-ends r c = c ∙ sym (inv .is)
 
-    pub along-more : (s v : ℕ) → s ≡ referenceAt work at 2 → Same items work w at node s v → Along items work p u w s v
+    pub along-more : (s v : ℕ) → s ≡ referenceAt work at 2 → Same work w at node s v → Along work p u w s v
     along-more s v s-is e = record { is = inv .is ∙ e; low = omega (arith, inv .low, referenceAt-most work at 2) }
 
 -- ---- zero or more elements
 
 -- the list fits where the elements of the node do
-abbrev pub Matched : (items work : List ℕ) (e list w node : ℕ) → Type 0
-Matched items work e list w node = eachFits (fit (patternAt items work e)) (treeAt items work list w) .1 ≡ eachFits (fit (patternAt items work e)) (treeAt items work node w) .1
+abbrev pub Matched : (work : List ℕ) (e list w node : ℕ) → Type 0
+Matched work e list w node = eachFits (fit (patternAt work e)) (treeAt work list w) .1 ≡ eachFits (fit (patternAt work e)) (treeAt work node w) .1
 
-module _ (items work : List ℕ) (e list w node kind : ℕ) (kind-is : kind ≡ wordAt work node 3) (inv : Matched items work e list w node) where
-  pub each-ends : (kind ≡ 4 → ⊥) → EachFits items work e list w (eqb kind 0)
-  each-ends other = sym (inv ∙ sym (each-end items work node w kind kind-is e other))
+module _ (work : List ℕ) (e list w node kind : ℕ) (kind-is : kind ≡ wordAt work node 3) (inv : Matched work e list w node) where
+  pub each-ends : (kind ≡ 4 → ⊥) → EachFits work e list w (eqb kind 0)
+  each-ends other = sym (inv ∙ sym (each-end work node w kind kind-is e other))
 
-  module _ (h : ℕ) (b : Bool) (k : kind ≡ 4) (h-is : h ≡ referenceAt work node 2) (head : Fits items work e h w b) where
-    pub each-no : b ≡ false → EachFits items work e list w false
-    each-no f = sym (inv ∙ each-pair items work node w kind kind-is (patternAt items work e) k ∙ rw (← h-is, ← head, f))
+  module _ (h : ℕ) (b : Bool) (k : kind ≡ 4) (h-is : h ≡ referenceAt work node 2) (head : Fits work e h w b) where
+    pub each-no : b ≡ false → EachFits work e list w false
+    each-no f = sym (inv ∙ each-pair work node w kind kind-is (patternAt work e) k ∙ rw (← h-is, ← head, f))
 
-    pub each-more : (t : ℕ) → b ≡ true → t ≡ referenceAt work node 1 → Matched items work e list w t
-    each-more t f t-is = inv ∙ each-pair items work node w kind kind-is (patternAt items work e) k ∙ rw (← h-is, ← head, f, ← t-is) refl
+    pub each-more : (t : ℕ) → b ≡ true → t ≡ referenceAt work node 1 → Matched work e list w t
+    each-more t f t-is = inv ∙ each-pair work node w kind kind-is (patternAt work e) k ∙ rw (← h-is, ← head, f, ← t-is) refl
 
 -- ---- rules
 
 -- the first of the rules that fits is the first from this rule on
-pub record Tried (items work : List ℕ) (rules u w rule : ℕ) : Type 0 where
-  pub is : firstFit (rulesAt items work rules) (treeAt items work u w) .1 ≡ firstFit (rulesAt items work rule) (treeAt items work u w) .1
+pub record Tried (work : List ℕ) (rules u w rule : ℕ) : Type 0 where
+  pub is : firstFit (rulesAt work rules) (treeAt work u w) .1 ≡ firstFit (rulesAt work rule) (treeAt work u w) .1
   pub low : rule ≤ rules
 
 orNext-yes : (r : Rule) (l : List Name) (b : Bool) (later : List Name × Option Rule) → b ≡ true → orNext r l b later .1 ≡ some r
@@ -206,28 +206,28 @@ unfolding orNext
 orNext-no r l false later e = refl
 orNext-no r l true later e = let z : _≡_ {A = ℕ} 0 1 = cc in absurd (omega arith)
 
-module _ (items work : List ℕ) (rules u w : ℕ) where
-  pub tried-begins : Tried items work rules u w rules
+module _ (work : List ℕ) (rules u w : ℕ) where
+  pub tried-begins : Tried work rules u w rules
   tried-begins = record { is = refl; low = omega arith }
 
-  module _ (rule : ℕ) (inv : Tried items work rules u w rule) where
-    pub tried-ends : rule ≡ 0 → FirstFit items work rules u w 0
+  module _ (rule : ℕ) (inv : Tried work rules u w rule) where
+    pub tried-ends : rule ≡ 0 → FirstFit work rules u w 0
     unfolding ruleOr firstFit
-    tried-ends e = record { is = sym (inv .is ∙ rw (rulesAt-none items work rule e) refl); low = omega arith }
+    tried-ends e = record { is = sym (inv .is ∙ rw (rulesAt-none work rule e) refl); low = omega arith }
 
-    module _ (p : ℕ) (b : Bool) (more : rule ≡ 0 → ⊥) (p-is : p ≡ referenceAt work rule 3) (fitted : Fits items work p u w b) where
-      pub tried-fits : b ≡ true → FirstFit items work rules u w rule
+    module _ (p : ℕ) (b : Bool) (more : rule ≡ 0 → ⊥) (p-is : p ≡ referenceAt work rule 3) (fitted : Fits work p u w b) where
+      pub tried-fits : b ≡ true → FirstFit work rules u w rule
       unfolding ruleOr firstFit ruleAt
       tried-fits e =
           record {
-            is = rw (ne-eqb rule 0 more) (sym (inv .is ∙ rw (rulesAt-more items work rule (omega arith)) (orNext-yes _ _ _ _ (ap (λ (q : ℕ). fit (patternAt items work q) (treeAt items work u w) .1) (sym p-is) ∙ sym fitted ∙ e))));
+            is = rw (ne-eqb rule 0 more) (sym (inv .is ∙ rw (rulesAt-more work rule (omega arith)) (orNext-yes _ _ _ _ (ap (λ (q : ℕ). fit (patternAt work q) (treeAt work u w) .1) (sym p-is) ∙ sym fitted ∙ e))));
             low = inv .low;
           }
 
-      pub tried-more : (next : ℕ) → b ≡ false → next ≡ referenceAt work rule 1 → Tried items work rules u w next
+      pub tried-more : (next : ℕ) → b ≡ false → next ≡ referenceAt work rule 1 → Tried work rules u w next
       unfolding firstFit ruleAt
       tried-more next e n =
           record {
-            is = inv .is ∙ rw (rulesAt-more items work rule (omega arith), n) (orNext-no _ _ _ _ (ap (λ (q : ℕ). fit (patternAt items work q) (treeAt items work u w) .1) (sym p-is) ∙ sym fitted ∙ e));
+            is = inv .is ∙ rw (rulesAt-more work rule (omega arith), n) (orNext-no _ _ _ _ (ap (λ (q : ℕ). fit (patternAt work q) (treeAt work u w) .1) (sym p-is) ∙ sym fitted ∙ e));
             low = omega (arith, inv .low, referenceAt-most work rule 1);
           }

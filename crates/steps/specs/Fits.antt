@@ -10,24 +10,24 @@ use Rattle.expansion.specs.Match.{fit, eachFits, firstFit}
 use Rattle.arena.specs.Arena.{treeAt}
 use Rattle.rule_cells.specs.Cells.{constantBefore, literalAt, patternAt, ruleAt, rulesAt}
 
-abbrev pub Fits : (items work : List ℕ) (p u w : ℕ) → Bool → Type 0
-Fits items work p u w r = r ≡ fit (patternAt items work p) (treeAt items work u w) .1
+abbrev pub Fits : (work : List ℕ) (p u w : ℕ) → Bool → Type 0
+Fits work p u w r = r ≡ fit (patternAt work p) (treeAt work u w) .1
 
 -- zero or more elements
-abbrev pub EachFits : (items work : List ℕ) (p u w : ℕ) → Bool → Type 0
-EachFits items work p u w r = r ≡ eachFits (fit (patternAt items work p)) (treeAt items work u w) .1
+abbrev pub EachFits : (work : List ℕ) (p u w : ℕ) → Bool → Type 0
+EachFits work p u w r = r ≡ eachFits (fit (patternAt work p)) (treeAt work u w) .1
 
-abbrev pub LiteralFits : (items work : List ℕ) (p u w : ℕ) → Bool → Type 0
-LiteralFits items work p u w r = r ≡ fit (literalP (literalAt items work p)) (treeAt items work u w) .1
+abbrev pub LiteralFits : (work : List ℕ) (p u w : ℕ) → Bool → Type 0
+LiteralFits work p u w r = r ≡ fit (literalP (literalAt work p)) (treeAt work u w) .1
 
 abbrev pub ConstantFits : (work : List ℕ) (p u : ℕ) → Bool → Type 0
-ConstantFits work p u r = (items : List ℕ) (w : ℕ) → r ≡ fit (constantP (constantBefore work p)) (treeAt items work u w) .1
+ConstantFits work p u r = (w : ℕ) → r ≡ fit (constantP (constantBefore work p)) (treeAt work u w) .1
 
 -- the rule that a reference stands for, none where it is 0
-unfoldable pub ruleOr : (items work : List ℕ) → ℕ → Option Rule
-ruleOr items work r = cond (eqb r 0) none (some (ruleAt items work r))
+unfoldable pub ruleOr : (work : List ℕ) → ℕ → Option Rule
+ruleOr work r = cond (eqb r 0) none (some (ruleAt work r))
 
 -- r is the first of the rules that fits
-pub record FirstFit (items work : List ℕ) (rules u w r : ℕ) : Type 0 where
-  pub is : ruleOr items work r ≡ firstFit (rulesAt items work rules) (treeAt items work u w) .1
+pub record FirstFit (work : List ℕ) (rules u w r : ℕ) : Type 0 where
+  pub is : ruleOr work r ≡ firstFit (rulesAt work rules) (treeAt work u w) .1
   pub low : r ≤ rules

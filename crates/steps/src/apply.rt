@@ -41,19 +41,11 @@ fn transcribe(
 }
 
 // The rules at a use, which waits under w with the step's mark; `limit` is the fuel left.
-pub fn apply(
-    items: &[u32],
-    work: &mut [u32],
-    top: u32,
-    rules: u32,
-    u: u32,
-    w: u32,
-    limit: u32,
-) -> Applied
-    requires { ⌜ Stepping (now items) (now work) top rules u w limit ⌝ }
-    ensures { λ r. ⌜ Stepped (now (items .entry)) (now (work .entry)) (now (work .exit)) top rules u w limit r ⌝ }
+pub fn apply(work: &mut [u32], top: u32, rules: u32, u: u32, w: u32, limit: u32) -> Applied
+    requires { ⌜ Stepping (now work) top rules u w limit ⌝ }
+    ensures { λ r. ⌜ Stepped (now (work .entry)) (now (work .exit)) top rules u w limit r ⌝ }
 {
-    let rule = fits::first_fit(items, work, rules, u, w);
+    let rule = fits::first_fit(work, rules, u, w);
     if rule == 0 {
         return Applied::NoRule;
     }

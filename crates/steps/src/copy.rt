@@ -10,26 +10,27 @@ ghost use Rattle.steps.specs.Built.{builtOf};
 ghost use Rattle.steps.specs.Build.{Fresh, Waiting, Pays, ElementsBackwards, Reversed};
 use arena::cells;
 use arena::lists;
+use arena::origins;
 use words::packed;
 
 // A fresh name from a name's node and a wrap that waits on it.
 pub fn copy_name(work: &mut [u32], top: u32, node: u32, w: u32) -> u32
     requires { ⌜ (Room (now work) top 6) × (node ≤ top) × (w ≤ top) ⌝ }
-    ensures { λ r. ⌜ Fresh (λ items. name (nameAt items (now (work .entry)) node w)) (now (work .entry)) (now (work .exit)) top r ⌝ }
+    ensures { λ r. ⌜ Fresh (name (nameAt (now (work .entry)) node w)) (now (work .entry)) (now (work .exit)) top r ⌝ }
 {
-    let item = cells::word(work, node, cells::ITEM);
+    let origin = origins::produced(cells::word(work, node, cells::ORIGIN));
     let own = cells::reference(work, node, cells::OWN);
     if own == 0 {
-        return cells::put_name(work, top, item, w);
+        return cells::put_name(work, top, origin, w);
     }
     let joined = cells::put_join(work, top, w, own);
-    cells::put_name(work, joined, item, joined)
+    cells::put_name(work, joined, origin, joined)
 }
 
 // A fresh copy of a node that is no pair.
 pub fn copy_leaf(work: &mut [u32], top: u32, fuel: u32, node: u32, w: u32) -> u64
     requires { ⌜ (Waiting (now work) top fuel node w) × (wordAt (now work) node 3 ≡ 4 → ⊥) ⌝ }
-    ensures { λ r. ⌜ Pays (λ items. treeAt items (now (work .entry)) node w) (now (work .entry)) (now (work .exit)) top fuel (builtOf r) ⌝ }
+    ensures { λ r. ⌜ Pays (treeAt (now (work .entry)) node w) (now (work .entry)) (now (work .exit)) top fuel (builtOf r) ⌝ }
 {
     if fuel == 0 {
         return packed::NONE;
@@ -50,7 +51,7 @@ pub fn copy_leaf(work: &mut [u32], top: u32, fuel: u32, node: u32, w: u32) -> u6
 // A fresh copy of a part of a tree. A part that is no pair is copied in place, without a call more.
 pub fn copy_part(work: &mut [u32], top: u32, fuel: u32, node: u32, w: u32) -> u64
     requires { ⌜ Waiting (now work) top fuel node w ⌝ }
-    ensures { λ r. ⌜ Pays (λ items. treeAt items (now (work .entry)) node w) (now (work .entry)) (now (work .exit)) top fuel (builtOf r) ⌝ }
+    ensures { λ r. ⌜ Pays (treeAt (now (work .entry)) node w) (now (work .entry)) (now (work .exit)) top fuel (builtOf r) ⌝ }
 {
     if cells::word(work, node, cells::KIND) == cells::PAIR {
         return copy_tree(work, top, fuel, node, w);
@@ -61,7 +62,7 @@ pub fn copy_part(work: &mut [u32], top: u32, fuel: u32, node: u32, w: u32) -> u6
 // A fresh copy of a tree, its tail before its head.
 pub fn copy_tree(work: &mut [u32], top: u32, fuel: u32, node: u32, w: u32) -> u64
     requires { ⌜ Waiting (now work) top fuel node w ⌝ }
-    ensures { λ r. ⌜ Pays (λ items. treeAt items (now (work .entry)) node w) (now (work .entry)) (now (work .exit)) top fuel (builtOf r) ⌝ }
+    ensures { λ r. ⌜ Pays (treeAt (now (work .entry)) node w) (now (work .entry)) (now (work .exit)) top fuel (builtOf r) ⌝ }
 {
     if cells::word(work, node, cells::KIND) != cells::PAIR {
         return copy_leaf(work, top, fuel, node, w);

@@ -29,7 +29,7 @@ use Rattle.turns.specs.Ends.{End, finished, stopped, halted, endOf, then
 use Rattle.turns.specs.EndLaws.{lambda-end}
 use Rattle.turns.specs.Memory.{tables, stateAt, CoreRoom, Put, workNeed, coreNeed, variableNeed, macroNeed, Proper, Ready, Kept}
 use Rattle.turns.specs.MemoryLaws.{macrosAt-settled, macros-kept, put-long}
-use Rattle.turns.specs.Turns.{operationsOf, Left, turnOf, Ends, Follows}
+use Rattle.turns.specs.Turns.{Left, turnOf, Ends, Follows}
 use Rattle.turns.specs.Leaves.{Refuses}
 use Rattle.turns.specs.LeafLaws.{refused-ends}
 use Rattle.turns.specs.SpreadLaws.{cons, listed, Prefixed, left-after}
@@ -52,9 +52,9 @@ lambda-sizes t e = omega (arith, three-sizes t (and-parts (isListOf 3 t) _ e .0)
 
 -- ---- what the code needs, and what it leaves
 
-module _ (items work core : List ℕ) (node w : ℕ) (r : Reached) (roomy : Roomy items work core node w r) (shape : isLambda (treeAt items work node w) ≡ true) where
+module _ (work core : List ℕ) (node w : ℕ) (r : Reached) (roomy : Roomy work core node w r) (shape : isLambda (treeAt work node w) ≡ true) where
   abbrev tree : Tree
-  tree = treeAt items work node w
+  tree = treeAt work node w
 
   pub lambda-proper : F.Proper tree
   lambda-proper = proper (roomy .placed .proper)
@@ -76,17 +76,17 @@ module _ (items work core : List ℕ) (node w : ℕ) (r : Reached) (roomy : Room
 
   module _ (list count : ℕ) (list-is : Means work node list (element 1)) (count-is : Counts work list count) where
     pub lambda-count : count ≡ length (formals tree)
-    lambda-count = count-is .is items w ∙ ap (λ (t : Tree). length (elements t)) (list-is .is items w) ∙ sym (formals-count tree shape lambda-proper)
+    lambda-count = count-is .is w ∙ ap (λ (t : Tree). length (elements t)) (list-is .is w) ∙ sym (formals-count tree shape lambda-proper)
 
     pub lambda-few : r .variables + count < 2 ^ 32
     lambda-few = omega (arith, lambda-count, lambda-sizes tree shape, roomy .few)
 
     pub bound-by : (body wrap top at : ℕ) (work′ core′ : List ℕ) → Means work node body (element 2) → Scoped variable (r .variables) (formals tree) w work work′ (r .top) wrap top
-        → Put (7 ∷ r .variables ∷ count ∷ []) (r .at) core core′ at → Bound tree items r work work′ core core′ body wrap (widened top at count r)
+        → Put (7 ∷ r .variables ∷ count ∷ []) (r .at) core core′ at → Bound tree r work work′ core core′ body wrap (widened top at count r)
     unfolding widened
     bound-by body wrap top at work′ core′ body-is scoped put =
         record {
-          body-is = scoped-tree variable (r .variables) (formals tree) w work work′ (r .top) wrap top scoped items body (omega (arith, body-is .low, roomy .placed .node-below)) ∙ ap (bindAll variable (r .variables) (formals tree)) (body-is .is items w);
+          body-is = scoped-tree variable (r .variables) (formals tree) w work work′ (r .top) wrap top scoped body (omega (arith, body-is .low, roomy .placed .node-below)) ∙ ap (bindAll variable (r .variables) (formals tree)) (body-is .is w);
           body-below = omega (arith, body-is .low, roomy .placed .node-below);
           wrap-below = scoped .wrap-below;
           numbers = ap₂ (λ (t n : ℕ). widened t at n r) (scoped .end-is) lambda-count;
@@ -102,26 +102,26 @@ lambda-prefixed first xs (finished v s) = refl
 lambda-prefixed first xs (stopped k s) = tt
 lambda-prefixed first xs halted = tt
 
-module _ (items : List ℕ) (fuel : ℕ) (t : Tree) (r : Reached) (work work′ core core′ macros : List ℕ)
-    (turn : (expand : Tree → M (Term Name)) (s : State) → turnOf items fuel expand t s ≡ endOf (expandLambda macrosMost (operationsOf items) fuel expand t s)) where
-  pub lambda-refused : (a : Ended) → LambdaRefused t r a → Ends items fuel t r (tables work core macros) (tables work′ core′ macros) a
+module _ (operations : List ℕ) (fuel : ℕ) (t : Tree) (r : Reached) (work work′ core core′ macros : List ℕ)
+    (turn : (expand : Tree → M (Term Name)) (s : State) → turnOf operations fuel expand t s ≡ endOf (expandLambda macrosMost operations fuel expand t s)) where
+  pub lambda-refused : (a : Ended) → LambdaRefused t r a → Ends operations fuel t r (tables work core macros) (tables work′ core′ macros) a
   lambda-refused a x =
-      refused-ends items fuel t r (tables work core macros) (tables work′ core′ macros) (x .ground)
-      (λ expand s. turn expand s ∙ lambda-end macrosMost (operationsOf items) fuel expand t s ∙ x .is _ s)
+      refused-ends operations fuel t r (tables work core macros) (tables work′ core′ macros) (x .ground)
+      (λ expand s. turn expand s ∙ lambda-end macrosMost operations fuel expand t s ∙ x .is _ s)
       a (x .refuses)
 
-  module _ (node w : ℕ) (q : Reached) (x : LambdaBound t items r work work′ core core′ node w q) (good : Proper t)
-      (ready : Ready items fuel (size t) r (tables work core macros)) (long : length work′ ≡ length work) where
-    b : Bound t items r work work′ core core′ node w q
+  module _ (node w : ℕ) (q : Reached) (x : LambdaBound t r work work′ core core′ node w q) (good : Proper t)
+      (ready : Ready fuel (size t) r (tables work core macros)) (long : length work′ ≡ length work) where
+    b : Bound t r work work′ core core′ node w q
     b = x .bound
 
     sizes : length (formals t) + size (element 2 t) + 5 ≤ size t
     sizes = lambda-sizes t (x .shape)
 
-    body-size : size (treeAt items work′ node w) ≡ size (element 2 t)
+    body-size : size (treeAt work′ node w) ≡ size (element 2 t)
     body-size = ap size (b .body-is) ∙ bindAll-size variable (r .variables) (formals t) (element 2 t)
 
-    lambda-kept : Kept items fuel (size t) (size (treeAt items work′ node w)) r q (tables work core macros) (tables work′ core′ macros)
+    lambda-kept : Kept fuel (size t) (size (treeAt work′ node w)) r q (tables work core macros) (tables work′ core′ macros)
     unfolding workNeed coreNeed variableNeed macroNeed widened
     lambda-kept =
         let top-is : q .top ≡ r .top + 9 * length (formals t) = ap (λ (z : Reached). z .top) (b .numbers) in
@@ -145,24 +145,24 @@ module _ (items : List ℕ) (fuel : ℕ) (t : Tree) (r : Reached) (work work′ 
           core-spent = rw (at-is, sum-is, body-size) (omega (arith, sizes));
           variables-spent = rw (variables-are, sum-is, body-size) (omega (arith, sizes));
           macros-spent = rw (macros-are, sum-is, body-size) (omega (arith, sizes));
-          macros-are = macros-kept items r q (tables work core macros) (tables work′ core′ macros) (ready .macros-are) (omega arith) macros-are (b .kept) refl;
+          macros-are = macros-kept r q (tables work core macros) (tables work′ core′ macros) (ready .macros-are) (omega arith) macros-are (b .kept) refl;
         }
 
-    lambda-state : stateAt items (tables work′ core′ macros) q ≡ withVariables (length (formals t)) (stateAt items (tables work core macros) r)
+    lambda-state : stateAt (tables work′ core′ macros) q ≡ withVariables (length (formals t)) (stateAt (tables work core macros) r)
     unfolding stateAt withVariables widened
     lambda-state =
-        ap (stateAt items (tables work′ core′ macros)) (b .numbers)
-        ∙ rw (macrosAt-settled items work work′ macros macros (r .top) (b .kept) (r .macros) refl (ready .macros-are .below))
+        ap (stateAt (tables work′ core′ macros)) (b .numbers)
+        ∙ rw (macrosAt-settled work work′ macros macros (r .top) (b .kept) (r .macros) refl (ready .macros-are .below))
 
-    lambda-turn : (expand : Tree → M (Term Name)) (s : State) → s .variables ≡ r .variables → turnOf items fuel expand t s
+    lambda-turn : (expand : Tree → M (Term Name)) (s : State) → s .variables ≡ r .variables → turnOf operations fuel expand t s
         ≡ then (λ body u. finished (lambdaC (r .variables) (formals t) body) u) (endOf (expand (bindAll variable (r .variables) (formals t) (element 2 t)) (withVariables (length (formals t)) s)))
     unfolding needs
-    lambda-turn expand s e = turn expand s ∙ lambda-end macrosMost (operationsOf items) fuel expand t s ∙ rw (x .shape, x .apart, e)
+    lambda-turn expand s e = turn expand s ∙ lambda-end macrosMost operations fuel expand t s ∙ rw (x .shape, x .apart, e)
 
-    pub lambda-follows : Follows items fuel t r (tables work core macros) (tables work′ core′ macros) node w q
+    pub lambda-follows : Follows operations fuel t r (tables work core macros) (tables work′ core′ macros) node w q
     unfolding stateAt coreNeed
     lambda-follows =
-        let s = stateAt items (tables work core macros) r in
+        let s = stateAt (tables work core macros) r in
         let k = lambda-kept in
         let at-is : q .at ≡ r .at + 3 = b .put .until in
         record {
@@ -174,13 +174,13 @@ module _ (items : List ℕ) (fuel : ℕ) (t : Tree) (r : Reached) (work work′ 
           };
           falls = omega (arith, body-size, sizes, k .sum-grows);
           means = λ expand a last l.
-              subst (λ (e : End (Term Name)). Left items encode r core last e a)
+              subst (λ (e : End (Term Name)). Left encode r core last e a)
               (sym (lambda-turn expand s refl))
-              (left-after encode encode (lambdaC (r .variables) (formals t)) (7 ∷ r .variables ∷ length (formals t) ∷ []) items r q core core′ last
+              (left-after encode encode (lambdaC (r .variables) (formals t)) (7 ∷ r .variables ∷ length (formals t) ∷ []) r q core core′ last
               (endOf (expand (bindAll variable (r .variables) (formals t) (element 2 t)) (withVariables (length (formals t)) s))) a
               (lambda-prefixed (r .variables) (formals t) (endOf (expand (bindAll variable (r .variables) (formals t) (element 2 t)) (withVariables (length (formals t)) s)))) (b .put) (omega (arith, ready .core-room, sizes))
-              (subst (λ (z : State). Left items encode q core′ last (endOf (expand (bindAll variable (r .variables) (formals t) (element 2 t)) z)) a) lambda-state
-              (subst (λ (z : Tree). Left items encode q core′ last (endOf (expand z (stateAt items (tables work′ core′ macros) q))) a) (b .body-is) l)));
+              (subst (λ (z : State). Left encode q core′ last (endOf (expand (bindAll variable (r .variables) (formals t) (element 2 t)) z)) a) lambda-state
+              (subst (λ (z : Tree). Left encode q core′ last (endOf (expand z (stateAt (tables work′ core′ macros) q))) a) (b .body-is) l)));
         }
 
 -- ---- the tests
@@ -194,7 +194,7 @@ module _ (t : Tree) (r : Reached) where
   unfolding needs
   lambda-alike a shape same e = record { ground = 14; is = λ z s. rw (shape, same); refuses = e }
 
-  pub lambda-left : (items work work′ core core′ : List ℕ) (a : Turn) → isLambda t ≡ true → distinct (formals t) ≡ true → BoundLeft t items r work work′ core core′ a → LambdaLeft t items r work work′ core core′ a
-  lambda-left items work work′ core core′ (Again n w q) shape apart b = record { shape = shape; apart = apart; bound = b }
-  lambda-left items work work′ core core′ (Operands l w q) shape apart b = absurd b
-  lambda-left items work work′ core core′ (Over a) shape apart b = absurd b
+  pub lambda-left : (work work′ core core′ : List ℕ) (a : Turn) → isLambda t ≡ true → distinct (formals t) ≡ true → BoundLeft t r work work′ core core′ a → LambdaLeft t r work work′ core core′ a
+  lambda-left work work′ core core′ (Again n w q) shape apart b = record { shape = shape; apart = apart; bound = b }
+  lambda-left work work′ core core′ (Operands l w q) shape apart b = absurd b
+  lambda-left work work′ core core′ (Over a) shape apart b = absurd b

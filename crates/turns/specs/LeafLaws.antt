@@ -3,26 +3,28 @@ use mathlib.Core.Path.{_≡_, refl, ap, sym, subst, _∙_}
 use mathlib.Core.List.{List, [], _∷_}
 use Prim.Native.Nat.{ℕ, zero, suc, _+_, _*_, _≤_}
 use native.Mathlib.Omega.{arith}
-use mathlib.Core.Bool.{Bool, true, false, false≢true}
+use mathlib.Core.Bool.{Bool, true, false, cond, false≢true}
+use mathlib.Core.Option.{Option, none, some}
+use lib.Dec.{eqb, ltb}
 use lib.ListN.{getD}
-use Rattle.words.specs.Limits.{macrosMost}
+use Rattle.words.specs.Limits.{baseNameCount, macrosMost}
+use Rattle.words.specs.ListLaws.{either}
 use Rattle.datum.specs.Constant.{Constant, isConstant, constantWords}
 use Rattle.datum.specs.Datum.{constantD}
-use Rattle.recipe.specs.Name.{variable, macro, Name}
+use Rattle.recipe.specs.Name.{Binding, variable, macro, Name}
 use Rattle.recipe.specs.Tree.{Tree, name, pair, size}
 use Rattle.core_term.specs.Term.{Term, variableC, operationC, datumC}
 use Rattle.core_term.specs.Node.{nodeWords}
 use Rattle.core_term.specs.Words.{datumWords, encode}
-use Rattle.expansion.specs.Lookup.{Found, bound, form, operation, nothing, lookup, orUnbound}
+use Rattle.expansion.specs.Lookup as U
+use Rattle.expansion.specs.Lookup.{Found, bound, form, operation, nothing, formOf, placeFrom, unboundMeaning, orUnbound, lookup}
 use Rattle.expansion.specs.Computation.{State, M, give, refuse}
 use Rattle.expansion.specs.Forms.{expandName, expandList}
-use Rattle.resolution.specs.Names.{meansOf, lookupIn}
+use Rattle.resolution.specs.Names.{meansOf, foundOf, operationAt, unboundIn, lookupIn}
 use Rattle.resolution.specs.declared.names.Meaning.{Meaning}
-use Rattle.resolution.specs.declared.names.Meaning.the-variants as M
-use Rattle.turns.specs.declared.leaf.Known.{Known}
-use Rattle.turns.specs.declared.leaf.Known.the-variants.{Variable, Macro, Form, Operation}
-use Rattle.turns.specs.declared.leaf.Looked.{Looked}
-use Rattle.turns.specs.declared.leaf.Looked.the-variants.{Finds, Nothing}
+use Rattle.resolution.specs.declared.names.Meaning.the-variants.{Variable, Macro, Form, Operation}
+use Rattle.resolution.specs.declared.names.Looked.{Looked}
+use Rattle.resolution.specs.declared.names.Looked.the-variants.{Finds, Nothing}
 use Rattle.turns.specs.declared.answers.Reached.{Reached}
 use Rattle.turns.specs.declared.answers.Ended.{Ended}
 use Rattle.turns.specs.declared.answers.Ended.the-variants.{Done, Refused}
@@ -30,45 +32,45 @@ use Rattle.turns.specs.Ends.{End, stopped, endOf}
 use Rattle.turns.specs.EndLaws.{list-end}
 use Rattle.turns.specs.Memory.{Tables, tables, stateAt, Moved, Ready}
 use Rattle.turns.specs.MemoryLaws.{kept-moved, state-moved}
-use Rattle.turns.specs.Turns.{Lent, operationsOf, Left, turnOf, Ends}
-use Rattle.turns.specs.Leaves.{knownOf, Looks, Refuses, Makes, Stops, Leaf, nameEnd, constantEnd, ConstantLeft}
+use Rattle.turns.specs.Turns.{Lent, Left, turnOf, Ends}
+use Rattle.turns.specs.Leaves.{Refuses, Makes, Stops, Leaf, nameEnd, constantEnd, ConstantLeft}
 
 -- ---- lookups
 
-pub lookup-in : (items operations : List ℕ) (x : Name) → Lent items operations → lookupIn operations x ≡ lookup (operationsOf items) x
+pub lookup-in : (operations places : List ℕ) (x : Name) → Lent operations places → lookupIn places x ≡ lookup operations x
 unfolding lookupIn lookup
-lookup-in items operations x h = ap (orUnbound (x .binding)) (h .places (x .number))
+lookup-in operations places x h = ap (orUnbound (x .binding)) (h .places-are (x .number))
 
-module _ (items operations : List ℕ) (x : Name) (lent : Lent items operations) (m : Meaning) (e : meansOf m ≡ lookupIn operations x) where
-  meaning-is : (n : Meaning) → m ≡ n → meansOf n ≡ lookup (operationsOf items) x
-  meaning-is n h = ap meansOf (sym h) ∙ e ∙ lookup-in items operations x lent
+pub found-in : (operations places : List ℕ) (x : Name) → Lent operations places → (P : Found → Type 0) → P (lookupIn places x) → P (lookup operations x)
+found-in operations places x h P = subst P (lookup-in operations places x h)
 
-  pub look-variable : (n : ℕ) → m ≡ M.Variable n → Looks (lookup (operationsOf items) x) (Finds (Variable n))
-  unfolding meansOf knownOf
-  look-variable n h = meaning-is (M.Variable n) h
+-- a base form is found whatever the operations
+pub form-found : (places : List ℕ) (x : Name) (f : U.Form) → form f ≡ lookupIn places x → (operations : List ℕ) → form f ≡ lookup operations x
+unfolding lookupIn lookup unboundIn unboundMeaning orUnbound operationAt
+form-found places x f e operations = of-binding (x .binding) e
+  where
+    -- an operation or nothing is no form
+    no-form : (p : ℕ) → form f ≡ operationAt p → ⊥
+    no-form p = either (eqb p 0) (λ t. rw t (λ h. absurd (let z : _≡_ {A = ℕ} 0 1 = cc in omega arith))) (λ t. rw t (λ h. absurd (let z : _≡_ {A = ℕ} 0 1 = cc in omega arith)))
 
-  pub look-macro : (n : ℕ) → m ≡ M.Macro n → Looks (lookup (operationsOf items) x) (Finds (Macro n))
-  unfolding meansOf knownOf
-  look-macro n h = meaning-is (M.Macro n) h
+    of-number : (b : Bool) (n : ℕ) → form f ≡ cond b (form (formOf n)) (operationAt (getD places n 0)) → form f ≡ cond b (form (formOf n)) (placeFrom 0 n operations)
+    of-number true n h = h
+    of-number false n h = absurd (no-form (getD places n 0) h)
 
-  pub look-form : (n : ℕ) → m ≡ M.Form n → Looks (lookup (operationsOf items) x) (Finds (Form n))
-  unfolding meansOf knownOf
-  look-form n h = meaning-is (M.Form n) h
-
-  pub look-operation : (n : ℕ) → m ≡ M.Operation n → Looks (lookup (operationsOf items) x) (Finds (Operation n))
-  unfolding meansOf knownOf
-  look-operation n h = meaning-is (M.Operation n) h
-
-  pub look-nothing : m ≡ M.Nothing → Looks (lookup (operationsOf items) x) Nothing
-  unfolding meansOf
-  look-nothing h = meaning-is M.Nothing h
+    of-binding : (b : Option Binding) → form f ≡ orUnbound b (cond (ltb (x .number) baseNameCount) (form (formOf (x .number))) (operationAt (getD places (x .number) 0)))
+        → form f ≡ orUnbound b (cond (ltb (x .number) baseNameCount) (form (formOf (x .number))) (placeFrom 0 (x .number) operations))
+    of-binding none h = of-number (ltb (x .number) baseNameCount) (x .number) h
+    of-binding (some b) h = absurd (let z : _≡_ {A = ℕ} 0 1 = cc in omega arith)
 
 -- where the answer is taken apart
-pub found-by : (found : Found) (a : Looked) (k : Known) → Looks found a → a ≡ Finds k → knownOf k ≡ found
-found-by found a k l e = subst (λ (b : Looked). Looks found b) e l
+module _ (found : Found) (a : Looked) (told : foundOf a ≡ found) where
+  pub found-by : (m : Meaning) → a ≡ Finds m → meansOf m ≡ found
+  unfolding foundOf
+  found-by m e = ap foundOf (sym e) ∙ told
 
-pub nothing-by : (found : Found) (a : Looked) → Looks found a → a ≡ Nothing → nothing ≡ found
-nothing-by found a l e = subst (λ (b : Looked). Looks found b) e l
+  pub nothing-by : a ≡ Nothing → nothing ≡ found
+  unfolding foundOf
+  nothing-by e = ap foundOf (sym e) ∙ told
 
 -- ---- refusals
 
@@ -82,20 +84,20 @@ module _ (found : Found) (r : Reached) (core core′ : List ℕ) where
   unfolding nameEnd
   name-nothing a e h = refused-leaf (nameEnd found) 2 11 r core a (λ s. ap (λ (f : Found). nameEnd f s) (sym e)) h
 
-  pub name-macro : (n : ℕ) (a : Ended) → knownOf (Macro n) ≡ found → Refuses 12 r a → Leaf (nameEnd found) 2 r core core a
-  unfolding nameEnd knownOf
+  pub name-macro : (n : ℕ) (a : Ended) → meansOf (Macro n) ≡ found → Refuses 12 r a → Leaf (nameEnd found) 2 r core core a
+  unfolding nameEnd meansOf
   name-macro n a e h = refused-leaf (nameEnd found) 2 12 r core a (λ s. ap (λ (f : Found). nameEnd f s) (sym e)) h
 
-  pub name-form : (k : ℕ) (a : Ended) → knownOf (Form k) ≡ found → Refuses 12 r a → Leaf (nameEnd found) 2 r core core a
-  unfolding nameEnd knownOf
+  pub name-form : (k : ℕ) (a : Ended) → meansOf (Form k) ≡ found → Refuses 12 r a → Leaf (nameEnd found) 2 r core core a
+  unfolding nameEnd meansOf
   name-form k a e h = refused-leaf (nameEnd found) 2 12 r core a (λ s. ap (λ (f : Found). nameEnd f s) (sym e)) h
 
-  pub name-variable : (n : ℕ) (q : Reached) → knownOf (Variable n) ≡ found → Moved (0 ∷ n ∷ []) r core core′ q → Leaf (nameEnd found) 2 r core core′ (Done q)
-  unfolding nameEnd knownOf encode nodeWords
+  pub name-variable : (n : ℕ) (q : Reached) → meansOf (Variable n) ≡ found → Moved (0 ∷ n ∷ []) r core core′ q → Leaf (nameEnd found) 2 r core core′ (Done q)
+  unfolding nameEnd meansOf encode nodeWords
   name-variable n q e m = record { term = variableC n; is = λ s. ap (λ (f : Found). nameEnd f s) (sym e); short = omega arith; moves = m }
 
-  pub name-operation : (p : ℕ) (q : Reached) → knownOf (Operation p) ≡ found → Moved (1 ∷ p ∷ []) r core core′ q → Leaf (nameEnd found) 2 r core core′ (Done q)
-  unfolding nameEnd knownOf encode nodeWords
+  pub name-operation : (p : ℕ) (q : Reached) → meansOf (Operation p) ≡ found → Moved (1 ∷ p ∷ []) r core core′ q → Leaf (nameEnd found) 2 r core core′ (Done q)
+  unfolding nameEnd meansOf encode nodeWords
   name-operation p q e m = record { term = operationC p; is = λ s. ap (λ (f : Found). nameEnd f s) (sym e); short = omega arith; moves = m }
 
 pub expandName-end : (limit : ℕ) (operations : List ℕ) (fuel : ℕ) (expand : Tree → M (Term Name)) (found : Found) (s : State) → endOf (expandName limit operations fuel expand found s) ≡ nameEnd found s
@@ -132,48 +134,48 @@ constant-small a e = go (a .kind) _ _ e
 
 -- ---- a leaf ends the expression
 
-module _ (items : List ℕ) (fuel : ℕ) (tree : Tree) (r : Reached) (work core core′ macros : List ℕ) (E : State → End (Term Name)) (is : (expand : Tree → M (Term Name)) (s : State) → turnOf items fuel expand tree s ≡ E s) (ready : Ready items fuel (size tree) r (tables work core macros)) where
-  made-ends : (q : Reached) → Makes E (2 * size tree) r core core′ q → Ends items fuel tree r (tables work core macros) (tables work core′ macros) (Done q)
+module _ (operations : List ℕ) (fuel : ℕ) (tree : Tree) (r : Reached) (work core core′ macros : List ℕ) (E : State → End (Term Name)) (is : (expand : Tree → M (Term Name)) (s : State) → turnOf operations fuel expand tree s ≡ E s) (ready : Ready fuel (size tree) r (tables work core macros)) where
+  made-ends : (q : Reached) → Makes E (2 * size tree) r core core′ q → Ends operations fuel tree r (tables work core macros) (tables work core′ macros) (Done q)
   made-ends q m =
       record {
-        kept = kept-moved items fuel (size tree) 0 r q work core core′ macros (encode (m .term)) ready (m .moves) (omega arith) (omega (arith, m .short));
+        kept = kept-moved fuel (size tree) 0 r q work core core′ macros (encode (m .term)) ready (m .moves) (omega arith) (omega (arith, m .short));
         means = λ expand.
-            subst (λ (e : End (Term Name)). Left items encode r core (tables work core′ macros) e (Done q))
-            (sym (is expand (stateAt items (tables work core macros) r) ∙ m .is (stateAt items (tables work core macros) r)))
-            (state-moved items r q work core core′ macros (encode (m .term)) (m .moves), m .moves .put);
+            subst (λ (e : End (Term Name)). Left encode r core (tables work core′ macros) e (Done q))
+            (sym (is expand (stateAt (tables work core macros) r) ∙ m .is (stateAt (tables work core macros) r)))
+            (state-moved r q work core core′ macros (encode (m .term)) (m .moves), m .moves .put);
       }
 
-  stopped-ends : (g n k : ℕ) → Stops E r g n k → Ends items fuel tree r (tables work core macros) (tables work core′ macros) (Refused g n k)
+  stopped-ends : (g n k : ℕ) → Stops E r g n k → Ends operations fuel tree r (tables work core macros) (tables work core′ macros) (Refused g n k)
   unfolding stateAt
   stopped-ends g n k m =
       record {
         kept = tt;
         means = λ expand.
-            subst (λ (e : End (Term Name)). Left items encode r core (tables work core′ macros) e (Refused g n k))
-            (sym (is expand (stateAt items (tables work core macros) r) ∙ m .is (stateAt items (tables work core macros) r)))
+            subst (λ (e : End (Term Name)). Left encode r core (tables work core′ macros) e (Refused g n k))
+            (sym (is expand (stateAt (tables work core macros) r) ∙ m .is (stateAt (tables work core macros) r)))
             (refl, sym (m .steps-are), sym (m .sum-is));
       }
 
-  pub leaf-ends : (a : Ended) → Leaf E (2 * size tree) r core core′ a → Ends items fuel tree r (tables work core macros) (tables work core′ macros) a
+  pub leaf-ends : (a : Ended) → Leaf E (2 * size tree) r core core′ a → Ends operations fuel tree r (tables work core macros) (tables work core′ macros) a
   leaf-ends (Done q) m = made-ends q m
   leaf-ends (Refused g n k) m = stopped-ends g n k m
 
 -- ---- a list whose head is a name, by what the name finds
 
-pub headed : (items : List ℕ) (fuel : ℕ) (x : Name) (t : Tree) (found : Found) → lookup (operationsOf items) x ≡ found → (expand : Tree → M (Term Name)) (s : State)
-    → turnOf items fuel expand (pair (name x) t) s ≡ endOf (expandList macrosMost (operationsOf items) fuel expand found x (pair (name x) t) s)
-headed items fuel x t found e expand s =
-    list-end macrosMost (operationsOf items) fuel expand x t s
-    ∙ ap (λ (f : Found). endOf (expandList macrosMost (operationsOf items) fuel expand f x (pair (name x) t) s)) e
+pub headed : (operations : List ℕ) (fuel : ℕ) (x : Name) (t : Tree) (found : Found) → lookup operations x ≡ found → (expand : Tree → M (Term Name)) (s : State)
+    → turnOf operations fuel expand (pair (name x) t) s ≡ endOf (expandList macrosMost operations fuel expand found x (pair (name x) t) s)
+headed operations fuel x t found e expand s =
+    list-end macrosMost operations fuel expand x t s
+    ∙ ap (λ (f : Found). endOf (expandList macrosMost operations fuel expand f x (pair (name x) t) s)) e
 
 -- ---- a refusal ends the expression
 
-module _ (items : List ℕ) (fuel : ℕ) (tree : Tree) (r : Reached) (before after : Tables) (g : ℕ) (is : (expand : Tree → M (Term Name)) (s : State) → turnOf items fuel expand tree s ≡ stopped g s) where
-  pub refused-ends : (a : Ended) → Refuses g r a → Ends items fuel tree r before after a
+module _ (operations : List ℕ) (fuel : ℕ) (tree : Tree) (r : Reached) (before after : Tables) (g : ℕ) (is : (expand : Tree → M (Term Name)) (s : State) → turnOf operations fuel expand tree s ≡ stopped g s) where
+  pub refused-ends : (a : Ended) → Refuses g r a → Ends operations fuel tree r before after a
   unfolding stateAt
   refused-ends a e =
-      subst (λ (b : Ended). Ends items fuel tree r before after b) (sym e)
+      subst (λ (b : Ended). Ends operations fuel tree r before after b) (sym e)
       (record {
         kept = tt;
-        means = λ expand. subst (λ (z : End (Term Name)). Left items encode r (before .core) after z (Refused g (r .steps) (r .sum))) (sym (is expand (stateAt items before r))) (refl, refl, refl);
+        means = λ expand. subst (λ (z : End (Term Name)). Left encode r (before .core) after z (Refused g (r .steps) (r .sum))) (sym (is expand (stateAt before r))) (refl, refl, refl);
       })

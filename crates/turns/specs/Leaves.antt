@@ -8,28 +8,13 @@ use Rattle.datum.specs.Datum.{constantD}
 use Rattle.recipe.specs.Name.{variable, macro, Name}
 use Rattle.core_term.specs.Term.{Term, variableC, operationC, datumC}
 use Rattle.core_term.specs.Words.{encode}
-use Rattle.expansion.specs.Lookup.{Found, bound, form, operation, nothing, formOf}
+use Rattle.expansion.specs.Lookup.{Found, bound, form, operation, nothing}
 use Rattle.expansion.specs.Computation.{State}
 use Rattle.turns.specs.declared.answers.Reached.{Reached}
 use Rattle.turns.specs.declared.answers.Ended.{Ended}
 use Rattle.turns.specs.declared.answers.Ended.the-variants.{Done, Refused}
-use Rattle.turns.specs.declared.leaf.Known.{Known}
-use Rattle.turns.specs.declared.leaf.Known.the-variants.{Variable, Macro, Form, Operation}
-use Rattle.turns.specs.declared.leaf.Looked.{Looked}
-use Rattle.turns.specs.declared.leaf.Looked.the-variants.{Finds, Nothing}
 use Rattle.turns.specs.Ends.{End, finished, stopped}
 use Rattle.turns.specs.Memory.{Moved}
-
--- what a lookup finds, or nothing
-unfoldable pub knownOf : Known → Found
-knownOf (Variable n) = bound (variable n)
-knownOf (Macro n) = bound (macro n)
-knownOf (Form k) = form (formOf k)
-knownOf (Operation p) = operation p
-
-abbrev pub Looks : Found → Looked → Type 0
-Looks found (Finds k) = knownOf k ≡ found
-Looks found Nothing = nothing ≡ found
 
 -- ground g with the counts so far
 abbrev pub Refuses : ℕ → Reached → Ended → Type 0

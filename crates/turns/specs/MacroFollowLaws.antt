@@ -30,7 +30,7 @@ use Rattle.turns.specs.Ends.{End, endOf, needs, given, withMacros}
 use Rattle.turns.specs.EndLaws.{scope, macros-end}
 use Rattle.turns.specs.Memory.{Tables, tables, macrosAt, stateAt, workNeed, coreNeed, variableNeed, macroNeed, Proper, Macros, Ready, Kept}
 use Rattle.turns.specs.MemoryLaws.{macrosAt-length}
-use Rattle.turns.specs.Turns.{operationsOf, Left, turnOf, Ends, Follows}
+use Rattle.turns.specs.Turns.{Left, turnOf, Ends, Follows}
 use Rattle.turns.specs.UseTurnLaws.{left-same}
 use Rattle.turns.specs.MacroTurns.{formsOf, grown, Known, MacrosKnown, MacrosRefused}
 use Rattle.turns.specs.MacroTurnLaws.{macros-rate, macros-sizes}
@@ -54,47 +54,47 @@ rules-sound inside t k rules good e = given-at (given-traverse (each-weaken (λ 
 
 -- ---- the turn
 
-state-grown : (items : List ℕ) (r q : Reached) (a b : Tables) (rules : List (List Rule)) → q .steps ≡ r .steps → q .sum ≡ r .sum → q .variables ≡ r .variables
-    → macrosAt items (b .work) (b .macros) (q .macros) ≡ macrosAt items (a .work) (a .macros) (r .macros) ++ rules → stateAt items b q ≡ withMacros rules (stateAt items a r)
+state-grown : (r q : Reached) (a b : Tables) (rules : List (List Rule)) → q .steps ≡ r .steps → q .sum ≡ r .sum → q .variables ≡ r .variables
+    → macrosAt (b .work) (b .macros) (q .macros) ≡ macrosAt (a .work) (a .macros) (r .macros) ++ rules → stateAt b q ≡ withMacros rules (stateAt a r)
 unfolding stateAt withMacros
-state-grown items r q a b rules e1 e2 e3 e4 = rw (e1, e2, e3, e4)
+state-grown r q a b rules e1 e2 e3 e4 = rw (e1, e2, e3, e4)
 
-module _ (items : List ℕ) (fuel : ℕ) (t : Tree) (inside : Bool) (head : Name) (r : Reached) (work work′ core macros macros′ : List ℕ)
-    (turn : (expand : Tree → M (Term Name)) (s : State) → turnOf items fuel expand t s ≡ endOf (expandMacros macrosMost (operationsOf items) fuel expand inside head t s)) where
+module _ (operations : List ℕ) (fuel : ℕ) (t : Tree) (inside : Bool) (head : Name) (r : Reached) (work work′ core macros macros′ : List ℕ)
+    (turn : (expand : Tree → M (Term Name)) (s : State) → turnOf operations fuel expand t s ≡ endOf (expandMacros macrosMost operations fuel expand inside head t s)) where
   abbrev state : State
-  state = stateAt items (tables work core macros) r
+  state = stateAt (tables work core macros) r
 
   counted : length (state .macros) ≡ r .macros
   unfolding stateAt
-  counted = macrosAt-length items work macros (r .macros)
+  counted = macrosAt-length work macros (r .macros)
 
-  macros-turn : (expand : Tree → M (Term Name)) (s : State) → length (s .macros) ≡ r .macros → turnOf items fuel expand t s
+  macros-turn : (expand : Tree → M (Term Name)) (s : State) → length (s .macros) ≡ r .macros → turnOf operations fuel expand t s
       ≡ needs 13 (isMacros macrosMost t) s (needs 14 (distinct (keywords t)) s
       (given 15 s (λ rules. endOf (expand (bindAll macro (r .macros) (keywords t) (element 2 t)) (withMacros rules s))) (traverse rulesOf (formsOf inside t (r .macros)))))
   unfolding scope formsOf
-  macros-turn expand s e = turn expand s ∙ macros-end macrosMost (operationsOf items) fuel expand inside head t s ∙ rw e
+  macros-turn expand s e = turn expand s ∙ macros-end macrosMost operations fuel expand inside head t s ∙ rw e
 
-  pub macros-refused : (a : Ended) → MacrosRefused t inside r a → Ends items fuel t r (tables work core macros) (tables work′ core macros′) a
+  pub macros-refused : (a : Ended) → MacrosRefused t inside r a → Ends operations fuel t r (tables work core macros) (tables work′ core macros′) a
   unfolding stateAt
   macros-refused a x =
-      subst (λ (b : Ended). Ends items fuel t r (tables work core macros) (tables work′ core macros′) b) (sym (x .refuses))
+      subst (λ (b : Ended). Ends operations fuel t r (tables work core macros) (tables work′ core macros′) b) (sym (x .refuses))
       (record {
         kept = tt;
-        means = λ expand. subst (λ (z : End (Term Name)). Left items encode r core (tables work′ core macros′) z (Refused (x .ground) (r .steps) (r .sum))) (sym (macros-turn expand state counted ∙ x .is _ state)) (refl, refl, refl);
+        means = λ expand. subst (λ (z : End (Term Name)). Left encode r core (tables work′ core macros′) z (Refused (x .ground) (r .steps) (r .sum))) (sym (macros-turn expand state counted ∙ x .is _ state)) (refl, refl, refl);
       })
 
-  module _ (node w : ℕ) (q : Reached) (y : MacrosKnown t inside items r work work′ macros macros′ node w q) (good : Proper t)
-      (ready : Ready items fuel (size t) r (tables work core macros)) (long : length work′ ≡ length work) (macros-long : length macros′ ≡ length macros) where
-    x : Known t inside items r work work′ macros macros′ node w q
+  module _ (node w : ℕ) (q : Reached) (y : MacrosKnown t inside r work work′ macros macros′ node w q) (good : Proper t)
+      (ready : Ready fuel (size t) r (tables work core macros)) (long : length work′ ≡ length work) (macros-long : length macros′ ≡ length macros) where
+    x : Known t inside r work work′ macros macros′ node w q
     x = y .knows
 
     sizes : 9 * length (keywords t) + 5 * size (element 1 t) + 9 * size (element 2 t) + 5 ≤ 9 * size t
     sizes = macros-sizes t (y .shape)
 
-    body-size : size (treeAt items work′ node w) ≡ size (element 2 t)
+    body-size : size (treeAt work′ node w) ≡ size (element 2 t)
     body-size = ap size (x .body-is) ∙ bindAll-size macro (r .macros) (keywords t) (element 2 t)
 
-    known-macros : Macros items q (tables work′ core macros′)
+    known-macros : Macros q (tables work′ core macros′)
     known-macros =
         record {
           below = x .below;
@@ -102,7 +102,7 @@ module _ (items : List ℕ) (fuel : ℕ) (t : Tree) (inside : Bool) (head : Name
           sound = rw (x .means) (each-append (ready .macros-are .sound) (rules-sound inside t (r .macros) (x .rules) good (x .is)));
         }
 
-    known-kept : Kept items fuel (size t) (size (treeAt items work′ node w)) r q (tables work core macros) (tables work′ core macros′)
+    known-kept : Kept fuel (size t) (size (treeAt work′ node w)) r q (tables work core macros) (tables work′ core macros′)
     unfolding workNeed coreNeed variableNeed macroNeed grown
     known-kept =
         let at-is : q .at ≡ r .at = ap (λ (z : Reached). z .at) (x .numbers) in
@@ -128,19 +128,19 @@ module _ (items : List ℕ) (fuel : ℕ) (t : Tree) (inside : Bool) (head : Name
           macros-are = known-macros;
         }
 
-    known-state : stateAt items (tables work′ core macros′) q ≡ withMacros (x .rules) state
+    known-state : stateAt (tables work′ core macros′) q ≡ withMacros (x .rules) state
     unfolding grown
     known-state =
         let steps-are : q .steps ≡ r .steps = ap (λ (z : Reached). z .steps) (x .numbers) in
         let sum-is : q .sum ≡ r .sum = ap (λ (z : Reached). z .sum) (x .numbers) in
         let variables-are : q .variables ≡ r .variables = ap (λ (z : Reached). z .variables) (x .numbers) in
-        state-grown items r q (tables work core macros) (tables work′ core macros′) (x .rules) steps-are sum-is variables-are (x .means)
+        state-grown r q (tables work core macros) (tables work′ core macros′) (x .rules) steps-are sum-is variables-are (x .means)
 
-    known-turn : (expand : Tree → M (Term Name)) → turnOf items fuel expand t state ≡ endOf (expand (bindAll macro (r .macros) (keywords t) (element 2 t)) (withMacros (x .rules) state))
+    known-turn : (expand : Tree → M (Term Name)) → turnOf operations fuel expand t state ≡ endOf (expand (bindAll macro (r .macros) (keywords t) (element 2 t)) (withMacros (x .rules) state))
     unfolding needs given
     known-turn expand = macros-turn expand state counted ∙ rw (y .shape, y .apart, x .is)
 
-    pub macros-follows : Follows items fuel t r (tables work core macros) (tables work′ core macros′) node w q
+    pub macros-follows : Follows operations fuel t r (tables work core macros) (tables work′ core macros′) node w q
     unfolding grown
     macros-follows =
         let k = known-kept in
@@ -154,8 +154,8 @@ module _ (items : List ℕ) (fuel : ℕ) (t : Tree) (inside : Bool) (head : Name
           };
           falls = omega (arith, body-size, sizes, k .sum-grows);
           means = λ expand a last l.
-              subst (λ (e : End (Term Name)). Left items encode r core last e a) (sym (known-turn expand))
-              (left-same items r q core last (endOf (expand (bindAll macro (r .macros) (keywords t) (element 2 t)) (withMacros (x .rules) state))) a at-is
-              (subst (λ (z : State). Left items encode q core last (endOf (expand (bindAll macro (r .macros) (keywords t) (element 2 t)) z)) a) known-state
-              (subst (λ (z : Tree). Left items encode q core last (endOf (expand z (stateAt items (tables work′ core macros′) q))) a) (x .body-is) l)));
+              subst (λ (e : End (Term Name)). Left encode r core last e a) (sym (known-turn expand))
+              (left-same r q core last (endOf (expand (bindAll macro (r .macros) (keywords t) (element 2 t)) (withMacros (x .rules) state))) a at-is
+              (subst (λ (z : State). Left encode q core last (endOf (expand (bindAll macro (r .macros) (keywords t) (element 2 t)) z)) a) known-state
+              (subst (λ (z : Tree). Left encode q core last (endOf (expand z (stateAt (tables work′ core macros′) q))) a) (x .body-is) l)));
         }

@@ -19,40 +19,40 @@ Below macros count top = (k : ℕ) → k < count → getD macros k 0 ≤ top
 
 -- ---- one macro
 
-pub record OneAsk (items work macros : List ℕ) (form w count top : ℕ) : Type 0 where
-  pub asks : Asks items work form w top
+pub record OneAsk (work macros : List ℕ) (form w count top : ℕ) : Type 0 where
+  pub asks : Asks work form w top
   pub slot : count < length macros
   pub below : Below macros count top
 
-pub record OneRead (form : Tree) (items work work′ macros macros′ : List ℕ) (count top upper : ℕ) : Type 0 where
+pub record OneRead (form : Tree) (work work′ macros macros′ : List ℕ) (count top upper : ℕ) : Type 0 where
   pub rules : List Rule
   pub is : rulesOf form ≡ some rules
-  pub means : macrosAt items work′ macros′ (count + 1) ≡ macrosAt items work macros count ++ (rules ∷ [])
+  pub means : macrosAt work′ macros′ (count + 1) ≡ macrosAt work macros count ++ (rules ∷ [])
   pub below : Below macros′ (count + 1) upper
   pub up : top ≤ upper
   pub words : upper ≤ top + 5 * size form
   pub kept : take top work′ ≡ take top work
   pub known : take count macros′ ≡ take count macros
 
-abbrev pub OneLeft : (form : Tree) (items work work′ macros macros′ : List ℕ) (count top : ℕ) → Read → Type 0
-OneLeft form items work work′ macros macros′ count top (Good upper) = OneRead form items work work′ macros macros′ count top upper
-OneLeft form items work work′ macros macros′ count top Bad = rulesOf form ≡ none
+abbrev pub OneLeft : (form : Tree) (work work′ macros macros′ : List ℕ) (count top : ℕ) → Read → Type 0
+OneLeft form work work′ macros macros′ count top (Good upper) = OneRead form work work′ macros macros′ count top upper
+OneLeft form work work′ macros macros′ count top Bad = rulesOf form ≡ none
 
 -- ---- a list of (name rules)
 
 unfoldable pub formsIn : Tree → List Tree
 formsIn t = map (element 1) (elements t)
 
-pub record AllAsk (items work macros : List ℕ) (list w count top : ℕ) : Type 0 where
-  pub asks : Asks items work list w top
-  pub slots : count + length (formsIn (treeAt items work list w)) ≤ length macros
-  pub few : count + length (formsIn (treeAt items work list w)) < 2 ^ 32
+pub record AllAsk (work macros : List ℕ) (list w count top : ℕ) : Type 0 where
+  pub asks : Asks work list w top
+  pub slots : count + length (formsIn (treeAt work list w)) ≤ length macros
+  pub few : count + length (formsIn (treeAt work list w)) < 2 ^ 32
   pub below : Below macros count top
 
-pub record AllRead (list : Tree) (items work work′ macros macros′ : List ℕ) (count top upper : ℕ) : Type 0 where
+pub record AllRead (list : Tree) (work work′ macros macros′ : List ℕ) (count top upper : ℕ) : Type 0 where
   pub rules : List (List Rule)
   pub is : traverse rulesOf (formsIn list) ≡ some rules
-  pub means : macrosAt items work′ macros′ (count + length (formsIn list)) ≡ macrosAt items work macros count ++ rules
+  pub means : macrosAt work′ macros′ (count + length (formsIn list)) ≡ macrosAt work macros count ++ rules
   pub below : Below macros′ (count + length (formsIn list)) upper
   pub up : top ≤ upper
   pub words : upper ≤ top + 5 * size list
@@ -60,11 +60,11 @@ pub record AllRead (list : Tree) (items work work′ macros macros′ : List ℕ
   pub known : take count macros′ ≡ take count macros
 
 -- bad exactly where the definition lacks the rules of one
-abbrev pub AllLeft : (list : Tree) (items work work′ macros macros′ : List ℕ) (count top : ℕ) → Read → Type 0
-AllLeft list items work work′ macros macros′ count top (Good upper) = AllRead list items work work′ macros macros′ count top upper
-AllLeft list items work work′ macros macros′ count top Bad = traverse rulesOf (formsIn list) ≡ none
+abbrev pub AllLeft : (list : Tree) (work work′ macros macros′ : List ℕ) (count top : ℕ) → Read → Type 0
+AllLeft list work work′ macros macros′ count top (Good upper) = AllRead list work work′ macros macros′ count top upper
+AllLeft list work work′ macros macros′ count top Bad = traverse rulesOf (formsIn list) ≡ none
 
 -- rules are read up to the node's: what reading those leaves is what reading the whole list leaves
-pub record Reading (items old known : List ℕ) (list w count top : ℕ) (work macros : List ℕ) (node n end : ℕ) : Type 0 where
-  pub ask : AllAsk items work macros node w n end
-  pub whole : (new macros′ : List ℕ) (r : Read) → AllLeft (treeAt items work node w) items work new macros macros′ n end r → AllLeft (treeAt items old list w) items old new known macros′ count top r
+pub record Reading (old known : List ℕ) (list w count top : ℕ) (work macros : List ℕ) (node n end : ℕ) : Type 0 where
+  pub ask : AllAsk work macros node w n end
+  pub whole : (new macros′ : List ℕ) (r : Read) → AllLeft (treeAt work node w) work new macros macros′ n end r → AllLeft (treeAt old list w) old new known macros′ count top r

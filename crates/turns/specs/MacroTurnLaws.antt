@@ -108,9 +108,9 @@ macros-sizes t e =
 
 -- ---- what the code needs, and what it leaves
 
-module _ (items work macros : List ℕ) (node w : ℕ) (inside : Bool) (r : Reached) (room : MacroRoom items work macros node w r) (shape : isMacros macrosMost (treeAt items work node w) ≡ true) where
+module _ (work macros : List ℕ) (node w : ℕ) (inside : Bool) (r : Reached) (room : MacroRoom work macros node w r) (shape : isMacros macrosMost (treeAt work node w) ≡ true) where
   abbrev tree : Tree
-  tree = treeAt items work node w
+  tree = treeAt work node w
 
   pub macros-all-names : AllNames true (element 1 tree)
   macros-all-names = macros-names tree macrosMost shape
@@ -137,7 +137,7 @@ module _ (items work macros : List ℕ) (node w : ℕ) (inside : Bool) (r : Reac
 
   module _ (list count : ℕ) (list-is : Means work node list (element 1)) (count-is : Counts work list count) where
     macros-count : count ≡ length (keywords tree)
-    macros-count = count-is .is items w ∙ ap (λ (t : Tree). length (elements t)) (list-is .is items w) ∙ sym (keywords-count tree macros-all-names)
+    macros-count = count-is .is w ∙ ap (λ (t : Tree). length (elements t)) (list-is .is w) ∙ sym (keywords-count tree macros-all-names)
 
     pub macros-few : r .macros + count < 2 ^ 32
     macros-few = omega (arith, macros-count, count-most, room .few)
@@ -150,9 +150,9 @@ module _ (items work macros : List ℕ) (node w : ℕ) (inside : Bool) (r : Reac
       abbrev scope : Tree → Tree
       scope = bindAll macro (r .macros) (keywords tree)
 
-      list-tree : (b : Bool) → treeAt items mid list (cond b wrap w) ≡ cond b scope (λ t. t) (element 1 tree)
-      list-tree true = scoped-tree macro (r .macros) (keywords tree) w work mid (r .top) wrap end scoped items list list-below ∙ ap scope (list-is .is items w)
-      list-tree false = tree-kept items work mid (r .top) list w list-below (room .placed .wrap-below) (scoped .kept) ∙ list-is .is items w
+      list-tree : (b : Bool) → treeAt mid list (cond b wrap w) ≡ cond b scope (λ t. t) (element 1 tree)
+      list-tree true = scoped-tree macro (r .macros) (keywords tree) w work mid (r .top) wrap end scoped list list-below ∙ ap scope (list-is .is w)
+      list-tree false = tree-kept work mid (r .top) list w list-below (room .placed .wrap-below) (scoped .kept) ∙ list-is .is w
 
       list-forms : (b : Bool) → formsIn (cond b scope (λ t. t) (element 1 tree)) ≡ formsOf b tree (r .macros)
       unfolding formsOf formsIn rulesForms
@@ -163,20 +163,20 @@ module _ (items work macros : List ℕ) (node w : ℕ) (inside : Bool) (r : Reac
       list-size true = bindAll-size macro (r .macros) (keywords tree) (element 1 tree)
       list-size false = refl
 
-      is-list : treeAt items mid list rules-wrap ≡ cond inside scope (λ t. t) (element 1 tree)
-      is-list = ap (treeAt items mid list) wrap-is ∙ list-tree inside
+      is-list : treeAt mid list rules-wrap ≡ cond inside scope (λ t. t) (element 1 tree)
+      is-list = ap (treeAt mid list) wrap-is ∙ list-tree inside
 
-      forms-are : formsIn (treeAt items mid list rules-wrap) ≡ formsOf inside tree (r .macros)
+      forms-are : formsIn (treeAt mid list rules-wrap) ≡ formsOf inside tree (r .macros)
       forms-are = ap formsIn is-list ∙ list-forms inside
 
-      size-same : size (treeAt items mid list rules-wrap) ≡ size (element 1 tree)
+      size-same : size (treeAt mid list rules-wrap) ≡ size (element 1 tree)
       size-same = ap size is-list ∙ list-size inside
 
       map-length : (f : Tree → Tree) (l : List Tree) → length (map f l) ≡ length l
       map-length f [] = refl
       map-length f (x ∷ xs) = ap suc (map-length f xs)
 
-      forms-count : length (formsIn (treeAt items mid list rules-wrap)) ≡ length (keywords tree)
+      forms-count : length (formsIn (treeAt mid list rules-wrap)) ≡ length (keywords tree)
       unfolding formsOf rulesForms
       forms-count =
           ap length forms-are
@@ -191,7 +191,7 @@ module _ (items work macros : List ℕ) (node w : ℕ) (inside : Bool) (r : Reac
       rules-wrap-low : rules-wrap ≤ end
       rules-wrap-low = rw wrap-is (wrap-low inside)
 
-      pub macros-ask : AllAsk items mid macros list rules-wrap (r .macros) end
+      pub macros-ask : AllAsk mid macros list rules-wrap (r .macros) end
       macros-ask =
           record {
             asks = record {
@@ -207,29 +207,29 @@ module _ (items work macros : List ℕ) (node w : ℕ) (inside : Bool) (r : Reac
             below = λ k h. let g = room .below k h in omega (arith, scoped .end-is);
           }
 
-      module _ (work′ macros′ : List ℕ) (a : Read) (left : AllLeft (treeAt items mid list rules-wrap) items mid work′ macros macros′ (r .macros) end a) where
+      module _ (work′ macros′ : List ℕ) (a : Read) (left : AllLeft (treeAt mid list rules-wrap) mid work′ macros macros′ (r .macros) end a) where
         pub macros-bad : a ≡ Bad → traverse rulesOf (formsOf inside tree (r .macros)) ≡ none
         macros-bad e =
-            let n : traverse rulesOf (formsIn (treeAt items mid list rules-wrap)) ≡ none = subst (λ (z : Read). AllLeft (treeAt items mid list rules-wrap) items mid work′ macros macros′ (r .macros) end z) e left in
+            let n : traverse rulesOf (formsIn (treeAt mid list rules-wrap)) ≡ none = subst (λ (z : Read). AllLeft (treeAt mid list rules-wrap) mid work′ macros macros′ (r .macros) end z) e left in
             ap (traverse rulesOf) (sym forms-are) ∙ n
 
-        pub macros-known : (top body : ℕ) → a ≡ Good top → Means work node body (element 2) → Known tree inside items r work work′ macros macros′ body wrap (grown top count r)
+        pub macros-known : (top body : ℕ) → a ≡ Good top → Means work node body (element 2) → Known tree inside r work work′ macros macros′ body wrap (grown top count r)
         unfolding grown
         macros-known top body e body-is =
-            let m : AllRead (treeAt items mid list rules-wrap) items mid work′ macros macros′ (r .macros) end top =
-            subst (λ (z : Read). AllLeft (treeAt items mid list rules-wrap) items mid work′ macros macros′ (r .macros) end z) e left in
+            let m : AllRead (treeAt mid list rules-wrap) mid work′ macros macros′ (r .macros) end top =
+            subst (λ (z : Read). AllLeft (treeAt mid list rules-wrap) mid work′ macros macros′ (r .macros) end z) e left in
             let body-low : body ≤ r .top = omega (arith, body-is .low, room .placed .node-below) in
-            let far : r .macros + count ≡ r .macros + length (formsIn (treeAt items mid list rules-wrap)) = omega (arith, macros-count, forms-count) in
+            let far : r .macros + count ≡ r .macros + length (formsIn (treeAt mid list rules-wrap)) = omega (arith, macros-count, forms-count) in
             let up : r .top ≤ end = omega (arith, scoped .end-is) in
             record {
               rules = m .rules;
               is = ap (traverse rulesOf) (sym forms-are) ∙ m .is;
-              means = ap (macrosAt items work′ macros′) far ∙ m .means ∙ ap (λ (l : List (List Rule)). l ++ m .rules) (macrosAt-settled items work mid macros macros (r .top) (scoped .kept) (r .macros) refl (room .below));
+              means = ap (macrosAt work′ macros′) far ∙ m .means ∙ ap (λ (l : List (List Rule)). l ++ m .rules) (macrosAt-settled work mid macros macros (r .top) (scoped .kept) (r .macros) refl (room .below));
               below = λ k h. m .below k (omega (arith, far));
               body-is =
-                  tree-kept items mid work′ end body wrap (omega arith) (scoped .wrap-below) (m .kept)
-                  ∙ scoped-tree macro (r .macros) (keywords tree) w work mid (r .top) wrap end scoped items body body-low
-                  ∙ ap scope (body-is .is items w);
+                  tree-kept mid work′ end body wrap (omega arith) (scoped .wrap-below) (m .kept)
+                  ∙ scoped-tree macro (r .macros) (keywords tree) w work mid (r .top) wrap end scoped body body-low
+                  ∙ ap scope (body-is .is w);
               body-below = body-low;
               wrap-below = omega (arith, scoped .wrap-below, m .up);
               numbers = ap (λ (n : ℕ). grown top n r) macros-count;
@@ -250,8 +250,8 @@ module _ (t : Tree) (inside : Bool) (r : Reached) where
   unfolding needs
   macros-alike a shape same e = record { ground = 14; is = λ f s. rw (shape, same); refuses = e }
 
-  pub macros-left : (items work work′ macros macros′ : List ℕ) (a : Turn) → isMacros macrosMost t ≡ true → distinct (keywords t) ≡ true → KnownLeft t inside items r work work′ macros macros′ a → MacrosLeft t inside items r work work′ macros macros′ a
+  pub macros-left : (work work′ macros macros′ : List ℕ) (a : Turn) → isMacros macrosMost t ≡ true → distinct (keywords t) ≡ true → KnownLeft t inside r work work′ macros macros′ a → MacrosLeft t inside r work work′ macros macros′ a
   unfolding needs given
-  macros-left items work work′ macros macros′ (Again n w q) shape apart b = record { shape = shape; apart = apart; knows = b }
-  macros-left items work work′ macros macros′ (Operands l w q) shape apart b = absurd b
-  macros-left items work work′ macros macros′ (Over a) shape apart b = record { ground = 15; is = λ f s. rw (shape, apart, b .0); refuses = b .1 }
+  macros-left work work′ macros macros′ (Again n w q) shape apart b = record { shape = shape; apart = apart; knows = b }
+  macros-left work work′ macros macros′ (Operands l w q) shape apart b = absurd b
+  macros-left work work′ macros macros′ (Over a) shape apart b = record { ground = 15; is = λ f s. rw (shape, apart, b .0); refuses = b .1 }

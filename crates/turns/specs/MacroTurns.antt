@@ -24,12 +24,12 @@ use Rattle.turns.specs.Leaves.{Refuses}
 use Rattle.turns.specs.MacroRules.{Below}
 
 -- what is at hand, and room for it
-pub record MacroRoom (items work macros : List ℕ) (node w : ℕ) (r : Reached) : Type 0 where
-  pub placed : Placed items work (r .top) node w
-  pub fits : r .top + itemRate * size (treeAt items work node w) ≤ length work
-  pub small : r .top + itemRate * size (treeAt items work node w) ≤ numberMost
-  pub slots : macroItems * r .macros + size (treeAt items work node w) ≤ macroItems * length macros
-  pub few : r .macros + size (treeAt items work node w) ≤ numberMost
+pub record MacroRoom (work macros : List ℕ) (node w : ℕ) (r : Reached) : Type 0 where
+  pub placed : Placed work (r .top) node w
+  pub fits : r .top + itemRate * size (treeAt work node w) ≤ length work
+  pub small : r .top + itemRate * size (treeAt work node w) ≤ numberMost
+  pub slots : macroItems * r .macros + size (treeAt work node w) ≤ macroItems * length macros
+  pub few : r .macros + size (treeAt work node w) ≤ numberMost
   pub below : Below macros (r .macros) (r .top)
 
 -- the rules forms of a tree whose names are macros from k on; inside their scope or not
@@ -41,12 +41,12 @@ unfoldable pub grown : (top n : ℕ) → Reached → Reached
 grown top n r = record { top = top; at = r .at; steps = r .steps; sum = r .sum; variables = r .variables; macros = r .macros + n }
 
 -- the macros' names are bound in the body, and their rules are known
-pub record Known (tree : Tree) (inside : Bool) (items : List ℕ) (r : Reached) (work work′ macros macros′ : List ℕ) (node w : ℕ) (q : Reached) : Type 0 where
+pub record Known (tree : Tree) (inside : Bool) (r : Reached) (work work′ macros macros′ : List ℕ) (node w : ℕ) (q : Reached) : Type 0 where
   pub rules : List (List Rule)
   pub is : traverse rulesOf (formsOf inside tree (r .macros)) ≡ some rules
-  pub means : macrosAt items work′ macros′ (q .macros) ≡ macrosAt items work macros (r .macros) ++ rules
+  pub means : macrosAt work′ macros′ (q .macros) ≡ macrosAt work macros (r .macros) ++ rules
   pub below : Below macros′ (q .macros) (q .top)
-  pub body-is : treeAt items work′ node w ≡ bindAll macro (r .macros) (keywords tree) (element 2 tree)
+  pub body-is : treeAt work′ node w ≡ bindAll macro (r .macros) (keywords tree) (element 2 tree)
   pub body-below : node ≤ r .top
   pub wrap-below : w ≤ q .top
   pub numbers : q ≡ grown (q .top) (length (keywords tree)) r
@@ -55,15 +55,15 @@ pub record Known (tree : Tree) (inside : Bool) (items : List ℕ) (r : Reached) 
   pub kept : take (r .top) work′ ≡ take (r .top) work
   pub known : take (r .macros) macros′ ≡ take (r .macros) macros
 
-abbrev pub KnownLeft : (tree : Tree) (inside : Bool) (items : List ℕ) (r : Reached) (work work′ macros macros′ : List ℕ) → Turn → Type 0
-KnownLeft tree inside items r work work′ macros macros′ (Again n w q) = Known tree inside items r work work′ macros macros′ n w q
-KnownLeft tree inside items r work work′ macros macros′ (Operands l w q) = ⊥
-KnownLeft tree inside items r work work′ macros macros′ (Over a) = (traverse rulesOf (formsOf inside tree (r .macros)) ≡ none) × Refuses 15 r a
+abbrev pub KnownLeft : (tree : Tree) (inside : Bool) (r : Reached) (work work′ macros macros′ : List ℕ) → Turn → Type 0
+KnownLeft tree inside r work work′ macros macros′ (Again n w q) = Known tree inside r work work′ macros macros′ n w q
+KnownLeft tree inside r work work′ macros macros′ (Operands l w q) = ⊥
+KnownLeft tree inside r work work′ macros macros′ (Over a) = (traverse rulesOf (formsOf inside tree (r .macros)) ≡ none) × Refuses 15 r a
 
-pub record MacrosKnown (tree : Tree) (inside : Bool) (items : List ℕ) (r : Reached) (work work′ macros macros′ : List ℕ) (node w : ℕ) (q : Reached) : Type 0 where
+pub record MacrosKnown (tree : Tree) (inside : Bool) (r : Reached) (work work′ macros macros′ : List ℕ) (node w : ℕ) (q : Reached) : Type 0 where
   pub shape : isMacros macrosMost tree ≡ true
   pub apart : distinct (keywords tree) ≡ true
-  pub knows : Known tree inside items r work work′ macros macros′ node w q
+  pub knows : Known tree inside r work work′ macros macros′ node w q
 
 pub record MacrosRefused (tree : Tree) (inside : Bool) (r : Reached) (a : Ended) : Type 0 where
   pub ground : ℕ
@@ -71,7 +71,7 @@ pub record MacrosRefused (tree : Tree) (inside : Bool) (r : Reached) (a : Ended)
       → needs 13 (isMacros macrosMost tree) s (needs 14 (distinct (keywords tree)) s (given 15 s f (traverse rulesOf (formsOf inside tree (r .macros))))) ≡ stopped ground s
   pub refuses : Refuses ground r a
 
-abbrev pub MacrosLeft : (tree : Tree) (inside : Bool) (items : List ℕ) (r : Reached) (work work′ macros macros′ : List ℕ) → Turn → Type 0
-MacrosLeft tree inside items r work work′ macros macros′ (Again n w q) = MacrosKnown tree inside items r work work′ macros macros′ n w q
-MacrosLeft tree inside items r work work′ macros macros′ (Operands l w q) = ⊥
-MacrosLeft tree inside items r work work′ macros macros′ (Over a) = MacrosRefused tree inside r a
+abbrev pub MacrosLeft : (tree : Tree) (inside : Bool) (r : Reached) (work work′ macros macros′ : List ℕ) → Turn → Type 0
+MacrosLeft tree inside r work work′ macros macros′ (Again n w q) = MacrosKnown tree inside r work work′ macros macros′ n w q
+MacrosLeft tree inside r work work′ macros macros′ (Operands l w q) = ⊥
+MacrosLeft tree inside r work work′ macros macros′ (Over a) = MacrosRefused tree inside r a

@@ -27,12 +27,12 @@ tables work core macros = record { work = work; core = core; macros = macros }
 -- ---- the definition's state
 
 -- the rules of the first n macros
-unfoldable pub macrosAt : (items work macros : List ℕ) → ℕ → List (List Rule)
-macrosAt items work macros zero = []
-macrosAt items work macros (suc n) = macrosAt items work macros n ++ (rulesAt items work (getD macros n 0) ∷ [])
+unfoldable pub macrosAt : (work macros : List ℕ) → ℕ → List (List Rule)
+macrosAt work macros zero = []
+macrosAt work macros (suc n) = macrosAt work macros n ++ (rulesAt work (getD macros n 0) ∷ [])
 
-unfoldable pub stateAt : (items : List ℕ) → Tables → Reached → State
-stateAt items t r = record { steps = r .steps; sum = r .sum; variables = r .variables; macros = macrosAt items (t .work) (t .macros) (r .macros) }
+unfoldable pub stateAt : Tables → Reached → State
+stateAt t r = record { steps = r .steps; sum = r .sum; variables = r .variables; macros = macrosAt (t .work) (t .macros) (r .macros) }
 
 -- ---- core words
 
@@ -56,7 +56,7 @@ pub record Moved (words : List ℕ) (r : Reached) (before after : List ℕ) (q :
 
 -- an application's header and its named head, whatever waits on the list of operands
 abbrev pub HeaderMoved : (list code number : ℕ) (r : Reached) (work before after : List ℕ) (q : Reached) → Type 0
-HeaderMoved list code number r work before after q = (items : List ℕ) (w : ℕ) → Moved (8 ∷ length (elements (treeAt items work list w)) ∷ code ∷ number ∷ []) r before after q
+HeaderMoved list code number r work before after q = (w : ℕ) → Moved (8 ∷ length (elements (treeAt work list w)) ∷ code ∷ number ∷ []) r before after q
 
 -- ---- the budget
 
@@ -95,17 +95,16 @@ abbrev pub Proper : Tree → Type 0
 Proper = Tidy (λ x. Unit {0}) IsConstant
 
 -- the macros so far: their rules stand below the top, insert proper trees, and are sound
-pub record Macros (items : List ℕ) (r : Reached) (t : Tables) : Type 0 where
+pub record Macros (r : Reached) (t : Tables) : Type 0 where
   pub below : (k : ℕ) → k < r .macros → getD (t .macros) k 0 ≤ r .top
-  pub proper : Each (TidyRules (λ x. Unit {0}) IsConstant) (macrosAt items (t .work) (t .macros) (r .macros))
-  pub sound : Each (Each SoundRule) (macrosAt items (t .work) (t .macros) (r .macros))
+  pub proper : Each (TidyRules (λ x. Unit {0}) IsConstant) (macrosAt (t .work) (t .macros) (r .macros))
+  pub sound : Each (Each SoundRule) (macrosAt (t .work) (t .macros) (r .macros))
 
 -- a tree of n items may be expanded from r
-pub record Ready (items : List ℕ) (fuel n : ℕ) (r : Reached) (t : Tables) : Type 0 where
+pub record Ready (fuel n : ℕ) (r : Reached) (t : Tables) : Type 0 where
   pub fuelled : fuel ≤ 8192
   pub spent : r .sum ≤ fuel
   pub stepped : r .steps ≤ r .sum
-  pub items-below : length items ≤ r .top
   pub room : workNeed fuel n r ≤ length (t .work)
   pub core-room : coreNeed fuel n r ≤ length (t .core)
   pub macro-room : macroNeed fuel n r ≤ macroItems * length (t .macros)
@@ -113,16 +112,16 @@ pub record Ready (items : List ℕ) (fuel n : ℕ) (r : Reached) (t : Tables) : 
   pub core-small : coreNeed fuel n r ≤ numberMost
   pub few : variableNeed fuel n r ≤ numberMost
   pub macros-few : macroNeed fuel n r ≤ numberMost
-  pub macros-are : Macros items r t
+  pub macros-are : Macros r t
 
 -- the expression or list at hand
-pub record Placed (items work : List ℕ) (top node w : ℕ) : Type 0 where
+pub record Placed (work : List ℕ) (top node w : ℕ) : Type 0 where
   pub node-below : node ≤ top
   pub wrap-below : w ≤ top
-  pub proper : Proper (treeAt items work node w)
+  pub proper : Proper (treeAt work node w)
 
 -- from r to q, where m of n items are left to expand; in the difference form, so that siblings need nothing
-pub record Kept (items : List ℕ) (fuel n m : ℕ) (r q : Reached) (before after : Tables) : Type 0 where
+pub record Kept (fuel n m : ℕ) (r q : Reached) (before after : Tables) : Type 0 where
   pub work-long : length (after .work) ≡ length (before .work)
   pub core-long : length (after .core) ≡ length (before .core)
   pub macros-long : length (after .macros) ≡ length (before .macros)
@@ -137,7 +136,7 @@ pub record Kept (items : List ℕ) (fuel n m : ℕ) (r q : Reached) (before afte
   pub core-spent : coreNeed fuel m q ≤ coreNeed fuel n r
   pub variables-spent : variableNeed fuel m q ≤ variableNeed fuel n r
   pub macros-spent : macroNeed fuel m q ≤ macroNeed fuel n r
-  pub macros-are : Macros items q after
+  pub macros-are : Macros q after
 
 -- the term's words follow those before r .at; the rest of the table is as it was
 abbrev pub Written : (r q : Reached) (words before after : List ℕ) → Type 0

@@ -50,8 +50,8 @@ module _ {at p q : ℕ} {header words core core₁ core₂ : List ℕ} where
 
 -- ---- the state depends on what is settled alone
 
-module _ (items work work′ macros macros′ : List ℕ) (top : ℕ) (arena : take top work′ ≡ take top work) where
-  pub macrosAt-settled : (n : ℕ) → take n macros′ ≡ take n macros → ((k : ℕ) → k < n → getD macros k 0 ≤ top) → macrosAt items work′ macros′ n ≡ macrosAt items work macros n
+module _ (work work′ macros macros′ : List ℕ) (top : ℕ) (arena : take top work′ ≡ take top work) where
+  pub macrosAt-settled : (n : ℕ) → take n macros′ ≡ take n macros → ((k : ℕ) → k < n → getD macros k 0 ≤ top) → macrosAt work′ macros′ n ≡ macrosAt work macros n
   unfolding macrosAt
   macrosAt-settled zero known below = refl
   macrosAt-settled (suc n) known below =
@@ -59,22 +59,22 @@ module _ (items work work′ macros macros′ : List ℕ) (top : ℕ) (arena : t
       sym (getD-take (suc n) macros′ n 0 (omega arith)) ∙ ap (λ (l : List ℕ). getD l n 0) known ∙ getD-take (suc n) macros n 0 (omega arith) in
       ap₂ (λ (l : List (List Rule)) (r : List Rule). l ++ (r ∷ []))
       (macrosAt-settled n (take-less macros′ macros n (suc n) (omega arith) known) (λ k h. below k (omega arith)))
-      (ap (rulesAt items work′) word ∙ rulesAt-below items work′ work (getD macros n 0) (take-less work′ work (getD macros n 0) top (below n (omega arith)) arena))
+      (ap (rulesAt work′) word ∙ rulesAt-below work′ work (getD macros n 0) (take-less work′ work (getD macros n 0) top (below n (omega arith)) arena))
 
 -- the macros are what they were, and no others are
-pub macros-kept : (items : List ℕ) (r q : Reached) (a b : Tables) → Macros items r a → r .top ≤ q .top → q .macros ≡ r .macros
-    → take (r .top) (b .work) ≡ take (r .top) (a .work) → b .macros ≡ a .macros → Macros items q b
-macros-kept items r q a b m h e arena same =
+pub macros-kept : (r q : Reached) (a b : Tables) → Macros r a → r .top ≤ q .top → q .macros ≡ r .macros
+    → take (r .top) (b .work) ≡ take (r .top) (a .work) → b .macros ≡ a .macros → Macros q b
+macros-kept r q a b m h e arena same =
     record {
       below = λ k l. let g : getD (a .macros) k 0 ≤ r .top = m .below k (omega arith) in rw same (omega arith);
-      proper = rw (e, same) (rw (macrosAt-settled items (a .work) (b .work) (a .macros) (a .macros) (r .top) arena (r .macros) refl (m .below)) (m .proper));
-      sound = rw (e, same) (rw (macrosAt-settled items (a .work) (b .work) (a .macros) (a .macros) (r .top) arena (r .macros) refl (m .below)) (m .sound));
+      proper = rw (e, same) (rw (macrosAt-settled (a .work) (b .work) (a .macros) (a .macros) (r .top) arena (r .macros) refl (m .below)) (m .proper));
+      sound = rw (e, same) (rw (macrosAt-settled (a .work) (b .work) (a .macros) (a .macros) (r .top) arena (r .macros) refl (m .below)) (m .sound));
     }
 
 -- ---- one part of an expansion after another
 
-module _ (items : List ℕ) (fuel n m l : ℕ) (r q p : Reached) (a b d : Tables) where
-  pub kept-both : Kept items fuel n m r q a b → Kept items fuel m l q p b d → Kept items fuel n l r p a d
+module _ (fuel n m l : ℕ) (r q p : Reached) (a b d : Tables) where
+  pub kept-both : Kept fuel n m r q a b → Kept fuel m l q p b d → Kept fuel n l r p a d
   kept-both x y =
       record {
         work-long = y .work-long ∙ x .work-long;
@@ -94,13 +94,12 @@ module _ (items : List ℕ) (fuel n m l : ℕ) (r q p : Reached) (a b d : Tables
         macros-are = y .macros-are;
       }
 
-  pub ready-after : Ready items fuel n r a → Kept items fuel n m r q a b → Ready items fuel m q b
+  pub ready-after : Ready fuel n r a → Kept fuel n m r q a b → Ready fuel m q b
   ready-after x k =
       record {
         fuelled = x .fuelled;
         spent = k .spent;
         stepped = k .stepped;
-        items-below = omega (arith, x .items-below, k .top-grows);
         room = omega (arith, x .room, k .work-spent, k .work-long);
         core-room = omega (arith, x .core-room, k .core-spent, k .core-long);
         macro-room = omega (arith, x .macro-room, k .macros-spent, k .macros-long);
@@ -119,15 +118,15 @@ put-long words at before after r h p =
     let k : at ≤ length before = omega (arith, p .until) in
     omega (arith, e, length-append (take at before ++ words) (drop r before), length-append (take at before) words, length-take-le at before k, length-drop r before, p .until)
 
-module _ (items : List ℕ) (r q : Reached) (work core core′ macros words : List ℕ) (m : Moved words r core core′ q) where
-  pub state-moved : stateAt items (tables work core macros) r ≡ stateAt items (tables work core′ macros) q
+module _ (r q : Reached) (work core core′ macros words : List ℕ) (m : Moved words r core core′ q) where
+  pub state-moved : stateAt (tables work core macros) r ≡ stateAt (tables work core′ macros) q
   unfolding stateAt moved
-  state-moved = ap (stateAt items (tables work core′ macros)) (sym (m .is))
+  state-moved = ap (stateAt (tables work core′ macros)) (sym (m .is))
 
-pub kept-moved : (items : List ℕ) (fuel n l : ℕ) (r q : Reached) (work core core′ macros words : List ℕ) → Ready items fuel n r (tables work core macros) → Moved words r core core′ q → l ≤ n → length words + 2 * l ≤ 2 * n
-    → Kept items fuel n l r q (tables work core macros) (tables work core′ macros)
+pub kept-moved : (fuel n l : ℕ) (r q : Reached) (work core core′ macros words : List ℕ) → Ready fuel n r (tables work core macros) → Moved words r core core′ q → l ≤ n → length words + 2 * l ≤ 2 * n
+    → Kept fuel n l r q (tables work core macros) (tables work core′ macros)
 unfolding workNeed coreNeed variableNeed macroNeed moved
-kept-moved items fuel n l r q work core core′ macros words x m less few =
+kept-moved fuel n l r q work core core′ macros words x m less few =
     let top-is : q .top ≡ r .top = ap (λ (z : Reached). z .top) (m .is) in
     let steps-are : q .steps ≡ r .steps = ap (λ (z : Reached). z .steps) (m .is) in
     let sum-is : q .sum ≡ r .sum = ap (λ (z : Reached). z .sum) (m .is) in
@@ -149,42 +148,42 @@ kept-moved items fuel n l r q work core core′ macros words x m less few =
       core-spent = rw (at-is, sum-is) (omega arith);
       variables-spent = rw (variables-are, sum-is) (omega arith);
       macros-spent = rw (macros-are, sum-is) (omega arith);
-      macros-are = macros-kept items r q (tables work core macros) (tables work core′ macros) (x .macros-are) (omega arith) macros-are refl refl;
+      macros-are = macros-kept r q (tables work core macros) (tables work core′ macros) (x .macros-are) (omega arith) macros-are refl refl;
     }
 
 -- an application's header, by the count of its operands
-pub header-moved : (list code number n at : ℕ) (r : Reached) (work before after : List ℕ) → ((items : List ℕ) (w : ℕ) → n ≡ length (elements (treeAt items work list w)))
+pub header-moved : (list code number n at : ℕ) (r : Reached) (work before after : List ℕ) → ((w : ℕ) → n ≡ length (elements (treeAt work list w)))
     → Put (8 ∷ n ∷ code ∷ number ∷ []) (r .at) before after at → HeaderMoved list code number r work before after (moved at r)
 unfolding moved
-header-moved list code number n at r work before after h p items w =
-    record { is = refl; put = subst (λ (k : ℕ). Put (8 ∷ k ∷ code ∷ number ∷ []) (r .at) before after at) (h items w) p }
+header-moved list code number n at r work before after h p w =
+    record { is = refl; put = subst (λ (k : ℕ). Put (8 ∷ k ∷ code ∷ number ∷ []) (r .at) before after at) (h w) p }
 
 -- ---- the rules of one macro
 
-pub macrosAt-length : (items work macros : List ℕ) (n : ℕ) → length (macrosAt items work macros n) ≡ n
+pub macrosAt-length : (work macros : List ℕ) (n : ℕ) → length (macrosAt work macros n) ≡ n
 unfolding macrosAt
-macrosAt-length items work macros zero = refl
-macrosAt-length items work macros (suc n) = omega (arith, length-append (macrosAt items work macros n) (rulesAt items work (getD macros n 0) ∷ []), macrosAt-length items work macros n)
+macrosAt-length work macros zero = refl
+macrosAt-length work macros (suc n) = omega (arith, length-append (macrosAt work macros n) (rulesAt work (getD macros n 0) ∷ []), macrosAt-length work macros n)
 
-pub macrosAt-one : (items work macros : List ℕ) (count n : ℕ) → n < count → getD (macrosAt items work macros count) n [] ≡ rulesAt items work (getD macros n 0)
+pub macrosAt-one : (work macros : List ℕ) (count n : ℕ) → n < count → getD (macrosAt work macros count) n [] ≡ rulesAt work (getD macros n 0)
 unfolding macrosAt
-macrosAt-one items work macros zero n h = absurd (omega arith)
-macrosAt-one items work macros (suc k) n h =
-    let long : length (macrosAt items work macros k) ≡ k = macrosAt-length items work macros k in
+macrosAt-one work macros zero n h = absurd (omega arith)
+macrosAt-one work macros (suc k) n h =
+    let long : length (macrosAt work macros k) ≡ k = macrosAt-length work macros k in
     either (ltb n k)
     (λ t.
     let l : n < k = ltb-true n k t in
-    List·getD-append (macrosAt items work macros k) (rulesAt items work (getD macros k 0) ∷ []) [] n (omega arith) ∙ macrosAt-one items work macros k n l)
+    List·getD-append (macrosAt work macros k) (rulesAt work (getD macros k 0) ∷ []) [] n (omega arith) ∙ macrosAt-one work macros k n l)
     (λ t.
     let g : k ≤ n = ltb-false n k t in
     let e : n ≡ k = omega arith in
-    let d : n ≡ length (macrosAt items work macros k) = omega arith in
-    ap (λ (j : ℕ). getD (macrosAt items work macros k ++ (rulesAt items work (getD macros k 0) ∷ [])) j []) d
-    ∙ getD-append-seam (macrosAt items work macros k) (rulesAt items work (getD macros k 0)) [] []
-    ∙ ap (λ (j : ℕ). rulesAt items work (getD macros j 0)) (sym e))
+    let d : n ≡ length (macrosAt work macros k) = omega arith in
+    ap (λ (j : ℕ). getD (macrosAt work macros k ++ (rulesAt work (getD macros k 0) ∷ [])) j []) d
+    ∙ getD-append-seam (macrosAt work macros k) (rulesAt work (getD macros k 0)) [] []
+    ∙ ap (λ (j : ℕ). rulesAt work (getD macros j 0)) (sym e))
 
-pub macrosAt-past : (items work macros : List ℕ) (count n : ℕ) → count ≤ n → getD (macrosAt items work macros count) n [] ≡ []
-macrosAt-past items work macros count n h = getD-past (macrosAt items work macros count) n (omega (arith, macrosAt-length items work macros count))
+pub macrosAt-past : (work macros : List ℕ) (count n : ℕ) → count ≤ n → getD (macrosAt work macros count) n [] ≡ []
+macrosAt-past work macros count n h = getD-past (macrosAt work macros count) n (omega (arith, macrosAt-length work macros count))
   where
     getD-past : (l : List (List Rule)) (n : ℕ) → length l ≤ n → getD l n [] ≡ []
     getD-past [] n h = refl

@@ -24,32 +24,32 @@ use Rattle.turns.specs.Leaves.{Refuses}
 use Rattle.turns.specs.LeafLaws.{refused-leaf}
 use Rattle.turns.specs.Scopes.{QuoteRoom, quoteEnd, QuoteLeft}
 
-module _ (items work core : List ℕ) (node : ℕ) (r : Reached) where
-  pub quote-refused : (a : Ended) → ((w : ℕ) → isListOf 2 (treeAt items work node w) ≡ false) → Refuses 13 r a → QuoteLeft items work node r core core a
+module _ (work core : List ℕ) (node : ℕ) (r : Reached) where
+  pub quote-refused : (a : Ended) → ((w : ℕ) → isListOf 2 (treeAt work node w) ≡ false) → Refuses 13 r a → QuoteLeft work node r core core a
   unfolding quoteEnd needs
-  quote-refused a shape e w = refused-leaf (quoteEnd (treeAt items work node w)) (2 * size (treeAt items work node w)) 13 r core a (λ s. rw (shape w)) e
+  quote-refused a shape e w = refused-leaf (quoteEnd (treeAt work node w)) (2 * size (treeAt work node w)) 13 r core a (λ s. rw (shape w)) e
 
   module _ (datum : ℕ) (datum-is : Means work node datum (element 1)) where
-    words-most : (w : ℕ) → length (quotedAt items work datum) ≤ 2 * size (treeAt items work node w)
+    words-most : (w : ℕ) → length (quotedAt work datum) ≤ 2 * size (treeAt work node w)
     words-most w =
-        let e : datumWords (strip (treeAt items work datum w)) ≡ quotedAt items work datum = quoted-any items work datum w in
-        let s : size (treeAt items work datum w) ≤ size (treeAt items work node w) = rw (datum-is .is items w) (element-size 1 (treeAt items work node w)) in
-        omega (arith, ap length e, quoted-size (treeAt items work datum w))
+        let e : datumWords (strip (treeAt work datum w)) ≡ quotedAt work datum = quoted-any work datum w in
+        let s : size (treeAt work datum w) ≤ size (treeAt work node w) = rw (datum-is .is w) (element-size 1 (treeAt work node w)) in
+        omega (arith, ap length e, quoted-size (treeAt work datum w))
 
-    pub quote-room : QuoteRoom items work core node r → (r .at + length (quotedAt items work datum) ≤ length core) × Quotable (treeAt items work datum 0)
-    quote-room room = (omega (arith, room .fits, words-most 0), rw (datum-is .is items 0) (tidy-element 1 (room .proper)))
+    pub quote-room : QuoteRoom work core node r → (r .at + length (quotedAt work datum) ≤ length core) × Quotable (treeAt work datum 0)
+    quote-room room = (omega (arith, room .fits, words-most 0), rw (datum-is .is 0) (tidy-element 1 (room .proper)))
 
-    pub quote-small : QuoteRoom items work core node r → (at : ℕ) → at ≡ r .at + length (quotedAt items work datum) → at < 2 ^ 32
+    pub quote-small : QuoteRoom work core node r → (at : ℕ) → at ≡ r .at + length (quotedAt work datum) → at < 2 ^ 32
     quote-small room at e = omega (arith, room .small, words-most 0)
 
-    pub quote-made : (at : ℕ) (core′ : List ℕ) → ((w : ℕ) → isListOf 2 (treeAt items work node w) ≡ true) → Q.Written (quotedAt items work datum) core core′ (r .at) at → QuoteLeft items work node r core core′ (Done (moved at r))
+    pub quote-made : (at : ℕ) (core′ : List ℕ) → ((w : ℕ) → isListOf 2 (treeAt work node w) ≡ true) → Q.Written (quotedAt work datum) core core′ (r .at) at → QuoteLeft work node r core core′ (Done (moved at r))
     unfolding quoteEnd needs moved encode
     quote-made at core′ shape x w =
-        let e : quotedAt items work datum ≡ datumWords (strip (element 1 (treeAt items work node w))) =
-        sym (quoted-any items work datum w) ∙ ap (λ (t : Tree). datumWords (strip t)) (datum-is .is items w) in
+        let e : quotedAt work datum ≡ datumWords (strip (element 1 (treeAt work node w))) =
+        sym (quoted-any work datum w) ∙ ap (λ (t : Tree). datumWords (strip t)) (datum-is .is w) in
         record {
-          term = datumC (strip (element 1 (treeAt items work node w)));
+          term = datumC (strip (element 1 (treeAt work node w)));
           is = λ s. rw (shape w);
-          short = subst (λ (l : List ℕ). length l ≤ 2 * size (treeAt items work node w)) e (words-most w);
+          short = subst (λ (l : List ℕ). length l ≤ 2 * size (treeAt work node w)) e (words-most w);
           moves = record { is = refl; put = rw (sym e) (record { until = x .end; table = x .words }) };
         }

@@ -14,23 +14,23 @@ use Rattle.turns.specs.Scopes.{Roomy, QuoteRoom}
 use Rattle.turns.specs.Uses.{UseRoom}
 use Rattle.turns.specs.MacroTurns.{MacroRoom}
 
-module _ (items work core macros : List ℕ) (fuel node w : ℕ) (r : Reached)
-    (ready : Ready items fuel (size (treeAt items work node w)) r (tables work core macros)) (placed : Placed items work (r .top) node w) where
-  pub ready-core : (k : ℕ) → k ≤ 2 * size (treeAt items work node w) → CoreRoom core (r .at) k
+module _ (work core macros : List ℕ) (fuel node w : ℕ) (r : Reached)
+    (ready : Ready fuel (size (treeAt work node w)) r (tables work core macros)) (placed : Placed work (r .top) node w) where
+  pub ready-core : (k : ℕ) → k ≤ 2 * size (treeAt work node w) → CoreRoom core (r .at) k
   unfolding coreNeed
   ready-core k h = record { fits = omega (arith, ready .core-room); small = omega (arith, ready .core-small) }
 
-  pub ready-quote : QuoteRoom items work core node r
+  pub ready-quote : QuoteRoom work core node r
   unfolding coreNeed
   ready-quote =
-      let same : size (treeAt items work node w) ≡ size (treeAt items work node 0) = ap size (treeAt-wrap items work node w) ∙ onNames-size (wrapAt work w) (treeAt items work node 0) in
+      let same : size (treeAt work node w) ≡ size (treeAt work node 0) = ap size (treeAt-wrap work node w) ∙ onNames-size (wrapAt work w) (treeAt work node 0) in
       record {
-        proper = quotable-any items work node w (placed .proper);
+        proper = quotable-any work node w (placed .proper);
         fits = omega (arith, ready .core-room);
         small = omega (arith, ready .core-small);
       }
 
-  pub ready-roomy : Roomy items work core node w r
+  pub ready-roomy : Roomy work core node w r
   unfolding workNeed coreNeed variableNeed
   ready-roomy =
       record {
@@ -42,23 +42,22 @@ module _ (items work core macros : List ℕ) (fuel node w : ℕ) (r : Reached)
         few = omega (arith, ready .few);
       }
 
-  pub ready-use : UseRoom items work macros fuel node w r
+  pub ready-use : UseRoom work macros fuel node w r
   unfolding workNeed macroNeed
   ready-use =
-      let some : 1 ≤ size (treeAt items work node w) = size-positive (treeAt items work node w) in
+      let some : 1 ≤ size (treeAt work node w) = size-positive (treeAt work node w) in
       record {
         placed = placed;
         fuelled = ready .fuelled;
         spent = ready .spent;
         stepped = ready .stepped;
-        items-below = ready .items-below;
         fits = omega (arith, ready .room);
         small = omega (arith, ready .small);
         counted = omega (arith, ready .macro-room);
         macros-are = record { below = ready .macros-are .below; proper = ready .macros-are .proper; sound = ready .macros-are .sound };
       }
 
-  pub ready-macros : MacroRoom items work macros node w r
+  pub ready-macros : MacroRoom work macros node w r
   unfolding workNeed macroNeed
   ready-macros =
       record {

@@ -19,34 +19,34 @@ use Rattle.turns.specs.Memory.{itemRate, numberMost, Put, Moved, Proper,
 use Rattle.turns.specs.Leaves.{Refuses, Leaf}
 
 -- what is at hand, and room for it
-pub record Roomy (items work core : List ℕ) (node w : ℕ) (r : Reached) : Type 0 where
-  pub placed : Placed items work (r .top) node w
-  pub fits : r .top + itemRate * size (treeAt items work node w) ≤ length work
-  pub small : r .top + itemRate * size (treeAt items work node w) ≤ numberMost
-  pub core-fits : r .at + 2 * size (treeAt items work node w) ≤ length core
-  pub core-small : r .at + 2 * size (treeAt items work node w) ≤ numberMost
-  pub few : r .variables + size (treeAt items work node w) ≤ numberMost
+pub record Roomy (work core : List ℕ) (node w : ℕ) (r : Reached) : Type 0 where
+  pub placed : Placed work (r .top) node w
+  pub fits : r .top + itemRate * size (treeAt work node w) ≤ length work
+  pub small : r .top + itemRate * size (treeAt work node w) ≤ numberMost
+  pub core-fits : r .at + 2 * size (treeAt work node w) ≤ length core
+  pub core-small : r .at + 2 * size (treeAt work node w) ≤ numberMost
+  pub few : r .variables + size (treeAt work node w) ≤ numberMost
 
 -- ---- quote
 
 -- data without what waits on them, and room for their words
-pub record QuoteRoom (items work core : List ℕ) (node : ℕ) (r : Reached) : Type 0 where
-  pub proper : Proper (treeAt items work node 0)
-  pub fits : r .at + 2 * size (treeAt items work node 0) ≤ length core
-  pub small : r .at + 2 * size (treeAt items work node 0) ≤ numberMost
+pub record QuoteRoom (work core : List ℕ) (node : ℕ) (r : Reached) : Type 0 where
+  pub proper : Proper (treeAt work node 0)
+  pub fits : r .at + 2 * size (treeAt work node 0) ≤ length core
+  pub small : r .at + 2 * size (treeAt work node 0) ≤ numberMost
 
 unfoldable pub quoteEnd : Tree → State → End (Term Name)
 quoteEnd t s = needs 13 (isListOf 2 t) s (finished (datumC (strip (element 1 t))) s)
 
-abbrev pub QuoteLeft : (items work : List ℕ) (node : ℕ) (r : Reached) (core core′ : List ℕ) → Ended → Type 0
-QuoteLeft items work node r core core′ a = (w : ℕ) → Leaf (quoteEnd (treeAt items work node w)) (2 * size (treeAt items work node w)) r core core′ a
+abbrev pub QuoteLeft : (work : List ℕ) (node : ℕ) (r : Reached) (core core′ : List ℕ) → Ended → Type 0
+QuoteLeft work node r core core′ a = (w : ℕ) → Leaf (quoteEnd (treeAt work node w)) (2 * size (treeAt work node w)) r core core′ a
 
 -- ---- if
 
 abbrev pub IfLeft : (work : List ℕ) (node tail w : ℕ) (r : Reached) (core core′ : List ℕ) → Turn → Type 0
 IfLeft work node tail w r core core′ (Again n v q) = ⊥
-IfLeft work node tail w r core core′ (Operands l v q) = (l ≡ tail) × (v ≡ w) × ((items : List ℕ) (u : ℕ) → isListOf 4 (treeAt items work node u) ≡ true) × Moved (6 ∷ []) r core core′ q
-IfLeft work node tail w r core core′ (Over a) = ((items : List ℕ) (u : ℕ) → isListOf 4 (treeAt items work node u) ≡ false) × Refuses 13 r a
+IfLeft work node tail w r core core′ (Operands l v q) = (l ≡ tail) × (v ≡ w) × ((u : ℕ) → isListOf 4 (treeAt work node u) ≡ true) × Moved (6 ∷ []) r core core′ q
+IfLeft work node tail w r core core′ (Over a) = ((u : ℕ) → isListOf 4 (treeAt work node u) ≡ false) × Refuses 13 r a
 
 -- ---- lambda
 
@@ -55,30 +55,30 @@ unfoldable pub widened : (top at n : ℕ) → Reached → Reached
 widened top at n r = record { top = top; at = at; steps = r .steps; sum = r .sum; variables = r .variables + n; macros = r .macros }
 
 -- the lambda's names are bound in its body
-pub record Bound (tree : Tree) (items : List ℕ) (r : Reached) (work work′ core core′ : List ℕ) (node w : ℕ) (q : Reached) : Type 0 where
-  pub body-is : treeAt items work′ node w ≡ bindAll variable (r .variables) (formals tree) (element 2 tree)
+pub record Bound (tree : Tree) (r : Reached) (work work′ core core′ : List ℕ) (node w : ℕ) (q : Reached) : Type 0 where
+  pub body-is : treeAt work′ node w ≡ bindAll variable (r .variables) (formals tree) (element 2 tree)
   pub body-below : node ≤ r .top
   pub wrap-below : w ≤ q .top
   pub numbers : q ≡ widened (r .top + itemRate * length (formals tree)) (q .at) (length (formals tree)) r
   pub put : Put (7 ∷ r .variables ∷ length (formals tree) ∷ []) (r .at) core core′ (q .at)
   pub kept : take (r .top) work′ ≡ take (r .top) work
 
-abbrev pub BoundLeft : (tree : Tree) (items : List ℕ) (r : Reached) (work work′ core core′ : List ℕ) → Turn → Type 0
-BoundLeft tree items r work work′ core core′ (Again n w q) = Bound tree items r work work′ core core′ n w q
-BoundLeft tree items r work work′ core core′ (Operands l w q) = ⊥
-BoundLeft tree items r work work′ core core′ (Over a) = ⊥
+abbrev pub BoundLeft : (tree : Tree) (r : Reached) (work work′ core core′ : List ℕ) → Turn → Type 0
+BoundLeft tree r work work′ core core′ (Again n w q) = Bound tree r work work′ core core′ n w q
+BoundLeft tree r work work′ core core′ (Operands l w q) = ⊥
+BoundLeft tree r work work′ core core′ (Over a) = ⊥
 
-pub record LambdaBound (tree : Tree) (items : List ℕ) (r : Reached) (work work′ core core′ : List ℕ) (node w : ℕ) (q : Reached) : Type 0 where
+pub record LambdaBound (tree : Tree) (r : Reached) (work work′ core core′ : List ℕ) (node w : ℕ) (q : Reached) : Type 0 where
   pub shape : isLambda tree ≡ true
   pub apart : distinct (formals tree) ≡ true
-  pub bound : Bound tree items r work work′ core core′ node w q
+  pub bound : Bound tree r work work′ core core′ node w q
 
 pub record LambdaRefused (tree : Tree) (r : Reached) (a : Ended) : Type 0 where
   pub ground : ℕ
   pub is : (e : End (Term Name)) (s : State) → needs 13 (isLambda tree) s (needs 14 (distinct (formals tree)) s e) ≡ stopped ground s
   pub refuses : Refuses ground r a
 
-abbrev pub LambdaLeft : (tree : Tree) (items : List ℕ) (r : Reached) (work work′ core core′ : List ℕ) → Turn → Type 0
-LambdaLeft tree items r work work′ core core′ (Again n w q) = LambdaBound tree items r work work′ core core′ n w q
-LambdaLeft tree items r work work′ core core′ (Operands l w q) = ⊥
-LambdaLeft tree items r work work′ core core′ (Over a) = LambdaRefused tree r a
+abbrev pub LambdaLeft : (tree : Tree) (r : Reached) (work work′ core core′ : List ℕ) → Turn → Type 0
+LambdaLeft tree r work work′ core core′ (Again n w q) = LambdaBound tree r work work′ core core′ n w q
+LambdaLeft tree r work work′ core core′ (Operands l w q) = ⊥
+LambdaLeft tree r work work′ core core′ (Over a) = LambdaRefused tree r a

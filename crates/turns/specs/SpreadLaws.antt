@@ -26,7 +26,7 @@ use Rattle.turns.specs.Ends.{End, finished, stopped, halted, endOf, then
 use Rattle.turns.specs.EndLaws.{expandAll-pair, if-end, operands-end, application-end}
 use Rattle.turns.specs.Memory.{Tables, tables, stateAt, Put, moved, Moved, coreNeed, Ready, Placed}
 use Rattle.turns.specs.MemoryLaws.{put-after, kept-moved, state-moved}
-use Rattle.turns.specs.Turns.{operationsOf, Left, turnOf, operandsOf, Spreads}
+use Rattle.turns.specs.Turns.{Left, turnOf, operandsOf, Spreads}
 use Rattle.turns.specs.LeafLaws.{headed}
 
 -- ---- words that follow others
@@ -38,15 +38,15 @@ module _ {A B : Type 0} (wordsOf : A → List ℕ) (wordsOf′ : B → List ℕ)
   Prefixed (stopped k s) = Unit {0}
   Prefixed halted = Unit {0}
 
-  pub left-after : (items : List ℕ) (r q : Reached) (core core₁ : List ℕ) (last : Tables) (e : End A) (a : Ended)
+  pub left-after : (r q : Reached) (core core₁ : List ℕ) (last : Tables) (e : End A) (a : Ended)
       → Prefixed e → Put header (r .at) core core₁ (q .at) → q .at ≤ length core
-      → Left items wordsOf q core₁ last e a → Left items wordsOf′ r core last (then (λ v s. finished (g v) s) e) a
+      → Left wordsOf q core₁ last e a → Left wordsOf′ r core last (then (λ v s. finished (g v) s) e) a
   unfolding then
-  left-after items r q core core₁ last (finished v s) (Done p) f h room l = (l .0, subst (λ (ws : List ℕ). Put ws (r .at) core (last .core) (p .at)) (sym f) (put-after h (l .1) room))
-  left-after items r q core core₁ last (finished v s) (Refused x y z) f h room l = l
-  left-after items r q core core₁ last (stopped k s) (Done p) f h room l = l
-  left-after items r q core core₁ last (stopped k s) (Refused x y z) f h room l = l
-  left-after items r q core core₁ last halted a f h room l = l
+  left-after r q core core₁ last (finished v s) (Done p) f h room l = (l .0, subst (λ (ws : List ℕ). Put ws (r .at) core (last .core) (p .at)) (sym f) (put-after h (l .1) room))
+  left-after r q core core₁ last (finished v s) (Refused x y z) f h room l = l
+  left-after r q core core₁ last (stopped k s) (Done p) f h room l = l
+  left-after r q core core₁ last (stopped k s) (Refused x y z) f h room l = l
+  left-after r q core core₁ last halted a f h room l = l
 
 -- ---- operands are as many as elements
 
@@ -67,39 +67,39 @@ counts-then n f (finished a u) h = counts-more n a (f u) (h u)
 counts-then n f (stopped k s) h = tt
 counts-then n f halted h = tt
 
-module _ (items : List ℕ) (fuel : ℕ) (expand : Tree → M (Term Name)) where
-  pub operands-count : (t : Tree) (s : State) → Counts (length (elements t)) (operandsOf items fuel expand t s)
+module _ (operations : List ℕ) (fuel : ℕ) (expand : Tree → M (Term Name)) where
+  pub operands-count : (t : Tree) (s : State) → Counts (length (elements t)) (operandsOf operations fuel expand t s)
   unfolding expandAll elements give endOf count
   operands-count empty s = refl
   operands-count (constant a) s = refl
   operands-count (name x) s = refl
   operands-count (pair h t) s =
-      subst (Counts (suc (length (elements t)))) (sym (expandAll-pair macrosMost (operationsOf items) fuel expand h t s))
-      (counts-then (length (elements t)) (λ u. operandsOf items fuel expand t u) (endOf (expand h s)) (λ u. operands-count t u))
+      subst (Counts (suc (length (elements t)))) (sym (expandAll-pair macrosMost operations fuel expand h t s))
+      (counts-then (length (elements t)) (λ u. operandsOf operations fuel expand t u) (endOf (expand h s)) (λ u. operands-count t u))
 
 -- ---- the turn, given its header
 
-module _ (items : List ℕ) (fuel : ℕ) (tree : Tree) (r q : Reached) (work core core′ macros header : List ℕ) (list w : ℕ)
-    (ready : Ready items fuel (size tree) r (tables work core macros)) (m : Moved header r core core′ q) (placed : Placed items work (r .top) list w) where
-  pub spread-by : (g : Terms Name → Term Name) → size (treeAt items work list w) ≤ size tree → length header + 2 * (size (treeAt items work list w) - 1) ≤ 2 * size tree
-      → ((expand : Tree → M (Term Name)) (s : State) → turnOf items fuel expand tree s ≡ then (λ v u. finished (g v) u) (operandsOf items fuel expand (treeAt items work list w) s))
-      → ((expand : Tree → M (Term Name)) (s : State) → Prefixed encodeAll encode g header (operandsOf items fuel expand (treeAt items work list w) s))
-      → Spreads items fuel tree r (tables work core macros) (tables work core′ macros) list w q
+module _ (operations : List ℕ) (fuel : ℕ) (tree : Tree) (r q : Reached) (work core core′ macros header : List ℕ) (list w : ℕ)
+    (ready : Ready fuel (size tree) r (tables work core macros)) (m : Moved header r core core′ q) (placed : Placed work (r .top) list w) where
+  pub spread-by : (g : Terms Name → Term Name) → size (treeAt work list w) ≤ size tree → length header + 2 * (size (treeAt work list w) - 1) ≤ 2 * size tree
+      → ((expand : Tree → M (Term Name)) (s : State) → turnOf operations fuel expand tree s ≡ then (λ v u. finished (g v) u) (operandsOf operations fuel expand (treeAt work list w) s))
+      → ((expand : Tree → M (Term Name)) (s : State) → Prefixed encodeAll encode g header (operandsOf operations fuel expand (treeAt work list w) s))
+      → Spreads operations fuel tree r (tables work core macros) (tables work core′ macros) list w q
   unfolding coreNeed moved
   spread-by g less few turn prefixed =
       let top-is : q .top ≡ r .top = ap (λ (z : Reached). z .top) (m .is) in
       let sum-is : q .sum ≡ r .sum = ap (λ (z : Reached). z .sum) (m .is) in
-      let s = stateAt items (tables work core macros) r in
-      let same : s ≡ stateAt items (tables work core′ macros) q = state-moved items r q work core core′ macros header m in
+      let s = stateAt (tables work core macros) r in
+      let same : s ≡ stateAt (tables work core′ macros) q = state-moved r q work core core′ macros header m in
       record {
-        kept = kept-moved items fuel (size tree) (size (treeAt items work list w) - 1) r q work core core′ macros header ready m (omega arith) few;
-        placed = subst (λ (n : ℕ). Placed items work n list w) (sym top-is) placed;
+        kept = kept-moved fuel (size tree) (size (treeAt work list w) - 1) r q work core core′ macros header ready m (omega arith) few;
+        placed = subst (λ (n : ℕ). Placed work n list w) (sym top-is) placed;
         falls = omega arith;
         means = λ expand a last l.
-            subst (λ (e : End (Term Name)). Left items encode r core last e a) (sym (turn expand s))
-            (left-after encodeAll encode g header items r q core core′ last (operandsOf items fuel expand (treeAt items work list w) s) a (prefixed expand s) (m .put)
+            subst (λ (e : End (Term Name)). Left encode r core last e a) (sym (turn expand s))
+            (left-after encodeAll encode g header r q core core′ last (operandsOf operations fuel expand (treeAt work list w) s) a (prefixed expand s) (m .put)
             (omega (arith, m .put .until, ready .core-room))
-            (subst (λ (z : State). Left items encodeAll q core′ last (operandsOf items fuel expand (treeAt items work list w) z) a) (sym same) l));
+            (subst (λ (z : State). Left encodeAll q core′ last (operandsOf operations fuel expand (treeAt work list w) z) a) (sym same) l));
       }
 
 -- ---- an application whose head is a variable or an operation
@@ -111,18 +111,18 @@ module _ (head : Term Name) (code number : ℕ) (words : encode head ≡ code �
   application-prefixed n (stopped k s) h = tt
   application-prefixed n halted h = tt
 
-  module _ (items : List ℕ) (fuel : ℕ) (x : Name) (t : Tree) (r q : Reached) (work core core′ macros : List ℕ) (list w : ℕ)
-      (ready : Ready items fuel (size (pair (name x) t)) r (tables work core macros)) (placed : Placed items work (r .top) list w) (list-is : treeAt items work list w ≡ t)
+  module _ (operations : List ℕ) (fuel : ℕ) (x : Name) (t : Tree) (r q : Reached) (work core core′ macros : List ℕ) (list w : ℕ)
+      (ready : Ready fuel (size (pair (name x) t)) r (tables work core macros)) (placed : Placed work (r .top) list w) (list-is : treeAt work list w ≡ t)
       (m : Moved (8 ∷ length (elements t) ∷ code ∷ number ∷ []) r core core′ q)
-      (turn : (expand : Tree → M (Term Name)) (s : State) → turnOf items fuel expand (pair (name x) t) s ≡ endOf (expandOperands macrosMost (operationsOf items) fuel expand head t s)) where
-    pub spread-named : Spreads items fuel (pair (name x) t) r (tables work core macros) (tables work core′ macros) list w q
+      (turn : (expand : Tree → M (Term Name)) (s : State) → turnOf operations fuel expand (pair (name x) t) s ≡ endOf (expandOperands macrosMost operations fuel expand head t s)) where
+    pub spread-named : Spreads operations fuel (pair (name x) t) r (tables work core macros) (tables work core′ macros) list w q
     unfolding size
     spread-named =
-        spread-by items fuel (pair (name x) t) r q work core core′ macros (8 ∷ length (elements t) ∷ code ∷ number ∷ []) list w ready m placed (applicationC head)
+        spread-by operations fuel (pair (name x) t) r q work core core′ macros (8 ∷ length (elements t) ∷ code ∷ number ∷ []) list w ready m placed (applicationC head)
         (rw list-is (omega arith))
         (rw list-is (omega (arith, size-positive t)))
-        (λ expand s. rw list-is (turn expand s ∙ operands-end macrosMost (operationsOf items) fuel expand head t s))
-        (λ expand s. rw list-is (application-prefixed (length (elements t)) (operandsOf items fuel expand t s) (operands-count items fuel expand t s)))
+        (λ expand s. rw list-is (turn expand s ∙ operands-end macrosMost operations fuel expand head t s))
+        (λ expand s. rw list-is (application-prefixed (length (elements t)) (operandsOf operations fuel expand t s) (operands-count operations fuel expand t s)))
 
 -- ---- an application with another head: the head is the first of its operands
 
@@ -150,10 +150,10 @@ applied-then f (finished a u) = applied-inner a (f u)
 applied-then f (stopped k s) = refl
 applied-then f halted = refl
 
-module _ (items : List ℕ) (fuel : ℕ) where
+module _ (operations : List ℕ) (fuel : ℕ) where
   -- the head is no name
   other-head : (h t : Tree) → ((x : Name) → h ≡ name x → ⊥) → (expand : Tree → M (Term Name)) (s : State)
-      → turnOf items fuel expand (pair h t) s ≡ endOf (expandApplication macrosMost (operationsOf items) fuel expand h t s)
+      → turnOf operations fuel expand (pair h t) s ≡ endOf (expandApplication macrosMost operations fuel expand h t s)
   unfolding expandTree expandPair
   other-head empty t unlike expand s = refl
   other-head (constant a) t unlike expand s = refl
@@ -161,24 +161,24 @@ module _ (items : List ℕ) (fuel : ℕ) where
   other-head (pair a b) t unlike expand s = refl
 
   applied-turn : (h t : Tree) → ((x : Name) → h ≡ name x → ⊥) → (expand : Tree → M (Term Name)) (s : State)
-      → turnOf items fuel expand (pair h t) s ≡ then (λ v u. finished (applicationOf v) u) (operandsOf items fuel expand (pair h t) s)
+      → turnOf operations fuel expand (pair h t) s ≡ then (λ v u. finished (applicationOf v) u) (operandsOf operations fuel expand (pair h t) s)
   applied-turn h t unlike expand s =
       other-head h t unlike expand s
-      ∙ application-end macrosMost (operationsOf items) fuel expand h t s
-      ∙ applied-then (λ u. operandsOf items fuel expand t u) (endOf (expand h s))
-      ∙ ap (then (λ v u. finished (applicationOf v) u)) (sym (expandAll-pair macrosMost (operationsOf items) fuel expand h t s))
+      ∙ application-end macrosMost operations fuel expand h t s
+      ∙ applied-then (λ u. operandsOf operations fuel expand t u) (endOf (expand h s))
+      ∙ ap (then (λ v u. finished (applicationOf v) u)) (sym (expandAll-pair macrosMost operations fuel expand h t s))
 
   module _ (h t : Tree) (r q : Reached) (work core core′ macros : List ℕ) (list w : ℕ)
-      (ready : Ready items fuel (size (pair h t)) r (tables work core macros)) (placed : Placed items work (r .top) list w) (list-is : treeAt items work list w ≡ pair h t)
+      (ready : Ready fuel (size (pair h t)) r (tables work core macros)) (placed : Placed work (r .top) list w) (list-is : treeAt work list w ≡ pair h t)
       (m : Moved (8 ∷ length (elements t) ∷ []) r core core′ q) (unlike : (x : Name) → h ≡ name x → ⊥) where
-    pub spread-other : Spreads items fuel (pair h t) r (tables work core macros) (tables work core′ macros) list w q
+    pub spread-other : Spreads operations fuel (pair h t) r (tables work core macros) (tables work core′ macros) list w q
     unfolding size elements
     spread-other =
-        spread-by items fuel (pair h t) r q work core core′ macros (8 ∷ length (elements t) ∷ []) list w ready m placed applicationOf
+        spread-by operations fuel (pair h t) r q work core core′ macros (8 ∷ length (elements t) ∷ []) list w ready m placed applicationOf
         (rw list-is (omega arith))
         (rw list-is (omega arith))
         (λ expand s. rw list-is (applied-turn h t unlike expand s))
-        (λ expand s. rw list-is (applied-prefixed (length (elements t)) (operandsOf items fuel expand (pair h t) s) (operands-count items fuel expand (pair h t) s)))
+        (λ expand s. rw list-is (applied-prefixed (length (elements t)) (operandsOf operations fuel expand (pair h t) s) (operands-count operations fuel expand (pair h t) s)))
 
 -- ---- if: three operands
 
@@ -234,7 +234,7 @@ cons (constant a) n h = absurd (omega arith)
 cons (name x) n h = absurd (omega arith)
 cons (pair f r) n h = record { first = f; rest = r; is = refl; more = omega arith }
 
-module _ (items : List ℕ) (fuel : ℕ) (expand : Tree → M (Term Name)) where
+module _ (operations : List ℕ) (fuel : ℕ) (expand : Tree → M (Term Name)) where
   -- the end of an operand, and what stands before the later ones
   abbrev on : Tree → State → End (Term Name)
   on t s = endOf (expand t s)
@@ -242,27 +242,27 @@ module _ (items : List ℕ) (fuel : ℕ) (expand : Tree → M (Term Name)) where
   abbrev before : Term Name → End (Terms Name) → End (Terms Name)
   before a e = then (λ b v. finished (moreC a b) v) e
 
-  pub no-operands : (t : Tree) → length (elements t) ≡ 0 → (s : State) → operandsOf items fuel expand t s ≡ finished noneC s
+  pub no-operands : (t : Tree) → length (elements t) ≡ 0 → (s : State) → operandsOf operations fuel expand t s ≡ finished noneC s
   unfolding expandAll elements give endOf
   no-operands empty h s = refl
   no-operands (constant a) h s = refl
   no-operands (name x) h s = refl
   no-operands (pair f r) h s = absurd (omega arith)
 
-  more-operands : (a t : Tree) (f : State → End (Terms Name)) → ((s : State) → operandsOf items fuel expand t s ≡ f s) → (s : State) → operandsOf items fuel expand (pair a t) s ≡ then (λ x u. before x (f u)) (on a s)
+  more-operands : (a t : Tree) (f : State → End (Terms Name)) → ((s : State) → operandsOf operations fuel expand t s ≡ f s) → (s : State) → operandsOf operations fuel expand (pair a t) s ≡ then (λ x u. before x (f u)) (on a s)
   more-operands a t f e s =
-      expandAll-pair macrosMost (operationsOf items) fuel expand a t s
+      expandAll-pair macrosMost operations fuel expand a t s
       ∙ ap (λ (g : State → End (Terms Name)). then (λ x u. before x (g u)) (on a s)) (λ i. λ u. e u i)
 
   three-operands : (a b c d : Tree) → length (elements d) ≡ 0 → (s : State)
-      → then (λ x u. then (λ y v. then (λ z w. finished (ifC x y z) w) (on c v)) (on b u)) (on a s) ≡ then (λ v u. finished (ifOf v) u) (operandsOf items fuel expand (pair a (pair b (pair c d))) s)
+      → then (λ x u. then (λ y v. then (λ z w. finished (ifC x y z) w) (on c v)) (on b u)) (on a s) ≡ then (λ v u. finished (ifOf v) u) (operandsOf operations fuel expand (pair a (pair b (pair c d))) s)
   three-operands a b c d h s =
       if-first (on c) (on b) (on a s)
       ∙ ap (then (λ v u. finished (ifOf v) u)) (sym (more-operands a (pair b (pair c d)) _ (more-operands b (pair c d) _ (more-operands c d _ (no-operands d h))) s))
 
   pub if-operands : (x : Name) (t : Tree) → length (elements t) ≡ 3 → (s : State)
       → then (λ a u. then (λ b v. then (λ c w. finished (ifC a b c) w) (on (element 3 (pair (name x) t)) v)) (on (element 2 (pair (name x) t)) u)) (on (element 1 (pair (name x) t)) s)
-      ≡ then (λ v u. finished (ifOf v) u) (operandsOf items fuel expand t s)
+      ≡ then (λ v u. finished (ifOf v) u) (operandsOf operations fuel expand t s)
   unfolding element elements
   if-operands x t h s =
       let c1 = cons t 2 h in
@@ -275,25 +275,25 @@ pub listed : (n : ℕ) (t : Tree) → isListOf n t ≡ true → length (elements
 unfolding isListOf
 listed n t e = eqb-true (length (elements t)) n (and-parts (isList t) (eqb (length (elements t)) n) e .1)
 
-module _ (items : List ℕ) (fuel : ℕ) (x : Name) (t : Tree) (r q : Reached) (work core core′ macros : List ℕ) (list w : ℕ)
-    (ready : Ready items fuel (size (pair (name x) t)) r (tables work core macros)) (placed : Placed items work (r .top) list w) (list-is : treeAt items work list w ≡ t)
-    (m : Moved (6 ∷ []) r core core′ q) (shape : isListOf 4 (pair (name x) t) ≡ true) (found : lookup (operationsOf items) x ≡ form if) where
+module _ (operations : List ℕ) (fuel : ℕ) (x : Name) (t : Tree) (r q : Reached) (work core core′ macros : List ℕ) (list w : ℕ)
+    (ready : Ready fuel (size (pair (name x) t)) r (tables work core macros)) (placed : Placed work (r .top) list w) (list-is : treeAt work list w ≡ t)
+    (m : Moved (6 ∷ []) r core core′ q) (shape : isListOf 4 (pair (name x) t) ≡ true) (found : lookup operations x ≡ form if) where
   three : length (elements t) ≡ 3
   unfolding elements
   three = let e : suc (length (elements t)) ≡ 4 = listed 4 (pair (name x) t) shape in omega arith
 
-  if-turn : (expand : Tree → M (Term Name)) (s : State) → turnOf items fuel expand (pair (name x) t) s ≡ then (λ v u. finished (ifOf v) u) (operandsOf items fuel expand t s)
+  if-turn : (expand : Tree → M (Term Name)) (s : State) → turnOf operations fuel expand (pair (name x) t) s ≡ then (λ v u. finished (ifOf v) u) (operandsOf operations fuel expand t s)
   unfolding expandList needs
   if-turn expand s =
-      headed items fuel x t (form if) found expand s
-      ∙ if-end macrosMost (operationsOf items) fuel expand (pair (name x) t) s
-      ∙ rw shape (if-operands items fuel expand x t three s)
+      headed operations fuel x t (form if) found expand s
+      ∙ if-end macrosMost operations fuel expand (pair (name x) t) s
+      ∙ rw shape (if-operands operations fuel expand x t three s)
 
-  pub spread-if : Spreads items fuel (pair (name x) t) r (tables work core macros) (tables work core′ macros) list w q
+  pub spread-if : Spreads operations fuel (pair (name x) t) r (tables work core macros) (tables work core′ macros) list w q
   unfolding size
   spread-if =
-      spread-by items fuel (pair (name x) t) r q work core core′ macros (6 ∷ []) list w ready m placed ifOf
+      spread-by operations fuel (pair (name x) t) r q work core core′ macros (6 ∷ []) list w ready m placed ifOf
       (rw list-is (omega arith))
       (rw list-is (omega (arith, size-positive t)))
       (λ expand s. rw list-is (if-turn expand s))
-      (λ expand s. rw list-is (if-prefixed (operandsOf items fuel expand t s) (subst (λ (n : ℕ). Counts n (operandsOf items fuel expand t s)) three (operands-count items fuel expand t s))))
+      (λ expand s. rw list-is (if-prefixed (operandsOf operations fuel expand t s) (subst (λ (n : ℕ). Counts n (operandsOf operations fuel expand t s)) three (operands-count operations fuel expand t s))))

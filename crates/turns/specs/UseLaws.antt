@@ -43,12 +43,12 @@ pub rules-unknown : (macros : List ℕ) (count n : ℕ) → count ≤ n → 0 �
 unfolding rulesWord
 rules-unknown macros count n h = rw (le-ltb n count h)
 
-word-rules : (items work macros : List ℕ) (count n : ℕ) → rulesAt items work (rulesWord macros count n) ≡ getD (macrosAt items work macros count) n []
+word-rules : (work macros : List ℕ) (count n : ℕ) → rulesAt work (rulesWord macros count n) ≡ getD (macrosAt work macros count) n []
 unfolding rulesWord
-word-rules items work macros count n =
+word-rules work macros count n =
     either (ltb n count)
-    (λ t. rw t (sym (macrosAt-one items work macros count n (ltb-true n count t))))
-    (λ t. rw t (rulesAt-none items work 0 refl ∙ sym (macrosAt-past items work macros count n (ltb-false n count t))))
+    (λ t. rw t (sym (macrosAt-one work macros count n (ltb-true n count t))))
+    (λ t. rw t (rulesAt-none work 0 refl ∙ sym (macrosAt-past work macros count n (ltb-false n count t))))
 
 word-below : (macros : List ℕ) (count n top : ℕ) → ((k : ℕ) → k < count → getD macros k 0 ≤ top) → rulesWord macros count n ≤ top
 unfolding rulesWord
@@ -69,34 +69,34 @@ produce-mark m t = onNames-∘ (markName m) produceName t ∙ sym (onNames-∘ p
 
 -- ---- outcomes, by the code's answers
 
-module _ (items new : List ℕ) (top : ℕ) where
-  no-rule : (o : Outcome) → Answers items new top o NoRule → o ≡ refused 16
+module _ (new : List ℕ) (top : ℕ) where
+  no-rule : (o : Outcome) → Answers new top o NoRule → o ≡ refused 16
   unfolding Answers
   no-rule (refused g) h = ap refused h
   no-rule (result t) h = absurd h
 
-  differs : (o : Outcome) → Answers items new top o Differ → o ≡ refused 17
+  differs : (o : Outcome) → Answers new top o Differ → o ≡ refused 17
   unfolding Answers
   differs (refused g) h = ap refused h
   differs (result t) h = absurd h
 
-  costly : (o : Outcome) → Answers items new top o Costly → o ≡ refused 18
+  costly : (o : Outcome) → Answers new top o Costly → o ≡ refused 18
   unfolding Answers
   costly (refused g) h = ap refused h
   costly (result t) h = absurd h
 
-record Result (items new : List ℕ) (top root cost : ℕ) (o : Outcome) : Type 0 where
+record Result (new : List ℕ) (top root cost : ℕ) (o : Outcome) : Type 0 where
   tree : Tree
   is : o ≡ result tree
   cost-is : cost ≡ size tree
-  means : treeAt items new root 0 ≡ produce tree
+  means : treeAt new root 0 ≡ produce tree
   above : top ≤ root
   most : root ≤ top + 6 * cost
 
-done-result : (items new : List ℕ) (top root cost : ℕ) (o : Outcome) → Answers items new top o (Done root cost) → Result items new top root cost o
+done-result : (new : List ℕ) (top root cost : ℕ) (o : Outcome) → Answers new top o (Done root cost) → Result new top root cost o
 unfolding Answers
-done-result items new top root cost (refused g) h = absurd h
-done-result items new top root cost (result t) h = record { tree = t; is = refl; cost-is = h .0; means = h .1; above = h .2; most = h .3 }
+done-result new top root cost (refused g) h = absurd h
+done-result new top root cost (result t) h = record { tree = t; is = refl; cost-is = h .0; means = h .1; above = h .2; most = h .3 }
 
 -- a result is within the fuel left
 abbrev Within : ℕ → Outcome → Type 0
@@ -115,12 +115,12 @@ within limit used (some x) = within-rule limit (transcribe (x .pattern) used [] 
 
 -- ---- on the way
 
-module _ (items work macros : List ℕ) (fuel node w n : ℕ) (r : Reached) (room : UseRoom items work macros fuel node w r) where
+module _ (work macros : List ℕ) (fuel node w n : ℕ) (r : Reached) (room : UseRoom work macros fuel node w r) where
   abbrev tree : Tree
-  tree = treeAt items work node w
+  tree = treeAt work node w
 
   abbrev outcome : Outcome
-  outcome = outcomeOf (macrosAt items work macros (r .macros)) n fuel tree r
+  outcome = outcomeOf (macrosAt work macros (r .macros)) n fuel tree r
 
   pub use-marks : (Room work (r .top) 3) × (r .steps + 1 < stepLimit) × (w ≤ r .top)
   use-marks = (record { fits = omega (arith, room .fits); small = omega (arith, room .small) }, omega (arith, room .stepped, room .spent, room .fuelled), room .placed .wrap-below)
@@ -130,61 +130,60 @@ module _ (items work macros : List ℕ) (fuel node w n : ℕ) (r : Reached) (roo
     rules-low : rules ≤ r .top
     rules-low = rw rules-are (word-below macros (r .macros) n (r .top) (room .macros-are .below))
 
-    rules-same : rulesAt items mid rules ≡ getD (macrosAt items work macros (r .macros)) n []
+    rules-same : rulesAt mid rules ≡ getD (macrosAt work macros (r .macros)) n []
     rules-same =
-        rulesAt-below items mid work rules (take-less mid work rules (r .top) rules-low (wrapped .kept))
-        ∙ ap (rulesAt items work) rules-are ∙ word-rules items work macros (r .macros) n
+        rulesAt-below mid work rules (take-less mid work rules (r .top) rules-low (wrapped .kept))
+        ∙ ap (rulesAt work) rules-are ∙ word-rules work macros (r .macros) n
 
     operands-low : operands ≤ r .top
     operands-low = omega (arith, operands-are .low, room .placed .node-below)
 
-    used-same : treeAt items mid operands used ≡ usedOf tree r
+    used-same : treeAt mid operands used ≡ usedOf tree r
     unfolding usedOf
     used-same =
         let e : r .steps + 1 ≡ suc (r .steps) = omega arith in
-        tree-mark items work mid (r .top) used operands operands-low (wrapped .kept) (r .steps + 1) w wrapped
-        ∙ ap (mark (r .steps + 1)) (operands-are .is items w) ∙ tail-mark (r .steps + 1) tree ∙ ap (λ (m : ℕ). tail (mark m tree)) e
+        tree-mark work mid (r .top) used operands operands-low (wrapped .kept) (r .steps + 1) w wrapped
+        ∙ ap (mark (r .steps + 1)) (operands-are .is w) ∙ tail-mark (r .steps + 1) tree ∙ ap (λ (m : ℕ). tail (mark m tree)) e
 
-    pub use-stepping : Stepping items mid used rules operands used (fuel - r .sum)
+    pub use-stepping : Stepping mid used rules operands used (fuel - r .sum)
     use-stepping =
         record {
           sound = rw rules-same (each-getD n [] (room .macros-are .sound) noneOf);
           rules-below = omega (arith, rules-low, wrapped .end);
           use-below = omega (arith, operands-low, wrapped .end);
           wrap-below = omega arith;
-          items-below = omega (arith, room .items-below, wrapped .end);
           room = record { fits = omega (arith, room .fits, wrapped .end); small = omega (arith, room .small, wrapped .end) };
         }
 
-    module _ (last : List ℕ) (a : Applied) (stepped-is : Stepped items mid last used rules operands used (fuel - r .sum) a) where
-      outcome-is : stepOf (fuel - r .sum) (treeAt items mid operands used) (firstFit (rulesAt items mid rules) (treeAt items mid operands used) .1) ≡ outcome
+    module _ (last : List ℕ) (a : Applied) (stepped-is : Stepped mid last used rules operands used (fuel - r .sum) a) where
+      outcome-is : stepOf (fuel - r .sum) (treeAt mid operands used) (firstFit (rulesAt mid rules) (treeAt mid operands used) .1) ≡ outcome
       unfolding outcomeOf
       outcome-is = ap₂ (λ (u : Tree) (rs : List Rule). stepOf (fuel - r .sum) u (firstFit rs u .1)) used-same rules-same
 
-      answers : Answers items last used outcome a
+      answers : Answers last used outcome a
       answers = rw outcome-is at (stepped-is .is)
 
       -- ---- no result
 
       pub use-no-rule : a ≡ NoRule → (e : Ended) → Refuses 16 r e → Unused outcome r e
-      use-no-rule h e f = record { ground = 16; is = no-rule items last used outcome (subst (λ (b : Applied). Answers items last used outcome b) h answers); refuses = f }
+      use-no-rule h e f = record { ground = 16; is = no-rule last used outcome (subst (λ (b : Applied). Answers last used outcome b) h answers); refuses = f }
 
       pub use-differs : a ≡ Differ → (e : Ended) → Refuses 17 r e → Unused outcome r e
-      use-differs h e f = record { ground = 17; is = differs items last used outcome (subst (λ (b : Applied). Answers items last used outcome b) h answers); refuses = f }
+      use-differs h e f = record { ground = 17; is = differs last used outcome (subst (λ (b : Applied). Answers last used outcome b) h answers); refuses = f }
 
       pub use-costly : a ≡ Costly → (e : Ended) → Refuses 18 r e → Unused outcome r e
-      use-costly h e f = record { ground = 18; is = costly items last used outcome (subst (λ (b : Applied). Answers items last used outcome b) h answers); refuses = f }
+      use-costly h e f = record { ground = 18; is = costly last used outcome (subst (λ (b : Applied). Answers last used outcome b) h answers); refuses = f }
 
       -- ---- the result
 
       module _ (root cost : ℕ) (h : a ≡ Done root cost) (last-long : length last ≡ length mid) where
-        made : Result items last used root cost outcome
-        made = done-result items last used root cost outcome (subst (λ (b : Applied). Answers items last used outcome b) h answers)
+        made : Result last used root cost outcome
+        made = done-result last used root cost outcome (subst (λ (b : Applied). Answers last used outcome b) h answers)
 
         affordable : size (made .tree) ≤ fuel - r .sum
         unfolding outcomeOf
         affordable =
-            subst (Within (fuel - r .sum)) (made .is) (within (fuel - r .sum) (usedOf tree r) (firstFit (getD (macrosAt items work macros (r .macros)) n []) (usedOf tree r) .1))
+            subst (Within (fuel - r .sum)) (made .is) (within (fuel - r .sum) (usedOf tree r) (firstFit (getD (macrosAt work macros (r .macros)) n []) (usedOf tree r) .1))
 
         pub use-paid : r .sum + cost < 2 ^ 32
         use-paid = omega (arith, affordable, made .cost-is, room .spent, room .fuelled)
@@ -197,7 +196,7 @@ module _ (items work macros : List ℕ) (fuel node w n : ℕ) (r : Reached) (roo
         )
 
         pub use-made : (final : List ℕ) (w′ : ℕ) → Wrapped (λ x. markName (r .steps + 1) (wrapAt last 0 x)) 3 last final root w′
-            → Used outcome items fuel r work final root w′ (record { top = w′; at = r .at; steps = r .steps + 1; sum = r .sum + cost; variables = r .variables; macros = r .macros })
+            → Used outcome fuel r work final root w′ (record { top = w′; at = r .at; steps = r .steps + 1; sum = r .sum + cost; variables = r .variables; macros = r .macros })
         unfolding stepped
         use-made final w′ x =
             let one : r .steps + 1 ≡ suc (r .steps) = omega arith in
@@ -205,7 +204,7 @@ module _ (items work macros : List ℕ) (fuel node w n : ℕ) (r : Reached) (roo
               tree = made .tree;
               is = made .is;
               means =
-                  tree-mark items last final root w′ root (omega arith) (x .kept) (r .steps + 1) 0 x
+                  tree-mark last final root w′ root (omega arith) (x .kept) (r .steps + 1) 0 x
                   ∙ ap (mark (r .steps + 1)) (made .means) ∙ produce-mark (r .steps + 1) (made .tree) ∙ ap (λ (m : ℕ). produce (mark m (made .tree))) one;
               paid = affordable;
               numbers = ap₂ (λ (s c : ℕ). record { top = w′; at = r .at; steps = s; sum = r .sum + c; variables = r .variables; macros = r .macros }) one (made .cost-is);

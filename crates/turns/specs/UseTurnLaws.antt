@@ -34,7 +34,7 @@ use Rattle.turns.specs.Ends as E
 use Rattle.turns.specs.EndLaws as L
 use Rattle.turns.specs.Memory.{Tables, tables, macrosAt, stateAt, Put, workNeed, coreNeed, variableNeed, macroNeed, Proper, Ready, Kept}
 use Rattle.turns.specs.MemoryLaws.{macrosAt-settled, macros-kept}
-use Rattle.turns.specs.Turns.{operationsOf, Left, turnOf, Ends, Follows}
+use Rattle.turns.specs.Turns.{Left, turnOf, Ends, Follows}
 use Rattle.turns.specs.Uses.{usedOf, outcomeOf, stepped, Used, Unused}
 
 -- ---- the definition's step, by its outcome
@@ -56,11 +56,11 @@ tests-end expand s t true true = refl
 tests-end expand s t true false = refl
 tests-end expand s t false c = refl
 
-module _ (items : List ℕ) (fuel : ℕ) (expand : Tree → M (Term Name)) (t : Tree) (s : State) (spent : s .sum ≤ fuel) where
+module _ (operations : List ℕ) (fuel : ℕ) (expand : Tree → M (Term Name)) (t : Tree) (s : State) (spent : s .sum ≤ fuel) where
   rule-outcome : (o : Option Rule)
-      → E.given 16 s (λ r. needs 17 (equalLengths (r .pattern) (L.marked macrosMost (operationsOf items) fuel expand t s) [] (r .template)) s
-      (needs 18 (leb (s .sum + size (L.result macrosMost (operationsOf items) fuel expand t s r)) fuel) s
-      (endOf (expand (produce (mark (suc (s .steps)) (L.result macrosMost (operationsOf items) fuel expand t s r))) (withStep (size (L.result macrosMost (operationsOf items) fuel expand t s r)) s))))) o
+      → E.given 16 s (λ r. needs 17 (equalLengths (r .pattern) (L.marked macrosMost operations fuel expand t s) [] (r .template)) s
+      (needs 18 (leb (s .sum + size (L.result macrosMost operations fuel expand t s r)) fuel) s
+      (endOf (expand (produce (mark (suc (s .steps)) (L.result macrosMost operations fuel expand t s r))) (withStep (size (L.result macrosMost operations fuel expand t s r)) s))))) o
       ≡ outcomeEnd expand s (stepOf (fuel - s .sum) (tail (mark (suc (s .steps)) t)) o)
   unfolding E.given stepOf applied L.marked L.result outcomeEnd
   rule-outcome none = refl
@@ -70,10 +70,10 @@ module _ (items : List ℕ) (fuel : ℕ) (expand : Tree → M (Term Name)) (t : 
       tests-end expand s made (equalLengths (r .pattern) used [] (r .template)) (leb (s .sum + size made) fuel)
       ∙ ap (λ (c : Bool). outcomeEnd expand s (cond (equalLengths (r .pattern) used [] (r .template)) (cond c (result made) (refused 18)) (refused 17))) (leb-left (size made) (s .sum) fuel spent)
 
-  pub use-outcome : (n : ℕ) → endOf (expandUse macrosMost (operationsOf items) fuel expand n t s)
+  pub use-outcome : (n : ℕ) → endOf (expandUse macrosMost operations fuel expand n t s)
       ≡ outcomeEnd expand s (stepOf (fuel - s .sum) (tail (mark (suc (s .steps)) t)) (firstFit (getD (s .macros) n []) (tail (mark (suc (s .steps)) t)) .1))
   unfolding L.marked
-  use-outcome n = L.use-end macrosMost (operationsOf items) fuel expand n t s ∙ rule-outcome (firstFit (getD (s .macros) n []) (tail (mark (suc (s .steps)) t)) .1)
+  use-outcome n = L.use-end macrosMost operations fuel expand n t s ∙ rule-outcome (firstFit (getD (s .macros) n []) (tail (mark (suc (s .steps)) t)) .1)
 
 -- ---- a result is proper
 
@@ -95,36 +95,36 @@ proper-rule limit used p (given {a = x} f) =
 
 -- ---- the words follow from the same place
 
-pub left-same : (items : List ℕ) (r q : Reached) (core : List ℕ) (last : Tables) (e : End (Term Name)) (a : Ended) → q .at ≡ r .at → Left items encode q core last e a → Left items encode r core last e a
-left-same items r q core last (finished v s) (Done p) h l = (l .0, subst (λ (n : ℕ). Put (encode v) n core (last .core) (p .at)) h (l .1))
-left-same items r q core last (finished v s) (Refused x y z) h l = l
-left-same items r q core last (stopped k s) (Done p) h l = l
-left-same items r q core last (stopped k s) (Refused x y z) h l = l
-left-same items r q core last halted a h l = l
+pub left-same : (r q : Reached) (core : List ℕ) (last : Tables) (e : End (Term Name)) (a : Ended) → q .at ≡ r .at → Left encode q core last e a → Left encode r core last e a
+left-same r q core last (finished v s) (Done p) h l = (l .0, subst (λ (n : ℕ). Put (encode v) n core (last .core) (p .at)) h (l .1))
+left-same r q core last (finished v s) (Refused x y z) h l = l
+left-same r q core last (stopped k s) (Done p) h l = l
+left-same r q core last (stopped k s) (Refused x y z) h l = l
+left-same r q core last halted a h l = l
 
 -- ---- the turn
 
-module _ (items : List ℕ) (fuel n : ℕ) (t : Tree) (r : Reached) (work work′ core macros : List ℕ)
-    (turn : (expand : Tree → M (Term Name)) (s : State) → turnOf items fuel expand t s ≡ endOf (expandUse macrosMost (operationsOf items) fuel expand n t s))
-    (ready : Ready items fuel (size t) r (tables work core macros)) where
+module _ (operations : List ℕ) (fuel n : ℕ) (t : Tree) (r : Reached) (work work′ core macros : List ℕ)
+    (turn : (expand : Tree → M (Term Name)) (s : State) → turnOf operations fuel expand t s ≡ endOf (expandUse macrosMost operations fuel expand n t s))
+    (ready : Ready fuel (size t) r (tables work core macros)) where
   abbrev outcome : Outcome
-  outcome = outcomeOf (macrosAt items work macros (r .macros)) n fuel t r
+  outcome = outcomeOf (macrosAt work macros (r .macros)) n fuel t r
 
   abbrev state : State
-  state = stateAt items (tables work core macros) r
+  state = stateAt (tables work core macros) r
 
-  turn-outcome : (expand : Tree → M (Term Name)) → turnOf items fuel expand t state ≡ outcomeEnd expand state outcome
+  turn-outcome : (expand : Tree → M (Term Name)) → turnOf operations fuel expand t state ≡ outcomeEnd expand state outcome
   unfolding stateAt outcomeOf usedOf
-  turn-outcome expand = turn expand state ∙ use-outcome items fuel expand t state (ready .spent) n
+  turn-outcome expand = turn expand state ∙ use-outcome operations fuel expand t state (ready .spent) n
 
-  pub use-refused : (a : Ended) → Unused outcome r a → Ends items fuel t r (tables work core macros) (tables work′ core macros) a
+  pub use-refused : (a : Ended) → Unused outcome r a → Ends operations fuel t r (tables work core macros) (tables work′ core macros) a
   unfolding stateAt outcomeEnd
   use-refused a x =
-      subst (λ (b : Ended). Ends items fuel t r (tables work core macros) (tables work′ core macros) b) (sym (x .refuses))
+      subst (λ (b : Ended). Ends operations fuel t r (tables work core macros) (tables work′ core macros) b) (sym (x .refuses))
       (record {
         kept = tt;
         means = λ expand.
-            subst (λ (z : End (Term Name)). Left items encode r core (tables work′ core macros) z (Refused (x .ground) (r .steps) (r .sum)))
+            subst (λ (z : End (Term Name)). Left encode r core (tables work′ core macros) z (Refused (x .ground) (r .steps) (r .sum)))
             (sym (turn-outcome expand ∙ ap (outcomeEnd expand state) (x .is))) (refl, refl, refl);
       })
 
@@ -134,11 +134,11 @@ module _ (items : List ℕ) (fuel n : ℕ) (t : Tree) (r : Reached) (work work�
       let used : Proper (tail (mark (suc (r .steps)) t)) = tidy-tail (tidy-mark (suc (r .steps)) (λ x y. tt) p) in
       proper-rule (fuel - r .sum) (tail (mark (suc (r .steps)) t)) used (firstFit-tidy (tail (mark (suc (r .steps)) t)) (each-getD n [] (ready .macros-are .proper) noneOf))
 
-  module _ (node w : ℕ) (q : Reached) (x : Used outcome items fuel r work work′ node w q) (good : Proper t) (long : length work′ ≡ length work) where
-    made-size : size (treeAt items work′ node w) ≡ size (x .tree)
+  module _ (node w : ℕ) (q : Reached) (x : Used outcome fuel r work work′ node w q) (good : Proper t) (long : length work′ ≡ length work) where
+    made-size : size (treeAt work′ node w) ≡ size (x .tree)
     made-size = ap size (x .means) ∙ produce-size (mark (suc (r .steps)) (x .tree)) ∙ mark-size (suc (r .steps)) (x .tree)
 
-    use-kept : Kept items fuel (size t) (size (treeAt items work′ node w)) r q (tables work core macros) (tables work′ core macros)
+    use-kept : Kept fuel (size t) (size (treeAt work′ node w)) r q (tables work core macros) (tables work′ core macros)
     unfolding workNeed coreNeed variableNeed macroNeed stepped
     use-kept =
         let top-is : q .top ≡ w = ap (λ (z : Reached). z .top) (x .numbers) in
@@ -165,16 +165,16 @@ module _ (items : List ℕ) (fuel n : ℕ) (t : Tree) (r : Reached) (work work�
           core-spent = rw (at-is, sum-is, made-size) (omega arith);
           variables-spent = rw (variables-are, sum-is, made-size) (omega arith);
           macros-spent = rw (macros-are, sum-is, made-size) (omega arith);
-          macros-are = macros-kept items r q (tables work core macros) (tables work′ core macros) (ready .macros-are) (omega (arith, x .up)) macros-are (x .kept) refl;
+          macros-are = macros-kept r q (tables work core macros) (tables work′ core macros) (ready .macros-are) (omega (arith, x .up)) macros-are (x .kept) refl;
         }
 
-    use-state : stateAt items (tables work′ core macros) q ≡ withStep (size (x .tree)) state
+    use-state : stateAt (tables work′ core macros) q ≡ withStep (size (x .tree)) state
     unfolding stateAt withStep stepped
     use-state =
-        ap (stateAt items (tables work′ core macros)) (x .numbers)
-        ∙ rw (macrosAt-settled items work work′ macros macros (r .top) (x .kept) (r .macros) refl (ready .macros-are .below))
+        ap (stateAt (tables work′ core macros)) (x .numbers)
+        ∙ rw (macrosAt-settled work work′ macros macros (r .top) (x .kept) (r .macros) refl (ready .macros-are .below))
 
-    pub use-follows : Follows items fuel t r (tables work core macros) (tables work′ core macros) node w q
+    pub use-follows : Follows operations fuel t r (tables work core macros) (tables work′ core macros) node w q
     unfolding stateAt outcomeEnd stepped
     use-follows =
         let top-is : q .top ≡ w = ap (λ (z : Reached). z .top) (x .numbers) in
@@ -190,8 +190,8 @@ module _ (items : List ℕ) (fuel n : ℕ) (t : Tree) (r : Reached) (work work�
           };
           falls = omega (arith, made-size);
           means = λ expand a last l.
-              subst (λ (e : End (Term Name)). Left items encode r core last e a) (sym (turn-outcome expand ∙ ap (outcomeEnd expand state) (x .is)))
-              (left-same items r q core last (endOf (expand (produce (mark (suc (r .steps)) (x .tree))) (withStep (size (x .tree)) state))) a at-is
-              (subst (λ (z : State). Left items encode q core last (endOf (expand (produce (mark (suc (r .steps)) (x .tree))) z)) a) use-state
-              (subst (λ (z : Tree). Left items encode q core last (endOf (expand z (stateAt items (tables work′ core macros) q))) a) (x .means) l)));
+              subst (λ (e : End (Term Name)). Left encode r core last e a) (sym (turn-outcome expand ∙ ap (outcomeEnd expand state) (x .is)))
+              (left-same r q core last (endOf (expand (produce (mark (suc (r .steps)) (x .tree))) (withStep (size (x .tree)) state))) a at-is
+              (subst (λ (z : State). Left encode q core last (endOf (expand (produce (mark (suc (r .steps)) (x .tree))) z)) a) use-state
+              (subst (λ (z : Tree). Left encode q core last (endOf (expand z (stateAt (tables work′ core macros) q))) a) (x .means) l)));
         }

@@ -29,25 +29,24 @@ usedOf t r = tail (mark (suc (r .steps)) t)
 unfoldable pub outcomeOf : (rules : List (List Rule)) (n fuel : ℕ) → Tree → Reached → Outcome
 outcomeOf rules n fuel t r = stepOf (fuel - r .sum) (usedOf t r) (firstFit (getD rules n []) (usedOf t r) .1)
 
-pub record UseRoom (items work macros : List ℕ) (fuel node w : ℕ) (r : Reached) : Type 0 where
-  pub placed : Placed items work (r .top) node w
+pub record UseRoom (work macros : List ℕ) (fuel node w : ℕ) (r : Reached) : Type 0 where
+  pub placed : Placed work (r .top) node w
   pub fuelled : fuel ≤ 8192
   pub spent : r .sum ≤ fuel
   pub stepped : r .steps ≤ r .sum
-  pub items-below : length items ≤ r .top
   pub fits : r .top + 6 + 6 * (fuel - r .sum) ≤ length work
   pub small : r .top + 6 + 6 * (fuel - r .sum) ≤ numberMost
   pub counted : r .macros ≤ length macros
-  pub macros-are : Macros items r (tables work [] macros)
+  pub macros-are : Macros r (tables work [] macros)
 
 -- a step that costs n, whose cells end at `top`
 unfoldable pub stepped : (top n : ℕ) → Reached → Reached
 stepped top n r = record { top = top; at = r .at; steps = suc (r .steps); sum = r .sum + n; variables = r .variables; macros = r .macros }
 
-pub record Used (o : Outcome) (items : List ℕ) (fuel : ℕ) (r : Reached) (work work′ : List ℕ) (node w : ℕ) (q : Reached) : Type 0 where
+pub record Used (o : Outcome) (fuel : ℕ) (r : Reached) (work work′ : List ℕ) (node w : ℕ) (q : Reached) : Type 0 where
   pub tree : Tree
   pub is : o ≡ result tree
-  pub means : treeAt items work′ node w ≡ produce (mark (suc (r .steps)) tree)
+  pub means : treeAt work′ node w ≡ produce (mark (suc (r .steps)) tree)
   pub paid : size tree ≤ fuel - r .sum
   pub numbers : q ≡ stepped w (size tree) r
   pub node-below : node ≤ w
@@ -60,7 +59,7 @@ pub record Unused (o : Outcome) (r : Reached) (a : Ended) : Type 0 where
   pub is : o ≡ refused ground
   pub refuses : Refuses ground r a
 
-abbrev pub UseLeft : (o : Outcome) (items : List ℕ) (fuel : ℕ) (r : Reached) (work work′ : List ℕ) → Turn → Type 0
-UseLeft o items fuel r work work′ (Again n w q) = Used o items fuel r work work′ n w q
-UseLeft o items fuel r work work′ (Operands l w q) = ⊥
-UseLeft o items fuel r work work′ (Over a) = Unused o r a
+abbrev pub UseLeft : (o : Outcome) (fuel : ℕ) (r : Reached) (work work′ : List ℕ) → Turn → Type 0
+UseLeft o fuel r work work′ (Again n w q) = Used o fuel r work work′ n w q
+UseLeft o fuel r work work′ (Operands l w q) = ⊥
+UseLeft o fuel r work work′ (Over a) = Unused o r a

@@ -17,15 +17,15 @@ use forms::quotes;
 use forms::shapes;
 
 // (quote d): the words of d without marks and bindings.
-pub fn quoted(items: &[u32], work: &[u32], core: &mut [u32], node: u32, reached: Reached) -> Ended
-    requires { ⌜ QuoteRoom (now items) (now work) (now core) node reached ⌝ }
-    ensures { λ r. ⌜ QuoteLeft (now (items .entry)) (now (work .entry)) node reached (now (core .entry)) (now (core .exit)) r ⌝ }
+pub fn quoted(work: &[u32], core: &mut [u32], node: u32, reached: Reached) -> Ended
+    requires { ⌜ QuoteRoom (now work) (now core) node reached ⌝ }
+    ensures { λ r. ⌜ QuoteLeft (now (work .entry)) node reached (now (core .entry)) (now (core .exit)) r ⌝ }
 {
     if !lists::is_list_of(work, node, 2) {
         return leaf::refuse(13, reached);
     }
     let datum = lists::element(work, node, 1);
-    let at = quotes::quote(items, work, datum, core, reached.at as usize);
+    let at = quotes::quote(work, datum, core, reached.at as usize);
     Ended::Done(Reached {
         top: reached.top,
         at: at as u32,
@@ -56,20 +56,19 @@ pub fn condition(
 
 // A lambda's binders and words, past its tests: its body stands for it.
 pub fn lambda_body(
-    items: &[u32],
     work: &mut [u32],
     core: &mut [u32],
     node: u32,
     wrap: u32,
     reached: Reached,
 ) -> Turn
-    requires { ⌜ (Roomy (now items) (now work) (now core) node wrap reached) × (isLambda (treeAt (now items) (now work) node wrap) ≡ true) ⌝ }
-    ensures { λ r. ⌜ BoundLeft (treeAt (now (items .entry)) (now (work .entry)) node wrap) (now (items .entry)) reached (now (work .entry)) (now (work .exit)) (now (core .entry)) (now (core .exit)) r ⌝ }
+    requires { ⌜ (Roomy (now work) (now core) node wrap reached) × (isLambda (treeAt (now work) node wrap) ≡ true) ⌝ }
+    ensures { λ r. ⌜ BoundLeft (treeAt (now (work .entry)) node wrap) reached (now (work .entry)) (now (work .exit)) (now (core .entry)) (now (core .exit)) r ⌝ }
 {
     let first = reached.variables;
     let count = lists::count(work, lists::element(work, node, 1));
     let body = lists::element(work, node, 2);
-    let scope = binders::bind_formals(items, work, node, wrap, first, reached.top);
+    let scope = binders::bind_formals(work, node, wrap, first, reached.top);
     let at = output::put_three(core, reached.at, 7, first, count);
     Turn::Again(
         body,
@@ -86,22 +85,15 @@ pub fn lambda_body(
 }
 
 // (lambda (name ...) body)
-pub fn lambda(
-    items: &[u32],
-    work: &mut [u32],
-    core: &mut [u32],
-    node: u32,
-    wrap: u32,
-    reached: Reached,
-) -> Turn
-    requires { ⌜ Roomy (now items) (now work) (now core) node wrap reached ⌝ }
-    ensures { λ r. ⌜ LambdaLeft (treeAt (now (items .entry)) (now (work .entry)) node wrap) (now (items .entry)) reached (now (work .entry)) (now (work .exit)) (now (core .entry)) (now (core .exit)) r ⌝ }
+pub fn lambda(work: &mut [u32], core: &mut [u32], node: u32, wrap: u32, reached: Reached) -> Turn
+    requires { ⌜ Roomy (now work) (now core) node wrap reached ⌝ }
+    ensures { λ r. ⌜ LambdaLeft (treeAt (now (work .entry)) node wrap) reached (now (work .entry)) (now (work .exit)) (now (core .entry)) (now (core .exit)) r ⌝ }
 {
-    if !shapes::is_lambda(items, work, node) {
+    if !shapes::is_lambda(work, node) {
         return Turn::Over(leaf::refuse(13, reached));
     }
-    if !binders::formals_distinct(items, work, node, wrap) {
+    if !binders::formals_distinct(work, node, wrap) {
         return Turn::Over(leaf::refuse(14, reached));
     }
-    lambda_body(items, work, core, node, wrap, reached)
+    lambda_body(work, core, node, wrap, reached)
 }

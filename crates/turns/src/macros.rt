@@ -27,7 +27,6 @@ pub enum Read {
 
 // The rules of macro `count`.
 pub fn one_macro(
-    items: &[u32],
     work: &mut [u32],
     macros: &mut [u32],
     form: u32,
@@ -35,10 +34,10 @@ pub fn one_macro(
     count: u32,
     top: u32,
 ) -> Read
-    requires { ⌜ OneAsk (now items) (now work) (now macros) form w count top ⌝ }
-    ensures { λ r. ⌜ OneLeft (treeAt (now (items .entry)) (now (work .entry)) form w) (now (items .entry)) (now (work .entry)) (now (work .exit)) (now (macros .entry)) (now (macros .exit)) count top r ⌝ }
+    requires { ⌜ OneAsk (now work) (now macros) form w count top ⌝ }
+    ensures { λ r. ⌜ OneLeft (treeAt (now (work .entry)) form w) (now (work .entry)) (now (work .exit)) (now (macros .entry)) (now (macros .exit)) count top r ⌝ }
 {
-    let built = rules::rules(items, work, form, w, top);
+    let built = rules::rules(work, form, w, top);
     if built == packed::NONE {
         return Read::Bad;
     }
@@ -48,7 +47,6 @@ pub fn one_macro(
 
 // The rules of each (name rules) of a list, as macros from `count` on.
 pub fn all_macros(
-    items: &[u32],
     work: &mut [u32],
     macros: &mut [u32],
     list: u32,
@@ -56,8 +54,8 @@ pub fn all_macros(
     count: u32,
     top: u32,
 ) -> Read
-    requires { ⌜ AllAsk (now items) (now work) (now macros) list w count top ⌝ }
-    ensures { λ r. ⌜ AllLeft (treeAt (now (items .entry)) (now (work .entry)) list w) (now (items .entry)) (now (work .entry)) (now (work .exit)) (now (macros .entry)) (now (macros .exit)) count top r ⌝ }
+    requires { ⌜ AllAsk (now work) (now macros) list w count top ⌝ }
+    ensures { λ r. ⌜ AllLeft (treeAt (now (work .entry)) list w) (now (work .entry)) (now (work .exit)) (now (macros .entry)) (now (macros .exit)) count top r ⌝ }
 {
     let mut at = list;
     let mut n = count;
@@ -66,7 +64,7 @@ pub fn all_macros(
         let entry = cells::reference(work, at, 2);
         let form = lists::element(work, entry, 1);
         at = cells::reference(work, at, 1);
-        let Read::Good(upper) = one_macro(items, work, macros, form, w, n, end) else {
+        let Read::Good(upper) = one_macro(work, macros, form, w, n, end) else {
             return Read::Bad;
         };
         end = upper;
@@ -87,7 +85,6 @@ pub fn rules_wrap(inside: bool, scope: u32, outer: u32) -> u32
 
 // A form's macros, past its tests: its body stands for it.
 pub fn macros_body(
-    items: &[u32],
     work: &mut [u32],
     macros: &mut [u32],
     node: u32,
@@ -95,16 +92,16 @@ pub fn macros_body(
     inside: bool,
     reached: Reached,
 ) -> Turn
-    requires { ⌜ (MacroRoom (now items) (now work) (now macros) node wrap reached) × (isMacros 16 (treeAt (now items) (now work) node wrap) ≡ true) ⌝ }
-    ensures { λ r. ⌜ KnownLeft (treeAt (now (items .entry)) (now (work .entry)) node wrap) inside (now (items .entry)) reached (now (work .entry)) (now (work .exit)) (now (macros .entry)) (now (macros .exit)) r ⌝ }
+    requires { ⌜ (MacroRoom (now work) (now macros) node wrap reached) × (isMacros 16 (treeAt (now work) node wrap) ≡ true) ⌝ }
+    ensures { λ r. ⌜ KnownLeft (treeAt (now (work .entry)) node wrap) inside reached (now (work .entry)) (now (work .exit)) (now (macros .entry)) (now (macros .exit)) r ⌝ }
 {
     let first = reached.macros;
     let list = lists::element(work, node, 1);
     let count = lists::count(work, list);
     let body = lists::element(work, node, 2);
-    let scope = binders::bind_macros(items, work, node, wrap, first, reached.top);
+    let scope = binders::bind_macros(work, node, wrap, first, reached.top);
     let w = rules_wrap(inside, scope.wrap, wrap);
-    let Read::Good(top) = all_macros(items, work, macros, list, w, first, scope.top) else {
+    let Read::Good(top) = all_macros(work, macros, list, w, first, scope.top) else {
         return Turn::Over(leaf::refuse(15, reached));
     };
     Turn::Again(
@@ -123,7 +120,6 @@ pub fn macros_body(
 
 // (let-syntax ((name rules) ...) body), and letrec-syntax, whose rules stand inside the scope
 pub fn let_syntax(
-    items: &[u32],
     work: &mut [u32],
     macros: &mut [u32],
     node: u32,
@@ -131,14 +127,14 @@ pub fn let_syntax(
     inside: bool,
     reached: Reached,
 ) -> Turn
-    requires { ⌜ MacroRoom (now items) (now work) (now macros) node wrap reached ⌝ }
-    ensures { λ r. ⌜ MacrosLeft (treeAt (now (items .entry)) (now (work .entry)) node wrap) inside (now (items .entry)) reached (now (work .entry)) (now (work .exit)) (now (macros .entry)) (now (macros .exit)) r ⌝ }
+    requires { ⌜ MacroRoom (now work) (now macros) node wrap reached ⌝ }
+    ensures { λ r. ⌜ MacrosLeft (treeAt (now (work .entry)) node wrap) inside reached (now (work .entry)) (now (work .exit)) (now (macros .entry)) (now (macros .exit)) r ⌝ }
 {
-    if !shapes::is_macros(items, work, node, MACROS_MOST) {
+    if !shapes::is_macros(work, node, MACROS_MOST) {
         return Turn::Over(leaf::refuse(13, reached));
     }
-    if !binders::keywords_distinct(items, work, node, wrap) {
+    if !binders::keywords_distinct(work, node, wrap) {
         return Turn::Over(leaf::refuse(14, reached));
     }
-    macros_body(items, work, macros, node, wrap, inside, reached)
+    macros_body(work, macros, node, wrap, inside, reached)
 }

@@ -27,7 +27,6 @@ pub fn rules_of(macros: &[u32], count: u32, n: u32) -> u32
 
 // Step m marks the use with m, transcribes, then marks the result with m. Both marks wait.
 pub fn macro_use(
-    items: &[u32],
     work: &mut [u32],
     macros: &[u32],
     fuel: u32,
@@ -36,15 +35,15 @@ pub fn macro_use(
     number: u32,
     reached: Reached,
 ) -> Turn
-    requires { ⌜ UseRoom (now items) (now work) (now macros) fuel node wrap reached ⌝ }
-    ensures { λ r. ⌜ UseLeft (outcomeOf (macrosAt (now (items .entry)) (now (work .entry)) (now (macros .entry)) (reached .macros)) number fuel (treeAt (now (items .entry)) (now (work .entry)) node wrap) reached) (now (items .entry)) fuel reached (now (work .entry)) (now (work .exit)) r ⌝ }
+    requires { ⌜ UseRoom (now work) (now macros) fuel node wrap reached ⌝ }
+    ensures { λ r. ⌜ UseLeft (outcomeOf (macrosAt (now (work .entry)) (now (macros .entry)) (reached .macros)) number fuel (treeAt (now (work .entry)) node wrap) reached) fuel reached (now (work .entry)) (now (work .exit)) r ⌝ }
 {
     let m = reached.steps + 1;
     let limit = fuel - reached.sum;
     let rules = rules_of(macros, reached.macros, number);
     let operands = lists::rest(work, node);
     let used = cells::put_mark(work, reached.top, m, wrap);
-    match apply::apply(items, work, used, rules, operands, used, limit) {
+    match apply::apply(work, used, rules, operands, used, limit) {
         Applied::NoRule => Turn::Over(leaf::refuse(16, reached)),
         Applied::Differ => Turn::Over(leaf::refuse(17, reached)),
         Applied::Costly => Turn::Over(leaf::refuse(18, reached)),

@@ -12,7 +12,6 @@ use borrow.Author.Tests.{not-true, not-false, leb-true}
 use Rattle.recipe.specs.Table.{itemCount, isLayout}
 use Rattle.recipe.specs.TableLaws.{isLayout-parts}
 use Rattle.layout.specs.Places.{places-none}
-use Rattle.turns.specs.Turns.{operationsOf}
 use Rattle.expander.specs.ServiceLaws.{room, served-layout, served-fuel, served-tables, served-operations, lends, expanded-fits, served-expanded}
 
 -- the tests of grounds 7, 8 and 9 that are passed
@@ -57,7 +56,6 @@ returns-4 c =
     served-operations (a .items .now) (a .fuel) (a .work .now) (a .core .now) (layout (c .before .before .before .before .before .before .before .before .before)) (fuelled (c .before .before .before .before .before .before .before)) (roomy (c .before .before .before .before .before)) (sym (c .before .before .before .operations2 .ensures .0) ∙ not-true _ (c .before .if4 .taken)) _ (c .refused4 .ensures)
 
 expand-recipe-requires : tie.Need-expand-recipe-requires
-unfolding operationsOf
 expand-recipe-requires c κs =
     let a = c .before .before .before .before .before .before .before .before .before .before .before .before .before .before .before .before .args in
     let good = not-false _ (c .before .before .before .if4 .left) in

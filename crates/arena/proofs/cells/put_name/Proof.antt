@@ -16,7 +16,7 @@ returns c =
     let a = entry .args in
     let pre = entry .pre in
     let put = c .before .before .put in
-    grown-name (a .work .now) _ (a .top) _ (a .item) (a .own) (pre .1) (put .ensures)
+    grown-name (a .work .now) _ (a .top) _ (a .origin) (a .own) (pre .1) (put .ensures)
 
 pub put-name-spec : {M : Type 1} → statement M
 put-name-spec = tie.close (tie.spec put-requires same-length returns)

@@ -2,7 +2,7 @@
 use borrow.Author.Needs.{needs}
 use Rattle.arena.proofs.item_nodes.lay_item.Statement.{statement}
 use Rattle.arena.proofs.item_nodes.lay_item.Tie as tie
-use Rattle.arena.specs.LayOut.{laying-whole, laying-most, laying-room, laid-empty, laid-name, laid-pair, laid-constant, head-below, tail-below}
+use Rattle.arena.specs.LayOut.{laying-whole, laying-most, laying-room, laid-empty, laid-name, name-few, laid-pair, laid-constant, head-below, tail-below}
 use native.Mathlib.Omega.{arith}
 use mathlib.Core.Path.{refl}
 use Prim.Native.Nat.{_-_}
@@ -51,9 +51,24 @@ returns c =
     let put-empty = c .before .before .put-empty in
     laid-empty (a .items .now) (a .work .now) _ (a .count) (a .laid) _ _ pre refl (if1 .taken) (put-empty .ensures)
 
+shared-slice-read-number : tie.Need-shared-slice-read-number
+shared-slice-read-number c =
+    let entry = c .before .before .before .before .before .before in
+    let a = entry .args in
+    let pre = entry .pre in
+    omega (arith, laying-whole (a .items .now) (a .work .now) (a .count) (a .laid) (pre), pre .more)
+
+of-item-requires : tie.Need-of-item-requires
+of-item-requires c κs =
+    let entry = c .before .before .before .before .before .before in
+    let a = entry .args in
+    let pre = entry .pre in
+    let if2 = c .before .if2 in
+    (name-few (a .items .now) (a .work .now) (a .work .now) (a .count) (a .laid) _ 0 pre refl (if2 .taken), omega (arith, laying-most (a .items .now) (a .work .now) (a .count) (a .laid) pre))
+
 put-name-requires : tie.Need-put-name-requires
 put-name-requires c κs =
-    let entry = c .before .before .before .before .before .before in
+    let entry = c .before .before .before .before .before .before .before .before in
     let a = entry .args in
     let pre = entry .pre in
     (laying-room (a .items .now) (a .work .now) (a .count) (a .laid) (pre), omega arith)
@@ -65,12 +80,13 @@ same-length-2 c =
 
 returns-2 : tie.Need-returns-2
 returns-2 c =
-    let entry = c .before .before .before .before .before .before .before .before .before in
+    let entry = c .before .before .before .before .before .before .before .before .before .before .before in
     let a = entry .args in
     let pre = entry .pre in
-    let if2 = c .before .before .before .before .if2 in
+    let if2 = c .before .before .before .before .before .before .if2 in
+    let of-item = c .before .before .before .before .of-item in
     let put-name = c .before .before .put-name in
-    laid-name (a .items .now) (a .work .now) _ (a .count) (a .laid) _ _ pre refl (if2 .taken) (put-name .ensures)
+    laid-name (a .items .now) (a .work .now) _ (a .count) (a .laid) _ _ pre refl _ (if2 .taken) (of-item .ensures) (put-name .ensures)
 
 shared-slice-read-first : tie.Need-shared-slice-read-first
 shared-slice-read-first c =
@@ -168,6 +184,10 @@ lay-item-spec =
     put-empty-requires
     same-length
     returns
+    (λ c. search needs)  -- add-number
+    (λ c. search needs)  -- mul-number
+    shared-slice-read-number
+    of-item-requires
     put-name-requires
     same-length-2
     returns-2

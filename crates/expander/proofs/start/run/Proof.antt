@@ -3,7 +3,7 @@ use borrow.Author.Needs.{needs}
 use Rattle.expander.proofs.start.run.Statement.{statement}
 use Rattle.expander.proofs.start.run.Tie as tie
 use Rattle.expander.specs.Start.{atStart}
-use Rattle.expander.specs.StartLaws.{start-fits, start-lent, start-placed, start-ready, start-expanded}
+use Rattle.expander.specs.StartLaws.{start-fits, start-lending, start-placed, start-ready, start-expanded}
 
 lay-out-requires : tie.Need-lay-out-requires
 lay-out-requires c κs =
@@ -20,7 +20,7 @@ expression-requires c κs =
     let l = entry .pre .0 in
     let laid = c .before .before .before .before .before .before .before .lay-out in
     let second = c .before .before .before .element .ensures in (
-      start-lent (a .items .now) (a .work .now) (a .core .now) (a .operations .now) (a .fuel) l,
+      start-lending (a .items .now) (a .work .now) (a .core .now) (a .operations .now) (a .fuel) l,
       start-placed (a .items .now) (a .work .now) (a .core .now) (a .operations .now) (a .fuel) l _ _ _ (laid .ensures) second,
       start-ready (a .items .now) (a .work .now) (a .core .now) (a .operations .now) (a .fuel) l _ _ _ (laid .ensures) second _ (laid .kept .1 .0) (entry .pre .1),
     )

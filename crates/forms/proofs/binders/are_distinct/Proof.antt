@@ -11,35 +11,35 @@ use Rattle.arena.specs.ListLaws.{pair-falls}
 use Rattle.forms.specs.BinderLaws.{opened, names-none, distinct-none, distinct-not, distinct-later}
 
 abbrev Inv-loop : tie.InvT-loop
-Inv-loop items work list w macros at₀ at =
-    (AllNames macros (treeAt items work at w))
-    × (distinct (namesIn macros (treeAt items work list w)) ≡ distinct (namesIn macros (treeAt items work at w)))
+Inv-loop work list w macros at₀ at =
+    (AllNames macros (treeAt work at w))
+    × (distinct (namesIn macros (treeAt work list w)) ≡ distinct (namesIn macros (treeAt work at w)))
 
 abbrev μ-loop : tie.MeasureT-loop
-μ-loop items work list w macros at₀ at =
+μ-loop work list w macros at₀ at =
     at
 
 loop-holds : tie.Need-loop-holds Inv-loop μ-loop
 loop-holds c =
-    let pre = c .before .before .pre in
+    let pre = c .before .pre in
     (pre, refl)
 
 is-among-requires : tie.Need-is-among-requires Inv-loop μ-loop
 is-among-requires c κs =
-    let a = c .before .before .before .before .before .before .before .before .args in
-    let pre = c .before .before .before .before .before .before .before .before .pre in
+    let a = c .before .before .before .before .before .before .before .args in
+    let pre = c .before .before .before .before .before .before .before .pre in
     let loop = c .before .before .before .before .before .loop in
     let word = c .before .before .before .before .word in
     let if1 = c .before .before .before .if1 in
     let reference = c .before .before .reference in
     let own-name = c .before .own-name in
     let reference2 = c .reference2 in
-    let o = opened (a .items .now) (a .work .now) (loop .at) _ (word .ensures) (a .w) (a .macros) (if1 .taken) (loop .inv .0) _ _ _ (reference .ensures) (own-name .ensures) (reference2 .ensures) in
+    let o = opened (a .work .now) (loop .at) _ (word .ensures) (a .w) (a .macros) (if1 .taken) (loop .inv .0) _ _ _ (reference .ensures) (own-name .ensures) (reference2 .ensures) in
     o .ordinary
 
 returns : tie.Need-returns Inv-loop μ-loop
 returns c =
-    let a = c .before .before .before .before .before .before .before .before .before .before .args in
+    let a = c .before .before .before .before .before .before .before .before .before .args in
     let loop = c .before .before .before .before .before .before .before .loop in
     let word = c .before .before .before .before .before .before .word in
     let if1 = c .before .before .before .before .before .if1 in
@@ -47,12 +47,12 @@ returns c =
     let own-name = c .before .before .before .own-name in
     let reference2 = c .before .before .reference2 in
     let is-among = c .before .is-among in
-    let o = opened (a .items .now) (a .work .now) (loop .at) _ (word .ensures) (a .w) (a .macros) (if1 .taken) (loop .inv .0) _ _ _ (reference .ensures) (own-name .ensures) (reference2 .ensures) in
+    let o = opened (a .work .now) (loop .at) _ (word .ensures) (a .w) (a .macros) (if1 .taken) (loop .inv .0) _ _ _ (reference .ensures) (own-name .ensures) (reference2 .ensures) in
     distinct-not _ _ _ _ (o .names-are) (is-among .ensures) (c .if2 .taken) ∙ sym (loop .inv .1)
 
 loop-less : tie.Need-loop-less Inv-loop μ-loop
 loop-less c =
-    let a = c .before .before .before .before .before .before .before .before .before .before .args in
+    let a = c .before .before .before .before .before .before .before .before .before .args in
     let loop = c .before .before .before .before .before .before .before .loop in
     let word = c .before .before .before .before .before .before .word in
     let if1 = c .before .before .before .before .before .if1 in
@@ -61,7 +61,7 @@ loop-less c =
 
 loop-again : tie.Need-loop-again Inv-loop μ-loop
 loop-again c =
-    let a = c .before .before .before .before .before .before .before .before .before .before .args in
+    let a = c .before .before .before .before .before .before .before .before .before .args in
     let loop = c .before .before .before .before .before .before .before .loop in
     let word = c .before .before .before .before .before .before .word in
     let if1 = c .before .before .before .before .before .if1 in
@@ -69,15 +69,15 @@ loop-again c =
     let own-name = c .before .before .before .own-name in
     let reference2 = c .before .before .reference2 in
     let is-among = c .before .is-among in
-    let o = opened (a .items .now) (a .work .now) (loop .at) _ (word .ensures) (a .w) (a .macros) (if1 .taken) (loop .inv .0) _ _ _ (reference .ensures) (own-name .ensures) (reference2 .ensures) in
+    let o = opened (a .work .now) (loop .at) _ (word .ensures) (a .w) (a .macros) (if1 .taken) (loop .inv .0) _ _ _ (reference .ensures) (own-name .ensures) (reference2 .ensures) in
     (o .ordinary, loop .inv .1 ∙ distinct-later _ _ _ _ (o .names-are) (is-among .ensures) (c .if2 .left))
 
 returns-2 : tie.Need-returns-2 Inv-loop μ-loop
 returns-2 c =
-    let a = c .before .before .before .before .before .args in
+    let a = c .before .before .before .before .args in
     let loop = c .before .before .loop in
     let word = c .before .word in
-    distinct-none _ (names-none (a .items .now) (a .work .now) (loop .at) _ (word .ensures) (a .w) (a .macros) (c .if1 .left)) ∙ sym (loop .inv .1)
+    distinct-none _ (names-none (a .work .now) (loop .at) _ (word .ensures) (a .w) (a .macros) (c .if1 .left)) ∙ sym (loop .inv .1)
 
 pub are-distinct-spec : {M : Type 1} → statement M
 are-distinct-spec =

@@ -12,34 +12,34 @@ use Rattle.arena.specs.ListLaws.{pair-falls}
 use Rattle.forms.specs.BinderLaws.{opened, names-none, among-none, among-first, among-later}
 
 abbrev Inv-loop : tie.InvT-loop
-Inv-loop items work node list w macros at₀ at =
-    (AllNames macros (treeAt items work at w))
-    × (anyOf (same (nameAt items work node w)) (namesIn macros (treeAt items work list w)) ≡ anyOf (same (nameAt items work node w)) (namesIn macros (treeAt items work at w)))
+Inv-loop work node list w macros at₀ at =
+    (AllNames macros (treeAt work at w))
+    × (anyOf (same (nameAt work node w)) (namesIn macros (treeAt work list w)) ≡ anyOf (same (nameAt work node w)) (namesIn macros (treeAt work at w)))
 
 abbrev μ-loop : tie.MeasureT-loop
-μ-loop items work node list w macros at₀ at =
+μ-loop work node list w macros at₀ at =
     at
 
 loop-holds : tie.Need-loop-holds Inv-loop μ-loop
 loop-holds c =
-    let pre = c .before .before .pre in
+    let pre = c .before .pre in
     (pre, refl)
 
 returns : tie.Need-returns Inv-loop μ-loop
 returns c =
-    let a = c .before .before .before .before .before .before .before .before .before .args in
+    let a = c .before .before .before .before .before .before .before .before .args in
     let loop = c .before .before .before .before .before .before .loop in
     let word = c .before .before .before .before .before .word in
     let if1 = c .before .before .before .before .if1 in
     let reference = c .before .before .before .reference in
     let own-name = c .before .before .own-name in
     let same-names = c .before .same-names in
-    let o = opened (a .items .now) (a .work .now) (loop .at) _ (word .ensures) (a .w) (a .macros) (if1 .taken) (loop .inv .0) _ _ _ (reference .ensures) (own-name .ensures) refl in
+    let o = opened (a .work .now) (loop .at) _ (word .ensures) (a .w) (a .macros) (if1 .taken) (loop .inv .0) _ _ _ (reference .ensures) (own-name .ensures) refl in
     among-first _ _ _ _ _ (o .names-are) (same-names .ensures) (c .if2 .taken) ∙ sym (loop .inv .1)
 
 loop-less : tie.Need-loop-less Inv-loop μ-loop
 loop-less c =
-    let a = c .before .before .before .before .before .before .before .before .before .before .args in
+    let a = c .before .before .before .before .before .before .before .before .before .args in
     let loop = c .before .before .before .before .before .before .before .loop in
     let word = c .before .before .before .before .before .before .word in
     let if1 = c .before .before .before .before .before .if1 in
@@ -47,7 +47,7 @@ loop-less c =
 
 loop-again : tie.Need-loop-again Inv-loop μ-loop
 loop-again c =
-    let a = c .before .before .before .before .before .before .before .before .before .before .args in
+    let a = c .before .before .before .before .before .before .before .before .before .args in
     let loop = c .before .before .before .before .before .before .before .loop in
     let word = c .before .before .before .before .before .before .word in
     let if1 = c .before .before .before .before .before .if1 in
@@ -55,15 +55,15 @@ loop-again c =
     let own-name = c .before .before .before .own-name in
     let same-names = c .before .before .same-names in
     let if2 = c .before .if2 in
-    let o = opened (a .items .now) (a .work .now) (loop .at) _ (word .ensures) (a .w) (a .macros) (if1 .taken) (loop .inv .0) _ _ _ (reference .ensures) (own-name .ensures) (c .reference2 .ensures) in
+    let o = opened (a .work .now) (loop .at) _ (word .ensures) (a .w) (a .macros) (if1 .taken) (loop .inv .0) _ _ _ (reference .ensures) (own-name .ensures) (c .reference2 .ensures) in
     (o .ordinary, loop .inv .1 ∙ among-later _ _ _ _ _ (o .names-are) (same-names .ensures) (if2 .left))
 
 returns-2 : tie.Need-returns-2 Inv-loop μ-loop
 returns-2 c =
-    let a = c .before .before .before .before .before .args in
+    let a = c .before .before .before .before .args in
     let loop = c .before .before .loop in
     let word = c .before .word in
-    among-none _ _ (names-none (a .items .now) (a .work .now) (loop .at) _ (word .ensures) (a .w) (a .macros) (c .if1 .left)) ∙ sym (loop .inv .1)
+    among-none _ _ (names-none (a .work .now) (loop .at) _ (word .ensures) (a .w) (a .macros) (c .if1 .left)) ∙ sym (loop .inv .1)
 
 pub is-among-spec : {M : Type 1} → statement M
 is-among-spec =

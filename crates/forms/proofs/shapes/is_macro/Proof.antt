@@ -11,8 +11,8 @@ is-list-of-requires c κs =
 
 returns : tie.Need-returns
 returns c =
-    let a = c .before .before .before .before .args in
-    macro-shape (a .items .now) (a .work .now) (a .node) _ (c .before .is-list-of .ensures) (not-true _ (c .if1 .taken))
+    let a = c .before .before .before .args in
+    macro-shape (a .work .now) (a .node) _ (c .before .is-list-of .ensures) (not-true _ (c .if1 .taken))
 
 element-requires : tie.Need-element-requires
 element-requires c κs =
@@ -24,8 +24,8 @@ is-ordinary-requires c κs =
 
 returns-2 : tie.Need-returns-2
 returns-2 c =
-    let a = c .before .before .before .before .before .before .args in
-    macro-name (a .items .now) (a .work .now) (a .node) _ (c .before .before .before .is-list-of .ensures) (not-false _ (c .before .before .if1 .left)) _ _ (c .before .element .ensures) (c .is-ordinary .ensures)
+    let a = c .before .before .before .before .before .args in
+    macro-name (a .work .now) (a .node) _ (c .before .before .before .is-list-of .ensures) (not-false _ (c .before .before .if1 .left)) _ _ (c .before .element .ensures) (c .is-ordinary .ensures)
 
 pub is-macro-spec : {M : Type 1} → statement M
 is-macro-spec =

@@ -14,27 +14,27 @@ use native.Mathlib.Omega.{arith}
 use borrow.Author.Needs.{needs}
 use Rattle.resolution.specs.HandLaws.{told-same, told-other, told-full}
 
-abbrev μ-same-grown : Measures 3 same-grown-kinds.ps ℕ
+abbrev μ-same-grown : Measures 2 same-grown-kinds.ps ℕ
 μ-same-grown κs a =
-    (3 * stepLimit + 1) - length (a .1 .1 .0 .now)
+    (3 * stepLimit + 1) - length (a .1 .0 .now)
 
-abbrev same-grown-at : ℕ → In 3 same-grown-kinds.ps
+abbrev same-grown-at : ℕ → In 2 same-grown-kinds.ps
 same-grown-at t =
-    and 3 same-grown-kinds.ps (is 3 same-grown-kinds.ps μ-same-grown t) same-grown.Pre
+    and 2 same-grown-kinds.ps (is 2 same-grown-kinds.ps μ-same-grown t) same-grown.Pre
 
-abbrev same-grown-below : ℕ → In 3 same-grown-kinds.ps
+abbrev same-grown-below : ℕ → In 2 same-grown-kinds.ps
 same-grown-below t =
-    and 3 same-grown-kinds.ps (falls 3 same-grown-kinds.ps _<_ μ-same-grown t) same-grown.Pre
+    and 2 same-grown-kinds.ps (falls 2 same-grown-kinds.ps _<_ μ-same-grown t) same-grown.Pre
 
 abbrev same-grown-claims : ℕ → same-grown-lts.Claims
 same-grown-claims t = (compare-reads.Asked, compare-reads.Learnt, same-grown-below t, same-grown.Post)
 
 same-grown-same-grown-requires : (t : ℕ) → same-grown-lts.Need-same-grown-requires (same-grown-claims t) (same-grown-at t) same-grown.Post
 same-grown-same-grown-requires t c κs =
-    let pre = c .before .before .before .before .before .before .before .before .before .before .pre in
+    let pre = c .before .before .before .before .before .before .before .before .before .pre in
     let compare = c .before .before .before .before .before .compare in
     let enum-told3 = c .before .enum-told3 in
-    (omega (arith, pre .0, told-full (compare .ensures) (enum-told3 .given .1), compare .kept .1 .1 .0), tt)
+    (omega (arith, pre .0, told-full (compare .ensures) (enum-told3 .given .1), compare .kept .1 .0), tt)
 
 same-grown-returns : (t : ℕ) → same-grown-lts.Need-returns (same-grown-claims t) (same-grown-at t) same-grown.Post
 same-grown-returns t c =

@@ -13,20 +13,20 @@ use lib.ListN.{length}
 use native.Mathlib.Omega.{arith}
 use borrow.Author.Needs.{needs}
 
-abbrev μ-summary-grown : Measures 3 summary-grown-kinds.ps ℕ
+abbrev μ-summary-grown : Measures 2 summary-grown-kinds.ps ℕ
 μ-summary-grown κs a =
-    (3 * stepLimit + 1) - length (a .1 .1 .0 .now)
+    (3 * stepLimit + 1) - length (a .1 .0 .now)
 
-abbrev summary-grown-at : ℕ → In 3 summary-grown-kinds.ps
+abbrev summary-grown-at : ℕ → In 2 summary-grown-kinds.ps
 summary-grown-at t =
-    and 3 summary-grown-kinds.ps (is 3 summary-grown-kinds.ps μ-summary-grown t) summary-grown.Pre
+    and 2 summary-grown-kinds.ps (is 2 summary-grown-kinds.ps μ-summary-grown t) summary-grown.Pre
 
-abbrev summary-grown-below : ℕ → In 3 summary-grown-kinds.ps
+abbrev summary-grown-below : ℕ → In 2 summary-grown-kinds.ps
 summary-grown-below t =
     and
-    3
+    2
     summary-grown-kinds.ps
-    (falls 3 summary-grown-kinds.ps _<_ μ-summary-grown t)
+    (falls 2 summary-grown-kinds.ps _<_ μ-summary-grown t)
     summary-grown.Pre
 
 abbrev summary-grown-claims : ℕ → summary-grown-lts.Claims
@@ -39,10 +39,10 @@ summary-grown-returns t c =
 
 summary-grown-summary-grown-requires : (t : ℕ) → summary-grown-lts.Need-summary-grown-requires (summary-grown-claims t) (summary-grown-at t) summary-grown.Post
 summary-grown-summary-grown-requires t c κs =
-    let pre = c .before .before .before .before .before .before .before .before .before .before .pre in
+    let pre = c .before .before .before .before .before .before .before .before .before .pre in
     let summary-in = c .before .before .before .before .before .summary-in in
     let if1 = c .before .if1 in
-    (omega (arith, pre .0, summary-in .ensures .full (if1 .left), summary-in .kept .1 .1 .0), tt)
+    (omega (arith, pre .0, summary-in .ensures .full (if1 .left), summary-in .kept .1 .0), tt)
 
 summary-grown-returns-2 : (t : ℕ) → summary-grown-lts.Need-returns-2 (summary-grown-claims t) (summary-grown-at t) summary-grown.Post
 summary-grown-returns-2 t c =

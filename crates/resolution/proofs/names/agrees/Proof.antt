@@ -12,28 +12,28 @@ binding-of-requires c κs = search needs
 
 returns : tie.Need-returns
 returns c =
-    let a = c .before .before .before .before .args in
+    let a = c .before .before .before .args in
     let binding-of = c .before .binding-of in
-    agree-bindings (a .number) (a .binding) (nameAt (a .items .now) (a .work .now) (a .node) (a .w)) _ (binding-of .ensures) (c .if1 .taken)
+    agree-bindings (a .number) (a .binding) (nameAt (a .work .now) (a .node) (a .w)) _ (binding-of .ensures) (c .if1 .taken)
 
 returns-2 : tie.Need-returns-2
 returns-2 c =
-    let a = c .before .before .before .before .before .args in
+    let a = c .before .before .before .before .args in
     let binding-of = c .before .before .binding-of in
     let if1 = c .before .if1 in
-    agree-bound (a .number) (a .binding) (nameAt (a .items .now) (a .work .now) (a .node) (a .w)) _ (binding-of .ensures) (if1 .left) (c .if2 .taken)
+    agree-bound (a .number) (a .binding) (nameAt (a .work .now) (a .node) (a .w)) _ (binding-of .ensures) (if1 .left) (c .if2 .taken)
 
 number-of-requires : tie.Need-number-of-requires
 number-of-requires c κs = search needs
 
 returns-3 : tie.Need-returns-3
 returns-3 c =
-    let a = c .before .before .before .before .before .before .args in
+    let a = c .before .before .before .before .before .args in
     let binding-of = c .before .before .before .binding-of in
     let if1 = c .before .before .if1 in
     let if2 = c .before .if2 in
-    agree-numbers (a .number) (a .binding) (nameAt (a .items .now) (a .work .now) (a .node) (a .w)) _ (binding-of .ensures) (if1 .left) (if2 .left) _
-    (c .number-of .ensures ∙ sym (nameAt-number (a .items .now) (a .work .now) (a .node) (a .w)))
+    agree-numbers (a .number) (a .binding) (nameAt (a .work .now) (a .node) (a .w)) _ (binding-of .ensures) (if1 .left) (if2 .left) _
+    (c .number-of .ensures ∙ sym (nameAt-number (a .work .now) (a .node) (a .w)))
 
 pub agrees-spec : {M : Type 1} → statement M
 agrees-spec =

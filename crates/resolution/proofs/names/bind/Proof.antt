@@ -8,7 +8,7 @@ use native.Mathlib.Omega.{arith}
 
 put-binder-requires : tie.Need-put-binder-requires
 put-binder-requires c κs =
-    let entry = c .before .before .before .before .before .before .before .before .before .before in
+    let entry = c .before .before .before .before .before .before .before .before .before in
     let a = entry .args in
     let pre = entry .pre in
     let reference = c .before .before .reference in
@@ -16,13 +16,13 @@ put-binder-requires c κs =
 
 returns : tie.Need-returns
 returns c =
-    let a = c .before .before .before .before .before .before .before .before .before .before .before .before .before .args in
+    let a = c .before .before .before .before .before .before .before .before .before .before .before .before .args in
     let number-of = c .before .before .before .before .before .before .before .before .before .number-of in
     let summary-of = c .before .before .before .before .before .before .before .summary-of in
     let reference = c .before .before .before .before .before .reference in
     let put-binder = c .before .before .put-binder in
-    binds-name (a .items .now) (a .node) (a .w) (a .key) (a .parent) _ _ _ _ _ (a .work .now) _ (a .top) _
-    (described (a .items .now) (a .work .now) (a .node) (a .w) _ _ (reference .ensures) (number-of .ensures) _ _ _ (summary-of .ensures))
+    binds-name (a .node) (a .w) (a .key) (a .parent) _ _ _ _ _ (a .work .now) _ (a .top) _
+    (described (a .work .now) (a .node) (a .w) _ _ (reference .ensures) (number-of .ensures) _ _ _ (summary-of .ensures))
     (put-binder .ensures)
 
 pub bind-spec : {M : Type 1} → statement M

@@ -9,13 +9,13 @@ use Rattle.resolution.specs.DirectLaws.{finds-name}
 
 returns : tie.Need-returns
 returns c =
-    let a = c .before .before .before .before .before .before .args in
-    finds-name (a .items .now) (a .work .now) (a .node) (a .w) _ _ _ (c .before .before .before .number-of .ensures) (c .before .before .reference .ensures) (c .before .binding .ensures) (c .if1 .taken)
+    let a = c .before .before .before .before .before .args in
+    finds-name (a .work .now) (a .node) (a .w) _ _ _ (c .before .before .before .number-of .ensures) (c .before .before .reference .ensures) (c .before .binding .ensures) (c .if1 .taken)
 
 returns-2 : tie.Need-returns-2
 returns-2 c =
-    let a = c .before .before .before .before .before .before .before .before .before .args in
-    c .summary-walked .ensures .binding-is ∙ ap (λ (x : Name). bindingKey (x .binding)) (whole-name (a .items .now) (a .work .now) (a .node) (a .w))
+    let a = c .before .before .before .before .before .before .before .args in
+    c .summary-walked .ensures .binding-is ∙ ap (λ (x : Name). bindingKey (x .binding)) (whole-name (a .work .now) (a .node) (a .w))
 
 pub binding-of-spec : {M : Type 1} → statement M
 binding-of-spec =
@@ -28,8 +28,5 @@ binding-of-spec =
     (λ c. search needs)  -- sub-summary-walked
     (λ c. search needs)  -- part-summary-walked-start
     (λ c. search needs)  -- part-summary-walked-end
-    (λ c. search needs)  -- sub-summary-walked-2
-    (λ c. search needs)  -- part-summary-walked-start-2
-    (λ c. search needs)  -- part-summary-walked-end-2
     (λ c κs. search needs)  -- summary-walked-requires
     returns-2)

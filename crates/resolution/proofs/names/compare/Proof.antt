@@ -11,10 +11,10 @@ use mathlib.Core.Path.{sym, _∙_}
 
 returns : tie.Need-returns
 returns c =
-    let a = c .before .before .before .before .before .before .args in
+    let a = c .before .before .before .before .before .args in
     let number-of = c .before .before .number-of in
     let number-of2 = c .before .number-of2 in
-    is-other (differ-numbers (a .items .now) (a .work .now) (a .a) (a .v) (a .b) (a .w) _ _ (number-of .ensures) (number-of2 .ensures) (c .if1 .taken))
+    is-other (differ-numbers (a .work .now) (a .a) (a .v) (a .b) (a .w) _ _ (number-of .ensures) (number-of2 .ensures) (c .if1 .taken))
 
 returns-2 : tie.Need-returns-2
 returns-2 c =
@@ -35,25 +35,25 @@ returns-3 c =
 
 returns-4 : tie.Need-returns-4
 returns-4 c =
-    let a = c .before .before .before .before .before .before .before .before .before .before .before .before .before .before .before .before .before .before .before .before .args in
+    let a = c .before .before .before .before .before .before .before .before .before .before .before .before .before .before .before .before .before .before .before .args in
     let number-of = c .before .before .before .before .before .before .before .before .before .before .before .before .before .before .before .before .number-of in
     let number-of2 = c .before .before .before .before .before .before .before .before .before .before .before .before .before .before .before .number-of2 in
     let resolve = c .before .before .before .before .before .before .before .before .before .before .before .before .resolve in
     let if2 = c .before .before .before .before .before .before .before .before .before .if2 in
     let resolve2 = c .before .before .before .before .before .before .before .resolve2 in
     let if3 = c .before .before .before .if3 in
-    is-other (differ-bindings (a .items .now) (a .work .now) (a .a) (a .v) (a .b) (a .w) _ _ (number-of .ensures) (number-of2 .ensures) _ _ _ _ _ _ _ (resolve .ensures .within (if2 .left)) (resolve2 .ensures .within (if3 .left)) (c .if4 .taken))
+    is-other (differ-bindings (a .work .now) (a .a) (a .v) (a .b) (a .w) _ _ (number-of .ensures) (number-of2 .ensures) _ _ _ _ _ _ _ (resolve .ensures .within (if2 .left)) (resolve2 .ensures .within (if3 .left)) (c .if4 .taken))
 
 returns-5 : tie.Need-returns-5
 returns-5 c =
-    let a = c .before .before .before .before .before .before .before .before .before .before .before .before .before .before .before .before .before .before .before .before .before .before .args in
+    let a = c .before .before .before .before .before .before .before .before .before .before .before .before .before .before .before .before .before .before .before .before .before .args in
     let number-of = c .before .before .before .before .before .before .before .before .before .before .before .before .before .before .before .before .before .before .number-of in
     let number-of2 = c .before .before .before .before .before .before .before .before .before .before .before .before .before .before .before .before .before .number-of2 in
     let resolve = c .before .before .before .before .before .before .before .before .before .before .before .before .before .before .resolve in
     let if2 = c .before .before .before .before .before .before .before .before .before .before .before .if2 in
     let resolve2 = c .before .before .before .before .before .before .before .before .before .resolve2 in
     let if3 = c .before .before .before .before .before .if3 in
-    is-other (differ-counts (a .items .now) (a .work .now) (a .a) (a .v) (a .b) (a .w) _ _ (number-of .ensures) (number-of2 .ensures) _ _ _ _ _ _ _ (resolve .ensures .within (if2 .left)) (resolve2 .ensures .within (if3 .left)) (λ z. omega (arith, c .if5 .taken)))
+    is-other (differ-counts (a .work .now) (a .a) (a .v) (a .b) (a .w) _ _ (number-of .ensures) (number-of2 .ensures) _ _ _ _ _ _ _ (resolve .ensures .within (if2 .left)) (resolve2 .ensures .within (if3 .left)) (λ z. omega (arith, c .if5 .taken)))
 
 equal-marks-requires : tie.Need-equal-marks-requires
 equal-marks-requires c κs =
@@ -64,7 +64,7 @@ equal-marks-requires c κs =
 
 returns-6 : tie.Need-returns-6
 returns-6 c =
-    let a = c .before .before .before .before .before .before .before .before .before .before .before .before .before .before .before .before .before .before .before .before .before .before .before .before .before .args in
+    let a = c .before .before .before .before .before .before .before .before .before .before .before .before .before .before .before .before .before .before .before .before .before .before .before .before .args in
     let number-of = c .before .before .before .before .before .before .before .before .before .before .before .before .before .before .before .before .before .before .before .before .before .number-of in
     let number-of2 = c .before .before .before .before .before .before .before .before .before .before .before .before .before .before .before .before .before .before .before .before .number-of2 in
     let if1 = c .before .before .before .before .before .before .before .before .before .before .before .before .before .before .before .before .before .before .before .if1 in
@@ -75,11 +75,11 @@ returns-6 c =
     let if4 = c .before .before .before .before .before .if4 in
     let if5 = c .before .before .before .if5 in
     let equal-marks = c .before .equal-marks in
-    is-same (same-marks (a .items .now) (a .work .now) (a .a) (a .v) (a .b) (a .w) _ _ (number-of .ensures) (number-of2 .ensures) _ _ _ _ _ _ _ (resolve .ensures .within (if2 .left)) (resolve2 .ensures .within (if3 .left)) (if1 .left) (if4 .left) (omega (arith, if5 .left)) true (sym (c .if6 .taken) ∙ equal-marks .ensures))
+    is-same (same-marks (a .work .now) (a .a) (a .v) (a .b) (a .w) _ _ (number-of .ensures) (number-of2 .ensures) _ _ _ _ _ _ _ (resolve .ensures .within (if2 .left)) (resolve2 .ensures .within (if3 .left)) (if1 .left) (if4 .left) (omega (arith, if5 .left)) true (sym (c .if6 .taken) ∙ equal-marks .ensures))
 
 returns-7 : tie.Need-returns-7
 returns-7 c =
-    let a = c .before .before .before .before .before .before .before .before .before .before .before .before .before .before .before .before .before .before .before .before .before .before .before .before .before .args in
+    let a = c .before .before .before .before .before .before .before .before .before .before .before .before .before .before .before .before .before .before .before .before .before .before .before .before .args in
     let number-of = c .before .before .before .before .before .before .before .before .before .before .before .before .before .before .before .before .before .before .before .before .before .number-of in
     let number-of2 = c .before .before .before .before .before .before .before .before .before .before .before .before .before .before .before .before .before .before .before .before .number-of2 in
     let if1 = c .before .before .before .before .before .before .before .before .before .before .before .before .before .before .before .before .before .before .before .if1 in
@@ -90,7 +90,7 @@ returns-7 c =
     let if4 = c .before .before .before .before .before .if4 in
     let if5 = c .before .before .before .if5 in
     let equal-marks = c .before .equal-marks in
-    is-other (same-marks (a .items .now) (a .work .now) (a .a) (a .v) (a .b) (a .w) _ _ (number-of .ensures) (number-of2 .ensures) _ _ _ _ _ _ _ (resolve .ensures .within (if2 .left)) (resolve2 .ensures .within (if3 .left)) (if1 .left) (if4 .left) (omega (arith, if5 .left)) false (sym (c .if6 .left) ∙ equal-marks .ensures))
+    is-other (same-marks (a .work .now) (a .a) (a .v) (a .b) (a .w) _ _ (number-of .ensures) (number-of2 .ensures) _ _ _ _ _ _ _ (resolve .ensures .within (if2 .left)) (resolve2 .ensures .within (if3 .left)) (if1 .left) (if4 .left) (omega (arith, if5 .left)) false (sym (c .if6 .left) ∙ equal-marks .ensures))
 
 pub compare-spec : {M : Type 1} → statement M
 compare-spec =

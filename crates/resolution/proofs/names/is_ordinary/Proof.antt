@@ -10,8 +10,8 @@ word-requires c κs =
 
 returns : tie.Need-returns
 returns c =
-    let a = c .before .before .before .before .args in
-    ordinary-other (a .items .now) (a .work .now) (a .node) _ (c .before .word .ensures) (c .if1 .taken)
+    let a = c .before .before .before .args in
+    ordinary-other (a .work .now) (a .node) _ (c .before .word .ensures) (c .if1 .taken)
 
 number-of-requires : tie.Need-number-of-requires
 number-of-requires c κs =
@@ -19,13 +19,13 @@ number-of-requires c κs =
 
 returns-2 : tie.Need-returns-2
 returns-2 c =
-    let a = c .before .before .before .before .before .before .args in
-    ordinary-ellipsis (a .items .now) (a .work .now) (a .node) _ (c .before .before .before .word .ensures) _ (c .before .number-of .ensures) (c .before .before .if1 .left) (c .if2 .taken)
+    let a = c .before .before .before .before .before .args in
+    ordinary-ellipsis (a .work .now) (a .node) _ (c .before .before .before .word .ensures) _ (c .before .number-of .ensures) (c .before .before .if1 .left) (c .if2 .taken)
 
 returns-3 : tie.Need-returns-3
 returns-3 c =
-    let a = c .before .before .before .before .before .before .args in
-    ordinary-last (a .items .now) (a .work .now) (a .node) _ (c .before .before .before .word .ensures) _ (c .before .number-of .ensures) (c .before .before .if1 .left) (c .if2 .left)
+    let a = c .before .before .before .before .before .args in
+    ordinary-last (a .work .now) (a .node) _ (c .before .before .before .word .ensures) _ (c .before .number-of .ensures) (c .before .before .if1 .left) (c .if2 .left)
 
 pub is-ordinary-spec : {M : Type 1} → statement M
 is-ordinary-spec =

@@ -9,26 +9,26 @@ use mathlib.Core.Path.{sym, _∙_}
 
 returns : tie.Need-returns
 returns c =
-    let a = c .before .before .before .before .before .before .before .args in
+    let a = c .before .before .before .before .before .before .args in
     let binding-of = c .before .before .before .binding-of in
     let if1 = c .before .before .if1 in
     let number-of = c .before .number-of in
-    let x = nameAt (a .items .now) (a .work .now) (a .node) (a .w) in
-    lookup-none (a .operations .now) x _ (binding-of .ensures) (if1 .taken) _ (number-of .ensures ∙ sym (nameAt-number (a .items .now) (a .work .now) (a .node) (a .w))) _ (c .unbound .ensures)
+    let x = nameAt (a .work .now) (a .node) (a .w) in
+    lookup-none (a .operations .now) x _ (binding-of .ensures) (if1 .taken) _ (number-of .ensures ∙ sym (nameAt-number (a .work .now) (a .node) (a .w))) _ (c .unbound .ensures)
 
 returns-2 : tie.Need-returns-2
 returns-2 c =
-    let a = c .before .before .before .before .before .before .args in
+    let a = c .before .before .before .before .before .args in
     let binding-of = c .before .before .binding-of in
     let if1 = c .before .if1 in
-    lookup-variable (a .operations .now) (nameAt (a .items .now) (a .work .now) (a .node) (a .w)) _ (binding-of .ensures) (if1 .left) (c .if2 .taken)
+    lookup-variable (a .operations .now) (nameAt (a .work .now) (a .node) (a .w)) _ (binding-of .ensures) (if1 .left) (c .if2 .taken)
 
 returns-3 : tie.Need-returns-3
 returns-3 c =
-    let a = c .before .before .before .before .before .before .args in
+    let a = c .before .before .before .before .before .args in
     let binding-of = c .before .before .binding-of in
     let if1 = c .before .if1 in
-    lookup-macro (a .operations .now) (nameAt (a .items .now) (a .work .now) (a .node) (a .w)) _ (binding-of .ensures) (if1 .left) (c .if2 .left)
+    lookup-macro (a .operations .now) (nameAt (a .work .now) (a .node) (a .w)) _ (binding-of .ensures) (if1 .left) (c .if2 .left)
 
 pub lookup-spec : {M : Type 1} → statement M
 lookup-spec =
@@ -39,5 +39,5 @@ lookup-spec =
     (λ c κs. search needs)  -- unbound-requires
     returns
     returns-2
-    (λ c. search needs)  -- sub-t11
+    (λ c. search needs)  -- sub-t10
     returns-3)

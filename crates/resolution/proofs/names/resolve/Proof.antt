@@ -7,7 +7,7 @@ use Rattle.resolution.specs.NameLaws.{resolved}
 
 walked-requires : tie.Need-walked-requires
 walked-requires c κs =
-    let entry = c .before .before .before .before .before .before in
+    let entry = c .before .before .before .before .before in
     let a = entry .args in
     let pre = entry .pre in
     hand-none (a .table .now) (a .start) pre
@@ -25,13 +25,13 @@ walk-requires c κs =
 
 returns-2 : tie.Need-returns-2
 returns-2 c =
-    let a = c .before .before .before .before .before .before .before .before .before .before .before .before .before .before .args in
+    let a = c .before .before .before .before .before .before .before .before .before .before .before .before .before .args in
     let number-of = c .before .before .before .before .before .before .before .before .before .before .number-of in
     let reference = c .before .before .before .before .before .before .before .before .before .reference in
     let walked = c .before .before .before .before .before .before .before .walked in
     let if1 = c .before .before .before .before .if1 in
     let walk = c .before .before .walk in
-    fits-then (walk .ensures) (resolved (a .items .now) (a .work .now) (a .node) (a .w) _ _ (reference .ensures) (number-of .ensures) (a .table .now) _ _ (a .start) _ _ _ _ (walked .ensures .within (if1 .left)))
+    fits-then (walk .ensures) (resolved (a .work .now) (a .node) (a .w) _ _ (reference .ensures) (number-of .ensures) (a .table .now) _ _ (a .start) _ _ _ _ (walked .ensures .within (if1 .left)))
 
 pub resolve-spec : {M : Type 1} → statement M
 resolve-spec =

@@ -7,13 +7,13 @@ use Rattle.resolution.specs.NameLaws.{whole-same, differ-numbers}
 
 returns : tie.Need-returns
 returns c =
-    let a = c .before .before .before .before .before .args in
-    differ-numbers (a .items .now) (a .work .now) (a .a) (a .v) (a .b) (a .w) _ _ (c .before .before .number-of .ensures) (c .before .number-of2 .ensures) (c .if1 .taken)
+    let a = c .before .before .before .before .args in
+    differ-numbers (a .work .now) (a .a) (a .v) (a .b) (a .w) _ _ (c .before .before .number-of .ensures) (c .before .number-of2 .ensures) (c .if1 .taken)
 
 returns-2 : tie.Need-returns-2
 returns-2 c =
-    let a = c .before .before .before .before .before .before .before .before .args in
-    c .same-walked .ensures ∙ whole-same (a .items .now) (a .work .now) (a .a) (a .v) (a .b) (a .w)
+    let a = c .before .before .before .before .before .before .args in
+    c .same-walked .ensures ∙ whole-same (a .work .now) (a .a) (a .v) (a .b) (a .w)
 
 pub same-names-spec : {M : Type 1} → statement M
 same-names-spec =
@@ -25,8 +25,5 @@ same-names-spec =
     (λ c. search needs)  -- sub-same-walked
     (λ c. search needs)  -- part-same-walked-start
     (λ c. search needs)  -- part-same-walked-end
-    (λ c. search needs)  -- sub-same-walked-2
-    (λ c. search needs)  -- part-same-walked-start-2
-    (λ c. search needs)  -- part-same-walked-end-2
     (λ c κs. search needs)  -- same-walked-requires
     returns-2)

@@ -7,13 +7,13 @@ use Rattle.resolution.specs.DirectLaws.{marked-summed}
 
 returns : tie.Need-returns
 returns c =
-    let a = c .before .before .before .before .before .before .before .args in
-    marked-summed (a .items .now) (a .work .now) (a .node) (a .w) _ _ _ _ (c .before .before .before .before .number-of .ensures) (c .before .before .before .reference .ensures) (c .before .before .only-mark .ensures) (c .before .if1 .taken) (c .count-of .ensures)
+    let a = c .before .before .before .before .before .before .args in
+    marked-summed (a .work .now) (a .node) (a .w) _ _ _ _ (c .before .before .before .before .number-of .ensures) (c .before .before .before .reference .ensures) (c .before .before .only-mark .ensures) (c .before .if1 .taken) (c .count-of .ensures)
 
 returns-2 : tie.Need-returns-2
 returns-2 c =
-    let a = c .before .before .before .before .before .before .before .before .before .args in
-    whole-summed (a .items .now) (a .work .now) (a .node) (a .w) _ _ _ (c .summary-walked .ensures)
+    let a = c .before .before .before .before .before .before .before .args in
+    whole-summed (a .work .now) (a .node) (a .w) _ _ _ (c .summary-walked .ensures)
 
 pub summary-of-spec : {M : Type 1} → statement M
 summary-of-spec =
@@ -23,13 +23,10 @@ summary-of-spec =
     (λ c κs. search needs)  -- reference-requires
     (λ c κs. search needs)  -- only-mark-requires
     (λ c κs. search needs)  -- count-of-requires
-    (λ c. search needs)  -- cast-t10
+    (λ c. search needs)  -- cast-t9
     returns
     (λ c. search needs)  -- sub-summary-walked
     (λ c. search needs)  -- part-summary-walked-start
     (λ c. search needs)  -- part-summary-walked-end
-    (λ c. search needs)  -- sub-summary-walked-2
-    (λ c. search needs)  -- part-summary-walked-start-2
-    (λ c. search needs)  -- part-summary-walked-end-2
     (λ c κs. search needs)  -- summary-walked-requires
     returns-2)

@@ -6,7 +6,7 @@ use native.Mathlib.Omega.{arith}
 
 returns : tie.Need-returns
 returns c =
-    c .before .before .before .summary-in .ensures .within (omega (arith, c .if1 .taken, c .before .before .before .summary-in .kept .1 .1 .0))
+    c .before .before .before .summary-in .ensures .within (omega (arith, c .if1 .taken, c .before .before .before .summary-in .kept .1 .0))
 
 returns-2 : tie.Need-returns-2
 returns-2 c =

@@ -15,12 +15,6 @@ returns-2 c =
     let a = c .before .before .args in
     unbound-out (a .operations .now) (a .number) (omega arith) (c .if2 .taken)
 
-mul-place : tie.Need-mul-place
-mul-place c = search needs
-
-shared-slice-read-place : tie.Need-shared-slice-read-place
-shared-slice-read-place c = search needs
-
 cast-place : tie.Need-cast-place
 cast-place c = omega (arith, c .shared-slice-known .given (c .before .before .before .args .number))
 
@@ -28,9 +22,6 @@ returns-3 : tie.Need-returns-3
 returns-3 c =
     let a = c .before .before .before .before .args in
     unbound-none (a .operations .now) (a .number) (omega arith) (c .if3 .taken)
-
-sub-t9 : tie.Need-sub-t9
-sub-t9 c = search needs
 
 returns-4 : tie.Need-returns-4
 returns-4 c =
@@ -40,4 +31,12 @@ returns-4 c =
 pub unbound-spec : {M : Type 1} → statement M
 unbound-spec =
     tie.close
-    (tie.spec returns returns-2 mul-place shared-slice-read-place cast-place returns-3 sub-t9 returns-4)
+    (tie.spec
+    returns
+    returns-2
+    (λ c. search needs)  -- mul-place
+    (λ c. search needs)  -- shared-slice-read-place
+    cast-place
+    returns-3
+    (λ c. search needs)  -- sub-t12
+    returns-4)

@@ -10,7 +10,7 @@ word-requires c κs = search needs
 
 returns : tie.Need-returns
 returns c =
-    let a = c .before .before .before .before .args in next-other (a .items .now) (a .work .now) (a .node) (λ z. c .if1 .taken (c .before .word .ensures ∙ z))
+    let a = c .before .before .before .args in next-other (a .work .now) (a .node) (λ z. c .if1 .taken (c .before .word .ensures ∙ z))
 
 reference-requires : tie.Need-reference-requires
 reference-requires c κs = search needs
@@ -20,7 +20,7 @@ is-dots-requires c κs = search needs
 
 returns-2 : tie.Need-returns-2
 returns-2 c =
-    let a = c .before .before .before .before .before .before .args in next-pair (a .items .now) (a .work .now) (a .node) _ _ (sym (c .before .before .before .word .ensures) ∙ c .before .before .if1 .left) (c .before .reference .ensures) (c .is-dots .ensures)
+    let a = c .before .before .before .before .before .args in next-pair (a .work .now) (a .node) _ _ (sym (c .before .before .before .word .ensures) ∙ c .before .before .if1 .left) (c .before .reference .ensures) (c .is-dots .ensures)
 
 pub dots-next-spec : {M : Type 1} → statement M
 dots-next-spec =

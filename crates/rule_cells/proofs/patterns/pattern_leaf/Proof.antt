@@ -10,23 +10,23 @@ use mathlib.Core.Path.{sym, _∙_}
 
 pattern-name-requires : tie.Need-pattern-name-requires
 pattern-name-requires c κs =
-    let a = c .before .before .before .before .before .before .args in ((room-leaf (a .items .now) (a .work .now) (a .node) (a .w) (a .top) (c .before .before .before .before .before .before .pre .0)), c .before .before .before .before .before .before .pre .0 .node-below, c .before .before .before .before .before .before .pre .0 .wrap-below, c .before .before .before .before .before .before .pre .1)
+    let a = c .before .before .before .before .before .args in ((room-leaf (a .work .now) (a .node) (a .w) (a .top) (c .before .before .before .before .before .pre .0)), c .before .before .before .before .before .pre .0 .node-below, c .before .before .before .before .before .pre .0 .wrap-below, c .before .before .before .before .before .pre .1)
 
 returns : tie.Need-returns
 returns c =
-    let a = c .before .before .before .before .before .before .before .before .before .args in left-name (names (treeAt (a .items .now) (a .work .now) (a .literals) (a .w))) (a .k) (a .items .now) (a .work .now) (a .node) (a .w) (a .top) (c .before .before .pattern-name .last .1 .0) (c .before .before .pattern-name .result) (sym (c .before .before .before .before .before .word .ensures) ∙ c .before .before .before .before .if1 .taken) (c .before .before .pattern-name .ensures)
+    let a = c .before .before .before .before .before .before .before .before .args in left-name (names (treeAt (a .work .now) (a .literals) (a .w))) (a .k) (a .work .now) (a .node) (a .w) (a .top) (c .before .before .pattern-name .last .0) (c .before .before .pattern-name .result) (sym (c .before .before .before .before .before .word .ensures) ∙ c .before .before .before .before .if1 .taken) (c .before .before .pattern-name .ensures)
 
 returns-2 : tie.Need-returns-2
 returns-2 c =
-    let a = c .before .before .before .before .before .before .args in left-empty (names (treeAt (a .items .now) (a .work .now) (a .literals) (a .w))) (a .k) (a .items .now) (a .work .now) (a .node) (a .w) (a .top) (sym (c .before .before .word .ensures) ∙ c .if2 .taken)
+    let a = c .before .before .before .before .before .args in left-empty (names (treeAt (a .work .now) (a .literals) (a .w))) (a .k) (a .work .now) (a .node) (a .w) (a .top) (sym (c .before .before .word .ensures) ∙ c .if2 .taken)
 
 put-constant-requires : tie.Need-put-constant-requires
 put-constant-requires c κs =
-    let a = c .before .before .before .before .before .before .before .before .before .before .before .args in (room-leaf (a .items .now) (a .work .now) (a .node) (a .w) (a .top) (c .before .before .before .before .before .before .before .before .before .before .before .pre .0))
+    let a = c .before .before .before .before .before .before .before .before .before .before .args in (room-leaf (a .work .now) (a .node) (a .w) (a .top) (c .before .before .before .before .before .before .before .before .before .before .pre .0))
 
 returns-3 : tie.Need-returns-3
 returns-3 c =
-    let a = c .before .before .before .before .before .before .before .before .before .before .before .before .before .before .args in left-constant (names (treeAt (a .items .now) (a .work .now) (a .literals) (a .w))) (a .k) (a .items .now) (a .work .now) (a .node) (a .w) (a .top) _ _ _ _ _ (c .before .before .before .before .before .before .before .before .before .before .word .ensures) (c .before .before .before .before .before .before .word2 .ensures) (c .before .before .before .before .word3 .ensures) (λ z. c .before .before .before .before .before .before .before .before .if2 .left (c .before .before .before .before .before .before .before .before .before .before .word .ensures ∙ z)) (λ z. c .before .before .before .before .before .before .before .before .before .if1 .left (c .before .before .before .before .before .before .before .before .before .before .word .ensures ∙ z)) (c .before .before .before .before .before .before .before .before .before .before .before .before .before .before .pre .2) (c .before .before .put-constant .ensures)
+    let a = c .before .before .before .before .before .before .before .before .before .before .before .before .before .args in left-constant (names (treeAt (a .work .now) (a .literals) (a .w))) (a .k) (a .work .now) (a .node) (a .w) (a .top) _ _ _ _ _ (c .before .before .before .before .before .before .before .before .before .before .word .ensures) (c .before .before .before .before .before .before .word2 .ensures) (c .before .before .before .before .word3 .ensures) (λ z. c .before .before .before .before .before .before .before .before .if2 .left (c .before .before .before .before .before .before .before .before .before .before .word .ensures ∙ z)) (λ z. c .before .before .before .before .before .before .before .before .before .if1 .left (c .before .before .before .before .before .before .before .before .before .before .word .ensures ∙ z)) (c .before .before .before .before .before .before .before .before .before .before .before .before .before .pre .2) (c .before .before .put-constant .ensures)
 
 pub pattern-leaf-spec : {M : Type 1} → statement M
 pattern-leaf-spec =

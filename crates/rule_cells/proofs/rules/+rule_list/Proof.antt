@@ -20,72 +20,72 @@ use Rattle.rule_cells.specs.RuleListLaws.{rules-packed, left-end, left-l
 use mathlib.Core.Path.{sym, _∙_}
 use native.Mathlib.Omega.{arith}
 
-abbrev μ-rule-list : Measures 2 rule-list-kinds.ps ℕ
+abbrev μ-rule-list : Measures 1 rule-list-kinds.ps ℕ
 μ-rule-list κs a =
-    a .1 .1 .1 .0
+    a .1 .1 .0
 
-abbrev rule-list-at : ℕ → In 2 rule-list-kinds.ps
-rule-list-at t = and 2 rule-list-kinds.ps (is 2 rule-list-kinds.ps μ-rule-list t) rule-list.Pre
+abbrev rule-list-at : ℕ → In 1 rule-list-kinds.ps
+rule-list-at t = and 1 rule-list-kinds.ps (is 1 rule-list-kinds.ps μ-rule-list t) rule-list.Pre
 
-abbrev rule-list-below : ℕ → In 2 rule-list-kinds.ps
+abbrev rule-list-below : ℕ → In 1 rule-list-kinds.ps
 rule-list-below t =
-    and 2 rule-list-kinds.ps (falls 2 rule-list-kinds.ps _<_ μ-rule-list t) rule-list.Pre
+    and 1 rule-list-kinds.ps (falls 1 rule-list-kinds.ps _<_ μ-rule-list t) rule-list.Pre
 
 abbrev rule-list-claims : ℕ → rule-list-lts.Claims
 rule-list-claims t = (word-reads.Asked, word-reads.Learnt, pair-reads.Asked, pair-reads.Learnt, reference-reads.Asked, reference-reads.Learnt, rule-list-below t, rule-list.Post, high-reads.Asked, high-reads.Learnt, low-reads.Asked, low-reads.Learnt, rule-reads.Asked, rule-reads.Learnt)
 
 rule-list-returns : (t : ℕ) → rule-list-lts.Need-returns (rule-list-claims t) (rule-list-at t) rule-list.Post
 rule-list-returns t c =
-    let a = c .before .before .before .before .before .before .args in
-    let p = c .before .before .before .before .before .before .pre in
-    rules-packed _ _ _ _ _ _ _ _ _ (packs (a .items .now) (a .work .now) (a .node) (a .w) (a .top) (p .1 .0)) (c .pair .ensures)
-    (left-end (a .items .now) (a .work .now) (a .literals) (a .node) (a .w) (a .top) (p .1 .0) (p .1 .1) (λ z. c .before .if1 .taken (c .before .before .word .ensures ∙ z)))
+    let a = c .before .before .before .before .before .args in
+    let p = c .before .before .before .before .before .pre in
+    rules-packed _ _ _ _ _ _ _ _ (packs (a .work .now) (a .node) (a .w) (a .top) (p .1 .0)) (c .pair .ensures)
+    (left-end (a .work .now) (a .literals) (a .node) (a .w) (a .top) (p .1 .0) (p .1 .1) (λ z. c .before .if1 .taken (c .before .before .word .ensures ∙ z)))
 
 rule-list-rule-list-requires : (t : ℕ) → rule-list-lts.Need-rule-list-requires (rule-list-claims t) (rule-list-at t) rule-list.Post
 rule-list-rule-list-requires t c κs =
-    let a = c .before .before .before .before .before .before .before .before .before .before .args in
-    let p = c .before .before .before .before .before .before .before .before .before .before .pre in
+    let a = c .before .before .before .before .before .before .before .before .before .args in
+    let p = c .before .before .before .before .before .before .before .before .before .pre in
     let asks = p .1 .0 in
     let is-pair = sym (c .before .before .before .before .before .before .word .ensures) ∙ c .before .before .before .before .before .if1 .left in
     let head-is = c .before .before .before .reference .ensures in
     let rest-is = c .before .reference2 .ensures in
-    (omega (arith, p .0, rest-below (a .items .now) (a .work .now) (a .node) (a .w) (a .top) asks _ _ is-pair head-is rest-is), (asks-tail (a .items .now) (a .work .now) (a .node) (a .w) (a .top) asks _ _ is-pair head-is rest-is, p .1 .1))
+    (omega (arith, p .0, rest-below (a .work .now) (a .node) (a .w) (a .top) asks _ _ is-pair head-is rest-is), (asks-tail (a .work .now) (a .node) (a .w) (a .top) asks _ _ is-pair head-is rest-is, p .1 .1))
 
 rule-list-returns-2 : (t : ℕ) → rule-list-lts.Need-returns-2 (rule-list-claims t) (rule-list-at t) rule-list.Post
 unfolding builtOf
 rule-list-returns-2 t c =
-    let a = c .before .before .before .before .before .before .before .before .before .before .before .before .before .before .args in
-    let p = c .before .before .before .before .before .before .before .before .before .before .before .before .before .before .pre in
+    let a = c .before .before .before .before .before .before .before .before .before .before .before .before .before .args in
+    let p = c .before .before .before .before .before .before .before .before .before .before .before .before .before .pre in
     let asks = p .1 .0 in
     let is-pair = sym (c .before .before .before .before .before .before .before .before .before .before .word .ensures) ∙ c .before .before .before .before .before .before .before .before .before .if1 .left in
     let head-is = c .before .before .before .before .before .before .before .reference .ensures in
     let rest-is = c .before .before .before .before .before .reference2 .ensures in
     let l = c .before .before .before .rule-list in
-    left-later (a .items .now) (a .work .now) (a .literals) (a .node) (a .w) (a .top) asks (p .1 .1) _ _ is-pair head-is rest-is (l .last .1 .0) (builtOf (l .result)) (built-bad (l .result) (c .if2 .taken)) (l .ensures)
+    left-later (a .work .now) (a .literals) (a .node) (a .w) (a .top) asks (p .1 .1) _ _ is-pair head-is rest-is (l .last .0) (builtOf (l .result)) (built-bad (l .result) (c .if2 .taken)) (l .ensures)
 
 rule-list-rule-requires : (t : ℕ) → rule-list-lts.Need-rule-requires (rule-list-claims t) (rule-list-at t) rule-list.Post
 rule-list-rule-requires t c κs =
-    let a = c .before .before .before .before .before .before .before .before .before .before .before .before .before .before .before .before .before .args in
-    let p = c .before .before .before .before .before .before .before .before .before .before .before .before .before .before .before .before .before .pre in
+    let a = c .before .before .before .before .before .before .before .before .before .before .before .before .before .before .before .before .args in
+    let p = c .before .before .before .before .before .before .before .before .before .before .before .before .before .before .before .before .pre in
     let asks = p .1 .0 in
     let is-pair = sym (c .before .before .before .before .before .before .before .before .before .before .before .before .before .word .ensures) ∙ c .before .before .before .before .before .before .before .before .before .before .before .before .if1 .left in
     let head-is = c .before .before .before .before .before .before .before .before .before .before .reference .ensures in
     let rest-is = c .before .before .before .before .before .before .before .before .reference2 .ensures in
     let l = c .before .before .before .before .before .before .rule-list in
-    let later = made-later (a .items .now) (a .work .now) (a .literals) (a .node) (a .w) (a .top) asks (p .1 .1) _ _ is-pair head-is rest-is (l .last .1 .0) (builtOf (l .result)) _ _ (built-good (l .result) _ _ (c .before .before .before .if2 .left) (c .before .high .ensures) (c .low .ensures)) (l .ensures) in
-    (asks-first (a .items .now) (a .work .now) (a .literals) (a .node) (a .w) (a .top) asks (p .1 .1) _ _ is-pair head-is rest-is (l .last .1 .0) _ _ (l .kept .1 .0) later, literals-still (a .items .now) (a .work .now) (a .literals) (a .node) (a .w) (a .top) asks (p .1 .1) _ _ is-pair head-is rest-is (l .last .1 .0) _ _ (l .kept .1 .0) later, later .at-most)
+    let later = made-later (a .work .now) (a .literals) (a .node) (a .w) (a .top) asks (p .1 .1) _ _ is-pair head-is rest-is (l .last .0) (builtOf (l .result)) _ _ (built-good (l .result) _ _ (c .before .before .before .if2 .left) (c .before .high .ensures) (c .low .ensures)) (l .ensures) in
+    (asks-first (a .work .now) (a .literals) (a .node) (a .w) (a .top) asks (p .1 .1) _ _ is-pair head-is rest-is (l .last .0) _ _ (l .kept .0) later, literals-still (a .work .now) (a .literals) (a .node) (a .w) (a .top) asks (p .1 .1) _ _ is-pair head-is rest-is (l .last .0) _ _ (l .kept .0) later, later .at-most)
 
 rule-list-returns-3 : (t : ℕ) → rule-list-lts.Need-returns-3 (rule-list-claims t) (rule-list-at t) rule-list.Post
 rule-list-returns-3 t c =
-    let a = c .before .before .before .before .before .before .before .before .before .before .before .before .before .before .before .before .before .before .before .before .args in
-    let p = c .before .before .before .before .before .before .before .before .before .before .before .before .before .before .before .before .before .before .before .before .pre in
+    let a = c .before .before .before .before .before .before .before .before .before .before .before .before .before .before .before .before .before .before .before .args in
+    let p = c .before .before .before .before .before .before .before .before .before .before .before .before .before .before .before .before .before .before .before .pre in
     let asks = p .1 .0 in
     let is-pair = sym (c .before .before .before .before .before .before .before .before .before .before .before .before .before .before .before .before .word .ensures) ∙ c .before .before .before .before .before .before .before .before .before .before .before .before .before .before .before .if1 .left in
     let head-is = c .before .before .before .before .before .before .before .before .before .before .before .before .before .reference .ensures in
     let rest-is = c .before .before .before .before .before .before .before .before .before .before .before .reference2 .ensures in
     let l = c .before .before .before .before .before .before .before .before .before .rule-list in
-    let later = made-later (a .items .now) (a .work .now) (a .literals) (a .node) (a .w) (a .top) asks (p .1 .1) _ _ is-pair head-is rest-is (l .last .1 .0) (builtOf (l .result)) _ _ (built-good (l .result) _ _ (c .before .before .before .before .before .before .if2 .left) (c .before .before .before .before .high .ensures) (c .before .before .before .low .ensures)) (l .ensures) in
-    left-both (a .items .now) (a .work .now) (a .literals) (a .node) (a .w) (a .top) asks (p .1 .1) _ _ is-pair head-is rest-is (l .last .1 .0) _ _ (l .kept .1 .0) later (c .before .before .rule .last .1 .0) (builtOf (c .before .before .rule .result)) (c .before .before .rule .ensures)
+    let later = made-later (a .work .now) (a .literals) (a .node) (a .w) (a .top) asks (p .1 .1) _ _ is-pair head-is rest-is (l .last .0) (builtOf (l .result)) _ _ (built-good (l .result) _ _ (c .before .before .before .before .before .before .if2 .left) (c .before .before .before .before .high .ensures) (c .before .before .before .low .ensures)) (l .ensures) in
+    left-both (a .work .now) (a .literals) (a .node) (a .w) (a .top) asks (p .1 .1) _ _ is-pair head-is rest-is (l .last .0) _ _ (l .kept .0) later (c .before .before .rule .last .0) (builtOf (c .before .before .rule .result)) (c .before .before .rule .ensures)
 
 pub +rule-list-spec : {M : Type 1} → statement M
 +rule-list-spec = close μ-rule-list λ t. rule-list-lts.spec (rule-list-claims t) (rule-list-at t) rule-list.Post

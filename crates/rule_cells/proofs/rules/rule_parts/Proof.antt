@@ -10,77 +10,77 @@ use native.Mathlib.Omega.{arith}
 
 gather-requires : tie.Need-gather-requires
 gather-requires c κs =
-    let a = c .before .before .before .before .args in
-    let ask = c .before .before .before .before .pre in
-    (omega arith, held-none (a .items .now) (a .work .now) (a .w) _, small-p (a .items .now) (a .work .now) (a .literals) (a .p) (a .q) (a .w) (a .next) (a .top) ask)
+    let a = c .before .before .before .args in
+    let ask = c .before .before .before .pre in
+    (omega arith, held-none (a .work .now) (a .w) _, small-p (a .work .now) (a .literals) (a .p) (a .q) (a .w) (a .next) (a .top) ask)
 
 returns : tie.Need-returns
 unfolding builtOf
 returns c =
-    let a = c .before .before .before .before .before .before .before .args in
-    let ask = c .before .before .before .before .before .before .before .pre in
+    let a = c .before .before .before .before .before .before .args in
+    let ask = c .before .before .before .before .before .before .pre in
     let g = c .before .before .gather in
-    left-variables (a .items .now) (a .work .now) (a .literals) (a .p) (a .q) (a .w) (a .next) (a .top) ask _ (g .last .1 .1 .0) (keptOf (g .result)) (kept-bad (g .result) (c .if1 .taken)) (g .ensures)
+    left-variables (a .work .now) (a .literals) (a .p) (a .q) (a .w) (a .next) (a .top) ask _ (g .last .1 .0) (keptOf (g .result)) (kept-bad (g .result) (c .if1 .taken)) (g .ensures)
 
 pattern-requires : tie.Need-pattern-requires
 pattern-requires c κs =
-    let a = c .before .before .before .before .before .before .before .before .args in
-    let ask = c .before .before .before .before .before .before .before .before .pre in
-    (asks-p (a .items .now) (a .work .now) (a .literals) (a .p) (a .q) (a .w) (a .next) (a .top) ask, ask .literals-below, small-size (a .items .now) (a .work .now) (a .literals) (a .p) (a .q) (a .w) (a .next) (a .top) ask)
+    let a = c .before .before .before .before .before .before .before .args in
+    let ask = c .before .before .before .before .before .before .before .pre in
+    (asks-p (a .work .now) (a .literals) (a .p) (a .q) (a .w) (a .next) (a .top) ask, ask .literals-below, small-size (a .work .now) (a .literals) (a .p) (a .q) (a .w) (a .next) (a .top) ask)
 
 returns-2 : tie.Need-returns-2
 unfolding builtOf
 returns-2 c =
-    let a = c .before .before .before .before .before .before .before .before .before .before .before .before .before .args in
-    let ask = c .before .before .before .before .before .before .before .before .before .before .before .before .before .pre in
-    left-pattern (a .items .now) (a .work .now) (a .literals) (a .p) (a .q) (a .w) (a .next) (a .top) ask (c .before .before .before .before .pattern .last .1 .0) _ (c .enum-told .given .1) (c .before .before .before .before .pattern .ensures)
+    let a = c .before .before .before .before .before .before .before .before .before .before .before .before .args in
+    let ask = c .before .before .before .before .before .before .before .before .before .before .before .before .pre in
+    left-pattern (a .work .now) (a .literals) (a .p) (a .q) (a .w) (a .next) (a .top) ask (c .before .before .before .before .pattern .last .0) _ (c .enum-told .given .1) (c .before .before .before .before .pattern .ensures)
 
 template-requires : tie.Need-template-requires
 template-requires c κs =
-    let a = c .before .before .before .before .before .before .before .before .before .before .before .before .before .before .before .before .args in
-    let ask = c .before .before .before .before .before .before .before .before .before .before .before .before .before .before .before .before .pre in
+    let a = c .before .before .before .before .before .before .before .before .before .before .before .before .before .before .before .args in
+    let ask = c .before .before .before .before .before .before .before .before .before .before .before .before .before .before .before .pre in
     let g = c .before .before .before .before .before .before .before .before .before .before .before .gather in
-    let stored = gathered-stored _ _ _ _ _ _ _ (g .last .1 .1 .0) (keptOf (g .result)) _ (kept-count (g .result) (c .before .before .before .before .before .before .before .before .before .if1 .left)) (g .ensures) in
+    let stored = gathered-stored _ _ _ _ _ _ (g .last .1 .0) (keptOf (g .result)) _ (kept-count (g .result) (c .before .before .before .before .before .before .before .before .before .if1 .left)) (g .ensures) in
     let p = c .before .before .before .before .before .before .before .pattern in
-    let pattern = made-pattern (a .items .now) (a .work .now) (a .literals) (a .p) (a .q) (a .w) (a .next) (a .top) ask (p .last .1 .0) _ _ _ _ (c .before .before .before .a .given .1) (p .ensures) in
-    (asks-q (a .items .now) (a .work .now) (a .literals) (a .p) (a .q) (a .w) (a .next) (a .top) ask _ (g .last .1 .1 .0) _ stored (p .last .1 .0) _ _ _ (p .kept .1 .0) pattern, stored .held .most, omega (arith, g .kept .1 .1 .0), under-top (a .items .now) (a .work .now) (a .literals) (a .p) (a .q) (a .w) (a .next) (a .top) ask _ (g .last .1 .1 .0) _ stored (p .last .1 .0) _ _ _ (p .kept .1 .0) pattern, small-q (a .items .now) (a .work .now) (a .literals) (a .p) (a .q) (a .w) (a .next) (a .top) ask _ (g .last .1 .1 .0) _ stored (p .last .1 .0) _ _ _ (p .kept .1 .0) pattern)
+    let pattern = made-pattern (a .work .now) (a .literals) (a .p) (a .q) (a .w) (a .next) (a .top) ask (p .last .0) _ _ _ _ (c .before .before .before .a .given .1) (p .ensures) in
+    (asks-q (a .work .now) (a .literals) (a .p) (a .q) (a .w) (a .next) (a .top) ask _ (g .last .1 .0) _ stored (p .last .0) _ _ _ (p .kept .0) pattern, stored .held .most, omega (arith, g .kept .1 .0), under-top (a .work .now) (a .literals) (a .p) (a .q) (a .w) (a .next) (a .top) ask _ (g .last .1 .0) _ stored (p .last .0) _ _ _ (p .kept .0) pattern, small-q (a .work .now) (a .literals) (a .p) (a .q) (a .w) (a .next) (a .top) ask _ (g .last .1 .0) _ stored (p .last .0) _ _ _ (p .kept .0) pattern)
 
 returns-3 : tie.Need-returns-3
 unfolding builtOf
 returns-3 c =
-    let a = c .before .before .before .before .before .before .before .before .before .before .before .before .before .before .before .before .before .before .before .before .args in
-    let ask = c .before .before .before .before .before .before .before .before .before .before .before .before .before .before .before .before .before .before .before .before .pre in
+    let a = c .before .before .before .before .before .before .before .before .before .before .before .before .before .before .before .before .before .before .before .args in
+    let ask = c .before .before .before .before .before .before .before .before .before .before .before .before .before .before .before .before .before .before .before .pre in
     let g = c .before .before .before .before .before .before .before .before .before .before .before .before .before .before .before .gather in
-    let stored = gathered-stored _ _ _ _ _ _ _ (g .last .1 .1 .0) (keptOf (g .result)) _ (kept-count (g .result) (c .before .before .before .before .before .before .before .before .before .before .before .before .before .if1 .left)) (g .ensures) in
+    let stored = gathered-stored _ _ _ _ _ _ (g .last .1 .0) (keptOf (g .result)) _ (kept-count (g .result) (c .before .before .before .before .before .before .before .before .before .before .before .before .before .if1 .left)) (g .ensures) in
     let p = c .before .before .before .before .before .before .before .before .before .before .before .pattern in
-    let pattern = made-pattern (a .items .now) (a .work .now) (a .literals) (a .p) (a .q) (a .w) (a .next) (a .top) ask (p .last .1 .0) _ _ _ _ (c .before .before .before .before .before .before .before .a .given .1) (p .ensures) in
+    let pattern = made-pattern (a .work .now) (a .literals) (a .p) (a .q) (a .w) (a .next) (a .top) ask (p .last .0) _ _ _ _ (c .before .before .before .before .before .before .before .a .given .1) (p .ensures) in
     let q = c .before .before .before .template in
-    left-template (a .items .now) (a .work .now) (a .literals) (a .p) (a .q) (a .w) (a .next) (a .top) ask _ (g .last .1 .1 .0) _ stored (p .last .1 .0) _ _ _ (p .kept .1 .0) pattern (q .last .1 .0) (builtOf (q .result)) (built-bad (q .result) (c .if2 .taken)) (q .ensures)
+    left-template (a .work .now) (a .literals) (a .p) (a .q) (a .w) (a .next) (a .top) ask _ (g .last .1 .0) _ stored (p .last .0) _ _ _ (p .kept .0) pattern (q .last .0) (builtOf (q .result)) (built-bad (q .result) (c .if2 .taken)) (q .ensures)
 
 put-rule-requires : tie.Need-put-rule-requires
 put-rule-requires c κs =
-    let a = c .before .before .before .before .before .before .before .before .before .before .before .before .before .before .before .before .before .before .before .before .before .before .before .args in
-    let ask = c .before .before .before .before .before .before .before .before .before .before .before .before .before .before .before .before .before .before .before .before .before .before .before .pre in
+    let a = c .before .before .before .before .before .before .before .before .before .before .before .before .before .before .before .before .before .before .before .before .before .before .args in
+    let ask = c .before .before .before .before .before .before .before .before .before .before .before .before .before .before .before .before .before .before .before .before .before .before .pre in
     let g = c .before .before .before .before .before .before .before .before .before .before .before .before .before .before .before .before .before .before .gather in
-    let stored = gathered-stored _ _ _ _ _ _ _ (g .last .1 .1 .0) (keptOf (g .result)) _ (kept-count (g .result) (c .before .before .before .before .before .before .before .before .before .before .before .before .before .before .before .before .if1 .left)) (g .ensures) in
+    let stored = gathered-stored _ _ _ _ _ _ (g .last .1 .0) (keptOf (g .result)) _ (kept-count (g .result) (c .before .before .before .before .before .before .before .before .before .before .before .before .before .before .before .before .if1 .left)) (g .ensures) in
     let p = c .before .before .before .before .before .before .before .before .before .before .before .before .before .before .pattern in
-    let pattern = made-pattern (a .items .now) (a .work .now) (a .literals) (a .p) (a .q) (a .w) (a .next) (a .top) ask (p .last .1 .0) _ _ _ _ (c .before .before .before .before .before .before .before .before .before .before .a .given .1) (p .ensures) in
+    let pattern = made-pattern (a .work .now) (a .literals) (a .p) (a .q) (a .w) (a .next) (a .top) ask (p .last .0) _ _ _ _ (c .before .before .before .before .before .before .before .before .before .before .a .given .1) (p .ensures) in
     let q = c .before .before .before .before .before .before .template in
-    let template = made-template (a .items .now) (a .work .now) (a .literals) (a .p) (a .q) (a .w) (a .next) (a .top) ask _ (g .last .1 .1 .0) _ stored (p .last .1 .0) _ _ _ (p .kept .1 .0) pattern (q .last .1 .0) (builtOf (q .result)) _ _ (built-good (q .result) _ _ (c .before .before .before .if2 .left) (c .high .ensures) (c .before .low .ensures)) (q .ensures) in
-    rule-asks (a .items .now) (a .work .now) (a .literals) (a .p) (a .q) (a .w) (a .next) (a .top) ask _ (g .last .1 .1 .0) _ stored (p .last .1 .0) _ _ _ (p .kept .1 .0) pattern (q .last .1 .0) _ _ (q .kept .1 .0) template
+    let template = made-template (a .work .now) (a .literals) (a .p) (a .q) (a .w) (a .next) (a .top) ask _ (g .last .1 .0) _ stored (p .last .0) _ _ _ (p .kept .0) pattern (q .last .0) (builtOf (q .result)) _ _ (built-good (q .result) _ _ (c .before .before .before .if2 .left) (c .high .ensures) (c .before .low .ensures)) (q .ensures) in
+    rule-asks (a .work .now) (a .literals) (a .p) (a .q) (a .w) (a .next) (a .top) ask _ (g .last .1 .0) _ stored (p .last .0) _ _ _ (p .kept .0) pattern (q .last .0) _ _ (q .kept .0) template
 
 returns-4 : tie.Need-returns-4
 returns-4 c =
-    let a = c .before .before .before .before .before .before .before .before .before .before .before .before .before .before .before .before .before .before .before .before .before .before .before .before .before .before .before .args in
-    let ask = c .before .before .before .before .before .before .before .before .before .before .before .before .before .before .before .before .before .before .before .before .before .before .before .before .before .before .before .pre in
+    let a = c .before .before .before .before .before .before .before .before .before .before .before .before .before .before .before .before .before .before .before .before .before .before .before .before .before .before .args in
+    let ask = c .before .before .before .before .before .before .before .before .before .before .before .before .before .before .before .before .before .before .before .before .before .before .before .before .before .before .pre in
     let g = c .before .before .before .before .before .before .before .before .before .before .before .before .before .before .before .before .before .before .before .before .before .before .gather in
-    let stored = gathered-stored _ _ _ _ _ _ _ (g .last .1 .1 .0) (keptOf (g .result)) _ (kept-count (g .result) (c .before .before .before .before .before .before .before .before .before .before .before .before .before .before .before .before .before .before .before .before .if1 .left)) (g .ensures) in
+    let stored = gathered-stored _ _ _ _ _ _ (g .last .1 .0) (keptOf (g .result)) _ (kept-count (g .result) (c .before .before .before .before .before .before .before .before .before .before .before .before .before .before .before .before .before .before .before .before .if1 .left)) (g .ensures) in
     let p = c .before .before .before .before .before .before .before .before .before .before .before .before .before .before .before .before .before .before .pattern in
-    let pattern = made-pattern (a .items .now) (a .work .now) (a .literals) (a .p) (a .q) (a .w) (a .next) (a .top) ask (p .last .1 .0) _ _ _ _ (c .before .before .before .before .before .before .before .before .before .before .before .before .before .before .a .given .1) (p .ensures) in
+    let pattern = made-pattern (a .work .now) (a .literals) (a .p) (a .q) (a .w) (a .next) (a .top) ask (p .last .0) _ _ _ _ (c .before .before .before .before .before .before .before .before .before .before .before .before .before .before .a .given .1) (p .ensures) in
     let q = c .before .before .before .before .before .before .before .before .before .before .template in
-    let template = made-template (a .items .now) (a .work .now) (a .literals) (a .p) (a .q) (a .w) (a .next) (a .top) ask _ (g .last .1 .1 .0) _ stored (p .last .1 .0) _ _ _ (p .kept .1 .0) pattern (q .last .1 .0) (builtOf (q .result)) _ _ (built-good (q .result) _ _ (c .before .before .before .before .before .before .before .if2 .left) (c .before .before .before .before .high .ensures) (c .before .before .before .before .before .low .ensures)) (q .ensures) in
-    rule-packed _ _ _ _ _ _ _ _ _ _ (packs-rule (a .items .now) (a .work .now) (a .literals) (a .p) (a .q) (a .w) (a .next) (a .top) ask) (c .pair .ensures)
-    (left-rule (a .items .now) (a .work .now) (a .literals) (a .p) (a .q) (a .w) (a .next) (a .top) ask _ (g .last .1 .1 .0) _ stored (p .last .1 .0) _ _ _ (p .kept .1 .0) pattern (q .last .1 .0) _ _ (q .kept .1 .0) template _ _ (c .before .before .before .put-rule .ensures))
+    let template = made-template (a .work .now) (a .literals) (a .p) (a .q) (a .w) (a .next) (a .top) ask _ (g .last .1 .0) _ stored (p .last .0) _ _ _ (p .kept .0) pattern (q .last .0) (builtOf (q .result)) _ _ (built-good (q .result) _ _ (c .before .before .before .before .before .before .before .if2 .left) (c .before .before .before .before .high .ensures) (c .before .before .before .before .before .low .ensures)) (q .ensures) in
+    rule-packed _ _ _ _ _ _ _ _ _ (packs-rule (a .work .now) (a .literals) (a .p) (a .q) (a .w) (a .next) (a .top) ask) (c .pair .ensures)
+    (left-rule (a .work .now) (a .literals) (a .p) (a .q) (a .w) (a .next) (a .top) ask _ (g .last .1 .0) _ stored (p .last .0) _ _ _ (p .kept .0) pattern (q .last .0) _ _ (q .kept .0) template _ _ (c .before .before .before .put-rule .ensures))
 
 pub rule-parts-spec : {M : Type 1} → statement M
 rule-parts-spec =

@@ -7,19 +7,19 @@ use mathlib.Core.Path.{sym, _∙_}
 
 returns : tie.Need-returns
 returns c =
-    let a = c .before .before .before .before .before .before .before .before .args in λ w. shape-other (a .items .now) (a .work .now) (a .node) w _ _ (sym (c .before .before .before .before .if1 .taken) ∙ c .before .before .before .before .before .is-list-of .ensures (a .items .now) w) (c .before .before .before .first .ensures) (c .before .before .first2 .ensures) (λ z. c .if2 .taken (c .before .word .ensures ∙ z))
+    let a = c .before .before .before .before .before .before .before .args in λ w. shape-other (a .work .now) (a .node) w _ _ (sym (c .before .before .before .before .if1 .taken) ∙ c .before .before .before .before .before .is-list-of .ensures w) (c .before .before .before .first .ensures) (c .before .before .first2 .ensures) (λ z. c .if2 .taken (c .before .word .ensures ∙ z))
 
 returns-2 : tie.Need-returns-2
 returns-2 c =
-    let a = c .before .before .before .before .before .before .before .before .before .before .args in λ w. shape-dots (a .items .now) (a .work .now) (a .node) w _ _ (sym (c .before .before .before .before .before .before .if1 .taken) ∙ c .before .before .before .before .before .before .before .is-list-of .ensures (a .items .now) w) (c .before .before .before .before .before .first .ensures) (c .before .before .before .before .first2 .ensures) _ (sym (c .before .before .before .word .ensures) ∙ c .before .before .if2 .left) (c .before .number-of .ensures) (c .if3 .taken)
+    let a = c .before .before .before .before .before .before .before .before .before .args in λ w. shape-dots (a .work .now) (a .node) w _ _ (sym (c .before .before .before .before .before .before .if1 .taken) ∙ c .before .before .before .before .before .before .before .is-list-of .ensures w) (c .before .before .before .before .before .first .ensures) (c .before .before .before .before .first2 .ensures) _ (sym (c .before .before .before .word .ensures) ∙ c .before .before .if2 .left) (c .before .number-of .ensures) (c .if3 .taken)
 
 returns-3 : tie.Need-returns-3
 returns-3 c =
-    let a = c .before .before .before .before .before .before .before .before .before .before .args in λ w. shape-yes (a .items .now) (a .work .now) (a .node) w _ _ (sym (c .before .before .before .before .before .before .if1 .taken) ∙ c .before .before .before .before .before .before .before .is-list-of .ensures (a .items .now) w) (c .before .before .before .before .before .first .ensures) (c .before .before .before .before .first2 .ensures) _ (sym (c .before .before .before .word .ensures) ∙ c .before .before .if2 .left) (c .before .number-of .ensures) (c .if3 .left)
+    let a = c .before .before .before .before .before .before .before .before .before .args in λ w. shape-yes (a .work .now) (a .node) w _ _ (sym (c .before .before .before .before .before .before .if1 .taken) ∙ c .before .before .before .before .before .before .before .is-list-of .ensures w) (c .before .before .before .before .before .first .ensures) (c .before .before .before .before .first2 .ensures) _ (sym (c .before .before .before .word .ensures) ∙ c .before .before .if2 .left) (c .before .number-of .ensures) (c .if3 .left)
 
 returns-4 : tie.Need-returns-4
 returns-4 c =
-    let a = c .before .before .before .before .args in λ w. shape-no (a .items .now) (a .work .now) (a .node) w (sym (c .if1 .left) ∙ c .before .is-list-of .ensures (a .items .now) w)
+    let a = c .before .before .before .args in λ w. shape-no (a .work .now) (a .node) w (sym (c .if1 .left) ∙ c .before .is-list-of .ensures w)
 
 pub rule-shape-spec : {M : Type 1} → statement M
 rule-shape-spec =

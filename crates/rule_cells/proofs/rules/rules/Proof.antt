@@ -8,16 +8,16 @@ use mathlib.Core.Path.{sym, _∙_}
 
 rule-list-requires : tie.Need-rule-list-requires
 rule-list-requires c κs =
-    let a = c .before .before .before .before .before .before .before .before .before .before .before .before .args in (asks-list (a .items .now) (a .work .now) (a .node) (a .w) (a .top) (c .before .before .before .before .before .before .before .before .before .before .before .before .pre) _ _ _ (c .before .before .before .before .before .rest .ensures) (c .before .before .before .first .ensures) (c .before .rest2 .ensures), literals-under (a .items .now) (a .work .now) (a .node) (a .w) (a .top) (c .before .before .before .before .before .before .before .before .before .before .before .before .pre) _ _ _ (c .before .before .before .before .before .rest .ensures) (c .before .before .before .first .ensures) (c .before .rest2 .ensures))
+    let a = c .before .before .before .before .before .before .before .before .before .before .before .args in (asks-list (a .work .now) (a .node) (a .w) (a .top) (c .before .before .before .before .before .before .before .before .before .before .before .pre) _ _ _ (c .before .before .before .before .before .rest .ensures) (c .before .before .before .first .ensures) (c .before .rest2 .ensures), literals-under (a .work .now) (a .node) (a .w) (a .top) (c .before .before .before .before .before .before .before .before .before .before .before .pre) _ _ _ (c .before .before .before .before .before .rest .ensures) (c .before .before .before .first .ensures) (c .before .rest2 .ensures))
 
 returns : tie.Need-returns
 returns c =
-    let a = c .before .before .before .before .before .before .before .before .before .before .before .before .before .before .before .args in left-form (a .items .now) (a .work .now) (a .node) (a .w) (a .top) (c .before .before .before .before .before .before .before .before .before .before .before .before .before .before .before .pre) _ _ _ (c .before .before .before .before .before .before .before .before .rest .ensures) (c .before .before .before .before .before .before .first .ensures) (c .before .before .before .before .rest2 .ensures) (c .before .before .rule-list .last .1 .0) (builtOf (c .before .before .rule-list .result)) (sym (c .before .before .before .before .before .before .before .before .before .before .if1 .taken) ∙ c .before .before .before .before .before .before .before .before .before .before .before .is-rules-form .ensures) (c .before .before .rule-list .ensures)
+    let a = c .before .before .before .before .before .before .before .before .before .before .before .before .before .before .args in left-form (a .work .now) (a .node) (a .w) (a .top) (c .before .before .before .before .before .before .before .before .before .before .before .before .before .before .pre) _ _ _ (c .before .before .before .before .before .before .before .before .rest .ensures) (c .before .before .before .before .before .before .first .ensures) (c .before .before .before .before .rest2 .ensures) (c .before .before .rule-list .last .0) (builtOf (c .before .before .rule-list .result)) (sym (c .before .before .before .before .before .before .before .before .before .before .if1 .taken) ∙ c .before .before .before .before .before .before .before .before .before .before .before .is-rules-form .ensures) (c .before .before .rule-list .ensures)
 
 returns-2 : tie.Need-returns-2
 unfolding builtOf
 returns-2 c =
-    let a = c .before .before .before .before .before .args in left-no-form (a .items .now) (a .work .now) (a .node) (a .w) (a .top) (c .before .before .before .before .before .pre) (sym (c .if1 .left) ∙ c .before .is-rules-form .ensures)
+    let a = c .before .before .before .before .args in left-no-form (a .work .now) (a .node) (a .w) (a .top) (c .before .before .before .before .pre) (sym (c .if1 .left) ∙ c .before .is-rules-form .ensures)
 
 pub rules-spec : {M : Type 1} → statement M
 rules-spec =

@@ -10,21 +10,21 @@ word-requires c κs = search needs
 
 returns : tie.Need-returns
 returns c =
-    let a = c .before .before .before .before .args in head-no (a .items .now) (a .work .now) (a .node) (a .w) (λ z. c .if1 .taken (c .before .word .ensures ∙ z))
+    let a = c .before .before .before .args in head-no (a .work .now) (a .node) (a .w) (λ z. c .if1 .taken (c .before .word .ensures ∙ z))
 
 number-of-requires : tie.Need-number-of-requires
 number-of-requires c κs = search needs
 
 returns-2 : tie.Need-returns-2
 returns-2 c =
-    let a = c .before .before .before .before .before .before .args in head-other (a .items .now) (a .work .now) (a .node) (a .w) _ (sym (c .before .before .before .word .ensures) ∙ c .before .before .if1 .left) (c .before .number-of .ensures) (c .if2 .taken)
+    let a = c .before .before .before .before .before .args in head-other (a .work .now) (a .node) (a .w) _ (sym (c .before .before .before .word .ensures) ∙ c .before .before .if1 .left) (c .before .number-of .ensures) (c .if2 .taken)
 
 binding-of-requires : tie.Need-binding-of-requires
 binding-of-requires c κs = search needs
 
 returns-3 : tie.Need-returns-3
 returns-3 c =
-    let a = c .before .before .before .before .before .before .before .args in head-yes (a .items .now) (a .work .now) (a .node) (a .w) _ (sym (c .before .before .before .before .word .ensures) ∙ c .before .before .before .if1 .left) (c .before .before .number-of .ensures) _ (c .before .if2 .left) (c .binding-of .ensures)
+    let a = c .before .before .before .before .before .before .args in head-yes (a .work .now) (a .node) (a .w) _ (sym (c .before .before .before .before .word .ensures) ∙ c .before .before .before .if1 .left) (c .before .before .number-of .ensures) _ (c .before .if2 .left) (c .binding-of .ensures)
 
 pub is-syntax-rules-spec : {M : Type 1} → statement M
 is-syntax-rules-spec =

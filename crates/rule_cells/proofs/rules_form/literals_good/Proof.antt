@@ -16,15 +16,15 @@ count-requires c κs = search needs
 
 returns : tie.Need-returns
 returns c =
-    let a = c .before .before .before .before .before .before .before .args in literals-most (a .items .now) (a .work .now) (a .node) (λ items w. sym (c .before .before .before .if1 .taken) ∙ c .before .before .before .before .is-list .ensures items w) _ (λ w. sym (c .before .if2 .taken) ∙ c .before .before .all-ordinary .ensures w) (c .count .ensures)
+    let a = c .before .before .before .before .before .before .args in literals-most (a .work .now) (a .node) (λ w. sym (c .before .before .before .if1 .taken) ∙ c .before .before .before .before .is-list .ensures w) _ (λ w. sym (c .before .if2 .taken) ∙ c .before .before .all-ordinary .ensures w) (c .count .ensures)
 
 returns-2 : tie.Need-returns-2
 returns-2 c =
-    let a = c .before .before .before .before .before .before .args in literals-other (a .items .now) (a .work .now) (a .node) (λ items w. sym (c .before .before .if1 .taken) ∙ c .before .before .before .is-list .ensures items w) (λ w. sym (c .if2 .left) ∙ c .before .all-ordinary .ensures w)
+    let a = c .before .before .before .before .before .args in literals-other (a .work .now) (a .node) (λ w. sym (c .before .before .if1 .taken) ∙ c .before .before .before .is-list .ensures w) (λ w. sym (c .if2 .left) ∙ c .before .all-ordinary .ensures w)
 
 returns-3 : tie.Need-returns-3
 returns-3 c =
-    let a = c .before .before .before .before .args in literals-no (a .items .now) (a .work .now) (a .node) (λ items w. sym (c .if1 .left) ∙ c .before .is-list .ensures items w)
+    let a = c .before .before .before .args in literals-no (a .work .now) (a .node) (λ w. sym (c .if1 .left) ∙ c .before .is-list .ensures w)
 
 pub literals-good-spec : {M : Type 1} → statement M
 literals-good-spec =

@@ -49,7 +49,7 @@ driven-driven-requires t c κs =
 
 driven-returns-4 : (t : ℕ) → driven-lts.Need-returns-4 (driven-claims t) (driven-at t) driven.Post
 driven-returns-4 t c =
-    let a = c .before .before .before .before .before .before .before .before .args in driven-first (a .work .now) (a .at) (a .j) _ _ _ (c .before .before .before .before .before .before .word .ensures) (omega (arith, c .before .before .before .before .if2 .left)) (omega (arith, c .before .before .before .if3 .left)) (c .before .before .reference .ensures) refl (λ items. sym (c .if4 .taken) ∙ c .before .driven .ensures items)
+    let a = c .before .before .before .before .before .before .before .before .args in driven-first (a .work .now) (a .at) (a .j) _ _ _ (c .before .before .before .before .before .before .word .ensures) (omega (arith, c .before .before .before .before .if2 .left)) (omega (arith, c .before .before .before .if3 .left)) (c .before .before .reference .ensures) refl (sym (c .if4 .taken) ∙ c .before .driven .ensures)
 
 driven-driven-requires-2 : (t : ℕ) → driven-lts.Need-driven-requires-2 (driven-claims t) (driven-at t) driven.Post
 driven-driven-requires-2 t c κs =
@@ -57,7 +57,7 @@ driven-driven-requires-2 t c κs =
 
 driven-returns-5 : (t : ℕ) → driven-lts.Need-returns-5 (driven-claims t) (driven-at t) driven.Post
 driven-returns-5 t c =
-    let a = c .before .before .before .before .before .before .before .before .before .before .args in driven-rest (a .work .now) (a .at) (a .j) _ _ _ (c .before .before .before .before .before .before .before .before .word .ensures) (omega (arith, c .before .before .before .before .before .before .if2 .left)) (omega (arith, c .before .before .before .before .before .if3 .left)) (c .before .before .before .before .reference .ensures) (c .before .reference2 .ensures) _ (λ items. sym (c .before .before .if4 .left) ∙ c .before .before .before .driven .ensures items) (c .driven2 .ensures)
+    let a = c .before .before .before .before .before .before .before .before .before .before .args in driven-rest (a .work .now) (a .at) (a .j) _ _ _ (c .before .before .before .before .before .before .before .before .word .ensures) (omega (arith, c .before .before .before .before .before .before .if2 .left)) (omega (arith, c .before .before .before .before .before .if3 .left)) (c .before .before .before .before .reference .ensures) (c .before .reference2 .ensures) _ (sym (c .before .before .if4 .left) ∙ c .before .before .before .driven .ensures) (c .driven2 .ensures)
 
 pub +driven-spec : {M : Type 1} → statement M
 +driven-spec = close μ-driven λ t. driven-lts.spec (driven-claims t)

@@ -7,11 +7,11 @@ use Rattle.rule_cells.specs.Cells.{templateAt}
 
 returns : tie.Need-returns
 returns c =
-    let a = c .before .before .before .before .before .before .args in made-dots (λ items. templateAt items (a .work .now) (a .element)) (λ items. templateAt items (a .work .now) (a .rest)) _ _ _ _ _ (c .before .before .before .before .if1 .taken) (c .before .before .put-ellipsis-template .ensures)
+    let a = c .before .before .before .before .before .before .args in made-dots (templateAt (a .work .now) (a .element)) (templateAt (a .work .now) (a .rest)) _ _ _ _ _ (c .before .before .before .before .if1 .taken) (c .before .before .put-ellipsis-template .ensures)
 
 returns-2 : tie.Need-returns-2
 returns-2 c =
-    let a = c .before .before .before .before .before .before .args in made-plain (λ items. templateAt items (a .work .now) (a .element)) (λ items. templateAt items (a .work .now) (a .rest)) _ _ _ _ _ (c .before .before .before .before .if1 .left) (c .before .before .put-pair-template .ensures)
+    let a = c .before .before .before .before .before .before .args in made-plain (templateAt (a .work .now) (a .element)) (templateAt (a .work .now) (a .rest)) _ _ _ _ _ (c .before .before .before .before .if1 .left) (c .before .before .put-pair-template .ensures)
 
 pub put-list-spec : {M : Type 1} → statement M
 put-list-spec =

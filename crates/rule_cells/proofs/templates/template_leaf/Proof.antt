@@ -10,29 +10,29 @@ use mathlib.Core.Path.{sym, _∙_}
 
 template-name-requires : tie.Need-template-name-requires
 template-name-requires c κs =
-    let a = c .before .before .before .before .before .before .before .args in
-    (room-leaf (a .items .now) (a .work .now) (a .node) (a .w) (a .top) (c .before .before .before .before .before .before .before .pre .0), leaf-packs (a .items .now) (a .work .now) (a .node) (a .w) (a .top) (c .before .before .before .before .before .before .before .pre .0), c .before .before .before .before .before .before .before .pre .0 .node-below, c .before .before .before .before .before .before .before .pre .0 .wrap-below, c .before .before .before .before .before .before .before .pre .1, c .before .before .before .before .before .before .before .pre .2)
+    let a = c .before .before .before .before .before .before .args in
+    (room-leaf (a .work .now) (a .node) (a .w) (a .top) (c .before .before .before .before .before .before .pre .0), leaf-packs (a .work .now) (a .node) (a .w) (a .top) (c .before .before .before .before .before .before .pre .0), c .before .before .before .before .before .before .pre .0 .node-below, c .before .before .before .before .before .before .pre .0 .wrap-below, c .before .before .before .before .before .before .pre .1, c .before .before .before .before .before .before .pre .2)
 
 returns : tie.Need-returns
 returns c =
-    let a = c .before .before .before .before .before .before .before .before .before .before .args in
-    left-name (variablesFrom (a .items .now) (a .work .now) (a .w) (a .vars .now) 0 (a .count)) (a .d) (a .items .now) (a .work .now) (a .node) (a .w) (a .top) (c .before .before .template-name .last .1 .0) (builtOf (c .before .before .template-name .result)) (sym (c .before .before .before .before .before .word .ensures) ∙ c .before .before .before .before .if1 .taken) (c .before .before .template-name .ensures)
+    let a = c .before .before .before .before .before .before .before .before .before .args in
+    left-name (variablesFrom (a .work .now) (a .w) (a .vars .now) 0 (a .count)) (a .d) (a .work .now) (a .node) (a .w) (a .top) (c .before .before .template-name .last .0) (builtOf (c .before .before .template-name .result)) (sym (c .before .before .before .before .before .word .ensures) ∙ c .before .before .before .before .if1 .taken) (c .before .before .template-name .ensures)
 
 returns-2 : tie.Need-returns-2
 returns-2 c =
-    let a = c .before .before .before .before .before .before .before .before .args in
-    left-packed _ _ _ _ _ _ _ _ _ _ _ (packs (a .items .now) (a .work .now) (a .node) (a .w) (a .top) (c .before .before .before .before .before .before .before .before .pre .0)) (c .pair .ensures)
-    (left-empty (variablesFrom (a .items .now) (a .work .now) (a .w) (a .vars .now) 0 (a .count)) (a .d) (a .items .now) (a .work .now) (a .node) (a .w) (a .top) (sym (c .before .before .before .word .ensures) ∙ c .before .if2 .taken))
+    let a = c .before .before .before .before .before .before .before .args in
+    left-packed _ _ _ _ _ _ _ _ _ _ (packs (a .work .now) (a .node) (a .w) (a .top) (c .before .before .before .before .before .before .before .pre .0)) (c .pair .ensures)
+    (left-empty (variablesFrom (a .work .now) (a .w) (a .vars .now) 0 (a .count)) (a .d) (a .work .now) (a .node) (a .w) (a .top) (sym (c .before .before .before .word .ensures) ∙ c .before .if2 .taken))
 
 put-constant-template-requires : tie.Need-put-constant-template-requires
 put-constant-template-requires c κs =
-    let a = c .before .before .before .before .before .before .before .before .before .before .before .before .args in room-leaf (a .items .now) (a .work .now) (a .node) (a .w) (a .top) (c .before .before .before .before .before .before .before .before .before .before .before .before .pre .0)
+    let a = c .before .before .before .before .before .before .before .before .before .before .before .args in room-leaf (a .work .now) (a .node) (a .w) (a .top) (c .before .before .before .before .before .before .before .before .before .before .before .pre .0)
 
 returns-3 : tie.Need-returns-3
 returns-3 c =
-    let a = c .before .before .before .before .before .before .before .before .before .before .before .before .before .before .before .before .args in
-    left-packed _ _ _ _ _ _ _ _ _ _ _ (packs (a .items .now) (a .work .now) (a .node) (a .w) (a .top) (c .before .before .before .before .before .before .before .before .before .before .before .before .before .before .before .before .pre .0)) (c .pair2 .ensures)
-    (left-constant (variablesFrom (a .items .now) (a .work .now) (a .w) (a .vars .now) 0 (a .count)) (a .d) (a .items .now) (a .work .now) (a .node) (a .w) (a .top) _ _ _ _ _ (c .before .before .before .before .before .before .before .before .before .before .before .word .ensures) (c .before .before .before .before .before .before .before .word2 .ensures) (c .before .before .before .before .before .word3 .ensures) (λ z. c .before .before .before .before .before .before .before .before .before .if2 .left (c .before .before .before .before .before .before .before .before .before .before .before .word .ensures ∙ z)) (λ z. c .before .before .before .before .before .before .before .before .before .before .if1 .left (c .before .before .before .before .before .before .before .before .before .before .before .word .ensures ∙ z)) (c .before .before .before .before .before .before .before .before .before .before .before .before .before .before .before .before .pre .3) (c .before .before .before .put-constant-template .ensures))
+    let a = c .before .before .before .before .before .before .before .before .before .before .before .before .before .before .before .args in
+    left-packed _ _ _ _ _ _ _ _ _ _ (packs (a .work .now) (a .node) (a .w) (a .top) (c .before .before .before .before .before .before .before .before .before .before .before .before .before .before .before .pre .0)) (c .pair2 .ensures)
+    (left-constant (variablesFrom (a .work .now) (a .w) (a .vars .now) 0 (a .count)) (a .d) (a .work .now) (a .node) (a .w) (a .top) _ _ _ _ _ (c .before .before .before .before .before .before .before .before .before .before .before .word .ensures) (c .before .before .before .before .before .before .before .word2 .ensures) (c .before .before .before .before .before .word3 .ensures) (λ z. c .before .before .before .before .before .before .before .before .before .if2 .left (c .before .before .before .before .before .before .before .before .before .before .before .word .ensures ∙ z)) (λ z. c .before .before .before .before .before .before .before .before .before .before .if1 .left (c .before .before .before .before .before .before .before .before .before .before .before .word .ensures ∙ z)) (c .before .before .before .before .before .before .before .before .before .before .before .before .before .before .before .pre .3) (c .before .before .before .put-constant-template .ensures))
 
 pub template-leaf-spec : {M : Type 1} → statement M
 template-leaf-spec =

@@ -14,28 +14,28 @@ use mathlib.Core.Path.{refl, sym, _∙_}
 returns : tie.Need-returns
 unfolding builtOf
 returns c =
-    let a = c .before .before .before .before .before .before .args in
-    left-dots (variablesFrom (a .items .now) (a .work .now) (a .w) (a .vars .now) 0 (a .count)) (a .d) (nameAt (a .items .now) (a .work .now) (a .node) (a .w)) (a .items .now) (a .work .now) (a .top) (nameAt-number (a .items .now) (a .work .now) (a .node) (a .w) ∙ sym (c .before .number-of .ensures) ∙ c .if1 .taken)
+    let a = c .before .before .before .before .before .args in
+    left-dots (variablesFrom (a .work .now) (a .w) (a .vars .now) 0 (a .count)) (a .d) (nameAt (a .work .now) (a .node) (a .w)) (a .work .now) (a .top) (nameAt-number (a .work .now) (a .node) (a .w) ∙ sym (c .before .number-of .ensures) ∙ c .if1 .taken)
 
 returns-2 : tie.Need-returns-2
 unfolding size
 returns-2 c =
-    let a = c .before .before .before .before .before .before .before .before .before .before .before .before .before .before .before .before .before .before .args in
-    left-packed _ _ _ _ _ _ _ _ _ _ _ (c .before .before .before .before .before .before .before .before .before .before .before .before .before .before .before .before .before .before .pre .1) (c .pair .ensures)
-    (left-variable (variablesFrom (a .items .now) (a .work .now) (a .w) (a .vars .now) 0 (a .count)) (a .d) (nameAt (a .items .now) (a .work .now) (a .node) (a .w)) (a .items .now) (a .work .now) (a .top) _ _ _ _ (λ z. c .before .before .before .before .before .before .before .before .before .before .before .before .if1 .left (c .before .before .before .before .before .before .before .before .before .before .before .before .before .number-of .ensures ∙ sym (nameAt-number (a .items .now) (a .work .now) (a .node) (a .w)) ∙ z)) (found-at _ _ _ _ (c .before .before .before .before .before .before .before .before .k .given .1) (c .before .before .before .before .before .before .before .before .before .before .find .ensures)) (sym (c .before .before .before .before .before .if2 .taken) ∙ c .before .before .before .before .before .before .depth-fits .ensures) (c .before .before .before .put-variable-template .ensures))
+    let a = c .before .before .before .before .before .before .before .before .before .before .before .before .before .before .before .before .before .args in
+    left-packed _ _ _ _ _ _ _ _ _ _ (c .before .before .before .before .before .before .before .before .before .before .before .before .before .before .before .before .before .pre .1) (c .pair .ensures)
+    (left-variable (variablesFrom (a .work .now) (a .w) (a .vars .now) 0 (a .count)) (a .d) (nameAt (a .work .now) (a .node) (a .w)) (a .work .now) (a .top) _ _ _ _ (λ z. c .before .before .before .before .before .before .before .before .before .before .before .before .if1 .left (c .before .before .before .before .before .before .before .before .before .before .before .before .before .number-of .ensures ∙ sym (nameAt-number (a .work .now) (a .node) (a .w)) ∙ z)) (found-at _ _ _ _ (c .before .before .before .before .before .before .before .before .k .given .1) (c .before .before .before .before .before .before .before .before .before .before .find .ensures)) (sym (c .before .before .before .before .before .if2 .taken) ∙ c .before .before .before .before .before .before .depth-fits .ensures) (c .before .before .before .put-variable-template .ensures))
 
 returns-3 : tie.Need-returns-3
 unfolding builtOf
 returns-3 c =
-    let a = c .before .before .before .before .before .before .before .before .before .before .before .before .before .args in
-    left-depth (variablesFrom (a .items .now) (a .work .now) (a .w) (a .vars .now) 0 (a .count)) (a .d) (nameAt (a .items .now) (a .work .now) (a .node) (a .w)) (a .items .now) (a .work .now) (a .top) _ _ (λ z. c .before .before .before .before .before .before .before .if1 .left (c .before .before .before .before .before .before .before .before .number-of .ensures ∙ sym (nameAt-number (a .items .now) (a .work .now) (a .node) (a .w)) ∙ z)) (found-at _ _ _ _ (c .before .before .before .k .given .1) (c .before .before .before .before .before .find .ensures)) (sym (c .if2 .left) ∙ c .before .depth-fits .ensures)
+    let a = c .before .before .before .before .before .before .before .before .before .before .before .before .args in
+    left-depth (variablesFrom (a .work .now) (a .w) (a .vars .now) 0 (a .count)) (a .d) (nameAt (a .work .now) (a .node) (a .w)) (a .work .now) (a .top) _ _ (λ z. c .before .before .before .before .before .before .before .if1 .left (c .before .before .before .before .before .before .before .before .number-of .ensures ∙ sym (nameAt-number (a .work .now) (a .node) (a .w)) ∙ z)) (found-at _ _ _ _ (c .before .before .before .k .given .1) (c .before .before .before .before .before .find .ensures)) (sym (c .if2 .left) ∙ c .before .depth-fits .ensures)
 
 returns-4 : tie.Need-returns-4
 unfolding size
 returns-4 c =
-    let a = c .before .before .before .before .before .before .before .before .before .before .before .before .before .before .before .args in
-    left-packed _ _ _ _ _ _ _ _ _ _ _ (c .before .before .before .before .before .before .before .before .before .before .before .before .before .before .before .pre .1) (c .pair2 .ensures)
-    (left-insert (variablesFrom (a .items .now) (a .work .now) (a .w) (a .vars .now) 0 (a .count)) (a .d) (nameAt (a .items .now) (a .work .now) (a .node) (a .w)) (a .items .now) (a .work .now) (a .top) (a .node) (a .w) _ _ refl (λ z. c .before .before .before .before .before .before .before .before .before .if1 .left (c .before .before .before .before .before .before .before .before .before .before .number-of .ensures ∙ sym (nameAt-number (a .items .now) (a .work .now) (a .node) (a .w)) ∙ z)) (found-not _ _ (c .before .before .before .before .before .enum-told .given .1) (c .before .before .before .before .before .before .before .find .ensures)) (c .before .before .before .put-insert .ensures))
+    let a = c .before .before .before .before .before .before .before .before .before .before .before .before .before .before .args in
+    left-packed _ _ _ _ _ _ _ _ _ _ (c .before .before .before .before .before .before .before .before .before .before .before .before .before .before .pre .1) (c .pair2 .ensures)
+    (left-insert (variablesFrom (a .work .now) (a .w) (a .vars .now) 0 (a .count)) (a .d) (nameAt (a .work .now) (a .node) (a .w)) (a .work .now) (a .top) (a .node) (a .w) _ _ refl (λ z. c .before .before .before .before .before .before .before .before .before .if1 .left (c .before .before .before .before .before .before .before .before .before .before .number-of .ensures ∙ sym (nameAt-number (a .work .now) (a .node) (a .w)) ∙ z)) (found-not _ _ (c .before .before .before .before .before .enum-told .given .1) (c .before .before .before .before .before .before .before .find .ensures)) (c .before .before .before .put-insert .ensures))
 
 pub template-name-spec : {M : Type 1} → statement M
 template-name-spec =

@@ -21,27 +21,27 @@ use Rattle.arena.specs.Arena.{wordAt, nameAt, treeAt}
 use Rattle.arena.specs.ListLaws.{pair-falls}
 use Rattle.rule_cells.specs.VariableLaws.{any-name, any-head, any-rest, any-other}
 
-abbrev μ-is-literal : Measures 2 is-literal-kinds.ps ℕ
+abbrev μ-is-literal : Measures 1 is-literal-kinds.ps ℕ
 μ-is-literal κs a =
-    a .1 .1 .0
+    a .1 .0
 
-abbrev is-literal-at : ℕ → In 2 is-literal-kinds.ps
+abbrev is-literal-at : ℕ → In 1 is-literal-kinds.ps
 is-literal-at t =
-    and 2 is-literal-kinds.ps (is 2 is-literal-kinds.ps μ-is-literal t) is-literal.Pre
+    and 1 is-literal-kinds.ps (is 1 is-literal-kinds.ps μ-is-literal t) is-literal.Pre
 
-abbrev is-literal-below : ℕ → In 2 is-literal-kinds.ps
+abbrev is-literal-below : ℕ → In 1 is-literal-kinds.ps
 is-literal-below t =
-    and 2 is-literal-kinds.ps (falls 2 is-literal-kinds.ps _<_ μ-is-literal t) is-literal.Pre
+    and 1 is-literal-kinds.ps (falls 1 is-literal-kinds.ps _<_ μ-is-literal t) is-literal.Pre
 
 abbrev is-literal-claims : ℕ → is-literal-lts.Claims
 is-literal-claims t = (word-reads.Asked, word-reads.Learnt, reference-reads.Asked, reference-reads.Learnt, is-literal-below t, is-literal.Post, same-names-reads.Asked, same-names-reads.Learnt)
 
 abbrev is-literal-Inv-loop : is-literal-lts.InvT-loop
-is-literal-Inv-loop items work list node w at₀ kind₀ at kind =
-    (kind ≡ wordAt work at 3) × (at ≤ list) × ((b : Bool) → b ≡ anyOf (same (nameAt items work node w)) (names (treeAt items work at w)) → b ≡ anyOf (same (nameAt items work node w)) (names (treeAt items work list w)))
+is-literal-Inv-loop work list node w at₀ kind₀ at kind =
+    (kind ≡ wordAt work at 3) × (at ≤ list) × ((b : Bool) → b ≡ anyOf (same (nameAt work node w)) (names (treeAt work at w)) → b ≡ anyOf (same (nameAt work node w)) (names (treeAt work list w)))
 
 abbrev is-literal-μ-loop : is-literal-lts.MeasureT-loop
-is-literal-μ-loop items work list node w at₀ kind₀ at kind =
+is-literal-μ-loop work list node w at₀ kind₀ at kind =
     at
 
 is-literal-loop-holds : (t : ℕ) → is-literal-lts.Need-loop-holds (is-literal-claims t) (is-literal-at t) is-literal.Post is-literal-Inv-loop is-literal-μ-loop
@@ -51,43 +51,43 @@ is-literal-loop-holds t c =
 is-literal-is-literal-requires : (t : ℕ) → is-literal-lts.Need-is-literal-requires (is-literal-claims t) (is-literal-at t) is-literal.Post is-literal-Inv-loop is-literal-μ-loop
 is-literal-is-literal-requires t c κs =
     let l = c .before .before .loop in
-    (omega (arith, c .before .before .before .before .before .before .pre .0, l .inv .1, pair-falls (c .before .before .before .before .before .before .args .work .now) (l .at) 2 (sym (l .inv .0) ∙ c .before .loop-test .taken), c .reference .ensures), tt)
+    (omega (arith, c .before .before .before .before .before .pre .0, l .inv .1, pair-falls (c .before .before .before .before .before .args .work .now) (l .at) 2 (sym (l .inv .0) ∙ c .before .loop-test .taken), c .reference .ensures), tt)
 
 is-literal-returns : (t : ℕ) → is-literal-lts.Need-returns (is-literal-claims t) (is-literal-at t) is-literal.Post is-literal-Inv-loop is-literal-μ-loop
 is-literal-returns t c =
-    let a = c .before .before .before .before .before .before .before .before .args in
+    let a = c .before .before .before .before .before .before .before .args in
     let l = c .before .before .before .before .loop in
     l .inv .2 true
-    (any-head (a .items .now) (a .work .now) (l .at) (a .w) (same (nameAt (a .items .now) (a .work .now) (a .node) (a .w))) _ (sym (l .inv .0) ∙ c .before .before .before .loop-test .taken) (c .before .before .reference .ensures) (sym (c .if1 .taken) ∙ c .before .is-literal .ensures))
+    (any-head (a .work .now) (l .at) (a .w) (same (nameAt (a .work .now) (a .node) (a .w))) _ (sym (l .inv .0) ∙ c .before .before .before .loop-test .taken) (c .before .before .reference .ensures) (sym (c .if1 .taken) ∙ c .before .is-literal .ensures))
 
 is-literal-loop-less : (t : ℕ) → is-literal-lts.Need-loop-less (is-literal-claims t) (is-literal-at t) is-literal.Post is-literal-Inv-loop is-literal-μ-loop
 is-literal-loop-less t c =
-    omega (arith, pair-falls (c .before .before .before .before .before .before .before .before .before .before .args .work .now) (c .before .before .before .before .before .before .loop .at) 1 (sym (c .before .before .before .before .before .before .loop .inv .0) ∙ c .before .before .before .before .before .loop-test .taken), c .before .reference2 .ensures)
+    omega (arith, pair-falls (c .before .before .before .before .before .before .before .before .before .args .work .now) (c .before .before .before .before .before .before .loop .at) 1 (sym (c .before .before .before .before .before .before .loop .inv .0) ∙ c .before .before .before .before .before .loop-test .taken), c .before .reference2 .ensures)
 
 is-literal-loop-again : (t : ℕ) → is-literal-lts.Need-loop-again (is-literal-claims t) (is-literal-at t) is-literal.Post is-literal-Inv-loop is-literal-μ-loop
 is-literal-loop-again t c =
-    let a = c .before .before .before .before .before .before .before .before .before .before .args in
+    let a = c .before .before .before .before .before .before .before .before .before .args in
     let l = c .before .before .before .before .before .before .loop in
     let e = sym (l .inv .0) ∙ c .before .before .before .before .before .loop-test .taken in (
       c .word2 .ensures,
       omega (arith, l .inv .1, pair-falls (a .work .now) (l .at) 1 e, c .before .reference2 .ensures),
       λ b h. l .inv .2 b
-          (any-rest (a .items .now) (a .work .now) (l .at) (a .w) (same (nameAt (a .items .now) (a .work .now) (a .node) (a .w))) _ _ b e (c .before .before .before .before .reference .ensures) (c .before .reference2 .ensures) (sym (c .before .before .if1 .left) ∙ c .before .before .before .is-literal .ensures) h),
+          (any-rest (a .work .now) (l .at) (a .w) (same (nameAt (a .work .now) (a .node) (a .w))) _ _ b e (c .before .before .before .before .reference .ensures) (c .before .reference2 .ensures) (sym (c .before .before .if1 .left) ∙ c .before .before .before .is-literal .ensures) h),
     )
 
 is-literal-returns-2 : (t : ℕ) → is-literal-lts.Need-returns-2 (is-literal-claims t) (is-literal-at t) is-literal.Post is-literal-Inv-loop is-literal-μ-loop
 is-literal-returns-2 t c =
-    let a = c .before .before .before .before .before .before .before .args in
+    let a = c .before .before .before .before .before .before .args in
     let l = c .before .before .before .loop in
     l .inv .2 (c .same-names .result)
-    (any-name (a .items .now) (a .work .now) (l .at) (a .w) (same (nameAt (a .items .now) (a .work .now) (a .node) (a .w))) _ (sym (l .inv .0) ∙ c .before .if2 .taken) (c .same-names .ensures))
+    (any-name (a .work .now) (l .at) (a .w) (same (nameAt (a .work .now) (a .node) (a .w))) _ (sym (l .inv .0) ∙ c .before .if2 .taken) (c .same-names .ensures))
 
 is-literal-returns-3 : (t : ℕ) → is-literal-lts.Need-returns-3 (is-literal-claims t) (is-literal-at t) is-literal.Post is-literal-Inv-loop is-literal-μ-loop
 is-literal-returns-3 t c =
-    let a = c .before .before .before .before .before .before .args in
+    let a = c .before .before .before .before .before .args in
     let l = c .before .before .loop in
     l .inv .2 false
-    (any-other (a .items .now) (a .work .now) (l .at) (a .w) (same (nameAt (a .items .now) (a .work .now) (a .node) (a .w))) (λ z. c .if2 .left (l .inv .0 ∙ z)) (λ z. c .before .loop-test .left (l .inv .0 ∙ z)))
+    (any-other (a .work .now) (l .at) (a .w) (same (nameAt (a .work .now) (a .node) (a .w))) (λ z. c .if2 .left (l .inv .0 ∙ z)) (λ z. c .before .loop-test .left (l .inv .0 ∙ z)))
 
 pub +is-literal-spec : {M : Type 1} → statement M
 +is-literal-spec = close μ-is-literal λ t. is-literal-lts.spec (

@@ -11,30 +11,30 @@ use lib.ListN.{length-set}
 returns : tie.Need-returns
 unfolding keptOf
 returns c =
-    let a = c .before .before .before .before .args in add-deep (a .items .now) (a .work .now) (a .w) (a .vars .now) (a .n) (a .node) (a .d) (omega (arith, c .if1 .taken))
+    let a = c .before .before .before .args in add-deep (a .work .now) (a .w) (a .vars .now) (a .n) (a .node) (a .d) (omega (arith, c .if1 .taken))
 
 returns-2 : tie.Need-returns-2
 unfolding keptOf
 returns-2 c =
-    let a = c .before .before .before .before .before .args in add-many (a .items .now) (a .work .now) (a .w) (a .vars .now) (a .n) (a .node) (a .d) (c .if2 .taken)
+    let a = c .before .before .before .before .args in add-many (a .work .now) (a .w) (a .vars .now) (a .n) (a .node) (a .d) (c .if2 .taken)
 
 find-requires : tie.Need-find-requires
 find-requires c κs =
-    (omega arith, c .before .before .before .before .before .before .pre .0)
+    (omega arith, c .before .before .before .before .before .pre .0)
 
 returns-3 : tie.Need-returns-3
 unfolding keptOf
 returns-3 c =
-    let a = c .before .before .before .before .before .before .before .before .before .before .args in add-twice (a .items .now) (a .work .now) (a .w) (a .vars .now) (a .n) (a .node) (a .d) _ (found-at _ _ _ _ (c .before .k .given .1) (c .before .before .before .find .ensures))
+    let a = c .before .before .before .before .before .before .before .before .before .args in add-twice (a .work .now) (a .w) (a .vars .now) (a .n) (a .node) (a .d) _ (found-at _ _ _ _ (c .before .k .given .1) (c .before .before .before .find .ensures))
 
 slice-write-vars-2 : tie.Need-slice-write-vars-2
 slice-write-vars-2 c =
-    simp length-set (omega (arith, c .before .before .before .before .before .before .before .before .before .pre .0))
+    simp length-set (omega (arith, c .before .before .before .before .before .before .before .before .pre .0))
 
 returns-4 : tie.Need-returns-4
 returns-4 c =
-    let a = c .before .before .before .before .before .before .before .before .before .args in
-    gathered-count _ _ _ _ _ _ _ _ _ (add-one (a .items .now) (a .work .now) (a .w) (a .vars .now) (a .n) (a .node) (a .d) (omega (arith, c .before .before .before .before .before .before .before .before .before .pre .0)) (c .before .before .before .before .before .before .before .before .before .pre .1) (omega arith) (omega arith) (found-not _ _ (c .enum-told .given .1) (c .before .before .find .ensures)))
+    let a = c .before .before .before .before .before .before .before .before .args in
+    gathered-count _ _ _ _ _ _ _ _ (add-one (a .work .now) (a .w) (a .vars .now) (a .n) (a .node) (a .d) (omega (arith, c .before .before .before .before .before .before .before .before .pre .0)) (c .before .before .before .before .before .before .before .before .pre .1) (omega arith) (omega arith) (found-not _ _ (c .enum-told .given .1) (c .before .before .find .ensures)))
 
 pub add-spec : {M : Type 1} → statement M
 add-spec =

@@ -11,7 +11,7 @@ element-depth-requires : tie.Need-element-depth-requires
 element-depth-requires c κs = search needs
 
 returns : tie.Need-returns
-returns c = deeper-by _ _ _ _ _ _ (c .element-depth .ensures) (c .before .dots-next .ensures)
+returns c = deeper-by _ _ _ _ _ (c .element-depth .ensures) (c .before .dots-next .ensures)
 
 pub depth-before-spec : {M : Type 1} → statement M
 depth-before-spec = tie.close (tie.spec dots-next-requires element-depth-requires returns)

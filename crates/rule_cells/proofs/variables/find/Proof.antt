@@ -11,37 +11,37 @@ use Rattle.rule_cells.specs.Variables.{variablesFrom, knownFrom}
 use Rattle.rule_cells.specs.VariableLaws.{known-all, known-none, known-here, known-more}
 
 abbrev Inv-loop : tie.InvT-loop
-Inv-loop items work vars i left node w end k₀ k =
-    (k ≤ end) × (knownFrom items work w vars (nameAt items work node w) end k ≡ variableFrom i (variablesFrom items work w vars i left) (nameAt items work node w))
+Inv-loop work vars i left node w end k₀ k =
+    (k ≤ end) × (knownFrom work w vars (nameAt work node w) end k ≡ variableFrom i (variablesFrom work w vars i left) (nameAt work node w))
 
 abbrev μ-loop : tie.MeasureT-loop
-μ-loop items work vars i left node w end k₀ k =
+μ-loop work vars i left node w end k₀ k =
     end - k
 
 loop-holds : tie.Need-loop-holds Inv-loop μ-loop
 loop-holds c =
-    let a = c .before .before .before .args in
-    (omega arith, known-all (a .items .now) (a .work .now) (a .w) (a .vars .now) (nameAt (a .items .now) (a .work .now) (a .node) (a .w)) (a .i) (a .left))
+    let a = c .before .before .args in
+    (omega arith, known-all (a .work .now) (a .w) (a .vars .now) (nameAt (a .work .now) (a .node) (a .w)) (a .i) (a .left))
 
 returns : tie.Need-returns Inv-loop μ-loop
 returns c =
-    let a = c .before .before .before .before .before .before .before .before .before .args in
+    let a = c .before .before .before .before .before .before .before .before .args in
     let l = c .before .before .before .before .before .loop in
-    known-here (a .items .now) (a .work .now) (a .w) (a .vars .now) (nameAt (a .items .now) (a .work .now) (a .node) (a .w)) _ _ (c .before .before .before .before .loop-test .taken) (sym (c .before .if1 .taken) ∙ c .before .before .same-names .ensures) ∙ l .inv .1
+    known-here (a .work .now) (a .w) (a .vars .now) (nameAt (a .work .now) (a .node) (a .w)) _ _ (c .before .before .before .before .loop-test .taken) (sym (c .before .if1 .taken) ∙ c .before .before .same-names .ensures) ∙ l .inv .1
 
 loop-again : tie.Need-loop-again Inv-loop μ-loop
 loop-again c =
-    let a = c .before .before .before .before .before .before .before .before .args in
+    let a = c .before .before .before .before .before .before .before .args in
     let l = c .before .before .before .before .loop in
     let s = c .before .same-names in (
       omega arith,
-      known-more (a .items .now) (a .work .now) (a .w) (a .vars .now) (nameAt (a .items .now) (a .work .now) (a .node) (a .w)) _ _ (c .before .before .before .loop-test .taken) (sym (c .if1 .left) ∙ s .ensures) ∙ l .inv .1,
+      known-more (a .work .now) (a .w) (a .vars .now) (nameAt (a .work .now) (a .node) (a .w)) _ _ (c .before .before .before .loop-test .taken) (sym (c .if1 .left) ∙ s .ensures) ∙ l .inv .1,
     )
 
 returns-2 : tie.Need-returns-2 Inv-loop μ-loop
 returns-2 c =
-    let a = c .before .before .before .before .before .args in
-    known-none (a .items .now) (a .work .now) (a .w) (a .vars .now) (nameAt (a .items .now) (a .work .now) (a .node) (a .w)) _ _ (omega arith) ∙ c .before .loop .inv .1
+    let a = c .before .before .before .before .args in
+    known-none (a .work .now) (a .w) (a .vars .now) (nameAt (a .work .now) (a .node) (a .w)) _ _ (omega arith) ∙ c .before .loop .inv .1
 
 pub find-spec : {M : Type 1} → statement M
 find-spec =
@@ -56,9 +56,9 @@ find-spec =
     (λ c. search needs)  -- mul-same-names
     (λ c. search needs)  -- shared-slice-read-same-names
     (λ c κs. search needs)  -- same-names-requires
-    (λ c. search needs)  -- add-t16
-    (λ c. search needs)  -- mul-t17
-    (λ c. search needs)  -- shared-slice-read-t19
+    (λ c. search needs)  -- add-t15
+    (λ c. search needs)  -- mul-t16
+    (λ c. search needs)  -- shared-slice-read-t18
     returns
     (λ c. search needs)  -- add-k
     (λ c. search needs)  -- loop-less

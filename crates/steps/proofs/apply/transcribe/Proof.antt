@@ -30,7 +30,7 @@ returns-2 c =
 
 sub-t16 : tie.Need-sub-t16
 sub-t16 c =
-    let a = c .before .before .before .before .before .before .before .before .args in let g = gives-at (a .work .now) (c .before .before .before .before .before .build .last .0) (a .top) (a .limit) (a .env .now) (a .w) (a .t) _ _ _ (built-some _ _ _ (c .before .before .if1 .left) (c .before .high .ensures) (c .low .ensures)) (c .before .before .before .before .before .build .ensures) in omega (arith, g .paid .spent [])
+    let a = c .before .before .before .before .before .before .before .before .args in let g = gives-at (a .work .now) (c .before .before .before .before .before .build .last .0) (a .top) (a .limit) (a .env .now) (a .w) (a .t) _ _ _ (built-some _ _ _ (c .before .before .if1 .left) (c .before .high .ensures) (c .low .ensures)) (c .before .before .before .before .before .build .ensures) in omega (arith, g .paid .spent)
 
 same-length-3 : tie.Need-same-length-3
 same-length-3 c =

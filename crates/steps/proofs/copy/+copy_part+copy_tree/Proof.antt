@@ -19,8 +19,9 @@ use Rattle.steps.proofs.copy.+copy_part+copy_tree.{statement}
 use Rattle.steps.proofs.copy.+copy_part+copy_tree.Tie.{close}
 use borrow.Author.Needs.{needs}
 use Rattle.arena.specs.ListLaws.{pair-falls}
+use Rattle.arena.specs.Arena.{treeAt}
 use Rattle.steps.specs.Built.{builtOf, built-none, built-some}
-use Rattle.steps.specs.BuildLaws.{Whole, paid-at, pays-packed, unpaid-at, unpaid-none, waiting-tail, waiting-head, copied-tail-costly, copied-head-costly, copied-room, copied-pair}
+use Rattle.steps.specs.BuildLaws.{paid-at, pays-packed, unpaid-at, unpaid-none, waiting-tail, waiting-head, copied-tail-costly, copied-head-costly, copied-room, copied-pair}
 use native.Mathlib.Omega.{arith}
 use mathlib.Core.Path.{refl, sym, _∙_}
 
@@ -99,7 +100,7 @@ copy-tree-returns-2 : (t : ℕ) → copy-tree-lts.Need-returns-2 (copy-tree-clai
 unfolding builtOf
 copy-tree-returns-2 t c =
     let a = c .before .before .before .before .before .args in
-    unpaid-none (Whole (a .work .now) (a .node) (a .w)) (a .work .now) (a .top) (a .fuel) (c .if2 .taken)
+    unpaid-none (treeAt (a .work .now) (a .node) (a .w)) (a .work .now) (a .top) (a .fuel) (c .if2 .taken)
 
 copy-tree-copy-part-requires : (t : ℕ) → copy-tree-lts.Need-copy-part-requires (copy-tree-claims t) (copy-tree-at t) copy-tree.Post
 copy-tree-copy-part-requires t c κs =
@@ -132,7 +133,7 @@ copy-tree-returns-3 t c =
     let reference2 = c .before .before .before .before .before .reference2 in
     let copy-part = c .before .before .before .copy-part in
     copied-tail-costly (a .work .now) (a .top) (a .fuel) (a .node) (a .w) _ (if2 .left) refl _ (word .ensures) _ _ (if1 .left) (reference .ensures) (reference2 .ensures) (pre .1) _
-    (unpaid-at (Whole (a .work .now) (reference2 .result) (a .w)) (a .work .now) (copy-part .last .0) (a .top) (a .fuel - 1) _ (built-none _ (c .if3 .taken)) (copy-part .ensures))
+    (unpaid-at (treeAt (a .work .now) (reference2 .result) (a .w)) (a .work .now) (copy-part .last .0) (a .top) (a .fuel - 1) _ (built-none _ (c .if3 .taken)) (copy-part .ensures))
 
 copy-tree-copy-part-requires-2 : (t : ℕ) → copy-tree-lts.Need-copy-part-requires-2 (copy-tree-claims t) (copy-tree-at t) copy-tree.Post
 copy-tree-copy-part-requires-2 t c κs =
@@ -146,7 +147,7 @@ copy-tree-copy-part-requires-2 t c κs =
     let reference2 = c .before .before .before .before .before .before .before .before .reference2 in
     let copy-part = c .before .before .before .before .before .before .copy-part in
     let tail-is = built-some _ _ _ (c .before .before .before .if3 .left) (c .before .before .high .ensures) (c .low .ensures) in
-    let b = paid-at (Whole (a .work .now) (reference2 .result) (a .w)) (a .work .now) (copy-part .last .0) (a .top) (a .fuel - 1) _ _ _ tail-is (copy-part .ensures) in (
+    let b = paid-at (treeAt (a .work .now) (reference2 .result) (a .w)) (a .work .now) (copy-part .last .0) (a .top) (a .fuel - 1) _ _ _ tail-is (copy-part .ensures) in (
       omega (arith, pre .0, reference .ensures, pair-falls (a .work .now) (a .node) 2 (sym (word .ensures) ∙ if1 .left)),
       waiting-head (a .work .now) (a .top) (a .fuel) (a .node) (a .w) _ (if2 .left) refl _ (word .ensures) _ _ (if1 .left) (reference .ensures) (reference2 .ensures) (pre .1) _ _ _ b (copy-part .kept .0),
     )
@@ -171,9 +172,9 @@ copy-tree-returns-4 t c =
     let copy-part = c .before .before .before .before .before .before .before .before .before .before .copy-part in
     let tail-is = built-some _ _ _ (c .before .before .before .before .before .before .before .if3 .left) (c .before .before .before .before .before .before .high .ensures) (c .before .before .before .before .low .ensures) in
     let copy-part2 = c .before .before .before .copy-part2 in
-    let b = paid-at (Whole (a .work .now) (reference2 .result) (a .w)) (a .work .now) (copy-part .last .0) (a .top) (a .fuel - 1) _ _ _ tail-is (copy-part .ensures) in
+    let b = paid-at (treeAt (a .work .now) (reference2 .result) (a .w)) (a .work .now) (copy-part .last .0) (a .top) (a .fuel - 1) _ _ _ tail-is (copy-part .ensures) in
     copied-head-costly (a .work .now) (a .top) (a .fuel) (a .node) (a .w) _ (if2 .left) refl _ (word .ensures) _ _ (if1 .left) (reference .ensures) (reference2 .ensures) (pre .1) _ _ _ b (copy-part .kept .0) _
-    (unpaid-at (Whole (copy-part .last .0) (reference .result) (a .w)) (copy-part .last .0) (copy-part2 .last .0) _ _ _ (built-none _ (c .if4 .taken)) (copy-part2 .ensures))
+    (unpaid-at (treeAt (copy-part .last .0) (reference .result) (a .w)) (copy-part .last .0) (copy-part2 .last .0) _ _ _ (built-none _ (c .if4 .taken)) (copy-part2 .ensures))
 
 copy-tree-put-pair-requires : (t : ℕ) → copy-tree-lts.Need-put-pair-requires (copy-tree-claims t) (copy-tree-at t) copy-tree.Post
 copy-tree-put-pair-requires t c κs =
@@ -189,8 +190,8 @@ copy-tree-put-pair-requires t c κs =
     let tail-is = built-some _ _ _ (c .before .before .before .before .before .before .before .before .before .if3 .left) (c .before .before .before .before .before .before .before .before .high .ensures) (c .before .before .before .before .before .before .low .ensures) in
     let copy-part2 = c .before .before .before .before .before .copy-part2 in
     let head-is = built-some _ _ _ (c .before .before .if4 .left) (c .before .high2 .ensures) refl in
-    let b = paid-at (Whole (a .work .now) (reference2 .result) (a .w)) (a .work .now) (copy-part .last .0) (a .top) (a .fuel - 1) _ _ _ tail-is (copy-part .ensures) in
-    let h = paid-at (Whole (copy-part .last .0) (reference .result) (a .w)) (copy-part .last .0) (copy-part2 .last .0) _ _ _ _ _ head-is (copy-part2 .ensures) in (
+    let b = paid-at (treeAt (a .work .now) (reference2 .result) (a .w)) (a .work .now) (copy-part .last .0) (a .top) (a .fuel - 1) _ _ _ tail-is (copy-part .ensures) in
+    let h = paid-at (treeAt (copy-part .last .0) (reference .result) (a .w)) (copy-part .last .0) (copy-part2 .last .0) _ _ _ _ _ head-is (copy-part2 .ensures) in (
       copied-room (a .work .now) (a .top) (a .fuel) (a .node) (a .w) _ (if2 .left) refl _ (word .ensures) _ _ (if1 .left) (reference .ensures) (reference2 .ensures) (pre .1) _ _ _ b (copy-part .kept .0) _ _ _ h (copy-part2 .kept .0),
       omega arith,
       h .above,
@@ -218,9 +219,9 @@ copy-tree-returns-5 t c =
     let copy-part2 = c .before .before .before .before .before .before .before .before .before .before .copy-part2 in
     let head-is = built-some _ _ _ (c .before .before .before .before .before .before .before .if4 .left) (c .before .before .before .before .before .before .high2 .ensures) (c .before .low2 .ensures) in
     let put-pair = c .before .before .before .before .put-pair in
-    let b = paid-at (Whole (a .work .now) (reference2 .result) (a .w)) (a .work .now) (copy-part .last .0) (a .top) (a .fuel - 1) _ _ _ tail-is (copy-part .ensures) in
-    let h = paid-at (Whole (copy-part .last .0) (reference .result) (a .w)) (copy-part .last .0) (copy-part2 .last .0) _ _ _ _ _ head-is (copy-part2 .ensures) in
-    pays-packed (Whole (a .work .now) (a .node) (a .w)) (a .work .now) _ (a .top) (a .fuel) _ _ _ (pre .1 .room) (c .pair .ensures)
+    let b = paid-at (treeAt (a .work .now) (reference2 .result) (a .w)) (a .work .now) (copy-part .last .0) (a .top) (a .fuel - 1) _ _ _ tail-is (copy-part .ensures) in
+    let h = paid-at (treeAt (copy-part .last .0) (reference .result) (a .w)) (copy-part .last .0) (copy-part2 .last .0) _ _ _ _ _ head-is (copy-part2 .ensures) in
+    pays-packed (treeAt (a .work .now) (a .node) (a .w)) (a .work .now) _ (a .top) (a .fuel) _ _ _ (pre .1 .room) (c .pair .ensures)
     (copied-pair (a .work .now) (a .top) (a .fuel) (a .node) (a .w) _ (if2 .left) refl _ (word .ensures) _ _ (if1 .left) (reference .ensures) (reference2 .ensures) (pre .1) _ _ _ b (copy-part .kept .0) _ _ _ h _ _ (put-pair .ensures))
 
 pub +copy-part+copy-tree-spec : {M : Type 1} → statement M

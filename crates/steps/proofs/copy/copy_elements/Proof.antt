@@ -42,11 +42,11 @@ same-length-2 c =
 returns-2 : tie.Need-returns-2 Inv-loop μ-loop
 unfolding builtOf
 returns-2 c =
-    let a = c .before .before .before .before .before .before .before .before .before .before .before .args in element-costly (a .work .now) (a .top) (a .fuel) (a .list) (a .w) (a .c) (c .before .before .before .before .before .before .before .before .before .before .before .pre) _ _ _ _ _ (c .before .before .before .before .before .before .before .before .before .loop .inv) (c .before .before .before .before .before .before .before .before .loop-test .taken) (c .before .before .before .before .before .before .before .if1 .left) _ (c .before .before .before .before .before .first .ensures) _ (unpaid-at (λ items. treeAt items (c .before .before .before .before .before .before .before .before .before .loop .work) (c .before .before .before .before .before .first .result) (a .w)) (c .before .before .before .before .before .before .before .before .before .loop .work) (c .before .before .before .copy-part .last .0) (c .before .before .before .before .before .before .before .before .before .loop .at) (c .before .before .before .before .before .before .before .before .before .loop .left - 1) _ (built-none _ (c .if2 .taken)) (c .before .before .before .copy-part .ensures))
+    let a = c .before .before .before .before .before .before .before .before .before .before .before .args in element-costly (a .work .now) (a .top) (a .fuel) (a .list) (a .w) (a .c) (c .before .before .before .before .before .before .before .before .before .before .before .pre) _ _ _ _ _ (c .before .before .before .before .before .before .before .before .before .loop .inv) (c .before .before .before .before .before .before .before .before .loop-test .taken) (c .before .before .before .before .before .before .before .if1 .left) _ (c .before .before .before .before .before .first .ensures) _ (unpaid-at (treeAt (c .before .before .before .before .before .before .before .before .before .loop .work) (c .before .before .before .before .before .first .result) (a .w)) (c .before .before .before .before .before .before .before .before .before .loop .work) (c .before .before .before .copy-part .last .0) (c .before .before .before .before .before .before .before .before .before .loop .at) (c .before .before .before .before .before .before .before .before .before .loop .left - 1) _ (built-none _ (c .if2 .taken)) (c .before .before .before .copy-part .ensures))
 
 put-pair-requires : tie.Need-put-pair-requires Inv-loop μ-loop
 put-pair-requires c κs =
-    let a = c .before .before .before .before .before .before .before .before .before .before .before .before .before .before .before .args in let b = paid-at (λ items. treeAt items (c .before .before .before .before .before .before .before .before .before .before .before .before .before .loop .work) (c .before .before .before .before .before .before .before .before .before .first .result) (a .w)) (c .before .before .before .before .before .before .before .before .before .before .before .before .before .loop .work) (c .before .before .before .before .before .before .before .copy-part .last .0) (c .before .before .before .before .before .before .before .before .before .before .before .before .before .loop .at) (c .before .before .before .before .before .before .before .before .before .before .before .before .before .loop .left - 1) _ _ _ (built-some _ _ _ (c .before .before .before .before .if2 .left) (c .before .high .ensures) refl) (c .before .before .before .before .before .before .before .copy-part .ensures) in (element-room (a .work .now) (a .top) (a .fuel) (a .list) (a .w) (a .c) (c .before .before .before .before .before .before .before .before .before .before .before .before .before .before .before .pre) _ _ _ _ _ (c .before .before .before .before .before .before .before .before .before .before .before .before .before .loop .inv) (c .before .before .before .before .before .before .before .before .before .before .before .before .loop-test .taken) (c .before .before .before .before .before .before .before .before .before .before .before .if1 .left) _ (c .before .before .before .before .before .before .before .before .before .first .ensures) _ _ _ b (c .before .before .before .before .before .before .before .copy-part .kept .0), omega arith, b .above)
+    let a = c .before .before .before .before .before .before .before .before .before .before .before .before .before .before .before .args in let b = paid-at (treeAt (c .before .before .before .before .before .before .before .before .before .before .before .before .before .loop .work) (c .before .before .before .before .before .before .before .before .before .first .result) (a .w)) (c .before .before .before .before .before .before .before .before .before .before .before .before .before .loop .work) (c .before .before .before .before .before .before .before .copy-part .last .0) (c .before .before .before .before .before .before .before .before .before .before .before .before .before .loop .at) (c .before .before .before .before .before .before .before .before .before .before .before .before .before .loop .left - 1) _ _ _ (built-some _ _ _ (c .before .before .before .before .if2 .left) (c .before .high .ensures) refl) (c .before .before .before .before .before .before .before .copy-part .ensures) in (element-room (a .work .now) (a .top) (a .fuel) (a .list) (a .w) (a .c) (c .before .before .before .before .before .before .before .before .before .before .before .before .before .before .before .pre) _ _ _ _ _ (c .before .before .before .before .before .before .before .before .before .before .before .before .before .loop .inv) (c .before .before .before .before .before .before .before .before .before .before .before .before .loop-test .taken) (c .before .before .before .before .before .before .before .before .before .before .before .if1 .left) _ (c .before .before .before .before .before .before .before .before .before .first .ensures) _ _ _ b (c .before .before .before .before .before .before .before .copy-part .kept .0), omega arith, b .above)
 
 loop-less : tie.Need-loop-less Inv-loop μ-loop
 loop-less c =
@@ -54,7 +54,7 @@ loop-less c =
 
 loop-again : tie.Need-loop-again Inv-loop μ-loop
 loop-again c =
-    let a = c .before .before .before .before .before .before .before .before .before .before .before .before .before .before .before .before .before .before .before .args in going-more (a .work .now) (a .top) (a .fuel) (a .list) (a .w) (a .c) (c .before .before .before .before .before .before .before .before .before .before .before .before .before .before .before .before .before .before .before .pre) _ _ _ _ _ (c .before .before .before .before .before .before .before .before .before .before .before .before .before .before .before .before .before .loop .inv) (c .before .before .before .before .before .before .before .before .before .before .before .before .before .before .before .before .loop-test .taken) (c .before .before .before .before .before .before .before .before .before .before .before .before .before .before .before .if1 .left) _ (c .before .before .before .before .before .before .before .before .before .before .before .before .before .first .ensures) _ _ _ (paid-at (λ items. treeAt items (c .before .before .before .before .before .before .before .before .before .before .before .before .before .before .before .before .before .loop .work) (c .before .before .before .before .before .before .before .before .before .before .before .before .before .first .result) (a .w)) (c .before .before .before .before .before .before .before .before .before .before .before .before .before .before .before .before .before .loop .work) (c .before .before .before .before .before .before .before .before .before .before .before .copy-part .last .0) (c .before .before .before .before .before .before .before .before .before .before .before .before .before .before .before .before .before .loop .at) (c .before .before .before .before .before .before .before .before .before .before .before .before .before .before .before .before .before .loop .left - 1) _ _ _ (built-some _ _ _ (c .before .before .before .before .before .before .before .before .if2 .left) (c .before .before .before .before .before .high .ensures) (c .low .ensures)) (c .before .before .before .before .before .before .before .before .before .before .before .copy-part .ensures)) (c .before .before .before .before .before .before .before .before .before .before .before .copy-part .kept .0) _ (c .before .before .before .before .before .before .rest .ensures) _ _ (c .before .before .before .put-pair .ensures) (c .before .before .before .put-pair .kept .0)
+    let a = c .before .before .before .before .before .before .before .before .before .before .before .before .before .before .before .before .before .before .before .args in going-more (a .work .now) (a .top) (a .fuel) (a .list) (a .w) (a .c) (c .before .before .before .before .before .before .before .before .before .before .before .before .before .before .before .before .before .before .before .pre) _ _ _ _ _ (c .before .before .before .before .before .before .before .before .before .before .before .before .before .before .before .before .before .loop .inv) (c .before .before .before .before .before .before .before .before .before .before .before .before .before .before .before .before .loop-test .taken) (c .before .before .before .before .before .before .before .before .before .before .before .before .before .before .before .if1 .left) _ (c .before .before .before .before .before .before .before .before .before .before .before .before .before .first .ensures) _ _ _ (paid-at (treeAt (c .before .before .before .before .before .before .before .before .before .before .before .before .before .before .before .before .before .loop .work) (c .before .before .before .before .before .before .before .before .before .before .before .before .before .first .result) (a .w)) (c .before .before .before .before .before .before .before .before .before .before .before .before .before .before .before .before .before .loop .work) (c .before .before .before .before .before .before .before .before .before .before .before .copy-part .last .0) (c .before .before .before .before .before .before .before .before .before .before .before .before .before .before .before .before .before .loop .at) (c .before .before .before .before .before .before .before .before .before .before .before .before .before .before .before .before .before .loop .left - 1) _ _ _ (built-some _ _ _ (c .before .before .before .before .before .before .before .before .if2 .left) (c .before .before .before .before .before .high .ensures) (c .low .ensures)) (c .before .before .before .before .before .before .before .before .before .before .before .copy-part .ensures)) (c .before .before .before .before .before .before .before .before .before .before .before .copy-part .kept .0) _ (c .before .before .before .before .before .before .rest .ensures) _ _ (c .before .before .before .put-pair .ensures) (c .before .before .before .put-pair .kept .0)
 
 same-length-3 : tie.Need-same-length-3 Inv-loop μ-loop
 same-length-3 c =

@@ -30,50 +30,50 @@ use native.Mathlib.Omega.{arith}
 use borrow.Author.Needs.{needs}
 use mathlib.Core.Path.{refl, sym, _∙_}
 
-abbrev μ-each-fits : Measures 2 each-fits-kinds.ps ℕ
-μ-each-fits κs a = 4 * a .1 .1 .0 + 3
+abbrev μ-each-fits : Measures 1 each-fits-kinds.ps ℕ
+μ-each-fits κs a = 4 * a .1 .0 + 3
 
-abbrev μ-end-fits : Measures 2 end-fits-kinds.ps ℕ
-μ-end-fits κs a = 4 * a .1 .1 .0
+abbrev μ-end-fits : Measures 1 end-fits-kinds.ps ℕ
+μ-end-fits κs a = 4 * a .1 .0
 
-abbrev μ-fits : Measures 2 fits-kinds.ps ℕ
-μ-fits κs a = 4 * a .1 .1 .0 + 1
+abbrev μ-fits : Measures 1 fits-kinds.ps ℕ
+μ-fits κs a = 4 * a .1 .0 + 1
 
-abbrev μ-part-fits : Measures 2 part-fits-kinds.ps ℕ
-μ-part-fits κs a = 4 * a .1 .1 .0 + 2
+abbrev μ-part-fits : Measures 1 part-fits-kinds.ps ℕ
+μ-part-fits κs a = 4 * a .1 .0 + 2
 
-abbrev each-fits-at : ℕ → In 2 each-fits-kinds.ps
-each-fits-at t = and 2 each-fits-kinds.ps (is 2 each-fits-kinds.ps μ-each-fits t) each-fits.Pre
+abbrev each-fits-at : ℕ → In 1 each-fits-kinds.ps
+each-fits-at t = and 1 each-fits-kinds.ps (is 1 each-fits-kinds.ps μ-each-fits t) each-fits.Pre
 
-abbrev each-fits-below : ℕ → In 2 each-fits-kinds.ps
+abbrev each-fits-below : ℕ → In 1 each-fits-kinds.ps
 each-fits-below t =
-    and 2 each-fits-kinds.ps (falls 2 each-fits-kinds.ps _<_ μ-each-fits t) each-fits.Pre
+    and 1 each-fits-kinds.ps (falls 1 each-fits-kinds.ps _<_ μ-each-fits t) each-fits.Pre
 
-abbrev end-fits-at : ℕ → In 2 end-fits-kinds.ps
-end-fits-at t = and 2 end-fits-kinds.ps (is 2 end-fits-kinds.ps μ-end-fits t) end-fits.Pre
+abbrev end-fits-at : ℕ → In 1 end-fits-kinds.ps
+end-fits-at t = and 1 end-fits-kinds.ps (is 1 end-fits-kinds.ps μ-end-fits t) end-fits.Pre
 
-abbrev end-fits-below : ℕ → In 2 end-fits-kinds.ps
+abbrev end-fits-below : ℕ → In 1 end-fits-kinds.ps
 end-fits-below t =
-    and 2 end-fits-kinds.ps (falls 2 end-fits-kinds.ps _<_ μ-end-fits t) end-fits.Pre
+    and 1 end-fits-kinds.ps (falls 1 end-fits-kinds.ps _<_ μ-end-fits t) end-fits.Pre
 
-abbrev fits-at : ℕ → In 2 fits-kinds.ps
-fits-at t = and 2 fits-kinds.ps (is 2 fits-kinds.ps μ-fits t) fits.Pre
+abbrev fits-at : ℕ → In 1 fits-kinds.ps
+fits-at t = and 1 fits-kinds.ps (is 1 fits-kinds.ps μ-fits t) fits.Pre
 
-abbrev fits-below : ℕ → In 2 fits-kinds.ps
-fits-below t = and 2 fits-kinds.ps (falls 2 fits-kinds.ps _<_ μ-fits t) fits.Pre
+abbrev fits-below : ℕ → In 1 fits-kinds.ps
+fits-below t = and 1 fits-kinds.ps (falls 1 fits-kinds.ps _<_ μ-fits t) fits.Pre
 
-abbrev part-fits-at : ℕ → In 2 part-fits-kinds.ps
-part-fits-at t = and 2 part-fits-kinds.ps (is 2 part-fits-kinds.ps μ-part-fits t) part-fits.Pre
+abbrev part-fits-at : ℕ → In 1 part-fits-kinds.ps
+part-fits-at t = and 1 part-fits-kinds.ps (is 1 part-fits-kinds.ps μ-part-fits t) part-fits.Pre
 
-abbrev part-fits-below : ℕ → In 2 part-fits-kinds.ps
+abbrev part-fits-below : ℕ → In 1 part-fits-kinds.ps
 part-fits-below t =
-    and 2 part-fits-kinds.ps (falls 2 part-fits-kinds.ps _<_ μ-part-fits t) part-fits.Pre
+    and 1 part-fits-kinds.ps (falls 1 part-fits-kinds.ps _<_ μ-part-fits t) part-fits.Pre
 
 abbrev each-fits-Inv-loop : each-fits-lts.InvT-loop
-each-fits-Inv-loop items work e list w node₀ node = Matched items work e list w node
+each-fits-Inv-loop work e list w node₀ node = Matched work e list w node
 
 abbrev each-fits-μ-loop : each-fits-lts.MeasureT-loop
-each-fits-μ-loop items work e list w node₀ node = node
+each-fits-μ-loop work e list w node₀ node = node
 
 abbrev each-fits-claims : ℕ → each-fits-lts.Claims
 each-fits-claims t = (word-reads.Asked, word-reads.Learnt, reference-reads.Asked, reference-reads.Learnt, part-fits-below t, part-fits.Post)
@@ -82,10 +82,10 @@ abbrev end-fits-claims : ℕ → end-fits-lts.Claims
 end-fits-claims t = (word-reads.Asked, word-reads.Learnt, literal-fits-reads.Asked, literal-fits-reads.Learnt, constant-fits-reads.Asked, constant-fits-reads.Learnt, reference-reads.Asked, reference-reads.Learnt, each-fits-below t, each-fits.Post)
 
 abbrev fits-Inv-loop : fits-lts.InvT-loop
-fits-Inv-loop items work p u w at₀ node₀ at node = Along items work p u w at node
+fits-Inv-loop work p u w at₀ node₀ at node = Along work p u w at node
 
 abbrev fits-μ-loop : fits-lts.MeasureT-loop
-fits-μ-loop items work p u w at₀ node₀ at node = at
+fits-μ-loop work p u w at₀ node₀ at node = at
 
 abbrev fits-claims : ℕ → fits-lts.Claims
 fits-claims t = (word-reads.Asked, word-reads.Learnt, reference-reads.Asked, reference-reads.Learnt, part-fits-below t, part-fits.Post, end-fits-below t, end-fits.Post)
@@ -103,17 +103,17 @@ each-fits-part-fits-requires t c κs =
 
 each-fits-returns : (t : ℕ) → each-fits-lts.Need-returns (each-fits-claims t) (each-fits-at t) each-fits.Post each-fits-Inv-loop each-fits-μ-loop
 each-fits-returns t c =
-    let a = c .before .before .before .before .before .before .before .before .args in
+    let a = c .before .before .before .before .before .before .before .args in
     let loop = c .before .before .before .before .before .loop in
     let word = c .before .before .before .before .word in
     let if1 = c .before .before .before .if1 in
     let reference = c .before .before .reference in
     let part-fits = c .before .part-fits in
-    each-no (a .items .now) (a .work .now) (a .e) (a .list) (a .w) (loop .node) _ (word .ensures) (loop .inv) _ _ (if1 .taken) (reference .ensures) (part-fits .ensures) (not-true _ (c .if2 .taken))
+    each-no (a .work .now) (a .e) (a .list) (a .w) (loop .node) _ (word .ensures) (loop .inv) _ _ (if1 .taken) (reference .ensures) (part-fits .ensures) (not-true _ (c .if2 .taken))
 
 each-fits-loop-less : (t : ℕ) → each-fits-lts.Need-loop-less (each-fits-claims t) (each-fits-at t) each-fits.Post each-fits-Inv-loop each-fits-μ-loop
 each-fits-loop-less t c =
-    let a = c .before .before .before .before .before .before .before .before .before .args in
+    let a = c .before .before .before .before .before .before .before .before .args in
     let loop = c .before .before .before .before .before .before .loop in
     let word = c .before .before .before .before .before .word in
     let if1 = c .before .before .before .before .if1 in
@@ -121,96 +121,96 @@ each-fits-loop-less t c =
 
 each-fits-loop-again : (t : ℕ) → each-fits-lts.Need-loop-again (each-fits-claims t) (each-fits-at t) each-fits.Post each-fits-Inv-loop each-fits-μ-loop
 each-fits-loop-again t c =
-    let a = c .before .before .before .before .before .before .before .before .before .args in
+    let a = c .before .before .before .before .before .before .before .before .args in
     let loop = c .before .before .before .before .before .before .loop in
     let word = c .before .before .before .before .before .word in
     let if1 = c .before .before .before .before .if1 in
     let reference = c .before .before .before .reference in
     let part-fits = c .before .before .part-fits in
     let if2 = c .before .if2 in
-    each-more (a .items .now) (a .work .now) (a .e) (a .list) (a .w) (loop .node) _ (word .ensures) (loop .inv) _ _ (if1 .taken) (reference .ensures) (part-fits .ensures) _ (not-false _ (if2 .left)) (c .reference2 .ensures)
+    each-more (a .work .now) (a .e) (a .list) (a .w) (loop .node) _ (word .ensures) (loop .inv) _ _ (if1 .taken) (reference .ensures) (part-fits .ensures) _ (not-false _ (if2 .left)) (c .reference2 .ensures)
 
 each-fits-returns-2 : (t : ℕ) → each-fits-lts.Need-returns-2 (each-fits-claims t) (each-fits-at t) each-fits.Post each-fits-Inv-loop each-fits-μ-loop
 each-fits-returns-2 t c =
-    let a = c .before .before .before .before .before .before .args in
+    let a = c .before .before .before .before .before .args in
     let loop = c .before .before .before .loop in
     let word = c .before .before .word in
     let if1 = c .before .if1 in
-    each-ends (a .items .now) (a .work .now) (a .e) (a .list) (a .w) (loop .node) _ (c .word2 .ensures) (loop .inv) (λ z. if1 .left (word .ensures ∙ sym (c .word2 .ensures) ∙ z))
+    each-ends (a .work .now) (a .e) (a .list) (a .w) (loop .node) _ (c .word2 .ensures) (loop .inv) (λ z. if1 .left (word .ensures ∙ sym (c .word2 .ensures) ∙ z))
 
 end-fits-returns : (t : ℕ) → end-fits-lts.Need-returns (end-fits-claims t) (end-fits-at t) end-fits.Post
 end-fits-returns t c =
-    let a = c .before .before .before .before .args in
+    let a = c .before .before .before .args in
     let word = c .before .word in
-    fits-variable (a .items .now) (a .work .now) (a .p) _ (word .ensures) (a .u) (a .w) (c .if1 .taken)
+    fits-variable (a .work .now) (a .p) _ (word .ensures) (a .u) (a .w) (c .if1 .taken)
 
 end-fits-returns-2 : (t : ℕ) → end-fits-lts.Need-returns-2 (end-fits-claims t) (end-fits-at t) end-fits.Post
 end-fits-returns-2 t c =
-    let a = c .before .before .before .before .before .before .args in
+    let a = c .before .before .before .before .before .args in
     let word = c .before .before .before .word in
     let if2 = c .before .if2 in
     let literal-fits = c .literal-fits in
-    fits-literal (a .items .now) (a .work .now) (a .p) _ (word .ensures) (a .u) (a .w) _ (if2 .taken) (literal-fits .ensures)
+    fits-literal (a .work .now) (a .p) _ (word .ensures) (a .u) (a .w) _ (if2 .taken) (literal-fits .ensures)
 
 end-fits-returns-3 : (t : ℕ) → end-fits-lts.Need-returns-3 (end-fits-claims t) (end-fits-at t) end-fits.Post
 end-fits-returns-3 t c =
-    let a = c .before .before .before .before .before .before .args in
+    let a = c .before .before .before .before .before .args in
     let word = c .before .before .before .word in
-    fits-wildcard (a .items .now) (a .work .now) (a .p) _ (word .ensures) (a .u) (a .w) (c .if3 .taken)
+    fits-wildcard (a .work .now) (a .p) _ (word .ensures) (a .u) (a .w) (c .if3 .taken)
 
 end-fits-returns-4 : (t : ℕ) → end-fits-lts.Need-returns-4 (end-fits-claims t) (end-fits-at t) end-fits.Post
 end-fits-returns-4 t c =
-    let a = c .before .before .before .before .before .before .before .before .args in
+    let a = c .before .before .before .before .before .before .before .args in
     let word = c .before .before .before .before .before .word in
     let if4 = c .before .if4 in
-    fits-constant (a .items .now) (a .work .now) (a .p) _ (word .ensures) (a .u) (a .w) _ (if4 .taken) (c .constant-fits .ensures)
+    fits-constant (a .work .now) (a .p) _ (word .ensures) (a .u) (a .w) _ (if4 .taken) (c .constant-fits .ensures)
 
 end-fits-each-fits-requires : (t : ℕ) → end-fits-lts.Need-each-fits-requires (end-fits-claims t) (end-fits-at t) end-fits.Post
 end-fits-each-fits-requires t c κs =
-    let a = c .before .before .before .before .before .before .before .before .before .args in
-    let pre = c .before .before .before .before .before .before .before .before .before .pre in
+    let a = c .before .before .before .before .before .before .before .before .args in
+    let pre = c .before .before .before .before .before .before .before .before .pre in
     let word = c .before .before .before .before .before .before .word in
     let reference = c .reference in
     (omega (arith, tag-falls (a .work .now) (a .p) _ (word .ensures) 2 _ (λ z. omega arith) (reference .ensures)), tt)
 
 end-fits-returns-5 : (t : ℕ) → end-fits-lts.Need-returns-5 (end-fits-claims t) (end-fits-at t) end-fits.Post
 end-fits-returns-5 t c =
-    let a = c .before .before .before .before .before .before .before .before .before .before .args in
+    let a = c .before .before .before .before .before .before .before .before .before .args in
     let word = c .before .before .before .before .before .before .before .word in
     let if5 = c .before .before .if5 in
     let reference = c .before .reference in
     let each-fits = c .each-fits in
-    fits-ellipsis (a .items .now) (a .work .now) (a .p) _ (word .ensures) (a .u) (a .w) _ _ (if5 .taken) (reference .ensures) (each-fits .ensures)
+    fits-ellipsis (a .work .now) (a .p) _ (word .ensures) (a .u) (a .w) _ _ (if5 .taken) (reference .ensures) (each-fits .ensures)
 
 end-fits-returns-6 : (t : ℕ) → end-fits-lts.Need-returns-6 (end-fits-claims t) (end-fits-at t) end-fits.Post
 end-fits-returns-6 t c =
-    let a = c .before .before .before .before .before .before .before .before .before .args in
-    let pre = c .before .before .before .before .before .before .before .before .before .pre in
+    let a = c .before .before .before .before .before .before .before .before .args in
+    let pre = c .before .before .before .before .before .before .before .before .pre in
     let word = c .before .before .before .before .before .before .word in
     let if1 = c .before .before .before .before .before .if1 in
     let if2 = c .before .before .before .before .if2 in
     let if3 = c .before .before .before .if3 in
     let if4 = c .before .before .if4 in
     let if5 = c .before .if5 in
-    fits-empty (a .items .now) (a .work .now) (a .p) _ (word .ensures) (a .u) (a .w) _ (c .word2 .ensures) (if1 .left) (if2 .left) (if3 .left) (if4 .left) (pre .1) (if5 .left)
+    fits-empty (a .work .now) (a .p) _ (word .ensures) (a .u) (a .w) _ (c .word2 .ensures) (if1 .left) (if2 .left) (if3 .left) (if4 .left) (pre .1) (if5 .left)
 
 fits-loop-holds : (t : ℕ) → fits-lts.Need-loop-holds (fits-claims t) (fits-at t) fits.Post fits-Inv-loop fits-μ-loop
 fits-loop-holds t c =
-    let a = c .before .before .args in
-    along-begins (a .items .now) (a .work .now) (a .p) (a .u) (a .w)
+    let a = c .before .args in
+    along-begins (a .work .now) (a .p) (a .u) (a .w)
 
 fits-returns : (t : ℕ) → fits-lts.Need-returns (fits-claims t) (fits-at t) fits.Post fits-Inv-loop fits-μ-loop
 fits-returns t c =
-    let a = c .before .before .before .before .before .before .before .args in
+    let a = c .before .before .before .before .before .before .args in
     let loop = c .before .before .before .before .loop in
     let word = c .before .before .before .word in
     let if1 = c .before .before .if1 in
     let word2 = c .before .word2 in
-    along-ends (a .items .now) (a .work .now) (a .p) (a .u) (a .w) (loop .at) (loop .node) (loop .inv) _ (fits-no-pair (a .items .now) (a .work .now) (loop .at) _ (word .ensures) (loop .node) (a .w) _ (word2 .ensures) (if1 .taken) (c .if2 .taken))
+    along-ends (a .work .now) (a .p) (a .u) (a .w) (loop .at) (loop .node) (loop .inv) _ (fits-no-pair (a .work .now) (loop .at) _ (word .ensures) (loop .node) (a .w) _ (word2 .ensures) (if1 .taken) (c .if2 .taken))
 
 fits-part-fits-requires : (t : ℕ) → fits-lts.Need-part-fits-requires (fits-claims t) (fits-at t) fits.Post fits-Inv-loop fits-μ-loop
 fits-part-fits-requires t c κs =
-    let a = c .before .before .before .before .before .before .before .before .before .args in
+    let a = c .before .before .before .before .before .before .before .before .args in
     let loop = c .before .before .before .before .before .before .loop in
     let word = c .before .before .before .before .before .word in
     let reference = c .before .reference in
@@ -218,7 +218,7 @@ fits-part-fits-requires t c κs =
 
 fits-returns-2 : (t : ℕ) → fits-lts.Need-returns-2 (fits-claims t) (fits-at t) fits.Post fits-Inv-loop fits-μ-loop
 fits-returns-2 t c =
-    let a = c .before .before .before .before .before .before .before .before .before .before .before .args in
+    let a = c .before .before .before .before .before .before .before .before .before .before .args in
     let loop = c .before .before .before .before .before .before .before .before .loop in
     let word = c .before .before .before .before .before .before .before .word in
     let if1 = c .before .before .before .before .before .before .if1 in
@@ -227,11 +227,11 @@ fits-returns-2 t c =
     let reference = c .before .before .before .reference in
     let reference2 = c .before .before .reference2 in
     let part-fits = c .before .part-fits in
-    along-ends (a .items .now) (a .work .now) (a .p) (a .u) (a .w) (loop .at) (loop .node) (loop .inv) _ (fits-head-no (a .items .now) (a .work .now) (loop .at) _ (word .ensures) (loop .node) (a .w) _ (word2 .ensures) _ _ _ (if1 .taken) (if2 .left) (reference .ensures) (reference2 .ensures) (part-fits .ensures) (not-true _ (c .if3 .taken)))
+    along-ends (a .work .now) (a .p) (a .u) (a .w) (loop .at) (loop .node) (loop .inv) _ (fits-head-no (a .work .now) (loop .at) _ (word .ensures) (loop .node) (a .w) _ (word2 .ensures) _ _ _ (if1 .taken) (if2 .left) (reference .ensures) (reference2 .ensures) (part-fits .ensures) (not-true _ (c .if3 .taken)))
 
 fits-loop-less : (t : ℕ) → fits-lts.Need-loop-less (fits-claims t) (fits-at t) fits.Post fits-Inv-loop fits-μ-loop
 fits-loop-less t c =
-    let a = c .before .before .before .before .before .before .before .before .before .before .before .before .before .args in
+    let a = c .before .before .before .before .before .before .before .before .before .before .before .before .args in
     let loop = c .before .before .before .before .before .before .before .before .before .before .loop in
     let word = c .before .before .before .before .before .before .before .before .before .word in
     let reference3 = c .before .reference3 in
@@ -239,7 +239,7 @@ fits-loop-less t c =
 
 fits-loop-again : (t : ℕ) → fits-lts.Need-loop-again (fits-claims t) (fits-at t) fits.Post fits-Inv-loop fits-μ-loop
 fits-loop-again t c =
-    let a = c .before .before .before .before .before .before .before .before .before .before .before .before .before .args in
+    let a = c .before .before .before .before .before .before .before .before .before .before .before .before .args in
     let loop = c .before .before .before .before .before .before .before .before .before .before .loop in
     let word = c .before .before .before .before .before .before .before .before .before .word in
     let if1 = c .before .before .before .before .before .before .before .before .if1 in
@@ -250,7 +250,7 @@ fits-loop-again t c =
     let part-fits = c .before .before .before .part-fits in
     let if3 = c .before .before .if3 in
     let reference3 = c .before .reference3 in
-    along-more (a .items .now) (a .work .now) (a .p) (a .u) (a .w) (loop .at) (loop .node) (loop .inv) _ _ (reference3 .ensures) (fits-tail (a .items .now) (a .work .now) (loop .at) _ (word .ensures) (loop .node) (a .w) _ (word2 .ensures) _ _ _ (if1 .taken) (if2 .left) (reference .ensures) (reference2 .ensures) (part-fits .ensures) _ _ (not-false _ (if3 .left)) (reference3 .ensures) (c .reference4 .ensures))
+    along-more (a .work .now) (a .p) (a .u) (a .w) (loop .at) (loop .node) (loop .inv) _ _ (reference3 .ensures) (fits-tail (a .work .now) (loop .at) _ (word .ensures) (loop .node) (a .w) _ (word2 .ensures) _ _ _ (if1 .taken) (if2 .left) (reference .ensures) (reference2 .ensures) (part-fits .ensures) _ _ (not-false _ (if3 .left)) (reference3 .ensures) (c .reference4 .ensures))
 
 fits-end-fits-requires : (t : ℕ) → fits-lts.Need-end-fits-requires (fits-claims t) (fits-at t) fits.Post fits-Inv-loop fits-μ-loop
 fits-end-fits-requires t c κs =
@@ -261,20 +261,20 @@ fits-end-fits-requires t c κs =
 
 fits-returns-3 : (t : ℕ) → fits-lts.Need-returns-3 (fits-claims t) (fits-at t) fits.Post fits-Inv-loop fits-μ-loop
 fits-returns-3 t c =
-    let a = c .before .before .before .before .before .before .args in
+    let a = c .before .before .before .before .before .args in
     let loop = c .before .before .before .loop in
     let end-fits = c .end-fits in
-    along-ends (a .items .now) (a .work .now) (a .p) (a .u) (a .w) (loop .at) (loop .node) (loop .inv) _ (end-fits .ensures)
+    along-ends (a .work .now) (a .p) (a .u) (a .w) (loop .at) (loop .node) (loop .inv) _ (end-fits .ensures)
 
 part-fits-returns : (t : ℕ) → part-fits-lts.Need-returns (part-fits-claims t) (part-fits-at t) part-fits.Post
 part-fits-returns t c =
-    let a = c .before .before .before .before .args in
+    let a = c .before .before .before .args in
     let word = c .before .word in
-    fits-variable (a .items .now) (a .work .now) (a .p) _ (word .ensures) (a .u) (a .w) (c .if1 .taken)
+    fits-variable (a .work .now) (a .p) _ (word .ensures) (a .u) (a .w) (c .if1 .taken)
 
 part-fits-fits-requires : (t : ℕ) → part-fits-lts.Need-fits-requires (part-fits-claims t) (part-fits-at t) part-fits.Post
 part-fits-fits-requires t c κs =
-    let pre = c .before .before .before .before .pre in
+    let pre = c .before .before .before .pre in
     (omega arith, pre .1)
 
 part-fits-returns-2 : (t : ℕ) → part-fits-lts.Need-returns-2 (part-fits-claims t) (part-fits-at t) part-fits.Post

@@ -9,7 +9,7 @@ word-requires c κs = search needs
 
 returns : tie.Need-returns
 returns c =
-    let a = c .before .before .before .before .args in literal-no-name (a .items .now) (a .work .now) (a .u) (a .w) _ (c .before .word .ensures) (a .p) (c .if1 .taken)
+    let a = c .before .before .before .args in literal-no-name (a .work .now) (a .u) (a .w) _ (c .before .word .ensures) (a .p) (c .if1 .taken)
 
 word-requires-2 : tie.Need-word-requires-2
 word-requires-2 c κs = search needs
@@ -22,7 +22,7 @@ agrees-requires c κs = search needs
 
 returns-2 : tie.Need-returns-2
 returns-2 c =
-    let a = c .before .before .before .before .before .before .before .args in literal-name (a .items .now) (a .work .now) (a .u) (a .w) _ (c .before .before .before .before .word .ensures) (a .p) _ _ _ (c .before .before .before .if1 .left) (c .before .before .word2 .ensures) (c .before .word3 .ensures) (c .agrees .ensures)
+    let a = c .before .before .before .before .before .before .args in literal-name (a .work .now) (a .u) (a .w) _ (c .before .before .before .before .word .ensures) (a .p) _ _ _ (c .before .before .before .if1 .left) (c .before .before .word2 .ensures) (c .before .word3 .ensures) (c .agrees .ensures)
 
 pub literal-fits-spec : {M : Type 1} → statement M
 literal-fits-spec =

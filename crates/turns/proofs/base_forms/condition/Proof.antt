@@ -18,7 +18,7 @@ refuse-requires c κs =
 -- src/base_forms.rt:53:9
 returns : tie.Need-returns
 returns c =
-    ((λ items u. sym (c .before .before .is-list-of .ensures items u) ∙ not-true _ (c .before .if1 .taken)), c .refuse .ensures)
+    ((λ u. sym (c .before .before .is-list-of .ensures u) ∙ not-true _ (c .before .if1 .taken)), c .refuse .ensures)
 
 -- src/base_forms.rt:58:18
 put-if-requires : tie.Need-put-if-requires
@@ -33,7 +33,7 @@ same-length c =
 -- src/base_forms.rt:41:1
 returns-2 : tie.Need-returns-2
 returns-2 c =
-    (refl, refl, (λ items u. sym (c .before .before .before .before .before .is-list-of .ensures items u) ∙ not-false _ (c .before .before .before .before .if1 .left)), c .before .before .put-if .ensures)
+    (refl, refl, (λ u. sym (c .before .before .before .before .before .is-list-of .ensures u) ∙ not-false _ (c .before .before .before .before .if1 .left)), c .before .before .put-if .ensures)
 
 pub condition-spec : {M : Type 1} → statement M
 condition-spec =

@@ -9,26 +9,26 @@ use Rattle.turns.specs.LambdaLaws.{lambda-proper, lambda-unshaped, lambd
 
 returns : tie.Need-returns
 returns c =
-    let a = c .before .before .before .before .before .before .before .args in
-    lambda-unshaped (treeAt (a .items .now) (a .work .now) (a .node) (a .wrap)) (a .reached) _ (sym (c .before .before .is-lambda .ensures (a .wrap)) ∙ not-true _ (c .before .if1 .taken)) (c .refuse .ensures)
+    let a = c .before .before .before .before .before .before .args in
+    lambda-unshaped (treeAt (a .work .now) (a .node) (a .wrap)) (a .reached) _ (sym (c .before .before .is-lambda .ensures (a .wrap)) ∙ not-true _ (c .before .if1 .taken)) (c .refuse .ensures)
 
 formals-distinct-requires : tie.Need-formals-distinct-requires
 formals-distinct-requires c κs =
-    let a = c .before .before .before .before .before .before .before .args in ((sym (c .before .before .is-lambda .ensures (a .wrap)) ∙ not-false _ (c .before .if1 .left)), lambda-proper (a .items .now) (a .work .now) (a .core .now) (a .node) (a .wrap) (a .reached) (c .before .before .before .before .before .before .before .pre) (sym (c .before .before .is-lambda .ensures (a .wrap)) ∙ not-false _ (c .before .if1 .left)))
+    let a = c .before .before .before .before .before .before .args in ((sym (c .before .before .is-lambda .ensures (a .wrap)) ∙ not-false _ (c .before .if1 .left)), lambda-proper (a .work .now) (a .core .now) (a .node) (a .wrap) (a .reached) (c .before .before .before .before .before .before .pre) (sym (c .before .before .is-lambda .ensures (a .wrap)) ∙ not-false _ (c .before .if1 .left)))
 
 returns-2 : tie.Need-returns-2
 returns-2 c =
-    let a = c .before .before .before .before .before .before .before .before .before .before .args in
-    lambda-alike (treeAt (a .items .now) (a .work .now) (a .node) (a .wrap)) (a .reached) _ (sym (c .before .before .before .before .before .is-lambda .ensures (a .wrap)) ∙ not-false _ (c .before .before .before .before .if1 .left)) (sym (c .before .before .formals-distinct .ensures) ∙ not-true _ (c .before .if2 .taken)) (c .refuse2 .ensures)
+    let a = c .before .before .before .before .before .before .before .before .before .args in
+    lambda-alike (treeAt (a .work .now) (a .node) (a .wrap)) (a .reached) _ (sym (c .before .before .before .before .before .is-lambda .ensures (a .wrap)) ∙ not-false _ (c .before .before .before .before .if1 .left)) (sym (c .before .before .formals-distinct .ensures) ∙ not-true _ (c .before .if2 .taken)) (c .refuse2 .ensures)
 
 lambda-body-requires : tie.Need-lambda-body-requires
 lambda-body-requires c κs =
-    let a = c .before .before .before .before .before .before .before .before .before .before .before .args in (c .before .before .before .before .before .before .before .before .before .before .before .pre, sym (c .before .before .before .before .before .before .is-lambda .ensures (a .wrap)) ∙ not-false _ (c .before .before .before .before .before .if1 .left))
+    let a = c .before .before .before .before .before .before .before .before .before .before .args in (c .before .before .before .before .before .before .before .before .before .before .pre, sym (c .before .before .before .before .before .before .is-lambda .ensures (a .wrap)) ∙ not-false _ (c .before .before .before .before .before .if1 .left))
 
 returns-3 : tie.Need-returns-3
 returns-3 c =
-    let a = c .before .before .before .before .before .before .before .before .before .before .before .before .before .before .before .before .args in
-    lambda-left (treeAt (a .items .now) (a .work .now) (a .node) (a .wrap)) (a .reached) (a .items .now) (a .work .now) (c .before .before .before .before .lambda-body .last .1 .0) (a .core .now) (c .before .before .before .before .lambda-body .last .1 .1 .0) (c .before .before .before .before .lambda-body .result) (sym (c .before .before .before .before .before .before .before .before .before .before .before .is-lambda .ensures (a .wrap)) ∙ not-false _ (c .before .before .before .before .before .before .before .before .before .before .if1 .left)) (sym (c .before .before .before .before .before .before .before .before .formals-distinct .ensures) ∙ not-false _ (c .before .before .before .before .before .before .before .if2 .left)) (c .before .before .before .before .lambda-body .ensures)
+    let a = c .before .before .before .before .before .before .before .before .before .before .before .before .before .before .before .args in
+    lambda-left (treeAt (a .work .now) (a .node) (a .wrap)) (a .reached) (a .work .now) (c .before .before .before .before .lambda-body .last .0) (a .core .now) (c .before .before .before .before .lambda-body .last .1 .0) (c .before .before .before .before .lambda-body .result) (sym (c .before .before .before .before .before .before .before .before .before .before .before .is-lambda .ensures (a .wrap)) ∙ not-false _ (c .before .before .before .before .before .before .before .before .before .before .if1 .left)) (sym (c .before .before .before .before .before .before .before .before .formals-distinct .ensures) ∙ not-false _ (c .before .before .before .before .before .before .before .if2 .left)) (c .before .before .before .before .lambda-body .ensures)
 
 pub lambda-spec : {M : Type 1} → statement M
 lambda-spec =

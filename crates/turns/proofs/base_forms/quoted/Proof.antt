@@ -20,7 +20,7 @@ refuse-requires c κs =
 -- src/base_forms.rt:26:9
 returns : tie.Need-returns
 returns c =
-    let a = c .before .before .before .before .before .before .args in quote-refused (a .items .now) (a .work .now) (a .core .now) (a .node) (a .reached) _ (λ w. sym (c .before .before .is-list-of .ensures (a .items .now) w) ∙ not-true _ (c .before .if1 .taken)) (c .refuse .ensures)
+    let a = c .before .before .before .before .before .args in quote-refused (a .work .now) (a .core .now) (a .node) (a .reached) _ (λ w. sym (c .before .before .is-list-of .ensures w) ∙ not-true _ (c .before .if1 .taken)) (c .refuse .ensures)
 
 -- src/base_forms.rt:28:9
 element-requires : tie.Need-element-requires
@@ -35,12 +35,12 @@ cast-quote c =
 -- src/base_forms.rt:29:9
 quote-requires : tie.Need-quote-requires
 quote-requires c κs =
-    let a = c .before .before .before .before .before .before .before .before .args in quote-room (a .items .now) (a .work .now) (a .core .now) (a .node) (a .reached) _ (c .before .before .element .ensures) (c .before .before .before .before .before .before .before .before .pre)
+    let a = c .before .before .before .before .before .before .before .args in quote-room (a .work .now) (a .core .now) (a .node) (a .reached) _ (c .before .before .element .ensures) (c .before .before .before .before .before .before .before .pre)
 
 -- src/base_forms.rt:32:13
-cast-t13 : tie.Need-cast-t13
-cast-t13 c =
-    let a = c .before .before .before .before .before .before .before .before .before .before .before .args in record { fits = quote-small (a .items .now) (a .work .now) (a .core .now) (a .node) (a .reached) _ (c .before .before .before .before .before .element .ensures) (c .before .before .before .before .before .before .before .before .before .before .before .pre) _ (c .before .before .quote .ensures .end) }
+cast-t12 : tie.Need-cast-t12
+cast-t12 c =
+    let a = c .before .before .before .before .before .before .before .before .before .before .args in record { fits = quote-small (a .work .now) (a .core .now) (a .node) (a .reached) _ (c .before .before .before .before .before .element .ensures) (c .before .before .before .before .before .before .before .before .before .before .pre) _ (c .before .before .quote .ensures .end) }
 
 -- src/base_forms.rt:21:1
 same-length : tie.Need-same-length
@@ -51,7 +51,7 @@ same-length c =
 returns-2 : tie.Need-returns-2
 unfolding moved
 returns-2 c =
-    let a = c .before .before .before .before .before .before .before .before .before .before .before .args in quote-made (a .items .now) (a .work .now) (a .core .now) (a .node) (a .reached) _ (c .before .before .before .before .before .element .ensures) _ _ (λ w. sym (c .before .before .before .before .before .before .before .is-list-of .ensures (a .items .now) w) ∙ not-false _ (c .before .before .before .before .before .before .if1 .left)) (c .before .before .quote .ensures)
+    let a = c .before .before .before .before .before .before .before .before .before .before .args in quote-made (a .work .now) (a .core .now) (a .node) (a .reached) _ (c .before .before .before .before .before .element .ensures) _ _ (λ w. sym (c .before .before .before .before .before .before .before .is-list-of .ensures w) ∙ not-false _ (c .before .before .before .before .before .before .if1 .left)) (c .before .before .quote .ensures)
 
 pub quoted-spec : {M : Type 1} → statement M
 quoted-spec =
@@ -63,6 +63,6 @@ quoted-spec =
     element-requires
     cast-quote
     quote-requires
-    cast-t13
+    cast-t12
     same-length
     returns-2)

@@ -3,74 +3,72 @@ use borrow.Author.Needs.{needs}
 use Rattle.turns.proofs.dispatch.named.Statement.{statement}
 use Rattle.turns.proofs.dispatch.named.Tie as tie
 use mathlib.Core.Path.{ap, sym, _∙_}
-use Rattle.expansion.specs.Lookup.{lookup}
 use Rattle.arena.specs.Arena.{nameAt}
-use Rattle.turns.specs.Turns.{operationsOf}
-use Rattle.turns.specs.Leaves.{knownOf}
-use Rattle.turns.specs.LeafLaws.{found-by, nothing-by}
+use Rattle.resolution.specs.Names.{meansOf, lookupIn}
+use Rattle.turns.specs.LeafLaws.{lookup-in, found-by, nothing-by}
 use Rattle.turns.specs.ReadyLaws.{ready-use}
 use Rattle.turns.specs.DispatchLaws.{application-room, form-room, nothing-turned, variable-turned, operation-turned, macro-turned, form-heads}
 
 returns : tie.Need-returns
 returns c =
-    let a = c .before .before .before .before .before .before .before .before .before .before .args in
-    let x = nameAt (a .items .now) (a .work .now) (a .head) (a .wrap) in
-    nothing-turned (a .items .now) (a .work .now) (a .core .now) (a .known .now) (a .fuel) (a .node) (a .tail) (a .wrap) (a .reached) x (c .before .before .before .before .before .before .before .before .before .before .pre .3) (c .before .before .before .before .before .before .before .before .before .before .pre .1) (c .before .before .before .before .before .before .before .before .before .before .pre .2) _
-    (nothing-by (lookup (operationsOf (a .items .now)) x) _ (c .before .before .before .look .ensures) (c .before .enum-told .given .1)) (c .refuse .ensures)
+    let a = c .before .before .before .before .before .before .before .before .before .args in
+    let x = nameAt (a .work .now) (a .head) (a .wrap) in
+    λ operations lent. nothing-turned operations (a .work .now) (a .core .now) (a .known .now) (a .fuel) (a .node) (a .tail) (a .wrap) (a .reached) x (c .before .before .before .before .before .before .before .before .before .pre .2) (c .before .before .before .before .before .before .before .before .before .pre .0) (c .before .before .before .before .before .before .before .before .before .pre .1) _
+    (nothing-by (lookupIn (a .operations .now) x) _ (c .before .before .before .lookup .ensures) (c .before .enum-told .given .1) ∙ lookup-in operations (a .operations .now) x lent) (c .refuse .ensures)
 
 put-application-requires : tie.Need-put-application-requires
 put-application-requires c κs =
-    let a = c .before .before .before .before .before .before .before .before .before .before .before .before .before .before .before .args in
-    application-room (a .items .now) (a .work .now) (a .core .now) (a .known .now) (a .fuel) (a .node) (a .wrap) (a .reached) (c .before .before .before .before .before .before .before .before .before .before .before .before .before .before .before .pre .2) (c .before .before .before .before .before .before .before .before .before .before .before .before .before .before .before .pre .1) (a .tail) _ (c .before .before .before .before .before .before .before .before .before .before .before .before .before .before .before .pre .3)
+    let a = c .before .before .before .before .before .before .before .before .before .before .before .before .before .before .args in
+    application-room (a .work .now) (a .core .now) (a .known .now) (a .fuel) (a .node) (a .wrap) (a .reached) (c .before .before .before .before .before .before .before .before .before .before .before .before .before .before .pre .1) (c .before .before .before .before .before .before .before .before .before .before .before .before .before .before .pre .0) (a .tail) _ (c .before .before .before .before .before .before .before .before .before .before .before .before .before .before .pre .2)
 
 put-application-requires-2 : tie.Need-put-application-requires-2
 put-application-requires-2 c κs =
-    let a = c .before .before .before .before .before .before .before .before .before .before .before .before .before .before .before .args in
-    application-room (a .items .now) (a .work .now) (a .core .now) (a .known .now) (a .fuel) (a .node) (a .wrap) (a .reached) (c .before .before .before .before .before .before .before .before .before .before .before .before .before .before .before .pre .2) (c .before .before .before .before .before .before .before .before .before .before .before .before .before .before .before .pre .1) (a .tail) _ (c .before .before .before .before .before .before .before .before .before .before .before .before .before .before .before .pre .3)
+    let a = c .before .before .before .before .before .before .before .before .before .before .before .before .before .before .args in
+    application-room (a .work .now) (a .core .now) (a .known .now) (a .fuel) (a .node) (a .wrap) (a .reached) (c .before .before .before .before .before .before .before .before .before .before .before .before .before .before .pre .1) (c .before .before .before .before .before .before .before .before .before .before .before .before .before .before .pre .0) (a .tail) _ (c .before .before .before .before .before .before .before .before .before .before .before .before .before .before .pre .2)
 
 macro-use-requires : tie.Need-macro-use-requires
 macro-use-requires c κs =
-    let a = c .before .before .before .before .before .before .before .before .before .before .before .before .before .before .before .args in
-    ready-use (a .items .now) (a .work .now) (a .core .now) (a .known .now) (a .fuel) (a .node) (a .wrap) (a .reached) (c .before .before .before .before .before .before .before .before .before .before .before .before .before .before .before .pre .2) (c .before .before .before .before .before .before .before .before .before .before .before .before .before .before .before .pre .1)
+    let a = c .before .before .before .before .before .before .before .before .before .before .before .before .before .before .args in
+    ready-use (a .work .now) (a .core .now) (a .known .now) (a .fuel) (a .node) (a .wrap) (a .reached) (c .before .before .before .before .before .before .before .before .before .before .before .before .before .before .pre .1) (c .before .before .before .before .before .before .before .before .before .before .before .before .before .before .pre .0)
 
 form-requires : tie.Need-form-requires
 form-requires c κs =
-    let a = c .before .before .before .before .before .before .before .before .before .before .before .before .before .before .before .before .args in
-    let x = nameAt (a .items .now) (a .work .now) (a .head) (a .wrap) in (
-      form-heads (a .items .now) (a .work .now) (a .node) (a .tail) (a .wrap) _ x (c .before .before .before .before .before .before .before .before .before .before .before .before .before .before .before .before .pre .3) (ap knownOf (sym (c .before .before .before .before .found5 .given .1)) ∙ found-by (lookup (operationsOf (a .items .now)) x) _ _ (c .before .before .before .before .before .before .before .before .before .look .ensures) (c .before .before .before .before .before .before .before .found .given .1)),
-      form-room (a .items .now) (a .work .now) (a .core .now) (a .known .now) (a .fuel) (a .node) (a .wrap) (a .reached) (c .before .before .before .before .before .before .before .before .before .before .before .before .before .before .before .before .pre .2) (c .before .before .before .before .before .before .before .before .before .before .before .before .before .before .before .before .pre .1),
+    let a = c .before .before .before .before .before .before .before .before .before .before .before .before .before .before .before .args in
+    let x = nameAt (a .work .now) (a .head) (a .wrap) in (
+      form-heads (a .operations .now) (a .work .now) (a .node) (a .tail) (a .wrap) _ x (c .before .before .before .before .before .before .before .before .before .before .before .before .before .before .before .pre .2) (ap meansOf (sym (c .before .before .before .before .found5 .given .1)) ∙ found-by (lookupIn (a .operations .now) x) _ (c .before .before .before .before .before .before .before .before .before .lookup .ensures) _ (c .before .before .before .before .before .before .before .found .given .1)),
+      form-room (a .work .now) (a .core .now) (a .known .now) (a .fuel) (a .node) (a .wrap) (a .reached) (c .before .before .before .before .before .before .before .before .before .before .before .before .before .before .before .pre .1) (c .before .before .before .before .before .before .before .before .before .before .before .before .before .before .before .pre .0),
     )
 
 returns-2 : tie.Need-returns-2
 returns-2 c =
-    let a = c .before .before .before .before .before .before .before .before .before .before .before .before .before .before .before .before .before .before .args in
-    let x = nameAt (a .items .now) (a .work .now) (a .head) (a .wrap) in
-    variable-turned (a .items .now) (a .work .now) (a .core .now) (a .known .now) (a .fuel) (a .node) (a .tail) (a .wrap) (a .reached) x (c .before .before .before .before .before .before .before .before .before .before .before .before .before .before .before .before .before .before .pre .3) (c .before .before .before .before .before .before .before .before .before .before .before .before .before .before .before .before .before .before .pre .1) (c .before .before .before .before .before .before .before .before .before .before .before .before .before .before .before .before .before .before .pre .2) _ _ _
-    (ap knownOf (sym (c .before .before .before .before .before .before .found2 .given .1)) ∙ found-by (lookup (operationsOf (a .items .now)) x) _ _ (c .before .before .before .before .before .before .before .before .before .before .before .look .ensures) (c .before .before .before .before .before .before .before .before .before .found .given .1)) (c .before .before .put-application .ensures)
+    let a = c .before .before .before .before .before .before .before .before .before .before .before .before .before .before .before .before .before .args in
+    let x = nameAt (a .work .now) (a .head) (a .wrap) in
+    λ operations lent. variable-turned operations (a .work .now) (a .core .now) (a .known .now) (a .fuel) (a .node) (a .tail) (a .wrap) (a .reached) x (c .before .before .before .before .before .before .before .before .before .before .before .before .before .before .before .before .before .pre .2) (c .before .before .before .before .before .before .before .before .before .before .before .before .before .before .before .before .before .pre .0) (c .before .before .before .before .before .before .before .before .before .before .before .before .before .before .before .before .before .pre .1) _ _ _
+    (ap meansOf (sym (c .before .before .before .before .before .before .found2 .given .1)) ∙ found-by (lookupIn (a .operations .now) x) _ (c .before .before .before .before .before .before .before .before .before .before .before .lookup .ensures) _ (c .before .before .before .before .before .before .before .before .before .found .given .1) ∙ lookup-in operations (a .operations .now) x lent) (c .before .before .put-application .ensures)
 
 returns-3 : tie.Need-returns-3
 returns-3 c =
-    let a = c .before .before .before .before .before .before .before .before .before .before .before .before .before .before .before .before .before .before .args in
-    let x = nameAt (a .items .now) (a .work .now) (a .head) (a .wrap) in
-    operation-turned (a .items .now) (a .work .now) (a .core .now) (a .known .now) (a .fuel) (a .node) (a .tail) (a .wrap) (a .reached) x (c .before .before .before .before .before .before .before .before .before .before .before .before .before .before .before .before .before .before .pre .3) (c .before .before .before .before .before .before .before .before .before .before .before .before .before .before .before .before .before .before .pre .1) (c .before .before .before .before .before .before .before .before .before .before .before .before .before .before .before .before .before .before .pre .2) _ _ _
-    (ap knownOf (sym (c .before .before .before .before .before .before .found3 .given .1)) ∙ found-by (lookup (operationsOf (a .items .now)) x) _ _ (c .before .before .before .before .before .before .before .before .before .before .before .look .ensures) (c .before .before .before .before .before .before .before .before .before .found .given .1)) (c .before .before .put-application2 .ensures)
+    let a = c .before .before .before .before .before .before .before .before .before .before .before .before .before .before .before .before .before .args in
+    let x = nameAt (a .work .now) (a .head) (a .wrap) in
+    λ operations lent. operation-turned operations (a .work .now) (a .core .now) (a .known .now) (a .fuel) (a .node) (a .tail) (a .wrap) (a .reached) x (c .before .before .before .before .before .before .before .before .before .before .before .before .before .before .before .before .before .pre .2) (c .before .before .before .before .before .before .before .before .before .before .before .before .before .before .before .before .before .pre .0) (c .before .before .before .before .before .before .before .before .before .before .before .before .before .before .before .before .before .pre .1) _ _ _
+    (ap meansOf (sym (c .before .before .before .before .before .before .found3 .given .1)) ∙ found-by (lookupIn (a .operations .now) x) _ (c .before .before .before .before .before .before .before .before .before .before .before .lookup .ensures) _ (c .before .before .before .before .before .before .before .before .before .found .given .1) ∙ lookup-in operations (a .operations .now) x lent) (c .before .before .put-application2 .ensures)
 
 returns-4 : tie.Need-returns-4
 returns-4 c =
-    let a = c .before .before .before .before .before .before .before .before .before .before .before .before .before .before .before .before .before .before .args in
-    let x = nameAt (a .items .now) (a .work .now) (a .head) (a .wrap) in
-    macro-turned (a .items .now) (a .work .now) (a .core .now) (a .known .now) (a .fuel) (a .node) (a .tail) (a .wrap) (a .reached) x (c .before .before .before .before .before .before .before .before .before .before .before .before .before .before .before .before .before .before .pre .3) (c .before .before .before .before .before .before .before .before .before .before .before .before .before .before .before .before .before .before .pre .1) (c .before .before .before .before .before .before .before .before .before .before .before .before .before .before .before .before .before .before .pre .2) _ (c .before .before .macro-use .last .1 .0) (c .before .before .macro-use .result)
-    (ap knownOf (sym (c .before .before .before .before .before .before .found4 .given .1)) ∙ found-by (lookup (operationsOf (a .items .now)) x) _ _ (c .before .before .before .before .before .before .before .before .before .before .before .look .ensures) (c .before .before .before .before .before .before .before .before .before .found .given .1)) (c .before .before .macro-use .kept .1 .0) (c .before .before .macro-use .ensures)
+    let a = c .before .before .before .before .before .before .before .before .before .before .before .before .before .before .before .before .before .args in
+    let x = nameAt (a .work .now) (a .head) (a .wrap) in
+    λ operations lent. macro-turned operations (a .work .now) (a .core .now) (a .known .now) (a .fuel) (a .node) (a .tail) (a .wrap) (a .reached) x (c .before .before .before .before .before .before .before .before .before .before .before .before .before .before .before .before .before .pre .2) (c .before .before .before .before .before .before .before .before .before .before .before .before .before .before .before .before .before .pre .0) (c .before .before .before .before .before .before .before .before .before .before .before .before .before .before .before .before .before .pre .1) _ (c .before .before .macro-use .last .0) (c .before .before .macro-use .result)
+    (ap meansOf (sym (c .before .before .before .before .before .before .found4 .given .1)) ∙ found-by (lookupIn (a .operations .now) x) _ (c .before .before .before .before .before .before .before .before .before .before .before .lookup .ensures) _ (c .before .before .before .before .before .before .before .before .before .found .given .1) ∙ lookup-in operations (a .operations .now) x lent) (c .before .before .macro-use .kept .0) (c .before .before .macro-use .ensures)
 
 returns-5 : tie.Need-returns-5
 returns-5 c =
-    c .before .before .before .before .before .before .form .ensures (c .before .before .before .before .before .before .before .before .before .before .before .before .before .before .before .before .before .before .before .before .before .before .before .args .fuel) (c .before .before .before .before .before .before .before .before .before .before .before .before .before .before .before .before .before .before .before .before .before .before .before .pre .2)
+    λ operations lent. c .before .before .before .before .before .before .form .ensures operations (c .before .before .before .before .before .before .before .before .before .before .before .before .before .before .before .before .before .before .before .before .before .before .args .fuel) (c .before .before .before .before .before .before .before .before .before .before .before .before .before .before .before .before .before .before .before .before .before .before .pre .1)
 
 pub named-spec : {M : Type 1} → statement M
 named-spec =
     tie.close
     (tie.spec
-    (λ c κs. search needs)  -- look-requires
+    (λ c κs. search needs)  -- lookup-requires
     (λ c. search needs)  -- enum-known-found
     (λ c. search needs)  -- enum-told
     (λ c κs. search needs)  -- refuse-requires

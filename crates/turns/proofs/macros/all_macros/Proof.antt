@@ -10,33 +10,33 @@ use Rattle.turns.specs.MacroRules.{Reading}
 use Rattle.turns.specs.MacroRuleLaws.{one-ask, count-small, reading-begins, reading-ends, reading-bad, reading-more}
 
 abbrev Inv-loop : tie.InvT-loop
-Inv-loop items work₀ macros₀ list w count top at₀ n₀ end₀ work macros at n end =
-    (length work ≡ length work₀) × (length macros ≡ length macros₀) × Reading items work₀ macros₀ list w count top work macros at n end
+Inv-loop work₀ macros₀ list w count top at₀ n₀ end₀ work macros at n end =
+    (length work ≡ length work₀) × (length macros ≡ length macros₀) × Reading work₀ macros₀ list w count top work macros at n end
 
 abbrev μ-loop : tie.MeasureT-loop
-μ-loop items work₀ macros₀ list w count top at₀ n₀ end₀ work macros at n end =
+μ-loop work₀ macros₀ list w count top at₀ n₀ end₀ work macros at n end =
     at
 
 loop-holds : tie.Need-loop-holds Inv-loop μ-loop
 loop-holds c =
-    let a = c .before .before .before .args in
-    let pre = c .before .before .before .pre in
-    (refl, refl, reading-begins (a .items .now) (a .work .now) (a .macros .now) (a .list) (a .w) (a .count) (a .top) pre)
+    let a = c .before .before .args in
+    let pre = c .before .before .pre in
+    (refl, refl, reading-begins (a .work .now) (a .macros .now) (a .list) (a .w) (a .count) (a .top) pre)
 
 one-macro-requires : tie.Need-one-macro-requires Inv-loop μ-loop
 one-macro-requires c κs =
-    let a = c .before .before .before .before .before .before .before .before .before .before .before .before .before .before .before .args in
+    let a = c .before .before .before .before .before .before .before .before .before .before .before .before .before .before .args in
     let loop = c .before .before .before .before .before .before .before .before .before .before .before .loop in
     let word = c .before .before .before .before .before .before .before .before .before .word in
     let if1 = c .before .before .before .before .before .before .before .before .if1 in
     let reference = c .before .before .before .before .before .before .reference in
     let element = c .before .before .before .before .element in
     let reference2 = c .before .before .reference2 in
-    one-ask (a .items .now) (loop .work) (loop .macros) (loop .at) (a .w) (loop .n) (loop .end) (loop .inv .2 .ask) _ _ _ (sym (word .ensures) ∙ if1 .taken) (reference .ensures) (reference2 .ensures) (element .ensures)
+    one-ask (loop .work) (loop .macros) (loop .at) (a .w) (loop .n) (loop .end) (loop .inv .2 .ask) _ _ _ (sym (word .ensures) ∙ if1 .taken) (reference .ensures) (reference2 .ensures) (element .ensures)
 
 returns : tie.Need-returns Inv-loop μ-loop
 returns c =
-    let a = c .before .before .before .before .before .before .before .before .before .before .before .before .before .before .before .before .before .before .before .before .before .before .args in
+    let a = c .before .before .before .before .before .before .before .before .before .before .before .before .before .before .before .before .before .before .before .before .before .args in
     let loop = c .before .before .before .before .before .before .before .before .before .before .before .before .before .before .before .before .before .before .loop in
     let word = c .before .before .before .before .before .before .before .before .before .before .before .before .before .before .before .before .word in
     let if1 = c .before .before .before .before .before .before .before .before .before .before .before .before .before .before .before .if1 in
@@ -44,18 +44,18 @@ returns c =
     let element = c .before .before .before .before .before .before .before .before .before .before .before .element in
     let reference2 = c .before .before .before .before .before .before .before .before .before .reference2 in
     let one-macro = c .before .before .before .before .before .before .one-macro in
-    reading-bad (a .items .now) (a .work .now) (a .macros .now) (a .list) (a .w) (a .count) (a .top) (loop .work) (loop .macros) (loop .at) (loop .n) (loop .end) (loop .inv .2) _ _ _ (sym (word .ensures) ∙ if1 .taken) (reference .ensures) (reference2 .ensures) (element .ensures) _ _ _ (one-macro .ensures) (c .enum-told .given .1)
+    reading-bad (a .work .now) (a .macros .now) (a .list) (a .w) (a .count) (a .top) (loop .work) (loop .macros) (loop .at) (loop .n) (loop .end) (loop .inv .2) _ _ _ (sym (word .ensures) ∙ if1 .taken) (reference .ensures) (reference2 .ensures) (element .ensures) _ _ _ (one-macro .ensures) (c .enum-told .given .1)
 
 add-n : tie.Need-add-n Inv-loop μ-loop
 add-n c =
-    let a = c .before .before .before .before .before .before .before .before .before .before .before .before .before .before .before .before .before .before .before .before .before .before .before .args in
+    let a = c .before .before .before .before .before .before .before .before .before .before .before .before .before .before .before .before .before .before .before .before .before .before .args in
     let loop = c .before .before .before .before .before .before .before .before .before .before .before .before .before .before .before .before .before .before .before .loop in
     let word = c .before .before .before .before .before .before .before .before .before .before .before .before .before .before .before .before .before .word in
     let if1 = c .before .before .before .before .before .before .before .before .before .before .before .before .before .before .before .before .if1 in
     let reference = c .before .before .before .before .before .before .before .before .before .before .before .before .before .before .reference in
     let element = c .before .before .before .before .before .before .before .before .before .before .before .before .element in
     let reference2 = c .before .before .before .before .before .before .before .before .before .before .reference2 in
-    record { fits = count-small (a .items .now) (loop .work) (loop .macros) (loop .at) (a .w) (loop .n) (loop .end) (loop .inv .2 .ask) _ _ _ (sym (word .ensures) ∙ if1 .taken) (reference .ensures) (reference2 .ensures) (element .ensures) }
+    record { fits = count-small (loop .work) (loop .macros) (loop .at) (a .w) (loop .n) (loop .end) (loop .inv .2 .ask) _ _ _ (sym (word .ensures) ∙ if1 .taken) (reference .ensures) (reference2 .ensures) (element .ensures) }
 
 loop-less : tie.Need-loop-less Inv-loop μ-loop
 loop-less c =
@@ -67,7 +67,7 @@ loop-less c =
 
 loop-again : tie.Need-loop-again Inv-loop μ-loop
 loop-again c =
-    let a = c .before .before .before .before .before .before .before .before .before .before .before .before .before .before .before .before .before .before .before .before .before .before .before .args in
+    let a = c .before .before .before .before .before .before .before .before .before .before .before .before .before .before .before .before .before .before .before .before .before .before .args in
     let loop = c .before .before .before .before .before .before .before .before .before .before .before .before .before .before .before .before .before .before .before .loop in
     let word = c .before .before .before .before .before .before .before .before .before .before .before .before .before .before .before .before .before .word in
     let if1 = c .before .before .before .before .before .before .before .before .before .before .before .before .before .before .before .before .if1 in
@@ -76,14 +76,14 @@ loop-again c =
     let reference2 = c .before .before .before .before .before .before .before .before .before .before .reference2 in
     let one-macro = c .before .before .before .before .before .before .before .one-macro in
     let upper = c .before .upper in
-    (one-macro .kept .1 .0 ∙ loop .inv .0, one-macro .kept .1 .1 .0 ∙ loop .inv .1, reading-more (a .items .now) (a .work .now) (a .macros .now) (a .list) (a .w) (a .count) (a .top) (loop .work) (loop .macros) (loop .at) (loop .n) (loop .end) (loop .inv .2) _ _ _ (sym (word .ensures) ∙ if1 .taken) (reference .ensures) (reference2 .ensures) (element .ensures) _ _ _ (one-macro .ensures) _ (upper .given .1) (one-macro .kept .1 .0) (one-macro .kept .1 .1 .0))
+    (one-macro .kept .0 ∙ loop .inv .0, one-macro .kept .1 .0 ∙ loop .inv .1, reading-more (a .work .now) (a .macros .now) (a .list) (a .w) (a .count) (a .top) (loop .work) (loop .macros) (loop .at) (loop .n) (loop .end) (loop .inv .2) _ _ _ (sym (word .ensures) ∙ if1 .taken) (reference .ensures) (reference2 .ensures) (element .ensures) _ _ _ (one-macro .ensures) _ (upper .given .1) (one-macro .kept .0) (one-macro .kept .1 .0))
 
 returns-2 : tie.Need-returns-2 Inv-loop μ-loop
 returns-2 c =
-    let a = c .before .before .before .before .before .before .before .args in
+    let a = c .before .before .before .before .before .before .args in
     let loop = c .before .before .before .loop in
     let word = c .before .word in
-    reading-ends (a .items .now) (a .work .now) (a .macros .now) (a .list) (a .w) (a .count) (a .top) (loop .work) (loop .macros) (loop .at) (loop .n) (loop .end) (loop .inv .2) (λ z. c .if1 .left (word .ensures ∙ z))
+    reading-ends (a .work .now) (a .macros .now) (a .list) (a .w) (a .count) (a .top) (loop .work) (loop .macros) (loop .at) (loop .n) (loop .end) (loop .inv .2) (λ z. c .if1 .left (word .ensures ∙ z))
 
 pub all-macros-spec : {M : Type 1} → statement M
 all-macros-spec =

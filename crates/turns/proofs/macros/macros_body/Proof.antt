@@ -7,24 +7,24 @@ use Rattle.turns.specs.MacroTurnLaws.{macros-all-names, macros-space, ma
 
 bind-macros-requires : tie.Need-bind-macros-requires
 bind-macros-requires c κs =
-    let a = c .before .before .before .before .before .before .before .before .before .before .args in (macros-all-names (a .items .now) (a .work .now) (a .macros .now) (a .node) (a .wrap) (a .inside) (a .reached) (c .before .before .before .before .before .before .before .before .before .before .pre .0) (c .before .before .before .before .before .before .before .before .before .before .pre .1), macros-space (a .items .now) (a .work .now) (a .macros .now) (a .node) (a .wrap) (a .inside) (a .reached) (c .before .before .before .before .before .before .before .before .before .before .pre .0) (c .before .before .before .before .before .before .before .before .before .before .pre .1))
+    let a = c .before .before .before .before .before .before .before .before .before .args in (macros-all-names (a .work .now) (a .macros .now) (a .node) (a .wrap) (a .inside) (a .reached) (c .before .before .before .before .before .before .before .before .before .pre .0) (c .before .before .before .before .before .before .before .before .before .pre .1), macros-space (a .work .now) (a .macros .now) (a .node) (a .wrap) (a .inside) (a .reached) (c .before .before .before .before .before .before .before .before .before .pre .0) (c .before .before .before .before .before .before .before .before .before .pre .1))
 
 all-macros-requires : tie.Need-all-macros-requires
 all-macros-requires c κs =
-    let a = c .before .before .before .before .before .before .before .before .before .before .before .before .before .before .before .before .args in macros-ask (a .items .now) (a .work .now) (a .macros .now) (a .node) (a .wrap) (a .inside) (a .reached) (c .before .before .before .before .before .before .before .before .before .before .before .before .before .before .before .before .pre .0) (c .before .before .before .before .before .before .before .before .before .before .before .before .before .before .before .before .pre .1) _ _ (c .before .before .before .before .before .before .before .before .before .before .before .element .ensures) (c .before .before .before .before .before .before .before .before .before .count .ensures) (c .before .before .before .before .before .bind-macros .last .1 .0) _ _ _ (c .before .before .before .before .before .bind-macros .ensures) (c .before .before .rules-wrap .ensures) (c .before .before .before .before .before .bind-macros .kept .1 .0)
+    let a = c .before .before .before .before .before .before .before .before .before .before .before .before .before .before .before .args in macros-ask (a .work .now) (a .macros .now) (a .node) (a .wrap) (a .inside) (a .reached) (c .before .before .before .before .before .before .before .before .before .before .before .before .before .before .before .pre .0) (c .before .before .before .before .before .before .before .before .before .before .before .before .before .before .before .pre .1) _ _ (c .before .before .before .before .before .before .before .before .before .before .before .element .ensures) (c .before .before .before .before .before .before .before .before .before .count .ensures) (c .before .before .before .before .before .bind-macros .last .0) _ _ _ (c .before .before .before .before .before .bind-macros .ensures) (c .before .before .rules-wrap .ensures) (c .before .before .before .before .before .bind-macros .kept .0)
 
 returns : tie.Need-returns
 returns c =
-    let a = c .before .before .before .before .before .before .before .before .before .before .before .before .before .before .before .before .before .before .before .before .before .before .before .before .args in (macros-bad (a .items .now) (a .work .now) (a .macros .now) (a .node) (a .wrap) (a .inside) (a .reached) (c .before .before .before .before .before .before .before .before .before .before .before .before .before .before .before .before .before .before .before .before .before .before .before .before .pre .0) (c .before .before .before .before .before .before .before .before .before .before .before .before .before .before .before .before .before .before .before .before .before .before .before .before .pre .1) _ _ (c .before .before .before .before .before .before .before .before .before .before .before .before .before .before .before .before .before .before .before .element .ensures) (c .before .before .before .before .before .before .before .before .before .before .before .before .before .before .before .before .before .count .ensures) (c .before .before .before .before .before .before .before .before .before .before .before .before .before .bind-macros .last .1 .0) _ _ _ (c .before .before .before .before .before .before .before .before .before .before .before .before .before .bind-macros .ensures) (c .before .before .before .before .before .before .before .before .before .before .rules-wrap .ensures) (c .before .before .before .before .before .before .before .before .before .before .before .before .before .bind-macros .kept .1 .0) (c .before .before .before .before .before .before .before .all-macros .last .1 .0) (c .before .before .before .before .before .before .before .all-macros .last .1 .1 .0) _ (c .before .before .before .before .before .before .before .all-macros .ensures) (c .before .enum-told .given .1), c .refuse .ensures)
+    let a = c .before .before .before .before .before .before .before .before .before .before .before .before .before .before .before .before .before .before .before .before .before .before .before .args in (macros-bad (a .work .now) (a .macros .now) (a .node) (a .wrap) (a .inside) (a .reached) (c .before .before .before .before .before .before .before .before .before .before .before .before .before .before .before .before .before .before .before .before .before .before .before .pre .0) (c .before .before .before .before .before .before .before .before .before .before .before .before .before .before .before .before .before .before .before .before .before .before .before .pre .1) _ _ (c .before .before .before .before .before .before .before .before .before .before .before .before .before .before .before .before .before .before .before .element .ensures) (c .before .before .before .before .before .before .before .before .before .before .before .before .before .before .before .before .before .count .ensures) (c .before .before .before .before .before .before .before .before .before .before .before .before .before .bind-macros .last .0) _ _ _ (c .before .before .before .before .before .before .before .before .before .before .before .before .before .bind-macros .ensures) (c .before .before .before .before .before .before .before .before .before .before .rules-wrap .ensures) (c .before .before .before .before .before .before .before .before .before .before .before .before .before .bind-macros .kept .0) (c .before .before .before .before .before .before .before .all-macros .last .0) (c .before .before .before .before .before .before .before .all-macros .last .1 .0) _ (c .before .before .before .before .before .before .before .all-macros .ensures) (c .before .enum-told .given .1), c .refuse .ensures)
 
-add-t29 : tie.Need-add-t29
-add-t29 c =
-    let a = c .before .before .before .before .before .before .before .before .before .before .before .before .before .before .before .before .before .before .before .before .before .before .before .before .args in record { fits = macros-few (a .items .now) (a .work .now) (a .macros .now) (a .node) (a .wrap) (a .inside) (a .reached) (c .before .before .before .before .before .before .before .before .before .before .before .before .before .before .before .before .before .before .before .before .before .before .before .before .pre .0) (c .before .before .before .before .before .before .before .before .before .before .before .before .before .before .before .before .before .before .before .before .before .before .before .before .pre .1) _ _ (c .before .before .before .before .before .before .before .before .before .before .before .before .before .before .before .before .before .before .before .element .ensures) (c .before .before .before .before .before .before .before .before .before .before .before .before .before .before .before .before .before .count .ensures) }
+add-t28 : tie.Need-add-t28
+add-t28 c =
+    let a = c .before .before .before .before .before .before .before .before .before .before .before .before .before .before .before .before .before .before .before .before .before .before .before .args in record { fits = macros-few (a .work .now) (a .macros .now) (a .node) (a .wrap) (a .inside) (a .reached) (c .before .before .before .before .before .before .before .before .before .before .before .before .before .before .before .before .before .before .before .before .before .before .before .pre .0) (c .before .before .before .before .before .before .before .before .before .before .before .before .before .before .before .before .before .before .before .before .before .before .before .pre .1) _ _ (c .before .before .before .before .before .before .before .before .before .before .before .before .before .before .before .before .before .before .before .element .ensures) (c .before .before .before .before .before .before .before .before .before .before .before .before .before .before .before .before .before .count .ensures) }
 
 returns-2 : tie.Need-returns-2
 unfolding grown
 returns-2 c =
-    let a = c .before .before .before .before .before .before .before .before .before .before .before .before .before .before .before .before .before .before .before .before .before .before .before .before .args in macros-known (a .items .now) (a .work .now) (a .macros .now) (a .node) (a .wrap) (a .inside) (a .reached) (c .before .before .before .before .before .before .before .before .before .before .before .before .before .before .before .before .before .before .before .before .before .before .before .before .pre .0) (c .before .before .before .before .before .before .before .before .before .before .before .before .before .before .before .before .before .before .before .before .before .before .before .before .pre .1) _ _ (c .before .before .before .before .before .before .before .before .before .before .before .before .before .before .before .before .before .before .before .element .ensures) (c .before .before .before .before .before .before .before .before .before .before .before .before .before .before .before .before .before .count .ensures) (c .before .before .before .before .before .before .before .before .before .before .before .before .before .bind-macros .last .1 .0) _ _ _ (c .before .before .before .before .before .before .before .before .before .before .before .before .before .bind-macros .ensures) (c .before .before .before .before .before .before .before .before .before .before .rules-wrap .ensures) (c .before .before .before .before .before .before .before .before .before .before .before .before .before .bind-macros .kept .1 .0) (c .before .before .before .before .before .before .before .all-macros .last .1 .0) (c .before .before .before .before .before .before .before .all-macros .last .1 .1 .0) _ (c .before .before .before .before .before .before .before .all-macros .ensures) _ _ (c .before .top .given .1) (c .before .before .before .before .before .before .before .before .before .before .before .before .before .before .before .element2 .ensures)
+    let a = c .before .before .before .before .before .before .before .before .before .before .before .before .before .before .before .before .before .before .before .before .before .before .before .args in macros-known (a .work .now) (a .macros .now) (a .node) (a .wrap) (a .inside) (a .reached) (c .before .before .before .before .before .before .before .before .before .before .before .before .before .before .before .before .before .before .before .before .before .before .before .pre .0) (c .before .before .before .before .before .before .before .before .before .before .before .before .before .before .before .before .before .before .before .before .before .before .before .pre .1) _ _ (c .before .before .before .before .before .before .before .before .before .before .before .before .before .before .before .before .before .before .before .element .ensures) (c .before .before .before .before .before .before .before .before .before .before .before .before .before .before .before .before .before .count .ensures) (c .before .before .before .before .before .before .before .before .before .before .before .before .before .bind-macros .last .0) _ _ _ (c .before .before .before .before .before .before .before .before .before .before .before .before .before .bind-macros .ensures) (c .before .before .before .before .before .before .before .before .before .before .rules-wrap .ensures) (c .before .before .before .before .before .before .before .before .before .before .before .before .before .bind-macros .kept .0) (c .before .before .before .before .before .before .before .all-macros .last .0) (c .before .before .before .before .before .before .before .all-macros .last .1 .0) _ (c .before .before .before .before .before .before .before .all-macros .ensures) _ _ (c .before .top .given .1) (c .before .before .before .before .before .before .before .before .before .before .before .before .before .before .before .element2 .ensures)
 
 pub macros-body-spec : {M : Type 1} → statement M
 macros-body-spec =
@@ -42,7 +42,7 @@ macros-body-spec =
     (λ c. search needs)  -- same-length
     (λ c. search needs)  -- same-length-2
     returns
-    add-t29
+    add-t28
     (λ c. search needs)  -- same-length-3
     (λ c. search needs)  -- same-length-4
     returns-2)

@@ -7,15 +7,15 @@ use Rattle.turns.specs.MacroRuleLaws.{one-bad, one-good}
 
 returns : tie.Need-returns
 returns c =
-    let a = c .before .before .before .before .before .before .before .before .args in
+    let a = c .before .before .before .before .before .before .before .args in
     let r = c .before .before .before .rules in
-    one-bad (a .items .now) (a .work .now) (a .macros .now) (a .form) (a .w) (a .count) (a .top) (c .before .before .before .before .before .before .before .before .pre) (r .last .1 .0) (builtOf (r .result)) (r .ensures) (a .macros .now) (built-bad (r .result) (c .if1 .taken))
+    one-bad (a .work .now) (a .macros .now) (a .form) (a .w) (a .count) (a .top) (c .before .before .before .before .before .before .before .pre) (r .last .0) (builtOf (r .result)) (r .ensures) (a .macros .now) (built-bad (r .result) (c .if1 .taken))
 
 returns-2 : tie.Need-returns-2
 returns-2 c =
-    let a = c .before .before .before .before .before .before .before .before .before .before .args in
+    let a = c .before .before .before .before .before .before .before .before .before .args in
     let r = c .before .before .before .before .before .rules in
-    one-good (a .items .now) (a .work .now) (a .macros .now) (a .form) (a .w) (a .count) (a .top) (c .before .before .before .before .before .before .before .before .before .before .pre) (r .last .1 .0) (builtOf (r .result)) (r .ensures) _ _ (built-good (r .result) _ _ (c .before .before .if1 .left) (c .before .high .ensures) (c .low .ensures))
+    one-good (a .work .now) (a .macros .now) (a .form) (a .w) (a .count) (a .top) (c .before .before .before .before .before .before .before .before .before .pre) (r .last .0) (builtOf (r .result)) (r .ensures) _ _ (built-good (r .result) _ _ (c .before .before .if1 .left) (c .before .high .ensures) (c .low .ensures))
 
 pub one-macro-spec : {M : Type 1} → statement M
 one-macro-spec =
