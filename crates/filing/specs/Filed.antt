@@ -11,7 +11,7 @@ use Rattle.expansion.specs.Run.{Run, run}
 use Rattle.expander.specs.Service.{workAfter, coreAfter}
 use Rattle.output.specs.Output.{printed, filed}
 use Rattle.writer.specs.declared.Writing.{Writing}
-use Rattle.writer.specs.Written.{Wrote}
+use Rattle.writer.specs.Wrote.{Wrote}
 
 -- ---- a recipe's items
 

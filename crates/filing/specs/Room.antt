@@ -22,7 +22,8 @@ use Rattle.expansion.specs.Ways.Grounds.{TurnedBack, atOnce, later, run-ground}
 use Rattle.output.specs.Output.{line, refusal, header, acceptance, printed, outputOf, filed, output}
 use Rattle.writer.specs.declared.Writing.{Writing}
 use Rattle.writer.specs.declared.Writing.the-variants.{Written, NoTerm, NoRoom}
-use Rattle.writer.specs.Written.{Wrote, written-is, no-room-is, not-no-term}
+use Rattle.writer.specs.Wrote.{Wrote}
+use Rattle.writer.specs.WroteLaws.{written-is, no-room-is, not-no-term}
 use Rattle.filing.specs.File.{Printed}
 use Rattle.filing.specs.RunLaws.{front}
 use Rattle.filing.specs.Lines.{countsText, refusal-laid, header-laid}

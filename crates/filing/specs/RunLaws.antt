@@ -34,7 +34,7 @@ use Rattle.expander.specs.Service.{Numbers, numbersOf, groundOf, runNumbers, le
 use Rattle.words.specs.Tables.{filled}
 use Rattle.output.specs.Output.{refusal, acceptance, printed, outputOf, filed}
 use Rattle.writer.specs.declared.Writing.{Writing}
-use Rattle.writer.specs.Written.{Wrote}
+use Rattle.writer.specs.Wrote.{Wrote}
 use Rattle.filing.specs.FileLaws.{wrote-is}
 use Rattle.filing.specs.Filed.{printedRun, Expanded, workLeft, coreLeft, Filed}
 

@@ -10,7 +10,7 @@ ghost use Rattle.core_term.specs.Check.{termOf};
 ghost use Rattle.output.specs.Output.{refusal, acceptance};
 ghost use Rattle.writer.specs.Put.{putOf};
 ghost use Rattle.writer.specs.Writing.{textOf};
-ghost use Rattle.writer.specs.Written.{Wrote};
+ghost use Rattle.writer.specs.Wrote.{Wrote};
 ghost use Rattle.filing.specs.File.{Spared};
 ghost use Rattle.filing.specs.Filed.{Expanded, Filed};
 use crate::lines::accepted_line;

@@ -12,7 +12,7 @@ use Rattle.reader.specs.Served as R
 use Rattle.reader.specs.Code.ServedLaws.{ground-is, items-are, names-are}
 use Rattle.writer.specs.declared.Writing.{Writing}
 use Rattle.writer.specs.Writing as W
-use Rattle.writer.specs.Written.{Wrote}
+use Rattle.writer.specs.Wrote.{Wrote}
 use Rattle.expansion.specs.Run.{run}
 use Rattle.expander.specs.declared.Expansion.{Expansion}
 use Rattle.expander.specs.Service as E
