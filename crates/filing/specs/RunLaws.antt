@@ -7,17 +7,18 @@ use native.Mathlib.Omega.{arith}
 use lib.ListN.{length, take, replicate, length-append}
 use lib.Seq.{take-at}
 use Rattle.words.specs.Limits.{operationsMost, slotSize}
-use Rattle.datum.specs.Datum.{constantD, nameD, listD, dataItems}
+use Rattle.datum.specs.Datum.{constantD, nameD, listD, noneD, moreD, dataItems}
 use Rattle.datum.specs.Datum as D
 use Rattle.datum.specs.NameTable.{hasName}
 use Rattle.reading.specs.Elements.{Answer, got, back}
 use Rattle.reading.specs.Read as Read
-use Rattle.reading.specs.Read.{Recipe, read, itemWords, nameBytes, itemsAfter, namesAfter}
+use Rattle.reading.specs.Read.{Recipe, read, readNumbers, itemWords, nameBytes, itemsAfter, namesAfter}
+use Rattle.reading.specs.Laws.Grounds.{ground-some}
 use Rattle.reading_layout.specs.Items.{data-length}
 use Rattle.reading_layout.specs.Answers.{read-slots}
 use Rattle.reader.specs.declared.Reading.{Reading}
-use Rattle.reader.specs.declared.Reading.the-variants as R
-use Rattle.reader.specs.Served.{answerOf, Served}
+use Rattle.reader.specs.declared.Reading.the-variants as RV
+use Rattle.reader.specs.Served as R
 use Rattle.core_term.specs.Node.{nodeWords, variableN, operationN, constantN, nameN, listN, ifN, lambdaN, applicationN}
 use Rattle.core_term.specs.NodeLaws.{node-some}
 use Rattle.core_term.specs.Term.{Term, variableC, operationC, datumC, ifC, lambdaC, applicationC, count}
@@ -127,28 +128,37 @@ module _ (items : List ℕ) (fuel : ℕ) (work work′ core core′ : List ℕ) 
 
 -- ---- reading
 
-module _ (text items items′ names names′ : List ℕ) (r : Reading) (s : Served text items items′ names names′ r) where
+-- a list has an item
+data-some : (ds : D.Data) → 1 ≤ dataItems ds
+unfolding dataItems
+data-some noneD = omega arith
+data-some (moreD d ds) = omega arith
+
+module _ (text items items′ names names′ : List ℕ) (r : Reading) (s : R.Served text items items′ names names′ r) where
   abbrev read′ : Answer Recipe
   read′ = read text (length items) (length names)
 
-  -- the recipe behind an answer
-  pub recipe-read : (i n : ℕ) → r ≡ R.Read i n → (x : Recipe) × (read′ ≡ got x) × (i ≡ dataItems (x .elements)) × (n ≡ length (x .names))
-  unfolding answerOf
-  recipe-read i n h = go read′ refl (sym h ∙ s .answer)
-    where
-      go : (a : Answer Recipe) → read′ ≡ a → R.Read i n ≡ answerOf a → (x : Recipe) × (read′ ≡ got x) × (i ≡ dataItems (x .elements)) × (n ≡ length (x .names))
-      go (got x) e k = (x, e, cc, cc)
-      go (back g) e k = let z : _≡_ {A = ℕ} 0 1 = cc in absurd (omega arith)
+  told-of : (q : Reading) → r ≡ q → R.numbersOf q ≡ readNumbers read′
+  told-of q h = subst (λ (z : Reading). R.numbersOf z ≡ readNumbers read′) h (s .numbers)
 
-  refused-read : (g : ℕ) → r ≡ R.Refused g → read′ ≡ back g
-  unfolding answerOf
-  refused-read g h = go read′ refl (sym h ∙ s .answer)
+  -- the recipe behind an answer, by its numbers
+  pub recipe-read : (i n : ℕ) → r ≡ RV.Read i n → (x : Recipe) × (read′ ≡ got x) × (i ≡ dataItems (x .elements)) × (n ≡ length (x .names))
+  unfolding R.numbersOf readNumbers
+  recipe-read i n h = go read′ refl (told-of (RV.Read i n) h)
     where
-      go : (a : Answer Recipe) → read′ ≡ a → R.Refused g ≡ answerOf a → read′ ≡ back g
-      go (got x) e k = let z : _≡_ {A = ℕ} 0 1 = cc in absurd (omega arith)
-      go (back j) e k = let z : g ≡ j = cc in e ∙ ap back (sym z)
+      go : (a : Answer Recipe) → read′ ≡ a → R.numbersOf (RV.Read i n) ≡ readNumbers a → (x : Recipe) × (read′ ≡ got x) × (i ≡ dataItems (x .elements)) × (n ≡ length (x .names))
+      go (got x) e k = (x, e, ap (λ (m : Read.Numbers). m .items) k, ap (λ (m : Read.Numbers). m .names) k)
+      go (back g) e k = absurd (omega (arith, ground-some text (length items) (length names) g e, ap (λ (m : Read.Numbers). m .ground) k))
 
-  module _ (i n : ℕ) (h : r ≡ R.Read i n) where
+  refused-read : (g : ℕ) → r ≡ RV.Refused g → read′ ≡ back g
+  unfolding R.numbersOf readNumbers
+  refused-read g h = go read′ refl (told-of (RV.Refused g) h)
+    where
+      go : (a : Answer Recipe) → read′ ≡ a → R.numbersOf (RV.Refused g) ≡ readNumbers a → read′ ≡ back g
+      go (got x) e k = absurd (omega (arith, data-some (x .elements), ap (λ (m : Read.Numbers). m .items) k))
+      go (back j) e k = e ∙ ap back (sym (ap (λ (m : Read.Numbers). m .ground) k))
+
+  module _ (i n : ℕ) (h : r ≡ RV.Read i n) where
     abbrev recipe : Recipe
     recipe = recipe-read i n h .0
 
@@ -187,7 +197,7 @@ module _ (text items items′ names names′ : List ℕ) (r : Reading) (s : Serv
           core-after = x .core-after ∙ rw (is-read, e);
         }
 
-  pub filed-refused : (g : ℕ) → r ≡ R.Refused g → {fuel : ℕ} {work core out out′ : List ℕ} {w : Writing} → Wrote (some (refusal g 0 0)) out out′ w
+  pub filed-refused : (g : ℕ) → r ≡ RV.Refused g → {fuel : ℕ} {work core out out′ : List ℕ} {w : Writing} → Wrote (some (refusal g 0 0)) out out′ w
       → Filed text fuel items items′ names names′ work work core core out out′ w
   unfolding filed outputOf workLeft coreLeft
   filed-refused g h x =
