@@ -28,3 +28,7 @@ pub record Accepted (words names : List ℕ) (steps sum : ℕ) : Type 0 where
 pub record Printed (x out out′ : List ℕ) (n : ℕ) : Type 0 where
   pub size : n ≡ length x
   pub bytes : out′ ≡ x ++ drop (length x) out
+
+-- bytes that hold any output of the filing program
+abbrev pub outputMost : ℕ
+outputMost = 73728

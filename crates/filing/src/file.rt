@@ -20,6 +20,7 @@ use expander::Expansion;
 use expander::expand;
 use reader::Reading;
 use reader::read;
+use words::ITEM;
 use words::OPERATIONS;
 use words::SLOT;
 use writer::Writing;
@@ -27,9 +28,6 @@ use writer::bytes::FULL;
 use writer::bytes::byte;
 use writer::numbers::wide;
 use writer::write;
-
-// Words of an item.
-const ITEM: usize = 3;
 
 // The output of what is turned back. It is measured, then laid.
 fn refused(ground: u32, steps: u32, sum: u32, out: &mut [u8]) -> Writing
