@@ -1,16 +1,17 @@
 -- Laws of decimal: the digits' value is the number, and how many there are.
 use mathlib.Core.Path.{_≡_, refl, sym, ap, _∙_}
-use mathlib.Core.Bool.{Bool, true, false}
+use mathlib.Core.Bool.{Bool, true, false, true≢false}
 use mathlib.Core.List.{List, [], _∷_, _++_}
 use Prim.Native.Nat.{ℕ, zero, suc, _+_, _-_, _*_, _/_, _%_, _^_, _≤_, _<_}
 use native.Mathlib.Omega.{arith}
 use native.Mathlib.Nat.{pow-succ'}
 use lib.Dec.{ltb}
-use lib.IntN.{negsuc}
+use lib.IntN.{ℤ, pos, negsuc, natAbs}
 use lib.ListN.{length, length-append}
+use lib.Signed.{ltZ}
 use mir.Syntax.{w32}
-use mir.Val.{toZ}
-use mir.Facts.{toZ-pos, toZ-neg}
+use mir.Val.{Fits, toZ, ofZ}
+use mir.Facts.{toZ-pos, toZ-ofZ, sfits-toZ}
 use borrow.Author.Tests.{ltb-true, ltb-false}
 use Rattle.core_term.specs.Decimal.{leading, digitsBy, decimal, valueAfter, value, signed, integerText}
 
@@ -106,11 +107,25 @@ pub integer-plain : (w : ℕ) → w < 2147483648 → integerText w ≡ decimal w
 unfolding integerText signed
 integer-plain w h = rw (toZ-pos w32 h)
 
-pub integer-minus : (w : ℕ) → 2147483648 ≤ w → w < 4294967296 → integerText w ≡ 45 ∷ decimal (4294967295 - w + 1)
-unfolding integerText signed
-integer-minus w lo hi =
-    let k : 4294967295 - w < 2 ^ 31 = omega arith in
-    let e : 4294967296 - suc (4294967295 - w) ≡ w = omega arith in
-    let s : 4294967295 - w + 1 ≡ suc (4294967295 - w) = omega arith in
-    let z : toZ w32 w ≡ negsuc (4294967295 - w) = ap (toZ w32) (sym e) ∙ toZ-neg w32 (4294967295 - w) k in
-    rw (z, s)
+signed-below : (y : ℤ) → ltZ y (pos 0) ≡ true → 45 ∷ decimal (natAbs y) ≡ signed y
+unfolding signed
+signed-below (pos m) h = absurd (omega (arith, ltb-true m 0 h))
+signed-below (negsuc m) h = refl
+
+signed-above : (y : ℤ) → ltZ y (pos 0) ≡ false → decimal (natAbs y) ≡ signed y
+unfolding signed
+signed-above (pos m) h = refl
+signed-above (negsuc m) h = absurd (true≢false h)
+
+-- the number of a word, as its bits come back, and its size: below 0 a minus stands before it
+module _ (w : ℕ) (word : Fits w32 w) (z : ℤ) (value : z ≡ toZ w32 w) (n : ℕ) (size : n ≡ natAbs (toZ w32 (ofZ w32 z))) where
+  back : toZ w32 (ofZ w32 z) ≡ toZ w32 w
+  back = ap (λ y. toZ w32 (ofZ w32 y)) value ∙ toZ-ofZ (sfits-toZ word)
+
+  pub integer-below : ltZ (toZ w32 (ofZ w32 z)) (pos 0) ≡ true → 45 ∷ decimal n ≡ integerText w
+  unfolding integerText
+  integer-below h = ap (λ m. 45 ∷ decimal m) size ∙ signed-below (toZ w32 (ofZ w32 z)) h ∙ ap signed back
+
+  pub integer-above : ltZ (toZ w32 (ofZ w32 z)) (pos 0) ≡ false → decimal n ≡ integerText w
+  unfolding integerText
+  integer-above h = ap decimal size ∙ signed-above (toZ w32 (ofZ w32 z)) h ∙ ap signed back

@@ -9,8 +9,9 @@ use native.Mathlib.Nat.{add-zero}
 use lib.Dec.{eqb, ltb, leb}
 use lib.ListN.{length, getD, drop}
 use borrow.Author.Tests.{lt-ltb, le-ltb, le-leb, lt-leb, eq-eqb, ne-eqb}
+use Rattle.words.specs.Limits.{formalsMost}
 use Rattle.datum.specs.Constant.{isConstant, constantWords, integer, boolean}
-use Rattle.core_term.specs.Node.{Node, isNode, isDatumNode, isListNode, nodeWords, parts, binds, Got, got, missing, nothing, withWord, withTwo, alone, codes, ofCode, sound, nodeAt, variableN, operationN, constantN, nameN, listN, ifN, lambdaN, applicationN}
+use Rattle.core_term.specs.Node.{variableCode, operationCode, integerCode, booleanCode, nameCode, listCode, ifCode, lambdaCode, applicationCode, Node, isNode, isDatumNode, isListNode, nodeWords, parts, binds, Got, got, missing, nothing, withWord, withTwo, alone, codes, ofCode, sound, nodeAt, variableN, operationN, constantN, nameN, listN, ifN, lambdaN, applicationN}
 use Rattle.core_term.specs.NodeLaws.{NodeRead, node-read}
 use Rattle.core_term.specs.declared.head.Head.{Head}
 use Rattle.core_term.specs.declared.head.Head.the-variants as H
@@ -78,41 +79,41 @@ module _ (ws : List ℕ) (l : 2 ≤ length ws) where
   some-word : 1 ≤ length ws
   some-word = omega arith
 
-  pub variable-at : getD ws 0 0 ≡ 0 → nodeAt ws ≡ got (variableN (getD ws 1 0)) (drop 2 ws)
+  pub variable-at : getD ws 0 0 ≡ variableCode → nodeAt ws ≡ got (variableN (getD ws 1 0)) (drop 2 ws)
   unfolding codes sound isNode
-  variable-at e = rw (at-code ws 0 e some-word, word-found variableN ws l)
+  variable-at e = rw (at-code ws variableCode e some-word, word-found variableN ws l)
 
-  pub operation-at : getD ws 0 0 ≡ 1 → nodeAt ws ≡ got (operationN (getD ws 1 0)) (drop 2 ws)
+  pub operation-at : getD ws 0 0 ≡ operationCode → nodeAt ws ≡ got (operationN (getD ws 1 0)) (drop 2 ws)
   unfolding codes sound isNode
-  operation-at e = rw (at-code ws 1 e some-word, word-found operationN ws l)
+  operation-at e = rw (at-code ws operationCode e some-word, word-found operationN ws l)
 
-  pub integer-at : getD ws 0 0 ≡ 2 → nodeAt ws ≡ got (constantN (integer (getD ws 1 0))) (drop 2 ws)
+  pub integer-at : getD ws 0 0 ≡ integerCode → nodeAt ws ≡ got (constantN (integer (getD ws 1 0))) (drop 2 ws)
   unfolding codes sound isNode isConstant integer
-  integer-at e = rw (at-code ws 2 e some-word, word-found (λ w. constantN (integer w)) ws l)
+  integer-at e = rw (at-code ws integerCode e some-word, word-found (λ w. constantN (integer w)) ws l)
 
-  pub name-at : getD ws 0 0 ≡ 4 → nodeAt ws ≡ got (nameN (getD ws 1 0)) (drop 2 ws)
+  pub name-at : getD ws 0 0 ≡ nameCode → nodeAt ws ≡ got (nameN (getD ws 1 0)) (drop 2 ws)
   unfolding codes sound isNode
-  name-at e = rw (at-code ws 4 e some-word, word-found nameN ws l)
+  name-at e = rw (at-code ws nameCode e some-word, word-found nameN ws l)
 
-  pub list-at : getD ws 0 0 ≡ 5 → nodeAt ws ≡ got (listN (getD ws 1 0)) (drop 2 ws)
+  pub list-at : getD ws 0 0 ≡ listCode → nodeAt ws ≡ got (listN (getD ws 1 0)) (drop 2 ws)
   unfolding codes sound isNode
-  list-at e = rw (at-code ws 5 e some-word, word-found listN ws l)
+  list-at e = rw (at-code ws listCode e some-word, word-found listN ws l)
 
-  pub application-at : getD ws 0 0 ≡ 8 → nodeAt ws ≡ got (applicationN (getD ws 1 0)) (drop 2 ws)
+  pub application-at : getD ws 0 0 ≡ applicationCode → nodeAt ws ≡ got (applicationN (getD ws 1 0)) (drop 2 ws)
   unfolding codes sound isNode
-  application-at e = rw (at-code ws 8 e some-word, word-found applicationN ws l)
+  application-at e = rw (at-code ws applicationCode e some-word, word-found applicationN ws l)
 
-  pub boolean-at : getD ws 0 0 ≡ 3 → nodeAt ws ≡ sound (got (constantN (boolean (getD ws 1 0))) (drop 2 ws))
+  pub boolean-at : getD ws 0 0 ≡ booleanCode → nodeAt ws ≡ sound (got (constantN (boolean (getD ws 1 0))) (drop 2 ws))
   unfolding codes
-  boolean-at e = rw (at-code ws 3 e some-word, word-found (λ w. constantN (boolean w)) ws l)
+  boolean-at e = rw (at-code ws booleanCode e some-word, word-found (λ w. constantN (boolean w)) ws l)
 
-pub if-at : (ws : List ℕ) → 1 ≤ length ws → getD ws 0 0 ≡ 6 → nodeAt ws ≡ got ifN (drop 1 ws)
+pub if-at : (ws : List ℕ) → 1 ≤ length ws → getD ws 0 0 ≡ ifCode → nodeAt ws ≡ got ifN (drop 1 ws)
 unfolding codes sound isNode alone
-if-at ws l e = rw (at-code ws 6 e l)
+if-at ws l e = rw (at-code ws ifCode e l)
 
-pub lambda-at : (ws : List ℕ) → 3 ≤ length ws → getD ws 0 0 ≡ 7 → nodeAt ws ≡ sound (got (lambdaN (getD ws 1 0) (getD ws 2 0)) (drop 3 ws))
+pub lambda-at : (ws : List ℕ) → 3 ≤ length ws → getD ws 0 0 ≡ lambdaCode → nodeAt ws ≡ sound (got (lambdaN (getD ws 1 0) (getD ws 2 0)) (drop 3 ws))
 unfolding codes
-lambda-at ws l e = let h : 1 ≤ length ws = omega arith in rw (at-code ws 7 e h, two-found lambdaN ws l)
+lambda-at ws l e = let h : 1 ≤ length ws = omega arith in rw (at-code ws lambdaCode e h, two-found lambdaN ws l)
 
 -- ---- what the checker finds
 
@@ -135,64 +136,64 @@ module _ (operations base : ℕ) (nameGood : ℕ → Bool) (flags : List ℕ) (b
   head-missing e = rw e
 
   module _ (l : 2 ≤ length ws) where
-    pub integer-leaf : getD ws 0 0 ≡ 2 → leafHead b true ≡ Answer
+    pub integer-leaf : getD ws 0 0 ≡ integerCode → leafHead b true ≡ Answer
     unfolding headOf leafHead window allowed nodeWords parts binds isDatumNode isListNode isConstant constantWords integer
     integer-leaf e = rw (integer-at ws l e, add-zero)
 
-    pub boolean-leaf : getD ws 0 0 ≡ 3 → leafHead b (leb (getD ws 1 0) 1) ≡ Answer
+    pub boolean-leaf : getD ws 0 0 ≡ booleanCode → leafHead b (leb (getD ws 1 0) 1) ≡ Answer
     unfolding headOf leafHead window allowed nodeWords parts binds isDatumNode isListNode isConstant constantWords boolean sound isNode
     boolean-leaf e =
         case (getD ws 1 0) 2
         (λ k. let h : getD ws 1 0 ≤ 1 = omega arith in rw (boolean-at ws l e, lt-ltb _ _ k, lt-ltb _ _ k, le-leb _ _ h, add-zero))
         (λ k. let h : 1 < getD ws 1 0 = omega arith in rw (boolean-at ws l e, le-ltb _ _ k, lt-leb _ _ h))
 
-    pub name-leaf : getD ws 0 0 ≡ 4 → leafHead b (nameGood (getD ws 1 0)) ≡ Answer
+    pub name-leaf : getD ws 0 0 ≡ nameCode → leafHead b (nameGood (getD ws 1 0)) ≡ Answer
     unfolding headOf leafHead window allowed nodeWords parts binds isDatumNode isListNode
     name-leaf e = rw (name-at ws l e, add-zero)
 
-    pub list-found : getD ws 0 0 ≡ 5 → H.Node 2 (getD ws 1 0) b true ≡ Answer
+    pub list-found : getD ws 0 0 ≡ listCode → H.Node 2 (getD ws 1 0) b true ≡ Answer
     unfolding headOf window allowed nodeWords parts binds isDatumNode isListNode
     list-found e = rw (list-at ws l e, add-zero)
 
   module _ (l : 2 ≤ length ws) (free : q ≡ false) where
-    pub variable-leaf : getD ws 0 0 ≡ 0 → leafHead b (ltb (getD ws 1 0) b && noted base flags (getD ws 1 0)) ≡ Answer
+    pub variable-leaf : getD ws 0 0 ≡ variableCode → leafHead b (ltb (getD ws 1 0) b && noted base flags (getD ws 1 0)) ≡ Answer
     unfolding headOf leafHead window allowed nodeWords parts binds isDatumNode isListNode
     variable-leaf e = rw (variable-at ws l e, free, add-zero)
 
-    pub operation-leaf : getD ws 0 0 ≡ 1 → leafHead b (ltb (getD ws 1 0) operations) ≡ Answer
+    pub operation-leaf : getD ws 0 0 ≡ operationCode → leafHead b (ltb (getD ws 1 0) operations) ≡ Answer
     unfolding headOf leafHead window allowed nodeWords parts binds isDatumNode isListNode
     operation-leaf e = rw (operation-at ws l e, free, add-zero)
 
-    pub application-found : getD ws 0 0 ≡ 8 → H.Node 2 (getD ws 1 0 + 1) b false ≡ Answer
+    pub application-found : getD ws 0 0 ≡ applicationCode → H.Node 2 (getD ws 1 0 + 1) b false ≡ Answer
     unfolding headOf window allowed nodeWords parts binds isDatumNode isListNode
     application-found e = rw (application-at ws l e, free, add-zero, add-one)
 
-  pub if-found : 1 ≤ length ws → q ≡ false → getD ws 0 0 ≡ 6 → H.Node 1 3 b false ≡ Answer
+  pub if-found : 1 ≤ length ws → q ≡ false → getD ws 0 0 ≡ ifCode → H.Node 1 3 b false ≡ Answer
   unfolding headOf window allowed nodeWords parts binds isDatumNode isListNode
   if-found l free e = rw (if-at ws l e, free, add-zero)
 
-  module _ (l : 3 ≤ length ws) (free : q ≡ false) (e : getD ws 0 0 ≡ 7) where
-    pub lambda-found : getD ws 2 0 ≤ 8 → getD ws 1 0 ≡ b → H.Node 3 1 (getD ws 1 0 + getD ws 2 0) false ≡ Answer
+  module _ (l : 3 ≤ length ws) (free : q ≡ false) (e : getD ws 0 0 ≡ lambdaCode) where
+    pub lambda-found : getD ws 2 0 ≤ formalsMost → getD ws 1 0 ≡ b → H.Node 3 1 (getD ws 1 0 + getD ws 2 0) false ≡ Answer
     unfolding headOf window allowed nodeWords parts binds isDatumNode isListNode sound isNode
     lambda-found h k = rw (lambda-at ws l e, le-leb _ _ h, free, eq-eqb _ _ k, le-leb _ _ h, k)
 
-    pub lambda-many : 8 < getD ws 2 0 → H.No ≡ Answer
+    pub lambda-many : formalsMost < getD ws 2 0 → H.No ≡ Answer
     unfolding headOf sound isNode
     lambda-many h = rw (lambda-at ws l e, lt-leb _ _ h)
 
-    pub lambda-other : getD ws 2 0 ≤ 8 → (getD ws 1 0 ≡ b → ⊥) → H.No ≡ Answer
+    pub lambda-other : getD ws 2 0 ≤ formalsMost → (getD ws 1 0 ≡ b → ⊥) → H.No ≡ Answer
     unfolding headOf window allowed isDatumNode sound isNode
     lambda-other h k = rw (lambda-at ws l e, le-leb _ _ h, free, ne-eqb _ _ k, and-false)
 
 -- ---- too few words
 
 -- only an if has no more than its code
-pub short-missing : (ws : List ℕ) → (getD ws 0 0 ≡ 6 → ⊥) → length ws < 2 → nodeAt ws ≡ missing
+pub short-missing : (ws : List ℕ) → (getD ws 0 0 ≡ ifCode → ⊥) → length ws < 2 → nodeAt ws ≡ missing
 unfolding nodeAt ofCode codes sound withWord withTwo nothing
 short-missing [] k l = refl
 short-missing (w ∷ []) k l = go w k
   where
-    go : (w : ℕ) → (w ≡ 6 → ⊥) → nodeAt (w ∷ []) ≡ missing
+    go : (w : ℕ) → (w ≡ ifCode → ⊥) → nodeAt (w ∷ []) ≡ missing
     go zero k = refl
     go (suc zero) k = refl
     go (suc (suc zero)) k = refl
@@ -206,24 +207,24 @@ short-missing (w ∷ []) k l = go w k
 short-missing (w ∷ a ∷ ws) k l = absurd (omega arith)
 
 -- code 7
-pub lambda-short : (ws : List ℕ) → getD ws 0 0 ≡ 7 → length ws < 3 → nodeAt ws ≡ missing
+pub lambda-short : (ws : List ℕ) → getD ws 0 0 ≡ lambdaCode → length ws < 3 → nodeAt ws ≡ missing
 unfolding codes sound
 lambda-short ws e l = go (length ws) refl
   where
     go : (n : ℕ) → length ws ≡ n → nodeAt ws ≡ missing
     go zero h = at-none ws h
-    go (suc n) h = let k : 1 ≤ length ws = omega arith in rw (at-code ws 7 e k, two-missing lambdaN ws l)
+    go (suc n) h = let k : 1 ≤ length ws = omega arith in rw (at-code ws lambdaCode e k, two-missing lambdaN ws l)
 
 -- ---- no datum
 
 -- the code of a node that begins a datum
-datum-code : (x : Node) (r : List ℕ) → isNode x ≡ true → isDatumNode x ≡ true → (2 ≤ getD (nodeWords x ++ r) 0 0) × (getD (nodeWords x ++ r) 0 0 ≤ 5)
+datum-code : (x : Node) (r : List ℕ) → isNode x ≡ true → isDatumNode x ≡ true → (integerCode ≤ getD (nodeWords x ++ r) 0 0) × (getD (nodeWords x ++ r) 0 0 ≤ listCode)
 unfolding isNode isDatumNode nodeWords constantWords isConstant
 datum-code (variableN n) r p h = absurd (false≢true h)
 datum-code (operationN n) r p h = absurd (false≢true h)
 datum-code (constantN a) r p h = go (a .kind) p
   where
-    go : (k : ℕ) → getD (false ∷ eqb (a .second) 0 ∷ (ltb (a .first) 2 && eqb (a .second) 0) ∷ []) k false ≡ true → (2 ≤ suc k) × (suc k ≤ 5)
+    go : (k : ℕ) → getD (false ∷ eqb (a .second) 0 ∷ (ltb (a .first) 2 && eqb (a .second) 0) ∷ []) k false ≡ true → (integerCode ≤ suc k) × (suc k ≤ listCode)
     go zero q = absurd (false≢true q)
     go (suc zero) q = omega arith
     go (suc (suc zero)) q = omega arith
@@ -245,7 +246,7 @@ module _ (operations base : ℕ) (nameGood : ℕ → Bool) (flags : List ℕ) (b
       go true e = absurd (h x r refl e)
       go false e = rw (wanted, e)
 
-  pub quoted-none : (2 ≤ getD ws 0 0 → getD ws 0 0 ≤ 5 → ⊥) → H.No ≡ Answer operations base nameGood flags b q ws
+  pub quoted-none : (integerCode ≤ getD ws 0 0 → getD ws 0 0 ≤ listCode → ⊥) → H.No ≡ Answer operations base nameGood flags b q ws
   quoted-none h = no-datum (nodeAt ws) (λ x r e d. other x r (node-read ws x r e) d)
     where
       other : (x : Node) (r : List ℕ) → NodeRead ws x r → isDatumNode x ≡ true → ⊥

@@ -8,6 +8,37 @@ use lib.ListN.{getD}
 use Rattle.words.specs.Limits.{formalsMost}
 use Rattle.datum.specs.Constant.{Constant, isConstant, constantWords, integer, boolean}
 
+-- ---- the codes; src/codes.rt has the same numbers for code. Those of constants are constantWords of datum/specs/Constant.antt
+
+abbrev pub variableCode : ℕ
+variableCode = 0
+
+abbrev pub operationCode : ℕ
+operationCode = 1
+
+abbrev pub integerCode : ℕ
+integerCode = 2
+
+abbrev pub booleanCode : ℕ
+booleanCode = 3
+
+abbrev pub nameCode : ℕ
+nameCode = 4
+
+abbrev pub listCode : ℕ
+listCode = 5
+
+abbrev pub ifCode : ℕ
+ifCode = 6
+
+abbrev pub lambdaCode : ℕ
+lambdaCode = 7
+
+abbrev pub applicationCode : ℕ
+applicationCode = 8
+
+-- ---- nodes
+
 pub data Node : Type 0 where
   variableN operationN : (number : ℕ) → Node
   constantN : Constant → Node
@@ -19,14 +50,14 @@ pub data Node : Type 0 where
 
 -- a node's own words
 unfoldable pub nodeWords : Node → List ℕ
-nodeWords (variableN n) = 0 ∷ n ∷ []
-nodeWords (operationN n) = 1 ∷ n ∷ []
+nodeWords (variableN n) = variableCode ∷ n ∷ []
+nodeWords (operationN n) = operationCode ∷ n ∷ []
 nodeWords (constantN a) = constantWords a
-nodeWords (nameN n) = 4 ∷ n ∷ []
-nodeWords (listN n) = 5 ∷ n ∷ []
-nodeWords ifN = 6 ∷ []
-nodeWords (lambdaN first n) = 7 ∷ first ∷ n ∷ []
-nodeWords (applicationN n) = 8 ∷ n ∷ []
+nodeWords (nameN n) = nameCode ∷ n ∷ []
+nodeWords (listN n) = listCode ∷ n ∷ []
+nodeWords ifN = ifCode ∷ []
+nodeWords (lambdaN first n) = lambdaCode ∷ first ∷ n ∷ []
+nodeWords (applicationN n) = applicationCode ∷ n ∷ []
 
 -- how many terms or data follow them
 unfoldable pub parts : Node → ℕ
@@ -109,7 +140,7 @@ withTwo f (a ∷ b ∷ ws) = got (f a b) ws
 unfoldable pub alone : Node → Read Node
 alone x ws = got x ws
 
--- codes 0 to 8
+-- what each code from 0 to 8 reads
 unfoldable pub codes : List (Read Node)
 codes =
     withWord variableN ∷ withWord operationN ∷ withWord (λ w. constantN (integer w)) ∷ withWord (λ w. constantN (boolean w)) ∷

@@ -4,8 +4,9 @@ ghost use mathlib.Core.Bool.{Bool, false};
 ghost use mathlib.Core.List.{List};
 ghost use Prim.Native.Nat.{ℕ, _≤_, _<_};
 ghost use lib.ListN.{length, getD};
-ghost use Rattle.core_term.specs.Node.{nodeAt};
+ghost use Rattle.core_term.specs.Node.{listCode, lambdaCode, nodeAt};
 ghost use Rattle.core_term.specs.Window.{goodName, window, headOf, leafHead};
+use crate::codes;
 use crate::flags::in_scope;
 use words::FORMALS;
 use words::NAME_LENGTH;
@@ -60,24 +61,24 @@ pub fn leaf(
     flags: &[u8],
     quoted: bool,
 ) -> bool
-    requires { ⌜ (2 ≤ length (now words)) × (getD (now words) 0 0 < 5) ⌝ }
+    requires { ⌜ (2 ≤ length (now words)) × (getD (now words) 0 0 < listCode) ⌝ }
     ensures { λ r. ⌜ leafHead bound r ≡ headOf (window operations (goodName tabled (now (names .entry))) base) quoted (now (flags .entry)) bound (nodeAt (now (words .entry))) ⌝ }
 {
     let code = words[0];
     let a = words[1];
-    if code < 2 {
+    if code < codes::INTEGER {
         if quoted {
             return false;
         }
-        if code == 0 {
+        if code == codes::VARIABLE {
             return in_scope(wide(a), bound, base, flags);
         }
         return a < operations;
     }
-    if code == 2 {
+    if code == codes::INTEGER {
         return true;
     }
-    if code == 3 {
+    if code == codes::BOOLEAN {
         return a <= 1;
     }
     name_good(wide(a), names, tabled)
@@ -85,7 +86,7 @@ pub fn leaf(
 
 // A lambda: its first number is the count of variables before it.
 fn lambda_head(words: &[u32], bound: usize) -> Head
-    requires { ⌜ (1 ≤ length (now words)) × (getD (now words) 0 0 ≡ 7) ⌝ }
+    requires { ⌜ (1 ≤ length (now words)) × (getD (now words) 0 0 ≡ lambdaCode) ⌝ }
     ensures { λ r. ⌜ ((operations base : ℕ) (nameGood : ℕ → Bool) (flags : List ℕ) → r ≡ headOf (window operations nameGood base) false flags bound (nodeAt (now (words .entry)))) ⌝ }
 {
     if words.len() < 3 {
@@ -104,11 +105,11 @@ fn lambda_head(words: &[u32], bound: usize) -> Head
 
 // A node with parts: codes 5 to 8.
 fn branch(words: &[u32], bound: usize, quoted: bool) -> Head
-    requires { ⌜ (1 ≤ length (now words)) × (5 ≤ getD (now words) 0 0) ⌝ }
+    requires { ⌜ (1 ≤ length (now words)) × (listCode ≤ getD (now words) 0 0) ⌝ }
     ensures { λ r. ⌜ ((operations base : ℕ) (nameGood : ℕ → Bool) (flags : List ℕ) → r ≡ headOf (window operations nameGood base) quoted flags bound (nodeAt (now (words .entry)))) ⌝ }
 {
     let code = words[0];
-    if code == 6 {
+    if code == codes::IF {
         if quoted {
             return Head::No;
         }
@@ -118,16 +119,16 @@ fn branch(words: &[u32], bound: usize, quoted: bool) -> Head
         return Head::No;
     }
     let a = wide(words[1]);
-    if code == 5 {
+    if code == codes::LIST {
         return Head::Node(2, a, bound, true);
     }
     if quoted {
         return Head::No;
     }
-    if code == 7 {
+    if code == codes::LAMBDA {
         return lambda_head(words, bound);
     }
-    if code > 8 {
+    if code > codes::APPLICATION {
         return Head::No;
     }
     Head::Node(2, a + 1, bound, false)
@@ -149,7 +150,7 @@ pub fn node(
     if words.len() == 0 {
         return Head::No;
     }
-    if words[0] >= 5 {
+    if words[0] >= codes::LIST {
         return branch(words, bound, quoted);
     }
     if words.len() < 2 {

@@ -1,5 +1,6 @@
 // Ground 19 of document 01: whether words are exactly one core term, and one that holds together.
 // Its definition is termOf of specs/Check.antt; isTerm says whether there is one.
+pub mod codes; // codes of nodes
 mod flags; // the variables that are in scope
 mod head; // a node's own words
 mod term; // a term's words

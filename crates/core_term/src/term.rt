@@ -1,6 +1,7 @@
 // A term's words, node by node.
 ghost use Rattle.core_term.specs.Window.{goodName, window};
 ghost use Rattle.core_term.specs.Shape.{Shaped, Kept, Clear};
+use crate::codes;
 use crate::flags::mark;
 use crate::head::Head;
 use crate::head::leaf;
@@ -80,7 +81,7 @@ fn part(
     if words.len() < 2 {
         return Checked::No;
     }
-    if words[0] < 5 {
+    if words[0] < codes::LIST {
         if leaf(words, operations, names, tabled, bound, base, flags, quoted) {
             return Checked::Term(2, bound);
         }

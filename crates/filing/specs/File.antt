@@ -8,8 +8,7 @@ use lib.ListN.{length, drop}
 use Rattle.words.specs.Limits.{operationsMost}
 use Rattle.datum.specs.NameTable.{hasName}
 use Rattle.core_term.specs.Check.{termOf}
-use Rattle.expansion.specs.Run.{Run}
-use Rattle.output.specs.Output.{header, acceptance, printed}
+use Rattle.output.specs.Output.{header, acceptance}
 use Rattle.writer.specs.Put.{Put, Done, Full}
 use Rattle.writer.specs.Laid.{laid}
 use Rattle.writer.specs.Writing.{textOf}
@@ -25,11 +24,11 @@ pub record Accepted (words names : List ℕ) (steps sum : ℕ) : Type 0 where
   pub written : textOf words operationsMost names ≡ some term
   pub whole : acceptance names steps sum (termOf operationsMost (hasName names) words) ≡ header steps sum ++ (term ++ (10 ∷ []))
 
--- the output of a run
-unfoldable pub printedRun : List ℕ → Run → List ℕ
-printedRun names r = printed names (r .outcome) r
-
 -- what is to be printed stands at the beginning of the output, before what was there
 pub record Printed (x out out′ : List ℕ) (n : ℕ) : Type 0 where
   pub size : n ≡ length x
   pub bytes : out′ ≡ x ++ drop (length x) out
+
+-- bytes that hold any output of the filing program
+abbrev pub outputMost : ℕ
+outputMost = 73728

@@ -18,9 +18,10 @@ use Rattle.writer.specs.Put.{Put, Done, Full, noPlace, putOf}
 use Rattle.writer.specs.declared.Writing.{Writing}
 use Rattle.writer.specs.declared.Writing.the-variants.{Written, NoTerm, NoRoom}
 use Rattle.writer.specs.Laid.{laid, Left}
-use Rattle.writer.specs.LaidLaws.{laid-length, laid-append, laid-before, laid-part, laid-first, done-is, full-is, left-done, put-done}
+use Rattle.writer.specs.LaidLaws.{laid-length, laid-append, laid-before, laid-part, laid-first, done-is, full-is, left-done, place-holds, full-holds}
 use Rattle.writer.specs.Writing.{textFor, textOf}
-use Rattle.writer.specs.Written.{Wrote, wrote-all, wrote-none, written-fits, written-is, no-room-is, not-no-term, measured-full, measured-is}
+use Rattle.writer.specs.Wrote.{Wrote}
+use Rattle.writer.specs.WroteLaws.{wrote-all, wrote-none, written-fits, written-is, no-room-is, not-no-term, measured-full, measured-is}
 use Rattle.filing.specs.File.{Spared, spared, crowded, Accepted}
 
 -- an equal output
@@ -51,19 +52,20 @@ module _ (from : ℕ) (d : List ℕ) (low : from < length d) where
       told-as : (v : Writing) → r ≡ v → Wrote (some x) lent p v
       told-as v h = subst (λ (z : Option (List ℕ)). Wrote z lent p v) e (subst (Wrote o lent p) h w)
 
-      pub term-spared : (n : ℕ) → r ≡ Written n → Spared x from d (back p) (Done (from + n))
-      term-spared n h =
+      pub term-spared : (n : ℕ) → r ≡ Written n → length d < noPlace → Spared x from d (back p) (putOf (from + n))
+      term-spared n h few =
           let k = written-is x lent p n (told-as (Written n) h) in
-          spared {to = from + n} (omega arith) (term-end n h)
-          (ap back (k .2) ∙ laid-part x from last d (omega arith) (omega (arith, lent-length)))
+          place-holds (Spared x from d (back p)) (omega (arith, term-end n h))
+          (spared {to = from + n} (omega arith) (term-end n h) (ap back (k .2) ∙ laid-part x from last d (omega arith) (omega (arith, lent-length))))
 
-      pub term-crowded : r ≡ NoRoom → Spared x from d (back p) Full
+      pub term-crowded : r ≡ NoRoom → Spared x from d (back p) (putOf noPlace)
       term-crowded h =
           let k = no-room-is x lent p (told-as NoRoom h) in
-          crowded (omega (arith, lent-length))
-          (ap back (k .1) ∙ ap (λ (z : List ℕ). take from d ++ z) (take-append-drop (last - from) (drop from d)) ∙ take-append-drop from d)
+          full-holds (Spared x from d (back p))
+          (crowded (omega (arith, lent-length))
+          (ap back (k .1) ∙ ap (λ (z : List ℕ). take from d ++ z) (take-append-drop (last - from) (drop from d)) ∙ take-append-drop from d))
 
-      pub term-known : r ≡ NoTerm → Spared x from d (back p) Full
+      pub term-known : r ≡ NoTerm → Spared x from d (back p) (putOf noPlace)
       term-known h = absurd (not-no-term x lent p (told-as NoTerm h))
 
 module _ {x : List ℕ} {at : ℕ} {d e : List ℕ} where
@@ -72,14 +74,6 @@ module _ {x : List ℕ} {at : ℕ} {d e : List ℕ} where
 
   crowded-is : Spared x at d e Full → (length d ≤ at + length x) × (e ≡ d)
   crowded-is (crowded p q) = (p, q)
-
-  -- the place's number
-  pub spared-no-place : Spared x at d e Full → Spared x at d e (putOf noPlace)
-  unfolding putOf
-  spared-no-place s = s
-
-  pub spared-place : {to : ℕ} → length d < noPlace → Spared x at d e (Done to) → Spared x at d e (putOf to)
-  spared-place {to} h s = let k = spared-is s in subst (λ (z : Put). Spared x at d e z) (sym (put-done to (λ g. omega arith))) s
 
 -- ---- an accepted term
 

@@ -1,4 +1,5 @@
--- The filing program's one call: its output is the definition's, bytes and all.
+-- The filing program's one call: Filed is its promise.
+pub mod Filed
 pub mod Lines
 pub mod File
 pub mod FileLaws

@@ -22,8 +22,9 @@ use Rattle.expansion.specs.Ways.Grounds.{TurnedBack, atOnce, later, run-ground}
 use Rattle.output.specs.Output.{line, refusal, header, acceptance, printed, outputOf, filed, output}
 use Rattle.writer.specs.declared.Writing.{Writing}
 use Rattle.writer.specs.declared.Writing.the-variants.{Written, NoTerm, NoRoom}
-use Rattle.writer.specs.Written.{Wrote, written-is, no-room-is, not-no-term}
-use Rattle.filing.specs.File.{Printed}
+use Rattle.writer.specs.Wrote.{Wrote}
+use Rattle.writer.specs.WroteLaws.{written-is, no-room-is, not-no-term}
+use Rattle.filing.specs.File.{Printed, outputMost}
 use Rattle.filing.specs.RunLaws.{front}
 use Rattle.filing.specs.Lines.{countsText, refusal-laid, header-laid}
 
@@ -50,12 +51,12 @@ header-room steps sum p q = omega (arith, ap length (header-laid steps sum), cou
 -- ---- outputs
 
 module _ (fuel : ℕ) (small : fuel < limit) where
-  acceptance-room : (names ws : List ℕ) (steps sum : ℕ) → steps < limit → sum < limit → length ws ≤ 2046
-      → length (acceptance names steps sum (termOf operationsMost (hasName names) ws)) ≤ 73728
+  acceptance-room : (names ws : List ℕ) (steps sum : ℕ) → steps < limit → sum < limit → length ws ≤ filingCore
+      → length (acceptance names steps sum (termOf operationsMost (hasName names) ws)) ≤ outputMost
   unfolding acceptance line spaced spacedAfter
   acceptance-room names ws steps sum p q l = go (termOf operationsMost (hasName names) ws) refl
     where
-      go : (o : Option Plain) → termOf operationsMost (hasName names) ws ≡ o → length (acceptance names steps sum o) ≤ 73728
+      go : (o : Option Plain) → termOf operationsMost (hasName names) ws ≡ o → length (acceptance names steps sum o) ≤ outputMost
       go none e = omega (arith, refusal-room 19 0 0 (omega arith) (omega arith) (omega arith))
       go (some t) e =
           let x = text (nameAt names) t in
@@ -67,7 +68,7 @@ module _ (fuel : ℕ) (small : fuel < limit) where
             text-room operationsMost names ws t (C.accepted operationsMost (hasName names) ws t e) (omega arith),
           )
 
-  module _ (names items : List ℕ) (work core : ℕ) (few : core ≤ 2046) where
+  module _ (names items : List ℕ) (work core : ℕ) (few : core ≤ filingCore) where
     abbrev it : Run
     it = run items fuel work core
 
@@ -75,7 +76,7 @@ module _ (fuel : ℕ) (small : fuel < limit) where
     grounds-few g (atOnce l e) = omega arith
     grounds-few g (later l) = omega arith
 
-    printed-room : (o : Outcome) → it .outcome ≡ o → length (printed names o it) ≤ 73728
+    printed-room : (o : Outcome) → it .outcome ≡ o → length (printed names o it) ≤ outputMost
     unfolding printed
     printed-room accepted e =
         acceptance-room names (it .core) (it .steps) (it .sum) (omega (arith, run-steps items fuel work core, run-sum items fuel work core))
@@ -89,18 +90,18 @@ module _ (fuel : ℕ) (small : fuel < limit) where
     printed-room unfinished e = omega arith
 
   -- so the filing program always prints
-  pub filed-room : (txt : List ℕ) (items names work core : ℕ) → core ≤ 2046 → length (filed txt fuel items names work core) ≤ 73728
+  pub filed-room : (txt : List ℕ) (items names work core : ℕ) → core ≤ filingCore → length (filed txt fuel items names work core) ≤ outputMost
   unfolding filed outputOf
   filed-room txt items names work core few = go (read txt items names) refl
     where
-      go : (a : Answer Recipe) → read txt items names ≡ a → length (outputOf fuel work core a) ≤ 73728
+      go : (a : Answer Recipe) → read txt items names ≡ a → length (outputOf fuel work core a) ≤ outputMost
       go (got r) e = printed-room (nameBytes r) (itemWords r) work core few (run (itemWords r) fuel work core .outcome) refl
       go (back g) e = omega (arith, refusal-room g 0 0 (omega (arith, read-ground txt items names g e)) (omega arith) (omega arith))
 
 -- ---- in the filing program's tables
 
 module _ (txt out out′ : List ℕ) (r : Writing) (items names work core : ℕ) (w : Wrote (some (filed txt filingFuel items names work core)) out out′ r)
-    (i : items ≡ itemWordsLeast) (n : names ≡ nameBytesLeast) (k : work ≡ filingWork) (c : core ≡ filingCore) (room : 73728 ≤ length out) where
+    (i : items ≡ itemWordsLeast) (n : names ≡ nameBytesLeast) (k : work ≡ filingWork) (c : core ≡ filingCore) (room : outputMost ≤ length out) where
   abbrev whole : List ℕ
   whole = output txt filingFuel
 

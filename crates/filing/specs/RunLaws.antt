@@ -1,22 +1,24 @@
 -- From the answers and tables of reading and expansion to the output that the definitions give.
 use mathlib.Core.Path.{_≡_, refl, sym, ap, subst, _∙_}
 use mathlib.Core.List.{List, _++_}
+use mathlib.Core.Option.{some}
 use Prim.Native.Nat.{ℕ, _*_, _-_, _≤_}
 use native.Mathlib.Omega.{arith}
 use lib.ListN.{length, take, replicate, length-append}
 use lib.Seq.{take-at}
 use Rattle.words.specs.Limits.{operationsMost, slotSize}
-use Rattle.datum.specs.Datum.{constantD, nameD, listD, dataItems}
+use Rattle.datum.specs.Datum.{constantD, nameD, listD, noneD, moreD, dataItems}
 use Rattle.datum.specs.Datum as D
 use Rattle.datum.specs.NameTable.{hasName}
 use Rattle.reading.specs.Elements.{Answer, got, back}
 use Rattle.reading.specs.Read as Read
-use Rattle.reading.specs.Read.{Recipe, read, itemWords, nameBytes, itemsAfter, namesAfter}
+use Rattle.reading.specs.Read.{Recipe, read, readNumbers, itemWords, nameBytes, itemsAfter, namesAfter}
+use Rattle.reading.specs.Laws.Grounds.{ground-some}
 use Rattle.reading_layout.specs.Items.{data-length}
 use Rattle.reading_layout.specs.Answers.{read-slots}
 use Rattle.reader.specs.declared.Reading.{Reading}
-use Rattle.reader.specs.declared.Reading.the-variants as R
-use Rattle.reader.specs.Served.{answerOf, Served}
+use Rattle.reader.specs.declared.Reading.the-variants as RV
+use Rattle.reader.specs.Served as R
 use Rattle.core_term.specs.Node.{nodeWords, variableN, operationN, constantN, nameN, listN, ifN, lambdaN, applicationN}
 use Rattle.core_term.specs.NodeLaws.{node-some}
 use Rattle.core_term.specs.Term.{Term, variableC, operationC, datumC, ifC, lambdaC, applicationC, count}
@@ -28,10 +30,14 @@ use Rattle.expansion.specs.Bounds.Gas.{run-finished}
 use Rattle.expansion.specs.Ways.Grounds.{TurnedBack, atOnce, later, run-ground}
 use Rattle.expander.specs.declared.Expansion.{Expansion}
 use Rattle.expander.specs.declared.Expansion.the-variants.{Accepted, Refused}
+use Rattle.expander.specs.Service as E
 use Rattle.expander.specs.Service.{Numbers, numbersOf, groundOf, runNumbers, leftBy, coreAfter}
 use Rattle.words.specs.Tables.{filled}
 use Rattle.output.specs.Output.{refusal, acceptance, printed, outputOf, filed}
-use Rattle.filing.specs.File.{printedRun}
+use Rattle.writer.specs.declared.Writing.{Writing}
+use Rattle.writer.specs.Wrote.{Wrote}
+use Rattle.filing.specs.FileLaws.{wrote-is}
+use Rattle.filing.specs.Filed.{printedRun, Expanded, workLeft, coreLeft, Filed}
 
 -- words at the beginning of a table
 pub front : (ws zs table : List ℕ) (n : ℕ) → table ≡ ws ++ zs → n ≡ length ws → (n ≤ length table) × (take n table ≡ ws)
@@ -82,54 +88,77 @@ module _ (items : List ℕ) (fuel work core : ℕ) where
       go (turnedBack k) h z l = h ∙ ap turnedBack (sym z)
       go unfinished h z l = absurd (run-finished items fuel work core h)
 
-  module _ (r : Expansion) (e : numbersOf r ≡ runNumbers it) where
-    module _ (n m l : ℕ) (h : r ≡ Accepted n m l) (to : ℕ) (w : to ≡ l) (before after : List ℕ) (f : after ≡ coreAfter it before) where
-      told : numbersOf (Accepted n m l) ≡ runNumbers it
-      told = subst (λ (z : Expansion). numbersOf z ≡ runNumbers it) h e
+module _ (items : List ℕ) (fuel : ℕ) (work work′ core core′ : List ℕ) (r : Expansion) (s : E.Served items fuel work work′ core core′ r) where
+  abbrev ran : Run
+  ran = run items fuel (length work) (length core)
 
-      -- the core table begins with the term
-      pub term-front : (to ≤ length after) × (take to after ≡ it .core)
-      unfolding numbersOf runNumbers coreAfter leftBy filled
-      term-front =
-          front (it .core) (replicate (length before - length (it .core)) 0) after to
-          (f ∙ ap (λ (o : Outcome). leftBy o (it .core) before) (is-accepted n m l told))
-          (w ∙ ap (λ (k : Numbers). k .length) told)
+  told-as : (q : Expansion) → r ≡ q → numbersOf q ≡ runNumbers ran
+  told-as q h = subst (λ (z : Expansion). numbersOf z ≡ runNumbers ran) h (s .numbers)
 
-      pub accepted-printed : (names : List ℕ) → acceptance names n m (termOf operationsMost (hasName names) (take to after)) ≡ printedRun names it
-      unfolding numbersOf runNumbers printedRun printed
-      accepted-printed names =
-          rw (is-accepted n m l told, ap (λ (k : Numbers). k .steps) told, ap (λ (k : Numbers). k .sum) told, term-front .1)
+  -- the run's output is written
+  expanded-by : {names x out out′ : List ℕ} {q : Writing} → x ≡ printedRun names ran → Wrote (some x) out out′ q → Expanded items fuel names work work′ core core′ out out′ q
+  expanded-by e x = record { output = wrote-is e x; work-after = s .work-after; core-after = s .core-after }
 
-    pub refused-printed : (g n m : ℕ) → r ≡ Refused g n m → (names : List ℕ) → refusal g n m ≡ printedRun names it
+  module _ (n m l : ℕ) (h : r ≡ Accepted n m l) (to : ℕ) (w : to ≡ l) where
+    told : numbersOf (Accepted n m l) ≡ runNumbers ran
+    told = told-as (Accepted n m l) h
+
+    ran-accepted : ran .outcome ≡ accepted
+    ran-accepted = is-accepted items fuel (length work) (length core) n m l told
+
+    -- the core table begins with the term
+    pub term-front : (to ≤ length core′) × (take to core′ ≡ ran .core)
+    unfolding numbersOf runNumbers coreAfter leftBy filled
+    term-front =
+        front (ran .core) (replicate (length core - length (ran .core)) 0) core′ to
+        (s .core-after ∙ ap (λ (o : Outcome). leftBy o (ran .core) core) ran-accepted)
+        (w ∙ ap (λ (k : Numbers). k .length) told)
+
+    pub expanded-accepted : {names out out′ : List ℕ} {q : Writing} → Wrote (some (acceptance names n m (termOf operationsMost (hasName names) (take to core′)))) out out′ q
+        → Expanded items fuel names work work′ core core′ out out′ q
     unfolding numbersOf runNumbers printedRun printed
-    refused-printed g n m h names =
-        let told = subst (λ (z : Expansion). numbersOf z ≡ runNumbers it) h e in
-        rw (is-refused g n m told, ap (λ (k : Numbers). k .steps) told, ap (λ (k : Numbers). k .sum) told)
+    expanded-accepted = expanded-by (rw (ran-accepted, ap (λ (k : Numbers). k .steps) told, ap (λ (k : Numbers). k .sum) told, term-front .1))
+
+  pub expanded-refused : (g n m : ℕ) → r ≡ Refused g n m → {names out out′ : List ℕ} {q : Writing} → Wrote (some (refusal g n m)) out out′ q
+      → Expanded items fuel names work work′ core core′ out out′ q
+  unfolding numbersOf runNumbers printedRun printed
+  expanded-refused g n m h =
+      let told = told-as (Refused g n m) h in
+      expanded-by (rw (is-refused items fuel (length work) (length core) g n m told, ap (λ (k : Numbers). k .steps) told, ap (λ (k : Numbers). k .sum) told))
 
 -- ---- reading
 
-module _ (text items items′ names names′ : List ℕ) (r : Reading) (s : Served text items items′ names names′ r) where
+-- a list has an item
+data-some : (ds : D.Data) → 1 ≤ dataItems ds
+unfolding dataItems
+data-some noneD = omega arith
+data-some (moreD d ds) = omega arith
+
+module _ (text items items′ names names′ : List ℕ) (r : Reading) (s : R.Served text items items′ names names′ r) where
   abbrev read′ : Answer Recipe
   read′ = read text (length items) (length names)
 
-  -- the recipe behind an answer
-  pub recipe-read : (i n : ℕ) → r ≡ R.Read i n → (x : Recipe) × (read′ ≡ got x) × (i ≡ dataItems (x .elements)) × (n ≡ length (x .names))
-  unfolding answerOf
-  recipe-read i n h = go read′ refl (sym h ∙ s .answer)
-    where
-      go : (a : Answer Recipe) → read′ ≡ a → R.Read i n ≡ answerOf a → (x : Recipe) × (read′ ≡ got x) × (i ≡ dataItems (x .elements)) × (n ≡ length (x .names))
-      go (got x) e k = (x, e, cc, cc)
-      go (back g) e k = let z : _≡_ {A = ℕ} 0 1 = cc in absurd (omega arith)
+  told-of : (q : Reading) → r ≡ q → R.numbersOf q ≡ readNumbers read′
+  told-of q h = subst (λ (z : Reading). R.numbersOf z ≡ readNumbers read′) h (s .numbers)
 
-  refused-read : (g : ℕ) → r ≡ R.Refused g → read′ ≡ back g
-  unfolding answerOf
-  refused-read g h = go read′ refl (sym h ∙ s .answer)
+  -- the recipe behind an answer, by its numbers
+  pub recipe-read : (i n : ℕ) → r ≡ RV.Read i n → (x : Recipe) × (read′ ≡ got x) × (i ≡ dataItems (x .elements)) × (n ≡ length (x .names))
+  unfolding R.numbersOf readNumbers
+  recipe-read i n h = go read′ refl (told-of (RV.Read i n) h)
     where
-      go : (a : Answer Recipe) → read′ ≡ a → R.Refused g ≡ answerOf a → read′ ≡ back g
-      go (got x) e k = let z : _≡_ {A = ℕ} 0 1 = cc in absurd (omega arith)
-      go (back j) e k = let z : g ≡ j = cc in e ∙ ap back (sym z)
+      go : (a : Answer Recipe) → read′ ≡ a → R.numbersOf (RV.Read i n) ≡ readNumbers a → (x : Recipe) × (read′ ≡ got x) × (i ≡ dataItems (x .elements)) × (n ≡ length (x .names))
+      go (got x) e k = (x, e, ap (λ (m : Read.Numbers). m .items) k, ap (λ (m : Read.Numbers). m .names) k)
+      go (back g) e k = absurd (omega (arith, ground-some text (length items) (length names) g e, ap (λ (m : Read.Numbers). m .ground) k))
 
-  module _ (i n : ℕ) (h : r ≡ R.Read i n) where
+  refused-read : (g : ℕ) → r ≡ RV.Refused g → read′ ≡ back g
+  unfolding R.numbersOf readNumbers
+  refused-read g h = go read′ refl (told-of (RV.Refused g) h)
+    where
+      go : (a : Answer Recipe) → read′ ≡ a → R.numbersOf (RV.Refused g) ≡ readNumbers a → read′ ≡ back g
+      go (got x) e k = absurd (omega (arith, data-some (x .elements), ap (λ (m : Read.Numbers). m .items) k))
+      go (back j) e k = e ∙ ap back (sym (ap (λ (m : Read.Numbers). m .ground) k))
+
+  module _ (i n : ℕ) (h : r ≡ RV.Read i n) where
     abbrev recipe : Recipe
     recipe = recipe-read i n h .0
 
@@ -150,10 +179,27 @@ module _ (text items items′ names names′ : List ℕ) (r : Reading) (s : Serv
         (s .names ∙ ap (λ (a : Answer Recipe). namesAfter a names) is-read)
         (omega (arith, read-slots text (length items) (length names) recipe is-read, recipe-read i n h .3))
 
-    pub read-filed : (fuel work core : ℕ) → printedRun (take (slotSize * n) names′) (run (take (3 * i) items′) fuel work core) ≡ filed text fuel (length items) (length names) work core
+    read-filed : (fuel work core : ℕ) → printedRun (take (slotSize * n) names′) (run (take (3 * i) items′) fuel work core) ≡ filed text fuel (length items) (length names) work core
     unfolding printedRun filed outputOf
     read-filed fuel work core = rw (items-front .1, names-front .1, is-read)
 
-  pub refused-filed : (g : ℕ) → r ≡ R.Refused g → (fuel work core : ℕ) → refusal g 0 0 ≡ filed text fuel (length items) (length names) work core
-  unfolding filed outputOf
-  refused-filed g h fuel work core = rw (refused-read g h)
+    pub filed-read : {fuel : ℕ} {work work′ core core′ out out′ : List ℕ} {w : Writing}
+        → Expanded (take (3 * i) items′) fuel (take (slotSize * n) names′) work work′ core core′ out out′ w
+        → Filed text fuel items items′ names names′ work work′ core core′ out out′ w
+    unfolding workLeft coreLeft
+    filed-read {fuel} {work} {core = core} x =
+        let e : take (3 * i) items′ ≡ itemWords recipe = items-front .1 in
+        record {
+          output = wrote-is (read-filed fuel (length work) (length core)) (x .output);
+          items-after = s .items;
+          names-after = s .names;
+          work-after = x .work-after ∙ rw (is-read, e);
+          core-after = x .core-after ∙ rw (is-read, e);
+        }
+
+  pub filed-refused : (g : ℕ) → r ≡ RV.Refused g → {fuel : ℕ} {work core out out′ : List ℕ} {w : Writing} → Wrote (some (refusal g 0 0)) out out′ w
+      → Filed text fuel items items′ names names′ work work core core out out′ w
+  unfolding filed outputOf workLeft coreLeft
+  filed-refused g h x =
+      let e = refused-read g h in
+      record { output = wrote-is (rw e) x; items-after = s .items; names-after = s .names; work-after = rw e; core-after = rw e }

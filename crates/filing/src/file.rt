@@ -7,12 +7,12 @@ ghost use lib.ListN.{length};
 ghost use Rattle.words.specs.Limits.{operationsMost};
 ghost use Rattle.datum.specs.NameTable.{hasName};
 ghost use Rattle.core_term.specs.Check.{termOf};
-ghost use Rattle.expansion.specs.Run.{run};
-ghost use Rattle.output.specs.Output.{refusal, acceptance, filed};
+ghost use Rattle.output.specs.Output.{refusal, acceptance};
 ghost use Rattle.writer.specs.Put.{putOf};
 ghost use Rattle.writer.specs.Writing.{textOf};
-ghost use Rattle.writer.specs.Written.{Wrote};
-ghost use Rattle.filing.specs.File.{Spared, printedRun};
+ghost use Rattle.writer.specs.Wrote.{Wrote};
+ghost use Rattle.filing.specs.File.{Spared};
+ghost use Rattle.filing.specs.Filed.{Expanded, Filed};
 use crate::lines::accepted_line;
 use crate::lines::refused_line;
 use core_term::is_term;
@@ -20,6 +20,7 @@ use expander::Expansion;
 use expander::expand;
 use reader::Reading;
 use reader::read;
+use words::ITEM;
 use words::OPERATIONS;
 use words::SLOT;
 use writer::Writing;
@@ -27,9 +28,6 @@ use writer::bytes::FULL;
 use writer::bytes::byte;
 use writer::numbers::wide;
 use writer::write;
-
-// Words of an item.
-const ITEM: usize = 3;
 
 // The output of what is turned back. It is measured, then laid.
 fn refused(ground: u32, steps: u32, sum: u32, out: &mut [u8]) -> Writing
@@ -97,7 +95,7 @@ fn expanded(
     core: &mut [u32],
     out: &mut [u8],
 ) -> Writing
-    ensures { λ r. ⌜ Wrote (some (printedRun (now (names .entry)) (run (now (items .entry)) fuel (length (now (work .entry))) (length (now (core .entry)))))) (now (out .entry)) (now (out .exit)) r ⌝ }
+    ensures { λ r. ⌜ Expanded (now (items .entry)) fuel (now (names .entry)) (now (work .entry)) (now (work .exit)) (now (core .entry)) (now (core .exit)) (now (out .entry)) (now (out .exit)) r ⌝ }
 {
     match expand(items, fuel, work, core) {
         Expansion::Accepted {
@@ -126,7 +124,7 @@ pub fn file(
     core: &mut [u32],
     out: &mut [u8],
 ) -> Writing
-    ensures { λ r. ⌜ Wrote (some (filed (now (text .entry)) fuel (length (now (items .entry))) (length (now (names .entry))) (length (now (work .entry))) (length (now (core .entry))))) (now (out .entry)) (now (out .exit)) r ⌝ }
+    ensures { λ r. ⌜ Filed (now (text .entry)) fuel (now (items .entry)) (now (items .exit)) (now (names .entry)) (now (names .exit)) (now (work .entry)) (now (work .exit)) (now (core .entry)) (now (core .exit)) (now (out .entry)) (now (out .exit)) r ⌝ }
 {
     match read(text, items, names) {
         Reading::Read { items: i, names: n } => {

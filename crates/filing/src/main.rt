@@ -3,7 +3,7 @@ ghost use Prim.Native.Nat.{_≤_};
 ghost use lib.ListN.{length};
 ghost use Rattle.words.specs.Limits.{filingFuel};
 ghost use Rattle.output.specs.Output.{output};
-ghost use Rattle.filing.specs.File.{Printed};
+ghost use Rattle.filing.specs.File.{outputMost, Printed};
 
 mod file; // the whole output of a text, in lent tables
 mod lines; // the line that opens it
@@ -11,33 +11,39 @@ mod lines; // the line that opens it
 use file::file;
 use libc::STDIN_FILENO;
 use libc::STDOUT_FILENO;
+use words::FILING_CORE;
+use words::FILING_FUEL;
+use words::FILING_WORK;
+use words::ITEM_WORDS;
+use words::NAME_BYTES;
 use writer::Writing;
 
-const FUEL: u32 = 512;
+// Bytes of the longest output, and some to spare. specs/File.antt has the same number.
+const OUTPUT: usize = 73728;
 
-fn item_table() -> [u32; 12288] {
-    [0; 12288]
+fn item_table() -> [u32; ITEM_WORDS] {
+    [0; ITEM_WORDS]
 }
 
-fn name_table() -> [u8; 65536] {
-    [0; 65536]
+fn name_table() -> [u8; NAME_BYTES] {
+    [0; NAME_BYTES]
 }
 
-fn work_table() -> [u32; 16368] {
-    [0; 16368]
+fn work_table() -> [u32; FILING_WORK] {
+    [0; FILING_WORK]
 }
 
-fn core_table() -> [u32; 2046] {
-    [0; 2046]
+fn core_table() -> [u32; FILING_CORE] {
+    [0; FILING_CORE]
 }
 
-fn room() -> [u8; 73728] {
-    [0; 73728]
+fn room() -> [u8; OUTPUT] {
+    [0; OUTPUT]
 }
 
 // The output of a text, at the beginning of out; its length. Any output fits.
 fn output(text: &[u8], out: &mut [u8]) -> usize
-    requires { ⌜ 73728 ≤ length (now out) ⌝ }
+    requires { ⌜ outputMost ≤ length (now out) ⌝ }
     ensures { λ r. ⌜ Printed (output (now (text .entry)) filingFuel) (now (out .entry)) (now (out .exit)) r ⌝ }
 {
     let mut items = item_table();
@@ -46,7 +52,7 @@ fn output(text: &[u8], out: &mut [u8]) -> usize
     let mut core = core_table();
     match file(
         text,
-        FUEL,
+        FILING_FUEL,
         &mut items,
         &mut names,
         &mut work,

@@ -1,22 +1,21 @@
 -- What the services promise, as the calls for C and Rust tell it.
-use mathlib.Core.Path.{_≡_, ap, ap₂, sym, _∙_}
+use mathlib.Core.Path.{_≡_, ap, sym, _∙_}
 use mathlib.Core.List.{List, [], _∷_}
 use mathlib.Core.Option.{Option}
 use Prim.Native.Nat.{ℕ, _≤_, _<_}
 use native.Mathlib.Omega.{arith}
 use lib.ListN.{length, set}
 use borrow.Author.Tests.{lt-ltb, le-ltb}
-use Rattle.reading.specs.Read.{read, groundOf, itemCount, nameCount, itemsAfter, namesAfter}
+use Rattle.reading.specs.Read.{Numbers, read, readNumbers, itemsAfter, namesAfter}
 use Rattle.reader.specs.declared.Reading.{Reading}
 use Rattle.reader.specs.Served as R
-use Rattle.reader.specs.Code.ServedLaws.{ground-is, items-are, names-are}
 use Rattle.writer.specs.declared.Writing.{Writing}
 use Rattle.writer.specs.Writing as W
-use Rattle.writer.specs.Written.{Wrote}
+use Rattle.writer.specs.Wrote.{Wrote}
 use Rattle.expansion.specs.Run.{run}
 use Rattle.expander.specs.declared.Expansion.{Expansion}
 use Rattle.expander.specs.Service as E
-use Rattle.grebetallboy.specs.Calls.{told, tells}
+use Rattle.grebetallboy.specs.Calls.{told, tellsRead, tellsRun}
 
 module _ (a b c : ℕ) where
   pub told-short : (t : List ℕ) → length t < 3 → t ≡ told a b c t
@@ -32,28 +31,25 @@ module _ (a b c : ℕ) where
 
 -- reading: ground, both tables, counts; q is the answer as it was taken apart
 module _ {text words words′ bytes bytes′ counts′ : List ℕ} {r q : Reading} (counts : List ℕ) where
-  pub read-told : R.Served text words words′ bytes bytes′ r → r ≡ q → counts′ ≡ told (R.items q) (R.names q) 0 counts
-      → (R.ground q ≡ groundOf (read text (length words) (length bytes)))
+  pub read-told : R.Served text words words′ bytes bytes′ r → r ≡ q → counts′ ≡ tellsRead (R.numbersOf q) counts
+      → ((R.numbersOf q) .ground ≡ (readNumbers (read text (length words) (length bytes))) .ground)
       × (words′ ≡ itemsAfter (read text (length words) (length bytes)) words)
       × (bytes′ ≡ namesAfter (read text (length words) (length bytes)) bytes)
-      × (counts′ ≡ told (itemCount (read text (length words) (length bytes))) (nameCount (read text (length words) (length bytes))) 0 counts)
+      × (counts′ ≡ tellsRead (readNumbers (read text (length words) (length bytes))) counts)
   read-told served e told-counts =
-      let a = read text (length words) (length bytes) in
-      let answer = sym e ∙ served .answer in
-      let i : R.items q ≡ itemCount a = ap R.items answer ∙ items-are a in
-      let n : R.names q ≡ nameCount a = ap R.names answer ∙ names-are a in
-      (ap R.ground answer ∙ ground-is a, served .items, served .names, told-counts ∙ ap₂ (λ x y. told x y 0 counts) i n)
+      let numbers = ap R.numbersOf (sym e) ∙ served .numbers in
+      (ap (λ (n : Numbers). n .ground) numbers, served .items, served .names, told-counts ∙ ap (λ n. tellsRead n counts) numbers)
 
 -- expansion: ground, both tables, counts
 module _ {items work work′ core core′ counts′ : List ℕ} {fuel : ℕ} {r q : Expansion} (counts : List ℕ) where
-  pub expand-told : E.Served items fuel work work′ core core′ r → r ≡ q → counts′ ≡ tells (E.numbersOf q) counts
+  pub expand-told : E.Served items fuel work work′ core core′ r → r ≡ q → counts′ ≡ tellsRun (E.numbersOf q) counts
       → ((E.numbersOf q) .ground ≡ (E.runNumbers (run items fuel (length work) (length core))) .ground)
       × (work′ ≡ E.workAfter (run items fuel (length work) (length core)) work)
       × (core′ ≡ E.coreAfter (run items fuel (length work) (length core)) core)
-      × (counts′ ≡ tells (E.runNumbers (run items fuel (length work) (length core))) counts)
+      × (counts′ ≡ tellsRun (E.runNumbers (run items fuel (length work) (length core))) counts)
   expand-told served e told-counts =
       let numbers = ap E.numbersOf (sym e) ∙ served .numbers in
-      (ap (λ (n : E.Numbers). n .ground) numbers, served .work-after, served .core-after, told-counts ∙ ap (λ n. tells n counts) numbers)
+      (ap (λ (n : E.Numbers). n .ground) numbers, served .work-after, served .core-after, told-counts ∙ ap (λ n. tellsRun n counts) numbers)
 
 -- writing: ground, output, length
 module _ {x : Option (List ℕ)} {out out′ counts′ : List ℕ} {r q : Writing} (counts : List ℕ) where

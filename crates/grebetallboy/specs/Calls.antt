@@ -4,11 +4,16 @@ use mathlib.Core.List.{List, _∷_}
 use Prim.Native.Nat.{ℕ}
 use lib.Dec.{ltb}
 use lib.ListN.{length, drop}
-use Rattle.expander.specs.Service.{Numbers}
+use Rattle.reading.specs.Read as R
+use Rattle.expander.specs.Service as E
 
 unfoldable pub told : (a b c : ℕ) → List ℕ → List ℕ
 told a b c counts = cond (ltb (length counts) 3) counts (a ∷ b ∷ c ∷ drop 3 counts)
 
+-- reading's: items, names
+unfoldable pub tellsRead : R.Numbers → List ℕ → List ℕ
+tellsRead n counts = told (n .items) (n .names) 0 counts
+
 -- expansion's: steps, sum, length
-unfoldable pub tells : Numbers → List ℕ → List ℕ
-tells n counts = told (n .steps) (n .sum) (n .length) counts
+unfoldable pub tellsRun : E.Numbers → List ℕ → List ℕ
+tellsRun n counts = told (n .steps) (n .sum) (n .length) counts

@@ -3,11 +3,11 @@
 
 ghost use mathlib.Core.Path.{_≡_};
 ghost use lib.ListN.{length};
-ghost use Rattle.reading.specs.Read.{read, groundOf, itemCount, nameCount, itemsAfter, namesAfter};
+ghost use Rattle.reading.specs.Read.{read, readNumbers, itemsAfter, namesAfter};
 ghost use Rattle.writer.specs.Writing.{textOf, ground, size, after};
 ghost use Rattle.expansion.specs.Run.{run};
 ghost use Rattle.expander.specs.Service.{runNumbers, coreAfter, workAfter};
-ghost use Rattle.grebetallboy.specs.Calls.{told, tells};
+ghost use Rattle.grebetallboy.specs.Calls.{told, tellsRead, tellsRun};
 use expander::Expansion;
 use reader::Reading;
 use writer::Writing;
@@ -32,10 +32,10 @@ pub extern "C" fn grebetallboy_read(
     names: &mut [u8],
     counts: &mut [u64],
 ) -> u32
-    ensures { λ r. ⌜ (r ≡ groundOf (read (now (text .entry)) (length (now (items .entry))) (length (now (names .entry)))))
+    ensures { λ r. ⌜ (r ≡ (readNumbers (read (now (text .entry)) (length (now (items .entry))) (length (now (names .entry))))) .ground)
         × (now (items .exit) ≡ itemsAfter (read (now (text .entry)) (length (now (items .entry))) (length (now (names .entry)))) (now (items .entry)))
         × (now (names .exit) ≡ namesAfter (read (now (text .entry)) (length (now (items .entry))) (length (now (names .entry)))) (now (names .entry)))
-        × (now (counts .exit) ≡ told (itemCount (read (now (text .entry)) (length (now (items .entry))) (length (now (names .entry))))) (nameCount (read (now (text .entry)) (length (now (items .entry))) (length (now (names .entry))))) 0 (now (counts .entry))) ⌝ }
+        × (now (counts .exit) ≡ tellsRead (readNumbers (read (now (text .entry)) (length (now (items .entry))) (length (now (names .entry))))) (now (counts .entry))) ⌝ }
 {
     match reader::read(text, items, names) {
         Reading::Read { items: i, names: n } => {
@@ -61,7 +61,7 @@ pub extern "C" fn grebetallboy_expand(
     ensures { λ r. ⌜ (r ≡ (runNumbers (run (now (items .entry)) fuel (length (now (work .entry))) (length (now (core .entry))))) .ground)
         × (now (work .exit) ≡ workAfter (run (now (items .entry)) fuel (length (now (work .entry))) (length (now (core .entry)))) (now (work .entry)))
         × (now (core .exit) ≡ coreAfter (run (now (items .entry)) fuel (length (now (work .entry))) (length (now (core .entry)))) (now (core .entry)))
-        × (now (counts .exit) ≡ tells (runNumbers (run (now (items .entry)) fuel (length (now (work .entry))) (length (now (core .entry))))) (now (counts .entry))) ⌝ }
+        × (now (counts .exit) ≡ tellsRun (runNumbers (run (now (items .entry)) fuel (length (now (work .entry))) (length (now (core .entry))))) (now (counts .entry))) ⌝ }
 {
     match expander::expand(items, fuel, work, core) {
         Expansion::Accepted {

@@ -1,22 +1,28 @@
 -- Laws of the token reader: what the covered cursor tells is the definition's answer, and what a new reader gives is the token sequence of the text.
-use mathlib.Core.Path.{_≡_, refl, sym, ap, _∙_}
+use mathlib.Core.Path.{_≡_, refl, sym, ap, subst, _∙_}
 use mathlib.Core.List.{List, [], _∷_, map, headD}
 use mathlib.Core.Option.{Option, none, some, Option·some-injective, Option·none-ne-some, Option·some-ne-none}
 use Prim.Native.Nat.{ℕ, zero, suc, _+_, _≤_, _<_}
 use native.Mathlib.Omega.{arith}
 use denote.Ref.{RefT, now}
 use lib.ListN.{length, drop}
+use Rattle.words.specs.Limits.{nameLengthMost}
 use Rattle.lexer.specs.declared.token_reader.TokenReader.{TokenReader}
 use Rattle.lexer.specs.declared.token.Token as T
 use Rattle.lexer.specs.declared.token.Token.the-variants.{End, Open, Close, Boolean, Integer, Name, Refused}
 use Rattle.reading.specs.Token.{Token, nothing, tokensAfter, tokens}
 use Rattle.reading.specs.Offset.{startAt, tokenAt, nextAt, before}
-use Rattle.reading.specs.Meaning.{Meaning, meaningOf}
+use Rattle.reading.specs.Meaning.{Meaning, name, meaningOf}
+use Rattle.reading.specs.RecipeText.{Means, named}
+use Rattle.reading.specs.Laws.Meanings.{isRefused, is-meant}
 use Rattle.reading.specs.Laws.Offsets.{tokens-from, start-low, next-high, next-later, past-end}
 use Rattle.lexer.specs.Told.{meaningsFrom, Took, Told}
 use Rattle.lexer.specs.Answered.{meant, pastOr, startOr, meaning, meaningAt, Answered, Takes, ended, further}
 
 -- ---- the meaning at an offset
+
+name-length : {t : Token} {cs : List ℕ} → Means t (name cs) → length cs ≤ nameLengthMost
+name-length (named n l u d) = u
 
 module _ (n : ℕ) where
   -- the first meaning of a token, where there is one, before others
@@ -75,9 +81,9 @@ module _ (text : List ℕ) (at : ℕ) where
   told-answered (Name f c) w = took-answered (Name f c) _ (c .at) (w .3) refl (w .0)
   told-answered (Refused g c) w = took-answered (Refused g c) _ (c .at) w refl refl
 
-  pub past-answered : length text < at → Answered text at End
+  pub past-answered : length text ≤ at → Answered text at End
   unfolding meaningAt
-  past-answered h = record { means = rw (past-end text at (omega arith)); starts = refl }
+  past-answered h = record { means = rw (past-end text at h); starts = refl }
 
   -- ---- where an answer leads
 
@@ -130,6 +136,39 @@ module _ (text : List ℕ) (at : ℕ) where
     answered-none e =
         let k = meant-none (nextAt text at) (tokenAt text at) (sym (a .means) ∙ e) in
         ap (map meaningOf) (tokens-from text at) ∙ rw k
+
+    -- ---- what it tells at a place within the text
+
+    answered-name : (cs : List ℕ) (next : ℕ) → meant text t ≡ some (name cs, next) → length cs ≤ nameLengthMost
+    unfolding meaningAt isRefused
+    answered-name cs next e =
+        let k = meant-some (nextAt text at) (tokenAt text at) (name cs) next (sym (a .means) ∙ e) in
+        name-length (subst (Means (k .0)) (k .2) (is-meant (k .0) (ap isRefused (k .2))))
+
+    answered-took : at ≤ length text → (m : Meaning) (next : ℕ) → meant text t ≡ some (m, next) → Took text at m next
+    unfolding meaningAt meaningsFrom
+    answered-took h m next e =
+        let k = meant-some (nextAt text at) (tokenAt text at) m next (sym (a .means) ∙ e) in
+        record {
+          low = omega (arith, start-low text at, answered-later m next e);
+          high = answered-within m next e h;
+          means = answered-some m next e;
+          ends = sym (k .3);
+        }
+
+    -- u is the answer as it was taken apart
+    pub answered-told : at ≤ length text → (u : T.Token) → t ≡ u → Told text at u
+    unfolding meaningsFrom
+    answered-told h End e = answered-none (ap (meant text) e)
+    answered-told h (Open c) e = answered-took h _ (c .at) (ap (meant text) e)
+    answered-told h (Close c) e = answered-took h _ (c .at) (ap (meant text) e)
+    answered-told h (Boolean b c) e = answered-took h _ (c .at) (ap (meant text) e)
+    answered-told h (Integer z c) e = answered-took h _ (c .at) (ap (meant text) e)
+    answered-told h (Name f c) e =
+        let m = ap (meant text) e in
+        let s : f ≡ startAt text at = ap (startOr (startAt text at)) (sym e) ∙ a .starts in
+        (s, omega (arith, answered-later _ (c .at) m), answered-name _ (c .at) m, answered-took h _ (c .at) m)
+    answered-told h (Refused g c) e = answered-took h _ (c .at) (ap (meant text) e)
 
 -- ---- one token after another
 

@@ -115,7 +115,7 @@ pub fn token_at(text: &[u8], cursor: Cursor) -> Token
     ensures { λ r. ⌜ Told (now (text .entry)) (cursor .at) r ⌝ }
 {
     let at = skip(text, cursor.at);
-    if at == text.len() {
+    if text.len() <= at {
         return Token::End;
     }
     let b = text[at];

@@ -15,11 +15,11 @@ pub struct TokenReader<'a> {
 
 // ---- covered
 
-// The first token from an offset on; the end where the text has no such offset.
+// The first token from an offset on; the end where the text has no byte there.
 pub fn answer_at(text: &[u8], at: usize) -> Token
     ensures { λ t. ⌜ Answered (now (text .entry)) at t ⌝ }
 {
-    if text.len() < at {
+    if text.len() <= at {
         return Token::End;
     }
     token_at(text, Cursor { at })

@@ -17,7 +17,7 @@ use crate::place::open_list;
 use crate::place::put_token;
 use lexer::token::Cursor;
 use lexer::token::Token;
-use lexer::token::token_at;
+use lexer::token_reader::token_from;
 use words::signed::to_word;
 
 // What reading does next: it goes on from a place and a cursor, is done with so many items and names, or turns the text back.
@@ -87,7 +87,7 @@ pub fn advance(
     requires { ⌜ NamesSound place (now names) (now index) ⌝ }
     ensures { λ m. ⌜ Advanced (now (text .entry)) (cursor .at) place (now (items .entry)) (now (items .exit)) (now (names .entry)) (now (names .exit)) (now (index .entry)) (now (index .exit)) m ⌝ }
 {
-    match token_at(text, cursor) {
+    match token_from(text, cursor.at) {
         Token::End => finish(place),
         Token::Refused(ground, _) => Move::Refused(ground),
         Token::Open(next) => moved(open_list(items, place), next),

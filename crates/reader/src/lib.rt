@@ -17,9 +17,9 @@ use lexer::token::Cursor;
 use words::tables::zero_bytes;
 use words::tables::zero_words;
 
-pub mod element;
-pub mod names;
-pub mod place;
+mod element; // one token after another
+mod names; // the name table and its index
+mod place; // where reading stands
 
 // The answer: item and name counts, or the ground.
 pub enum Reading {

@@ -6,9 +6,7 @@ ghost use lib.Dec.{eqb};
 ghost use lib.ListN.{length};
 ghost use Rattle.words.specs.Limits.{itemsMost};
 ghost use Rattle.reader.specs.Code.Placed.{put3, Sound, groundAt, TokenPut, ListOpened, ListClosed};
-
-// Words of an item.
-const ITEM: usize = 3;
+use words::ITEM;
 
 // The next item, the pair whose tail is open, open lists, e, elements that the text lacks, names.
 pub struct Place {

@@ -43,21 +43,16 @@ read text items names =
 
 -- ---- the numbers of the answer
 
--- accepted is 0
-unfoldable pub groundOf : Answer Recipe → ℕ
-groundOf (got r) = 0
-groundOf (back g) = g
+-- the ground, 0 where it is accepted; N; names, 0 to 7 among them
+pub record Numbers : Type 0 where
+  pub ground : ℕ
+  pub items : ℕ
+  pub names : ℕ
 
--- N
-unfoldable pub itemCount : Answer Recipe → ℕ
+unfoldable pub readNumbers : Answer Recipe → Numbers
 unfolding dataItems
-itemCount (got r) = dataItems (r .elements)
-itemCount (back g) = 0
-
--- names, 0 to 7 among them
-unfoldable pub nameCount : Answer Recipe → ℕ
-nameCount (got r) = length (r .names)
-nameCount (back g) = 0
+readNumbers (got r) = record { ground = 0; items = dataItems (r .elements); names = length (r .names) }
+readNumbers (back g) = record { ground = g; items = 0; names = 0 }
 
 -- ---- the tables
 

@@ -9,26 +9,22 @@ use Rattle.words.specs.Text.{bytes}
 use Rattle.datum.specs.NameTable.{slot}
 use Rattle.reading.specs.Token.{Token, close′, bad, run, isDigit, isRunning, isSeparating, classOf, flagOf}
 use Rattle.reading.specs.Offset.{leading, tokenOf, widthOf, firstOf, firstWidth, startAt, tokenAt, nextAt}
-use Rattle.reading.specs.Read.{recipeOf, read, groundOf, itemCount, nameCount, itemsAfter, namesAfter}
+use Rattle.reading.specs.Read.{recipeOf, read, Numbers, readNumbers, itemsAfter, namesAfter}
 
 pub record Row : Type 0 where
   pub text : List ℕ
-  pub ground : ℕ
-  pub items : ℕ
-  pub names : ℕ
+  pub numbers : Numbers
 
 -- an accepted text, with its item and name counts; a refused one, with its ground
 unfoldable pub accepted : List ℕ → ℕ → ℕ → Row
-accepted text items names = record { text = text; ground = 0; items = items; names = names }
+accepted text items names = record { text = text; numbers = record { ground = 0; items = items; names = names } }
 
 unfoldable pub turnedBack : List ℕ → ℕ → Row
-turnedBack text ground = record { text = text; ground = ground; items = 0; names = 0 }
+turnedBack text ground = record { text = text; numbers = record { ground = ground; items = 0; names = 0 } }
 
 unfoldable pub rowOf : List ℕ → Row
-unfolding recipeOf groundOf itemCount nameCount
-rowOf text =
-    let a = recipeOf text in
-    record { text = text; ground = groundOf a; items = itemCount a; names = nameCount a }
+unfolding recipeOf readNumbers
+rowOf text = record { text = text; numbers = readNumbers (recipeOf text) }
 
 -- n copies
 unfoldable pub repeated : ℕ → List ℕ → List ℕ
@@ -111,7 +107,7 @@ unfolding recipeOf bytes itemsAfter
 words-hold = refl
 
 -- the limits of e, of a call's tables and of its text
-pub limits-hold : map groundOf (
+pub limits-hold : map (λ a. readNumbers a .ground) (
     recipeOf (bytes "() (" ++ repeated 2045 (bytes " 1") ++ bytes ")")
     ∷ recipeOf (bytes "() (" ++ repeated 2046 (bytes " 1") ++ bytes ")")
     ∷ read (bytes "1 2") 12288 65536
@@ -120,5 +116,5 @@ pub limits-hold : map groundOf (
     ∷ read (replicate 65536 32) 12288 65536
     ∷ []
     ) ≡ 0 ∷ 6 ∷ 0 ∷ 1 ∷ 1 ∷ 2 ∷ []
-unfolding recipeOf bytes read groundOf repeated
+unfolding recipeOf bytes read readNumbers repeated
 limits-hold = refl

@@ -1,5 +1,5 @@
 -- Two words in one of 64 bits, or none.
-use mathlib.Core.Path.{_≡_, refl}
+use mathlib.Core.Path.{_≡_, refl, sym, subst}
 use mathlib.Core.Bool.{cond}
 use Prim.Native.Nat.{ℕ, _+_, _*_, _/_, _%_, _<_}
 use native.Mathlib.Omega.{arith}
@@ -31,3 +31,18 @@ module _ {A : Type 0} (n : A) (f : ℕ → ℕ → A) where
       let up : high ≡ p / 4294967296 = omega arith in
       let down : low ≡ p % 4294967296 = omega arith in
       pair-some p high low some up down
+
+-- what holds of an answer holds of what its word stands for
+module _ {A : Type 0} (P : A → Type 0) (n : A) (f : ℕ → ℕ → A) where
+  pub none-holds : (p : ℕ) → p ≡ noPair → P n → P (byPair p n f)
+  none-holds p e x = subst P (sym (pair-none n f p e)) x
+
+  pub pair-holds : (p high low : ℕ) → p ≡ packed high low → low < 4294967295 → P (f high low) → P (byPair p n f)
+  pair-holds p high low e h x = subst P (sym (pair-packed n f p high low e h)) x
+
+  -- and back
+  pub holds-none : (p : ℕ) → p ≡ noPair → P (byPair p n f) → P n
+  holds-none p e x = subst P (pair-none n f p e) x
+
+  pub holds-pair : (p high low : ℕ) → (p ≡ noPair → ⊥) → high ≡ p / 4294967296 → low ≡ p % 4294967296 → P (byPair p n f) → P (f high low)
+  holds-pair p high low h e g x = subst P (pair-some n f p high low h e g) x

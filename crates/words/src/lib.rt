@@ -22,6 +22,9 @@ pub const NAME_LENGTH: usize = 63;
 
 pub const SLOT: usize = 64;
 
+// Words of an item.
+pub const ITEM: usize = 3;
+
 // Expansion: items of a table, fuel, work and core words for each item and unit of fuel, operations.
 pub const LEAST_ITEMS: usize = 5;
 
@@ -47,3 +50,10 @@ pub const RULES: u32 = 16;
 pub const VARIABLES: u32 = 16;
 
 pub const DEPTH: u32 = 2;
+
+// The filing program: its fuel, and the lengths of the work and core tables that it lends.
+pub const FILING_FUEL: u32 = 512;
+
+pub const FILING_WORK: usize = 16368;
+
+pub const FILING_CORE: usize = 2046;

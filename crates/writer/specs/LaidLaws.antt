@@ -143,15 +143,16 @@ pub put-full : (n : ℕ) → n ≡ noPlace → putOf n ≡ Full
 unfolding putOf
 put-full n h = rw h
 
-pub left-no-place : {ink : Bool} {x : List ℕ} {at : ℕ} {d e : List ℕ} → Left ink x at d e Full → Left ink x at d e (putOf noPlace)
-unfolding putOf
-left-no-place l = l
+-- what holds of a place, or of there being none, holds of its number
+module _ (P : Put → Type 0) where
+  pub place-holds : {to : ℕ} → to < noPlace → P (Done to) → P (putOf to)
+  place-holds {to} h x = subst P (sym (put-done to (λ e. omega arith))) x
+
+  pub full-holds : P Full → P (putOf noPlace)
+  unfolding putOf
+  full-holds x = x
 
 module _ {ink : Bool} {x : List ℕ} {at : ℕ} {d e : List ℕ} where
-  -- a place within an output that is shorter
-  pub left-place : {to : ℕ} → length d < noPlace → Left ink x at d e (Done to) → Left ink x at d e (putOf to)
-  left-place {to} h l = let k = done-is l in subst (λ (z : Put). Left ink x at d e z) (sym (put-done to (λ g. omega arith))) l
-
   module _ {n : ℕ} (l : Left ink x at d e (putOf n)) where
     -- the place is within the output
     pub place-room : (n ≡ noPlace → ⊥) → n ≤ length e
@@ -159,7 +160,7 @@ module _ {ink : Bool} {x : List ℕ} {at : ℕ} {d e : List ℕ} where
 
     -- the first of two texts does not fit
     pub place-full : (y : List ℕ) → n ≡ noPlace → Left ink (x ++ y) at d e (putOf noPlace)
-    place-full y h = left-no-place (left-full l y (put-full n h))
+    place-full y h = full-holds (Left ink (x ++ y) at d e) (left-full l y (put-full n h))
 
     -- a second text after it
     pub place-then : {y f : List ℕ} {s : Put} → (n ≡ noPlace → ⊥) → Left ink y n e f s → Left ink (x ++ y) at d f s

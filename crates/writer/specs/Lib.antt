@@ -9,4 +9,5 @@ pub mod OpenedLaws
 pub mod Walk
 pub mod WalkLaws
 pub mod Writing
-pub mod Written
+pub mod Wrote
+pub mod WroteLaws

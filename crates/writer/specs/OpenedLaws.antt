@@ -11,7 +11,7 @@ use borrow.Author.Tests.{leb-true, ltb-true, ne-eqb}
 use Rattle.words.specs.Lists.{within}
 use Rattle.datum.specs.NameTable.{lengthAt, nameAt, hasName}
 use Rattle.datum.specs.Constant.{isConstant, constantWords, integer, boolean}
-use Rattle.core_term.specs.Node.{Node, nodeWords, got, missing, nodeAt, sound, isNode, variableN, operationN, constantN, nameN, listN, ifN, lambdaN, applicationN}
+use Rattle.core_term.specs.Node.{variableCode, operationCode, integerCode, booleanCode, nameCode, listCode, ifCode, lambdaCode, applicationCode, Node, nodeWords, got, missing, nodeAt, sound, isNode, variableN, operationN, constantN, nameN, listN, ifN, lambdaN, applicationN}
 use Rattle.core_term.specs.NodeLaws.{both, node-read}
 use Rattle.core_term.specs.WindowLaws.{case}
 use Rattle.core_term.specs.HeadLaws.{at-none, at-past, short-missing, lambda-short, variable-at, operation-at, integer-at, boolean-at, name-at, list-at, if-at, lambda-at, application-at}
@@ -64,87 +64,87 @@ module _ (ws : List ℕ) (x : Node) (r : List ℕ) (is : nodeAt ws ≡ got x r) 
       go zero h = no-got x r (sym (at-none ws h) ∙ is)
       go (suc n) h = omega arith
 
-  pub two-words : (getD ws 0 0 ≡ 6 → ⊥) → 2 ≤ length ws
+  pub two-words : (getD ws 0 0 ≡ ifCode → ⊥) → 2 ≤ length ws
   two-words k = case (length ws) 2 (λ l. no-got x r (sym (short-missing ws k l) ∙ is)) (λ l. l)
 
-  pub three-words : getD ws 0 0 ≡ 7 → 3 ≤ length ws
+  pub three-words : getD ws 0 0 ≡ lambdaCode → 3 ≤ length ws
   three-words e = case (length ws) 3 (λ l. no-got x r (sym (lambda-short ws e l) ∙ is)) (λ l. l)
 
-  pub code-most : getD ws 0 0 ≤ 8
+  pub code-most : getD ws 0 0 ≤ applicationCode
   code-most = case (getD ws 0 0) 9 (λ l. omega arith) (λ l. no-got x r (sym (at-past ws l) ∙ is))
 
-  pub is-variable : getD ws 0 0 ≡ 0 → x ≡ variableN (getD ws 1 0)
+  pub is-variable : getD ws 0 0 ≡ variableCode → x ≡ variableN (getD ws 1 0)
   is-variable e = let k = sym is ∙ variable-at ws (two-words (λ h. omega arith)) e in cc
 
-  pub is-operation : getD ws 0 0 ≡ 1 → x ≡ operationN (getD ws 1 0)
+  pub is-operation : getD ws 0 0 ≡ operationCode → x ≡ operationN (getD ws 1 0)
   is-operation e = let k = sym is ∙ operation-at ws (two-words (λ h. omega arith)) e in cc
 
-  pub is-integer : getD ws 0 0 ≡ 2 → x ≡ constantN (integer (getD ws 1 0))
+  pub is-integer : getD ws 0 0 ≡ integerCode → x ≡ constantN (integer (getD ws 1 0))
   is-integer e = let k = sym is ∙ integer-at ws (two-words (λ h. omega arith)) e in cc
 
-  pub is-boolean : getD ws 0 0 ≡ 3 → x ≡ constantN (boolean (getD ws 1 0))
+  pub is-boolean : getD ws 0 0 ≡ booleanCode → x ≡ constantN (boolean (getD ws 1 0))
   is-boolean e = sound-is _ _ x r (sym (boolean-at ws (two-words (λ h. omega arith)) e) ∙ is) .0
 
-  pub is-name : getD ws 0 0 ≡ 4 → x ≡ nameN (getD ws 1 0)
+  pub is-name : getD ws 0 0 ≡ nameCode → x ≡ nameN (getD ws 1 0)
   is-name e = let k = sym is ∙ name-at ws (two-words (λ h. omega arith)) e in cc
 
-  pub is-list : getD ws 0 0 ≡ 5 → x ≡ listN (getD ws 1 0)
+  pub is-list : getD ws 0 0 ≡ listCode → x ≡ listN (getD ws 1 0)
   is-list e = let k = sym is ∙ list-at ws (two-words (λ h. omega arith)) e in cc
 
-  pub is-if : getD ws 0 0 ≡ 6 → x ≡ ifN
+  pub is-if : getD ws 0 0 ≡ ifCode → x ≡ ifN
   is-if e = let k = sym is ∙ if-at ws some-words e in cc
 
-  pub is-lambda : getD ws 0 0 ≡ 7 → x ≡ lambdaN (getD ws 1 0) (getD ws 2 0)
+  pub is-lambda : getD ws 0 0 ≡ lambdaCode → x ≡ lambdaN (getD ws 1 0) (getD ws 2 0)
   is-lambda e = sound-is _ _ x r (sym (lambda-at ws (three-words e) e) ∙ is) .0
 
-  pub is-application : getD ws 0 0 ≡ 8 → x ≡ applicationN (getD ws 1 0)
+  pub is-application : getD ws 0 0 ≡ applicationCode → x ≡ applicationN (getD ws 1 0)
   is-application e = let k = sym is ∙ application-at ws (two-words (λ h. omega arith)) e in cc
 
   -- ---- what opens and closes it
 
   module _ (spell : ℕ → List ℕ) (inner : Bool) where
-    pub opens-variable : getD ws 0 0 ≡ 0 → 118 ∷ decimal (getD ws 1 0) ≡ opening spell inner x
+    pub opens-variable : getD ws 0 0 ≡ variableCode → 118 ∷ decimal (getD ws 1 0) ≡ opening spell inner x
     unfolding opening variableText
     opens-variable e = rw (is-variable e)
 
-    pub opens-operation : getD ws 0 0 ≡ 1 → 111 ∷ decimal (getD ws 1 0) ≡ opening spell inner x
+    pub opens-operation : getD ws 0 0 ≡ operationCode → 111 ∷ decimal (getD ws 1 0) ≡ opening spell inner x
     unfolding opening operationText
     opens-operation e = rw (is-operation e)
 
-    pub opens-integer : getD ws 0 0 ≡ 2 → integerText (getD ws 1 0) ≡ opening spell inner x
+    pub opens-integer : getD ws 0 0 ≡ integerCode → integerText (getD ws 1 0) ≡ opening spell inner x
     unfolding opening constantText integer
     opens-integer e = rw (is-integer e)
 
-    pub opens-false : getD ws 0 0 ≡ 3 → getD ws 1 0 ≡ 0 → 35 ∷ 102 ∷ [] ≡ opening spell inner x
+    pub opens-false : getD ws 0 0 ≡ booleanCode → getD ws 1 0 ≡ 0 → 35 ∷ 102 ∷ [] ≡ opening spell inner x
     unfolding opening constantText boolean bytes
     opens-false e h = rw (is-boolean e, h)
 
-    pub opens-true : getD ws 0 0 ≡ 3 → (getD ws 1 0 ≡ 0 → ⊥) → 35 ∷ 116 ∷ [] ≡ opening spell inner x
+    pub opens-true : getD ws 0 0 ≡ booleanCode → (getD ws 1 0 ≡ 0 → ⊥) → 35 ∷ 116 ∷ [] ≡ opening spell inner x
     unfolding opening constantText boolean bytes
     opens-true e h = rw (is-boolean e, ne-eqb _ _ h)
 
-    pub opens-name : getD ws 0 0 ≡ 4 → opening spell inner (nameN (getD ws 1 0)) ≡ opening spell inner x
+    pub opens-name : getD ws 0 0 ≡ nameCode → opening spell inner (nameN (getD ws 1 0)) ≡ opening spell inner x
     opens-name e = ap (opening spell inner) (sym (is-name e))
 
-    pub opens-inner : getD ws 0 0 ≡ 5 → inner ≡ true → 40 ∷ [] ≡ opening spell inner x
+    pub opens-inner : getD ws 0 0 ≡ listCode → inner ≡ true → 40 ∷ [] ≡ opening spell inner x
     opens-inner e h = sym (list-inner spell inner (getD ws 1 0) h) ∙ ap (opening spell inner) (sym (is-list e))
 
-    pub opens-quoted : getD ws 0 0 ≡ 5 → inner ≡ false → 40 ∷ 113 ∷ 117 ∷ 111 ∷ 116 ∷ 101 ∷ 32 ∷ 40 ∷ [] ≡ opening spell inner x
+    pub opens-quoted : getD ws 0 0 ≡ listCode → inner ≡ false → 40 ∷ 113 ∷ 117 ∷ 111 ∷ 116 ∷ 101 ∷ 32 ∷ 40 ∷ [] ≡ opening spell inner x
     opens-quoted e h = sym (list-quoted spell inner (getD ws 1 0) h) ∙ ap (opening spell inner) (sym (is-list e))
 
-    pub opens-if : getD ws 0 0 ≡ 6 → 40 ∷ 105 ∷ 102 ∷ [] ≡ opening spell inner x
+    pub opens-if : getD ws 0 0 ≡ ifCode → 40 ∷ 105 ∷ 102 ∷ [] ≡ opening spell inner x
     unfolding opening bytes
     opens-if e = rw (is-if e)
 
-    pub opens-lambda : getD ws 0 0 ≡ 7 → bytes "(lambda (" ++ (formalsText false (getD ws 1 0) (getD ws 2 0) ++ bytes ")") ≡ opening spell inner x
+    pub opens-lambda : getD ws 0 0 ≡ lambdaCode → bytes "(lambda (" ++ (formalsText false (getD ws 1 0) (getD ws 2 0) ++ bytes ")") ≡ opening spell inner x
     unfolding opening
     opens-lambda e = rw (is-lambda e)
 
-    pub opens-application : getD ws 0 0 ≡ 8 → 40 ∷ [] ≡ opening spell inner x
+    pub opens-application : getD ws 0 0 ≡ applicationCode → 40 ∷ [] ≡ opening spell inner x
     unfolding opening bytes
     opens-application e = rw (is-application e)
 
-  pub closes-list : (inner : Bool) → getD ws 0 0 ≡ 5 → inner ≡ false → 41 ∷ 41 ∷ [] ≡ closing inner x
+  pub closes-list : (inner : Bool) → getD ws 0 0 ≡ listCode → inner ≡ false → 41 ∷ 41 ∷ [] ≡ closing inner x
   unfolding closing bytes
   closes-list inner e h = rw (is-list e, h)
 
@@ -153,7 +153,7 @@ module _ (ws : List ℕ) (x : Node) (r : List ℕ) (is : nodeAt ws ≡ got x r) 
   code-is = ap (λ (l : List ℕ). getD l 0 0) (node-read ws x r is .words)
 
 -- a leaf, and what has parts
-leaf-closes : (inner : Bool) (x : Node) (r : List ℕ) → getD (nodeWords x ++ r) 0 0 < 5 → [] ≡ closing inner x
+leaf-closes : (inner : Bool) (x : Node) (r : List ℕ) → getD (nodeWords x ++ r) 0 0 < listCode → [] ≡ closing inner x
 unfolding closing nodeWords
 leaf-closes inner (variableN n) r h = refl
 leaf-closes inner (operationN n) r h = refl
@@ -170,7 +170,7 @@ constant-code (suc zero) p q h = omega arith
 constant-code (suc (suc zero)) p q h = omega arith
 constant-code (suc (suc (suc k))) p q h = absurd (false≢true h)
 
-rest-closes : (inner : Bool) (x : Node) (r : List ℕ) → isNode x ≡ true → 5 ≤ getD (nodeWords x ++ r) 0 0 → (getD (nodeWords x ++ r) 0 0 ≡ 5 → inner ≡ true) → 41 ∷ [] ≡ closing inner x
+rest-closes : (inner : Bool) (x : Node) (r : List ℕ) → isNode x ≡ true → listCode ≤ getD (nodeWords x ++ r) 0 0 → (getD (nodeWords x ++ r) 0 0 ≡ listCode → inner ≡ true) → 41 ∷ [] ≡ closing inner x
 unfolding closing nodeWords bytes isNode isConstant constantWords
 rest-closes inner (variableN n) r p h k = absurd (omega arith)
 rest-closes inner (operationN n) r p h k = absurd (omega arith)
@@ -182,14 +182,14 @@ rest-closes inner (lambdaN first n) r p h k = refl
 rest-closes inner (applicationN n) r p h k = refl
 
 module _ (ws : List ℕ) (x : Node) (r : List ℕ) (is : nodeAt ws ≡ got x r) (inner : Bool) where
-  pub closes-leaf : getD ws 0 0 < 5 → [] ≡ closing inner x
+  pub closes-leaf : getD ws 0 0 < listCode → [] ≡ closing inner x
   closes-leaf h = leaf-closes inner x r (omega (arith, code-is ws x r is))
 
-  pub closes-one : 5 ≤ getD ws 0 0 → (getD ws 0 0 ≡ 5 → inner ≡ true) → 41 ∷ [] ≡ closing inner x
+  pub closes-one : listCode ≤ getD ws 0 0 → (getD ws 0 0 ≡ listCode → inner ≡ true) → 41 ∷ [] ≡ closing inner x
   closes-one h k = rest-closes inner x r (node-read ws x r is .proper) (omega (arith, code-is ws x r is)) (λ e. k (code-is ws x r is ∙ e))
 
 -- a name that stands there has a slot
-pub name-spelled : (names ws : List ℕ) (o : Opened names ws) → getD ws 0 0 ≡ 4 → hasName names (getD ws 1 0) ≡ true
+pub name-spelled : (names ws : List ℕ) (o : Opened names ws) → getD ws 0 0 ≡ nameCode → hasName names (getD ws 1 0) ≡ true
 unfolding named
 name-spelled names ws o e = subst (λ (y : Node). named names y ≡ true) (is-name ws (o .it) (o .left) (o .is) e) (o .spelled)
 

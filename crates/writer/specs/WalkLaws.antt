@@ -8,7 +8,7 @@ use native.Mathlib.Numerals.{add-one}
 use lib.ListN.{length, getD, take, drop, length-append, length-drop}
 use lib.Seq.{drop-append-seam, drop-at, drop-drop}
 use Rattle.datum.specs.Constant.{constantWords}
-use Rattle.core_term.specs.Node.{Node, got, nodeAt, nodeWords, parts, binds, isNode, isListNode, variableN, operationN, constantN, nameN, listN, ifN, lambdaN, applicationN}
+use Rattle.core_term.specs.Node.{listCode, ifCode, lambdaCode, applicationCode, Node, got, nodeAt, nodeWords, parts, binds, isNode, isListNode, variableN, operationN, constantN, nameN, listN, ifN, lambdaN, applicationN}
 use Rattle.datum.specs.NameTable.{nameAt}
 use Rattle.core_term.specs.NodeLaws.{both, node-round, node-some, node-read}
 use Rattle.core_term.specs.Term.{noneC, moreC, Plain, Plains, count, variables}
@@ -37,7 +37,7 @@ use Rattle.writer.specs.Walk.{Shaped, spelling, Fits, Begins, Walked, wa
 unfoldable pub shape : ℕ → ℕ → Bool → Bool → Shape
 shape own n wanted inner = record { own = own; parts = n; wanted = wanted; quoted = inner }
 
-leaf-shape : (x : Node) (r : List ℕ) → getD (nodeWords x ++ r) 0 0 < 5 → Shaped x (shape 2 0 false false)
+leaf-shape : (x : Node) (r : List ℕ) → getD (nodeWords x ++ r) 0 0 < listCode → Shaped x (shape 2 0 false false)
 unfolding shape nodeWords constantWords parts gapFirst isListNode
 leaf-shape (variableN n) r h = record { own = refl; rest = refl; gap = refl; inner = refl }
 leaf-shape (operationN n) r h = record { own = refl; rest = refl; gap = refl; inner = refl }
@@ -49,22 +49,22 @@ leaf-shape (lambdaN first n) r h = absurd (omega arith)
 leaf-shape (applicationN n) r h = absurd (omega arith)
 
 module _ (ws : List ℕ) (x : Node) (r : List ℕ) (is : nodeAt ws ≡ got x r) where
-  pub shaped-if : getD ws 0 0 ≡ 6 → Shaped x (shape 1 3 true false)
+  pub shaped-if : getD ws 0 0 ≡ ifCode → Shaped x (shape 1 3 true false)
   unfolding shape nodeWords parts gapFirst isListNode
   shaped-if e = rw (is-if ws x r is e) (record { own = refl; rest = refl; gap = refl; inner = refl })
 
-  pub shaped-lambda : getD ws 0 0 ≡ 7 → Shaped x (shape 3 1 true false)
+  pub shaped-lambda : getD ws 0 0 ≡ lambdaCode → Shaped x (shape 3 1 true false)
   unfolding shape nodeWords parts gapFirst isListNode
   shaped-lambda e = rw (is-lambda ws x r is e) (record { own = refl; rest = refl; gap = refl; inner = refl })
 
-  pub shaped-leaf : getD ws 0 0 < 5 → Shaped x (shape 2 0 false false)
+  pub shaped-leaf : getD ws 0 0 < listCode → Shaped x (shape 2 0 false false)
   shaped-leaf h = leaf-shape x r (omega (arith, code-is ws x r is))
 
-  pub shaped-list : (n : ℕ) → n ≡ getD ws 1 0 → getD ws 0 0 ≡ 5 → Shaped x (shape 2 n false true)
+  pub shaped-list : (n : ℕ) → n ≡ getD ws 1 0 → getD ws 0 0 ≡ listCode → Shaped x (shape 2 n false true)
   unfolding shape nodeWords parts gapFirst isListNode
   shaped-list n h e = rw (is-list ws x r is e) (record { own = refl; rest = h; gap = refl; inner = refl })
 
-  pub shaped-application : (n : ℕ) → n ≡ getD ws 1 0 → getD ws 0 0 ≡ 8 → Shaped x (shape 2 (n + 1) false false)
+  pub shaped-application : (n : ℕ) → n ≡ getD ws 1 0 → getD ws 0 0 ≡ applicationCode → Shaped x (shape 2 (n + 1) false false)
   unfolding shape nodeWords parts gapFirst isListNode
   shaped-application n h e = rw (is-application ws x r is e) (record { own = refl; rest = add-one n ∙ ap suc h; gap = refl; inner = refl })
 
@@ -298,7 +298,7 @@ module _ (names : List ℕ) where
     open-stops h = stopped (left-is (all-text _ refl) (left-full opened-left _ h))
 
     -- a leaf has no parts, and nothing closes it
-    module _ (h : getD ws 0 0 < 5) where
+    module _ (h : getD ws 0 0 < listCode) where
       leaf-shaped : Shaped (node (b .term)) (shape 2 0 false false)
       leaf-shaped = shaped-leaf ws (node (b .term)) _ (begins-node inner ws b) h
 

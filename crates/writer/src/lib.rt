@@ -15,7 +15,7 @@ ghost use Rattle.core_term.specs.Check.{termOf};
 ghost use Rattle.core_term.specs.Text.{text};
 ghost use Rattle.writer.specs.Walk.{Begins};
 ghost use Rattle.writer.specs.Writing.{textOf};
-ghost use Rattle.writer.specs.Written.{hasRoom, Measured, Wrote};
+ghost use Rattle.writer.specs.Wrote.{hasRoom, Measured, Wrote};
 use core_term::is_term;
 use term::Step;
 use term::term;

@@ -9,6 +9,8 @@ ghost use Rattle.writer.specs.Laid.{Left};
 ghost use Rattle.writer.specs.Pieces.{gapText, formalsText};
 use crate::bytes::FULL;
 use crate::bytes::byte;
+use words::signed::of_word;
+use words::signed::size;
 
 pub fn wide(n: u32) -> usize
     ensures { λ r. ⌜ r ≡ n ⌝ }
@@ -43,15 +45,17 @@ pub fn numbered(letter: u8, n: usize, out: &mut [u8], at: usize, ink: bool) -> u
     digits(n, out, to, ink)
 }
 
-// The integer with the two's complement bits w.
+// The integer with the two's complement bits w, a minus before it below 0.
 pub fn integer(w: u32, out: &mut [u8], at: usize, ink: bool) -> usize
     requires { ⌜ at ≤ length (now out) ⌝ }
     ensures { λ r. ⌜ Left ink (integerText w) at (now (out .entry)) (now (out .exit)) (putOf r) ⌝ }
 {
-    if w < 0x8000_0000 {
-        return digits(wide(w), out, at, ink);
+    let z = of_word(w);
+    let n = wide(size(z));
+    if z < 0 {
+        return numbered(b'-', n, out, at, ink);
     }
-    numbered(45, wide(0xffff_ffff - w) + 1, out, at, ink)
+    digits(n, out, at, ink)
 }
 
 // A space, where one is wanted.

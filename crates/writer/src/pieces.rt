@@ -6,7 +6,7 @@ ghost use Prim.Native.Nat.{ℕ, _+_, _≤_, _<_};
 ghost use lib.ListN.{length, getD};
 ghost use Rattle.words.specs.Text.{bytes};
 ghost use Rattle.datum.specs.NameTable.{nameAt, hasName};
-ghost use Rattle.core_term.specs.Node.{Node, nodeAt, got, nameN};
+ghost use Rattle.core_term.specs.Node.{integerCode, listCode, Node, nodeAt, got, nameN};
 ghost use Rattle.writer.specs.Put.{putOf};
 ghost use Rattle.writer.specs.Laid.{Left};
 ghost use Rattle.writer.specs.Pieces.{formalsText, opening, closing};
@@ -18,6 +18,7 @@ use crate::numbers::formals;
 use crate::numbers::integer;
 use crate::numbers::numbered;
 use crate::numbers::wide;
+use core_term::codes;
 use words::SLOT;
 
 fn size(n: u8) -> usize
@@ -81,21 +82,21 @@ fn datum_opening(
     inner: bool,
     ink: bool,
 ) -> usize
-    requires { ⌜ (at ≤ length (now out)) × Opened (now names) (now words) × (2 ≤ getD (now words) 0 0) × (getD (now words) 0 0 ≤ 5) ⌝ }
+    requires { ⌜ (at ≤ length (now out)) × Opened (now names) (now words) × (integerCode ≤ getD (now words) 0 0) × (getD (now words) 0 0 ≤ listCode) ⌝ }
     ensures { λ r. ⌜ ((x : Node) (left : List ℕ) → nodeAt (now (words .entry)) ≡ got x left → Left ink (opening (nameAt (now (names .entry))) inner x) at (now (out .entry)) (now (out .exit)) (putOf r)) ⌝ }
 {
     let code = words[0];
     let a = words[1];
-    if code == 2 {
+    if code == codes::INTEGER {
         return integer(a, out, at, ink);
     }
-    if code == 3 {
+    if code == codes::BOOLEAN {
         if a == 0 {
             return copy(b"#f", out, at, ink);
         }
         return copy(b"#t", out, at, ink);
     }
-    if code == 4 {
+    if code == codes::NAME {
         return name_opening(wide(a), names, out, at, inner, ink);
     }
     if inner {
@@ -106,15 +107,15 @@ fn datum_opening(
 
 // The text of the leaf at the beginning of words, a node of codes 0 to 4.
 pub fn leaf(words: &[u32], names: &[u8], out: &mut [u8], at: usize, inner: bool, ink: bool) -> usize
-    requires { ⌜ (at ≤ length (now out)) × Opened (now names) (now words) × (getD (now words) 0 0 < 5) ⌝ }
+    requires { ⌜ (at ≤ length (now out)) × Opened (now names) (now words) × (getD (now words) 0 0 < listCode) ⌝ }
     ensures { λ r. ⌜ ((x : Node) (left : List ℕ) → nodeAt (now (words .entry)) ≡ got x left → Left ink (opening (nameAt (now (names .entry))) inner x) at (now (out .entry)) (now (out .exit)) (putOf r)) ⌝ }
 {
     let code = words[0];
     let a = wide(words[1]);
-    if code == 0 {
+    if code == codes::VARIABLE {
         return numbered(b'v', a, out, at, ink);
     }
-    if code == 1 {
+    if code == codes::OPERATION {
         return numbered(b'o', a, out, at, ink);
     }
     datum_opening(words, names, out, at, inner, ink)
@@ -133,20 +134,20 @@ pub fn begin(
     ensures { λ r. ⌜ ((x : Node) (left : List ℕ) → nodeAt (now (words .entry)) ≡ got x left → Left ink (opening (nameAt (now (names .entry))) inner x) at (now (out .entry)) (now (out .exit)) (putOf r)) ⌝ }
 {
     let code = words[0];
-    if code == 6 {
+    if code == codes::IF {
         return copy(b"(if", out, at, ink);
     }
     let a = wide(words[1]);
-    if code == 0 {
+    if code == codes::VARIABLE {
         return numbered(b'v', a, out, at, ink);
     }
-    if code == 1 {
+    if code == codes::OPERATION {
         return numbered(b'o', a, out, at, ink);
     }
-    if code <= 5 {
+    if code <= codes::LIST {
         return datum_opening(words, names, out, at, inner, ink);
     }
-    if code == 7 {
+    if code == codes::LAMBDA {
         return lambda_opening(a, wide(words[2]), out, at, ink);
     }
     byte(b'(', out, at, ink)
@@ -158,10 +159,10 @@ pub fn finish(words: &[u32], out: &mut [u8], at: usize, inner: bool, ink: bool) 
     ensures { λ r. ⌜ ((x : Node) (left : List ℕ) → nodeAt (now (words .entry)) ≡ got x left → Left ink (closing inner x) at (now (out .entry)) (now (out .exit)) (putOf r)) ⌝ }
 {
     let code = words[0];
-    if code < 5 {
+    if code < codes::LIST {
         return at;
     }
-    if code > 5 {
+    if code > codes::LIST {
         return byte(b')', out, at, ink);
     }
     if inner {

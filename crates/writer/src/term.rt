@@ -16,6 +16,7 @@ use crate::numbers::wide;
 use crate::pieces::begin;
 use crate::pieces::finish;
 use crate::pieces::leaf;
+use core_term::codes;
 
 // How many words a term takes, and the place behind its text; or the output is too short.
 pub enum Step {
@@ -36,7 +37,7 @@ fn parts_of(words: &[u32], names: &[u8]) -> Shape
     ensures { λ r. ⌜ ((x : Node) (left : List ℕ) → nodeAt (now (words .entry)) ≡ got x left → Shaped x r) ⌝ }
 {
     let code = words[0];
-    if code == 6 {
+    if code == codes::IF {
         return Shape {
             own: 1,
             parts: 3,
@@ -44,7 +45,7 @@ fn parts_of(words: &[u32], names: &[u8]) -> Shape
             quoted: false,
         };
     }
-    if code == 7 {
+    if code == codes::LAMBDA {
         return Shape {
             own: 3,
             parts: 1,
@@ -52,7 +53,7 @@ fn parts_of(words: &[u32], names: &[u8]) -> Shape
             quoted: false,
         };
     }
-    if code < 5 {
+    if code < codes::LIST {
         return Shape {
             own: 2,
             parts: 0,
@@ -61,7 +62,7 @@ fn parts_of(words: &[u32], names: &[u8]) -> Shape
         };
     }
     let count = wide(words[1]);
-    if code == 5 {
+    if code == codes::LIST {
         return Shape {
             own: 2,
             parts: count,
@@ -117,7 +118,7 @@ fn part(words: &[u32], names: &[u8], out: &mut [u8], at: usize, inner: bool, ink
     requires { ⌜ (at ≤ length (now out)) × Begins (now names) inner (now words) ⌝ }
     ensures { λ r. ⌜ ((t : Plain) (left : List ℕ) → Fits (now (names .entry)) inner t → now (words .entry) ≡ encode t ++ left → Walked ink (textIn (nameAt (now (names .entry))) inner t) (length (encode t)) at (now (out .entry)) (now (out .exit)) r) ⌝ }
 {
-    if words[0] < 5 {
+    if words[0] < codes::LIST {
         let to = leaf(words, names, out, at, inner, ink);
         if to == FULL {
             return Step::Full;

@@ -7,32 +7,26 @@ use native.Mathlib.Omega.{arith}
 use lib.ListN.{length-set}
 use Rattle.grebetallboy.specs.CallLaws.{told-short, told-long}
 
--- src/lib.rt:17:9
 returns : tie.Need-returns
 returns c =
     told-short (c .before .args .a) (c .before .args .b) (c .before .args .c) (c .before .args .counts .now) (c .if1 .taken)
 
--- src/lib.rt:19:5
 slice-write-counts : tie.Need-slice-write-counts
 slice-write-counts c =
     search needs
 
--- src/lib.rt:20:5
 slice-write-counts-2 : tie.Need-slice-write-counts-2
 slice-write-counts-2 c =
     simp length-set (omega (arith, c .if1 .left))
 
--- src/lib.rt:21:5
 slice-write-counts-3 : tie.Need-slice-write-counts-3
 slice-write-counts-3 c =
     simp length-set (omega (arith, c .if1 .left))
 
--- src/lib.rt:13:1
 same-length : tie.Need-same-length
 same-length c =
     search needs
 
--- src/lib.rt:13:1
 returns-2 : tie.Need-returns-2
 returns-2 c =
     told-long (c .before .args .a) (c .before .args .b) (c .before .args .c) (c .before .args .counts .now) (c .if1 .left)

@@ -1,5 +1,5 @@
 -- Laws of the service: the loop over the tokens, and each way through the call.
-use mathlib.Core.Path.{_≡_, refl, sym, ap₂, subst, _∙_}
+use mathlib.Core.Path.{_≡_, refl, sym, subst, _∙_}
 use mathlib.Core.List.{List, []}
 use Prim.Native.Nat.{ℕ, _-_, _≤_, _<_}
 use native.Mathlib.Omega.{arith}
@@ -23,9 +23,7 @@ use Rattle.reading.specs.Read.{
   recipeOver,
   recipeOf,
   read,
-  groundOf,
-  itemCount,
-  nameCount,
+  readNumbers,
   cleared,
   itemWords,
   nameBytes,
@@ -41,25 +39,8 @@ use Rattle.reader.specs.Code.Placed.{Holds, itemsOf, itemsAround, wordsO
 use Rattle.reader.specs.Code.PlacedLaws.{filled-same}
 use Rattle.reader.specs.Code.Moved.{outcomeFrom, Whole, Moved, Advanced}
 use Rattle.reading.specs.Laws.Grounds.{ground-high}
-use Rattle.reader.specs.Served.{ground, items, names, answerOf, Served}
+use Rattle.reader.specs.Served.{numbersOf, Served}
 use Rattle.reader.specs.Code.Reached.{Reached}
-
--- ---- this paper's numbers
-
-pub ground-is : (a : E.Answer Recipe) → ground (answerOf a) ≡ groundOf a
-unfolding ground answerOf groundOf
-ground-is (got r) = refl
-ground-is (back g) = refl
-
-pub items-are : (a : E.Answer Recipe) → items (answerOf a) ≡ itemCount a
-unfolding items answerOf itemCount
-items-are (got r) = refl
-items-are (back g) = refl
-
-pub names-are : (a : E.Answer Recipe) → names (answerOf a) ≡ nameCount a
-unfolding names answerOf nameCount
-names-are (got r) = refl
-names-are (back g) = refl
 
 -- ---- the loop
 
@@ -116,23 +97,23 @@ module _ (text words bytes index : List ℕ) where
 -- ---- the call
 
 module _ (text words bytes : List ℕ) where
-  served-by : (a : E.Answer Recipe) (words′ bytes′ : List ℕ) (r : Reading) → read text (length words) (length bytes) ≡ a → r ≡ answerOf a
+  served-by : (a : E.Answer Recipe) (words′ bytes′ : List ℕ) (r : Reading) → read text (length words) (length bytes) ≡ a → numbersOf r ≡ readNumbers a
       → words′ ≡ itemsAfter a words → bytes′ ≡ namesAfter a bytes → Served text words words′ bytes bytes′ r
-  served-by a words′ bytes′ r e f i n = record { answer = rw e f; items = rw e i; names = rw e n }
+  served-by a words′ bytes′ r e f i n = record { numbers = rw e f; items = rw e i; names = rw e n }
 
   -- grounds 1 and 2 change nothing
   pub served-few-items : length words < itemWordsLeast → Served text words words bytes bytes (Refused 1)
-  unfolding read answerOf itemsAfter namesAfter cleared
+  unfolding read numbersOf readNumbers itemsAfter namesAfter cleared
   served-few-items h = served-by (back 1) words bytes (Refused 1) (rw (lt-ltb _ _ h)) refl refl refl
 
   module _ (i : itemWordsLeast ≤ length words) where
     pub served-few-names : length bytes < nameBytesLeast → Served text words words bytes bytes (Refused 1)
-    unfolding read answerOf itemsAfter namesAfter cleared
+    unfolding read numbersOf readNumbers itemsAfter namesAfter cleared
     served-few-names h = served-by (back 1) words bytes (Refused 1) (rw (le-ltb _ _ i, lt-ltb _ _ h)) refl refl refl
 
     module _ (n : nameBytesLeast ≤ length bytes) where
       pub served-long : textBytesMost < length text → Served text words words bytes bytes (Refused 2)
-      unfolding read answerOf itemsAfter namesAfter cleared
+      unfolding read numbersOf readNumbers itemsAfter namesAfter cleared
       served-long h = served-by (back 2) words bytes (Refused 2) (rw (le-ltb _ _ i, le-ltb _ _ n, lt-ltb _ _ h)) refl refl refl
 
       module _ (t : length text ≤ textBytesMost) (words′ bytes′ : List ℕ) where
@@ -143,15 +124,15 @@ module _ (text words bytes : List ℕ) where
         -- an accepted text: its layout and its names, then zeros
         pub served-read : (k m : ℕ) → Whole (recipeOf text) k m words′ bytes′ → length words′ ≡ length words → length bytes′ ≡ length bytes
             → Served text words words′ bytes bytes′ (Read k m)
-        unfolding answerOf itemsAfter namesAfter
+        unfolding numbersOf readNumbers itemsAfter namesAfter
         served-read k m w e f =
-            served-by (got (w .recipe)) words′ bytes′ (Read k m) (read-is ∙ w .accepted) (ap₂ Read (w .itemCount) (w .nameCount))
+            served-by (got (w .recipe)) words′ bytes′ (Read k m) (read-is ∙ w .accepted) (rw (w .itemCount, w .nameCount))
             (w .items ∙ filled-same (itemWords (w .recipe)) words′ words e) (w .names ∙ filled-same (nameBytes (w .recipe)) bytes′ bytes f)
 
         -- a text that is turned back: both tables wholly zero
         pub served-refused : (g : ℕ) → recipeOf text ≡ back g → words′ ≡ replicate (length words) 0 → bytes′ ≡ replicate (length bytes) 0
             → Served text words words′ bytes bytes′ (Refused g)
-        unfolding answerOf itemsAfter namesAfter cleared
+        unfolding numbersOf readNumbers itemsAfter namesAfter cleared
         served-refused g e z y =
             let h : 2 < g = ground-high text g e in
             served-by (back g) words′ bytes′ (Refused g) (read-is ∙ e) refl (z ∙ rw (lt-leb g 2 h)) (y ∙ rw (lt-leb g 2 h))

@@ -3,7 +3,7 @@ use borrow.Author.Needs.{needs}
 use Rattle.writer.proofs.has_room.Statement.{statement}
 use Rattle.writer.proofs.has_room.Tie as tie
 use borrow.Author.Tests.{le-leb, lt-leb}
-use Rattle.writer.specs.Written.{hasRoom}
+use Rattle.writer.specs.Wrote.{hasRoom}
 
 returns : tie.Need-returns
 unfolding hasRoom

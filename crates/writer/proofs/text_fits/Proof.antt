@@ -3,7 +3,7 @@ use borrow.Author.Needs.{needs}
 use Rattle.writer.proofs.text_fits.Statement.{statement}
 use Rattle.writer.proofs.text_fits.Tie as tie
 use mathlib.Core.Path.{sym, _∙_}
-use Rattle.writer.specs.Written.{room-measured, walk-short, walk-fits}
+use Rattle.writer.specs.WroteLaws.{room-measured, walk-short, walk-fits}
 
 returns : tie.Need-returns
 returns c =

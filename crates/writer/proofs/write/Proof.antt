@@ -5,7 +5,7 @@ use Rattle.writer.proofs.write.Tie as tie
 use native.Mathlib.Omega.{arith}
 use mathlib.Core.Path.{sym, _∙_}
 use borrow.Author.Tests.{not-true, not-false}
-use Rattle.writer.specs.Written.{no-term, term-begins, no-room, no-second, wrote-text}
+use Rattle.writer.specs.WroteLaws.{no-term, term-begins, no-room, no-second, wrote-text}
 
 returns : tie.Need-returns
 returns c =

@@ -5,6 +5,7 @@ use Rattle.core_term.proofs.head.branch.Tie as tie
 use native.Mathlib.Omega.{arith}
 use mathlib.Core.Path.{_≡_}
 use lib.ListN.{getD}
+use Rattle.core_term.specs.Node.{applicationCode}
 use Rattle.core_term.specs.HeadLaws.{head-missing, at-past, short-missing, list-found, if-found, application-found, quoted-none}
 
 returns : tie.Need-returns
@@ -42,7 +43,7 @@ add-t10 c =
 returns-8 : tie.Need-returns-8
 returns-8 c =
     let s = c .before .before .before .before .before .before .before .before .before .before in
-    let e : getD (s .args .words .now) 0 0 ≡ 8 = omega (arith, s .pre .1, c .before .before .before .before .before .before .before .if1 .left, c .before .before .before .if4 .left, c .before .if6 .left, c .if7 .left) in
+    let e : getD (s .args .words .now) 0 0 ≡ applicationCode = omega (arith, s .pre .1, c .before .before .before .before .before .before .before .if1 .left, c .before .before .before .if4 .left, c .before .if6 .left, c .if7 .left) in
     λ o b g f. rw (c .before .before .before .before .wide .ensures) (application-found o b g f _ _ (s .args .words .now) (c .before .before .before .before .before .before .if3 .left) (c .before .before .if5 .left) e)
 
 pub branch-spec : {M : Type 1} → statement M

@@ -6,6 +6,7 @@ use native.Mathlib.Omega.{arith}
 use mathlib.Core.Path.{_≡_}
 use lib.ListN.{getD}
 use Rattle.core_term.specs.Window.{leafHead}
+use Rattle.core_term.specs.Node.{operationCode, nameCode}
 use Rattle.core_term.specs.HeadLaws.{quoted-none, variable-leaf, operation-leaf, integer-leaf, boolean-leaf, name-leaf}
 
 returns : tie.Need-returns
@@ -20,7 +21,7 @@ returns-2 c =
 returns-3 : tie.Need-returns-3
 returns-3 c =
     let s = c .before .before .before .before .before .before .before .before in
-    let e : getD (s .args .words .now) 0 0 ≡ 1 = omega (arith, c .before .before .if1 .taken, c .if3 .left) in
+    let e : getD (s .args .words .now) 0 0 ≡ operationCode = omega (arith, c .before .before .if1 .taken, c .if3 .left) in
     operation-leaf _ _ _ _ _ _ (s .args .words .now) (s .pre .0) (c .before .if2 .left) e
 
 returns-4 : tie.Need-returns-4
@@ -34,7 +35,7 @@ returns-5 c =
 returns-6 : tie.Need-returns-6
 returns-6 c =
     let s = c .before .before .before .before .before .before .before .before .before .before in
-    let e : getD (s .args .words .now) 0 0 ≡ 4 = omega (arith, s .pre .1, c .before .before .before .before .if1 .left, c .before .before .before .if4 .left, c .before .before .if5 .left) in
+    let e : getD (s .args .words .now) 0 0 ≡ nameCode = omega (arith, s .pre .1, c .before .before .before .before .if1 .left, c .before .before .before .if4 .left, c .before .before .if5 .left) in
     rw (c .name-good .ensures, c .before .wide2 .ensures) (name-leaf _ _ _ _ _ _ (s .args .words .now) (s .pre .0) e)
 
 pub leaf-spec : {M : Type 1} → statement M

@@ -10,24 +10,23 @@ use Rattle.filing.proofs.file.refused.Reads as refused-reads
 use Rattle.writer.proofs.numbers.wide.Reads as wide-reads
 use mathlib.Core.Path.{sym}
 use lib.Seq.{length-take-le}
-use Rattle.filing.specs.FileLaws.{wrote-is}
-use Rattle.filing.specs.RunLaws.{term-front, accepted-printed, refused-printed}
+use Rattle.filing.specs.RunLaws.{term-front, expanded-accepted, expanded-refused}
 
 slice-reshare-prefix-accepted : tie.Need-slice-reshare-prefix-accepted
 slice-reshare-prefix-accepted c =
-    term-front _ _ _ _ _ (c .before .before .before .before .before .before .before .before .expand .ensures .numbers) _ _ _ (c .before .before .n .given .1) _ (c .wide .ensures) _ _ (c .before .before .before .before .before .before .before .before .expand .ensures .core-after) .0
+    term-front _ _ _ _ _ _ _ (c .before .before .before .before .before .before .before .before .expand .ensures) _ _ _ (c .before .before .n .given .1) _ (c .wide .ensures) .0
 
 slice-aggregate-accepted : tie.Need-slice-aggregate-accepted
 slice-aggregate-accepted c =
-    sym (length-take-le _ _ (term-front _ _ _ _ _ (c .before .before .before .before .before .before .before .before .before .expand .ensures .numbers) _ _ _ (c .before .before .before .n .given .1) _ (c .before .wide .ensures) _ _ (c .before .before .before .before .before .before .before .before .before .expand .ensures .core-after) .0))
+    sym (length-take-le _ _ (term-front _ _ _ _ _ _ _ (c .before .before .before .before .before .before .before .before .before .expand .ensures) _ _ _ (c .before .before .before .n .given .1) _ (c .before .wide .ensures) .0))
 
 returns : tie.Need-returns
 returns c =
-    wrote-is (accepted-printed _ _ _ _ _ (c .before .before .before .before .before .before .before .before .before .before .before .before .before .expand .ensures .numbers) _ _ _ (c .before .before .before .before .before .before .before .n .given .1) _ (c .before .before .before .before .before .wide .ensures) _ _ (c .before .before .before .before .before .before .before .before .before .before .before .before .before .expand .ensures .core-after) _) (c .before .before .accepted .ensures)
+    expanded-accepted _ _ _ _ _ _ _ (c .before .before .before .before .before .before .before .before .before .before .before .before .before .expand .ensures) _ _ _ (c .before .before .before .before .before .before .before .n .given .1) _ (c .before .before .before .before .before .wide .ensures) (c .before .before .accepted .ensures)
 
 returns-2 : tie.Need-returns-2
 returns-2 c =
-    wrote-is (refused-printed _ _ _ _ _ (c .before .before .before .before .before .before .before .before .before .before .before .expand .ensures .numbers) _ _ _ (c .before .before .before .before .before .g .given .1) _) (c .before .before .refused .ensures)
+    expanded-refused _ _ _ _ _ _ _ (c .before .before .before .before .before .before .before .before .before .before .before .expand .ensures) _ _ _ (c .before .before .before .before .before .g .given .1) (c .before .before .refused .ensures)
 
 pub expanded-spec : {M : Type 1} → statement M
 expanded-spec =

@@ -12,8 +12,7 @@ use native.Mathlib.Omega.{arith}
 use Prim.Native.Nat.{_*_, _≤_}
 use lib.ListN.{length}
 use lib.Seq.{length-take-le}
-use Rattle.filing.specs.FileLaws.{wrote-is}
-use Rattle.filing.specs.RunLaws.{items-front, names-front, read-filed, refused-filed}
+use Rattle.filing.specs.RunLaws.{items-front, names-front, filed-read, filed-refused}
 
 mul-words : tie.Need-mul-words
 mul-words c =
@@ -41,11 +40,11 @@ slice-aggregate-expanded-2 c =
 
 returns : tie.Need-returns
 returns c =
-    wrote-is (read-filed _ _ _ _ _ _ (c .before .before .before .before .before .before .before .before .before .before .before .before .before .before .before .before .before .before .before .read .ensures) _ _ (c .before .before .before .before .before .before .before .before .before .before .before .before .before .i .given .1) _ _ _) (c .before .before .before .before .before .before .expanded .ensures)
+    filed-read _ _ _ _ _ _ (c .before .before .before .before .before .before .before .before .before .before .before .before .before .before .before .before .before .before .before .read .ensures) _ _ (c .before .before .before .before .before .before .before .before .before .before .before .before .before .i .given .1) (c .before .before .before .before .before .before .expanded .ensures)
 
 returns-2 : tie.Need-returns-2
 returns-2 c =
-    wrote-is (refused-filed _ _ _ _ _ _ (c .before .before .before .before .before .before .before .before .before .before .before .read .ensures) _ (c .before .before .before .before .before .ground .given .1) _ _ _) (c .before .before .refused .ensures)
+    filed-refused _ _ _ _ _ _ (c .before .before .before .before .before .before .before .before .before .before .before .read .ensures) _ (c .before .before .before .before .before .ground .given .1) (c .before .before .refused .ensures)
 
 pub file-spec : {M : Type 1} → statement M
 file-spec =

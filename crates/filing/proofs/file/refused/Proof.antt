@@ -6,7 +6,7 @@ use Rattle.filing.proofs.file.refused.Reads as reads
 use Rattle.filing.proofs.file.refused.Lts as lts
 use Rattle.filing.proofs.lines.refused_line.Reads as refused-line-reads
 use Rattle.writer.specs.LaidLaws.{put-done, put-full}
-use Rattle.writer.specs.Written.{measured-full, laid-never-full, laid-wrote}
+use Rattle.writer.specs.WroteLaws.{measured-full, laid-never-full, laid-wrote}
 
 returns : tie.Need-returns
 returns c =

@@ -8,7 +8,7 @@ use Rattle.writer.proofs.write.Reads as write-reads
 use native.Mathlib.Omega.{arith}
 use Prim.Native.Nat.{_+_, _<_}
 use lib.ListN.{length}
-use Rattle.filing.specs.FileLaws.{term-end, term-spared, term-crowded, term-known, spared-place, spared-no-place}
+use Rattle.filing.specs.FileLaws.{term-end, term-spared, term-crowded, term-known}
 
 add-result : tie.Need-add-result
 add-result c =
@@ -16,15 +16,15 @@ add-result c =
 
 returns : tie.Need-returns
 returns c =
-    λ x e. spared-place (omega arith) (term-spared _ _ (c .before .before .before .before .before .before .before .before .before .before .pre) _ _ _ (c .before .before .before .before .before .write .ensures) x e _ (c .before .length .given .1))
+    λ x e. term-spared _ _ (c .before .before .before .before .before .before .before .before .before .before .pre) _ _ _ (c .before .before .before .before .before .write .ensures) x e _ (c .before .length .given .1) (omega arith)
 
 returns-2 : tie.Need-returns-2
 returns-2 c =
-    λ x e. spared-no-place (term-known _ _ (c .before .before .before .before .before .before .before .before .before .pre) _ _ _ (c .before .before .before .before .write .ensures) x e (c .enum-told .given .1))
+    λ x e. term-known _ _ (c .before .before .before .before .before .before .before .before .before .pre) _ _ _ (c .before .before .before .before .write .ensures) x e (c .enum-told .given .1)
 
 returns-3 : tie.Need-returns-3
 returns-3 c =
-    λ x e. spared-no-place (term-crowded _ _ (c .before .before .before .before .before .before .before .before .before .pre) _ _ _ (c .before .before .before .before .write .ensures) x e (c .enum-told2 .given .1))
+    λ x e. term-crowded _ _ (c .before .before .before .before .before .before .before .before .before .pre) _ _ _ (c .before .before .before .before .write .ensures) x e (c .enum-told2 .given .1)
 
 pub term-at-spec : {M : Type 1} → statement M
 term-at-spec =

@@ -2,7 +2,7 @@ use borrow.Author.Needs.{needs}
 use Rattle.lexer.proofs.token.token_at.Statement.{statement}
 use Rattle.lexer.proofs.token.token_at.Tie as tie
 use native.Mathlib.Omega.{arith}
-use mathlib.Core.Path.{_∙_}
+use mathlib.Core.Path.{_≡_, _∙_}
 use Prim.Native.Nat.{_<_}
 use lib.ListN.{length}
 use Rattle.reading.specs.Meaning.{begins, ends, refused}
@@ -16,7 +16,8 @@ returns : tie.Need-returns
 returns c =
     let skip = c .before .skip in
     let args = c .before .before .before .args in
-    skip .ensures .same ∙ end-taken (args .text .now) (skip .result) (c .if1 .taken)
+    let e : skip .result ≡ length (args .text .now) = omega (arith, skip .ensures .high, c .if1 .taken) in
+    skip .ensures .same ∙ end-taken (args .text .now) (skip .result) e
 
 shared-slice-read-b : tie.Need-shared-slice-read-b
 shared-slice-read-b c =

@@ -1,7 +1,7 @@
 use borrow.Author.Needs.{needs}
 use Rattle.reader.proofs.element.advance.Statement.{statement}
 use Rattle.reader.proofs.element.advance.Tie as tie
-use mathlib.Core.Path.{refl, sym, ap, subst, _∙_}
+use mathlib.Core.Path.{refl, sym, ap, _∙_}
 use native.Mathlib.Omega.{arith}
 use mir.Syntax.{w32}
 use mir.Val.{ofZ}
@@ -9,7 +9,7 @@ use mir.Facts.{toZ-ofZ}
 use Rattle.words.specs.Parts.{part}
 use Rattle.datum.specs.Constant.{integer, boolean}
 use Rattle.reading.specs.Meaning.{begins, ends, constant, name}
-use Rattle.lexer.specs.Told.{Told}
+use Rattle.lexer.specs.AnsweredLaws.{answered-told}
 use Rattle.reader.specs.Code.MovedLaws.{
   stepped-moved,
   begins-indexed,
@@ -23,71 +23,78 @@ use Rattle.reader.specs.Code.MovedLaws.{
 sub-put-name : tie.Need-sub-put-name
 sub-put-name c =
     let args = c .before .before .before .before .before .before .before .before .before .before .before .args in
+    let pre = c .before .before .before .before .before .before .before .before .before .before .before .pre in
     let from = c .before .before .before .before .from in
-    let token-at = c .before .before .before .before .before .before .token-at in
-    let n = subst (Told (args .text .now) (args .cursor .at)) (from .given .1) (token-at .ensures) in omega (arith, n .1)
+    let token-from = c .before .before .before .before .before .before .token-from in
+    let n = answered-told (args .text .now) (args .cursor .at) _ (token-from .ensures) (pre .0) _ (from .given .1) in omega (arith, n .1)
 
 part-put-name-start : tie.Need-part-put-name-start
 part-put-name-start c =
     let args = c .before .before .before .before .before .before .before .before .before .before .before .args in
+    let pre = c .before .before .before .before .before .before .before .before .before .before .before .pre in
     let from = c .before .before .before .before .from in
-    let token-at = c .before .before .before .before .before .before .token-at in
-    let n = subst (Told (args .text .now) (args .cursor .at)) (from .given .1) (token-at .ensures) in omega (arith, n .1)
+    let token-from = c .before .before .before .before .before .before .token-from in
+    let n = answered-told (args .text .now) (args .cursor .at) _ (token-from .ensures) (pre .0) _ (from .given .1) in omega (arith, n .1)
 
 part-put-name-end : tie.Need-part-put-name-end
 part-put-name-end c =
     let args = c .before .before .before .before .before .before .before .before .before .before .before .args in
+    let pre = c .before .before .before .before .before .before .before .before .before .before .before .pre in
     let from = c .before .before .before .before .from in
-    let token-at = c .before .before .before .before .before .before .token-at in
-    let n = subst (Told (args .text .now) (args .cursor .at)) (from .given .1) (token-at .ensures) in omega (arith, n .3 .high)
+    let token-from = c .before .before .before .before .before .before .token-from in
+    let n = answered-told (args .text .now) (args .cursor .at) _ (token-from .ensures) (pre .0) _ (from .given .1) in omega (arith, n .3 .high)
 
 put-name-requires : tie.Need-put-name-requires
 put-name-requires c κs =
     let args = c .before .before .before .before .before .before .before .before .before .before .before .before .args in
     let from = c .before .before .before .before .before .from in
-    let token-at = c .before .before .before .before .before .before .before .token-at in
+    let token-from = c .before .before .before .before .before .before .before .token-from in
     let pre = c .before .before .before .before .before .before .before .before .before .before .before .before .pre in
-    let n = subst (Told (args .text .now) (args .cursor .at)) (from .given .1) (token-at .ensures) in
+    let n = answered-told (args .text .now) (args .cursor .at) _ (token-from .ensures) (pre .0) _ (from .given .1) in
     (pre .1 .0, (pre .1 .1, n .2))
 
 returns : tie.Need-returns
 returns c =
     λ r h i.
     let args = c .before .before .before .before .before .before .before .before .args in
-    let token-at = c .before .before .before .token-at in
+    let pre = c .before .before .before .before .before .before .before .before .pre in
+    let token-from = c .before .before .before .token-from in
     end-moved (args .text .now) (args .cursor .at) r (args .place) (args .items .now) (args .names .now) (args .index .now) h
-    (subst (Told (args .text .now) (args .cursor .at)) (c .before .enum-told .given .1) (token-at .ensures)) (c .finish .result)
+    (answered-told (args .text .now) (args .cursor .at) _ (token-from .ensures) (pre .0) _ (c .before .enum-told .given .1)) (c .finish .result)
     (c .finish .ensures)
 
 returns-2 : tie.Need-returns-2
 returns-2 c =
     λ r h i.
     let args = c .before .before .before .before .before .before .before .before .args in
+    let pre = c .before .before .before .before .before .before .before .before .pre in
     let ground = c .before .ground in
-    let token-at = c .before .before .before .token-at in
+    let token-from = c .before .before .before .token-from in
     refused-moved (args .text .now) (args .cursor .at) r (ground .given .0 .0) (ground .given .0 .1 .0 .at)
-    (subst (Told (args .text .now) (args .cursor .at)) (ground .given .1) (token-at .ensures))
+    (answered-told (args .text .now) (args .cursor .at) _ (token-from .ensures) (pre .0) _ (ground .given .1))
 
 returns-3 : tie.Need-returns-3
 returns-3 c =
     λ r h i.
     let args = c .before .before .before .before .before .before .before .before .before .before .before .before .before .args in
+    let pre = c .before .before .before .before .before .before .before .before .before .before .before .before .before .pre in
     let open-list = c .before .before .before .open-list in
     let next = c .before .before .before .before .before .before .next in
-    let token-at = c .before .before .before .before .before .before .before .before .token-at in
+    let token-from = c .before .before .before .before .before .before .before .before .token-from in
     stepped-moved (args .text .now) (args .cursor .at) r (open-list .last .0) (args .names .now) (args .index .now) begins (next .given .0 .0)
-    (subst (Told (args .text .now) (args .cursor .at)) (next .given .1) (token-at .ensures)) (begins-indexed r (args .index .now) i) (open-list .result)
+    (answered-told (args .text .now) (args .cursor .at) _ (token-from .ensures) (pre .0) _ (next .given .1)) (begins-indexed r (args .index .now) i) (open-list .result)
     (c .moved .result) (c .moved .ensures) (open-list .ensures r (args .names .now) h)
 
 returns-4 : tie.Need-returns-4
 returns-4 c =
     λ r h i.
     let args = c .before .before .before .before .before .before .before .before .before .before .before .before .before .args in
+    let pre = c .before .before .before .before .before .before .before .before .before .before .before .before .before .pre in
     let close-list = c .before .before .before .close-list in
     let next2 = c .before .before .before .before .before .before .next2 in
-    let token-at = c .before .before .before .before .before .before .before .before .token-at in
+    let token-from = c .before .before .before .before .before .before .before .before .token-from in
     stepped-moved (args .text .now) (args .cursor .at) r (close-list .last .0) (args .names .now) (args .index .now) ends (next2 .given .0 .0)
-    (subst (Told (args .text .now) (args .cursor .at)) (next2 .given .1) (token-at .ensures)) (ends-indexed r (args .index .now) i) (close-list .result)
+    (answered-told (args .text .now) (args .cursor .at) _ (token-from .ensures) (pre .0) _ (next2 .given .1)) (ends-indexed r (args .index .now) i) (close-list .result)
     (c .moved2 .result) (c .moved2 .ensures) (close-list .ensures r (args .names .now) h)
 
 returns-5 : tie.Need-returns-5
@@ -95,12 +102,13 @@ unfolding boolean
 returns-5 c =
     λ r h i.
     let args = c .before .before .before .before .before .before .before .before .before .before .before .before .before .args in
+    let pre = c .before .before .before .before .before .before .before .before .before .before .before .before .before .pre in
     let put-token = c .before .before .before .put-token in
     let b = c .before .before .before .before .before .before .b in
-    let token-at = c .before .before .before .before .before .before .before .before .token-at in
+    let token-from = c .before .before .before .before .before .before .before .before .token-from in
     stepped-moved (args .text .now) (args .cursor .at) r (put-token .last .0) (args .names .now) (args .index .now)
     (constant (boolean (b .given .0 .0))) (b .given .0 .1 .0)
-    (subst (Told (args .text .now) (args .cursor .at)) (b .given .1) (token-at .ensures))
+    (answered-told (args .text .now) (args .cursor .at) _ (token-from .ensures) (pre .0) _ (b .given .1))
     (constant-indexed r (args .index .now) i (boolean (b .given .0 .0))) (put-token .result) (c .moved3 .result)
     (c .moved3 .ensures)
     (constant-stepped r (args .place) (args .items .now) (put-token .last .0) (args .names .now) (boolean (b .given .0 .0))
@@ -111,14 +119,15 @@ unfolding integer
 returns-6 c =
     λ r h i.
     let args = c .before .before .before .before .before .before .before .before .before .before .before .before .before .before .args in
+    let pre = c .before .before .before .before .before .before .before .before .before .before .before .before .before .before .pre in
     let put-token2 = c .before .before .before .put-token2 in
     let z′ = c .before .before .before .before .before .before .before .z in
-    let token-at = c .before .before .before .before .before .before .before .before .before .token-at in
+    let token-from = c .before .before .before .before .before .before .before .before .before .token-from in
     let to-word = c .before .before .before .before .to-word in
     let known-told5 = c .before .before .before .before .before .before .known-told5 in
     stepped-moved (args .text .now) (args .cursor .at) r (put-token2 .last .0) (args .names .now) (args .index .now)
     (constant (integer (ofZ w32 (z′ .given .0 .0)))) (z′ .given .0 .1 .0)
-    (subst (Told (args .text .now) (args .cursor .at)) (z′ .given .1) (token-at .ensures))
+    (answered-told (args .text .now) (args .cursor .at) _ (token-from .ensures) (pre .0) _ (z′ .given .1))
     (constant-indexed r (args .index .now) i (integer (ofZ w32 (z′ .given .0 .0)))) (put-token2 .result)
     (c .moved4 .result) (c .moved4 .ensures)
     (constant-stepped r (args .place) (args .items .now) (put-token2 .last .0) (args .names .now)
@@ -130,10 +139,11 @@ returns-7 : tie.Need-returns-7
 returns-7 c =
     λ r h i.
     let args = c .before .before .before .before .before .before .before .before .before .before .before .before .before .before .before .before .before .before .before .before .args in
+    let pre = c .before .before .before .before .before .before .before .before .before .before .before .before .before .before .before .before .before .before .before .before .pre in
     let from = c .before .before .before .before .before .before .before .before .before .before .before .before .before .from in
-    let token-at = c .before .before .before .before .before .before .before .before .before .before .before .before .before .before .before .token-at in
+    let token-from = c .before .before .before .before .before .before .before .before .before .before .before .before .before .before .before .token-from in
     let put-name = c .before .before .before .before .before .before .before .put-name in
-    let n = subst (Told (args .text .now) (args .cursor .at)) (from .given .1) (token-at .ensures) in
+    let n = answered-told (args .text .now) (args .cursor .at) _ (token-from .ensures) (pre .0) _ (from .given .1) in
     let t = put-name .ensures r h in
     stepped-moved (args .text .now) (args .cursor .at) r (put-name .last .0) (put-name .last .1 .0) (put-name .last .1 .1 .0)
     (name (part (from .given .0 .0) (from .given .0 .1 .0 .at) (args .text .now))) (from .given .0 .1 .0)
@@ -143,7 +153,7 @@ pub advance-spec : {M : Type 1} → statement M
 advance-spec =
     tie.close
     (tie.spec
-    (λ c κs. search needs)  -- token-at-requires
+    (λ c κs. search needs)  -- token-from-requires
     (λ c. search needs)  -- enum-told
     (λ c κs. search needs)  -- finish-requires
     (λ c. search needs)  -- enum-known-ground

@@ -3,8 +3,7 @@ use Rattle.words.proofs.signed.to_word.Tie as tie
 use native.Mathlib.Omega.{arith}
 use Prim.Native.Nat.{_<_, _^_}
 use lib.Signed.{mag}
-use mir.Facts.{fits-ofZ}
-use Rattle.words.specs.SignedLaws.{below-fits, below-is, below-bits, above-is}
+use Rattle.words.specs.SignedLaws.{below-fits, below-is, below-cast, below-bits, above-is, above-cast}
 
 sub-result : tie.Need-sub-result
 sub-result c =
@@ -12,8 +11,7 @@ sub-result c =
 
 cast-result : tie.Need-cast-result
 cast-result c =
-    let fits = c .before .fits in
-    let h : mag (c .before .args .z) < 2 ^ 31 = fits .z .sfits in rw (below-is _ (fits .z) (c .if1 .taken)) (tt, omega arith)
+    below-cast _ (c .before .fits .z) (c .if1 .taken)
 
 sub-result-2 : tie.Need-sub-result-2
 sub-result-2 c =
@@ -22,8 +20,7 @@ sub-result-2 c =
 
 cast-result-2 : tie.Need-cast-result-2
 cast-result-2 c =
-    let fits = c .before .fits in
-    rw (above-is _ (fits .z) (c .if1 .left)) (tt, fits-ofZ (fits .z))
+    above-cast _ (c .before .fits .z) (c .if1 .left)
 
 returns : tie.Need-returns
 returns c =

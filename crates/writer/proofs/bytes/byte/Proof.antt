@@ -8,12 +8,12 @@ use native.Mathlib.Omega.{arith}
 use mathlib.Core.Path.{refl, sym, _∙_}
 use mathlib.Core.List.{[], _∷_}
 use borrow.Author.Tests.{not-true, not-false}
-use Rattle.writer.specs.LaidLaws.{left-place, left-no-place, laid-dry, laid-wet, laid-byte}
-use Rattle.writer.specs.Laid.{done, full}
+use Rattle.writer.specs.LaidLaws.{place-holds, full-holds, laid-dry, laid-wet, laid-byte}
+use Rattle.writer.specs.Laid.{Left, done, full}
 
 returns : tie.Need-returns
 returns c =
-    left-no-place (full (omega arith) (λ h. refl))
+    full-holds (Left _ _ _ _ _) (full (omega arith) (λ h. refl))
 
 add-result : tie.Need-add-result
 add-result c =
@@ -21,7 +21,7 @@ add-result c =
 
 returns-2 : tie.Need-returns-2
 returns-2 c =
-    left-place (omega arith) (done refl (omega arith) (sym (laid-dry (c .before .before .args .ink) _ _ _ (not-true (c .before .before .args .ink) (c .if2 .taken)))))
+    place-holds (Left _ _ _ _ _) (omega arith) (done refl (omega arith) (sym (laid-dry (c .before .before .args .ink) _ _ _ (not-true (c .before .before .args .ink) (c .if2 .taken)))))
 
 slice-write-out : tie.Need-slice-write-out
 slice-write-out c =
@@ -37,7 +37,7 @@ same-length c =
 
 returns-3 : tie.Need-returns-3
 returns-3 c =
-    left-place (omega arith) (done refl (omega arith) (laid-byte _ _ (c .before .before .args .out .now) (c .before .if1 .left) ∙ sym (laid-wet (c .before .before .args .ink) (c .before .before .args .b ∷ []) _ _ (not-false (c .before .before .args .ink) (c .if2 .left)))))
+    place-holds (Left _ _ _ _ _) (omega arith) (done refl (omega arith) (laid-byte _ _ (c .before .before .args .out .now) (c .before .if1 .left) ∙ sym (laid-wet (c .before .before .args .ink) (c .before .before .args .b ∷ []) _ _ (not-false (c .before .before .args .ink) (c .if2 .left)))))
 
 pub byte-spec : {M : Type 1} → statement M
 byte-spec =

@@ -10,8 +10,8 @@ use Prim.Native.Nat.{_≤_, _-_}
 use lib.ListN.{length, length-set}
 use lib.Seq.{paste, paste-zero}
 use borrow.Author.Tests.{not-true, not-false}
-use Rattle.writer.specs.LaidLaws.{left-place, left-no-place, laid-dry, copy-more, copy-done}
-use Rattle.writer.specs.Laid.{done, full}
+use Rattle.writer.specs.LaidLaws.{place-holds, full-holds, laid-dry, copy-more, copy-done}
+use Rattle.writer.specs.Laid.{Left, done, full}
 
 abbrev Inv-loop : tie.InvT-loop
 Inv-loop src out₀ at ink to i₀ out i =
@@ -23,11 +23,11 @@ abbrev μ-loop : tie.MeasureT-loop
 
 returns : tie.Need-returns Inv-loop μ-loop
 returns c =
-    left-no-place (full (omega arith) (λ h. refl))
+    full-holds (Left _ _ _ _ _) (full (omega arith) (λ h. refl))
 
 returns-2 : tie.Need-returns-2 Inv-loop μ-loop
 returns-2 c =
-    left-place (omega arith) (done refl (omega arith) (sym (laid-dry (c .before .before .args .ink) _ _ _ (not-true (c .before .before .args .ink) (c .if2 .taken)))))
+    place-holds (Left _ _ _ _ _) (omega arith) (done refl (omega arith) (sym (laid-dry (c .before .before .args .ink) _ _ _ (not-true (c .before .before .args .ink) (c .if2 .taken)))))
 
 loop-holds : tie.Need-loop-holds Inv-loop μ-loop
 loop-holds c =
@@ -47,7 +47,7 @@ same-length c =
 
 returns-3 : tie.Need-returns-3 Inv-loop μ-loop
 returns-3 c =
-    left-place (omega arith) (done refl (omega arith) (copy-done (c .before .before .before .before .args .out .now) _ (c .before .before .before .before .args .src .now) _ (c .before .loop .i) (c .before .before .before .before .args .ink) (omega arith) (not-false (c .before .before .before .before .args .ink) (c .before .before .if2 .left)) (c .before .loop .inv .2)))
+    place-holds (Left _ _ _ _ _) (omega arith) (done refl (omega arith) (copy-done (c .before .before .before .before .args .out .now) _ (c .before .before .before .before .args .src .now) _ (c .before .loop .i) (c .before .before .before .before .args .ink) (omega arith) (not-false (c .before .before .before .before .args .ink) (c .before .before .if2 .left)) (c .before .loop .inv .2)))
 
 pub copy-spec : {M : Type 1} → statement M
 copy-spec =

@@ -12,7 +12,8 @@ use Rattle.writer.proofs.numbers.+formals.Tie.{close}
 use borrow.Author.Needs.{needs}
 use native.Mathlib.Omega.{arith}
 use mathlib.Core.Path.{sym, _∙_}
-use Rattle.writer.specs.LaidLaws.{place-room, place-full, place-then, left-is, left-none, left-place}
+use Rattle.writer.specs.Laid.{Left}
+use Rattle.writer.specs.LaidLaws.{place-room, place-full, place-then, left-is, left-none, place-holds}
 use Rattle.writer.specs.PiecesLaws.{formals-none, formals-more}
 
 abbrev μ-formals : Measures 1 formals-kinds.ps ℕ
@@ -31,7 +32,7 @@ E t = (gap-reads.Asked, gap-reads.Learnt, numbered-reads.Asked, numbered-reads.L
 
 formals-returns : (t : ℕ) → formals-lts.Need-returns (E t) (formals-at t) formals.Post
 formals-returns t c =
-    left-is (sym (formals-none (c .before .before .args .wanted) (c .before .before .args .first) _ (c .if1 .taken))) (left-place (omega arith) (left-none (c .before .before .args .ink) _ (c .before .before .args .out .now) (c .before .before .pre .1 .0)))
+    left-is (sym (formals-none (c .before .before .args .wanted) (c .before .before .args .first) _ (c .if1 .taken))) (place-holds (Left _ _ _ _ _) (omega arith) (left-none (c .before .before .args .ink) _ (c .before .before .args .out .now) (c .before .before .pre .1 .0)))
 
 formals-gap-requires : (t : ℕ) → formals-lts.Need-gap-requires (E t) (formals-at t) formals.Post
 formals-gap-requires t c κs =

@@ -7,13 +7,14 @@ use Rattle.writer.proofs.numbers.gap.Lts as lts
 use Rattle.writer.proofs.bytes.byte.Reads as byte-reads
 use native.Mathlib.Omega.{arith}
 use mathlib.Core.Path.{sym}
-use Rattle.writer.specs.LaidLaws.{left-is, left-none, left-place}
+use Rattle.writer.specs.Laid.{Left}
+use Rattle.writer.specs.LaidLaws.{left-is, left-none, place-holds}
 use borrow.Author.Tests.{not-true, not-false}
 use Rattle.writer.specs.PiecesLaws.{gap-yes, gap-no}
 
 returns : tie.Need-returns
 returns c =
-    left-is (sym (gap-no (c .before .before .args .wanted) (not-true (c .before .before .args .wanted) (c .if1 .taken)))) (left-place (omega arith) (left-none (c .before .before .args .ink) _ (c .before .before .args .out .now) (c .before .before .pre)))
+    left-is (sym (gap-no (c .before .before .args .wanted) (not-true (c .before .before .args .wanted) (c .if1 .taken)))) (place-holds (Left _ _ _ _ _) (omega arith) (left-none (c .before .before .args .ink) _ (c .before .before .args .out .now) (c .before .before .pre)))
 
 byte-requires : tie.Need-byte-requires
 byte-requires c κs =

@@ -8,13 +8,14 @@ use Rattle.writer.proofs.bytes.byte.Reads as byte-reads
 use Rattle.writer.proofs.bytes.copy.Reads as copy-reads
 use native.Mathlib.Omega.{arith}
 use mathlib.Core.Path.{_≡_}
-use Rattle.writer.specs.LaidLaws.{left-is, left-none, left-place}
+use Rattle.writer.specs.Laid.{Left}
+use Rattle.writer.specs.LaidLaws.{left-is, left-none, place-holds}
 use lib.ListN.{getD}
 use Rattle.writer.specs.OpenedLaws.{closes-leaf, closes-one, closes-list}
 
 returns : tie.Need-returns
 returns c =
-    λ x l h. left-is (closes-leaf (c .before .before .before .before .args .words .now) x l h _ (c .if1 .taken)) (left-place (omega arith) (left-none (c .before .before .before .before .args .ink) _ (c .before .before .before .before .args .out .now) (c .before .before .before .before .pre .0)))
+    λ x l h. left-is (closes-leaf (c .before .before .before .before .args .words .now) x l h _ (c .if1 .taken)) (place-holds (Left _ _ _ _ _) (omega arith) (left-none (c .before .before .before .before .args .ink) _ (c .before .before .before .before .args .out .now) (c .before .before .before .before .pre .0)))
 
 byte-requires : tie.Need-byte-requires
 byte-requires c κs =

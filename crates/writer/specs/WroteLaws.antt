@@ -1,4 +1,4 @@
--- What a call of writing answers and leaves, as its promise says it, and the laws that show it.
+-- Laws of writing's promise: each way through the call, and what an answer says.
 use mathlib.Core.Path.{_≡_, refl, sym, ap, subst, _∙_}
 use mathlib.Core.Bool.{Bool, true, false, true≢false, false≢true, cond, _&&_}
 use mathlib.Core.List.{List, [], _++_, append-nil}
@@ -31,21 +31,7 @@ use Rattle.writer.specs.Opened.{named}
 use Rattle.writer.specs.Walk.{spelling, Fits, Begins, Walked}
 use Rattle.writer.specs.WalkLaws.{walked-by, stopped-by}
 use Rattle.writer.specs.Writing.{groundOf, lengthOf, textFor, textOf, ground, size, after}
-
--- the ground, the length and the output are the definition's
-pub record Wrote (x : Option (List ℕ)) (out out′ : List ℕ) (r : Writing) : Type 0 where
-  pub number : groundOf r ≡ ground out x
-  pub value : lengthOf r ≡ size out x
-  pub left : out′ ≡ after out x
-
--- bytes that hold the text of any term of so many words
-unfoldable pub hasRoom : ℕ → ℕ → Bool
-hasRoom words bytes = leb words textWordsMost && leb (textRate * words) bytes
-
--- whether a text fits, told with the output left as it was
-pub record Measured (x out out′ : List ℕ) (fits : Bool) : Type 0 where
-  pub told : fits ≡ leb (length x) (length out)
-  pub left : out′ ≡ out
+use Rattle.writer.specs.Wrote.{hasRoom, Measured, Wrote}
 
 -- ---- no term
 
