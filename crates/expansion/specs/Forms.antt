@@ -44,6 +44,10 @@ keywords t = firstNames (elements (element 1 t))
 unfoldable pub rulesForms : Tree → List Tree
 rulesForms t = map (element 1) (elements (element 1 t))
 
+-- the rules form of macro b
+abbrev pub rulesFormOf : ℕ → Tree → Tree
+rulesFormOf b t = element 1 (element b (element 1 t))
+
 -- a form binds these names, numbered from k
 unfoldable pub bindings : (ℕ → Binding) → ℕ → List Name → Events
 bindings f k [] = []

@@ -9,6 +9,7 @@ use Rattle.words.specs.Text.{bytes}
 use Rattle.recipe.specs.Table.{treeOf}
 use Rattle.reading.specs.Elements.{got, back}
 use Rattle.reading.specs.Read.{recipeOf, itemWords}
+use Rattle.expansion.specs.Rules.{hasVariable}
 use Rattle.expansion.specs.Computation.{looked, quoted, reached, binds, Events}
 use Rattle.expansion.specs.Run.{Outcome, accepted, turnedBack, unfinished, Run}
 use Rattle.expansion.specs.Computed.{computed}
@@ -71,7 +72,7 @@ compared ws c r =
 -- in the filing program's fuel and tables
 unfoldable pub found : Trial → Finding
 unfolding
-    finding itemsOf compared wordsOf groundOf copyLookups computed hypotheses parts firstWith hasHead formAt rulesAt ruleAt templateAt isVariableAt
+    finding itemsOf compared wordsOf groundOf copyLookups computed hypotheses parts firstWith hasHead formAt rulesAt ruleAt templateAt hasVariable isVariableAt
     isOldItem isPrivate isNew renumber renamed isReachedAt isCopy bindsCopy isOwnedByCopy quotesNoCopy findsOwn
 found t = let ws = itemsOf (t .text) in compared ws (t .choice) (computed ws 512 16368 2046)
 

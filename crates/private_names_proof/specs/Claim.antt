@@ -18,7 +18,7 @@ use Rattle.recipe.specs.Table.{isLayout, treeOf}
 use Rattle.recipe.specs.TableNames.{numberAt}
 use Rattle.core_term.specs.Term.{Term}
 use Rattle.expansion.specs.Computation.{start, Out, done, refused, starved}
-use Rattle.expansion.specs.Forms.{expand}
+use Rattle.expansion.specs.Forms.{rulesFormOf, expand}
 use Rattle.expansion.specs.Run.{accepted, turnedBack, ended, operationNumbers, areOperations, expandRecipe, run}
 use Rattle.expansion.specs.RunLaws.{Begun, begun-run, shows-begun}
 use Rattle.private_names.specs.Statement as S
@@ -54,7 +54,7 @@ calm-start ρ raw = record { enough = omega arith; steps = refl; sum = refl; var
 
 -- whatever the limit, operations, fuel and gas: where the form of the chosen rule lies at l, with its head name of item p
 pub expressions-agree : (ρ : Renaming) (p limit : ℕ) (operations : List ℕ) (fuel gas : ℕ) (N : ℕ → ℕ) (l : List ℕ) (b j : ℕ) (t : Tree)
-    → Headed p l t → Held N t → Chosen ρ j (element 1 (element b (element 1 (sub l t))))
+    → Headed p l t → Held N t → Chosen ρ j (rulesFormOf b (sub l t))
     → anyOf (isReachedAt p) (eventsOf (expand limit operations fuel gas t start)) ≡ true
     → AllFine ρ (eventsOf (expand limit operations fuel gas t start))
     → Joins ρ (TermRel ρ) (expand limit operations fuel gas t start) (expand limit operations fuel gas (onNames (renew ρ) t) start)

@@ -42,7 +42,7 @@ use Rattle.private_names_proof.specs.Invariants.Tests.{areFresh, haveOne
 use Rattle.private_names_proof.specs.Invariants.Watch.{watched, watched-is}
 use Rattle.private_names_proof.specs.Invariants.Kinds.{Fresh, inserted-marks, used-marks, Sound}
 use Rattle.private_names_proof.specs.Invariants.Kept.{After, fails-nowhere, Follows, watched-keeps}
-use Rattle.private_names_proof.specs.Invariants.AtForm.{isPrivateName, Copied, rulesIn, privateIn}
+use Rattle.private_names_proof.specs.Invariants.AtForm.{isPrivateName, Copied, privateIn}
 use Rattle.private_names_proof.specs.Invariants.Followed.{binding-carried, item-carried, fresh-follows, binding-follows, apart-follows, apart-rests}
 use Rattle.private_names_proof.specs.Invariants.Places.{Place}
 use Rattle.private_names_proof.specs.Invariants.Reached.{place-passes}
@@ -74,7 +74,7 @@ recipe-follows test follows ws fuel layout =
 
 -- the form in the recipe's expression, as the run begins
 form-place : (ws : List ℕ) (c : Choice) (layout : isLayout ws ≡ true) (l : List ℕ) → Headed (c .form) l (element 1 (treeOf ws)) → Place (numberAt ws) (c .form) (c .macro) (c .rule) (c .old) (isOldItem (treeOf ws) c) l (element 1 (treeOf ws))
-unfolding privateIn rulesIn plainName
+unfolding privateIn plainName
 form-place ws c layout l i =
     let h = held ws c layout in
     record {
