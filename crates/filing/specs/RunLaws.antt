@@ -22,7 +22,7 @@ use Rattle.core_term.specs.NodeLaws.{node-some}
 use Rattle.core_term.specs.Term.{Term, variableC, operationC, datumC, ifC, lambdaC, applicationC, count}
 use Rattle.core_term.specs.Words.{datumWords, dataWords, encode, encodeAll}
 use Rattle.core_term.specs.Check.{termOf}
-use Rattle.expansion.specs.Run.{Outcome, accepted, turnedBack, unfinished, Run, run}
+use Rattle.expansion.specs.Run.{Outcome, accepted, turnedBack, unfinished, Run, coreOf, run}
 use Rattle.expansion.specs.CoreTerm.{run-term}
 use Rattle.expansion.specs.Bounds.Gas.{run-finished}
 use Rattle.expansion.specs.Ways.Grounds.{TurnedBack, atOnce, later, run-ground}
@@ -75,7 +75,7 @@ module _ (items : List ℕ) (fuel work core : ℕ) where
   unfolding numbersOf runNumbers groundOf
   is-refused g n m e = go (it .outcome) refl (ap (λ (k : Numbers). k .ground) e) (ap (λ (k : Numbers). k .length) e)
     where
-      go : (o : Outcome) → it .outcome ≡ o → g ≡ groundOf o → _≡_ {A = ℕ} 0 (length (it .core)) → it .outcome ≡ turnedBack g
+      go : (o : Outcome) → it .outcome ≡ o → g ≡ groundOf o → _≡_ {A = ℕ} 0 (length (coreOf it)) → it .outcome ≡ turnedBack g
       go accepted h z l =
           let t = run-term items fuel work core h in
           absurd (omega (arith, term-words (t .term), ap length (t .words)))
@@ -88,11 +88,11 @@ module _ (items : List ℕ) (fuel work core : ℕ) where
       told = subst (λ (z : Expansion). numbersOf z ≡ runNumbers it) h e
 
       -- the core table begins with the term
-      pub term-front : (to ≤ length after) × (take to after ≡ it .core)
+      pub term-front : (to ≤ length after) × (take to after ≡ coreOf it)
       unfolding numbersOf runNumbers coreAfter leftBy filled
       term-front =
-          front (it .core) (replicate (length before - length (it .core)) 0) after to
-          (f ∙ ap (λ (o : Outcome). leftBy o (it .core) before) (is-accepted n m l told))
+          front (coreOf it) (replicate (length before - length (coreOf it)) 0) after to
+          (f ∙ ap (λ (o : Outcome). leftBy o (coreOf it) before) (is-accepted n m l told))
           (w ∙ ap (λ (k : Numbers). k .length) told)
 
       pub accepted-printed : (names : List ℕ) → acceptance names n m (termOf operationsMost (hasName names) (take to after)) ≡ printedRun names it

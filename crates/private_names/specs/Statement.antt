@@ -13,7 +13,7 @@ use Rattle.recipe.specs.Table.{items, treeOf}
 use Rattle.expansion.specs.Rules.{ruleList, ruleTemplate, hasVariable}
 use Rattle.expansion.specs.Forms.{rulesFormOf}
 use Rattle.expansion.specs.Computation.{Event, looked, quoted, reached, binds, Events}
-use Rattle.expansion.specs.Run.{Outcome, Run, run}
+use Rattle.expansion.specs.Run.{Outcome, Run, coreOf, run}
 
 -- what demand 3 takes: a let-syntax or letrec-syntax, by the item of its head name; one of its macros and one of that macro's rules,
 -- both counted from 0; the old name and the new, by number
@@ -148,7 +148,7 @@ pub record Answer : Type 0 where
   pub core : List ℕ
 
 unfoldable pub answerOf : Run → Answer
-answerOf r = record { outcome = r .outcome; steps = r .steps; sum = r .sum; core = r .core }
+answerOf r = record { outcome = r .outcome; steps = r .steps; sum = r .sum; core = coreOf r }
 
 -- demand 3: whatever the recipe, fuel and lengths of lent tables
 unfoldable pub PrivateNames : Type 0

@@ -11,7 +11,7 @@ use Rattle.reading.specs.Elements.{got, back}
 use Rattle.reading.specs.Read.{recipeOf, itemWords}
 use Rattle.expansion.specs.Rules.{hasVariable}
 use Rattle.expansion.specs.Computation.{looked, quoted, reached, binds, Events}
-use Rattle.expansion.specs.Run.{Outcome, accepted, turnedBack, unfinished, Run}
+use Rattle.expansion.specs.Run.{Outcome, accepted, turnedBack, unfinished, Run, coreOf}
 use Rattle.expansion.specs.Computed.{computed}
 use Rattle.private_names.specs.Statement.{Choice, isOldItem, isCopy, renamed, hypotheses, parts, firstWith, hasHead, formAt, rulesAt, ruleAt, templateAt, isVariableAt, isPrivate, isNew, renumber, isReachedAt, bindsCopy, isOwnedByCopy, quotesNoCopy, findsOwn}
 
@@ -35,7 +35,7 @@ groundOf unfinished = []
 
 -- outcome, steps, sum and core words
 unfoldable pub wordsOf : Run → List ℕ
-wordsOf r = groundOf (r .outcome) ++ (r .steps ∷ r .sum ∷ r .core)
+wordsOf r = groundOf (r .outcome) ++ (r .steps ∷ r .sum ∷ coreOf r)
 
 -- what is tried: a recipe's text; the form's item, its macro, the rule, the old name and the new one (1,000 if not told)
 pub record Trial : Type 0 where
