@@ -115,7 +115,7 @@ module _ (words table : List ℕ) where
   begun-left items fuel =
       let t = treeOf items in
       ended-left (expandRecipe fuel t)
-      (both-hold (expandRecipe-spends fuel t) (expand-keeps macrosMost (operationNumbers t) fuel (size t + fuel) (element 1 t) start))
+      (both-hold (expandRecipe-spends fuel t) (expand-keeps macrosMost macrosMost (operationNumbers t) fuel (size t + fuel) (element 1 t) start))
       (λ p. p .0) (λ g s l p. p .1 .ground .0)
 
 module _ (items : List ℕ) (fuel : ℕ) (work core core₁ : List ℕ) (e : Ended) (b : Begun items fuel (length work) (length core))

@@ -48,7 +48,7 @@ start-closed = record { begun = λ n e. absurd (false≢true e); rules = λ n e.
 expandRecipe-made : (fuel : ℕ) (items : List ℕ) → isLayout items ≡ true → MakesTerm macrosMost (operationNumbers (treeOf items)) fuel nowhere start (expandRecipe fuel (treeOf items))
 unfolding expandRecipe
 expandRecipe-made fuel items e =
-    expand-made macrosMost (operationNumbers (treeOf items)) fuel (size (treeOf items) + fuel) nowhere _ (tidy-element 1 (tidy-weaken fine-plain (treeOf-tidy items e))) start start-closed
+    expand-made macrosMost macrosMost (operationNumbers (treeOf items)) fuel (size (treeOf items) + fuel) nowhere _ (tidy-element 1 (tidy-weaken fine-plain (treeOf-tidy items e))) start start-closed
 
 pub operations-most : (t : Tree) → areOperations t ≡ true → length (operationNumbers t) ≤ operationsMost
 unfolding areOperations

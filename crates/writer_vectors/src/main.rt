@@ -45,7 +45,7 @@ fn try_words(words: &[u32], operations: u32) {
     show(answer, &out);
 }
 
-// W1 to W7
+// W1 to W7, with B27's three
 fn shapes() {
     try_words(&[7, 0, 1, 0, 0], 1);
     try_words(&[6, 7, 0, 1, 0, 0, 7, 0, 1, 0, 0, 2, 0], 1);
