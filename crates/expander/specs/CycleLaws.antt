@@ -12,7 +12,7 @@ use Rattle.recipe.specs.Tidy.{tidyPair}
 use Rattle.core_term.specs.Term.{Term, Terms, moreC}
 use Rattle.core_term.specs.Words.{encode, encodeAll}
 use Rattle.expansion.specs.Computation.{State}
-use Rattle.expansion.specs.Forms.{expand}
+use Rattle.expansion.specs.Forms.{expandWithin, expand}
 use Rattle.arena.specs.Arena.{treeAt}
 use Rattle.arena.specs.CellLaws.{tree-kept}
 use Rattle.turns.specs.declared.answers.Reached.{Reached}
@@ -80,7 +80,7 @@ module _ (operations : List ℕ) (fuel : ℕ) where
   pub right-turn : (t : Tree) (r : Reached) (a last : Tables) (e : Ended) → r .sum ≤ fuel
       → ((gas : ℕ) → size t + fuel ≤ suc gas + r .sum → Left encode r (a .core) last (turnOf operations fuel (expand macrosMost operations fuel gas) t (stateAt a r)) e)
       → Right operations fuel t r a last e
-  unfolding expand
+  unfolding expandWithin
   right-turn t r a last e h f zero g = absurd (omega (arith, size-positive t))
   right-turn t r a last e h f (suc gas) g = f gas g
 

@@ -7,7 +7,7 @@ use Prim.Native.Nat.{ℕ}
 use lib.Dec.{leb}
 use lib.ListN.{length}
 use Rattle.words.specs.Tables.{filled}
-use Rattle.expansion.specs.Run.{Outcome, accepted, turnedBack, unfinished, Run, run}
+use Rattle.expansion.specs.Run.{Outcome, accepted, turnedBack, unfinished, Run, coreOf, run}
 use Rattle.expander.specs.declared.Expansion.{Expansion}
 use Rattle.expander.specs.declared.Expansion.the-variants.{Accepted, Refused}
 
@@ -24,13 +24,14 @@ unfoldable pub numbersOf : Expansion → Numbers
 numbersOf (Accepted steps sum length) = record { ground = 0; steps = steps; sum = sum; length = length }
 numbersOf (Refused ground steps sum) = record { ground = ground; steps = steps; sum = sum; length = 0 }
 
+-- no run is unfinished (`run-finished`); its number is no ground's, and more than a word holds, so that no answer has it
 unfoldable pub groundOf : Outcome → ℕ
 groundOf accepted = 0
 groundOf (turnedBack g) = g
-groundOf unfinished = 0
+groundOf unfinished = 4294967296
 
 unfoldable pub runNumbers : Run → Numbers
-runNumbers r = record { ground = groundOf (r .outcome); steps = r .steps; sum = r .sum; length = length (r .core) }
+runNumbers r = record { ground = groundOf (r .outcome); steps = r .steps; sum = r .sum; length = length (coreOf r) }
 
 -- ---- the tables
 
@@ -42,7 +43,7 @@ leftBy unfinished words table = table
 
 -- the core table holds the accepted term, the work table nothing
 unfoldable pub coreAfter : Run → List ℕ → List ℕ
-coreAfter r core = leftBy (r .outcome) (r .core) core
+coreAfter r core = leftBy (r .outcome) (coreOf r) core
 
 unfoldable pub workAfter : Run → List ℕ → List ℕ
 workAfter r work = leftBy (r .outcome) [] work

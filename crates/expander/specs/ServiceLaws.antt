@@ -17,7 +17,7 @@ use Rattle.recipe.specs.Table.{itemCount, isLayout, treeOf}
 use Rattle.core_term.specs.Term.{Term}
 use Rattle.expansion.specs.Computation.{State, start, Events, Out, done, refused, starved}
 use Rattle.expansion.specs.Outcomes.{Holds, isDone, isRefused, isStarved, both-hold}
-use Rattle.expansion.specs.Run.{Run, ended, require, operationNumbers, areOperations, expandRecipe, run}
+use Rattle.expansion.specs.Run.{Run, coreOf, ended, require, operationNumbers, areOperations, expandRecipe, run}
 use Rattle.expansion.specs.RunLaws.{unbegun, Begun, begun-run}
 use Rattle.expansion.specs.Bounds.{run-core-fits}
 use Rattle.expansion.specs.Bounds.Gas.{expandRecipe-spends}
@@ -114,25 +114,25 @@ module _ (words table : List ℕ) where
   begun-left items fuel =
       let t = treeOf items in
       ended-left (expandRecipe fuel t)
-      (both-hold (expandRecipe-spends fuel t) (expand-keeps macrosMost (operationNumbers t) fuel (size t + fuel) (element 1 t) start))
+      (both-hold (expandRecipe-spends fuel t) (expand-keeps macrosMost macrosMost (operationNumbers t) fuel (size t + fuel) (element 1 t) start))
       (λ p. p .0) (λ g s l p. p .1 .ground .0)
 
 module _ (items : List ℕ) (fuel : ℕ) (work core core₁ : List ℕ) (e : Ended) (b : Begun items fuel (length work) (length core))
     (x : Expanded (ended (expandRecipe fuel (treeOf items))) core₁ e) (long : length core₁ ≡ length core) where
-  words-are : endNumbers e .length ≡ length (ended (expandRecipe fuel (treeOf items)) .core)
+  words-are : endNumbers e .length ≡ length (coreOf (ended (expandRecipe fuel (treeOf items))))
   unfolding runNumbers
   words-are = ap (λ (n : Numbers). n .length) (x .numbers)
 
   pub expanded-fits : endNumbers e .length ≤ length core₁
   expanded-fits =
       let begun = begun-run items fuel (length work) (length core) b in
-      let fits : length (ended (expandRecipe fuel (treeOf items)) .core) ≤ length core = rw begun at (run-core-fits items fuel (length work) (length core)) in
+      let fits : length (coreOf (ended (expandRecipe fuel (treeOf items)))) ≤ length core = rw begun at (run-core-fits items fuel (length work) (length core)) in
       omega (arith, words-are)
 
   pub served-expanded : (core₂ work₂ : List ℕ) (r : Expansion) → Finished e core₁ core₂ r → work₂ ≡ replicate (length work) 0 → Served items fuel work work₂ core core₂ r
   unfolding coreAfter workAfter keptTo filled
   served-expanded core₂ work₂ r f w =
-      let words = ended (expandRecipe fuel (treeOf items)) .core in
+      let words = coreOf (ended (expandRecipe fuel (treeOf items))) in
       let begun = sym (begun-run items fuel (length work) (length core) b) in
       let kept : keptTo (endNumbers e .length) core₁ ≡ filled words core = rw (words-are, x .words, long) in
       let none : replicate (length work) 0 ≡ filled [] work = let z : length work - 0 ≡ length work = omega arith in rw z in

@@ -5,7 +5,7 @@ use Prim.Native.Nat.{ℕ, _-_}
 use lib.ListN.{length, take, replicate}
 use Rattle.words.specs.Limits.{namesMost}
 use Rattle.recipe.specs.Table.{treeOf}
-use Rattle.expansion.specs.Run.{Run, operationNumbers}
+use Rattle.expansion.specs.Run.{Run, coreOf, operationNumbers}
 use Rattle.expansion.specs.RunLaws.{Begun}
 use Rattle.layout.specs.Places.{Places}
 use Rattle.expander.specs.declared.Expansion.{Expansion}
@@ -32,7 +32,7 @@ endNumbers (Refused ground steps sum) = record { ground = ground; steps = steps;
 -- an expansion ended as the run says, and its term's words begin the core table
 pub record Expanded (run : Run) (core : List ℕ) (e : Ended) : Type 0 where
   pub numbers : endNumbers e ≡ runNumbers run
-  pub words : take (length (run .core)) core ≡ run .core
+  pub words : take (length (coreOf run)) core ≡ coreOf run
 
 -- a table's first words, then zeros
 unfoldable pub keptTo : ℕ → List ℕ → List ℕ

@@ -12,7 +12,7 @@ use Rattle.recipe.specs.TreeLaws.{element-size}
 use Rattle.recipe.specs.Table.{itemCount, treeOf}
 use Rattle.recipe.specs.TableWeight.{treeOf-size}
 use Rattle.expansion.specs.Computation.{State, start}
-use Rattle.expansion.specs.Run.{ended, run}
+use Rattle.expansion.specs.Run.{coreOf, ended, run}
 use Rattle.expansion.specs.RunLaws.{unbegun, Begun, run-holds}
 use Rattle.expansion.specs.Bounds.Budget.{Spent}
 use Rattle.expansion.specs.Bounds.Gas.{expandRecipe-spends}
@@ -42,20 +42,20 @@ module _ (items : List ℕ) (fuel work core : ℕ) where
   unfolding start
   words-bound b q = omega (arith, q .words, q .solvent, element-size 1 (treeOf items), treeOf-size items (b .layout))
 
-  pub run-core : length (run items fuel work core .core) ≤ coreRate * (itemCount items + fuel)
+  pub run-core : length (coreOf (run items fuel work core)) ≤ coreRate * (itemCount items + fuel)
   unfolding unbegun ended
   run-core =
-      run-holds (λ r. length (r .core) ≤ coreRate * (itemCount items + fuel)) items fuel work core (λ b. expandRecipe-spends fuel (treeOf items))
+      run-holds (λ r. length (coreOf r) ≤ coreRate * (itemCount items + fuel)) items fuel work core (λ b. expandRecipe-spends fuel (treeOf items))
       (λ g _. omega arith)
       (λ b t s l q. words-bound b q)
       (λ b g s l r. omega arith)
       (λ b l x. absurd x)
 
   -- ground 9 leaves room for them
-  pub run-core-fits : length (run items fuel work core .core) ≤ core
+  pub run-core-fits : length (coreOf (run items fuel work core)) ≤ core
   unfolding unbegun ended
   run-core-fits =
-      run-holds (λ r. length (r .core) ≤ core) items fuel work core (λ b. expandRecipe-spends fuel (treeOf items))
+      run-holds (λ r. length (coreOf r) ≤ core) items fuel work core (λ b. expandRecipe-spends fuel (treeOf items))
       (λ g _. omega arith)
       (λ b t s l q. omega (arith, words-bound b q, b .core-room))
       (λ b g s l r. omega arith)

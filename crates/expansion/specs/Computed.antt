@@ -43,6 +43,6 @@ unfolding
     Computation.test Computation.orRefuse Computation.get Computation.addVariables Computation.addMacros Computation.addStep
     Forms.isLambda Forms.formals Forms.isMacro Forms.isMacros Forms.firstNames Forms.keywords Forms.rulesForms Forms.bindings Forms.readRules
     Forms.expandAll Forms.expandQuote Forms.expandIf Forms.expandLambda Forms.expandMacros Forms.expandUse Forms.expandOperands Forms.expandList
-    Forms.expandName Forms.expandApplication Forms.expandPair Forms.expandTree Forms.expand
+    Forms.expandName Forms.expandApplication Forms.expandPair Forms.expandTree Forms.expandWithin
     Run.ended Run.require Run.operationNumbers Run.areOperations Run.expandRecipe Run.run
 computed = Run.run

@@ -24,7 +24,7 @@ use Rattle.core_term.specs.Term.{Term, forget}
 use Rattle.core_term.specs.Words.{encode}
 use Rattle.core_term.specs.Check.{outside, small, termOf}
 use Rattle.expansion.specs.Computation.{start}
-use Rattle.expansion.specs.Run.{accepted, ended, operationNumbers, areOperations, expandRecipe, run}
+use Rattle.expansion.specs.Run.{accepted, coreOf, ended, operationNumbers, areOperations, expandRecipe, run}
 use Rattle.expansion.specs.RunLaws.{accepted≢turnedBack, accepted≢unfinished, unbegun, run-holds}
 use Rattle.expansion.specs.CoreTerm.Worlds.{World, fine-plain}
 use Rattle.expansion.specs.CoreTerm.WorldState.{Closed}
@@ -48,7 +48,7 @@ start-closed = record { begun = λ n e. absurd (false≢true e); rules = λ n e.
 expandRecipe-made : (fuel : ℕ) (items : List ℕ) → isLayout items ≡ true → MakesTerm macrosMost (operationNumbers (treeOf items)) fuel nowhere start (expandRecipe fuel (treeOf items))
 unfolding expandRecipe
 expandRecipe-made fuel items e =
-    expand-made macrosMost (operationNumbers (treeOf items)) fuel (size (treeOf items) + fuel) nowhere _ (tidy-element 1 (tidy-weaken fine-plain (treeOf-tidy items e))) start start-closed
+    expand-made macrosMost macrosMost (operationNumbers (treeOf items)) fuel (size (treeOf items) + fuel) nowhere _ (tidy-element 1 (tidy-weaken fine-plain (treeOf-tidy items e))) start start-closed
 
 pub operations-most : (t : Tree) → areOperations t ≡ true → length (operationNumbers t) ≤ operationsMost
 unfolding areOperations
@@ -56,10 +56,10 @@ operations-most t e =
     let p = and-parts (allOf isName (elements (element 0 t))) _ e in
     leb-true (length (operationNumbers t)) operationsMost (and-parts (leb (length (operationNumbers t)) operationsMost) _ (p .1) .0)
 
-pub run-term : (items : List ℕ) (fuel work core : ℕ) → run items fuel work core .outcome ≡ accepted → CoreTerm (length (operationNumbers (treeOf items))) (run items fuel work core .core)
+pub run-term : (items : List ℕ) (fuel work core : ℕ) → run items fuel work core .outcome ≡ accepted → CoreTerm (length (operationNumbers (treeOf items))) (coreOf (run items fuel work core))
 unfolding unbegun ended start nowhere
 run-term items fuel work core =
-    run-holds (λ r. r .outcome ≡ accepted → CoreTerm (length (operationNumbers (treeOf items))) (r .core)) items fuel work core (λ b. expandRecipe-made fuel items (b .layout))
+    run-holds (λ r. r .outcome ≡ accepted → CoreTerm (length (operationNumbers (treeOf items))) (coreOf r)) items fuel work core (λ b. expandRecipe-made fuel items (b .layout))
     (λ g _ e. absurd (accepted≢turnedBack g (sym e)))
     (λ b t s l q e. record { term = t; words = refl; passes = sound-termOf _ t (q .passed) (operations-most (treeOf items) (b .operations)) })
     (λ b g s l r e. absurd (accepted≢turnedBack g (sym e)))

@@ -1,4 +1,4 @@
--- Laws of forms: reading rules changes no state and gives rules for each form; every macro of a form has one name.
+-- Laws of forms: a rule stands at its place; reading rules changes no state and gives rules for each form; every macro of a form has one name.
 use mathlib.Core.Path.{_≡_, refl, ap, sym, _∙_}
 use mathlib.Core.Bool.{true}
 use mathlib.Core.List.{List, [], _∷_, _++_, map}
@@ -9,12 +9,17 @@ use Rattle.words.specs.Lists.{allOf}
 use Rattle.words.specs.TestLaws.{and-parts, all-parts}
 use Rattle.words.specs.Each.{Each, noneOf, also, each-append, Given, given-at}
 use Rattle.recipe.specs.Name.{Name}
-use Rattle.recipe.specs.Tree.{Tree, empty, constant, name, pair, names, onName, isList, isListOf, isOrdinaryName, elements, element}
+use Rattle.recipe.specs.Tree.{Tree, empty, constant, name, pair, names, onName, isList, isListOf, isOrdinaryName, elements, element, tail}
+use Rattle.recipe.specs.TreeLaws.{element-tail}
 use Rattle.recipe.specs.Tidy.{ordinary-names}
-use Rattle.expansion.specs.Rules.{Rule, rulesOf}
+use Rattle.expansion.specs.Rules.{Rule, ruleList, rulePlace, rulesOf}
 use Rattle.expansion.specs.Computation.{State, Event, looked, quoted, reached, Events}
 use Rattle.expansion.specs.Forms.{isMacro, isMacros, firstNames, keywords, rulesForms, readRules}
 use Rattle.expansion.specs.Outcomes.{Holds, give-holds, show-holds, then-holds, orRefuse-holds}
+
+-- rule j of a rules form, by its place in the form
+pub rule-placed : (j : ℕ) (r : Tree) → element j (ruleList r) ≡ element (rulePlace r j) r
+rule-placed j r = element-tail j (tail r) ∙ element-tail (suc j) r
 
 -- an event that is no binding
 pub data Unbinding : Event → Type 0 where

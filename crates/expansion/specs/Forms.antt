@@ -44,6 +44,10 @@ keywords t = firstNames (elements (element 1 t))
 unfoldable pub rulesForms : Tree → List Tree
 rulesForms t = map (element 1) (elements (element 1 t))
 
+-- the rules form of macro b
+abbrev pub rulesFormOf : ℕ → Tree → Tree
+rulesFormOf b t = element 1 (element b (element 1 t))
+
 -- a form binds these names, numbered from k
 unfoldable pub bindings : (ℕ → Binding) → ℕ → List Name → Events
 bindings f k [] = []
@@ -60,7 +64,7 @@ readRules (r ∷ rs) = do
   later ← readRules rs
   give (first ∷ later)
 
--- ---- forms. `limit` is that of macros in one form, `expand` expands an expression
+-- ---- forms. `limit` is that of macros in the form at hand, `expand` expands an expression inside it
 
 module _ (limit : ℕ) (operations : List ℕ) (fuel : ℕ) (expand : Tree → M (Term Name)) where
   -- the elements of a list, from the left
@@ -178,7 +182,12 @@ module _ (limit : ℕ) (operations : List ℕ) (fuel : ℕ) (expand : Tree → M
     expandName (lookup operations x)
   expandTree (pair h t) = expandPair h t
 
--- gas bounds the depth; the items and the fuel together are enough (Gas)
-unfoldable pub expand : (limit : ℕ) → List ℕ → (fuel gas : ℕ) → Tree → M (Term Name)
-expand limit operations fuel zero t = λ s. starved []
-expand limit operations fuel (suc gas) t = expandTree limit operations fuel (expand limit operations fuel gas) t
+-- one limit of macros for the form at hand, another for those inside it; gas bounds the depth, and the items and the fuel together are
+-- enough (Gas)
+unfoldable pub expandWithin : (limit inner : ℕ) → List ℕ → (fuel gas : ℕ) → Tree → M (Term Name)
+expandWithin limit inner operations fuel zero t = λ s. starved []
+expandWithin limit inner operations fuel (suc gas) t = expandTree limit operations fuel (expandWithin inner inner operations fuel gas) t
+
+-- one limit for all
+abbrev pub expand : (limit : ℕ) → List ℕ → (fuel gas : ℕ) → Tree → M (Term Name)
+expand limit = expandWithin limit limit

@@ -6,7 +6,7 @@ use Rattle.words.specs.Limits.{filingFuel, filingWork, filingCore}
 use Rattle.words.specs.Text.{bytes}
 use Rattle.reading.specs.Elements.{Answer, got, back}
 use Rattle.reading.specs.Read.{Recipe, recipeOf, itemWords}
-use Rattle.expansion.specs.Run.{Outcome, accepted, turnedBack, Run}
+use Rattle.expansion.specs.Run.{Outcome, accepted, turnedBack, Run, coreOf}
 use Rattle.expansion.specs.Computed.{computed}
 
 pub record Row : Type 0 where
@@ -48,4 +48,4 @@ unfoldable pub filed : Row → Row
 unfolding runOf
 filed r =
     let run = runOf (r .text) (r .fuel) in
-    record { text = r .text; fuel = r .fuel; outcome = run .outcome; steps = run .steps; sum = run .sum; core = run .core }
+    record { text = r .text; fuel = r .fuel; outcome = run .outcome; steps = run .steps; sum = run .sum; core = coreOf run }

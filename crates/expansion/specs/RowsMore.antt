@@ -1,4 +1,4 @@
--- More recipes with known expansions: those of document 01 that Rows of crate rows leaves out, other fuel, private names, operations.
+-- More recipes with known expansions: those of document 01 that E01 to E62 leave out, other fuel (F1 to F3), private names, operations.
 use mathlib.Core.Path.{_≡_, refl}
 use mathlib.Core.List.{List, [], _∷_, map}
 use Rattle.expansion.specs.Row.{Row, gives, refuses, withFuel, filed}

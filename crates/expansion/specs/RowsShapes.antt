@@ -1,7 +1,19 @@
--- Known answers to the shapes of forms (grounds 11 to 13) and of rules (ground 15), each with its limits; no macro is used.
+-- Known answers to the shapes of forms (grounds 11 to 13) and of rules (ground 15), each with its limits; no macro is used. And forms
+-- with a limit of macros of their own.
 use mathlib.Core.Path.{_≡_, refl}
 use mathlib.Core.List.{List, [], _∷_, map}
-use Rattle.expansion.specs.Row.{Row, gives, refuses, filed}
+use Prim.Native.Nat.{ℕ, _+_}
+use Prim.Native.String.{String}
+use Rattle.words.specs.Limits.{filingFuel}
+use Rattle.words.specs.Text.{bytes}
+use Rattle.recipe.specs.Tree.{size, element}
+use Rattle.recipe.specs.Table.{treeOf}
+use Rattle.reading.specs.Read.{recipeOf}
+use Rattle.expansion.specs.Computation.{start}
+use Rattle.expansion.specs.Forms.{expandWithin}
+use Rattle.expansion.specs.Run.{Outcome, accepted, turnedBack, ended}
+use Rattle.expansion.specs.Computed.{computed}
+use Rattle.expansion.specs.Row.{Row, gives, refuses, itemsOf, filed}
 
 unfoldable pub shapes : List Row
 unfolding gives refuses
@@ -98,3 +110,23 @@ rules =
 pub rules-hold : map filed rules ≡ rules
 unfolding filed rules
 rules-hold = refl
+
+-- ---- limits of macros
+
+-- what comes of a recipe's expression with these limits, of the form at hand and of those inside it
+unfoldable pub limited : (limit inner : ℕ) → String → Outcome
+unfolding bytes recipeOf itemsOf computed
+limited limit inner text =
+    let t = treeOf (itemsOf (recipeOf (bytes text))) in
+    ended (expandWithin limit inner [] filingFuel (size t + filingFuel) (element 1 t) start) .outcome
+
+-- two macros at hand, and inside a form with one
+abbrev two : String
+two = "() (let-syntax ((a (syntax-rules () ((_) 1))) (b (syntax-rules () ((_) 1)))) 1)"
+
+abbrev inside : String
+inside = "() (let-syntax ((a (syntax-rules () ((_) 1)))) (if 1 (let-syntax ((a (syntax-rules () ((_) 1))) (b (syntax-rules () ((_) 1)))) 1) 2))"
+
+pub limits-hold : limited 1 2 two ∷ limited 2 1 two ∷ limited 1 2 inside ∷ limited 2 1 inside ∷ [] ≡ turnedBack 13 ∷ accepted ∷ accepted ∷ turnedBack 13 ∷ []
+unfolding limited
+limits-hold = refl

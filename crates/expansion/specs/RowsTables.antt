@@ -6,7 +6,7 @@ use Prim.Native.Nat.{ℕ, zero, suc}
 use Rattle.recipe.specs.Name.{plainName}
 use Rattle.recipe.specs.Tree.{Tree, empty, name, pair}
 use Rattle.recipe.specs.Rows.{X1, X2, X3}
-use Rattle.expansion.specs.Run.{Outcome, accepted, turnedBack, areOperations}
+use Rattle.expansion.specs.Run.{Outcome, accepted, turnedBack, coreOf, areOperations}
 use Rattle.expansion.specs.Computed.{computed}
 
 pub record Row : Type 0 where
@@ -26,7 +26,7 @@ unfoldable pub ran : Row → Row
 unfolding computed row
 ran r =
     let run = computed (r .items) (r .fuel) (r .work) (r .core) in
-    row (r .items) (r .fuel) (r .work) (r .core) (run .outcome) (run .core)
+    row (r .items) (r .fuel) (r .work) (r .core) (run .outcome) (coreOf run)
 
 -- `(if) 5`, whose operation is below 8
 unfoldable pub ifAsOperation : List ℕ

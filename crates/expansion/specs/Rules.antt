@@ -37,6 +37,32 @@ pub record Rule : Type 0 where
   pub pattern : Pattern
   pub template : Template
 
+-- ---- where the parts of rules stand
+
+-- of a rules form, (syntax-rules (literal ...) (pattern template) ...): the list of its literals, the list of its rules, and which of
+-- its elements rule j is
+abbrev pub literalList : Tree → Tree
+literalList form = element 1 form
+
+abbrev pub ruleList : Tree → Tree
+ruleList form = tail (tail form)
+
+abbrev pub rulePlace : Tree → ℕ → ℕ
+rulePlace form j = suc (suc j)
+
+-- of a rule, (pattern template): its pattern, the part of it that is matched (all but the first place), and its template
+abbrev pub rulePattern : Tree → Tree
+rulePattern rule = element 0 rule
+
+abbrev pub matchedPart : Tree → Tree
+matchedPart rule = tail (rulePattern rule)
+
+abbrev pub templatePlace : ℕ
+templatePlace = 1
+
+abbrev pub ruleTemplate : Tree → Tree
+ruleTemplate rule = element templatePlace rule
+
 -- ---- the variables of a pattern, and templates
 
 -- the occurrences that drive the copies of an element: variable k, with how many of its ellipses are outside this one.
@@ -114,19 +140,26 @@ module _ (dots : Name → Bool) where
       let later = templateOf vs d (not taken && dotsNext ps) ps in
       cond taken later (cond (dotsNext ps) (onlyIf (isDriven first) (mapBoth ellipsisT first later)) (mapBoth pairT first later))
 
+  -- the variables of a rule
+  abbrev pub ruleVariables : List Name → Tree → List (Name × ℕ)
+  ruleVariables literals r = variables literals 0 (matchedPart r)
+
   -- (pattern template); a pattern's first place is a name other than `...`, neither compared nor bound
   unfoldable pub ruleOf : List Name → Tree → Option Rule
   ruleOf literals r =
-      let p = tail (element 0 r) in
-      let vs = variables literals 0 p in
-      onlyIf (isListOf 2 r && (onName (λ x. not (dots x)) false (element 0 (element 0 r)) && areVariables vs))
-      (mapBoth (λ q t. record { pattern = q; template = t }) (patternOf literals 0 p) (templateOf vs 0 false (element 1 r)))
+      let vs = ruleVariables literals r in
+      onlyIf (isListOf 2 r && (onName (λ x. not (dots x)) false (element 0 (rulePattern r)) && areVariables vs))
+      (mapBoth (λ q t. record { pattern = q; template = t }) (patternOf literals 0 (matchedPart r)) (templateOf vs 0 false (ruleTemplate r)))
 
 -- (syntax-rules (literal ...) (pattern template) ...)
 unfoldable pub isRulesForm : Tree → Bool
 isRulesForm r =
-    onName isSyntaxRules false (element 0 r) && (isList (element 1 r) && (allOf isOrdinaryName (elements (element 1 r))
-    && (leb (length (elements (element 1 r))) literalsMost && within 1 rulesMost (length (elements (tail (tail r)))))))
+    onName isSyntaxRules false (element 0 r) && (isList (literalList r) && (allOf isOrdinaryName (elements (literalList r))
+    && (leb (length (elements (literalList r))) literalsMost && within 1 rulesMost (length (elements (ruleList r))))))
 
 unfoldable pub rulesOf : Tree → Option (List Rule)
-rulesOf r = onlyIf (isRulesForm r) (traverse (ruleOf isEllipsis (names (element 1 r))) (elements (tail (tail r))))
+rulesOf r = onlyIf (isRulesForm r) (traverse (ruleOf isEllipsis (names (literalList r))) (elements (ruleList r)))
+
+-- rule j of a rules form has a variable of number n
+unfoldable pub hasVariable : (j n : ℕ) → Tree → Bool
+hasVariable j n r = anyOf (λ v. eqb (v .0 .number) n) (ruleVariables isEllipsis (names (literalList r)) (element j (ruleList r)))

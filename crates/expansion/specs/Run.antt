@@ -1,6 +1,7 @@
 -- A run (document 01, 'Runs, copies and private names'): what the definition gives for one item table, fuel and lengths of lent tables.
 use mathlib.Core.Bool.{Bool, true, false, _&&_}
 use mathlib.Core.List.{List, [], map}
+use mathlib.Core.Option.{Option, none, some}
 use Prim.Native.Nat.{ℕ, _+_, _*_}
 use lib.Dec.{ltb, leb}
 use lib.ListN.{length}
@@ -20,23 +21,31 @@ pub data Outcome : Type 0 where
   turnedBack : (ground : ℕ) → Outcome
   unfinished : Outcome
 
--- outcome, the two counts, the words of the accepted term (none where it is refused), and what the run shows
+-- outcome, the two counts, the accepted term (none where it is refused), and what the run shows
 pub record Run : Type 0 where
   pub outcome : Outcome
   pub steps : ℕ
   pub sum : ℕ
-  pub core : List ℕ
+  pub term : Option (Term Name)
   pub events : Events
 
+-- its core term, the words of the accepted term
+abbrev pub termWords : Option (Term Name) → List ℕ
+termWords none = []
+termWords (some t) = encode t
+
+abbrev pub coreOf : Run → List ℕ
+coreOf r = termWords (r .term)
+
 unfoldable pub ended : Out (Term Name) → Run
-ended (done t s l) = record { outcome = accepted; steps = s .steps; sum = s .sum; core = encode t; events = l }
-ended (refused g s l) = record { outcome = turnedBack g; steps = s .steps; sum = s .sum; core = []; events = l }
-ended (starved l) = record { outcome = unfinished; steps = 0; sum = 0; core = []; events = l }
+ended (done t s l) = record { outcome = accepted; steps = s .steps; sum = s .sum; term = some t; events = l }
+ended (refused g s l) = record { outcome = turnedBack g; steps = s .steps; sum = s .sum; term = none; events = l }
+ended (starved l) = record { outcome = unfinished; steps = 0; sum = 0; term = none; events = l }
 
 -- the rest of the run, where the test of ground g passes
 unfoldable pub require : (ground : ℕ) → Bool → Run → Run
 require g true run = run
-require g false run = record { outcome = turnedBack g; steps = 0; sum = 0; core = []; events = [] }
+require g false run = record { outcome = turnedBack g; steps = 0; sum = 0; term = none; events = [] }
 
 -- the recipe's operations, by number
 unfoldable pub operationNumbers : Tree → List ℕ

@@ -2,6 +2,7 @@
 use mathlib.Core.Path.{_≡_, refl, _∙_}
 use mathlib.Core.Bool.{Bool, true, false, false≢true}
 use mathlib.Core.List.{List, []}
+use mathlib.Core.Option.{none}
 use Prim.Native.Nat.{ℕ, _+_, _*_, _≤_}
 use native.Mathlib.Omega.{arith}
 use lib.Dec.{leb}
@@ -31,7 +32,7 @@ turnedBack≢unfinished g e = let z : _≡_ {A = ℕ} 0 1 = cc in omega arith
 
 -- turned back on ground g before it begins
 unfoldable pub unbegun : (ground : ℕ) → Run
-unbegun g = record { outcome = turnedBack g; steps = 0; sum = 0; core = []; events = [] }
+unbegun g = record { outcome = turnedBack g; steps = 0; sum = 0; term = none; events = [] }
 
 -- the tests of grounds 7 to 10 are passed
 pub record Begun (items : List ℕ) (fuel work core : ℕ) : Type 0 where

@@ -9,7 +9,7 @@ use Rattle.datum.specs.Constant.{Constant}
 use Rattle.recipe.specs.Name.{Name}
 use Rattle.recipe.specs.Tree.{Tree, name, onEmpty, onPair, isList}
 use Rattle.recipe.specs.Tidy.{Tidy, tidyEmpty, tidyConstant, tidyName, tidyPair, tidy-elements, tidy-element, tidy-tail}
-use Rattle.expansion.specs.Rules.{Pattern, variableP, literalP, wildcardP, constantP, emptyP, pairP, ellipsisP, Template, variableT, insertT, constantT, emptyT, pairT, ellipsisT, Rule, nameTemplate, variableFrom, dotsNext, depthBefore, templateOf, ruleOf, rulesOf}
+use Rattle.expansion.specs.Rules.{Pattern, variableP, literalP, wildcardP, constantP, emptyP, pairP, ellipsisP, Template, variableT, insertT, constantT, emptyT, pairT, ellipsisT, Rule, nameTemplate, variableFrom, dotsNext, depthBefore, templateOf, ruleList, templatePlace, ruleOf, rulesOf}
 use Rattle.expansion.specs.Match.{fit, orNext, firstFit, holds, part}
 use Rattle.expansion.specs.Transcribe.{copies, taken, copyCount, transcribe}
 
@@ -66,13 +66,16 @@ module _ {N : Name → Type 0} {C : Constant → Type 0} where
       (given-guard _ (given-mapBoth ellipsisT (λ a b f g. record { tidy = templateEllipsis (f .tidy) (g .tidy) (g .rest l); rest = λ e. refl }) first later))
       (given-mapBoth pairT (λ a b f g. record { tidy = templatePair (f .tidy) (g .tidy) (g .rest l); rest = λ e. refl }) first later))
 
+  tidy-rules : {r : Tree} → Tidy N C r → Tidy N C (ruleList r)
+  tidy-rules r = tidy-tail (tidy-tail r)
+
   rule-read : (dots : Name → Bool) (literals : List Name) {r : Tree} → Tidy N C r → Given (λ (rule : Rule). TidyTemplate N C (rule .template)) (ruleOf dots literals r)
   unfolding ruleOf
-  rule-read dots literals r = given-guard _ (given-mapBoth _ (λ p t _ f. f .tidy) (given-any _) (template-read dots _ 0 false (tidy-element 1 r)))
+  rule-read dots literals r = given-guard _ (given-mapBoth _ (λ p t _ f. f .tidy) (given-any _) (template-read dots _ 0 false (tidy-element templatePlace r)))
 
   pub rulesOf-tidy : {r : Tree} → Tidy N C r → Given (TidyRules N C) (rulesOf r)
   unfolding rulesOf
-  rulesOf-tidy r = given-guard _ (given-traverse (each-weaken (λ t f. rule-read _ _ f) (tidy-elements (tidy-tail (tidy-tail r)))))
+  rulesOf-tidy r = given-guard _ (given-traverse (each-weaken (λ t f. rule-read _ _ f) (tidy-elements (tidy-rules r))))
 
 -- ---- matching and transcribing
 

@@ -16,7 +16,7 @@ use Rattle.core_term.specs.Text.{spacedAfter, spaced, text}
 use Rattle.core_term.specs.Check.{termOf}
 use Rattle.core_term.specs.CheckLaws as C
 use Rattle.core_term.specs.TextRoom.{limit, number-room, text-room}
-use Rattle.expansion.specs.Run.{Outcome, accepted, turnedBack, unfinished, Run, run}
+use Rattle.expansion.specs.Run.{Outcome, accepted, turnedBack, unfinished, Run, coreOf, run}
 use Rattle.expansion.specs.Bounds.{run-sum, run-steps, run-core-fits}
 use Rattle.expansion.specs.Ways.Grounds.{TurnedBack, atOnce, later, run-ground}
 use Rattle.output.specs.Output.{line, refusal, header, acceptance, printed, outputOf, filed, output}
@@ -79,7 +79,7 @@ module _ (fuel : ℕ) (small : fuel < limit) where
     printed-room : (o : Outcome) → it .outcome ≡ o → length (printed names o it) ≤ outputMost
     unfolding printed
     printed-room accepted e =
-        acceptance-room names (it .core) (it .steps) (it .sum) (omega (arith, run-steps items fuel work core, run-sum items fuel work core))
+        acceptance-room names (coreOf it) (it .steps) (it .sum) (omega (arith, run-steps items fuel work core, run-sum items fuel work core))
         (omega (arith, run-sum items fuel work core)) (omega (arith, run-core-fits items fuel work core))
     printed-room (turnedBack g) e =
         omega (

@@ -24,7 +24,7 @@ use Rattle.core_term.specs.NodeLaws.{node-some}
 use Rattle.core_term.specs.Term.{Term, variableC, operationC, datumC, ifC, lambdaC, applicationC, count}
 use Rattle.core_term.specs.Words.{datumWords, dataWords, encode, encodeAll}
 use Rattle.core_term.specs.Check.{termOf}
-use Rattle.expansion.specs.Run.{Outcome, accepted, turnedBack, unfinished, Run, run}
+use Rattle.expansion.specs.Run.{Outcome, accepted, turnedBack, unfinished, Run, coreOf, run}
 use Rattle.expansion.specs.CoreTerm.{run-term}
 use Rattle.expansion.specs.Bounds.Gas.{run-finished}
 use Rattle.expansion.specs.Ways.Grounds.{TurnedBack, atOnce, later, run-ground}
@@ -81,7 +81,7 @@ module _ (items : List ℕ) (fuel work core : ℕ) where
   unfolding numbersOf runNumbers groundOf
   is-refused g n m e = go (it .outcome) refl (ap (λ (k : Numbers). k .ground) e) (ap (λ (k : Numbers). k .length) e)
     where
-      go : (o : Outcome) → it .outcome ≡ o → g ≡ groundOf o → _≡_ {A = ℕ} 0 (length (it .core)) → it .outcome ≡ turnedBack g
+      go : (o : Outcome) → it .outcome ≡ o → g ≡ groundOf o → _≡_ {A = ℕ} 0 (length (coreOf it)) → it .outcome ≡ turnedBack g
       go accepted h z l =
           let t = run-term items fuel work core h in
           absurd (omega (arith, term-words (t .term), ap length (t .words)))
@@ -107,11 +107,11 @@ module _ (items : List ℕ) (fuel : ℕ) (work work′ core core′ : List ℕ) 
     ran-accepted = is-accepted items fuel (length work) (length core) n m l told
 
     -- the core table begins with the term
-    pub term-front : (to ≤ length core′) × (take to core′ ≡ ran .core)
+    pub term-front : (to ≤ length core′) × (take to core′ ≡ coreOf ran)
     unfolding numbersOf runNumbers coreAfter leftBy filled
     term-front =
-        front (ran .core) (replicate (length core - length (ran .core)) 0) core′ to
-        (s .core-after ∙ ap (λ (o : Outcome). leftBy o (ran .core) core) ran-accepted)
+        front (coreOf ran) (replicate (length core - length (coreOf ran)) 0) core′ to
+        (s .core-after ∙ ap (λ (o : Outcome). leftBy o (coreOf ran) core) ran-accepted)
         (w ∙ ap (λ (k : Numbers). k .length) told)
 
     pub expanded-accepted : {names out out′ : List ℕ} {q : Writing} → Wrote (some (acceptance names n m (termOf operationsMost (hasName names) (take to core′)))) out out′ q

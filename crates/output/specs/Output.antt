@@ -11,7 +11,7 @@ use Rattle.core_term.specs.Term.{Plain}
 use Rattle.core_term.specs.Check.{termOf}
 use Rattle.core_term.specs.Decimal.{decimal}
 use Rattle.core_term.specs.Text.{spaced, text}
-use Rattle.expansion.specs.Run.{Outcome, accepted, turnedBack, unfinished, Run, run}
+use Rattle.expansion.specs.Run.{Outcome, accepted, turnedBack, unfinished, Run, coreOf, run}
 
 -- a line of words, with its LF
 unfoldable pub line : List (List ℕ) → List ℕ
@@ -32,7 +32,7 @@ acceptance names steps sum (some t) = header steps sum ++ line (text (nameAt nam
 
 -- a run, with the name table of its recipe
 unfoldable pub printed : List ℕ → Outcome → Run → List ℕ
-printed names accepted r = acceptance names (r .steps) (r .sum) (termOf operationsMost (hasName names) (r .core))
+printed names accepted r = acceptance names (r .steps) (r .sum) (termOf operationsMost (hasName names) (coreOf r))
 printed names (turnedBack ground) r = refusal ground (r .steps) (r .sum)
 printed names unfinished r = []
 

@@ -1,31 +1,73 @@
 -- Demand 3 for two calls: by the service's promise (demands 1 and 2) they give equal answers and leave equal words in the core and
--- work tables.
-use mathlib.Core.Path.{_≡_, ap, sym, _∙_}
-use mathlib.Core.Bool.{true}
-use mathlib.Core.List.{List, []}
-use Prim.Native.Nat.{ℕ}
-use lib.ListN.{length}
-use Rattle.words.specs.Lists.{allOf}
-use Rattle.expansion.specs.Run.{run}
-use Rattle.private_names.specs.Statement.{Choice, renamed, hypotheses, Answer, answerOf, PrivateNames}
+-- work tables, whatever words they are lent.
+use mathlib.Core.Path.{_≡_, refl, ap, ap₂, sym, _∙_}
+use mathlib.Core.Bool.{Bool, true, cond, false≢true}
+use mathlib.Core.List.{List, [], _++_}
+use Prim.Native.Nat.{ℕ, _-_, _<_}
+use native.Mathlib.Omega.{arith}
+use lib.Dec.{leb}
+use lib.ListN.{length, replicate}
+use borrow.Author.Tests.{lt-leb}
+use Rattle.words.specs.Lists.{allOf, anyOf}
+use Rattle.words.specs.Tables.{filled}
+use Rattle.words.specs.TestLaws.{and-parts}
+use Rattle.expansion.specs.Computation.{Event}
+use Rattle.expansion.specs.Run.{Outcome, accepted, turnedBack, unfinished, Run, run}
+use Rattle.expansion.specs.RunLaws.{unbegun}
+use Rattle.expansion.specs.Bounds.Gas.{run-finished}
+use Rattle.expansion.specs.Ways.Grounds.{TurnedBack, atOnce, later, run-ground}
+use Rattle.private_names.specs.Statement.{Choice, renamed, isReachedAt, hypotheses, Answer, answerOf, PrivateNames}
 use Rattle.private_names_proof.specs.Claim.{private-names}
 use Rattle.expander.specs.declared.Expansion.{Expansion}
 use Rattle.expander.specs.Service.{Numbers, numbersOf, groundOf, runNumbers, leftBy, coreAfter, workAfter, Served}
 
--- what a call of a recipe answers and leaves is told by outcome, counts and core words
+-- ---- what a call leaves goes by the lengths of its tables alone, where its run shows an event
+
+filled-by-length : (words t u : List ℕ) → length t ≡ length u → filled words t ≡ filled words u
+unfolding filled
+filled-by-length words t u e = ap (λ n. words ++ replicate (n - length words) 0) e
+
+module _ (ws : List ℕ) (fuel work core : ℕ) (f : Event → Bool) (shown : anyOf f (run ws fuel work core .events) ≡ true) (words : List ℕ) where
+  abbrev it : Run
+  it = run ws fuel work core
+
+  past-tests : (table : List ℕ) (g : ℕ) → TurnedBack g it → cond (leb g 10) table (filled words table) ≡ filled words table
+  unfolding unbegun anyOf
+  past-tests table g (atOnce l e) = absurd (false≢true (sym (ap (λ (r : Run). anyOf f (r .events)) e) ∙ shown))
+  past-tests table g (later l) = let h : 10 < g = omega (arith, l .0) in rw (lt-leb g 10 h)
+
+  shown-left : (table : List ℕ) → leftBy (it .outcome) words table ≡ filled words table
+  unfolding leftBy
+  shown-left table = go (it .outcome) refl
+    where
+      go : (o : Outcome) → it .outcome ≡ o → leftBy o words table ≡ filled words table
+      go accepted e = refl
+      go (turnedBack g) e = past-tests table g (run-ground ws fuel work core g e)
+      go unfinished e = absurd (run-finished ws fuel work core e)
+
+  left-by-length : (t u : List ℕ) → length t ≡ length u → leftBy (it .outcome) words t ≡ leftBy (it .outcome) words u
+  left-by-length t u e = shown-left t ∙ filled-by-length words t u e ∙ sym (shown-left u)
+
+-- ---- two calls
+
+-- what a call of a recipe answers is told by outcome, counts and core words
 abbrev numbersFor : Answer → Numbers
 numbersFor a = record { ground = groundOf (a .outcome); steps = a .steps; sum = a .sum; length = length (a .core) }
 
--- two calls with one fuel and the same lent tables: of a recipe, and of the recipe with a private name renamed
-pub private-calls : (ws : List ℕ) (fuel : ℕ) (c : Choice) (work work₁ work₂ core core₁ core₂ : List ℕ) (first second : Expansion)
+-- with one fuel and lent tables of equal lengths: of a recipe, and of the recipe with a private name renamed
+pub private-calls : (ws : List ℕ) (fuel : ℕ) (c : Choice) (work work′ work₁ work₂ core core′ core₁ core₂ : List ℕ) (first second : Expansion)
+    → length work′ ≡ length work → length core′ ≡ length core
     → allOf (λ h. h) (hypotheses ws c (run ws fuel (length work) (length core) .events)) ≡ true
     → Served ws fuel work work₁ core core₁ first
-    → Served (renamed ws c) fuel work work₂ core core₂ second
+    → Served (renamed ws c) fuel work′ work₂ core′ core₂ second
     → (numbersOf second ≡ numbersOf first) × (core₂ ≡ core₁) × (work₂ ≡ work₁)
-unfolding PrivateNames answerOf runNumbers coreAfter workAfter
-private-calls ws fuel c work work₁ work₂ core core₁ core₂ first second h p q =
-    let e = private-names ws fuel (length work) (length core) c h in (
+unfolding PrivateNames hypotheses allOf answerOf runNumbers coreAfter workAfter
+private-calls ws fuel c work work′ work₁ work₂ core core′ core₁ core₂ first second x y h p q =
+    let shown = and-parts (anyOf (isReachedAt (c .form)) (run ws fuel (length work) (length core) .events)) _ h .0 in
+    let left = left-by-length ws fuel (length work) (length core) (isReachedAt (c .form)) shown in
+    let e : answerOf (run (renamed ws c) fuel (length work′) (length core′)) ≡ answerOf (run ws fuel (length work) (length core)) =
+    ap₂ (λ m n. answerOf (run (renamed ws c) fuel m n)) x y ∙ private-names ws fuel (length work) (length core) c h in (
       q .numbers ∙ ap numbersFor e ∙ sym (p .numbers),
-      q .core-after ∙ ap (λ (a : Answer). leftBy (a .outcome) (a .core) core) e ∙ sym (p .core-after),
-      q .work-after ∙ ap (λ (a : Answer). leftBy (a .outcome) [] work) e ∙ sym (p .work-after),
+      q .core-after ∙ ap (λ (a : Answer). leftBy (a .outcome) (a .core) core′) e ∙ left _ core′ core y ∙ sym (p .core-after),
+      q .work-after ∙ ap (λ (a : Answer). leftBy (a .outcome) [] work′) e ∙ left [] work′ work x ∙ sym (p .work-after),
     )

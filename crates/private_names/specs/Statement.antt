@@ -7,12 +7,13 @@ use Prim.Native.Nat.{ℕ, suc}
 use lib.Dec.{eqb, ltb}
 use Rattle.words.specs.Limits.{namesMost, baseNameCount}
 use Rattle.words.specs.Lists.{allOf, anyOf}
-use Rattle.recipe.specs.Name.{Binding, Name, bindingKey, isEllipsis}
-use Rattle.recipe.specs.Tree.{Tree, empty, constant, name, pair, names, onName, element, tail}
+use Rattle.recipe.specs.Name.{Binding, Name, bindingKey}
+use Rattle.recipe.specs.Tree.{Tree, empty, constant, name, pair, names, onName, element}
 use Rattle.recipe.specs.Table.{items, treeOf}
-use Rattle.expansion.specs.Rules.{variables}
+use Rattle.expansion.specs.Rules.{ruleList, ruleTemplate, hasVariable}
+use Rattle.expansion.specs.Forms.{rulesFormOf}
 use Rattle.expansion.specs.Computation.{Event, looked, quoted, reached, binds, Events}
-use Rattle.expansion.specs.Run.{Outcome, Run, run}
+use Rattle.expansion.specs.Run.{Outcome, Run, coreOf, run}
 
 -- what demand 3 takes: a let-syntax or letrec-syntax, by the item of its head name; one of its macros and one of that macro's rules,
 -- both counted from 0; the old name and the new, by number
@@ -46,20 +47,19 @@ formAt t c = firstWith (hasHead (c .form)) (parts t)
 
 -- the rules of the macro, (syntax-rules (literal ...) (pattern template) ...)
 unfoldable pub rulesAt : Tree → Choice → Tree
-rulesAt t c = element 1 (element (c .macro) (element 1 (formAt t c)))
+rulesAt t c = rulesFormOf (c .macro) (formAt t c)
 
 -- the rule, (pattern template)
 unfoldable pub ruleAt : Tree → Choice → Tree
-ruleAt t c = element (c .rule) (tail (tail (rulesAt t c)))
+ruleAt t c = element (c .rule) (ruleList (rulesAt t c))
 
 -- that template
 unfoldable pub templateAt : Tree → Choice → Tree
-templateAt t c = element 1 (ruleAt t c)
+templateAt t c = ruleTemplate (ruleAt t c)
 
 -- a variable of the rule has this number: neither `...` nor `_` nor a literal, and not in the pattern's first place
 unfoldable pub isVariableAt : Tree → Choice → ℕ → Bool
-isVariableAt t c n =
-    anyOf (λ v. eqb (v .0 .number) n) (variables isEllipsis (names (element 1 (rulesAt t c))) 0 (tail (element 0 (ruleAt t c))))
+isVariableAt t c n = hasVariable (c .rule) n (rulesAt t c)
 
 -- ---- the old name and the new
 
@@ -148,7 +148,7 @@ pub record Answer : Type 0 where
   pub core : List ℕ
 
 unfoldable pub answerOf : Run → Answer
-answerOf r = record { outcome = r .outcome; steps = r .steps; sum = r .sum; core = r .core }
+answerOf r = record { outcome = r .outcome; steps = r .steps; sum = r .sum; core = coreOf r }
 
 -- demand 3: whatever the recipe, fuel and lengths of lent tables
 unfoldable pub PrivateNames : Type 0

@@ -1,18 +1,21 @@
--- Demand 3 computed on recipes: where its hypotheses hold the two runs are equal, with lookups of copies among what they show; and for
--- each hypothesis there is a recipe where that one alone fails, and the runs differ.
+-- Demand 3 computed on recipes: where its hypotheses hold the two runs have equal answers, with lookups of copies among what they show;
+-- and for each hypothesis there is a recipe where that one alone fails, and the answers differ. Labels such as E28 are those of the
+-- recipes with known expansions (crate expansion).
 use mathlib.Core.Path.{_≡_, refl}
 use mathlib.Core.Bool.{Bool, true, false, cond}
-use mathlib.Core.List.{List, [], _∷_, _++_, map}
+use mathlib.Core.List.{List, [], _∷_, map}
 use Prim.Native.Nat.{ℕ, suc}
 use Prim.Native.String.{String}
+use Rattle.words.specs.Limits.{filingFuel, filingWork, filingCore}
 use Rattle.words.specs.Text.{bytes}
 use Rattle.recipe.specs.Table.{treeOf}
 use Rattle.reading.specs.Elements.{got, back}
 use Rattle.reading.specs.Read.{recipeOf, itemWords}
+use Rattle.expansion.specs.Rules.{hasVariable}
 use Rattle.expansion.specs.Computation.{looked, quoted, reached, binds, Events}
-use Rattle.expansion.specs.Run.{Outcome, accepted, turnedBack, unfinished, Run}
+use Rattle.expansion.specs.Run.{accepted, turnedBack, Run}
 use Rattle.expansion.specs.Computed.{computed}
-use Rattle.private_names.specs.Statement.{Choice, isOldItem, isCopy, renamed, hypotheses, parts, firstWith, hasHead, formAt, rulesAt, ruleAt, templateAt, isVariableAt, isPrivate, isNew, renumber, isReachedAt, bindsCopy, isOwnedByCopy, quotesNoCopy, findsOwn}
+use Rattle.private_names.specs.Statement.{Choice, isOldItem, isCopy, renamed, hypotheses, parts, firstWith, hasHead, formAt, rulesAt, ruleAt, templateAt, isVariableAt, isPrivate, isNew, renumber, isReachedAt, bindsCopy, isOwnedByCopy, quotesNoCopy, findsOwn, Answer, answerOf}
 
 -- the items of a recipe's text
 unfoldable pub itemsOf : String → List ℕ
@@ -27,184 +30,265 @@ copyLookups C (quoted x ∷ l) = copyLookups C l
 copyLookups C (reached x ∷ l) = copyLookups C l
 copyLookups C (binds b x ∷ l) = copyLookups C l
 
-unfoldable pub groundOf : Outcome → List ℕ
-groundOf accepted = 0 ∷ []
-groundOf (turnedBack g) = g ∷ []
-groundOf unfinished = []
+-- ---- trials and findings
 
--- outcome, steps, sum and core words
-unfoldable pub wordsOf : Run → List ℕ
-wordsOf r = groundOf (r .outcome) ++ (r .steps ∷ r .sum ∷ r .core)
-
--- what is tried: a recipe's text; the form's item, its macro, the rule, the old name and the new one (1,000 if not told)
+-- what is tried: a recipe's items; the form's item, its macro, the rule, the old name and the new one (1,000 if not told)
 pub record Trial : Type 0 where
-  pub text : String
+  pub items : List ℕ
   pub choice : Choice
 
--- what comes of it: whether each hypothesis holds, how many lookups of copies the first run shows, and the words of the two runs
+-- what comes of it: whether each hypothesis holds, how many lookups of copies the first run shows, and the answers of the two runs
 pub record Finding : Type 0 where
   pub hold : List Bool
   pub lookups : ℕ
-  pub first : List ℕ
-  pub second : List ℕ
+  pub first : Answer
+  pub second : Answer
+
+unfoldable pub trialOf : List ℕ → (form macro rule old new : ℕ) → Trial
+trialOf items form macro rule old new = record { items = items; choice = record { form = form; macro = macro; rule = rule; old = old; new = new } }
 
 unfoldable pub trialTo : (new : ℕ) → String → (form macro rule old : ℕ) → Trial
-trialTo new text form macro rule old = record { text = text; choice = record { form = form; macro = macro; rule = rule; old = old; new = new } }
+unfolding itemsOf trialOf
+trialTo new text form macro rule old = trialOf (itemsOf text) form macro rule old new
 
 unfoldable pub trial : String → (form macro rule old : ℕ) → Trial
 unfolding trialTo
-trial text form macro rule old = trialTo 1000 text form macro rule old
+trial = trialTo 1000
 
-unfoldable pub finding : List Bool → ℕ → List ℕ → List ℕ → Finding
+-- an accepted run: steps, sum, core words
+unfoldable pub gives : (steps sum : ℕ) → List ℕ → Answer
+gives steps sum core = record { outcome = accepted; steps = steps; sum = sum; core = core }
+
+-- a refused one: ground, steps, sum
+unfoldable pub refuses : (ground steps sum : ℕ) → Answer
+refuses ground steps sum = record { outcome = turnedBack ground; steps = steps; sum = sum; core = [] }
+
+unfoldable pub finding : List Bool → ℕ → Answer → Answer → Finding
 finding hold lookups first second = record { hold = hold; lookups = lookups; first = first; second = second }
 
--- all hypotheses hold, and the two runs are equal
-unfoldable pub equal : ℕ → List ℕ → Finding
-equal lookups words = finding (true ∷ true ∷ true ∷ true ∷ true ∷ []) lookups words words
+-- all hypotheses hold, and the two answers are equal
+unfoldable pub equal : ℕ → Answer → Finding
+equal lookups answer = finding (true ∷ true ∷ true ∷ true ∷ true ∷ []) lookups answer answer
 
 -- the second run, beside the first
 unfoldable pub compared : List ℕ → Choice → Run → Finding
 compared ws c r =
-    finding (hypotheses ws c (r .events)) (copyLookups (isOldItem (treeOf ws) c) (r .events)) (wordsOf r)
-    (wordsOf (computed (renamed ws c) 512 16368 2046))
+    finding (hypotheses ws c (r .events)) (copyLookups (isOldItem (treeOf ws) c) (r .events)) (answerOf r)
+    (answerOf (computed (renamed ws c) filingFuel filingWork filingCore))
 
 -- in the filing program's fuel and tables
 unfoldable pub found : Trial → Finding
 unfolding
-    finding itemsOf compared wordsOf groundOf copyLookups computed hypotheses parts firstWith hasHead formAt rulesAt ruleAt templateAt isVariableAt
-    isOldItem isPrivate isNew renumber renamed isReachedAt isCopy bindsCopy isOwnedByCopy quotesNoCopy findsOwn
-found t = let ws = itemsOf (t .text) in compared ws (t .choice) (computed ws 512 16368 2046)
+    finding compared copyLookups computed hypotheses parts firstWith hasHead formAt rulesAt ruleAt templateAt hasVariable isVariableAt
+    isOldItem isPrivate isNew renumber renamed isReachedAt isCopy bindsCopy isOwnedByCopy quotesNoCopy findsOwn answerOf
+found t = compared (t .items) (t .choice) (computed (t .items) filingFuel filingWork filingCore)
 
 -- ---- the hypotheses hold
 
+-- the items of () (let-syntax ((m (syntax-rules () ((_) (lambda (t) t))))) (m)), a pair's tail before its head
+unfoldable pub permuted : List ℕ
+permuted = 4 ∷ 2 ∷ 1 ∷ 4 ∷ 4 ∷ 3 ∷ 0 ∷ 0 ∷ 0 ∷ 0 ∷ 0 ∷ 0 ∷ 4 ∷ 6 ∷ 5 ∷ 4 ∷ 8 ∷ 7 ∷ 3 ∷ 3 ∷ 0 ∷ 4 ∷ 10 ∷ 9 ∷ 4 ∷ 12 ∷ 11 ∷ 0 ∷ 0 ∷ 0 ∷ 4 ∷ 14 ∷ 13 ∷ 0 ∷ 0 ∷ 0 ∷ 4 ∷ 16 ∷ 15 ∷ 0 ∷ 0 ∷ 0 ∷ 3 ∷ 8 ∷ 0 ∷ 4 ∷ 18 ∷ 17 ∷ 3 ∷ 8 ∷ 0 ∷ 0 ∷ 0 ∷ 0 ∷ 4 ∷ 20 ∷ 19 ∷ 4 ∷ 22 ∷ 21 ∷ 3 ∷ 5 ∷ 0 ∷ 4 ∷ 24 ∷ 23 ∷ 0 ∷ 0 ∷ 0 ∷ 0 ∷ 0 ∷ 0 ∷ 4 ∷ 26 ∷ 25 ∷ 4 ∷ 28 ∷ 27 ∷ 4 ∷ 30 ∷ 29 ∷ 0 ∷ 0 ∷ 0 ∷ 4 ∷ 32 ∷ 31 ∷ 0 ∷ 0 ∷ 0 ∷ 3 ∷ 7 ∷ 0 ∷ 4 ∷ 34 ∷ 33 ∷ 3 ∷ 2 ∷ 0 ∷ 4 ∷ 36 ∷ 35 ∷ 4 ∷ 38 ∷ 37 ∷ 0 ∷ 0 ∷ 0 ∷ 3 ∷ 9 ∷ 0 ∷ 0 ∷ 0 ∷ 0 ∷ 3 ∷ 9 ∷ 0 ∷ []
+
 unfoldable pub holding : List (Trial × Finding)
-unfolding trial equal finding
+unfolding trial trialOf permuted gives refuses equal finding
 holding =
     -- E28: bound outside by the name's number, and again inside the template
     (
       trial "() (lambda (t) (let-syntax ((or2 (syntax-rules () ((_ a b) ((lambda (t) (if t t b)) a))))) (or2 #f t)))" 11 0 0 8,
-      equal 2 (0 ∷ 1 ∷ 21 ∷ 7 ∷ 0 ∷ 1 ∷ 8 ∷ 1 ∷ 7 ∷ 1 ∷ 1 ∷ 6 ∷ 0 ∷ 1 ∷ 0 ∷ 1 ∷ 0 ∷ 0 ∷ 3 ∷ 0 ∷ []),
+      equal 2 (gives 1 21 (7 ∷ 0 ∷ 1 ∷ 8 ∷ 1 ∷ 7 ∷ 1 ∷ 1 ∷ 6 ∷ 0 ∷ 1 ∷ 0 ∷ 1 ∷ 0 ∷ 0 ∷ 3 ∷ 0 ∷ [])),
     ) ∷
     -- E22: an operation of that number
     (
       trial "(t) (let-syntax ((or2 (syntax-rules () ((_ a b) ((lambda (t) (if t t b)) a))))) ((lambda (if) (or2 if t)) #f))" 6 0 0 8,
-      equal 2 (0 ∷ 1 ∷ 21 ∷ 8 ∷ 1 ∷ 7 ∷ 0 ∷ 1 ∷ 8 ∷ 1 ∷ 7 ∷ 1 ∷ 1 ∷ 6 ∷ 0 ∷ 1 ∷ 0 ∷ 1 ∷ 1 ∷ 0 ∷ 0 ∷ 0 ∷ 3 ∷ 0 ∷ []),
+      equal 2 (gives 1 21 (8 ∷ 1 ∷ 7 ∷ 0 ∷ 1 ∷ 8 ∷ 1 ∷ 7 ∷ 1 ∷ 1 ∷ 6 ∷ 0 ∷ 1 ∷ 0 ∷ 1 ∷ 1 ∷ 0 ∷ 0 ∷ 0 ∷ 3 ∷ 0 ∷ [])),
     ) ∷
     -- E29: a literal of rules that the template makes
     (
       trial "() (let-syntax ((m (syntax-rules () ((_ a) (lambda (t) (let-syntax ((g (syntax-rules (t) ((_ t) 1) ((_ x) 2)))) (if (g t) (g a) 0))))))) (lambda (t) (m t)))" 4 0 0 10,
-      equal 3 (0 ∷ 3 ∷ 65 ∷ 7 ∷ 0 ∷ 1 ∷ 7 ∷ 1 ∷ 1 ∷ 6 ∷ 2 ∷ 1 ∷ 2 ∷ 2 ∷ 2 ∷ 0 ∷ []),
+      equal 3 (gives 3 65 (7 ∷ 0 ∷ 1 ∷ 7 ∷ 1 ∷ 1 ∷ 6 ∷ 2 ∷ 1 ∷ 2 ∷ 2 ∷ 2 ∷ 0 ∷ [])),
     ) ∷
     -- E30: the macro's own name, bound again
     (
       trial "() (letrec-syntax ((loop (syntax-rules () ((_ x) (letrec-syntax ((loop (syntax-rules () ((_ y) y)))) (loop x)))))) (loop 1))" 4 0 0 8,
-      equal 1 (0 ∷ 2 ∷ 32 ∷ 2 ∷ 1 ∷ []),
+      equal 1 (gives 2 32 (2 ∷ 1 ∷ [])),
     ) ∷
     -- E31: a form's name, bound again
     (
       trial "() (let-syntax ((m (syntax-rules () ((_) (lambda (quote) (quote 1)))))) (m))" 4 0 0 0,
-      equal 1 (0 ∷ 1 ∷ 13 ∷ 7 ∷ 0 ∷ 1 ∷ 8 ∷ 1 ∷ 0 ∷ 0 ∷ 2 ∷ 1 ∷ []),
+      equal 1 (gives 1 13 (7 ∷ 0 ∷ 1 ∷ 8 ∷ 1 ∷ 0 ∷ 0 ∷ 2 ∷ 1 ∷ [])),
     ) ∷
     -- E24: the third rule of letrec-syntax, used twice
     (
       trial "() (letrec-syntax ((or (syntax-rules () ((_) #f) ((_ e) e) ((_ a b ...) ((lambda (t) (if t t (or b ...))) a))))) (lambda (t u) (or t u #f)))" 4 0 2 12,
-      equal 4 (0 ∷ 3 ∷ 53 ∷ 7 ∷ 0 ∷ 2 ∷ 8 ∷ 1 ∷ 7 ∷ 2 ∷ 1 ∷ 6 ∷ 0 ∷ 2 ∷ 0 ∷ 2 ∷ 8 ∷ 1 ∷ 7 ∷ 3 ∷ 1 ∷ 6 ∷ 0 ∷ 3 ∷ 0 ∷ 3 ∷ 3 ∷ 0 ∷ 0 ∷ 1 ∷ 0 ∷ 0 ∷ []),
+      equal 4 (gives 3 53 (7 ∷ 0 ∷ 2 ∷ 8 ∷ 1 ∷ 7 ∷ 2 ∷ 1 ∷ 6 ∷ 0 ∷ 2 ∷ 0 ∷ 2 ∷ 8 ∷ 1 ∷ 7 ∷ 3 ∷ 1 ∷ 6 ∷ 0 ∷ 3 ∷ 0 ∷ 3 ∷ 3 ∷ 0 ∷ 0 ∷ 1 ∷ 0 ∷ 0 ∷ [])),
     ) ∷
     -- E14: a variable of rules that the template makes
     (
       trial "() (let-syntax ((m (syntax-rules () ((_ a) (let-syntax ((n (syntax-rules () ((_ b) b)))) (n a)))))) (m 7))" 4 0 0 11,
-      equal 0 (0 ∷ 2 ∷ 32 ∷ 2 ∷ 7 ∷ []),
+      equal 0 (gives 2 32 (2 ∷ 7 ∷ [])),
     ) ∷
     -- E14: a macro that the template makes
     (
       trial "() (let-syntax ((m (syntax-rules () ((_ a) (let-syntax ((n (syntax-rules () ((_ b) b)))) (n a)))))) (m 7))" 4 0 0 10,
-      equal 1 (0 ∷ 2 ∷ 32 ∷ 2 ∷ 7 ∷ []),
+      equal 1 (gives 2 32 (2 ∷ 7 ∷ [])),
     ) ∷
     -- E26: through a macro that the template makes
     (
       trial "() (let-syntax ((m (syntax-rules () ((_) (lambda (x) (let-syntax ((n (syntax-rules () ((_ y) (lambda (y) x))))) (n x))))))) (m))" 4 0 0 9,
-      equal 1 (0 ∷ 2 ∷ 56 ∷ 7 ∷ 0 ∷ 1 ∷ 7 ∷ 1 ∷ 1 ∷ 0 ∷ 0 ∷ []),
+      equal 1 (gives 2 56 (7 ∷ 0 ∷ 1 ∷ 7 ∷ 1 ∷ 1 ∷ 0 ∷ 0 ∷ [])),
     ) ∷
     -- refused in both runs: syntax-rules bound, then heading rules
     (
       trial "() (let-syntax ((m (syntax-rules () ((_) (lambda (syntax-rules) (let-syntax ((k (syntax-rules () ((_) 1)))) (k))))))) (m))" 4 0 0 5,
-      equal 1 (15 ∷ 1 ∷ 35 ∷ []),
+      equal 1 (refuses 15 1 35),
     ) ∷
     -- a literal of its own rules
     (
       trial "() (let-syntax ((m (syntax-rules (t) ((_ t) (lambda (t) t)) ((_ x) 0)))) (m t))" 4 0 0 9,
-      equal 1 (0 ∷ 1 ∷ 9 ∷ 7 ∷ 0 ∷ 1 ∷ 0 ∷ 0 ∷ []),
+      equal 1 (gives 1 9 (7 ∷ 0 ∷ 1 ∷ 0 ∷ 0 ∷ [])),
     ) ∷
     -- an operation's name, bound
     (
       trial "(op) (let-syntax ((m (syntax-rules () ((_ a) (lambda (op) (op a)))))) (m op))" 6 0 0 8,
-      equal 1 (0 ∷ 1 ∷ 13 ∷ 7 ∷ 0 ∷ 1 ∷ 8 ∷ 1 ∷ 0 ∷ 0 ∷ 1 ∷ 0 ∷ []),
+      equal 1 (gives 1 13 (7 ∷ 0 ∷ 1 ∷ 8 ∷ 1 ∷ 0 ∷ 0 ∷ 1 ∷ 0 ∷ [])),
     ) ∷
+    -- the second rule of the second macro
+    (
+      trial "() (lambda (z) (let-syntax ((k (syntax-rules () ((_) 1))) (m (syntax-rules () ((_ a) 0) ((_ a b) ((lambda (t) (t b)) a))))) ((m z z) (k))))" 11 1 1 13,
+      equal 1 (gives 2 18 (7 ∷ 0 ∷ 1 ∷ 8 ∷ 1 ∷ 8 ∷ 1 ∷ 7 ∷ 1 ∷ 1 ∷ 8 ∷ 1 ∷ 0 ∷ 1 ∷ 0 ∷ 0 ∷ 0 ∷ 0 ∷ 2 ∷ 1 ∷ [])),
+    ) ∷
+    -- the pattern's first place
+    (
+      trial "() (letrec-syntax ((m (syntax-rules () ((m x) (lambda (m) (m x)))))) (m 1))" 4 0 0 8,
+      equal 1 (gives 1 13 (7 ∷ 0 ∷ 1 ∷ 8 ∷ 1 ∷ 0 ∷ 0 ∷ 2 ∷ 1 ∷ [])),
+    ) ∷
+    -- the form is refused by its shape
+    (
+      trial "() (let-syntax ((m (syntax-rules () ((_) t)))))" 4 0 0 9,
+      equal 0 (refuses 13 0 0),
+    ) ∷
+    -- by its names
+    (
+      trial "() (let-syntax ((m (syntax-rules () ((_) t))) (m (syntax-rules () ((_) t)))) 1)" 4 1 0 9,
+      equal 0 (refuses 14 0 0),
+    ) ∷
+    -- by the rule itself
+    (
+      trial "() (let-syntax ((m (syntax-rules () ((_ a ...) (t a))))) 1)" 4 0 0 10,
+      equal 0 (refuses 15 0 0),
+    ) ∷
+    -- by the head of the rules
+    (
+      trial "() (let-syntax ((m (foo () ((_) t)))) 1)" 4 0 0 10,
+      equal 0 (refuses 15 0 0),
+    ) ∷
+    -- copies bound twice by one form
+    (
+      trial "() (let-syntax ((m (syntax-rules () ((_ a) (lambda (t t) a))))) (m 1))" 4 0 0 10,
+      equal 0 (refuses 14 1 11),
+    ) ∷
+    -- a quote of copies that has another shape
+    (
+      trial "() (let-syntax ((m (syntax-rules () ((_ a) (lambda (t) (quote t t)))))) (m 1))" 4 0 0 10,
+      equal 0 (refuses 13 1 15),
+    ) ∷
+    -- copies under an ellipsis, through another macro
+    (
+      trial "() (if 1 2 (lambda (q) (q (let-syntax ((m (syntax-rules () ((_ (a b) ...) (lambda (t) (t (a t) ...)))))) (let-syntax ((n (syntax-rules () ((_ x) (m (x x) (x x)))))) (n q))))))" 21 0 0 12,
+      equal 3 (gives 2 38 (6 ∷ 2 ∷ 1 ∷ 2 ∷ 2 ∷ 7 ∷ 0 ∷ 1 ∷ 8 ∷ 1 ∷ 0 ∷ 0 ∷ 7 ∷ 1 ∷ 1 ∷ 8 ∷ 2 ∷ 0 ∷ 1 ∷ 8 ∷ 1 ∷ 0 ∷ 0 ∷ 0 ∷ 1 ∷ 8 ∷ 1 ∷ 0 ∷ 0 ∷ 0 ∷ 1 ∷ [])),
+    ) ∷
+    -- a macro without end that the template makes
+    (
+      trial "() (let-syntax ((m (syntax-rules () ((_) (letrec-syntax ((t (syntax-rules () ((_) (t))))) (t)))))) (m))" 4 0 0 9,
+      equal 162 (refuses 18 162 512),
+    ) ∷
+    -- items in another order than reading's
+    (trialOf permuted 6 0 0 9 1000, equal 1 (gives 1 9 (7 ∷ 0 ∷ 1 ∷ 0 ∷ 0 ∷ []))) ∷
     []
 
 pub hypotheses-hold : map (λ r. found (r .0)) holding ≡ map (λ r. r .1) holding
 unfolding found holding
 hypotheses-hold = refl
 
--- ---- one hypothesis fails, and the runs differ
+-- ---- one hypothesis fails, and the answers differ
 
 unfoldable pub failing : List (Trial × Finding)
-unfolding trial finding
+unfolding trial trialTo gives refuses finding
 failing =
     -- E25: a lookup of a copy finds a binding whose own name is none
     (
       trial "() (lambda (x) (let-syntax ((m (syntax-rules () ((_) x)))) (m)))" 11 0 0 8,
-      finding (true ∷ true ∷ true ∷ true ∷ false ∷ []) 1 (0 ∷ 1 ∷ 1 ∷ 7 ∷ 0 ∷ 1 ∷ 0 ∷ 0 ∷ []) (11 ∷ 1 ∷ 1 ∷ []),
+      finding (true ∷ true ∷ true ∷ true ∷ false ∷ []) 1 (gives 1 1 (7 ∷ 0 ∷ 1 ∷ 0 ∷ 0 ∷ [])) (refuses 11 1 1),
     ) ∷
     -- E24: a lookup of a copy finds the macro itself
     (
       trial "() (letrec-syntax ((or (syntax-rules () ((_) #f) ((_ e) e) ((_ a b ...) ((lambda (t) (if t t (or b ...))) a))))) (lambda (t u) (or t u #f)))" 4 0 2 8,
-      finding (true ∷ true ∷ true ∷ true ∷ false ∷ []) 2 (0 ∷ 3 ∷ 53 ∷ 7 ∷ 0 ∷ 2 ∷ 8 ∷ 1 ∷ 7 ∷ 2 ∷ 1 ∷ 6 ∷ 0 ∷ 2 ∷ 0 ∷ 2 ∷ 8 ∷ 1 ∷ 7 ∷ 3 ∷ 1 ∷ 6 ∷ 0 ∷ 3 ∷ 0 ∷ 3 ∷ 3 ∷ 0 ∷ 0 ∷ 1 ∷ 0 ∷ 0 ∷ []) (11 ∷ 1 ∷ 27 ∷ []),
+      finding (true ∷ true ∷ true ∷ true ∷ false ∷ []) 2 (gives 3 53 (7 ∷ 0 ∷ 2 ∷ 8 ∷ 1 ∷ 7 ∷ 2 ∷ 1 ∷ 6 ∷ 0 ∷ 2 ∷ 0 ∷ 2 ∷ 8 ∷ 1 ∷ 7 ∷ 3 ∷ 1 ∷ 6 ∷ 0 ∷ 3 ∷ 0 ∷ 3 ∷ 3 ∷ 0 ∷ 0 ∷ 1 ∷ 0 ∷ 0 ∷ [])) (refuses 11 1 27),
     ) ∷
     -- E22: a lookup of a copy finds a form
     (
       trial "(t) (let-syntax ((or2 (syntax-rules () ((_ a b) ((lambda (t) (if t t b)) a))))) ((lambda (if) (or2 if t)) #f))" 6 0 0 1,
-      finding (true ∷ true ∷ true ∷ true ∷ false ∷ []) 1 (0 ∷ 1 ∷ 21 ∷ 8 ∷ 1 ∷ 7 ∷ 0 ∷ 1 ∷ 8 ∷ 1 ∷ 7 ∷ 1 ∷ 1 ∷ 6 ∷ 0 ∷ 1 ∷ 0 ∷ 1 ∷ 1 ∷ 0 ∷ 0 ∷ 0 ∷ 3 ∷ 0 ∷ []) (11 ∷ 1 ∷ 21 ∷ []),
+      finding (true ∷ true ∷ true ∷ true ∷ false ∷ []) 1 (gives 1 21 (8 ∷ 1 ∷ 7 ∷ 0 ∷ 1 ∷ 8 ∷ 1 ∷ 7 ∷ 1 ∷ 1 ∷ 6 ∷ 0 ∷ 1 ∷ 0 ∷ 1 ∷ 1 ∷ 0 ∷ 0 ∷ 0 ∷ 3 ∷ 0 ∷ [])) (refuses 11 1 21),
     ) ∷
     -- E14: the head of a rules form
     (
       trial "() (let-syntax ((m (syntax-rules () ((_ a) (let-syntax ((n (syntax-rules () ((_ b) b)))) (n a)))))) (m 7))" 4 0 0 5,
-      finding (true ∷ true ∷ true ∷ true ∷ false ∷ []) 1 (0 ∷ 2 ∷ 32 ∷ 2 ∷ 7 ∷ []) (15 ∷ 1 ∷ 31 ∷ []),
+      finding (true ∷ true ∷ true ∷ true ∷ false ∷ []) 1 (gives 2 32 (2 ∷ 7 ∷ [])) (refuses 15 1 31),
     ) ∷
     -- E07: a copy compared with a literal finds nothing
     (
       trial "() (let-syntax ((c (syntax-rules (else) ((_ else) 1) ((_ x) 2)))) (let-syntax ((w (syntax-rules () ((_) (c else))))) (w)))" 41 0 0 9,
-      finding (true ∷ true ∷ true ∷ true ∷ false ∷ []) 1 (0 ∷ 2 ∷ 6 ∷ 2 ∷ 1 ∷ []) (0 ∷ 2 ∷ 6 ∷ 2 ∷ 2 ∷ []),
+      finding (true ∷ true ∷ true ∷ true ∷ false ∷ []) 1 (gives 2 6 (2 ∷ 1 ∷ [])) (gives 2 6 (2 ∷ 2 ∷ [])),
     ) ∷
     -- a copy is quoted
     (
       trial "() (let-syntax ((m (syntax-rules () ((_) (quote x))))) (m))" 4 0 0 9,
-      finding (true ∷ true ∷ true ∷ false ∷ true ∷ []) 0 (0 ∷ 1 ∷ 5 ∷ 4 ∷ 9 ∷ []) (0 ∷ 1 ∷ 5 ∷ 4 ∷ 1000 ∷ []),
+      finding (true ∷ true ∷ true ∷ false ∷ true ∷ []) 0 (gives 1 5 (4 ∷ 9 ∷ [])) (gives 1 5 (4 ∷ 1000 ∷ [])),
     ) ∷
     -- a copy is quoted by a later step
     (
       trial "() (let-syntax ((q (syntax-rules () ((_ x) (quote x))))) (let-syntax ((m (syntax-rules () ((_) (lambda (t) (q t)))))) (m)))" 33 0 0 11,
-      finding (true ∷ true ∷ true ∷ false ∷ true ∷ []) 0 (0 ∷ 2 ∷ 18 ∷ 7 ∷ 0 ∷ 1 ∷ 4 ∷ 11 ∷ []) (0 ∷ 2 ∷ 18 ∷ 7 ∷ 0 ∷ 1 ∷ 4 ∷ 1000 ∷ []),
+      finding (true ∷ true ∷ true ∷ false ∷ true ∷ []) 0 (gives 2 18 (7 ∷ 0 ∷ 1 ∷ 4 ∷ 11 ∷ [])) (gives 2 18 (7 ∷ 0 ∷ 1 ∷ 4 ∷ 1000 ∷ [])),
     ) ∷
     -- the form is reached through a macro's result alone, where its template's name is the outer rule's variable
     (
       trial "() (let-syntax ((m (syntax-rules () ((_ x) (let-syntax ((n (syntax-rules () ((_) x)))) (n)))))) (m 5))" 23 0 0 9,
-      finding (false ∷ true ∷ true ∷ true ∷ true ∷ []) 0 (0 ∷ 2 ∷ 28 ∷ 2 ∷ 5 ∷ []) (11 ∷ 2 ∷ 28 ∷ []),
+      finding (false ∷ true ∷ true ∷ true ∷ true ∷ []) 0 (gives 2 28 (2 ∷ 5 ∷ [])) (refuses 11 2 28),
     ) ∷
     -- the form is quoted, and never reached
     (
       trial "() (quote (let-syntax ((m (syntax-rules () ((_) x)))) 1))" 7 0 0 9,
-      finding (false ∷ true ∷ true ∷ true ∷ true ∷ []) 0 (0 ∷ 0 ∷ 0 ∷ 5 ∷ 3 ∷ 4 ∷ 3 ∷ 5 ∷ 1 ∷ 5 ∷ 2 ∷ 4 ∷ 8 ∷ 5 ∷ 3 ∷ 4 ∷ 5 ∷ 5 ∷ 0 ∷ 5 ∷ 2 ∷ 5 ∷ 1 ∷ 4 ∷ 7 ∷ 4 ∷ 9 ∷ 2 ∷ 1 ∷ []) (0 ∷ 0 ∷ 0 ∷ 5 ∷ 3 ∷ 4 ∷ 3 ∷ 5 ∷ 1 ∷ 5 ∷ 2 ∷ 4 ∷ 8 ∷ 5 ∷ 3 ∷ 4 ∷ 5 ∷ 5 ∷ 0 ∷ 5 ∷ 2 ∷ 5 ∷ 1 ∷ 4 ∷ 7 ∷ 4 ∷ 1000 ∷ 2 ∷ 1 ∷ []),
+      finding (false ∷ true ∷ true ∷ true ∷ true ∷ []) 0 (gives 0 0 (5 ∷ 3 ∷ 4 ∷ 3 ∷ 5 ∷ 1 ∷ 5 ∷ 2 ∷ 4 ∷ 8 ∷ 5 ∷ 3 ∷ 4 ∷ 5 ∷ 5 ∷ 0 ∷ 5 ∷ 2 ∷ 5 ∷ 1 ∷ 4 ∷ 7 ∷ 4 ∷ 9 ∷ 2 ∷ 1 ∷ [])) (gives 0 0 (5 ∷ 3 ∷ 4 ∷ 3 ∷ 5 ∷ 1 ∷ 5 ∷ 2 ∷ 4 ∷ 8 ∷ 5 ∷ 3 ∷ 4 ∷ 5 ∷ 5 ∷ 0 ∷ 5 ∷ 2 ∷ 5 ∷ 1 ∷ 4 ∷ 7 ∷ 4 ∷ 1000 ∷ 2 ∷ 1 ∷ [])),
     ) ∷
     -- the new name is one that the template has: it becomes the lambda's
     (
       trialTo 8 "(a) (let-syntax ((m (syntax-rules () ((_) (lambda (t) a))))) (m))" 6 0 0 10,
-      finding (true ∷ true ∷ false ∷ true ∷ true ∷ []) 0 (0 ∷ 1 ∷ 9 ∷ 7 ∷ 0 ∷ 1 ∷ 1 ∷ 0 ∷ []) (0 ∷ 1 ∷ 9 ∷ 7 ∷ 0 ∷ 1 ∷ 0 ∷ 0 ∷ []),
+      finding (true ∷ true ∷ false ∷ true ∷ true ∷ []) 0 (gives 1 9 (7 ∷ 0 ∷ 1 ∷ 1 ∷ 0 ∷ [])) (gives 1 9 (7 ∷ 0 ∷ 1 ∷ 0 ∷ 0 ∷ [])),
     ) ∷
     -- a variable of the rule
     (
       trial "() (let-syntax ((m (syntax-rules () ((_ a) a)))) (m 7))" 4 0 0 9,
-      finding (true ∷ false ∷ true ∷ true ∷ true ∷ []) 0 (0 ∷ 1 ∷ 1 ∷ 2 ∷ 7 ∷ []) (11 ∷ 1 ∷ 1 ∷ []),
+      finding (true ∷ false ∷ true ∷ true ∷ true ∷ []) 0 (gives 1 1 (2 ∷ 7 ∷ [])) (refuses 11 1 1),
+    ) ∷
+    -- the old name is `...`
+    (
+      trial "(list) (let-syntax ((l (syntax-rules () ((_ a ...) (list a ...))))) (l 1 2))" 6 0 0 6,
+      finding (true ∷ false ∷ true ∷ true ∷ true ∷ []) 0 (gives 1 7 (8 ∷ 2 ∷ 1 ∷ 0 ∷ 2 ∷ 1 ∷ 2 ∷ 2 ∷ [])) (refuses 15 0 0),
+    ) ∷
+    -- the old name is `_`
+    (
+      trial "() (let-syntax ((m (syntax-rules () ((_) (let-syntax ((n (syntax-rules () ((n _ _) 5)))) (n 1 2)))))) (m))" 4 0 0 7,
+      finding (true ∷ false ∷ true ∷ true ∷ true ∷ []) 0 (gives 2 36 (2 ∷ 5 ∷ [])) (refuses 15 1 35),
+    ) ∷
+    -- the new name is a base form's: `...` binds nothing
+    (
+      trialTo 6 "() (let-syntax ((m (syntax-rules () ((_) (lambda (t) t))))) (m))" 4 0 0 9,
+      finding (true ∷ true ∷ false ∷ true ∷ true ∷ []) 1 (gives 1 9 (7 ∷ 0 ∷ 1 ∷ 0 ∷ 0 ∷ [])) (refuses 15 0 0),
+    ) ∷
+    -- the new name is past the last number: the table has no layout
+    (
+      trialTo 1024 "() (let-syntax ((m (syntax-rules () ((_) (lambda (t) t))))) (m))" 4 0 0 9,
+      finding (true ∷ true ∷ false ∷ true ∷ true ∷ []) 1 (gives 1 9 (7 ∷ 0 ∷ 1 ∷ 0 ∷ 0 ∷ [])) (refuses 7 0 0),
     ) ∷
     []
 

@@ -18,7 +18,7 @@ use Rattle.recipe.specs.Table.{isLayout, treeOf}
 use Rattle.recipe.specs.TableNames.{numberAt}
 use Rattle.core_term.specs.Term.{Term}
 use Rattle.expansion.specs.Computation.{start, Out, done, refused, starved}
-use Rattle.expansion.specs.Forms.{expand}
+use Rattle.expansion.specs.Forms.{rulesFormOf, expandWithin, expand}
 use Rattle.expansion.specs.Run.{accepted, turnedBack, ended, operationNumbers, areOperations, expandRecipe, run}
 use Rattle.expansion.specs.RunLaws.{Begun, begun-run, shows-begun}
 use Rattle.private_names.specs.Statement as S
@@ -52,15 +52,15 @@ calm-start : (ρ : Renaming) (raw : Raw ρ) → StateRel ρ raw 0 start start
 unfolding start
 calm-start ρ raw = record { enough = omega arith; steps = refl; sum = refl; variables = refl; macros = no-macro }
 
--- whatever the limit, operations, fuel and gas: where the form of the chosen rule lies at l, with its head name of item p
-pub expressions-agree : (ρ : Renaming) (p limit : ℕ) (operations : List ℕ) (fuel gas : ℕ) (N : ℕ → ℕ) (l : List ℕ) (b j : ℕ) (t : Tree)
-    → Headed p l t → Held N t → Chosen ρ j (element 1 (element b (element 1 (sub l t))))
-    → anyOf (isReachedAt p) (eventsOf (expand limit operations fuel gas t start)) ≡ true
-    → AllFine ρ (eventsOf (expand limit operations fuel gas t start))
-    → Joins ρ (TermRel ρ) (expand limit operations fuel gas t start) (expand limit operations fuel gas (onNames (renew ρ) t) start)
+-- whatever the limits, operations, fuel and gas: where the form of the chosen rule lies at l, with its head name of item p
+pub expressions-agree : (ρ : Renaming) (p limit inner : ℕ) (operations : List ℕ) (fuel gas : ℕ) (N : ℕ → ℕ) (l : List ℕ) (b j : ℕ) (t : Tree)
+    → Headed p l t → Held N t → Chosen ρ j (rulesFormOf b (sub l t))
+    → anyOf (isReachedAt p) (eventsOf (expandWithin limit inner operations fuel gas t start)) ≡ true
+    → AllFine ρ (eventsOf (expandWithin limit inner operations fuel gas t start))
+    → Joins ρ (TermRel ρ) (expandWithin limit inner operations fuel gas t start) (expandWithin limit inner operations fuel gas (onNames (renew ρ) t) start)
 unfolding ofCopy
-expressions-agree ρ p limit operations fuel gas N l b j t i held chosen reaches fine =
-    before-agree ρ p limit operations fuel gas b unbound (λ n. refl) l t (onNames (renew ρ) t) i (held .once p) (renamed-hole ρ N l b j t held chosen) start (calm-start ρ) reaches fine
+expressions-agree ρ p limit inner operations fuel gas N l b j t i held chosen reaches fine =
+    before-agree ρ p limit inner operations fuel gas b unbound (λ n. refl) l t (onNames (renew ρ) t) i (held .once p) (renamed-hole ρ N l b j t held chosen) start (calm-start ρ) reaches fine
 
 -- ---- both runs
 
@@ -130,7 +130,7 @@ module _ (ws : List ℕ) (fuel work core : ℕ) (c : Choice) (k : Case ws fuel w
     joins : Joins ρ (TermRel ρ) (firstOf fuel ws) (expansionOf fuel (treeOf ws) (onNames (renew ρ) (element 1 (treeOf ws))))
     unfolding firstOf expansionOf
     joins =
-        expressions-agree ρ (c .form) macrosMost (operationNumbers (treeOf ws)) fuel (size (treeOf ws) + fuel) (numberAt ws) l (c .macro) (c .rule) (element 1 (treeOf ws)) i
+        expressions-agree ρ (c .form) macrosMost macrosMost (operationNumbers (treeOf ws)) fuel (size (treeOf ws) + fuel) (numberAt ws) l (c .macro) (c .rule) (element 1 (treeOf ws)) i
         (held-element (numberAt ws) 1 (treeOf ws) (held ws c layout)) (chosen ws c layout (k .private) (k .new) (eventsOf (firstOf fuel ws)) l i) (k .reaches) fine
 
     same : element 0 (onNames (renew ρ) (treeOf ws)) ≡ element 0 (treeOf ws)
@@ -160,7 +160,7 @@ module _ (ws : List ℕ) (fuel work core : ℕ) (c : Choice) (k : Case ws fuel w
   located : Unheaded (c .form) (element 1 (treeOf ws)) ⊎ ((l : List ℕ) × Headed (c .form) l (element 1 (treeOf ws))) → answerOf (run (renamed ws c) fuel work core) ≡ answerOf (run ws fuel work core)
   unfolding firstOf expansionOf
   located (inl u) = absurd (false≢true
-      (sym (none-reached (c .form) (expand-unreached (c .form) macrosMost (operationNumbers (treeOf ws)) fuel (size (treeOf ws) + fuel) (element 1 (treeOf ws)) u start)) ∙ k .reaches))
+      (sym (none-reached (c .form) (expand-unreached (c .form) macrosMost macrosMost (operationNumbers (treeOf ws)) fuel (size (treeOf ws) + fuel) (element 1 (treeOf ws)) u start)) ∙ k .reaches))
   located (inr (l, i)) = answers l i
 
 -- ---- demand 3

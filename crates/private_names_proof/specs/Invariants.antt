@@ -42,14 +42,14 @@ use Rattle.private_names_proof.specs.Invariants.Tests.{areFresh, haveOne
 use Rattle.private_names_proof.specs.Invariants.Watch.{watched, watched-is}
 use Rattle.private_names_proof.specs.Invariants.Kinds.{Fresh, inserted-marks, used-marks, Sound}
 use Rattle.private_names_proof.specs.Invariants.Kept.{After, fails-nowhere, Follows, watched-keeps}
-use Rattle.private_names_proof.specs.Invariants.AtForm.{isPrivateName, Copied, rulesIn, privateIn}
+use Rattle.private_names_proof.specs.Invariants.AtForm.{isPrivateName, Copied, privateIn}
 use Rattle.private_names_proof.specs.Invariants.Followed.{binding-carried, item-carried, fresh-follows, binding-follows, apart-follows, apart-rests}
 use Rattle.private_names_proof.specs.Invariants.Places.{Place}
 use Rattle.private_names_proof.specs.Invariants.Reached.{place-passes}
 
 -- the expansion of a recipe, `expandRecipe`, with a test before each expression
 unfoldable pub watchedRecipe : (test : Tree → State → Bool) (fuel : ℕ) → Tree → Out (Term Name)
-watchedRecipe test fuel t = watched test macrosMost (operationNumbers t) fuel (size t + fuel) (element 1 t) start
+watchedRecipe test fuel t = watched test macrosMost macrosMost (operationNumbers t) fuel (size t + fuel) (element 1 t) start
 
 -- at the start no name has marks or a binding
 plain-sound : Sound (λ x. x .binding) (λ x. Unit {0}) 0 PlainName
@@ -67,14 +67,14 @@ unfolding watchedRecipe expandRecipe start
 recipe-follows test follows ws fuel layout =
     let operations = operationNumbers (treeOf ws) in
     let gas = size (treeOf ws) + fuel in
-    watched-is test macrosMost operations fuel gas (element 1 (treeOf ws)) start
+    watched-is test macrosMost macrosMost operations fuel gas (element 1 (treeOf ws)) start
     (fails-nowhere (λ x. x .binding) (λ x. Unit {0}) IsConstant
-    (watched-keeps (λ x. x .binding) (λ x. Unit {0}) IsConstant binding-carried test follows macrosMost operations fuel gas
+    (watched-keeps (λ x. x .binding) (λ x. Unit {0}) IsConstant binding-carried test follows macrosMost macrosMost operations fuel gas
     0 PlainName plain-sound (element 1 (treeOf ws)) (tidy-element 1 (treeOf-tidy ws layout)) start (record { later = omega arith; rules = noneOf })))
 
 -- the form in the recipe's expression, as the run begins
 form-place : (ws : List ℕ) (c : Choice) (layout : isLayout ws ≡ true) (l : List ℕ) → Headed (c .form) l (element 1 (treeOf ws)) → Place (numberAt ws) (c .form) (c .macro) (c .rule) (c .old) (isOldItem (treeOf ws) c) l (element 1 (treeOf ws))
-unfolding privateIn rulesIn plainName
+unfolding privateIn plainName
 form-place ws c layout l i =
     let h = held ws c layout in
     record {
@@ -123,18 +123,18 @@ copies-stay-apart ws fuel work core c h = located (find (c .form) (element 1 (tr
     reaches = subst (λ l. anyOf (isReachedAt (c .form)) l ≡ true) (ap (λ r. r .events) (begun-run ws fuel work core begun) ∙ ended-events (expandRecipe fuel (treeOf ws))) h
 
     located : Unheaded (c .form) (element 1 (treeOf ws)) ⊎ ((l : List ℕ) × Headed (c .form) l (element 1 (treeOf ws)))
-        → watched (areApart (isOldItem (treeOf ws) c)) macrosMost (operationNumbers (treeOf ws)) fuel (size (treeOf ws) + fuel) (element 1 (treeOf ws)) start
+        → watched (areApart (isOldItem (treeOf ws) c)) macrosMost macrosMost (operationNumbers (treeOf ws)) fuel (size (treeOf ws) + fuel) (element 1 (treeOf ws)) start
         ≡ expand macrosMost (operationNumbers (treeOf ws)) fuel (size (treeOf ws) + fuel) (element 1 (treeOf ws)) start
-    located (inl u) = absurd (false≢true (sym (none-reached (c .form) (expand-unreached (c .form) macrosMost (operationNumbers (treeOf ws)) fuel (size (treeOf ws) + fuel) (element 1 (treeOf ws)) u start)) ∙ reaches))
+    located (inl u) = absurd (false≢true (sym (none-reached (c .form) (expand-unreached (c .form) macrosMost macrosMost (operationNumbers (treeOf ws)) fuel (size (treeOf ws) + fuel) (element 1 (treeOf ws)) u start)) ∙ reaches))
     located (inr (l, i)) =
         let private = isOldItem (treeOf ws) c in
-        watched-is (areApart private) macrosMost (operationNumbers (treeOf ws)) fuel (size (treeOf ws) + fuel) (element 1 (treeOf ws)) start
+        watched-is (areApart private) macrosMost macrosMost (operationNumbers (treeOf ws)) fuel (size (treeOf ws) + fuel) (element 1 (treeOf ws)) start
         (fails-nowhere (isPrivateName private) (Copied private) IsConstant
-        (place-passes (numberAt ws) (c .form) (c .macro) (c .rule) (c .old) private (item-carried private) (areApart private) (apart-follows private) (apart-rests private (numberAt ws)) macrosMost (operationNumbers (treeOf ws)) fuel (size (treeOf ws) + fuel)
+        (place-passes (numberAt ws) (c .form) (c .macro) (c .rule) (c .old) private (item-carried private) (areApart private) (apart-follows private) (apart-rests private (numberAt ws)) macrosMost macrosMost (operationNumbers (treeOf ws)) fuel (size (treeOf ws) + fuel)
         l (element 1 (treeOf ws)) (form-place ws c (begun .layout) l i) start (start-after private) reaches))
 
 -- A form reached outside results was in no use: whatever a macro use holds, its expansion reaches no form by a name that never stood in a result.
-pub reached-in-no-use : (limit : ℕ) (operations : List ℕ) (fuel gas n : ℕ) (t : Tree) (s : State) (p : ℕ)
-    → anyOf (isReachedAt p) (eventsOf (expandUse limit operations fuel (expand limit operations fuel gas) n t s)) ≡ false
-reached-in-no-use limit operations fuel gas n t s p =
-    none-reached p (use-unreached p limit operations fuel (expand limit operations fuel gas) (expand-unreached p limit operations fuel gas) n t s)
+pub reached-in-no-use : (limit inner : ℕ) (operations : List ℕ) (fuel gas n : ℕ) (t : Tree) (s : State) (p : ℕ)
+    → anyOf (isReachedAt p) (eventsOf (expandUse limit operations fuel (expand inner operations fuel gas) n t s)) ≡ false
+reached-in-no-use limit inner operations fuel gas n t s p =
+    none-reached p (use-unreached p limit operations fuel (expand inner operations fuel gas) (expand-unreached p inner inner operations fuel gas) n t s)

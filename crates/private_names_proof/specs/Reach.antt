@@ -16,7 +16,7 @@ use Rattle.expansion.specs.Lookup.{quote, if, lambda, let-syntax, letrec-syntax
 use Rattle.expansion.specs.Rules.{rulesOf}
 use Rattle.expansion.specs.Match.{firstFit}
 use Rattle.expansion.specs.Computation.{State, looked, quoted, Events, Out, done, refused, starved, M, after, goOn, _>>=_, _>>_, give, refuse, show, test, orRefuse, get, addVariables, addMacros, addStep}
-use Rattle.expansion.specs.Forms.{formals, keywords, bindings, readRules, expandAll, expandQuote, expandIf, expandLambda, expandMacros, expandUse, expandOperands, expandList, expandName, expandApplication, expandPair, expandTree, expand}
+use Rattle.expansion.specs.Forms.{formals, keywords, bindings, readRules, expandAll, expandQuote, expandIf, expandLambda, expandMacros, expandUse, expandOperands, expandList, expandName, expandApplication, expandPair, expandTree, expandWithin, expand}
 use Rattle.private_names.specs.Statement.{isReachedAt}
 use Rattle.simulation.specs.Outcomes.{eventsOf, events-after}
 use Rattle.private_names_proof.specs.Reach.Heads.{isAt, isNameAt, Unheaded, empty₁, constant₁, name₁, pair₁, UnheadedAll, empty₂, constant₂, name₂, pair₂, unheaded-element, unheaded-bindAll, unheaded-produce}
@@ -214,8 +214,8 @@ module _ (p : ℕ) where
     tree-unreached _ (pair₁ {h = h} e u v) s = pair-unreached h e u v s
 
   -- Reach: what is reached outside results is a list of the tree at hand, by its head
-  pub expand-unreached : (limit : ℕ) (operations : List ℕ) (fuel gas : ℕ) (t : Tree) → Unheaded p t → (s : State) → Unreached (expand limit operations fuel gas t s)
-  unfolding expand eventsOf anyOf
-  expand-unreached limit operations fuel zero t u s = unreached refl
-  expand-unreached limit operations fuel (suc gas) t u s =
-      tree-unreached limit operations fuel (expand limit operations fuel gas) (expand-unreached limit operations fuel gas) t u s
+  pub expand-unreached : (limit inner : ℕ) (operations : List ℕ) (fuel gas : ℕ) (t : Tree) → Unheaded p t → (s : State) → Unreached (expandWithin limit inner operations fuel gas t s)
+  unfolding expandWithin eventsOf anyOf
+  expand-unreached limit inner operations fuel zero t u s = unreached refl
+  expand-unreached limit inner operations fuel (suc gas) t u s =
+      tree-unreached limit operations fuel (expand inner operations fuel gas) (expand-unreached inner inner operations fuel gas) t u s

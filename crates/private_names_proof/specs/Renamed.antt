@@ -11,13 +11,15 @@ use lib.Dec.{eqb}
 use Rattle.words.specs.Lists.{anyOf}
 use Rattle.recipe.specs.Name.{Name, plainName}
 use Rattle.recipe.specs.Tree.{Tree, names, elements, element, onNames}
-use Rattle.recipe.specs.TreeNames.{TreeAll, all-empty, all-constant, all-name, all-pair, treeAll-map, treeAll-both, treeAll-element, uses, uses-element}
+use Rattle.recipe.specs.TreeNames.{TreeAll, all-empty, all-constant, all-name, all-pair, treeAll-map, treeAll-both, treeAll-element, treeAll-tail, uses, uses-element}
 use Rattle.recipe.specs.TableNames.{Plain}
+use Rattle.expansion.specs.Rules.{ruleList, rulePlace, templatePlace, ruleTemplate, hasVariable}
+use Rattle.expansion.specs.Forms.{rulesFormOf}
 use Rattle.private_names.specs.Statement.{isPrivate}
 use Rattle.simulation.specs.Shapes.{TreeOf, empties, constants, names₂, pairs}
 use Rattle.simulation.specs.Names.Shown.{Renaming}
 use Rattle.simulation.specs.Form.Holes.{Hole, here, first, later}
-use Rattle.simulation.specs.Form.Scopes.{Scope, Placed, hasVariable}
+use Rattle.simulation.specs.Form.Scopes.{Scope, Placed}
 use Rattle.simulation.specs.Form.Places.{Still, Turning, InTemplate, stays, turns, ChosenRules}
 use Rattle.private_names_proof.specs.Renumber.{renumberName}
 use Rattle.private_names_proof.specs.Paths.{sub, uses-sub}
@@ -128,9 +130,16 @@ unfolding sub
 held-sub N [] t h = h
 held-sub N (k ∷ l) t h = held-sub N l (element k t) (held-element N k t h)
 
+pub treeAll-rules : {P : Name → Type 0} {t : Tree} → TreeAll P t → TreeAll P (ruleList t)
+treeAll-rules a = treeAll-tail (treeAll-tail a)
+
 -- the template of rule j of a rules form
 unfoldable pub templateIn : ℕ → Tree → Tree
-templateIn j t = element 1 (element (suc (suc j)) t)
+templateIn j t = ruleTemplate (element (rulePlace t j) t)
+
+pub treeAll-template : {P : Name → Type 0} (j : ℕ) {t : Tree} → TreeAll P t → TreeAll P (templateIn j t)
+unfolding templateIn
+treeAll-template j {t} a = treeAll-element templatePlace (treeAll-element (rulePlace t j) a)
 
 -- rule j of the rules form t has the private name in its template, at the private items; that name is no variable of the rule, and the
 -- new name is neither in that template nor a variable
@@ -143,13 +152,13 @@ pub record Chosen (ρ : Renaming) (j : ℕ) (t : Tree) : Type 0 where
 
 module _ (ρ : Renaming) (N : ℕ → ℕ) (j : ℕ) (t : Tree) (held : Held N t) (chosen : Chosen ρ j t) where
   abbrev template : Tree
-  template = element 1 (element (suc (suc j)) t)
+  template = ruleTemplate (element (rulePlace t j) t)
 
-  held-rule : Held N (element (suc (suc j)) t)
-  held-rule = held-element N (suc (suc j)) t held
+  held-rule : Held N (element (rulePlace t j) t)
+  held-rule = held-element N (rulePlace t j) t held
 
   held-template : Held N template
-  held-template = held-element N 1 (element (suc (suc j)) t) held-rule
+  held-template = held-element N templatePlace (element (rulePlace t j) t) held-rule
 
   private-items : (i : ℕ) → ρ .isPrivate i ≡ anyOf (isOld (ρ .old) i) (names template)
   unfolding templateIn
@@ -166,31 +175,31 @@ module _ (ρ : Renaming) (N : ℕ → ℕ) (j : ℕ) (t : Tree) (held : Held N t
   template-holds q e = old-uses (ρ .old) q template (sym (private-items q) ∙ e)
 
   rules-hold : Holds ρ t
-  rules-hold q e = omega (arith, template-holds q e, uses-element q 1 (element (suc (suc j)) t), uses-element q (suc (suc j)) t)
+  rules-hold q e = omega (arith, template-holds q e, uses-element q templatePlace (element (rulePlace t j) t), uses-element q (rulePlace t j) t)
 
   chosen-rules : ChosenRules ρ unbound t (onNames (renew ρ) t)
   chosen-rules = record {
     rule = j;
-    hole = element-hole ρ (chosen .some .0) (chosen .some .1) (suc (suc j)) (held .plain) (held .once) (λ q e. omega (arith, template-holds q e, uses-element q 1 (element (suc (suc j)) t)))
-        (element-hole ρ (chosen .some .0) (chosen .some .1) 1 (held-rule .plain) (held-rule .once) template-holds (here template-rel));
+    hole = element-hole ρ (chosen .some .0) (chosen .some .1) (rulePlace t j) (held .plain) (held .once) (λ q e. omega (arith, template-holds q e, uses-element q templatePlace (element (rulePlace t j) t)))
+        (element-hole ρ (chosen .some .0) (chosen .some .1) templatePlace (held-rule .plain) (held-rule .once) template-holds (here template-rel));
     old-free = chosen .old-free;
     new-free = chosen .new-free;
   }
 
 -- ---- the expression
 
-module _ (ρ : Renaming) (N : ℕ → ℕ) (l : List ℕ) (b j : ℕ) (t : Tree) (held : Held N t) (chosen : Chosen ρ j (element 1 (element b (element 1 (sub l t))))) where
+module _ (ρ : Renaming) (N : ℕ → ℕ) (l : List ℕ) (b j : ℕ) (t : Tree) (held : Held N t) (chosen : Chosen ρ j (rulesFormOf b (sub l t))) where
   abbrev form : Tree
   form = sub l t
 
   held-form : Held N form
   held-form = held-sub N l t held
 
-  held-rules : Held N (element 1 (element b (element 1 form)))
+  held-rules : Held N (rulesFormOf b form)
   held-rules = held-element N 1 (element b (element 1 form)) (held-element N b (element 1 form) (held-element N 1 form held-form))
 
   form-holds : Holds ρ form
-  form-holds q e = omega (arith, rules-hold ρ N j (element 1 (element b (element 1 form))) held-rules chosen q e, uses-element q 1 form, uses-element q b (element 1 form), uses-element q 1 (element b (element 1 form)))
+  form-holds q e = omega (arith, rules-hold ρ N j (rulesFormOf b form) held-rules chosen q e, uses-element q 1 form, uses-element q b (element 1 form), uses-element q 1 (element b (element 1 form)))
 
   -- every private item is in the form
   pub renamed-holds : Holds ρ t
@@ -202,5 +211,5 @@ module _ (ρ : Renaming) (N : ℕ → ℕ) (l : List ℕ) (b j : ℕ) (t : Tree)
   renamed-hole =
       path-hole ρ (chosen .some .0) (chosen .some .1) l (held .plain) (held .once) form-holds
       (path-hole ρ (chosen .some .0) (chosen .some .1) (1 ∷ b ∷ 1 ∷ []) (held-form .plain) (held-form .once)
-      (rules-hold ρ N j (element 1 (element b (element 1 form))) held-rules chosen)
-      (here (chosen-rules ρ N j (element 1 (element b (element 1 form))) held-rules chosen)))
+      (rules-hold ρ N j (rulesFormOf b form) held-rules chosen)
+      (here (chosen-rules ρ N j (rulesFormOf b form) held-rules chosen)))

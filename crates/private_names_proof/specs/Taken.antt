@@ -4,28 +4,30 @@ use mathlib.Core.Path.{_≡_, ap, sym, _∙_}
 use mathlib.Core.Bool.{true, false, not}
 use mathlib.Core.List.{List}
 use mathlib.Core.Option.{some}
-use Prim.Native.Nat.{ℕ, suc, _≤_}
+use Prim.Native.Nat.{ℕ, _≤_}
 use native.Mathlib.Omega.{arith}
 use borrow.Author.Tests.{ltb-false, not-true, ne-eqb}
 use lib.Dec.{eqb, ltb}
 use Rattle.words.specs.Limits.{namesMost, baseNameCount}
 use Rattle.words.specs.Lists.{anyOf}
 use Rattle.words.specs.TestLaws.{and-parts}
-use Rattle.recipe.specs.Tree.{Tree, names, element, tail, onNames}
-use Rattle.recipe.specs.TreeLaws.{onNames-element, element-tail}
+use Rattle.recipe.specs.Tree.{Tree, names, element, onNames}
+use Rattle.recipe.specs.TreeLaws.{onNames-element}
 use Rattle.recipe.specs.TreeNames.{TreeAll, treeAll-element, treeAll-tail, uses-elements}
 use Rattle.recipe.specs.Table.{isLayout, treeOf}
 use Rattle.recipe.specs.TableNames.{numberAt, treeOf-plain, treeOf-numbered, treeOf-uses}
+use Rattle.expansion.specs.Rules.{literalList, ruleList, ruleTemplate, hasVariable}
 use Rattle.expansion.specs.Computation.{Events}
+use Rattle.expansion.specs.Forms.{rulesFormOf}
+use Rattle.expansion.specs.FormLaws.{rule-placed}
 use Rattle.private_names.specs.Statement as S
 use Rattle.private_names.specs.Statement.{Choice, formAt, rulesAt, ruleAt, templateAt, isVariableAt, isOldItem, isNew, isOwnedByCopy}
 use Rattle.simulation.specs.Names.Shown.{Renaming}
-use Rattle.simulation.specs.Form.Scopes.{hasVariable}
 use Rattle.simulation.specs.Form.Places.{still-eq}
 use Rattle.private_names_proof.specs.Renumber.{tree-new}
 use Rattle.private_names_proof.specs.Paths.{sub, treeAll-sub, Headed, headed-of-element, headed-part}
 use Rattle.private_names_proof.specs.Renamed.OldItems.{isOld, old-some, variables-none}
-use Rattle.private_names_proof.specs.Renamed.{unbound, renew, still-tree, Held, held-element, templateIn, Chosen, renamed-holds}
+use Rattle.private_names_proof.specs.Renamed.{unbound, renew, still-tree, Held, held-element, treeAll-rules, templateIn, treeAll-template, Chosen, renamed-holds}
 
 -- ---- the form's rules in the table's tree
 
@@ -35,17 +37,16 @@ module _ (ws : List ℕ) (c : Choice) (layout : isLayout ws ≡ true) where
 
   -- where the form lies at l of the expression
   module _ (l : List ℕ) (i : Headed (c .form) l (element 1 (treeOf ws))) where
-    rules-at : rulesAt (treeOf ws) c ≡ element 1 (element (c .macro) (element 1 (sub l (element 1 (treeOf ws)))))
+    rules-at : rulesAt (treeOf ws) c ≡ rulesFormOf (c .macro) (sub l (element 1 (treeOf ws)))
     unfolding rulesAt formAt sub
-    rules-at = ap (λ t. element 1 (element (c .macro) (element 1 t))) (headed-part (c .form) (headed-of-element (c .form) 1 (treeOf ws) i) (held .once (c .form)) .1)
+    rules-at = ap (rulesFormOf (c .macro)) (headed-part (c .form) (headed-of-element (c .form) 1 (treeOf ws) i) (held .once (c .form)) .1)
 
-    template-at : templateAt (treeOf ws) c ≡ templateIn (c .rule) (element 1 (element (c .macro) (element 1 (sub l (element 1 (treeOf ws))))))
+    template-at : templateAt (treeOf ws) c ≡ templateIn (c .rule) (rulesFormOf (c .macro) (sub l (element 1 (treeOf ws))))
     unfolding templateAt ruleAt templateIn
-    template-at = let R = element 1 (element (c .macro) (element 1 (sub l (element 1 (treeOf ws))))) in
-        ap (λ r. element 1 (element (c .rule) (tail (tail r)))) rules-at ∙ ap (element 1) (element-tail (c .rule) (tail R) ∙ element-tail (suc (c .rule)) R)
+    template-at = ap (λ r. ruleTemplate (element (c .rule) (ruleList r))) rules-at ∙ ap ruleTemplate (rule-placed (c .rule) _)
 
     -- the items of the old name are those of that template
-    pub items-at : (q : ℕ) → isOldItem (treeOf ws) c q ≡ anyOf (isOld (c .old) q) (names (templateIn (c .rule) (element 1 (element (c .macro) (element 1 (sub l (element 1 (treeOf ws))))))))
+    pub items-at : (q : ℕ) → isOldItem (treeOf ws) c q ≡ anyOf (isOld (c .old) q) (names (templateIn (c .rule) (rulesFormOf (c .macro) (sub l (element 1 (treeOf ws))))))
     unfolding isOldItem isOld
     items-at q = ap (λ t. anyOf (isOld (c .old) q) (names t)) template-at
 
@@ -89,7 +90,7 @@ module _ (ws : List ℕ) (c : Choice) (layout : isLayout ws ≡ true) (private :
   -- where the form lies at l of the expression
   module _ (l : List ℕ) (i : Headed (c .form) l (element 1 T)) where
     abbrev R : Tree
-    R = element 1 (element (c .macro) (element 1 (sub l (element 1 T))))
+    R = rulesFormOf (c .macro) (sub l (element 1 T))
 
     new-rules : TreeAll (λ x. eqb (x .number) (c .new) ≡ false) R
     new-rules = treeAll-element 1 (treeAll-element (c .macro) (treeAll-element 1 (treeAll-sub l (treeAll-element 1 (tree-new ws (c .new) new)))))
@@ -100,11 +101,10 @@ module _ (ws : List ℕ) (c : Choice) (layout : isLayout ws ≡ true) (private :
 
     new-at : hasVariable (c .rule) (c .new) R ≡ false
     unfolding hasVariable
-    new-at = variables-none (names (element 1 R)) (c .new) 0 (treeAll-tail (treeAll-element 0 (treeAll-element (c .rule) (treeAll-tail (treeAll-tail new-rules)))))
+    new-at = variables-none (names (literalList R)) (c .new) 0 (treeAll-tail (treeAll-element 0 (treeAll-element (c .rule) (treeAll-rules new-rules))))
 
     new-template : TreeAll (λ x. eqb (x .number) (c .new) ≡ false) (templateIn (c .rule) R)
-    unfolding templateIn
-    new-template = treeAll-element 1 (treeAll-element (suc (suc (c .rule))) new-rules)
+    new-template = treeAll-template (c .rule) new-rules
 
     pub chosen : Chosen renaming (c .rule) R
     chosen = record { private = items-at ws c layout l i; some = some-private; fresh = new-template; old-free = old-at; new-free = new-at }

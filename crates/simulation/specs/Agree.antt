@@ -15,7 +15,7 @@ use Rattle.core_term.specs.Term.{Term}
 use Rattle.expansion.specs.Lookup.{quote, if, lambda, let-syntax, letrec-syntax, auxiliary, Found, bound, form, operation, nothing, lookup}
 use Rattle.expansion.specs.Transcribe.{transcribe}
 use Rattle.expansion.specs.Computation.{looked, M, addVariables, addMacros, addStep}
-use Rattle.expansion.specs.Forms.{formals, keywords, rulesForms, expandAll, expandQuote, expandIf, expandLambda, expandMacros, expandUse, expandOperands, expandList, expandName, expandApplication, expandPair, expandTree, expand}
+use Rattle.expansion.specs.Forms.{formals, keywords, rulesForms, expandAll, expandQuote, expandIf, expandLambda, expandMacros, expandUse, expandOperands, expandList, expandName, expandApplication, expandPair, expandTree, expandWithin, expand}
 use Rattle.simulation.specs.Relations.{ListRel, length-rel, list-map, map-rel}
 use Rattle.simulation.specs.Shapes.{empties, constants, names₂, pairs, RuleOf, tree-map, size-rel, names-rel, isListOf-rel, element-rel, tail-rel}
 use Rattle.simulation.specs.MatchKept.{equalLengths-rel, transcribe-rel}
@@ -180,7 +180,8 @@ module _ (ρ : Renaming) (raw : Raw ρ) where
 
   -- ---- any expression
 
-  pub expand-agree : (limit : ℕ) (operations : List ℕ) (fuel gas k : ℕ) (Q : Kind) → Coherent ρ Q → Ready ρ Q → Below k Q → (t u : Tree) → TreeRel ρ raw Q t u → Agrees ρ raw k (TermRel ρ) (expand limit operations fuel gas t) (expand limit operations fuel gas u)
-  unfolding expand
-  expand-agree limit ops fuel zero k Q co rd b t u r s s′ q = λ fine. starvations
-  expand-agree limit ops fuel (suc gas) k Q co rd b t u r s s′ q = tree-agree limit ops fuel (expand limit ops fuel gas) (expand limit ops fuel gas) (expand-agree limit ops fuel gas) k Q co rd b t u r s s′ q
+  pub expand-agree : (limit inner : ℕ) (operations : List ℕ) (fuel gas k : ℕ) (Q : Kind) → Coherent ρ Q → Ready ρ Q → Below k Q → (t u : Tree) → TreeRel ρ raw Q t u
+      → Agrees ρ raw k (TermRel ρ) (expandWithin limit inner operations fuel gas t) (expandWithin limit inner operations fuel gas u)
+  unfolding expandWithin
+  expand-agree limit inner ops fuel zero k Q co rd b t u r s s′ q = λ fine. starvations
+  expand-agree limit inner ops fuel (suc gas) k Q co rd b t u r s s′ q = tree-agree limit ops fuel (expand inner ops fuel gas) (expand inner ops fuel gas) (expand-agree inner inner ops fuel gas) k Q co rd b t u r s s′ q

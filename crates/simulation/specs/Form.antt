@@ -123,11 +123,11 @@ module _ (ρ : Renaming) where
   abbrev pub Joined : Out (Term Name) → Out (Term Name) → Type 1
   Joined = Joins (TermRel ρ)
 
-  module _ (limit : ℕ) (operations : List ℕ) (fuel gas : ℕ) (β : Scope) (free : Foreign ρ β) (inside : Bool) (x : Name) {b : ℕ} {F F′ : Tree} (r : Hole (Still ρ β) (ChosenRules ρ β) (1 ∷ b ∷ 1 ∷ []) F F′) (s : State) where
+  module _ (limit inner : ℕ) (operations : List ℕ) (fuel gas : ℕ) (β : Scope) (free : Foreign ρ β) (inside : Bool) (x : Name) {b : ℕ} {F F′ : Tree} (r : Hole (Still ρ β) (ChosenRules ρ β) (1 ∷ b ∷ 1 ∷ []) F F′) (s : State) where
     abbrev γ : Scope
     γ = formScope β inside (length (s .macros)) F
 
-    form-steps : StateRel ρ (rawIn γ) 0 s s → Agree ρ (rawIn γ) 0 (TermRel ρ) (expandMacros limit operations fuel (expand limit operations fuel gas) inside x F s) (expandMacros limit operations fuel (expand limit operations fuel gas) inside x F′ s)
+    form-steps : StateRel ρ (rawIn γ) 0 s s → Agree ρ (rawIn γ) 0 (TermRel ρ) (expandMacros limit operations fuel (expand inner operations fuel gas) inside x F s) (expandMacros limit operations fuel (expand inner operations fuel gas) inside x F′ s)
     unfolding expandMacros addMacros rawIn
     form-steps q =
         let k = length (s .macros) in
@@ -142,7 +142,7 @@ module _ (ρ : Renaming) where
         λ a c v v′ e q′.
         goes-agree ρ (rawIn γ) 0 _ _ _ _ v v′ _ _ _ _ refl refl
         (let h : Foreign ρ γ = scope-foreign ρ β r free inside k fine in
-        expand-agree ρ (rawIn γ) limit operations fuel gas 0 (AtRest ρ) (rest-coherent ρ) (rest-ready ρ) (rest-below ρ 0) _ _
+        expand-agree ρ (rawIn γ) inner inner operations fuel gas 0 (AtRest ρ) (rest-coherent ρ) (rest-ready ρ) (rest-below ρ 0) _ _
         (tree-map (still-rel ρ (rawIn γ) (rebindAll macro k (keywords F) β) (rebindAll-foreign ρ macro k β β w fine free)) (bindAll-still ρ macro (keywords F) (keywords F′) k β w d (hole-off r 2 (omega arith)))) _ _
         (record {
           enough = omega arith;
@@ -154,6 +154,6 @@ module _ (ρ : Renaming) where
 
     -- from a state whose macros have no private name (whatever the template's own names are bound to), the form comes to the same in both runs,
     -- where what the first shows is fine
-    pub form-agree : ((raw : Raw ρ) → StateRel ρ raw 0 s s) → AllFine ρ (eventsOf (expandMacros limit operations fuel (expand limit operations fuel gas) inside x F s))
-        → Joined (expandMacros limit operations fuel (expand limit operations fuel gas) inside x F s) (expandMacros limit operations fuel (expand limit operations fuel gas) inside x F′ s)
+    pub form-agree : ((raw : Raw ρ) → StateRel ρ raw 0 s s) → AllFine ρ (eventsOf (expandMacros limit operations fuel (expand inner operations fuel gas) inside x F s))
+        → Joined (expandMacros limit operations fuel (expand inner operations fuel gas) inside x F s) (expandMacros limit operations fuel (expand inner operations fuel gas) inside x F′ s)
     form-agree calm fine = record { raw = rawIn γ; outcomes = form-steps (calm (rawIn γ)) fine }

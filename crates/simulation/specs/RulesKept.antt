@@ -9,9 +9,9 @@ use lib.ListN.{length}
 use Rattle.words.specs.Limits.{literalsMost, rulesMost, patternVariablesMost, depthMost}
 use Rattle.words.specs.Lists.{anyOf, within}
 use Rattle.recipe.specs.Name.{Name, same, distinct, isEllipsis, isWildcard}
-use Rattle.recipe.specs.Tree.{Tree, onName, onPair, names, isOrdinaryName, isListOf, elements, element, tail}
+use Rattle.recipe.specs.Tree.{Tree, onName, onPair, names, isOrdinaryName, isListOf, elements, element}
 use Rattle.expansion.specs.Lookup.{isSyntaxRules}
-use Rattle.expansion.specs.Rules.{pairP, ellipsisP, Template, pairT, ellipsisT, drivers, isDriven, variableFrom, nameTemplate, areVariables, dotsNext, depthBefore, isVariable, variables, patternOf, templateOf, ruleOf, isRulesForm, rulesOf}
+use Rattle.expansion.specs.Rules.{pairP, ellipsisP, Template, pairT, ellipsisT, literalList, ruleList, rulePattern, templatePlace, ruleTemplate, drivers, isDriven, variableFrom, nameTemplate, areVariables, dotsNext, depthBefore, isVariable, variables, patternOf, templateOf, ruleVariables, ruleOf, isRulesForm, rulesOf}
 use Rattle.simulation.specs.Relations.{ListRel, ends, joins, any-rel, OptionRel, nones, somes, length-rel, append-rel, map-rel, all-rel, cond-rel, guard-rel, mapSome-rel, mapBoth-rel, traverse-rel}
 use Rattle.simulation.specs.Shapes.{TreeOf, empties, constants, names₂, pairs, PatternOf, variablePs, literalPs, wildcardPs, constantPs, emptyPs, pairPs, ellipsisPs, TemplateOf, variableTs, insertTs, constantTs, emptyTs, pairTs, ellipsisTs, RuleOf, names-rel, onName-rel, isList-rel, elements-rel, isListOf-rel, element-rel, tail-rel, isOrdinaryName-rel}
 
@@ -121,8 +121,8 @@ module _ (R : Name → Name → Type 0) (same-eq : (i j x y : Name) → R i j �
 
     -- a rule whose template's names are related by S, under which they are the same variable or none
     pub ruleOf-by : (S : Name → Name → Type 0) → ((x y : Name) → S x y → dots x ≡ dots′ y) → (t u : Tree)
-        → isListOf 2 t ≡ isListOf 2 u → TreeOf R (element 0 t) (element 0 u) → TreeOf S (element 1 t) (element 1 u)
-        → ((x y : Name) → S x y → variableFrom 0 (variables dots ls 0 (tail (element 0 t))) x ≡ variableFrom 0 (variables dots′ ms 0 (tail (element 0 u))) y)
+        → isListOf 2 t ≡ isListOf 2 u → TreeOf R (rulePattern t) (rulePattern u) → TreeOf S (ruleTemplate t) (ruleTemplate u)
+        → ((x y : Name) → S x y → variableFrom 0 (ruleVariables dots ls t) x ≡ variableFrom 0 (ruleVariables dots′ ms u) y)
         → OptionRel (RuleOf R S) (ruleOf dots ls t) (ruleOf dots′ ms u)
     unfolding ruleOf
     ruleOf-by S template-eq t u e p q v =
@@ -132,13 +132,20 @@ module _ (R : Name → Name → Type 0) (same-eq : (i j x y : Name) → R i j �
     pub ruleOf-rel : (t u : Tree) → TreeOf R t u → OptionRel (RuleOf R R) (ruleOf dots ls t) (ruleOf dots′ ms u)
     ruleOf-rel t u r =
         let p = element-rel 0 r in
-        ruleOf-by R dots-eq t u (isListOf-rel 2 r) p (element-rel 1 r) (λ x y q. variableFrom-rel (variables-rel 0 (tail-rel p)) 0 q)
+        ruleOf-by R dots-eq t u (isListOf-rel 2 r) p (element-rel templatePlace r) (λ x y q. variableFrom-rel (variables-rel 0 (tail-rel p)) 0 q)
 
 -- ---- rules forms; the lookup of the head is told apart
 
+module _ {R : Name → Name → Type 0} where
+  pub literalList-rel : {t u : Tree} → TreeOf R t u → TreeOf R (literalList t) (literalList u)
+  literalList-rel r = element-rel 1 r
+
+  pub ruleList-rel : {t u : Tree} → TreeOf R t u → TreeOf R (ruleList t) (ruleList u)
+  ruleList-rel r = tail-rel (tail-rel r)
+
 module _ (R : Name → Name → Type 0) (dots-eq : (x y : Name) → R x y → isEllipsis x ≡ isEllipsis y) (wild-eq : (x y : Name) → R x y → isWildcard x ≡ isWildcard y) where
   pub isRulesForm-rel : (t u : Tree) → onName isSyntaxRules false (element 0 t) ≡ onName isSyntaxRules false (element 0 u)
-      → TreeOf R (element 1 t) (element 1 u) → length (elements (tail (tail t))) ≡ length (elements (tail (tail u))) → isRulesForm t ≡ isRulesForm u
+      → TreeOf R (literalList t) (literalList u) → length (elements (ruleList t)) ≡ length (elements (ruleList u)) → isRulesForm t ≡ isRulesForm u
   unfolding isRulesForm
   isRulesForm-rel t u e r f =
       let ls = elements-rel r in
@@ -149,5 +156,6 @@ module _ (R : Name → Name → Type 0) (dots-eq : (x y : Name) → R x y → is
       → OptionRel (ListRel (RuleOf R R)) (rulesOf t) (rulesOf u)
   unfolding rulesOf
   rulesOf-rel same-eq t u r e =
-      let rs = elements-rel (tail-rel (tail-rel r)) in
-      guard-rel (isRulesForm-rel t u e (element-rel 1 r) (length-rel rs)) (traverse-rel _ _ (ruleOf-rel R same-eq wild-eq isEllipsis isEllipsis dots-eq (names-rel (element-rel 1 r))) rs)
+      let ls = literalList-rel r in
+      let rs = elements-rel (ruleList-rel r) in
+      guard-rel (isRulesForm-rel t u e ls (length-rel rs)) (traverse-rel _ _ (ruleOf-rel R same-eq wild-eq isEllipsis isEllipsis dots-eq (names-rel ls)) rs)

@@ -21,7 +21,7 @@ use Rattle.core_term.specs.Words.{datumWords, dataWords, encode, encodeAll}
 use Rattle.expansion.specs.Lookup.{quote, if, lambda, let-syntax, letrec-syntax, auxiliary, Found, bound, form, operation, nothing, lookup}
 use Rattle.expansion.specs.Transcribe.{transcribe}
 use Rattle.expansion.specs.Computation.{State, Out, M}
-use Rattle.expansion.specs.Forms.{isLambda, formals, isMacros, keywords, rulesForms, expandAll, expandQuote, expandIf, expandLambda, expandMacros, expandUse, expandOperands, expandList, expandName, expandApplication, expandPair, expandTree, expand}
+use Rattle.expansion.specs.Forms.{isLambda, formals, isMacros, keywords, rulesForms, expandAll, expandQuote, expandIf, expandLambda, expandMacros, expandUse, expandOperands, expandList, expandName, expandApplication, expandPair, expandTree, expandWithin, expand}
 use Rattle.expansion.specs.FormLaws.{rules-added, readRules-holds}
 use Rattle.expansion.specs.Outcomes.{Holds, give-holds, refuse-holds, test-holds, show-holds, get-holds, addVariables-holds, addMacros-holds, addStep-holds, then-holds, orRefuse-holds, weaken}
 
@@ -101,16 +101,16 @@ Spends fuel k s words o = Holds ⊥ (λ g u l. Solvent fuel u) (λ a u l. Spent 
 abbrev pub SpendsTerm : (fuel k : ℕ) (s : State) → Out (Term Name) → Type 0
 SpendsTerm fuel k s = Spends fuel k s (λ w. length (encode w))
 
-module _ (limit : ℕ) (operations : List ℕ) (fuel : ℕ) where
-  -- an expander for which gas bounds the tree and the fuel left
-  abbrev pub Thrifty : ℕ → (Tree → M (Term Name)) → Type 0
-  Thrifty gas rec = (t : Tree) (s : State) → Solvent fuel s → size t + fuel ≤ gas + s .sum → SpendsTerm fuel (size t) s (rec t s)
+-- an expander for which gas bounds the tree and the fuel left
+abbrev pub Thrifty : (fuel gas : ℕ) → (Tree → M (Term Name)) → Type 0
+Thrifty fuel gas rec = (t : Tree) (s : State) → Solvent fuel s → size t + fuel ≤ gas + s .sum → SpendsTerm fuel (size t) s (rec t s)
 
+module _ (limit : ℕ) (operations : List ℕ) (fuel : ℕ) where
   -- no fuel
   nothing-spent : (k : ℕ) (s : State) (n : ℕ) → Solvent fuel s → n ≤ 2 * k → Spent fuel k s n s
   nothing-spent k s n low h = record { grown = omega arith; solvent = low; words = omega arith; bindings = omega arith }
 
-  module _ (gas : ℕ) (rec : Tree → M (Term Name)) (good : Thrifty gas rec) where
+  module _ (gas : ℕ) (rec : Tree → M (Term Name)) (good : Thrifty fuel gas rec) where
     all-spends : (t : Tree) (s : State) → Solvent fuel s → size t + fuel ≤ gas + s .sum → Spends fuel (size t) s (λ w. length (encodeAll w) + 2) (expandAll limit operations fuel rec t s)
     unfolding expandAll size encode nodeWords
     all-spends empty s low g = give-holds noneC s (nothing-spent 1 s 2 low (omega arith))
@@ -230,14 +230,15 @@ module _ (limit : ℕ) (operations : List ℕ) (fuel : ℕ) where
     pair-spends (name x) t s low g = show-holds _ _ s (list-spends (lookup operations x) x (name x) t s low g)
     pair-spends (pair a b) t s low g = application-spends (pair a b) t s low g
 
-    tree-spends : Thrifty (suc gas) (expandTree limit operations fuel rec)
+    tree-spends : Thrifty fuel (suc gas) (expandTree limit operations fuel rec)
     unfolding expandTree size encode nodeWords datumWords constantWords
     tree-spends empty s low g = refuse-holds 13 s low
     tree-spends (constant a) s low g = give-holds (datumC (constantD a)) s (nothing-spent 1 s 2 low (omega arith))
     tree-spends (name x) s low g = show-holds _ _ s (name-spends (lookup operations x) s low)
     tree-spends (pair h t) s low g = pair-spends h t s low g
 
-  pub expand-spends : (gas : ℕ) → Thrifty gas (expand limit operations fuel gas)
-  unfolding expand
-  expand-spends zero t s low g = absurd (omega (arith, size-positive t))
-  expand-spends (suc gas) t s low g = tree-spends gas (expand limit operations fuel gas) (expand-spends gas) t s low g
+pub expand-spends : (limit inner : ℕ) (operations : List ℕ) (fuel gas : ℕ) → Thrifty fuel gas (expandWithin limit inner operations fuel gas)
+unfolding expandWithin
+expand-spends limit inner operations fuel zero t s low g = absurd (omega (arith, size-positive t))
+expand-spends limit inner operations fuel (suc gas) t s low g =
+    tree-spends limit operations fuel gas (expand inner operations fuel gas) (expand-spends inner inner operations fuel gas) t s low g

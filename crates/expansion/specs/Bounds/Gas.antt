@@ -16,7 +16,7 @@ use Rattle.expansion.specs.Bounds.Budget.{SpendsTerm, expand-spends}
 pub expandRecipe-spends : (fuel : ℕ) (t : Tree) → SpendsTerm fuel (size (element 1 t)) start (expandRecipe fuel t)
 unfolding expandRecipe start
 expandRecipe-spends fuel t =
-    expand-spends macrosMost (operationNumbers t) fuel (size t + fuel) (element 1 t) start (record { paid = omega arith; bounded = omega arith }) (omega (arith, element-size 1 t))
+    expand-spends macrosMost macrosMost (operationNumbers t) fuel (size t + fuel) (element 1 t) start (record { paid = omega arith; bounded = omega arith }) (omega (arith, element-size 1 t))
 
 pub run-finished : (items : List ℕ) (fuel work core : ℕ) → run items fuel work core .outcome ≡ unfinished → ⊥
 unfolding unbegun ended

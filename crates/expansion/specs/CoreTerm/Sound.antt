@@ -20,7 +20,7 @@ use Rattle.core_term.specs.Every.{Asked, everyDatum, every, everyTerm}
 use Rattle.core_term.specs.Check.{Scope, inside, variableInside, firstNumber, known}
 use Rattle.expansion.specs.Lookup.{quote, if, lambda, let-syntax, letrec-syntax, auxiliary, Found}
 use Rattle.expansion.specs.Computation.{State, Out, M}
-use Rattle.expansion.specs.Forms.{isLambda, formals, keywords, rulesForms, expandAll, expandQuote, expandIf, expandLambda, expandMacros, expandUse, expandOperands, expandList, expandName, expandApplication, expandPair, expandTree, expand}
+use Rattle.expansion.specs.Forms.{isLambda, formals, keywords, rulesForms, expandAll, expandQuote, expandIf, expandLambda, expandMacros, expandUse, expandOperands, expandList, expandName, expandApplication, expandPair, expandTree, expandWithin, expand}
 use Rattle.expansion.specs.Outcomes.{Holds, isStarved, give-holds, refuse-holds, test-holds, show-holds, get-holds, addVariables-holds, addMacros-holds, addStep-holds, then-holds, orRefuse-holds, weaken}
 use Rattle.expansion.specs.FormLaws.{readRules-holds, keywords-count}
 use Rattle.expansion.specs.CoreTerm.Worlds.{World, FineTree, FineRules, fine-mark, fine-produce, Meant, meantVariable, meantMacro, meantForm, meantOperation, meantNothing, lookup-meant}
@@ -217,7 +217,8 @@ module _ (limit : ℕ) (operations : List ℕ) (fuel : ℕ) where
     tree-made (tidyName {x} f) s c = show-holds _ _ s (bare-made (lookup-meant operations x f) s)
     tree-made (tidyPair h t l) s c = pair-made h t l s c
 
-  pub expand-made : (gas : ℕ) → Sound (expand limit operations fuel gas)
-  unfolding expand
-  expand-made zero W t f s c = isStarved tt
-  expand-made (suc gas) W t f s c = tree-made (expand limit operations fuel gas) (expand-made gas) W f s c
+pub expand-made : (limit inner : ℕ) (operations : List ℕ) (fuel gas : ℕ) → Sound limit operations fuel (expandWithin limit inner operations fuel gas)
+unfolding expandWithin
+expand-made limit inner operations fuel zero W t f s c = isStarved tt
+expand-made limit inner operations fuel (suc gas) W t f s c =
+    tree-made limit operations fuel (expand inner operations fuel gas) (expand-made inner inner operations fuel gas) W f s c

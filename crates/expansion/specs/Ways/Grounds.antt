@@ -18,7 +18,7 @@ same-ground g h e = cc
 pub run-ground : (items : List ℕ) (fuel work core : ℕ) (h : ℕ) → run items fuel work core .outcome ≡ turnedBack h → TurnedBack h (run items fuel work core)
 unfolding unbegun ended expandRecipe
 run-ground items fuel work core h =
-    run-holds (λ r. r .outcome ≡ turnedBack h → TurnedBack h r) items fuel work core (λ b. expand-keeps _ _ fuel _ _ start)
+    run-holds (λ r. r .outcome ≡ turnedBack h → TurnedBack h r) items fuel work core (λ b. expand-keeps _ _ _ fuel _ _ start)
     (λ g l e. subst (λ z. TurnedBack z (unbegun g)) (same-ground g h e) (atOnce l refl))
     (λ b t s l q e. absurd (accepted≢turnedBack h e))
     (λ b g s l q e. later (subst (λ z. (11 ≤ z) × (z ≤ 18)) (same-ground g h e) (q .ground)))

@@ -32,9 +32,9 @@ use Rattle.private_names_proof.specs.Paths.{Headed, headed-element, head
 use Rattle.private_names_proof.specs.Before.Meeting.{Calm, Meets, never, part-before, part-with, test-meets, show-meets, goes-meets, get-meets, place, Ahead}
 use Rattle.private_names_proof.specs.Before.Forms.{rec-unreached}
 
-module _ (ρ : Renaming) (p : ℕ) (limit : ℕ) (operations : List ℕ) (fuel gas b : ℕ) where
+module _ (ρ : Renaming) (p : ℕ) (limit inner : ℕ) (operations : List ℕ) (fuel gas b : ℕ) where
   abbrev rec : Tree → M (Term Name)
-  rec = expand limit operations fuel gas
+  rec = expand inner operations fuel gas
 
   module _ (β : Scope) (free : Foreign ρ β) (ahead : Ahead ρ p b rec) where
     still-names : {t u : Tree} → TreeOf (Still ρ β) t u → ListRel (Still ρ β) (names t) (names t)
@@ -79,9 +79,9 @@ module _ (ρ : Renaming) (p : ℕ) (limit : ℕ) (operations : List ℕ) (fuel g
     pub lambda-before : (k : ℕ) {l : List ℕ} {t t′ : Tree} → Headed p (k ∷ l) t → uses p t ≤ 1 → Hole (Still ρ β) (ChosenRules ρ β) (k ∷ place ρ p b l) t t′
         → (s : State) → Calm ρ p s → Meets ρ p (TermRel ρ) (expandLambda limit operations fuel rec t s) (expandLambda limit operations fuel rec t′ s)
     unfolding formals
-    lambda-before zero {t = t} i u r s calm = never ρ p (lambda-unreached p limit operations fuel rec (rec-unreached ρ p limit operations fuel gas b) t (other-unheaded p i u 2 (omega arith)) s)
-    lambda-before (suc zero) {t = t} i u r s calm = never ρ p (lambda-unreached p limit operations fuel rec (rec-unreached ρ p limit operations fuel gas b) t (other-unheaded p i u 2 (omega arith)) s)
-    lambda-before (suc (suc (suc k))) {t = t} i u r s calm = never ρ p (lambda-unreached p limit operations fuel rec (rec-unreached ρ p limit operations fuel gas b) t (other-unheaded p i u 2 (omega arith)) s)
+    lambda-before zero {t = t} i u r s calm = never ρ p (lambda-unreached p limit operations fuel rec (rec-unreached ρ p limit inner operations fuel gas b) t (other-unheaded p i u 2 (omega arith)) s)
+    lambda-before (suc zero) {t = t} i u r s calm = never ρ p (lambda-unreached p limit operations fuel rec (rec-unreached ρ p limit inner operations fuel gas b) t (other-unheaded p i u 2 (omega arith)) s)
+    lambda-before (suc (suc (suc k))) {t = t} i u r s calm = never ρ p (lambda-unreached p limit operations fuel rec (rec-unreached ρ p limit inner operations fuel gas b) t (other-unheaded p i u 2 (omega arith)) s)
     lambda-before (suc (suc zero)) {t = t} {t′ = t′} i u r s calm =
         let e : isLambda t ≡ isLambda t′ = isLambda-rel _ (λ x y a. a .0) (λ x y a. a .1) t t′ (hole-alike ρ β r) in
         let f : formals t ≡ formals t′ = ap names (still-eq ρ β (hole-off r 1 (omega arith))) in
@@ -155,9 +155,9 @@ module _ (ρ : Renaming) (p : ℕ) (limit : ℕ) (operations : List ℕ) (fuel g
     pub macros-before : (inside : Bool) (x : Name) → isAt p x ≡ false → (k : ℕ) {l : List ℕ} {t t′ : Tree} → Headed p (k ∷ l) t → uses p t ≤ 1 → Hole (Still ρ β) (ChosenRules ρ β) (k ∷ place ρ p b l) t t′
         → (s : State) → Calm ρ p s → Meets ρ p (TermRel ρ) (expandMacros limit operations fuel rec inside x t s) (expandMacros limit operations fuel rec inside x t′ s)
     unfolding keywords rulesForms
-    macros-before inside x a zero {t = t} i u r s calm = never ρ p (macros-unreached p limit operations fuel rec (rec-unreached ρ p limit operations fuel gas b) inside x a t (other-unheaded p i u 2 (omega arith)) s)
-    macros-before inside x a (suc zero) {t = t} i u r s calm = never ρ p (macros-unreached p limit operations fuel rec (rec-unreached ρ p limit operations fuel gas b) inside x a t (other-unheaded p i u 2 (omega arith)) s)
-    macros-before inside x a (suc (suc (suc k))) {t = t} i u r s calm = never ρ p (macros-unreached p limit operations fuel rec (rec-unreached ρ p limit operations fuel gas b) inside x a t (other-unheaded p i u 2 (omega arith)) s)
+    macros-before inside x a zero {t = t} i u r s calm = never ρ p (macros-unreached p limit operations fuel rec (rec-unreached ρ p limit inner operations fuel gas b) inside x a t (other-unheaded p i u 2 (omega arith)) s)
+    macros-before inside x a (suc zero) {t = t} i u r s calm = never ρ p (macros-unreached p limit operations fuel rec (rec-unreached ρ p limit inner operations fuel gas b) inside x a t (other-unheaded p i u 2 (omega arith)) s)
+    macros-before inside x a (suc (suc (suc k))) {t = t} i u r s calm = never ρ p (macros-unreached p limit operations fuel rec (rec-unreached ρ p limit inner operations fuel gas b) inside x a t (other-unheaded p i u 2 (omega arith)) s)
     macros-before inside x a (suc (suc zero)) {t = t} {t′ = t′} i u r s calm =
         let m = hole-off r 1 (omega arith) in
         let e : isMacros limit t ≡ isMacros limit t′ = isMacros-rel _ (λ x y a. a .0) (λ x y a. a .1) limit t t′ (hole-alike ρ β r) in

@@ -26,24 +26,24 @@ use Rattle.private_names_proof.specs.Paths.{Headed, in-first, in-later, 
 use Rattle.private_names_proof.specs.Before.Meeting.{Calm, no-raw, Meets, never, part-before, part-with, test-meets, place, Ahead}
 
 module _ (ρ : Renaming) (p : ℕ) where
-  module _ (limit : ℕ) (operations : List ℕ) (fuel gas b : ℕ) where
+  module _ (limit inner : ℕ) (operations : List ℕ) (fuel gas b : ℕ) where
     abbrev pub rec : Tree → M (Term Name)
-    rec = expand limit operations fuel gas
+    rec = expand inner operations fuel gas
 
     pub rec-unreached : (t : Tree) → Unheaded p t → (s : State) → Unreached p (rec t s)
-    rec-unreached = expand-unreached p limit operations fuel gas
+    rec-unreached = expand-unreached p inner inner operations fuel gas
 
     module _ (β : Scope) (free : Foreign ρ β) where
       -- parts that are still
       part-agree : {t u : Tree} → TreeOf (Still ρ β) t u → (raw : Raw ρ) (s s′ : State) → StateRel ρ raw 0 s s′ → Agree ρ raw 0 (TermRel ρ) (rec t s) (rec u s′)
-      part-agree r raw s s′ q = Both.expand-agree ρ raw limit operations fuel gas 0 (AtRest ρ) (rest-coherent ρ) (rest-ready ρ) (rest-below ρ 0) _ _ (tree-map (still-rel ρ raw β free) r) s s′ q
+      part-agree r raw s s′ q = Both.expand-agree ρ raw inner inner operations fuel gas 0 (AtRest ρ) (rest-coherent ρ) (rest-ready ρ) (rest-below ρ 0) _ _ (tree-map (still-rel ρ raw β free) r) s s′ q
 
       all-agree : {t u : Tree} → TreeOf (Still ρ β) t u → (raw : Raw ρ) (s s′ : State) → StateRel ρ raw 0 s s′ → Agree ρ raw 0 (TermsRel ρ) (expandAll limit operations fuel rec t s) (expandAll limit operations fuel rec u s′)
-      all-agree r raw = Both.all-agree ρ raw limit operations fuel rec rec (Both.expand-agree ρ raw limit operations fuel gas) 0 (AtRest ρ) (rest-coherent ρ) (rest-ready ρ) (rest-below ρ 0) (tree-map (still-rel ρ raw β free) r)
+      all-agree r raw = Both.all-agree ρ raw limit operations fuel rec rec (Both.expand-agree ρ raw inner inner operations fuel gas) 0 (AtRest ρ) (rest-coherent ρ) (rest-ready ρ) (rest-below ρ 0) (tree-map (still-rel ρ raw β free) r)
 
       operands-agree : {x y : Term Name} → TermRel ρ x y → {t u : Tree} → TreeOf (Still ρ β) t u → (raw : Raw ρ) (s s′ : State) → StateRel ρ raw 0 s s′
           → Agree ρ raw 0 (TermRel ρ) (expandOperands limit operations fuel rec x t s) (expandOperands limit operations fuel rec y u s′)
-      operands-agree e r raw = Both.operands-agree ρ raw limit operations fuel rec rec (Both.expand-agree ρ raw limit operations fuel gas) 0 (AtRest ρ) (rest-coherent ρ) (rest-ready ρ) (rest-below ρ 0) _ _ e (tree-map (still-rel ρ raw β free) r)
+      operands-agree e r raw = Both.operands-agree ρ raw limit operations fuel rec rec (Both.expand-agree ρ raw inner inner operations fuel gas) 0 (AtRest ρ) (rest-coherent ρ) (rest-ready ρ) (rest-below ρ 0) _ _ e (tree-map (still-rel ρ raw β free) r)
 
       -- a part before the form
       tree-before : {B : Type 0} {P : B → B → Type 0} {t u : Tree} → TreeOf (Still ρ β) t u → Unheaded p t → (f g : Term Name → M B) (s : State) → Calm ρ p s

@@ -14,19 +14,20 @@ use Rattle.words.specs.TestLaws.{iff-eq}
 use Rattle.words.specs.Each.{Each, noneOf, also, each-map, Given, missing, given, given-any, given-weaken, given-guard, given-mapBoth, given-traverse}
 use Rattle.datum.specs.Constant.{Constant}
 use Rattle.recipe.specs.Name.{Binding, macro, Name, isEllipsis, bindName}
-use Rattle.recipe.specs.Tree.{Tree, empty, constant, name, pair, names, elements, element, tail, onNames, bind, bindAll}
-use Rattle.recipe.specs.TreeLaws.{onNames-element, element-tail}
+use Rattle.recipe.specs.Tree.{Tree, empty, constant, name, pair, names, elements, element, onNames, bind, bindAll}
+use Rattle.recipe.specs.TreeLaws.{onNames-element}
 use Rattle.recipe.specs.TreeNames.{TreeAll, all-empty, all-constant, all-name, all-pair, treeAll-map, treeAll-both, treeAll-element, uses, uses-element, uses-elements, bindName-item}
 use Rattle.recipe.specs.Tidy.{Tidy, tidyEmpty, tidyConstant, tidyName, tidyPair, tidy-element, tidy-bindAll}
-use Rattle.expansion.specs.Rules.{Template, Rule, variableFrom, templateOf, ruleOf, rulesOf}
-use Rattle.expansion.specs.Forms.{keywords, rulesForms}
+use Rattle.expansion.specs.Rules.{Template, Rule, ruleList, rulePlace, templatePlace, ruleTemplate, variableFrom, templateOf, ruleOf, rulesOf}
+use Rattle.expansion.specs.Forms.{keywords, rulesForms, rulesFormOf}
+use Rattle.expansion.specs.FormLaws.{rule-placed}
 use Rattle.expansion.specs.TidyRules.{rulesOf-tidy}
 use Rattle.simulation.specs.Relations.{OptionRel, nones, somes}
 use Rattle.simulation.specs.Shapes.{TreeOf, empties, constants, names₂, pairs, TemplateOf, insertTs, pairTs, ellipsisTs}
 use Rattle.simulation.specs.RulesKept.{templateOf-rel}
 use Rattle.simulation.specs.Form.Scopes.{bindName-number}
 use Rattle.private_names_proof.specs.Renamed.OldItems.{isOld, old-uses, old-number, old-each}
-use Rattle.private_names_proof.specs.Renamed.{templateIn}
+use Rattle.private_names_proof.specs.Renamed.{templateIn, treeAll-template}
 use Rattle.private_names_proof.specs.Invariants.Kinds.{Made, Good, good-fewer, bindName-marks}
 use Rattle.private_names_proof.specs.Invariants.Kept.{Inserts, here, in-head, in-tail, in-element, in-rest, tidy-inserts, GoodRule}
 
@@ -58,7 +59,7 @@ module _ (P : Name → Type 0) where
       go (somes r) = given (inserts-itself r)
 
   -- what holds of the names of a rule's template holds of those it inserts
-  rule-names : (literals : List Name) (r : Tree) → TreeAll P (element 1 r) → Given (λ (rule : Rule). (x : Name) → Inserts x (rule .template) → P x) (ruleOf isEllipsis literals r)
+  rule-names : (literals : List Name) (r : Tree) → TreeAll P (ruleTemplate r) → Given (λ (rule : Rule). (x : Name) → Inserts x (rule .template) → P x) (ruleOf isEllipsis literals r)
   unfolding ruleOf
   rule-names literals r a = given-guard _ (given-mapBoth _ (λ p t _ f. f) (given-any _) (template-names _ a))
 
@@ -95,15 +96,11 @@ tidy-each (tidyPair a b l) (all-pair p q) = tidyPair (tidy-each a p) (tidy-each 
 
 pub templateIn-onNames : (f : Name → Name) (j : ℕ) (t : Tree) → templateIn j (onNames f t) ≡ onNames f (templateIn j t)
 unfolding templateIn
-templateIn-onNames f j t = ap (element 1) (onNames-element f (suc (suc j)) t) ∙ onNames-element f 1 (element (suc (suc j)) t)
+templateIn-onNames f j t = ap ruleTemplate (onNames-element f (rulePlace t j) t) ∙ onNames-element f templatePlace (element (rulePlace t j) t)
 
-pub templateIn-uses : (q j : ℕ) (t : Tree) → uses q (templateIn j t) ≤ uses q (element (suc (suc j)) t)
+pub templateIn-uses : (q j : ℕ) (t : Tree) → uses q (templateIn j t) ≤ uses q (element (rulePlace t j) t)
 unfolding templateIn
-templateIn-uses q j t = uses-element q 1 (element (suc (suc j)) t)
-
-templateIn-all : {P : Name → Type 0} (j : ℕ) {t : Tree} → TreeAll P t → TreeAll P (templateIn j t)
-unfolding templateIn
-templateIn-all j a = treeAll-element 1 (treeAll-element (suc (suc j)) a)
+templateIn-uses q j t = uses-element q templatePlace (element (rulePlace t j) t)
 
 -- where no such item is used
 pub unused-all : (private : ℕ → Bool) (t : Tree) → ((q : ℕ) → private q ≡ true → uses q t ≡ 0) → TreeAll (λ x. private (x .item) ≡ false) t
@@ -163,7 +160,7 @@ module _ (private : ℕ → Bool) where
         settled-bindAll f (suc k) xs (onNames (bindName x (f k)) r)
         (λ j. subst Settled (sym (templateIn-onNames (bindName x (f k)) j r)) (settled-bind x (f k) (templateIn j r) (h j)))
 
-    rule-good : (k : ℕ) (literals : List Name) (r : Tree) → Settled (element 1 r) → Given (λ (rule : Rule). Good isPrivateName k (λ x. Inserts x (rule .template))) (ruleOf isEllipsis literals r)
+    rule-good : (k : ℕ) (literals : List Name) (r : Tree) → Settled (ruleTemplate r) → Given (λ (rule : Rule). Good isPrivateName k (λ x. Inserts x (rule .template))) (ruleOf isEllipsis literals r)
     rule-good k literals r (inl a) = given-weaken (λ rule h. good-fewer isPrivateName h (public-good k)) (rule-names Public literals r a)
     rule-good k literals r (inr a) = given-weaken (λ rule h. good-fewer isPrivateName h (numbered-good k)) (rule-names Numbered literals r a)
 
@@ -172,8 +169,8 @@ module _ (private : ℕ → Bool) where
     unfolding rulesOf templateIn
     rules-good C k r a h =
         given-each (λ rule p q. record { good = q; tidy = tidy-inserts p }) (rulesOf-tidy a)
-        (given-guard _ (given-traverse (each-element (tail (tail r)) (λ j. rule-good k _ (element j (tail (tail r)))
-        (subst (λ t. Settled (element 1 t)) (sym (element-tail j (tail r) ∙ element-tail (suc j) r)) (h j))))))
+        (given-guard _ (given-traverse (each-element (ruleList r) (λ j. rule-good k _ (element j (ruleList r))
+        (subst (λ t. Settled (ruleTemplate t)) (sym (rule-placed j r)) (h j))))))
 
     pub scoped-good : (C : Constant → Type 0) (k : ℕ) (inside : Bool) (i : ℕ) (xs : List Name) (r : Tree) → Tidy (λ x. Unit {0}) C r × ((j : ℕ) → Settled (templateIn j r))
         → Given (Each (GoodRule isPrivateName Copied C k)) (rulesOf (cond inside (bindAll macro i xs) (λ r. r) r))
@@ -190,24 +187,19 @@ pub record InPlace (C : Constant → Type 0) (number : ℕ → ℕ) (t : Tree) :
   pub numbered : TreeAll (λ x. x .number ≡ number (x .item)) t
   pub once : (q : ℕ) → uses q t ≤ 1
 
--- the rules form of macro b
-unfoldable pub rulesIn : ℕ → Tree → Tree
-rulesIn b t = element 1 (element b (element 1 t))
-
 -- an item of name n in the template of rule j of macro b
 unfoldable pub privateIn : (b j n : ℕ) → Tree → ℕ → Bool
-privateIn b j n t i = anyOf (isOld n i) (names (templateIn j (rulesIn b t)))
+privateIn b j n t i = anyOf (isOld n i) (names (templateIn j (rulesFormOf b t)))
 
 module _ (C : Constant → Type 0) (N : ℕ → ℕ) (t : Tree) (p : InPlace C N t) (b j n : ℕ) where
   abbrev private : ℕ → Bool
   private = privateIn b j n t
 
   abbrev template : ℕ → ℕ → Tree
-  template c i = templateIn i (rulesIn c t)
+  template c i = templateIn i (rulesFormOf c t)
 
   template-all : {P : Name → Type 0} (c i : ℕ) → TreeAll P t → TreeAll P (template c i)
-  unfolding rulesIn
-  template-all c i a = templateIn-all i (treeAll-element 1 (treeAll-element c (treeAll-element 1 a)))
+  template-all c i a = treeAll-template i (treeAll-element 1 (treeAll-element c (treeAll-element 1 a)))
 
   private-uses : (q : ℕ) → private q ≡ true → 1 ≤ uses q (template b j)
   unfolding privateIn
@@ -224,7 +216,6 @@ module _ (C : Constant → Type 0) (N : ℕ → ℕ) (t : Tree) (p : InPlace C N
   public u a h = treeAll-both (unused-all private u (λ q e. omega (arith, h q, private-uses q e))) a
 
   settled : (c i : ℕ) → Settled private n (template c i)
-  unfolding rulesIn
   settled c i = go (decide c b) (decide i j)
     where
       go : (c ≡ b) ⊎ (c ≡ b → ⊥) → (i ≡ j) ⊎ (i ≡ j → ⊥) → Settled private n (template c i)
@@ -236,9 +227,9 @@ module _ (C : Constant → Type 0) (N : ℕ → ℕ) (t : Tree) (p : InPlace C N
             uses-element q 1 t,
             uses-element q b (element 1 t),
             uses-element q 1 (element b (element 1 t)),
-            templateIn-uses q i (rulesIn b t),
-            templateIn-uses q j (rulesIn b t),
-            uses-elements q (suc (suc i)) (suc (suc j)) (rulesIn b t) (λ d. f (omega arith)),
+            templateIn-uses q i (rulesFormOf b t),
+            templateIn-uses q j (rulesFormOf b t),
+            uses-elements q (rulePlace (rulesFormOf b t) i) (rulePlace (rulesFormOf b t) j) (rulesFormOf b t) (λ d. f (omega arith)),
           ))))
       go (inr e) f = inl (public (template c i) (template-all c i (p .unmarked)) (λ q.
           omega (
@@ -248,21 +239,20 @@ module _ (C : Constant → Type 0) (N : ℕ → ℕ) (t : Tree) (p : InPlace C N
             uses-elements q c b (element 1 t) e,
             uses-element q 1 (element c (element 1 t)),
             uses-element q 1 (element b (element 1 t)),
-            templateIn-uses q i (rulesIn c t),
-            templateIn-uses q j (rulesIn b t),
-            uses-element q (suc (suc i)) (rulesIn c t),
-            uses-element q (suc (suc j)) (rulesIn b t),
+            templateIn-uses q i (rulesFormOf c t),
+            templateIn-uses q j (rulesFormOf b t),
+            uses-element q (rulePlace (rulesFormOf c t) i) (rulesFormOf c t),
+            uses-element q (rulePlace (rulesFormOf b t) j) (rulesFormOf b t),
           )))
 
   -- its rules, as they are read
   pub form-rules : (k : ℕ) (inside : Bool) (i : ℕ) → Each (λ r. Given (Each (GoodRule (isPrivateName private) (Copied private) C k)) (rulesOf r)) (map (cond inside (bindAll macro i (keywords t)) (λ r. r)) (rulesForms t))
-  unfolding rulesForms rulesIn
+  unfolding rulesForms
   form-rules k inside i =
       each-map _ (λ r. scoped-good private n C k inside i (keywords t) r)
       (each-map (element 1) (λ r h. h) (each-element (element 1 t) (λ c. (tidy-element 1 (tidy-element c (tidy-element 1 (p .tidy))), settled c))))
 
   -- its body
   pub form-body : Tidy (Public private) C (element 2 t)
-  unfolding rulesIn
   form-body = tidy-each (tidy-element 2 (p .tidy)) (public (element 2 t) (treeAll-element 2 (p .unmarked)) (λ q.
-      omega (arith, p .once q, uses-elements q 2 1 t (λ d. omega arith), uses-element q b (element 1 t), uses-element q 1 (element b (element 1 t)), templateIn-uses q j (rulesIn b t), uses-element q (suc (suc j)) (rulesIn b t))))
+      omega (arith, p .once q, uses-elements q 2 1 t (λ d. omega arith), uses-element q b (element 1 t), uses-element q 1 (element b (element 1 t)), templateIn-uses q j (rulesFormOf b t), uses-element q (rulePlace (rulesFormOf b t) j) (rulesFormOf b t))))

@@ -245,12 +245,12 @@ module _ {Z : Type 0} (F : Name → Z) (E : Name → Type 0) (C : Constant → T
   abbrev pub Follows : (Tree → State → Bool) → Type 1
   Follows test = (k : ℕ) (Q : Name → Type 0) → Sound F E k Q → (t : Tree) → Tidy Q C t → (s : State) → k ≤ s .steps → test t s ≡ true
 
-  pub watched-keeps : Carried F E → (test : Tree → State → Bool) → Follows test → (limit : ℕ) (operations : List ℕ) (fuel gas : ℕ) → KeepsAll (watched test limit operations fuel gas)
+  pub watched-keeps : Carried F E → (test : Tree → State → Bool) → Follows test → (limit inner : ℕ) (operations : List ℕ) (fuel gas : ℕ) → KeepsAll (watched test limit inner operations fuel gas)
   unfolding watched
-  watched-keeps c test follows limit operations fuel zero k Q sd t a s h = isStarved tt
-  watched-keeps c test follows limit operations fuel (suc gas) k Q sd t a s h =
-      subst (λ b. Passes k (cond b (expandTree limit operations fuel (watched test limit operations fuel gas) t) (refuse 0) s)) (sym (follows k Q sd t a s (h .later)))
-      (tree-keeps c limit operations fuel (watched test limit operations fuel gas) (watched-keeps c test follows limit operations fuel gas) k Q sd a s h)
+  watched-keeps c test follows limit inner operations fuel zero k Q sd t a s h = isStarved tt
+  watched-keeps c test follows limit inner operations fuel (suc gas) k Q sd t a s h =
+      subst (λ b. Passes k (cond b (expandTree limit operations fuel (watched test inner inner operations fuel gas) t) (refuse 0) s)) (sym (follows k Q sd t a s (h .later)))
+      (tree-keeps c limit operations fuel (watched test inner inner operations fuel gas) (watched-keeps c test follows inner inner operations fuel gas) k Q sd a s h)
 
   pub fails-nowhere : {A : Type 0} {k : ℕ} {o : Out A} → Passes k o → FailsNowhere o
   fails-nowhere {A} {k} p s l e = go (subst (λ q. Passes k q) e p)

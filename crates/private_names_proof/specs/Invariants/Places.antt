@@ -12,12 +12,14 @@ use Rattle.recipe.specs.TreeLaws.{onNames-element}
 use Rattle.recipe.specs.TreeNames.{TreeAll, all-pair, treeAll-both, treeAll-element, uses, uses-element, uses-elements, uses-bindAll, bindName-item}
 use Rattle.recipe.specs.Tidy.{Tidy, tidyPair, tidy-element, tidy-bindAll}
 use Rattle.recipe.specs.TableTidy.{IsConstant}
+use Rattle.expansion.specs.Rules.{rulePlace}
+use Rattle.expansion.specs.Forms.{rulesFormOf}
 use Rattle.simulation.specs.Form.Scopes.{bindName-number}
 use Rattle.private_names_proof.specs.Paths.{sub, uses-sub, Headed, headed-uses, headed-element, headed-bindAll}
 use Rattle.private_names_proof.specs.Renamed.OldItems.{isOld, old-uses}
 use Rattle.private_names_proof.specs.Renamed.{templateIn}
 use Rattle.private_names_proof.specs.Invariants.Kinds.{bindName-marks, bindName-produced}
-use Rattle.private_names_proof.specs.Invariants.AtForm.{treeAll-onNames, tidy-each, templateIn-onNames, templateIn-uses, unused-all, Public, InPlace, rulesIn, privateIn}
+use Rattle.private_names_proof.specs.Invariants.AtForm.{treeAll-onNames, tidy-each, templateIn-onNames, templateIn-uses, unused-all, Public, InPlace, privateIn}
 
 -- ---- the private items are carried along
 
@@ -36,19 +38,18 @@ unfolding sub
 sub-onNames f [] t = refl
 sub-onNames f (k ∷ l) t = ap (sub l) (onNames-element f k t) ∙ sub-onNames f l (element k t)
 
-rulesIn-onNames : (f : Name → Name) (b : ℕ) (t : Tree) → rulesIn b (onNames f t) ≡ onNames f (rulesIn b t)
-unfolding rulesIn
-rulesIn-onNames f b t =
+rulesFormOf-onNames : (f : Name → Name) (b : ℕ) (t : Tree) → rulesFormOf b (onNames f t) ≡ onNames f (rulesFormOf b t)
+rulesFormOf-onNames f b t =
     ap (λ z. element 1 (element b z)) (onNames-element f 1 t) ∙ ap (element 1) (onNames-element f b (element 1 t)) ∙ onNames-element f 1 (element b (element 1 t))
 
 private-onNames : (b j n q : ℕ) (l : List ℕ) (f : Name → Name) → ((x : Name) → f x .number ≡ x .number) → ((x : Name) → f x .item ≡ x .item) → (t : Tree)
     → privateIn b j n (sub l (onNames f t)) q ≡ privateIn b j n (sub l t) q
 unfolding privateIn
 private-onNames b j n q l f e g t =
-    ap (λ z. anyOf (isOld n q) (names (templateIn j (rulesIn b z)))) (sub-onNames f l t)
-    ∙ ap (λ z. anyOf (isOld n q) (names (templateIn j z))) (rulesIn-onNames f b (sub l t))
-    ∙ ap (λ z. anyOf (isOld n q) (names z)) (templateIn-onNames f j (rulesIn b (sub l t)))
-    ∙ old-onNames n q f e g (templateIn j (rulesIn b (sub l t)))
+    ap (λ z. anyOf (isOld n q) (names (templateIn j (rulesFormOf b z)))) (sub-onNames f l t)
+    ∙ ap (λ z. anyOf (isOld n q) (names (templateIn j z))) (rulesFormOf-onNames f b (sub l t))
+    ∙ ap (λ z. anyOf (isOld n q) (names z)) (templateIn-onNames f j (rulesFormOf b (sub l t)))
+    ∙ old-onNames n q f e g (templateIn j (rulesFormOf b (sub l t)))
 
 -- ---- in place
 
@@ -91,10 +92,10 @@ module _ (N : ℕ → ℕ) (p b j n : ℕ) (private : ℕ → Bool) where
     pub unused : uses p t ≡ 0
 
   private-uses : (l : List ℕ) (t : Tree) → Place l t → (q : ℕ) → private q ≡ true → 1 ≤ uses q (sub l t)
-  unfolding privateIn rulesIn
+  unfolding privateIn
   private-uses l t i q e =
       let F = sub l t in
-      omega (arith, old-uses n q (templateIn j (rulesIn b F)) (sym (i .privates q) ∙ e), templateIn-uses q j (rulesIn b F), uses-element q (suc (suc j)) (rulesIn b F), uses-element q 1 (element b (element 1 F)), uses-element q b (element 1 F), uses-element q 1 F)
+      omega (arith, old-uses n q (templateIn j (rulesFormOf b F)) (sym (i .privates q) ∙ e), templateIn-uses q j (rulesFormOf b F), uses-element q (rulePlace (rulesFormOf b F) j) (rulesFormOf b F), uses-element q 1 (element b (element 1 F)), uses-element q b (element 1 F), uses-element q 1 F)
 
   without : (t : Tree) → InPlace IsConstant N t → ((q : ℕ) → private q ≡ true → uses q t ≡ 0) → uses p t ≡ 0 → Elsewhere t
   without t a h u = record { tidy = tidy-each (a .tidy) (treeAll-both (unused-all private t h) (a .unmarked)); unused = u }

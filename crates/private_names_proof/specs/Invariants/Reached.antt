@@ -18,7 +18,7 @@ use Rattle.core_term.specs.Term.{Term}
 use Rattle.expansion.specs.Lookup.{quote, if, lambda, let-syntax, letrec-syntax, auxiliary, Found, bound, form, operation, nothing, lookup}
 use Rattle.expansion.specs.Rules.{rulesOf}
 use Rattle.expansion.specs.Computation.{State, Events, Out, done, refused, starved, M, after, goOn, _>>=_, _>>_, give, refuse, show, test, get, addVariables, addMacros}
-use Rattle.expansion.specs.Forms.{formals, keywords, rulesForms, expandAll, expandIf, expandLambda, expandMacros, expandOperands, expandList, expandApplication, expandPair, expandTree, expand}
+use Rattle.expansion.specs.Forms.{formals, keywords, rulesForms, expandAll, expandIf, expandLambda, expandMacros, expandOperands, expandList, expandApplication, expandPair, expandTree, expandWithin, expand}
 use Rattle.expansion.specs.Outcomes.{Holds, isDone, isRefused, isStarved, after-holds, then-holds, weaken}
 use Rattle.expansion.specs.FormLaws.{readRules-holds}
 use Rattle.private_names.specs.Statement.{isReachedAt}
@@ -97,12 +97,12 @@ module _ (private : ℕ → Bool) (p : ℕ) where
 -- ---- forms
 
 module _ (N : ℕ → ℕ) (p b j n : ℕ) (private : ℕ → Bool) (c : Carried (isPrivateName private) (Copied private)) (test : Tree → State → Bool) (follows : Follows (isPrivateName private) (Copied private) IsConstant test)
-    (limit : ℕ) (operations : List ℕ) (fuel gas : ℕ) where
+    (limit inner : ℕ) (operations : List ℕ) (fuel gas : ℕ) where
   abbrev rec : Tree → M (Term Name)
-  rec = watched test limit operations fuel gas
+  rec = watched test inner inner operations fuel gas
 
   abbrev def : Tree → M (Term Name)
-  def = expand limit operations fuel gas
+  def = expand inner operations fuel gas
 
   abbrev At : List ℕ → Tree → Type 0
   At l t = Place N p b j n private l t
@@ -111,10 +111,10 @@ module _ (N : ℕ → ℕ) (p b j n : ℕ) (private : ℕ → Bool) (c : Carried
   Off t = Elsewhere N p b j n private t
 
   keeps : KeepsAll (isPrivateName private) (Copied private) IsConstant rec
-  keeps = watched-keeps (isPrivateName private) (Copied private) IsConstant c test follows limit operations fuel gas
+  keeps = watched-keeps (isPrivateName private) (Copied private) IsConstant c test follows inner inner operations fuel gas
 
   quiet : (t : Tree) → Unheaded p t → (s : State) → Unreached p (def t s)
-  quiet = expand-unreached p limit operations fuel gas
+  quiet = expand-unreached p inner inner operations fuel gas
 
   public : Sound (isPrivateName private) (Copied private) 0 (Public private)
   public = record { good = public-good private 0; each = λ x q e. absurd (false≢true (sym (q .0) ∙ e)) }
@@ -130,7 +130,7 @@ module _ (N : ℕ → ℕ) (p b j n : ℕ) (private : ℕ → Bool) (c : Carried
       → ((a : Term Name) (v : State) → Calm private p v → Meets private p (f a v) (g a v)) → Meets private p ((_>>=_ (rec t) f) s) ((_>>=_ (def t) g) s)
   off-before {B} {t} e f g s calm k =
       part-before private p (λ a v. Calm private p v) (rec t) (def t) f g s
-      (watched-is test limit operations fuel gas t s (fails-nowhere (isPrivateName private) (Copied private) IsConstant (off-passes e s calm))) (off-passes e s calm) (off-quiet e s) k
+      (watched-is test inner inner operations fuel gas t s (fails-nowhere (isPrivateName private) (Copied private) IsConstant (off-passes e s calm))) (off-passes e s calm) (off-quiet e s) k
 
   gives : {A : Type 0} (a : A) (s : State) → Calm private p s → Passed private p (give a s)
   gives a s calm = keeps-give (isPrivateName private) (Copied private) IsConstant 0 a s calm
@@ -301,10 +301,11 @@ module _ (N : ℕ → ℕ) (p b j n : ℕ) (private : ℕ → Bool) (c : Carried
 -- ---- any tree in place
 
 module _ (N : ℕ → ℕ) (p b j n : ℕ) (private : ℕ → Bool) (c : Carried (isPrivateName private) (Copied private)) (test : Tree → State → Bool) (follows : Follows (isPrivateName private) (Copied private) IsConstant test)
-    (rests : (t : Tree) → InPlace IsConstant N t → (s : State) → test t s ≡ true) (limit : ℕ) (operations : List ℕ) (fuel : ℕ) where
-  pub place-passes : (gas : ℕ) (l : List ℕ) (t : Tree) → Place N p b j n private l t → (s : State) → Calm private p s → Meets private p (watched test limit operations fuel gas t s) (expand limit operations fuel gas t s)
-  unfolding watched expand
-  place-passes zero l t i s calm = λ e. isStarved tt
-  place-passes (suc gas) l t i s calm =
-      subst (λ d. Meets private p (cond d (expandTree limit operations fuel (watched test limit operations fuel gas) t) (refuse 0) s) (expandTree limit operations fuel (expand limit operations fuel gas) t s)) (sym (rests t (i .in-place) s))
-      (tree-meets N p b j n private c test follows limit operations fuel gas (place-passes gas) (i .headed) i s calm)
+    (rests : (t : Tree) → InPlace IsConstant N t → (s : State) → test t s ≡ true) where
+  pub place-passes : (limit inner : ℕ) (operations : List ℕ) (fuel gas : ℕ) (l : List ℕ) (t : Tree) → Place N p b j n private l t → (s : State) → Calm private p s
+      → Meets private p (watched test limit inner operations fuel gas t s) (expandWithin limit inner operations fuel gas t s)
+  unfolding watched expandWithin
+  place-passes limit inner operations fuel zero l t i s calm = λ e. isStarved tt
+  place-passes limit inner operations fuel (suc gas) l t i s calm =
+      subst (λ d. Meets private p (cond d (expandTree limit operations fuel (watched test inner inner operations fuel gas) t) (refuse 0) s) (expandTree limit operations fuel (expand inner operations fuel gas) t s)) (sym (rests t (i .in-place) s))
+      (tree-meets N p b j n private c test follows limit inner operations fuel gas (place-passes inner inner operations fuel gas) (i .headed) i s calm)

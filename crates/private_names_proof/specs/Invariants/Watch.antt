@@ -9,12 +9,12 @@ use Rattle.recipe.specs.Tree.{Tree, empty, constant, name, pair}
 use Rattle.core_term.specs.Term.{Term}
 use Rattle.expansion.specs.Lookup.{quote, if, lambda, let-syntax, letrec-syntax, auxiliary, Found, bound, form, operation, nothing, lookup}
 use Rattle.expansion.specs.Computation.{State, Events, Out, done, refused, starved, M, after, goOn, _>>=_, _>>_, refuse}
-use Rattle.expansion.specs.Forms.{expandAll, expandQuote, expandIf, expandLambda, expandMacros, expandUse, expandOperands, expandList, expandName, expandApplication, expandPair, expandTree, expand}
+use Rattle.expansion.specs.Forms.{expandAll, expandQuote, expandIf, expandLambda, expandMacros, expandUse, expandOperands, expandList, expandName, expandApplication, expandPair, expandTree, expandWithin, expand}
 
 -- the expansion of an expression, tested before it is expanded and so each expression that it comes to
-unfoldable pub watched : (test : Tree → State → Bool) (limit : ℕ) (operations : List ℕ) (fuel gas : ℕ) → Tree → M (Term Name)
-watched test limit operations fuel zero t = λ s. starved []
-watched test limit operations fuel (suc gas) t = λ s. cond (test t s) (expandTree limit operations fuel (watched test limit operations fuel gas) t) (refuse 0) s
+unfoldable pub watched : (test : Tree → State → Bool) (limit inner : ℕ) (operations : List ℕ) (fuel gas : ℕ) → Tree → M (Term Name)
+watched test limit inner operations fuel zero t = λ s. starved []
+watched test limit inner operations fuel (suc gas) t = λ s. cond (test t s) (expandTree limit operations fuel (watched test inner inner operations fuel gas) t) (refuse 0) s
 
 -- no test failed
 abbrev pub FailsNowhere : {A : Type 0} → Out A → Type 0
@@ -124,16 +124,18 @@ module _ (limit : ℕ) (operations : List ℕ) (fuel : ℕ) (rec rec′ : Tree �
   tree-upTo (name x) s = then-upTo _ _ _ s λ u. name-upTo (lookup operations x) u
   tree-upTo (pair h t) s = pair-upTo h t s
 
-module _ (test : Tree → State → Bool) (limit : ℕ) (operations : List ℕ) (fuel : ℕ) where
-  watched-upTo : (gas : ℕ) (t : Tree) (s : State) → UpTo (watched test limit operations fuel gas t s) (expand limit operations fuel gas t s)
-  unfolding watched expand refuse
-  watched-upTo zero t s = equal
-  watched-upTo (suc gas) t s = go (test t s) (tree-upTo limit operations fuel (watched test limit operations fuel gas) (expand limit operations fuel gas) (watched-upTo gas) t s)
+module _ (test : Tree → State → Bool) where
+  watched-upTo : (limit inner : ℕ) (operations : List ℕ) (fuel gas : ℕ) (t : Tree) (s : State) → UpTo (watched test limit inner operations fuel gas t s) (expandWithin limit inner operations fuel gas t s)
+  unfolding watched expandWithin refuse
+  watched-upTo limit inner operations fuel zero t s = equal
+  watched-upTo limit inner operations fuel (suc gas) t s =
+      go (test t s) (tree-upTo limit operations fuel (watched test inner inner operations fuel gas) (expand inner operations fuel gas) (watched-upTo inner inner operations fuel gas) t s)
     where
-      go : (b : Bool) → UpTo (expandTree limit operations fuel (watched test limit operations fuel gas) t s) (expandTree limit operations fuel (expand limit operations fuel gas) t s)
-          → UpTo (cond b (expandTree limit operations fuel (watched test limit operations fuel gas) t) (refuse 0) s) (expandTree limit operations fuel (expand limit operations fuel gas) t s)
+      go : (b : Bool) → UpTo (expandTree limit operations fuel (watched test inner inner operations fuel gas) t s) (expandTree limit operations fuel (expand inner operations fuel gas) t s)
+          → UpTo (cond b (expandTree limit operations fuel (watched test inner inner operations fuel gas) t) (refuse 0) s) (expandTree limit operations fuel (expand inner operations fuel gas) t s)
       go true r = r
       go false r = failed
 
-  pub watched-is : (gas : ℕ) (t : Tree) (s : State) → FailsNowhere (watched test limit operations fuel gas t s) → watched test limit operations fuel gas t s ≡ expand limit operations fuel gas t s
-  watched-is gas t s h = upTo-is (watched-upTo gas t s) h
+  pub watched-is : (limit inner : ℕ) (operations : List ℕ) (fuel gas : ℕ) (t : Tree) (s : State) → FailsNowhere (watched test limit inner operations fuel gas t s)
+      → watched test limit inner operations fuel gas t s ≡ expandWithin limit inner operations fuel gas t s
+  watched-is limit inner operations fuel gas t s h = upTo-is (watched-upTo limit inner operations fuel gas t s) h

@@ -13,7 +13,7 @@ use Rattle.words.specs.Options.{traverse}
 use Rattle.recipe.specs.Name.{Name, bindingKey, same, isEllipsis}
 use Rattle.recipe.specs.Tree.{Tree, onPair, elements, element, tail}
 use Rattle.expansion.specs.Lookup.{isSyntaxRules}
-use Rattle.expansion.specs.Rules.{Rule, variableFrom, variables, ruleOf, rulesOf}
+use Rattle.expansion.specs.Rules.{Rule, literalList, ruleList, rulePlace, templatePlace, variableFrom, variables, ruleVariables, ruleOf, rulesOf, hasVariable}
 use Rattle.simulation.specs.Relations.{ListRel, ends, joins, OptionRel, nones, somes, length-rel, list-map, list-eq, guard-rel, mapBoth-rel, traverse-rel}
 use Rattle.simulation.specs.Shapes.{TreeOf, RuleOf, tree-map, pattern-map, template-map, names-rel, elements-rel, isListOf-rel, element-rel, onName-rel}
 use Rattle.simulation.specs.RulesKept.{ruleOf-by, ruleOf-rel, isRulesForm-rel, rulesOf-rel}
@@ -22,8 +22,20 @@ use Rattle.simulation.specs.Names.{Kind, Coherent, Raw, NameRel, kept, t
 use Rattle.simulation.specs.Steps.{Older, Below}
 use Rattle.simulation.specs.States.{Literal, RuleRel, RulesRel, no-rule, rule, MacrosRel, no-macro, with}
 use Rattle.simulation.specs.Form.Holes.{Hole, first, later, hole-tree, hole-here, hole-elements, hole-at, hole-at, hole-off}
-use Rattle.simulation.specs.Form.Scopes.{Scope, hasVariable}
+use Rattle.simulation.specs.Form.Scopes.{Scope}
 use Rattle.simulation.specs.Form.Places.{still-eq, Still, InTemplate, stays, turns, still-dots, still-wild, template-dots, ChosenRules, Foreign, AtRest, rest-coherent, rest-below, still-rel}
+
+-- ---- the parts of a rules form
+
+-- rules forms related by S but for one place in rule j
+record FormParts (S : Name → Name → Type 0) (T : Tree → Tree → Type 0) (j : ℕ) (l : List ℕ) (t u : Tree) : Type 0 where
+  head : TreeOf S (element 0 t) (element 0 u)
+  literals : TreeOf S (literalList t) (literalList u)
+  rules : Hole S T (j ∷ l) (ruleList t) (ruleList u)
+
+hole-form : {S : Name → Name → Type 0} {T : Tree → Tree → Type 0} (j : ℕ) {l : List ℕ} {t u : Tree} → Hole S T (rulePlace t j ∷ l) t u → FormParts S T j l t u
+unfolding element elements tail onPair
+hole-form j (later h (later k r)) = record { head = h; literals = k; rules = r }
 
 -- ---- no variable of this number
 
@@ -61,14 +73,14 @@ module _ (ρ : Renaming) (β : Scope) where
   plain-rules (somes r) = somes (list-map (λ x y q. plain q) r)
 
   -- the chosen rule, whose names of the old number in one run and of the new in the other are no variables
-  chosen-rule : {ls ms : List Name} → ListRel (Still ρ β) ls ms → {t u : Tree} → Hole (Still ρ β) (TreeOf (InTemplate ρ β)) (1 ∷ []) t u
-      → anyOf (λ v. eqb (v .0 .number) (ρ .old)) (variables isEllipsis ls 0 (tail (element 0 t))) ≡ false
-      → anyOf (λ v. eqb (v .0 .number) (ρ .new)) (variables isEllipsis ls 0 (tail (element 0 t))) ≡ false
+  chosen-rule : {ls ms : List Name} → ListRel (Still ρ β) ls ms → {t u : Tree} → Hole (Still ρ β) (TreeOf (InTemplate ρ β)) (templatePlace ∷ []) t u
+      → anyOf (λ v. eqb (v .0 .number) (ρ .old)) (ruleVariables isEllipsis ls t) ≡ false
+      → anyOf (λ v. eqb (v .0 .number) (ρ .new)) (ruleVariables isEllipsis ls t) ≡ false
       → OptionRel (RuleOf (Still ρ β) (InTemplate ρ β)) (ruleOf isEllipsis ls t) (ruleOf isEllipsis ms u)
   chosen-rule {ls} {ms} l {t} {u} r e f =
       let p = hole-off r 0 (omega arith) in
-      let vs = variables isEllipsis ls 0 (tail (element 0 t)) in
-      let ws : vs ≡ variables isEllipsis ms 0 (tail (element 0 u)) = ap₂ (λ l p. variables isEllipsis l 0 (tail p)) (list-eq (λ x y q. q .eq) l) (still-eq ρ β p) in
+      let vs = ruleVariables isEllipsis ls t in
+      let ws : vs ≡ ruleVariables isEllipsis ms u = ap₂ (λ l p. variables isEllipsis l 0 (tail p)) (list-eq (λ x y q. q .eq) l) (still-eq ρ β p) in
       ruleOf-by (Still ρ β) still-same (still-wild ρ β) isEllipsis isEllipsis (still-dots ρ β) l (InTemplate ρ β) (template-dots ρ β) t u
       (isListOf-rel 2 (hole-tree {R = λ x y. Unit {0}} (λ x y s. tt) (λ t u q. tree-map (λ x y s. tt) q) r)) p (hole-here (hole-at r))
       (λ x y q. subst (λ l. variableFrom 0 vs x ≡ variableFrom 0 l y) ws (variable-eq vs e f x y q))
@@ -77,20 +89,21 @@ module _ (ρ : Renaming) (β : Scope) where
       variable-eq vs e f x y (stays s a b) = ap (variableFrom 0 vs) (s .eq)
       variable-eq vs e f x y (turns t) = no-variable (ρ .old) x (t .old) 0 vs e ∙ sym (no-variable (ρ .new) y (t .new) 0 vs f)
 
-  chosen-rules : {ls ms : List Name} → ListRel (Still ρ β) ls ms → {j : ℕ} {t u : Tree} → Hole (Still ρ β) (TreeOf (InTemplate ρ β)) (j ∷ 1 ∷ []) t u
-      → anyOf (λ v. eqb (v .0 .number) (ρ .old)) (variables isEllipsis ls 0 (tail (element 0 (element j t)))) ≡ false
-      → anyOf (λ v. eqb (v .0 .number) (ρ .new)) (variables isEllipsis ls 0 (tail (element 0 (element j t)))) ≡ false
+  chosen-rules : {ls ms : List Name} → ListRel (Still ρ β) ls ms → {j : ℕ} {t u : Tree} → Hole (Still ρ β) (TreeOf (InTemplate ρ β)) (j ∷ templatePlace ∷ []) t u
+      → anyOf (λ v. eqb (v .0 .number) (ρ .old)) (ruleVariables isEllipsis ls (element j t)) ≡ false
+      → anyOf (λ v. eqb (v .0 .number) (ρ .new)) (ruleVariables isEllipsis ls (element j t)) ≡ false
       → OptionRel (ListRel FormRule) (traverse (ruleOf isEllipsis ls) (elements t)) (traverse (ruleOf isEllipsis ms) (elements u))
   unfolding traverse element elements
   chosen-rules l (first r s) e f = mapBoth-rel _∷_ _∷_ (λ x y u v p q. joins (chosen p) q) (chosen-rule l r e f)
       (plain-rules (traverse-rel _ _ (ruleOf-rel (Still ρ β) still-same (still-wild ρ β) isEllipsis isEllipsis (still-dots ρ β) l) (elements-rel s)))
   chosen-rules l (later s r) e f = mapBoth-rel _∷_ _∷_ (λ x y u v p q. joins (plain p) q) (ruleOf-rel (Still ρ β) still-same (still-wild ρ β) isEllipsis isEllipsis (still-dots ρ β) l _ _ s) (chosen-rules l r e f)
 
-  chosen-form : (j : ℕ) {t u : Tree} → Hole (Still ρ β) (TreeOf (InTemplate ρ β)) (suc (suc j) ∷ 1 ∷ []) t u → hasVariable j (ρ .old) t ≡ false → hasVariable j (ρ .new) t ≡ false → OptionRel (ListRel FormRule) (rulesOf t) (rulesOf u)
-  unfolding rulesOf hasVariable element elements tail onPair
-  chosen-form j (later h (later l r)) e f =
-      guard-rel (isRulesForm-rel (Still ρ β) (still-dots ρ β) (still-wild ρ β) _ _ (onName-rel _ _ (λ x y s. ap isSyntaxRules (s .eq)) false h) l (length-rel (hole-elements r)))
-      (chosen-rules (names-rel l) r e f)
+  chosen-form : (j : ℕ) {t u : Tree} → Hole (Still ρ β) (TreeOf (InTemplate ρ β)) (rulePlace t j ∷ templatePlace ∷ []) t u → hasVariable j (ρ .old) t ≡ false → hasVariable j (ρ .new) t ≡ false → OptionRel (ListRel FormRule) (rulesOf t) (rulesOf u)
+  unfolding rulesOf hasVariable
+  chosen-form j r e f =
+      let p = hole-form j r in
+      guard-rel (isRulesForm-rel (Still ρ β) (still-dots ρ β) (still-wild ρ β) _ _ (onName-rel _ _ (λ x y s. ap isSyntaxRules (s .eq)) false (p .head)) (p .literals) (length-rel (hole-elements (p .rules))))
+      (chosen-rules (names-rel (p .literals)) (p .rules) e f)
 
   -- a rules form of the form
   abbrev pub FormRules : Tree → Tree → Type 0

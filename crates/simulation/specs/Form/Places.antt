@@ -11,6 +11,7 @@ use Rattle.words.specs.TestLaws.{and-left, and-right}
 use Rattle.recipe.specs.Name.{Binding, Name, same, distinct, isEllipsis, isWildcard, bindName}
 use Rattle.recipe.specs.Tree.{Tree, onNames, bind, bindAll, name, pair}
 use Rattle.recipe.specs.TreeNames.{bindName-item}
+use Rattle.expansion.specs.Rules.{rulePlace, templatePlace, hasVariable}
 use Rattle.expansion.specs.Forms.{bindings}
 use Rattle.simulation.specs.Relations.{ListRel, ends, joins}
 use Rattle.simulation.specs.Shapes.{TreeOf, onNames-rel, empties, constants, names₂, pairs}
@@ -18,7 +19,7 @@ use Rattle.simulation.specs.Form.Holes.{Hole, hole-onNames, graph, hole-
 use Rattle.simulation.specs.Names.Shown.{Renaming, ofCopy, not-private-not-copy, binds-fine, AllFine}
 use Rattle.simulation.specs.Names.{Kind, Coherent, Ready, Raw, NameRel, kept}
 use Rattle.simulation.specs.Steps.{Older, Below}
-pub use Rattle.simulation.specs.Form.Scopes.{Scope, Placed, same-placed, rebind, rebindAll, bindName-placed, bindName-number, still-placed, hasVariable, Moved, hasVariable-moved}
+pub use Rattle.simulation.specs.Form.Scopes.{Scope, Placed, same-placed, rebind, rebindAll, bindName-placed, bindName-number, still-placed, Moved, hasVariable-moved}
 
 module _ (ρ : Renaming) (β : Scope) where
   -- a name that is not private is the same in both
@@ -43,7 +44,7 @@ module _ (ρ : Renaming) (β : Scope) where
   -- the rules form with that template, whose rule has no variable of the old number or the new
   pub record ChosenRules (t u : Tree) : Type 0 where
     pub rule : ℕ
-    pub hole : Hole Still (TreeOf InTemplate) (suc (suc rule) ∷ 1 ∷ []) t u
+    pub hole : Hole Still (TreeOf InTemplate) (rulePlace t rule ∷ templatePlace ∷ []) t u
     pub old-free : hasVariable rule (ρ .old) t ≡ false
     pub new-free : hasVariable rule (ρ .new) t ≡ false
 

@@ -10,10 +10,10 @@ use Rattle.words.specs.Lists.{anyOf}
 use Rattle.words.specs.TestLaws.{iff-eq}
 use Rattle.recipe.specs.Name.{Binding, Name, same, isEllipsis, isWildcard, giveBinding, bindName}
 use Rattle.recipe.specs.Tree.{Tree, names, element, tail}
-use Rattle.expansion.specs.Rules.{variables}
+use Rattle.expansion.specs.Rules.{hasVariable}
 use Rattle.simulation.specs.Relations.{any-rel}
 use Rattle.simulation.specs.Shapes.{TreeOf, names-rel, element-rel, tail-rel}
-use Rattle.simulation.specs.RulesKept.{variables-rel}
+use Rattle.simulation.specs.RulesKept.{variables-rel, literalList-rel, ruleList-rel}
 use Rattle.simulation.specs.Names.Sameness.{same→Same, Same→same}
 
 -- the bindings in force, by number
@@ -63,10 +63,6 @@ still-placed β i b x p e = record { unproduced = p .unproduced; unmarked = p .u
 
 -- ---- the variables of a rule, by number
 
--- the rule of this rules form, counted from 0, has a variable of this number
-unfoldable pub hasVariable : (rule number : ℕ) → Tree → Bool
-hasVariable j n t = anyOf (λ v. eqb (v .0 .number) n) (variables isEllipsis (names (element 1 t)) 0 (tail (element 0 (element j (tail (tail t))))))
-
 -- names of one number in two scopes
 pub record Moved (β γ : Scope) (x y : Name) : Type 0 where
   pub from : Placed β x
@@ -78,4 +74,4 @@ unfolding hasVariable isEllipsis isWildcard
 hasVariable-moved β γ j n r =
     any-rel _ _ (λ v w q. ap (λ k. eqb k n) (q .names .number))
     (variables-rel (Moved β γ) (λ i k x y p q. same-placed β i x (p .from) (q .from) ∙ ap₂ eqb (p .number) (q .number) ∙ sym (same-placed γ k y (p .to) (q .to)))
-    (λ x y p. ap (λ k. eqb k 7) (p .number)) isEllipsis isEllipsis (λ x y p. ap (λ k. eqb k 6) (p .number)) (names-rel (element-rel 1 r)) 0 (tail-rel (element-rel 0 (element-rel j (tail-rel (tail-rel r))))))
+    (λ x y p. ap (λ k. eqb k 7) (p .number)) isEllipsis isEllipsis (λ x y p. ap (λ k. eqb k 6) (p .number)) (names-rel (literalList-rel r)) 0 (tail-rel (element-rel 0 (element-rel j (ruleList-rel r)))))
