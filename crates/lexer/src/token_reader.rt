@@ -95,7 +95,7 @@ pub fn left<'a>(r: TokenReader<'a>) -> usize
     left_at(r.text, r.at)
 }
 
-// ---- for other callers
+// ---- for callers
 
 // The next token of a reader of a text that has been moved to an offset: who calls it needs no walk by hand.
 pub fn token_from(text: &[u8], at: usize) -> Token
