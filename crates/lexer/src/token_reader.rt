@@ -1,8 +1,6 @@
 // A token reader: it holds the text and an offset. The borrow checker covers no function over it, so each is thin, takes the
 // struct apart for a covered function, and is proved by a walk by hand.
 ghost use mathlib.Core.Path.{_≡_};
-ghost use Prim.Native.Nat.{_-_};
-ghost use lib.ListN.{length};
 ghost use Rattle.lexer.specs.Answered.{Answered, pastOr, groundIn};
 use crate::token::Cursor;
 use crate::token::Token;
@@ -23,16 +21,6 @@ pub fn answer_at(text: &[u8], at: usize) -> Token
         return Token::End;
     }
     token_at(text, Cursor { at })
-}
-
-// How many bytes stand from an offset on.
-pub fn left_at(text: &[u8], at: usize) -> usize
-    ensures { λ n. ⌜ n ≡ length (now (text .entry)) - at ⌝ }
-{
-    if text.len() < at {
-        return 0;
-    }
-    text.len() - at
 }
 
 // The offset past an answer at an offset; at the end there is none further.
@@ -88,14 +76,7 @@ pub fn moved<'a>(r: TokenReader<'a>, at: usize) -> TokenReader<'a>
     TokenReader { text: r.text, at }
 }
 
-// How many bytes are left.
-pub fn left<'a>(r: TokenReader<'a>) -> usize
-    ensures { λ n. ⌜ n ≡ length (now (r .entry .text)) - r .entry .at ⌝ }
-{
-    left_at(r.text, r.at)
-}
-
-// ---- for other callers
+// ---- for callers
 
 // The next token of a reader of a text that has been moved to an offset: who calls it needs no walk by hand.
 pub fn token_from(text: &[u8], at: usize) -> Token

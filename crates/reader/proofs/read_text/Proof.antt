@@ -61,24 +61,6 @@ loop-again c =
           (advance .last .1 .1 .1 .1 .0) (advance .last .1 .1 .1 .1 .1 .0) (advance .result) (advance .ensures) (p .given .0 .0) (p .given .0 .1 .0) (p .given .1),
     )
 
-same-length : tie.Need-same-length Inv-loop μ-loop
-same-length c =
-    let advance = c .before .before .before .before .before .before .before .before .before .advance in
-    let loop = c .before .before .before .before .before .before .before .before .before .before .before .before .before .loop in
-    advance .kept .1 .1 .1 .0 ∙ loop .inv .0
-
-same-length-2 : tie.Need-same-length-2 Inv-loop μ-loop
-same-length-2 c =
-    let advance = c .before .before .before .before .before .before .before .before .before .advance in
-    let loop = c .before .before .before .before .before .before .before .before .before .before .before .before .before .loop in
-    advance .kept .1 .1 .1 .1 .0 ∙ loop .inv .1
-
-same-length-3 : tie.Need-same-length-3 Inv-loop μ-loop
-same-length-3 c =
-    let advance = c .before .before .before .before .before .before .before .before .before .advance in
-    let loop = c .before .before .before .before .before .before .before .before .before .before .before .before .before .loop in
-    advance .kept .1 .1 .1 .1 .1 .0 ∙ loop .inv .2
-
 returns : tie.Need-returns Inv-loop μ-loop
 returns c =
     let args = c .before .before .before .before .before .before .before .before .before .before .before .before .before .before .before .before .before .before .args in
@@ -88,24 +70,6 @@ returns c =
     reached-done (args .text .now) (loop .items) (loop .names) (loop .index) (loop .place) (loop .cursor) (loop .inv .3)
     (advance .last .1 .1 .1 .0) (advance .last .1 .1 .1 .1 .0) (advance .last .1 .1 .1 .1 .1 .0) (advance .result) (advance .ensures) (i .given .0 .0)
     (i .given .0 .1 .0) (i .given .1)
-
-same-length-4 : tie.Need-same-length-4 Inv-loop μ-loop
-same-length-4 c =
-    let advance = c .before .before .before .before .before .before .before .before .before .advance in
-    let loop = c .before .before .before .before .before .before .before .before .before .before .before .before .before .loop in
-    advance .kept .1 .1 .1 .0 ∙ loop .inv .0
-
-same-length-5 : tie.Need-same-length-5 Inv-loop μ-loop
-same-length-5 c =
-    let advance = c .before .before .before .before .before .before .before .before .before .advance in
-    let loop = c .before .before .before .before .before .before .before .before .before .before .before .before .before .loop in
-    advance .kept .1 .1 .1 .1 .0 ∙ loop .inv .1
-
-same-length-6 : tie.Need-same-length-6 Inv-loop μ-loop
-same-length-6 c =
-    let advance = c .before .before .before .before .before .before .before .before .before .advance in
-    let loop = c .before .before .before .before .before .before .before .before .before .before .before .before .before .loop in
-    advance .kept .1 .1 .1 .1 .1 .0 ∙ loop .inv .2
 
 returns-2 : tie.Need-returns-2 Inv-loop μ-loop
 returns-2 c =
@@ -129,12 +93,12 @@ read-text-spec =
     loop-less
     loop-again
     (λ c. search needs)  -- enum-known-i
-    same-length
-    same-length-2
-    same-length-3
+    (λ c. c .before .before .before .before .before .before .before .before .before .advance .kept .1 .1 .1 .0 ∙ c .before .before .before .before .before .before .before .before .before .before .before .before .before .loop .inv .0)  -- same-length
+    (λ c. c .before .before .before .before .before .before .before .before .before .advance .kept .1 .1 .1 .1 .0 ∙ c .before .before .before .before .before .before .before .before .before .before .before .before .before .loop .inv .1)  -- same-length-2
+    (λ c. c .before .before .before .before .before .before .before .before .before .advance .kept .1 .1 .1 .1 .1 .0 ∙ c .before .before .before .before .before .before .before .before .before .before .before .before .before .loop .inv .2)  -- same-length-3
     returns
     (λ c. search needs)  -- enum-known-ground
-    same-length-4
-    same-length-5
-    same-length-6
+    (λ c. c .before .before .before .before .before .before .before .before .before .advance .kept .1 .1 .1 .0 ∙ c .before .before .before .before .before .before .before .before .before .before .before .before .before .loop .inv .0)  -- same-length-4
+    (λ c. c .before .before .before .before .before .before .before .before .before .advance .kept .1 .1 .1 .1 .0 ∙ c .before .before .before .before .before .before .before .before .before .before .before .before .before .loop .inv .1)  -- same-length-5
+    (λ c. c .before .before .before .before .before .before .before .before .before .advance .kept .1 .1 .1 .1 .1 .0 ∙ c .before .before .before .before .before .before .before .before .before .before .before .before .before .loop .inv .2)  -- same-length-6
     returns-2)
