@@ -8,6 +8,7 @@ use lib.Dec.{ltb}
 use borrow.Author.Tests.{ltb-true, ltb-false}
 use lib.ListN.{List·getD-append, length, getD, take, drop, set, length-append, length-drop, take-append-drop}
 use lib.Seq.{take-at, drop-append-add, drop-drop, getD-take, length-take-le, set-split, append-snoc, getD-append-seam}
+use Rattle.core_term.specs.Node.{applicationCode}
 use Rattle.expansion.specs.Rules.{Rule}
 use Rattle.rule_cells.specs.Cells.{rulesAt}
 use Rattle.rule_cells.specs.CellLaws.{rulesAt-below}
@@ -16,7 +17,8 @@ use Rattle.arena.specs.Arena.{treeAt}
 use Rattle.words.specs.ListLaws.{either}
 use Rattle.arena.specs.ArenaLaws.{take-less}
 use Rattle.turns.specs.declared.answers.Reached.{Reached}
-use Rattle.turns.specs.Memory.{Tables, tables, macrosAt, stateAt, Put, moved, Moved, workNeed, coreNeed, variableNeed, macroNeed, Macros, Ready, Kept, HeaderMoved}
+use Rattle.turns.specs.Numbers.{moved}
+use Rattle.turns.specs.Memory.{Tables, tables, macrosAt, stateAt, Put, Moved, workNeed, coreNeed, variableNeed, macroNeed, Macros, Ready, Kept, HeaderMoved}
 
 -- ---- words one after another
 
@@ -151,12 +153,16 @@ kept-moved fuel n l r q work core core′ macros words x m less few =
       macros-are = macros-kept r q (tables work core macros) (tables work core′ macros) (x .macros-are) (omega arith) macros-are refl refl;
     }
 
--- an application's header, by the count of its operands
-pub header-moved : (list code number n at : ℕ) (r : Reached) (work before after : List ℕ) → ((w : ℕ) → n ≡ length (elements (treeAt work list w)))
-    → Put (8 ∷ n ∷ code ∷ number ∷ []) (r .at) before after at → HeaderMoved list code number r work before after (moved at r)
+-- words that are written, and nothing else
+pub moved-by : (words : List ℕ) (r q : Reached) (before after : List ℕ) (at : ℕ) → q ≡ moved at r → Put words (r .at) before after at → Moved words r before after q
 unfolding moved
-header-moved list code number n at r work before after h p w =
-    record { is = refl; put = subst (λ (k : ℕ). Put (8 ∷ k ∷ code ∷ number ∷ []) (r .at) before after at) (h w) p }
+moved-by words r q before after at e p = subst (Moved words r before after) (sym e) (record { is = refl; put = p })
+
+-- an application's header, by the count of its operands
+pub header-moved : (list code number n at : ℕ) (r q : Reached) (work before after : List ℕ) → ((w : ℕ) → n ≡ length (elements (treeAt work list w)))
+    → q ≡ moved at r → Put (applicationCode ∷ n ∷ code ∷ number ∷ []) (r .at) before after at → HeaderMoved list code number r work before after q
+header-moved list code number n at r q work before after h e p w =
+    moved-by _ r q before after at e (subst (λ (k : ℕ). Put (applicationCode ∷ k ∷ code ∷ number ∷ []) (r .at) before after at) (h w) p)
 
 -- ---- the rules of one macro
 
