@@ -47,8 +47,8 @@ unfolding endOf ended endNumbers runNumbers groundOf stateAt
 expanded core r last (done t s l) (Done q) z (i, w) =
     let steps : q .steps ≡ s .steps = sym (ap (λ (u : State). u .steps) i) in
     let sum : q .sum ≡ s .sum = sym (ap (λ (u : State). u .sum) i) in
-    let until : q .at ≡ length (encode t) = omega (arith, w .until) in
-    let begins : last .core ≡ encode t ++ drop (q .at) core = w .table ∙ rw z in
+    let until : q .at ≡ length (encode t) = omega (arith, w .end) in
+    let begins : last .core ≡ encode t ++ drop (q .at) core = w .words ∙ rw z in
     record { numbers = rw (steps, sum, until); words = ap (take (length (encode t))) begins ∙ take-append-seam (encode t) (drop (q .at) core) }
 expanded core r last (done t s l) (Refused h n m) z x = absurd x
 expanded core r last (refused g s l) (Done q) z x = absurd x

@@ -131,7 +131,7 @@ module _ (operations : List ℕ) (fuel : ℕ) (t : Tree) (r : Reached) (work wor
         let sum-is : q .sum ≡ r .sum = ap (λ (z : Reached). z .sum) (b .numbers) in
         let variables-are : q .variables ≡ r .variables + length (formals t) = ap (λ (z : Reached). z .variables) (b .numbers) in
         let macros-are : q .macros ≡ r .macros = ap (λ (z : Reached). z .macros) (b .numbers) in
-        let at-is : q .at ≡ r .at + 3 = b .put .until in
+        let at-is : q .at ≡ r .at + 3 = b .put .end in
         record {
           work-long = long;
           core-long = put-long (lambdaCode ∷ r .variables ∷ length (formals t) ∷ []) (r .at) core core′ (q .at) (omega (arith, ready .core-room, sizes)) (b .put);
@@ -166,7 +166,7 @@ module _ (operations : List ℕ) (fuel : ℕ) (t : Tree) (r : Reached) (work wor
     lambda-follows =
         let s = stateAt (tables work core macros) r in
         let k = lambda-kept in
-        let at-is : q .at ≡ r .at + 3 = b .put .until in
+        let at-is : q .at ≡ r .at + 3 = b .put .end in
         record {
           kept = k;
           placed = record {

@@ -3,7 +3,7 @@
 use mathlib.Core.Path.{_≡_}
 use mathlib.Core.List.{List, [], _∷_, _++_}
 use Prim.Native.Nat.{ℕ, zero, suc, _+_, _*_, _-_, _^_, _≤_, _<_}
-use lib.ListN.{length, getD, take, drop}
+use lib.ListN.{length, getD, take}
 use Rattle.words.specs.Limits.{fuelMost, coreRate}
 use Rattle.words.specs.Each.{Each}
 use Rattle.recipe.specs.Tree.{Tree, elements}
@@ -16,6 +16,7 @@ use Rattle.expansion.specs.Computation.{State}
 use Rattle.arena.specs.Arena.{treeAt}
 use Rattle.rule_cells.specs.Cells.{rulesAt}
 use Rattle.environments.specs.Sound.{SoundRule}
+use Rattle.forms.specs.Quotes.{Written}
 use Rattle.turns.specs.declared.answers.Reached.{Reached}
 use Rattle.turns.specs.Numbers.{moved}
 
@@ -44,9 +45,8 @@ pub record CoreRoom (core : List ℕ) (at n : ℕ) : Type 0 where
   pub small : at + n < 2 ^ 32
 
 -- words stand from `at` to r; the rest of the table is as it was
-pub record Put (words : List ℕ) (at : ℕ) (before after : List ℕ) (r : ℕ) : Type 0 where
-  pub until : r ≡ at + length words
-  pub table : after ≡ take at before ++ words ++ drop r before
+abbrev pub Put : (words : List ℕ) (at : ℕ) (before after : List ℕ) (r : ℕ) → Type 0
+Put words at before after r = Written words before after at r
 
 -- words are written from r .at, and nothing else is done
 pub record Moved (words : List ℕ) (r : Reached) (before after : List ℕ) (q : Reached) : Type 0 where
@@ -136,7 +136,3 @@ pub record Kept (fuel n m : ℕ) (r q : Reached) (before after : Tables) : Type 
   pub variables-spent : variableNeed fuel m q ≤ variableNeed fuel n r
   pub macros-spent : macroNeed fuel m q ≤ macroNeed fuel n r
   pub macros-are : Macros q after
-
--- the term's words follow those before r .at; the rest of the table is as it was
-abbrev pub Written : (r q : Reached) (words before after : List ℕ) → Type 0
-Written r q words before after = Put words (r .at) before after (q .at)

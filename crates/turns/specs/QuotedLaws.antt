@@ -1,5 +1,5 @@
 -- Laws of a quote's turn: the words of its datum are the term's.
-use mathlib.Core.Path.{_≡_, refl, ap, sym, subst, _∙_}
+use mathlib.Core.Path.{_≡_, ap, sym, subst, _∙_}
 use mathlib.Core.Bool.{true, false}
 use mathlib.Core.List.{List}
 use Prim.Native.Nat.{ℕ, _+_, _*_, _^_, _≤_, _<_}
@@ -52,5 +52,5 @@ module _ (work core : List ℕ) (node : ℕ) (r : Reached) where
           term = datumC (strip (element 1 (treeAt work node w)));
           is = λ s. rw (shape w);
           short = subst (λ (l : List ℕ). length l ≤ 2 * size (treeAt work node w)) e (words-most w);
-          moves = moved-by _ r q core core′ at q-is (rw (sym e) (record { until = x .end; table = x .words }));
+          moves = moved-by _ r q core core′ at q-is (rw (sym e) x);
         }

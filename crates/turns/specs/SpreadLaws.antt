@@ -99,7 +99,7 @@ module _ (operations : List ℕ) (fuel : ℕ) (tree : Tree) (r q : Reached) (wor
         means = λ expand a last l.
             subst (λ (e : End (Term Name)). Left encode r core last e a) (sym (turn expand s))
             (left-after encodeAll encode g header r q core core′ last (operandsOf operations fuel expand (treeAt work list w) s) a (prefixed expand s) (m .put)
-            (omega (arith, m .put .until, ready .core-room))
+            (omega (arith, m .put .end, ready .core-room))
             (subst (λ (z : State). Left encodeAll q core′ last (operandsOf operations fuel expand (treeAt work list w) z) a) (sym same) l));
       }
 
