@@ -8,7 +8,7 @@ use mathlib.Core.Option.{Option, none, some}
 use Prim.Native.Nat.{ℕ, zero, suc, _+_, _*_, _-_, _/_, _%_}
 use lib.Dec.{eqb, ltb}
 use lib.ListN.{length, getD}
-use Rattle.words.specs.Limits.{namesMost}
+use Rattle.words.specs.Limits.{namesMost, fuelMost}
 use Rattle.words.specs.Lists.{within, equal}
 use Rattle.datum.specs.Constant.{Constant}
 use Rattle.recipe.specs.Name.{Binding, variable, macro, Name, plainName, bindingKey, markName}
@@ -42,7 +42,7 @@ giveKey k x = record { number = x .number; item = x .item; produced = x .produce
 
 -- marks are numbers of steps, and steps are at most the fuel; a word past them marks nothing
 abbrev pub stepLimit : ℕ
-stepLimit = 8194
+stepLimit = fuelMost + 2
 
 unfoldable pub marked : ℕ → Name → Name
 marked m x = cond (ltb m stepLimit) (markName m x) x

@@ -12,7 +12,7 @@ use crate::cells;
 use crate::origins;
 
 // The reference of an item's node.
-pub fn node_of(count: u32, item: u32) -> u32
+fn node_of(count: u32, item: u32) -> u32
     requires { ⌜ count ≤ itemsMost ⌝ }
     ensures { λ r. ⌜ r ≡ nodeOf count item ⌝ }
 {

@@ -80,9 +80,7 @@ module _ (operations : List ℕ) (fuel : ℕ) where
     one-left other = no-pair (a .work) list kind kind-is (λ (t : Tree). (length (elements t) ≡ 0) × (size t ≡ 1)) (refl, refl) (λ x. (refl, refl)) (λ c. (refl, refl)) other w
 
     pub operands-end : (kind ≡ 4 → ⊥) → ExpandsAll operations fuel tree r₀ before a (Done r)
-    operands-end other =
-        walking-end operations fuel tree r₀ before list w r a g (one-left other .0) (one-left other .1)
-        (omega (arith, g .kept .core-long, core-reached (size tree - 1) (size left - 1) r₀ r before a ready (g .kept)))
+    operands-end other = walking-end operations fuel tree r₀ before list w r a g (one-left other .0) (one-left other .1)
 
     -- a pair: an operand, and the rest behind it
     module _ (paired : kind ≡ 4) (head : ℕ) (head-is : head ≡ referenceAt (a .work) list 2) where

@@ -15,13 +15,14 @@ use Rattle.expansion.specs.Computation.{State}
 use Rattle.expansion.specs.Forms.{expandWithin, expand}
 use Rattle.arena.specs.Arena.{treeAt}
 use Rattle.arena.specs.CellLaws.{tree-kept}
+use Rattle.forms.specs.QuoteLaws.{written-none}
 use Rattle.turns.specs.declared.answers.Reached.{Reached}
 use Rattle.turns.specs.declared.answers.Ended.{Ended}
 use Rattle.turns.specs.declared.answers.Ended.the-variants.{Done, Refused}
 use Rattle.turns.specs.Ends.{End, finished, stopped, halted, then}
 use Rattle.turns.specs.EndLaws.{expandAll-pair}
 use Rattle.turns.specs.Memory.{Tables, stateAt, workNeed, coreNeed, variableNeed, macroNeed, Proper, Ready, Placed, Kept}
-use Rattle.turns.specs.MemoryLaws.{put-none, kept-both}
+use Rattle.turns.specs.MemoryLaws.{kept-both}
 use Rattle.turns.specs.Turns.{Left, KeptBy, turnOf, operandsOf, Ends, Follows, Spreads, Expands, ExpandsAll}
 use Rattle.turns.specs.SpreadLaws.{Prefixed, left-after, no-operands}
 use Rattle.expander.specs.Cycle.{expandBy, expandAllBy, Right, Going, Walking}
@@ -159,16 +160,16 @@ module _ (operations : List ℕ) (fuel : ℕ) where
     left = treeAt (a .work) list w
 
     -- the end of the list
-    pub walking-end : length (elements left) ≡ 0 → size left ≡ 1 → r .at ≤ length (a .core) → ExpandsAll operations fuel tree r₀ before a (Done r)
+    pub walking-end : length (elements left) ≡ 0 → size left ≡ 1 → ExpandsAll operations fuel tree r₀ before a (Done r)
     unfolding encodeAll
-    walking-end none one room =
+    walking-end none one =
         record {
           kept = kept-part (size tree - 1) (size left - 1) (size tree - 1) 0 r₀ r before a (omega arith) (g .kept);
           means = g .means (Done r) a
               (λ gas l.
               subst (λ (e : End (Terms Name)). Left encodeAll r (a .core) a e (Done r))
               (sym (no-operands operations fuel (expand macrosMost operations fuel gas) left none (stateAt a r)))
-              (refl, put-none (r .at) (a .core) room));
+              (refl, written-none (a .core) (r .at)));
         }
 
     module _ (head rest : ℕ) (list-is : left ≡ pair (treeAt (a .work) head w) (treeAt (a .work) rest w)) (head-low : head < list) (rest-low : rest < list) where

@@ -9,7 +9,6 @@ use Rattle.expansion.specs.Run.{Run, coreOf, operationNumbers}
 use Rattle.expansion.specs.RunLaws.{Begun}
 use Rattle.layout.specs.Places.{Places}
 use Rattle.expander.specs.declared.Expansion.{Expansion}
-use Rattle.turns.specs.declared.answers.Reached.{Reached}
 use Rattle.turns.specs.declared.answers.Ended.{Ended}
 use Rattle.turns.specs.declared.answers.Ended.the-variants.{Done, Refused}
 use Rattle.expander.specs.Service.{Numbers, numbersOf, runNumbers}
@@ -19,10 +18,6 @@ pub record Lends (items work core operations : List ℕ) (fuel : ℕ) : Type 0 w
   pub begun : Begun items fuel (length work) (length core)
   pub placed : Places operations (operationNumbers (treeOf items))
   pub long : length operations ≡ namesMost
-
--- before the first turn: the arena is laid out, and nothing else is done
-unfoldable pub atStart : ℕ → Reached
-atStart top = record { top = top; at = 0; steps = 0; sum = 0; variables = 0; macros = 0 }
 
 -- the numbers of an end; the words reach as far as the term is long
 unfoldable pub endNumbers : Ended → Numbers

@@ -31,12 +31,13 @@ use Rattle.turns.specs.declared.answers.Reached.{Reached}
 use Rattle.turns.specs.declared.answers.Ended.{Ended}
 use Rattle.turns.specs.declared.answers.Ended.the-variants.{Done, Refused}
 use Rattle.turns.specs.Ends.{endOf}
+use Rattle.turns.specs.Numbers.{atStart}
 use Rattle.turns.specs.Memory.{macroItems, Tables, tables, macrosAt, stateAt, workNeed, coreNeed, variableNeed, macroNeed, Placed, Ready}
 use Rattle.turns.specs.Turns.{Lent, Left, ExpandsBy}
 use Rattle.expander.specs.LentLaws.{places-lent}
 use Rattle.expander.specs.Cycle.{Lending}
 use Rattle.expander.specs.Service.{groundOf, runNumbers}
-use Rattle.expander.specs.Start.{Lends, atStart, endNumbers, Expanded}
+use Rattle.expander.specs.Start.{Lends, endNumbers, Expanded}
 
 -- ---- ends
 
@@ -46,8 +47,8 @@ unfolding endOf ended endNumbers runNumbers groundOf stateAt
 expanded core r last (done t s l) (Done q) z (i, w) =
     let steps : q .steps ≡ s .steps = sym (ap (λ (u : State). u .steps) i) in
     let sum : q .sum ≡ s .sum = sym (ap (λ (u : State). u .sum) i) in
-    let until : q .at ≡ length (encode t) = omega (arith, w .until) in
-    let begins : last .core ≡ encode t ++ drop (q .at) core = w .table ∙ rw z in
+    let until : q .at ≡ length (encode t) = omega (arith, w .end) in
+    let begins : last .core ≡ encode t ++ drop (q .at) core = w .words ∙ rw z in
     record { numbers = rw (steps, sum, until); words = ap (take (length (encode t))) begins ∙ take-append-seam (encode t) (drop (q .at) core) }
 expanded core r last (done t s l) (Refused h n m) z x = absurd x
 expanded core r last (refused g s l) (Done q) z x = absurd x
@@ -77,30 +78,33 @@ module _ (items work core operations : List ℕ) (fuel : ℕ) (l : Lends items w
   pub start-most : itemCount items + fuel ≤ itemsMost + fuelMost
   start-most = omega (arith, isLayout-parts items (l .begun .layout) .count .1, l .begun .fuelled)
 
-  module _ (work′ : List ℕ) (top body : ℕ) (laid : LaidOut items work′ top) (second : Means work′ top body (element 1)) where
+  module _ (work′ : List ℕ) (top body : ℕ) (laid : LaidOut items work′ top) (second : Means work′ top body (element 1)) (from : Reached) (from-is : from ≡ atStart top) where
     start-tree : treeAt work′ body 0 ≡ element 1 (treeOf items)
     start-tree = second .is 0 ∙ ap (element 1) (laid .means)
 
     start-size : size (treeAt work′ body 0) ≤ size (treeOf items)
     start-size = rw start-tree (element-size 1 (treeOf items))
 
-    pub start-placed : Placed work′ top body 0
+    pub start-placed : Placed work′ (from .top) body 0
+    unfolding atStart
     start-placed =
-        record {
+        rw from-is
+        (record {
           node-below = second .low;
           wrap-below = omega arith;
           proper = rw start-tree (tidy-element 1 (tidy-weaken (λ x p. tt) (treeOf-tidy items (l .begun .layout))));
-        }
+        })
 
-    pub start-ready : (macros : List ℕ) → length work′ ≡ length work → itemCount items + fuel ≤ macroItems * length macros → Ready fuel (size (treeAt work′ body 0)) (atStart top) (tables work′ core macros)
+    pub start-ready : (macros : List ℕ) → length work′ ≡ length work → itemCount items + fuel ≤ macroItems * length macros → Ready fuel (size (treeAt work′ body 0)) from (tables work′ core macros)
     unfolding atStart workNeed coreNeed variableNeed macroNeed macrosAt
     start-ready macros long h =
         let parts = isLayout-parts items (l .begun .layout) in
         let n : size (treeAt work′ body 0) ≤ itemCount items = omega (arith, start-size, treeOf-size items (l .begun .layout)) in
-        let most : itemCount items ≤ 4096 = parts .count .1 in
-        let fuelled : fuel ≤ 8192 = l .begun .fuelled in
+        let most : itemCount items ≤ itemsMost = parts .count .1 in
+        let fuelled : fuel ≤ fuelMost = l .begun .fuelled in
         let high : top ≡ 3 * itemCount items = laid .end ∙ parts .words in
-        record {
+        rw from-is
+        (record {
           fuelled = fuelled;
           spent = omega arith;
           stepped = omega arith;
@@ -112,13 +116,14 @@ module _ (items work core operations : List ℕ) (fuel : ℕ) (l : Lends items w
           few = omega arith;
           macros-few = omega arith;
           macros-are = record { below = λ k b. absurd (omega arith); proper = noneOf; sound = noneOf };
-        }
+        })
 
-    pub start-expanded : (macros : List ℕ) (last : Tables) (e : Ended) → ExpandsBy operations fuel (treeAt work′ body 0) (atStart top) (tables work′ core macros) last e
+    pub start-expanded : (macros : List ℕ) (last : Tables) (e : Ended) → ExpandsBy operations fuel (treeAt work′ body 0) from (tables work′ core macros) last e
         → Expanded (ended (expandRecipe fuel (treeOf items))) (last .core) e
     unfolding expandRecipe start atStart stateAt macrosAt
     start-expanded macros last e x =
         let gas : ℕ = size (treeOf items) + fuel in
+        let begun = subst (λ (q : Reached). ExpandsBy operations fuel (treeAt work′ body 0) q (tables work′ core macros) last e) from-is x in
         expanded core (atStart top) last (expandRecipe fuel (treeOf items)) e refl
         (subst (λ t. Left encode (atStart top) core last (endOf (expand macrosMost (operationNumbers (treeOf items)) fuel gas t start)) e) start-tree
-        (x (operationNumbers (treeOf items)) start-lent .means gas (omega (arith, start-size))))
+        (begun (operationNumbers (treeOf items)) start-lent .means gas (omega (arith, start-size))))

@@ -47,7 +47,7 @@ pub fn expression(
 }
 
 // An operand: a pair is expanded by turns; a name, a constant or an empty list is done at once.
-pub fn operand(
+fn operand(
     work: &mut [u32],
     core: &mut [u32],
     known: &mut [u32],
@@ -73,7 +73,7 @@ pub fn operand(
     leaf::constant(core, kind, cells::word(work, node, cells::FIRST), from)
 }
 
-pub fn operands(
+fn operands(
     work: &mut [u32],
     core: &mut [u32],
     known: &mut [u32],

@@ -1,8 +1,8 @@
 // The expansion service. What its tables mean and what a call leaves stands in specs/.
 
-pub mod cycle;
-pub mod ending;
-pub mod start;
+mod cycle;
+mod ending;
+mod start;
 
 ghost use mathlib.Core.Path.{_≡_};
 ghost use Rattle.expander.specs.declared.Expansion.the-variants.{Refused};

@@ -33,14 +33,7 @@ fn run(
 {
     let top = arena::item_nodes::lay_out(items, work);
     let body = lists::element(work, top, 1);
-    let from = Reached {
-        top: top,
-        at: 0,
-        steps: 0,
-        sum: 0,
-        variables: 0,
-        macros: 0,
-    };
+    let from = Reached::start(top);
     cycle::expression(work, core, known, operations, fuel, body, 0, from)
 }
 

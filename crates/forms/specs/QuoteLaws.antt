@@ -14,7 +14,7 @@ use Rattle.datum.specs.Datum as D
 use Rattle.recipe.specs.Name.{Name}
 use Rattle.recipe.specs.Tree.{Tree, empty, constant, name, pair, size, isList, elements, strip, stripTail, onNames}
 use Rattle.recipe.specs.Tidy.{tidyConstant, tidyName, tidyPair, onNames-isList}
-use Rattle.core_term.specs.Node.{nodeWords}
+use Rattle.core_term.specs.Node.{nodeWords, listCode}
 use Rattle.core_term.specs.Words.{datumWords, dataWords}
 use Rattle.arena.specs.Arena.{wordAt, referenceAt, wrapAt, constantAt, treeAt, numberOf}
 use Rattle.arena.specs.ArenaLaws.{wrapAt-number, wordAt-some, referenceAt-falls}
@@ -42,9 +42,9 @@ pub written-none : (d : List ℕ) (at : ℕ) → Written [] d d at at
 written-none d at = record { end = omega arith; words = sym (ap (λ (l : List ℕ). l ++ drop at d) (append-nil (take at d)) ∙ take-append-drop at d) }
 
 -- b after c
-pub written-then : (at : ℕ) (d c b e g : List ℕ) (n r : ℕ) → r ≤ length d → Written c d e at n → Written b e g n r → Written (c ++ b) d g at r
+pub written-then : (at : ℕ) (d c b e g : List ℕ) (n r : ℕ) → n ≤ length d → Written c d e at n → Written b e g n r → Written (c ++ b) d g at r
 written-then at d c b e g n r l p q =
-    let h : at + length c ≤ length d = omega (arith, p .end, q .end) in
+    let h : at + length c ≤ length d = omega (arith, p .end) in
     let x : e ≡ take at d ++ c ++ drop (at + length c) d = p .words ∙ ap (λ (k : ℕ). take at d ++ c ++ drop k d) (p .end) in
     let e1 : take n e ≡ take at d ++ c = rw (p .end, x) (head-is at d c h) in
     let e2 : drop r e ≡ drop r d = rw (q .end, p .end, x) (tail-is at d c h (length b)) in
@@ -139,7 +139,7 @@ module _ (work : List ℕ) (node kind : ℕ) (kind-is : kind ≡ wordAt work nod
     unfolding constantAt
     constant-small q = rw kind-is (constant-kind (subst Quotable constant-is q))
 
-  pub quoted-pair : kind ≡ 4 → (count : ℕ) → Counts work node count → (5 ∷ count ∷ []) ++ elementsAt work node ≡ quotedAt work node
+  pub quoted-pair : kind ≡ 4 → (count : ℕ) → Counts work node count → (listCode ∷ count ∷ []) ++ elementsAt work node ≡ quotedAt work node
   unfolding quotedAt elementsAt strip datumWords nodeWords D.count elements
   quoted-pair e count c =
       let t = a-pair work node kind kind-is e 0 in
@@ -147,11 +147,11 @@ module _ (work : List ℕ) (node kind : ℕ) (kind-is : kind ≡ wordAt work nod
       rw (n, t)
 
   pub quoted-list : kind ≡ 4 → (count : ℕ) → Counts work node count → (d e g : List ℕ) (at n r : ℕ) → at + length (quotedAt work node) ≤ length d
-      → Written (5 ∷ count ∷ []) d e at n → Written (elementsAt work node) e g n r → Written (quotedAt work node) d g at r
+      → Written (listCode ∷ count ∷ []) d e at n → Written (elementsAt work node) e g n r → Written (quotedAt work node) d g at r
   quoted-list h count c d e g at n r room p q =
       let same = quoted-pair h count c in
       written-as _ (quotedAt work node) d g at r same
-      (written-then at d (5 ∷ count ∷ []) (elementsAt work node) e g n r (omega (arith, ap length same, p .end, q .end)) p q)
+      (written-then at d (listCode ∷ count ∷ []) (elementsAt work node) e g n r (omega (arith, ap length same, p .end, q .end)) p q)
 
   -- ---- a list's elements
 

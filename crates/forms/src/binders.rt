@@ -17,32 +17,32 @@ use arena::lists;
 use resolution::names;
 
 // Whether a name is the same as one that the list binds.
-pub fn is_among(work: &[u32], node: u32, list: u32, w: u32, macros: bool) -> bool
+fn is_among(work: &[u32], node: u32, list: u32, w: u32, macros: bool) -> bool
     requires { ⌜ AllNames macros (treeAt (now work) list w) ⌝ }
     ensures { λ r. ⌜ r ≡ anyOf (same (nameAt (now (work .entry)) node w)) (namesIn macros (treeAt (now (work .entry)) list w)) ⌝ }
 {
     let mut at = list;
-    while cells::word(work, at, 3) == cells::PAIR {
-        let first = cells::reference(work, at, 2);
+    while cells::word(work, at, cells::KIND) == cells::PAIR {
+        let first = cells::reference(work, at, cells::HEAD);
         let own = shapes::own_name(work, first, macros);
         if names::same_names(work, node, w, own, w) {
             return true;
         }
-        at = cells::reference(work, at, 1);
+        at = cells::reference(work, at, cells::TAIL);
     }
     false
 }
 
 // Whether no two of the names that a list binds are the same.
-pub fn are_distinct(work: &[u32], list: u32, w: u32, macros: bool) -> bool
+fn are_distinct(work: &[u32], list: u32, w: u32, macros: bool) -> bool
     requires { ⌜ AllNames macros (treeAt (now work) list w) ⌝ }
     ensures { λ r. ⌜ r ≡ distinct (namesIn macros (treeAt (now (work .entry)) list w)) ⌝ }
 {
     let mut at = list;
-    while cells::word(work, at, 3) == cells::PAIR {
-        let first = cells::reference(work, at, 2);
+    while cells::word(work, at, cells::KIND) == cells::PAIR {
+        let first = cells::reference(work, at, cells::HEAD);
         let own = shapes::own_name(work, first, macros);
-        at = cells::reference(work, at, 1);
+        at = cells::reference(work, at, cells::TAIL);
         if is_among(work, own, at, w, macros) {
             return false;
         }
@@ -69,7 +69,7 @@ pub fn keywords_distinct(work: &[u32], node: u32, w: u32) -> bool
 }
 
 // The key of variable or macro n.
-pub fn key_of(macros: bool, n: u32) -> u32
+fn key_of(macros: bool, n: u32) -> u32
     requires { ⌜ n < 2 ^ 30 ⌝ }
     ensures { λ r. ⌜ r ≡ bindingKey (some (bindsTo macros n)) ⌝ }
 {
@@ -87,7 +87,7 @@ pub struct Scope {
 
 // A binder for each name that the list binds, numbered from `number`, after what `parent` means. Each own name is resolved
 // under w, the wrap that waits on the form.
-pub fn bind_names(
+fn bind_names(
     work: &mut [u32],
     list: u32,
     w: u32,
@@ -103,10 +103,10 @@ pub fn bind_names(
     let mut n = number;
     let mut wrap = parent;
     let mut end = top;
-    while cells::word(work, at, 3) == cells::PAIR {
-        let first = cells::reference(work, at, 2);
+    while cells::word(work, at, cells::KIND) == cells::PAIR {
+        let first = cells::reference(work, at, cells::HEAD);
         let own = shapes::own_name(work, first, macros);
-        at = cells::reference(work, at, 1);
+        at = cells::reference(work, at, cells::TAIL);
         let key = key_of(macros, n);
         wrap = names::bind(work, end, own, w, key, wrap);
         end = wrap;

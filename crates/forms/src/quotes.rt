@@ -7,12 +7,8 @@ ghost use Rattle.arena.specs.Arena.{treeAt};
 ghost use Rattle.forms.specs.Quotes.{quotedAt, elementsAt, Quotable, Written};
 use arena::cells;
 use arena::lists;
+use core_term::codes;
 use resolution::names;
-
-// Codes of a quoted name and of a quoted list.
-pub const QUOTED_NAME: u32 = 4;
-
-pub const QUOTED_LIST: u32 = 5;
 
 // Two words at `at`; answers where the next stand.
 fn put_two(core: &mut [u32], at: usize, a: u32, b: u32) -> usize
@@ -29,20 +25,20 @@ pub fn quote(work: &[u32], node: u32, core: &mut [u32], at: usize) -> usize
     requires { ⌜ (at + length (quotedAt (now work) node) ≤ length (now core)) × (Quotable (treeAt (now work) node 0)) ⌝ }
     ensures { λ r. ⌜ Written (quotedAt (now (work .entry)) node) (now (core .entry)) (now (core .exit)) at r ⌝ }
 {
-    let kind = cells::word(work, node, 3);
+    let kind = cells::word(work, node, cells::KIND);
     if kind == cells::PAIR {
         let count = lists::count(work, node);
-        let n = put_two(core, at, QUOTED_LIST, count);
+        let n = put_two(core, at, codes::LIST, count);
         return quote_all(work, node, core, n);
     }
     if kind == cells::NAME {
         let number = names::number_of(work, node);
-        return put_two(core, at, QUOTED_NAME, number);
+        return put_two(core, at, codes::NAME, number);
     }
     if kind == cells::EMPTY {
-        return put_two(core, at, QUOTED_LIST, 0);
+        return put_two(core, at, codes::LIST, 0);
     }
-    let first = cells::word(work, node, 2);
+    let first = cells::word(work, node, cells::FIRST);
     put_two(core, at, kind + 1, first)
 }
 
@@ -53,10 +49,10 @@ fn quote_all(work: &[u32], list: u32, core: &mut [u32], at: usize) -> usize
 {
     let mut rest = list;
     let mut n = at;
-    while cells::word(work, rest, 3) == cells::PAIR {
-        let first = cells::reference(work, rest, 2);
+    while cells::word(work, rest, cells::KIND) == cells::PAIR {
+        let first = cells::reference(work, rest, cells::HEAD);
         n = quote(work, first, core, n);
-        rest = cells::reference(work, rest, 1);
+        rest = cells::reference(work, rest, cells::TAIL);
     }
     n
 }

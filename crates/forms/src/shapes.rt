@@ -8,9 +8,6 @@ use arena::cells;
 use arena::lists;
 use resolution::names;
 
-// The most names of a lambda.
-pub const FORMALS_MOST: u32 = 8;
-
 // The node of the name that an element binds.
 pub fn own_name(work: &[u32], node: u32, macros: bool) -> u32
     ensures { λ r. ⌜ Means (now (work .entry)) node r (ownName macros) ⌝ }
@@ -22,7 +19,7 @@ pub fn own_name(work: &[u32], node: u32, macros: bool) -> u32
 }
 
 // (name rules)
-pub fn is_macro(work: &[u32], node: u32) -> bool
+fn is_macro(work: &[u32], node: u32) -> bool
     ensures { λ r. ⌜ Tests isMacro (now (work .entry)) node r ⌝ }
 {
     if !lists::is_list_of(work, node, 2) {
@@ -33,7 +30,7 @@ pub fn is_macro(work: &[u32], node: u32) -> bool
 }
 
 // Whether an element of the list binds as it should.
-pub fn binds_one(work: &[u32], node: u32, macros: bool) -> bool
+fn binds_one(work: &[u32], node: u32, macros: bool) -> bool
     ensures { λ r. ⌜ Tests (bindsOne macros) (now (work .entry)) node r ⌝ }
 {
     if macros {
@@ -43,20 +40,20 @@ pub fn binds_one(work: &[u32], node: u32, macros: bool) -> bool
 }
 
 // Whether all elements of a list do, and are at most so many.
-pub fn binds_all(work: &[u32], list: u32, macros: bool, most: u32) -> bool
+fn binds_all(work: &[u32], list: u32, macros: bool, most: u32) -> bool
     ensures { λ r. ⌜ Tests (bindsAll macros most) (now (work .entry)) list r ⌝ }
 {
     let mut node = list;
     let mut left = most;
-    while cells::word(work, node, 3) == cells::PAIR {
+    while cells::word(work, node, cells::KIND) == cells::PAIR {
         if left == 0 {
             return false;
         }
-        let first = cells::reference(work, node, 2);
+        let first = cells::reference(work, node, cells::HEAD);
         if !binds_one(work, first, macros) {
             return false;
         }
-        node = cells::reference(work, node, 1);
+        node = cells::reference(work, node, cells::TAIL);
         left -= 1;
     }
     true
@@ -73,7 +70,7 @@ pub fn is_lambda(work: &[u32], node: u32) -> bool
     if !lists::is_list(work, list) {
         return false;
     }
-    binds_all(work, list, false, FORMALS_MOST)
+    binds_all(work, list, false, words::FORMALS)
 }
 
 // (let-syntax ((name rules) ...) body), at most `limit` macros
@@ -84,7 +81,7 @@ pub fn is_macros(work: &[u32], node: u32, limit: u32) -> bool
         return false;
     }
     let list = lists::element(work, node, 1);
-    if cells::word(work, list, 3) != cells::PAIR {
+    if cells::word(work, list, cells::KIND) != cells::PAIR {
         return false;
     }
     binds_all(work, list, true, limit)

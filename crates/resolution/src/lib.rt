@@ -1,6 +1,6 @@
 // Names in the arena, with the marks and binders that wait on them: looked up, compared and bound.
 
-pub mod direct;
-pub mod marks;
+mod direct;
+mod marks;
 pub mod names;
-pub mod wraps;
+mod wraps;

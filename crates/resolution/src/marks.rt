@@ -10,7 +10,7 @@ ghost use Rattle.arena.specs.Arena.{newest, marked, stepLimit};
 ghost use Rattle.resolution.specs.Marks.{marksIn, Toggled, Hand, MarksAfter, Fits};
 
 // Marks are numbers of steps, at most one more than the most fuel.
-pub const STEP_LIMIT: u32 = 8194;
+pub const STEP_LIMIT: u32 = words::FUEL + 2;
 
 // How two names compare, where a table has room for the marks of both.
 pub enum Compared {
@@ -20,7 +20,7 @@ pub enum Compared {
 }
 
 // A mark met twice cancels; answers the new count.
-pub fn toggle(marks: &mut [u32], start: usize, count: usize, m: u32) -> usize
+fn toggle(marks: &mut [u32], start: usize, count: usize, m: u32) -> usize
     requires { ⌜ start + count < length (now marks) ⌝ }
     ensures { λ r. ⌜ Toggled m start count (now (marks .entry)) (now (marks .exit)) r ⌝ }
 {

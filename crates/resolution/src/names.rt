@@ -22,10 +22,22 @@ use crate::wraps::InHand;
 use arena::cells;
 use arena::origins;
 
-// The numbers of `...` and `_`.
+// The numbers of the names that begin base forms, and of `...` and `_`.
+pub const QUOTE: u32 = 0;
+
+pub const IF: u32 = 1;
+
+pub const LAMBDA: u32 = 2;
+
+pub const LET_SYNTAX: u32 = 3;
+
+pub const LETREC_SYNTAX: u32 = 4;
+
 pub const ELLIPSIS: u32 = 6;
 
 pub const WILDCARD: u32 = 7;
+
+const BASE_NAMES: u32 = words::BASE_NAMES as u32;
 
 // Room for the marks of two names, and for those of a binder's own name behind them: as many as most names have, 512 of each,
 // however many they are.
@@ -73,7 +85,7 @@ pub fn number_of(work: &[u32], node: u32) -> u32
 }
 
 // A name node under a pending wrap: its marks from `start`, their count, and its binding's key.
-pub fn resolve(work: &[u32], table: &mut [u32], start: usize, node: u32, w: u32) -> InHand
+fn resolve(work: &[u32], table: &mut [u32], start: usize, node: u32, w: u32) -> InHand
     requires { ⌜ start ≤ length (now table) ⌝ }
     ensures { λ r. ⌜ Fits (now (table .exit)) (start + stepLimit + stepLimit) (r .count) (Resolved (now (work .entry)) node w (now (table .entry)) (now (table .exit)) start (r .count) (r .binding)) ⌝ }
 {
@@ -113,7 +125,7 @@ pub struct Summary {
 }
 
 // A name's summary, where the table has room for its marks.
-pub fn summary_in(work: &[u32], table: &mut [u32], node: u32, w: u32) -> Summary
+fn summary_in(work: &[u32], table: &mut [u32], node: u32, w: u32) -> Summary
     ensures { λ r. ⌜ Fits (now (table .exit)) (2 * stepLimit) (r .count) (Summed (nameAt (now (work .entry)) node w) (r .binding) (r .count) (r .newest)) ⌝ }
 {
     let x = resolve(work, table, 0, node, w);
@@ -135,7 +147,7 @@ pub fn summary_in(work: &[u32], table: &mut [u32], node: u32, w: u32) -> Summary
 
 // A name's summary, in the table or, where its marks do not fit, in a larger one. It calls itself with that, and what calls
 // itself is not inlined: the large frame is taken only where it is needed.
-pub fn summary_grown(work: &[u32], table: &mut [u32], node: u32, w: u32) -> Summary
+fn summary_grown(work: &[u32], table: &mut [u32], node: u32, w: u32) -> Summary
     ensures { λ r. ⌜ Summed (nameAt (now (work .entry)) node w) (r .binding) (r .count) (r .newest) ⌝ }
 {
     let s = summary_in(work, table, node, w);
@@ -160,7 +172,7 @@ fn summary_walked(work: &[u32], node: u32, w: u32) -> Summary
 }
 
 // A name's summary: of one mark or none where that is all that waits, else by walking what waits.
-pub fn summary_of(work: &[u32], node: u32, w: u32) -> Summary
+fn summary_of(work: &[u32], node: u32, w: u32) -> Summary
     ensures { λ r. ⌜ Summed (nameAt (now (work .entry)) node w) (r .binding) (r .count) (r .newest) ⌝ }
 {
     let number = number_of(work, node);
@@ -191,7 +203,7 @@ pub fn binding_of(work: &[u32], node: u32, w: u32) -> u32
 }
 
 // Whether two names are the same, where the table has room for the marks of both: number, marks and binding together.
-pub fn compare(work: &[u32], table: &mut [u32], a: u32, v: u32, b: u32, w: u32) -> Compared
+fn compare(work: &[u32], table: &mut [u32], a: u32, v: u32, b: u32, w: u32) -> Compared
     ensures { λ r. ⌜ Tells (now (table .exit)) (3 * stepLimit) (λ t. t ≡ same (nameAt (now (work .entry)) a v) (nameAt (now (work .entry)) b w)) r ⌝ }
 {
     if number_of(work, a) != number_of(work, b) {
@@ -219,7 +231,7 @@ pub fn compare(work: &[u32], table: &mut [u32], a: u32, v: u32, b: u32, w: u32) 
 }
 
 // Whether two names are the same, in the table or, where their marks do not fit, in a larger one, as `summary_grown`.
-pub fn same_grown(work: &[u32], table: &mut [u32], a: u32, v: u32, b: u32, w: u32) -> bool
+fn same_grown(work: &[u32], table: &mut [u32], a: u32, v: u32, b: u32, w: u32) -> bool
     ensures { λ r. ⌜ r ≡ same (nameAt (now (work .entry)) a v) (nameAt (now (work .entry)) b w) ⌝ }
 {
     match compare(work, table, a, v, b, w) {
@@ -280,10 +292,10 @@ pub fn bind(work: &mut [u32], top: u32, node: u32, w: u32, key: u32, parent: u32
 }
 
 // What a name without a binding means: a base form, an operation by the table of their places, or nothing.
-pub fn unbound(operations: &[u16], number: u32) -> Looked
+fn unbound(operations: &[u16], number: u32) -> Looked
     ensures { λ r. ⌜ foundOf r ≡ unboundIn (now (operations .entry)) number ⌝ }
 {
-    if number < 8 {
+    if number < BASE_NAMES {
         return Looked::Finds(Meaning::Form(number));
     }
     let i = number as usize;

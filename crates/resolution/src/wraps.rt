@@ -10,7 +10,7 @@ use crate::marks::Compared;
 use arena::cells;
 
 // The marks of a name after wrap w, where there is one; answers their count. The walk is spared where no wrap is left.
-pub fn marks_left(work: &[u32], table: &mut [u32], start: usize, count: usize, w: u32) -> usize
+fn marks_left(work: &[u32], table: &mut [u32], start: usize, count: usize, w: u32) -> usize
     requires { ⌜ Hand (now table) start count ⌝ }
     ensures { λ r. ⌜ Fits (now (table .exit)) (start + stepLimit) r (MarksAfter (wrapAt (now (work .entry)) w) (now (table .entry)) (now (table .exit)) start count r) ⌝ }
 {
@@ -21,7 +21,7 @@ pub fn marks_left(work: &[u32], table: &mut [u32], start: usize, count: usize, w
 }
 
 // The marks of a name after wrap w; answers their count.
-pub fn marks_after(work: &[u32], table: &mut [u32], start: usize, count: usize, w: u32) -> usize
+fn marks_after(work: &[u32], table: &mut [u32], start: usize, count: usize, w: u32) -> usize
     requires { ⌜ Hand (now table) start count ⌝ }
     ensures { λ r. ⌜ Fits (now (table .exit)) (start + stepLimit) r (MarksAfter (wrapAt (now (work .entry)) w) (now (table .entry)) (now (table .exit)) start count r) ⌝ }
 {
@@ -49,7 +49,7 @@ pub fn marks_after(work: &[u32], table: &mut [u32], start: usize, count: usize, 
 }
 
 // The marks of a binder's own name, from `start`; answers their count.
-pub fn own_marks(work: &[u32], table: &mut [u32], start: usize, w: u32) -> usize
+fn own_marks(work: &[u32], table: &mut [u32], start: usize, w: u32) -> usize
     requires { ⌜ start ≤ length (now table) ⌝ }
     ensures { λ r. ⌜ Fits (now (table .exit)) (start + stepLimit) r (OwnMarks (now (work .entry)) w (now (table .entry)) (now (table .exit)) start r) ⌝ }
 {
@@ -65,7 +65,7 @@ pub fn own_marks(work: &[u32], table: &mut [u32], start: usize, w: u32) -> usize
 // Whether the name in hand is the same as the own name of binder w, judged with the marks of its time. Number, binding, count
 // and newest mark tell most names apart, and settle it where there is at most one mark; else the wraps of the binder's own
 // name are walked.
-pub fn is_own(
+fn is_own(
     work: &[u32],
     table: &mut [u32],
     start: usize,
@@ -113,7 +113,7 @@ pub struct InHand {
 }
 
 // The name in hand after binder w: the binder's own name gets the new binding.
-pub fn rebind(
+fn rebind(
     work: &[u32],
     table: &mut [u32],
     start: usize,

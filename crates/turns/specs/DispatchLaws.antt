@@ -13,7 +13,7 @@ use Rattle.recipe.specs.Tree.{Tree, constant, name, pair, size, isName, onName,
 use Rattle.recipe.specs.TreeLaws.{size-positive}
 use Rattle.recipe.specs.Tidy.{tidyConstant, tidy-tail}
 use Rattle.core_term.specs.Term.{Term, variableC, operationC}
-use Rattle.core_term.specs.Node.{nodeWords}
+use Rattle.core_term.specs.Node.{nodeWords, applicationCode}
 use Rattle.core_term.specs.Words.{encode}
 use Rattle.expansion.specs.Lookup as U
 use Rattle.expansion.specs.Lookup.{quote, if, lambda, let-syntax, letrec-syntax, auxiliary, form, nothing, formOf, lookup}
@@ -127,12 +127,12 @@ module _ (work core macros : List ℕ) (fuel node w : ℕ) (r : Reached) (ready 
 
 module _ (operations : List ℕ) (work core macros : List ℕ) (fuel node tail w : ℕ) (r : Reached) (placed : Placed work (r .top) node w) (o : OtherHead work node tail w)
     (ready : Ready fuel (size (treeAt work node w)) r (tables work core macros)) where
-  pub applied-turned : (core′ : List ℕ) (count : ℕ) (q : Reached) → Counts work tail count → Moved (8 ∷ count ∷ []) r core core′ q → Spreads operations fuel (treeAt work node w) r (tables work core macros) (tables work core′ macros) node w q
+  pub applied-turned : (core′ : List ℕ) (count : ℕ) (q : Reached) → Counts work tail count → Moved (applicationCode ∷ count ∷ []) r core core′ q → Spreads operations fuel (treeAt work node w) r (tables work core macros) (tables work core′ macros) node w q
   applied-turned core′ count q n m =
       let t = treeAt work tail w in
       subst (λ (z : Tree). Spreads operations fuel z r (tables work core macros) (tables work core′ macros) node w q) (sym (o .tree))
       (spread-other operations fuel (o .head) t r q work core core′ macros node w (subst (λ (z : Tree). Ready fuel (size z) r (tables work core macros)) (o .tree) ready) placed (o .tree)
-      (subst (λ (k : ℕ). Moved (8 ∷ k ∷ []) r core core′ q) (n .is w) m) (o .unlike))
+      (subst (λ (k : ℕ). Moved (applicationCode ∷ k ∷ []) r core core′ q) (n .is w) m) (o .unlike))
 
 -- ---- a list whose head is a name
 

@@ -12,7 +12,7 @@ use Rattle.recipe.specs.Tree.{Tree, pair, size, isListOf, elements, element, bi
 use Rattle.recipe.specs.TreeLaws.{size-positive, names-size, bindAll-size}
 use Rattle.recipe.specs.Tidy.{tidy-element, tidy-bindAll}
 use Rattle.core_term.specs.Term.{Term, lambdaC}
-use Rattle.core_term.specs.Node.{nodeWords}
+use Rattle.core_term.specs.Node.{nodeWords, lambdaCode}
 use Rattle.core_term.specs.Words.{encode}
 use Rattle.expansion.specs.Computation.{State, M}
 use Rattle.expansion.specs.Forms.{isLambda, formals, expandLambda}
@@ -27,13 +27,14 @@ use Rattle.turns.specs.declared.answers.Turn.{Turn}
 use Rattle.turns.specs.declared.answers.Turn.the-variants.{Again, Operands, Over}
 use Rattle.turns.specs.Ends.{End, finished, stopped, halted, endOf, then, needs, withVariables}
 use Rattle.turns.specs.EndLaws.{lambda-end}
+use Rattle.turns.specs.Numbers.{widened}
 use Rattle.turns.specs.Memory.{tables, stateAt, CoreRoom, Put, workNeed, coreNeed, variableNeed, macroNeed, Proper, Ready, Kept}
 use Rattle.turns.specs.MemoryLaws.{macrosAt-settled, macros-kept, put-long}
 use Rattle.turns.specs.Turns.{Left, turnOf, Ends, Follows}
 use Rattle.turns.specs.Leaves.{Refuses}
 use Rattle.turns.specs.LeafLaws.{refused-ends}
 use Rattle.turns.specs.SpreadLaws.{cons, listed, Prefixed, left-after}
-use Rattle.turns.specs.Scopes.{Roomy, widened, Bound, BoundLeft, LambdaBound, LambdaRefused, LambdaLeft}
+use Rattle.turns.specs.Scopes.{Roomy, Bound, BoundLeft, LambdaBound, LambdaRefused, LambdaLeft}
 
 -- ---- sizes
 
@@ -82,21 +83,22 @@ module _ (work core : List ℕ) (node w : ℕ) (r : Reached) (roomy : Roomy work
     lambda-few = omega (arith, lambda-count, lambda-sizes tree shape, roomy .few)
 
     pub bound-by : (body wrap top at : ℕ) (work′ core′ : List ℕ) → Means work node body (element 2) → Scoped variable (r .variables) (formals tree) w work work′ (r .top) wrap top
-        → Put (7 ∷ r .variables ∷ count ∷ []) (r .at) core core′ at → Bound tree r work work′ core core′ body wrap (widened top at count r)
+        → Put (lambdaCode ∷ r .variables ∷ count ∷ []) (r .at) core core′ at → (q : Reached) → q ≡ widened top at count r → Bound tree r work work′ core core′ body wrap q
     unfolding widened
-    bound-by body wrap top at work′ core′ body-is scoped put =
-        record {
+    bound-by body wrap top at work′ core′ body-is scoped put q e =
+        subst (Bound tree r work work′ core core′ body wrap) (sym e)
+        (record {
           body-is = scoped-tree variable (r .variables) (formals tree) w work work′ (r .top) wrap top scoped body (omega (arith, body-is .low, roomy .placed .node-below)) ∙ ap (bindAll variable (r .variables) (formals tree)) (body-is .is w);
           body-below = omega (arith, body-is .low, roomy .placed .node-below);
           wrap-below = scoped .wrap-below;
           numbers = ap₂ (λ (t n : ℕ). widened t at n r) (scoped .end-is) lambda-count;
-          put = subst (λ (n : ℕ). Put (7 ∷ r .variables ∷ n ∷ []) (r .at) core core′ at) lambda-count put;
+          put = subst (λ (n : ℕ). Put (lambdaCode ∷ r .variables ∷ n ∷ []) (r .at) core core′ at) lambda-count put;
           kept = scoped .kept;
-        }
+        })
 
 -- ---- the turn
 
-lambda-prefixed : (first : ℕ) (xs : List Name) (e : End (Term Name)) → Prefixed encode encode (lambdaC first xs) (7 ∷ first ∷ length xs ∷ []) e
+lambda-prefixed : (first : ℕ) (xs : List Name) (e : End (Term Name)) → Prefixed encode encode (lambdaC first xs) (lambdaCode ∷ first ∷ length xs ∷ []) e
 unfolding encode nodeWords
 lambda-prefixed first xs (finished v s) = refl
 lambda-prefixed first xs (stopped k s) = tt
@@ -129,10 +131,10 @@ module _ (operations : List ℕ) (fuel : ℕ) (t : Tree) (r : Reached) (work wor
         let sum-is : q .sum ≡ r .sum = ap (λ (z : Reached). z .sum) (b .numbers) in
         let variables-are : q .variables ≡ r .variables + length (formals t) = ap (λ (z : Reached). z .variables) (b .numbers) in
         let macros-are : q .macros ≡ r .macros = ap (λ (z : Reached). z .macros) (b .numbers) in
-        let at-is : q .at ≡ r .at + 3 = b .put .until in
+        let at-is : q .at ≡ r .at + 3 = b .put .end in
         record {
           work-long = long;
-          core-long = put-long (7 ∷ r .variables ∷ length (formals t) ∷ []) (r .at) core core′ (q .at) (omega (arith, ready .core-room, sizes)) (b .put);
+          core-long = put-long (lambdaCode ∷ r .variables ∷ length (formals t) ∷ []) (r .at) core core′ (q .at) (omega (arith, ready .core-room, sizes)) (b .put);
           macros-long = refl;
           arena = b .kept;
           known = refl;
@@ -164,7 +166,7 @@ module _ (operations : List ℕ) (fuel : ℕ) (t : Tree) (r : Reached) (work wor
     lambda-follows =
         let s = stateAt (tables work core macros) r in
         let k = lambda-kept in
-        let at-is : q .at ≡ r .at + 3 = b .put .until in
+        let at-is : q .at ≡ r .at + 3 = b .put .end in
         record {
           kept = k;
           placed = record {
@@ -176,7 +178,7 @@ module _ (operations : List ℕ) (fuel : ℕ) (t : Tree) (r : Reached) (work wor
           means = λ expand a last l.
               subst (λ (e : End (Term Name)). Left encode r core last e a)
               (sym (lambda-turn expand s refl))
-              (left-after encode encode (lambdaC (r .variables) (formals t)) (7 ∷ r .variables ∷ length (formals t) ∷ []) r q core core′ last
+              (left-after encode encode (lambdaC (r .variables) (formals t)) (lambdaCode ∷ r .variables ∷ length (formals t) ∷ []) r q core core′ last
               (endOf (expand (bindAll variable (r .variables) (formals t) (element 2 t)) (withVariables (length (formals t)) s))) a
               (lambda-prefixed (r .variables) (formals t) (endOf (expand (bindAll variable (r .variables) (formals t) (element 2 t)) (withVariables (length (formals t)) s)))) (b .put) (omega (arith, ready .core-room, sizes))
               (subst (λ (z : State). Left encode q core′ last (endOf (expand (bindAll variable (r .variables) (formals t) (element 2 t)) z)) a) lambda-state

@@ -1,6 +1,7 @@
 -- One turn of an expression: what the tables mean while an expansion runs, and what each kind of turn leaves.
 pub mod Ends
 pub mod EndLaws
+pub mod Numbers
 pub mod Memory
 pub mod MemoryLaws
 pub mod Turns

@@ -28,11 +28,12 @@ use Rattle.turns.specs.declared.answers.Ended.{Ended}
 use Rattle.turns.specs.declared.answers.Ended.the-variants.{Refused}
 use Rattle.turns.specs.Ends.{End, endOf, needs, given, withMacros}
 use Rattle.turns.specs.EndLaws.{scope, macros-end}
+use Rattle.turns.specs.Numbers.{grown}
 use Rattle.turns.specs.Memory.{Tables, tables, macrosAt, stateAt, workNeed, coreNeed, variableNeed, macroNeed, Proper, Macros, Ready, Kept}
 use Rattle.turns.specs.MemoryLaws.{macrosAt-length}
 use Rattle.turns.specs.Turns.{Left, turnOf, Ends, Follows}
 use Rattle.turns.specs.UseTurnLaws.{left-same}
-use Rattle.turns.specs.MacroTurns.{formsOf, grown, Known, MacrosKnown, MacrosRefused}
+use Rattle.turns.specs.MacroTurns.{formsOf, Known, MacrosKnown, MacrosRefused}
 use Rattle.turns.specs.MacroTurnLaws.{macros-rate, macros-sizes}
 
 -- ---- the rules are proper and sound

@@ -28,13 +28,14 @@ use Rattle.turns.specs.declared.answers.Turn.the-variants.{Again, Operan
 use Rattle.turns.specs.declared.macros.Read.{Read}
 use Rattle.turns.specs.declared.macros.Read.the-variants.{Good, Bad}
 use Rattle.turns.specs.Ends.{needs, given}
+use Rattle.turns.specs.Numbers.{grown}
 use Rattle.turns.specs.Memory.{macrosAt, macroItems}
 use Rattle.turns.specs.MemoryLaws.{macrosAt-settled}
 use Rattle.turns.specs.Leaves.{Refuses}
 use Rattle.turns.specs.SpreadLaws.{listed}
 use Rattle.turns.specs.LambdaLaws.{three-sizes}
 use Rattle.turns.specs.MacroRules.{formsIn, AllAsk, AllRead, AllLeft}
-use Rattle.turns.specs.MacroTurns.{MacroRoom, formsOf, grown, Known, KnownLeft, MacrosRefused, MacrosLeft}
+use Rattle.turns.specs.MacroTurns.{MacroRoom, formsOf, Known, KnownLeft, MacrosRefused, MacrosLeft}
 
 -- ---- forms under a scope
 
@@ -213,15 +214,16 @@ module _ (work macros : List ℕ) (node w : ℕ) (inside : Bool) (r : Reached) (
             let n : traverse rulesOf (formsIn (treeAt mid list rules-wrap)) ≡ none = subst (λ (z : Read). AllLeft (treeAt mid list rules-wrap) mid work′ macros macros′ (r .macros) end z) e left in
             ap (traverse rulesOf) (sym forms-are) ∙ n
 
-        pub macros-known : (top body : ℕ) → a ≡ Good top → Means work node body (element 2) → Known tree inside r work work′ macros macros′ body wrap (grown top count r)
+        pub macros-known : (top body : ℕ) → a ≡ Good top → Means work node body (element 2) → (q : Reached) → q ≡ grown top count r → Known tree inside r work work′ macros macros′ body wrap q
         unfolding grown
-        macros-known top body e body-is =
+        macros-known top body e body-is q q-is =
             let m : AllRead (treeAt mid list rules-wrap) mid work′ macros macros′ (r .macros) end top =
             subst (λ (z : Read). AllLeft (treeAt mid list rules-wrap) mid work′ macros macros′ (r .macros) end z) e left in
             let body-low : body ≤ r .top = omega (arith, body-is .low, room .placed .node-below) in
             let far : r .macros + count ≡ r .macros + length (formsIn (treeAt mid list rules-wrap)) = omega (arith, macros-count, forms-count) in
             let up : r .top ≤ end = omega (arith, scoped .end-is) in
-            record {
+            subst (Known tree inside r work work′ macros macros′ body wrap) (sym q-is)
+            (record {
               rules = m .rules;
               is = ap (traverse rulesOf) (sym forms-are) ∙ m .is;
               means = ap (macrosAt work′ macros′) far ∙ m .means ∙ ap (λ (l : List (List Rule)). l ++ m .rules) (macrosAt-settled work mid macros macros (r .top) (scoped .kept) (r .macros) refl (room .below));
@@ -237,7 +239,7 @@ module _ (work macros : List ℕ) (node w : ℕ) (inside : Bool) (r : Reached) (
               words = let g : top ≤ end + 5 * size (element 1 tree) = rw size-same at (m .words) in omega (arith, scoped .end-is);
               kept = take-less work′ mid (r .top) end up (m .kept) ∙ scoped .kept;
               known = m .known;
-            }
+            })
 
 -- ---- the tests
 

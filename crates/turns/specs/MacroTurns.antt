@@ -19,6 +19,7 @@ use Rattle.turns.specs.declared.answers.Ended.{Ended}
 use Rattle.turns.specs.declared.answers.Turn.{Turn}
 use Rattle.turns.specs.declared.answers.Turn.the-variants.{Again, Operands, Over}
 use Rattle.turns.specs.Ends.{End, stopped, needs, given}
+use Rattle.turns.specs.Numbers.{grown}
 use Rattle.turns.specs.Memory.{itemRate, macroItems, macrosAt, numberMost, Placed}
 use Rattle.turns.specs.Leaves.{Refuses}
 use Rattle.turns.specs.MacroRules.{Below}
@@ -35,10 +36,6 @@ pub record MacroRoom (work macros : List ℕ) (node w : ℕ) (r : Reached) : Typ
 -- the rules forms of a tree whose names are macros from k on; inside their scope or not
 unfoldable pub formsOf : (inside : Bool) → Tree → ℕ → List Tree
 formsOf inside t k = map (cond inside (bindAll macro k (keywords t)) (λ r. r)) (rulesForms t)
-
--- n new macros, whose rules end at `top`
-unfoldable pub grown : (top n : ℕ) → Reached → Reached
-grown top n r = record { top = top; at = r .at; steps = r .steps; sum = r .sum; variables = r .variables; macros = r .macros + n }
 
 -- the macros' names are bound in the body, and their rules are known
 pub record Known (tree : Tree) (inside : Bool) (r : Reached) (work work′ macros macros′ : List ℕ) (node w : ℕ) (q : Reached) : Type 0 where

@@ -3,18 +3,22 @@
 use mathlib.Core.Path.{_≡_}
 use mathlib.Core.List.{List, [], _∷_, _++_}
 use Prim.Native.Nat.{ℕ, zero, suc, _+_, _*_, _-_, _^_, _≤_, _<_}
-use lib.ListN.{length, getD, take, drop}
+use lib.ListN.{length, getD, take}
+use Rattle.words.specs.Limits.{fuelMost, coreRate}
 use Rattle.words.specs.Each.{Each}
 use Rattle.recipe.specs.Tree.{Tree, elements}
 use Rattle.recipe.specs.Tidy.{Tidy}
 use Rattle.recipe.specs.TableTidy.{IsConstant}
+use Rattle.core_term.specs.Node.{applicationCode}
 use Rattle.expansion.specs.Rules.{Rule}
 use Rattle.expansion.specs.TidyRules.{TidyRules}
 use Rattle.expansion.specs.Computation.{State}
 use Rattle.arena.specs.Arena.{treeAt}
 use Rattle.rule_cells.specs.Cells.{rulesAt}
 use Rattle.environments.specs.Sound.{SoundRule}
+use Rattle.forms.specs.Quotes.{Written}
 use Rattle.turns.specs.declared.answers.Reached.{Reached}
+use Rattle.turns.specs.Numbers.{moved}
 
 pub record Tables : Type 0 where
   pub work : List ℕ
@@ -41,13 +45,8 @@ pub record CoreRoom (core : List ℕ) (at n : ℕ) : Type 0 where
   pub small : at + n < 2 ^ 32
 
 -- words stand from `at` to r; the rest of the table is as it was
-pub record Put (words : List ℕ) (at : ℕ) (before after : List ℕ) (r : ℕ) : Type 0 where
-  pub until : r ≡ at + length words
-  pub table : after ≡ take at before ++ words ++ drop r before
-
--- the same numbers, but for how far the core words reach
-unfoldable pub moved : ℕ → Reached → Reached
-moved n r = record { top = r .top; at = n; steps = r .steps; sum = r .sum; variables = r .variables; macros = r .macros }
+abbrev pub Put : (words : List ℕ) (at : ℕ) (before after : List ℕ) (r : ℕ) → Type 0
+Put words at before after r = Written words before after at r
 
 -- words are written from r .at, and nothing else is done
 pub record Moved (words : List ℕ) (r : Reached) (before after : List ℕ) (q : Reached) : Type 0 where
@@ -56,7 +55,7 @@ pub record Moved (words : List ℕ) (r : Reached) (before after : List ℕ) (q :
 
 -- an application's header and its named head, whatever waits on the list of operands
 abbrev pub HeaderMoved : (list code number : ℕ) (r : Reached) (work before after : List ℕ) (q : Reached) → Type 0
-HeaderMoved list code number r work before after q = (w : ℕ) → Moved (8 ∷ length (elements (treeAt work list w)) ∷ code ∷ number ∷ []) r before after q
+HeaderMoved list code number r work before after q = (w : ℕ) → Moved (applicationCode ∷ length (elements (treeAt work list w)) ∷ code ∷ number ∷ []) r before after q
 
 -- ---- the budget
 
@@ -80,7 +79,7 @@ unfoldable pub workNeed : (fuel n : ℕ) → Reached → ℕ
 workNeed fuel n r = r .top + itemRate * n + fuelRate * (fuel - r .sum)
 
 unfoldable pub coreNeed : (fuel n : ℕ) → Reached → ℕ
-coreNeed fuel n r = r .at + 2 * n + 2 * (fuel - r .sum)
+coreNeed fuel n r = r .at + coreRate * n + coreRate * (fuel - r .sum)
 
 unfoldable pub variableNeed : (fuel n : ℕ) → Reached → ℕ
 variableNeed fuel n r = r .variables + n + (fuel - r .sum)
@@ -102,7 +101,7 @@ pub record Macros (r : Reached) (t : Tables) : Type 0 where
 
 -- a tree of n items may be expanded from r
 pub record Ready (fuel n : ℕ) (r : Reached) (t : Tables) : Type 0 where
-  pub fuelled : fuel ≤ 8192
+  pub fuelled : fuel ≤ fuelMost
   pub spent : r .sum ≤ fuel
   pub stepped : r .steps ≤ r .sum
   pub room : workNeed fuel n r ≤ length (t .work)
@@ -137,7 +136,3 @@ pub record Kept (fuel n m : ℕ) (r q : Reached) (before after : Tables) : Type 
   pub variables-spent : variableNeed fuel m q ≤ variableNeed fuel n r
   pub macros-spent : macroNeed fuel m q ≤ macroNeed fuel n r
   pub macros-are : Macros q after
-
--- the term's words follow those before r .at; the rest of the table is as it was
-abbrev pub Written : (r q : Reached) (words before after : List ℕ) → Type 0
-Written r q words before after = Put words (r .at) before after (q .at)

@@ -1,13 +1,14 @@
 -- Laws of the tables: what was settled stays, words follow words, and what is ready stays ready.
 use mathlib.Core.Path.{_≡_, refl, ap, ap₂, sym, subst, _∙_}
-use mathlib.Core.List.{List, [], _∷_, _++_, append-assoc, append-nil}
+use mathlib.Core.List.{List, [], _∷_, _++_}
 use Prim.Native.Nat.{ℕ, zero, suc, _+_, _*_, _≤_, _<_}
 use native.Mathlib.Omega.{arith}
 use native.Mathlib.Numerals.{add-one}
 use lib.Dec.{ltb}
 use borrow.Author.Tests.{ltb-true, ltb-false}
-use lib.ListN.{List·getD-append, length, getD, take, drop, set, length-append, length-drop, take-append-drop}
-use lib.Seq.{take-at, drop-append-add, drop-drop, getD-take, length-take-le, set-split, append-snoc, getD-append-seam}
+use lib.ListN.{List·getD-append, length, getD, take, drop, set, length-append, length-drop}
+use lib.Seq.{getD-take, length-take-le, set-split, append-snoc, getD-append-seam}
+use Rattle.core_term.specs.Node.{applicationCode}
 use Rattle.expansion.specs.Rules.{Rule}
 use Rattle.rule_cells.specs.Cells.{rulesAt}
 use Rattle.rule_cells.specs.CellLaws.{rulesAt-below}
@@ -15,38 +16,19 @@ use Rattle.recipe.specs.Tree.{elements}
 use Rattle.arena.specs.Arena.{treeAt}
 use Rattle.words.specs.ListLaws.{either}
 use Rattle.arena.specs.ArenaLaws.{take-less}
+use Rattle.forms.specs.QuoteLaws.{written-then}
 use Rattle.turns.specs.declared.answers.Reached.{Reached}
-use Rattle.turns.specs.Memory.{Tables, tables, macrosAt, stateAt, Put, moved, Moved, workNeed, coreNeed, variableNeed, macroNeed, Macros, Ready, Kept, HeaderMoved}
+use Rattle.turns.specs.Numbers.{moved}
+use Rattle.turns.specs.Memory.{Tables, tables, macrosAt, stateAt, Put, Moved, workNeed, coreNeed, variableNeed, macroNeed, Macros, Ready, Kept, HeaderMoved}
 
 -- ---- words one after another
 
-pub put-none : (at : ℕ) (core : List ℕ) → at ≤ length core → Put [] at core core at
-put-none at core h =
-    record {
-      until = omega arith;
-      table = sym (ap (λ l. l ++ drop at core) (append-nil (take at core)) ∙ take-append-drop at core);
-    }
-
 pub put-one : (at a : ℕ) (core : List ℕ) → at < length core → Put (a ∷ []) at core (set core at a) (at + 1)
-put-one at a core h = record { until = refl; table = set-split core at a h ∙ rw add-one (sym (append-snoc (take at core) a (drop (suc at) core))) }
+put-one at a core h = record { end = refl; words = set-split core at a h ∙ rw add-one (sym (append-snoc (take at core) a (drop (suc at) core))) }
 
 module _ {at p q : ℕ} {header words core core₁ core₂ : List ℕ} where
   pub put-after : Put header at core core₁ p → Put words p core₁ core₂ q → p ≤ length core → Put (header ++ words) at core core₂ q
-  put-after a b room =
-      let before : at ≤ length core = omega (arith, a .until) in
-      let front : length (take at core ++ header) ≡ p = omega (arith, length-append (take at core) header, length-take-le at core before, a .until) in
-      let long : q ≡ p + length words = b .until in
-      let taken : take p core₁ ≡ take at core ++ header = ap (take p) (a .table) ∙ take-at (take at core ++ header) (drop p core) p front in
-      let dropped : drop q core₁ ≡ drop q core =
-      ap (λ l. drop q l) (a .table)
-      ∙ ap (λ n. drop n (take at core ++ header ++ drop p core)) (long ∙ ap (λ n. n + length words) (sym front))
-      ∙ drop-append-add (take at core ++ header) (drop p core) (length words)
-      ∙ drop-drop (length words) p core
-      ∙ ap (λ n. drop n core) (sym long) in
-      record {
-        until = omega (arith, a .until, b .until, length-append header words);
-        table = b .table ∙ ap₂ (λ x y. x ++ words ++ y) taken dropped ∙ ap (λ l. l ++ drop q core) (append-assoc (take at core) header words);
-      }
+  put-after a b room = written-then at core header words core₁ core₂ p q room a b
 
 -- ---- the state depends on what is settled alone
 
@@ -114,9 +96,9 @@ module _ (fuel n m l : ℕ) (r q p : Reached) (a b d : Tables) where
 
 pub put-long : (words : List ℕ) (at : ℕ) (before after : List ℕ) (r : ℕ) → r ≤ length before → Put words at before after r → length after ≡ length before
 put-long words at before after r h p =
-    let e : length after ≡ length (take at before ++ words ++ drop r before) = ap length (p .table) in
-    let k : at ≤ length before = omega (arith, p .until) in
-    omega (arith, e, length-append (take at before ++ words) (drop r before), length-append (take at before) words, length-take-le at before k, length-drop r before, p .until)
+    let e : length after ≡ length (take at before ++ words ++ drop r before) = ap length (p .words) in
+    let k : at ≤ length before = omega (arith, p .end) in
+    omega (arith, e, length-append (take at before ++ words) (drop r before), length-append (take at before) words, length-take-le at before k, length-drop r before, p .end)
 
 module _ (r q : Reached) (work core core′ macros words : List ℕ) (m : Moved words r core core′ q) where
   pub state-moved : stateAt (tables work core macros) r ≡ stateAt (tables work core′ macros) q
@@ -132,7 +114,7 @@ kept-moved fuel n l r q work core core′ macros words x m less few =
     let sum-is : q .sum ≡ r .sum = ap (λ (z : Reached). z .sum) (m .is) in
     let variables-are : q .variables ≡ r .variables = ap (λ (z : Reached). z .variables) (m .is) in
     let macros-are : q .macros ≡ r .macros = ap (λ (z : Reached). z .macros) (m .is) in
-    let at-is : q .at ≡ r .at + length words = m .put .until in
+    let at-is : q .at ≡ r .at + length words = m .put .end in
     record {
       work-long = refl;
       core-long = put-long words (r .at) core core′ (q .at) (omega (arith, x .core-room)) (m .put);
@@ -151,12 +133,16 @@ kept-moved fuel n l r q work core core′ macros words x m less few =
       macros-are = macros-kept r q (tables work core macros) (tables work core′ macros) (x .macros-are) (omega arith) macros-are refl refl;
     }
 
--- an application's header, by the count of its operands
-pub header-moved : (list code number n at : ℕ) (r : Reached) (work before after : List ℕ) → ((w : ℕ) → n ≡ length (elements (treeAt work list w)))
-    → Put (8 ∷ n ∷ code ∷ number ∷ []) (r .at) before after at → HeaderMoved list code number r work before after (moved at r)
+-- words that are written, and nothing else
+pub moved-by : (words : List ℕ) (r q : Reached) (before after : List ℕ) (at : ℕ) → q ≡ moved at r → Put words (r .at) before after at → Moved words r before after q
 unfolding moved
-header-moved list code number n at r work before after h p w =
-    record { is = refl; put = subst (λ (k : ℕ). Put (8 ∷ k ∷ code ∷ number ∷ []) (r .at) before after at) (h w) p }
+moved-by words r q before after at e p = subst (Moved words r before after) (sym e) (record { is = refl; put = p })
+
+-- an application's header, by the count of its operands
+pub header-moved : (list code number n at : ℕ) (r q : Reached) (work before after : List ℕ) → ((w : ℕ) → n ≡ length (elements (treeAt work list w)))
+    → q ≡ moved at r → Put (applicationCode ∷ n ∷ code ∷ number ∷ []) (r .at) before after at → HeaderMoved list code number r work before after q
+header-moved list code number n at r q work before after h e p w =
+    moved-by _ r q before after at e (subst (λ (k : ℕ). Put (applicationCode ∷ k ∷ code ∷ number ∷ []) (r .at) before after at) (h w) p)
 
 -- ---- the rules of one macro
 

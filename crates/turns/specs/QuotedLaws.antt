@@ -1,5 +1,5 @@
 -- Laws of a quote's turn: the words of its datum are the term's.
-use mathlib.Core.Path.{_≡_, refl, ap, sym, subst, _∙_}
+use mathlib.Core.Path.{_≡_, ap, sym, subst, _∙_}
 use mathlib.Core.Bool.{true, false}
 use mathlib.Core.List.{List}
 use Prim.Native.Nat.{ℕ, _+_, _*_, _^_, _≤_, _<_}
@@ -19,7 +19,8 @@ use Rattle.turns.specs.declared.answers.Reached.{Reached}
 use Rattle.turns.specs.declared.answers.Ended.{Ended}
 use Rattle.turns.specs.declared.answers.Ended.the-variants.{Done}
 use Rattle.turns.specs.Ends.{needs}
-use Rattle.turns.specs.Memory.{moved}
+use Rattle.turns.specs.Numbers.{moved}
+use Rattle.turns.specs.MemoryLaws.{moved-by}
 use Rattle.turns.specs.Leaves.{Refuses}
 use Rattle.turns.specs.LeafLaws.{refused-leaf}
 use Rattle.turns.specs.Scopes.{QuoteRoom, quoteEnd, QuoteLeft}
@@ -42,14 +43,14 @@ module _ (work core : List ℕ) (node : ℕ) (r : Reached) where
     pub quote-small : QuoteRoom work core node r → (at : ℕ) → at ≡ r .at + length (quotedAt work datum) → at < 2 ^ 32
     quote-small room at e = omega (arith, room .small, words-most 0)
 
-    pub quote-made : (at : ℕ) (core′ : List ℕ) → ((w : ℕ) → isListOf 2 (treeAt work node w) ≡ true) → Q.Written (quotedAt work datum) core core′ (r .at) at → QuoteLeft work node r core core′ (Done (moved at r))
-    unfolding quoteEnd needs moved encode
-    quote-made at core′ shape x w =
+    pub quote-made : (at : ℕ) (core′ : List ℕ) → ((w : ℕ) → isListOf 2 (treeAt work node w) ≡ true) → Q.Written (quotedAt work datum) core core′ (r .at) at → (q : Reached) → q ≡ moved at r → QuoteLeft work node r core core′ (Done q)
+    unfolding quoteEnd needs encode
+    quote-made at core′ shape x q q-is w =
         let e : quotedAt work datum ≡ datumWords (strip (element 1 (treeAt work node w))) =
         sym (quoted-any work datum w) ∙ ap (λ (t : Tree). datumWords (strip t)) (datum-is .is w) in
         record {
           term = datumC (strip (element 1 (treeAt work node w)));
           is = λ s. rw (shape w);
           short = subst (λ (l : List ℕ). length l ≤ 2 * size (treeAt work node w)) e (words-most w);
-          moves = record { is = refl; put = rw (sym e) (record { until = x .end; table = x .words }) };
+          moves = moved-by _ r q core core′ at q-is (rw (sym e) x);
         }

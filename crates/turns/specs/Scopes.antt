@@ -4,8 +4,10 @@ use mathlib.Core.Bool.{true, false}
 use mathlib.Core.List.{List, [], _∷_}
 use Prim.Native.Nat.{ℕ, _+_, _*_, _≤_}
 use lib.ListN.{length, take}
+use Rattle.words.specs.Limits.{coreRate}
 use Rattle.recipe.specs.Name.{variable, Name, distinct}
 use Rattle.recipe.specs.Tree.{Tree, size, strip, isListOf, element, bindAll}
+use Rattle.core_term.specs.Node.{ifCode, lambdaCode}
 use Rattle.core_term.specs.Term.{Term, datumC}
 use Rattle.expansion.specs.Computation.{State}
 use Rattle.expansion.specs.Forms.{isLambda, formals}
@@ -15,6 +17,7 @@ use Rattle.turns.specs.declared.answers.Ended.{Ended}
 use Rattle.turns.specs.declared.answers.Turn.{Turn}
 use Rattle.turns.specs.declared.answers.Turn.the-variants.{Again, Operands, Over}
 use Rattle.turns.specs.Ends.{End, finished, stopped, needs}
+use Rattle.turns.specs.Numbers.{widened}
 use Rattle.turns.specs.Memory.{itemRate, numberMost, Put, Moved, Proper, Placed}
 use Rattle.turns.specs.Leaves.{Refuses, Leaf}
 
@@ -23,8 +26,8 @@ pub record Roomy (work core : List ℕ) (node w : ℕ) (r : Reached) : Type 0 wh
   pub placed : Placed work (r .top) node w
   pub fits : r .top + itemRate * size (treeAt work node w) ≤ length work
   pub small : r .top + itemRate * size (treeAt work node w) ≤ numberMost
-  pub core-fits : r .at + 2 * size (treeAt work node w) ≤ length core
-  pub core-small : r .at + 2 * size (treeAt work node w) ≤ numberMost
+  pub core-fits : r .at + coreRate * size (treeAt work node w) ≤ length core
+  pub core-small : r .at + coreRate * size (treeAt work node w) ≤ numberMost
   pub few : r .variables + size (treeAt work node w) ≤ numberMost
 
 -- ---- quote
@@ -32,8 +35,8 @@ pub record Roomy (work core : List ℕ) (node w : ℕ) (r : Reached) : Type 0 wh
 -- data without what waits on them, and room for their words
 pub record QuoteRoom (work core : List ℕ) (node : ℕ) (r : Reached) : Type 0 where
   pub proper : Proper (treeAt work node 0)
-  pub fits : r .at + 2 * size (treeAt work node 0) ≤ length core
-  pub small : r .at + 2 * size (treeAt work node 0) ≤ numberMost
+  pub fits : r .at + coreRate * size (treeAt work node 0) ≤ length core
+  pub small : r .at + coreRate * size (treeAt work node 0) ≤ numberMost
 
 unfoldable pub quoteEnd : Tree → State → End (Term Name)
 quoteEnd t s = needs 13 (isListOf 2 t) s (finished (datumC (strip (element 1 t))) s)
@@ -45,14 +48,10 @@ QuoteLeft work node r core core′ a = (w : ℕ) → Leaf (quoteEnd (treeAt work
 
 abbrev pub IfLeft : (work : List ℕ) (node tail w : ℕ) (r : Reached) (core core′ : List ℕ) → Turn → Type 0
 IfLeft work node tail w r core core′ (Again n v q) = ⊥
-IfLeft work node tail w r core core′ (Operands l v q) = (l ≡ tail) × (v ≡ w) × ((u : ℕ) → isListOf 4 (treeAt work node u) ≡ true) × Moved (6 ∷ []) r core core′ q
+IfLeft work node tail w r core core′ (Operands l v q) = (l ≡ tail) × (v ≡ w) × ((u : ℕ) → isListOf 4 (treeAt work node u) ≡ true) × Moved (ifCode ∷ []) r core core′ q
 IfLeft work node tail w r core core′ (Over a) = ((u : ℕ) → isListOf 4 (treeAt work node u) ≡ false) × Refuses 13 r a
 
 -- ---- lambda
-
--- n new variables, whose binders end at `top`, and words up to `at`
-unfoldable pub widened : (top at n : ℕ) → Reached → Reached
-widened top at n r = record { top = top; at = at; steps = r .steps; sum = r .sum; variables = r .variables + n; macros = r .macros }
 
 -- the lambda's names are bound in its body
 pub record Bound (tree : Tree) (r : Reached) (work work′ core core′ : List ℕ) (node w : ℕ) (q : Reached) : Type 0 where
@@ -60,7 +59,7 @@ pub record Bound (tree : Tree) (r : Reached) (work work′ core core′ : List �
   pub body-below : node ≤ r .top
   pub wrap-below : w ≤ q .top
   pub numbers : q ≡ widened (r .top + itemRate * length (formals tree)) (q .at) (length (formals tree)) r
-  pub put : Put (7 ∷ r .variables ∷ length (formals tree) ∷ []) (r .at) core core′ (q .at)
+  pub put : Put (lambdaCode ∷ r .variables ∷ length (formals tree) ∷ []) (r .at) core core′ (q .at)
   pub kept : take (r .top) work′ ≡ take (r .top) work
 
 abbrev pub BoundLeft : (tree : Tree) (r : Reached) (work work′ core core′ : List ℕ) → Turn → Type 0

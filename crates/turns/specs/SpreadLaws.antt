@@ -13,7 +13,7 @@ use Rattle.recipe.specs.Name.{Name}
 use Rattle.recipe.specs.Tree.{Tree, empty, constant, name, pair, size, isList, isListOf, elements, element}
 use Rattle.recipe.specs.TreeLaws.{size-positive}
 use Rattle.core_term.specs.Term.{Term, variableC, ifC, applicationC, Terms, noneC, moreC, count}
-use Rattle.core_term.specs.Node.{nodeWords}
+use Rattle.core_term.specs.Node.{nodeWords, ifCode, applicationCode}
 use Rattle.core_term.specs.Words.{encode, encodeAll}
 use Rattle.expansion.specs.Lookup.{form, if, lookup}
 use Rattle.expansion.specs.Computation.{State, M, give}
@@ -24,7 +24,8 @@ use Rattle.turns.specs.declared.answers.Ended.{Ended}
 use Rattle.turns.specs.declared.answers.Ended.the-variants.{Done, Refused}
 use Rattle.turns.specs.Ends.{End, finished, stopped, halted, endOf, then, needs}
 use Rattle.turns.specs.EndLaws.{expandAll-pair, if-end, operands-end, application-end}
-use Rattle.turns.specs.Memory.{Tables, tables, stateAt, Put, moved, Moved, coreNeed, Ready, Placed}
+use Rattle.turns.specs.Numbers.{moved}
+use Rattle.turns.specs.Memory.{Tables, tables, stateAt, Put, Moved, coreNeed, Ready, Placed}
 use Rattle.turns.specs.MemoryLaws.{put-after, kept-moved, state-moved}
 use Rattle.turns.specs.Turns.{Left, turnOf, operandsOf, Spreads}
 use Rattle.turns.specs.LeafLaws.{headed}
@@ -98,14 +99,14 @@ module _ (operations : List ℕ) (fuel : ℕ) (tree : Tree) (r q : Reached) (wor
         means = λ expand a last l.
             subst (λ (e : End (Term Name)). Left encode r core last e a) (sym (turn expand s))
             (left-after encodeAll encode g header r q core core′ last (operandsOf operations fuel expand (treeAt work list w) s) a (prefixed expand s) (m .put)
-            (omega (arith, m .put .until, ready .core-room))
+            (omega (arith, m .put .end, ready .core-room))
             (subst (λ (z : State). Left encodeAll q core′ last (operandsOf operations fuel expand (treeAt work list w) z) a) (sym same) l));
       }
 
 -- ---- an application whose head is a variable or an operation
 
 module _ (head : Term Name) (code number : ℕ) (words : encode head ≡ code ∷ number ∷ []) where
-  application-prefixed : (n : ℕ) (e : End (Terms Name)) → Counts n e → Prefixed encodeAll encode (applicationC head) (8 ∷ n ∷ code ∷ number ∷ []) e
+  application-prefixed : (n : ℕ) (e : End (Terms Name)) → Counts n e → Prefixed encodeAll encode (applicationC head) (applicationCode ∷ n ∷ code ∷ number ∷ []) e
   unfolding encode nodeWords
   application-prefixed n (finished v s) h = ap₂ (λ (k : ℕ) (l : List ℕ). 8 ∷ k ∷ (l ++ encodeAll v)) h words
   application-prefixed n (stopped k s) h = tt
@@ -113,12 +114,12 @@ module _ (head : Term Name) (code number : ℕ) (words : encode head ≡ code �
 
   module _ (operations : List ℕ) (fuel : ℕ) (x : Name) (t : Tree) (r q : Reached) (work core core′ macros : List ℕ) (list w : ℕ)
       (ready : Ready fuel (size (pair (name x) t)) r (tables work core macros)) (placed : Placed work (r .top) list w) (list-is : treeAt work list w ≡ t)
-      (m : Moved (8 ∷ length (elements t) ∷ code ∷ number ∷ []) r core core′ q)
+      (m : Moved (applicationCode ∷ length (elements t) ∷ code ∷ number ∷ []) r core core′ q)
       (turn : (expand : Tree → M (Term Name)) (s : State) → turnOf operations fuel expand (pair (name x) t) s ≡ endOf (expandOperands macrosMost operations fuel expand head t s)) where
     pub spread-named : Spreads operations fuel (pair (name x) t) r (tables work core macros) (tables work core′ macros) list w q
     unfolding size
     spread-named =
-        spread-by operations fuel (pair (name x) t) r q work core core′ macros (8 ∷ length (elements t) ∷ code ∷ number ∷ []) list w ready m placed (applicationC head)
+        spread-by operations fuel (pair (name x) t) r q work core core′ macros (applicationCode ∷ length (elements t) ∷ code ∷ number ∷ []) list w ready m placed (applicationC head)
         (rw list-is (omega arith))
         (rw list-is (omega (arith, size-positive t)))
         (λ expand s. rw list-is (turn expand s ∙ operands-end macrosMost operations fuel expand head t s))
@@ -130,7 +131,7 @@ unfoldable pub applicationOf : Terms Name → Term Name
 applicationOf noneC = variableC 0
 applicationOf (moreC a b) = applicationC a b
 
-applied-prefixed : (n : ℕ) (e : End (Terms Name)) → Counts (suc n) e → Prefixed encodeAll encode applicationOf (8 ∷ n ∷ []) e
+applied-prefixed : (n : ℕ) (e : End (Terms Name)) → Counts (suc n) e → Prefixed encodeAll encode applicationOf (applicationCode ∷ n ∷ []) e
 unfolding encode nodeWords applicationOf count
 applied-prefixed n (finished noneC s) h = absurd (omega arith)
 applied-prefixed n (finished (moreC a b) s) h = let k : count b ≡ n = omega arith in ap (λ (k : ℕ). 8 ∷ k ∷ (encode a ++ encodeAll b)) k
@@ -170,11 +171,11 @@ module _ (operations : List ℕ) (fuel : ℕ) where
 
   module _ (h t : Tree) (r q : Reached) (work core core′ macros : List ℕ) (list w : ℕ)
       (ready : Ready fuel (size (pair h t)) r (tables work core macros)) (placed : Placed work (r .top) list w) (list-is : treeAt work list w ≡ pair h t)
-      (m : Moved (8 ∷ length (elements t) ∷ []) r core core′ q) (unlike : (x : Name) → h ≡ name x → ⊥) where
+      (m : Moved (applicationCode ∷ length (elements t) ∷ []) r core core′ q) (unlike : (x : Name) → h ≡ name x → ⊥) where
     pub spread-other : Spreads operations fuel (pair h t) r (tables work core macros) (tables work core′ macros) list w q
     unfolding size elements
     spread-other =
-        spread-by operations fuel (pair h t) r q work core core′ macros (8 ∷ length (elements t) ∷ []) list w ready m placed applicationOf
+        spread-by operations fuel (pair h t) r q work core core′ macros (applicationCode ∷ length (elements t) ∷ []) list w ready m placed applicationOf
         (rw list-is (omega arith))
         (rw list-is (omega arith))
         (λ expand s. rw list-is (applied-turn h t unlike expand s))
@@ -188,7 +189,7 @@ ifOf (moreC a noneC) = variableC 0
 ifOf (moreC a (moreC b noneC)) = variableC 0
 ifOf (moreC a (moreC b (moreC c d))) = ifC a b c
 
-if-prefixed : (e : End (Terms Name)) → Counts 3 e → Prefixed encodeAll encode ifOf (6 ∷ []) e
+if-prefixed : (e : End (Terms Name)) → Counts 3 e → Prefixed encodeAll encode ifOf (ifCode ∷ []) e
 unfolding encode nodeWords ifOf count
 if-prefixed (finished noneC s) h = absurd (omega arith)
 if-prefixed (finished (moreC a noneC) s) h = absurd (omega arith)
@@ -277,7 +278,7 @@ listed n t e = eqb-true (length (elements t)) n (and-parts (isList t) (eqb (leng
 
 module _ (operations : List ℕ) (fuel : ℕ) (x : Name) (t : Tree) (r q : Reached) (work core core′ macros : List ℕ) (list w : ℕ)
     (ready : Ready fuel (size (pair (name x) t)) r (tables work core macros)) (placed : Placed work (r .top) list w) (list-is : treeAt work list w ≡ t)
-    (m : Moved (6 ∷ []) r core core′ q) (shape : isListOf 4 (pair (name x) t) ≡ true) (found : lookup operations x ≡ form if) where
+    (m : Moved (ifCode ∷ []) r core core′ q) (shape : isListOf 4 (pair (name x) t) ≡ true) (found : lookup operations x ≡ form if) where
   three : length (elements t) ≡ 3
   unfolding elements
   three = let e : suc (length (elements t)) ≡ 4 = listed 4 (pair (name x) t) shape in omega arith
@@ -292,7 +293,7 @@ module _ (operations : List ℕ) (fuel : ℕ) (x : Name) (t : Tree) (r q : Reach
   pub spread-if : Spreads operations fuel (pair (name x) t) r (tables work core macros) (tables work core′ macros) list w q
   unfolding size
   spread-if =
-      spread-by operations fuel (pair (name x) t) r q work core core′ macros (6 ∷ []) list w ready m placed ifOf
+      spread-by operations fuel (pair (name x) t) r q work core core′ macros (ifCode ∷ []) list w ready m placed ifOf
       (rw list-is (omega arith))
       (rw list-is (omega (arith, size-positive t)))
       (λ expand s. rw list-is (if-turn expand s))

@@ -28,10 +28,11 @@ use Rattle.steps.specs.declared.apply.Applied.{Applied}
 use Rattle.steps.specs.declared.apply.Applied.the-variants.{NoRule, Differ, Costly, Done}
 use Rattle.turns.specs.declared.answers.Reached.{Reached}
 use Rattle.turns.specs.declared.answers.Ended.{Ended}
+use Rattle.turns.specs.Numbers.{stepped}
 use Rattle.turns.specs.Memory.{macrosAt}
 use Rattle.turns.specs.MemoryLaws.{macrosAt-one, macrosAt-past}
 use Rattle.turns.specs.Leaves.{Refuses}
-use Rattle.turns.specs.Uses.{rulesWord, usedOf, outcomeOf, UseRoom, stepped, Used, Unused}
+use Rattle.turns.specs.Uses.{rulesWord, usedOf, outcomeOf, UseRoom, Used, Unused}
 
 -- ---- the rules of a macro
 
@@ -185,8 +186,8 @@ module _ (work macros : List ℕ) (fuel node w n : ℕ) (r : Reached) (room : Us
         affordable =
             subst (Within (fuel - r .sum)) (made .is) (within (fuel - r .sum) (usedOf tree r) (firstFit (getD (macrosAt work macros (r .macros)) n []) (usedOf tree r) .1))
 
-        pub use-paid : r .sum + cost < 2 ^ 32
-        use-paid = omega (arith, affordable, made .cost-is, room .spent, room .fuelled)
+        pub use-paid : (r .steps + 1 < 2 ^ 32) × (r .sum + cost < 2 ^ 32)
+        use-paid = (omega (arith, room .stepped, room .spent, room .fuelled), omega (arith, affordable, made .cost-is, room .spent, room .fuelled))
 
         pub use-marks-again : (Room last root 3) × (r .steps + 1 < stepLimit) × (0 ≤ root)
         use-marks-again = (
@@ -196,9 +197,8 @@ module _ (work macros : List ℕ) (fuel node w n : ℕ) (r : Reached) (room : Us
         )
 
         pub use-made : (final : List ℕ) (w′ : ℕ) → Wrapped (λ x. markName (r .steps + 1) (wrapAt last 0 x)) 3 last final root w′
-            → Used outcome fuel r work final root w′ (record { top = w′; at = r .at; steps = r .steps + 1; sum = r .sum + cost; variables = r .variables; macros = r .macros })
-        unfolding stepped
-        use-made final w′ x =
+            → (q : Reached) → q ≡ stepped w′ cost r → Used outcome fuel r work final root w′ q
+        use-made final w′ x q e =
             let one : r .steps + 1 ≡ suc (r .steps) = omega arith in
             record {
               tree = made .tree;
@@ -207,7 +207,7 @@ module _ (work macros : List ℕ) (fuel node w n : ℕ) (r : Reached) (room : Us
                   tree-mark last final root w′ root (omega arith) (x .kept) (r .steps + 1) 0 x
                   ∙ ap (mark (r .steps + 1)) (made .means) ∙ produce-mark (r .steps + 1) (made .tree) ∙ ap (λ (m : ℕ). produce (mark m (made .tree))) one;
               paid = affordable;
-              numbers = ap₂ (λ (s c : ℕ). record { top = w′; at = r .at; steps = s; sum = r .sum + c; variables = r .variables; macros = r .macros }) one (made .cost-is);
+              numbers = e ∙ ap (λ (c : ℕ). stepped w′ c r) (made .cost-is);
               node-below = omega (arith, x .end);
               up = omega (arith, x .end, made .above, wrapped .end);
               most = omega (arith, x .end, made .most, made .cost-is, wrapped .end);

@@ -32,10 +32,11 @@ use Rattle.turns.specs.declared.answers.Ended.the-variants.{Done, Refuse
 use Rattle.turns.specs.Ends.{End, finished, stopped, halted, endOf, needs, withStep}
 use Rattle.turns.specs.Ends as E
 use Rattle.turns.specs.EndLaws as L
+use Rattle.turns.specs.Numbers.{stepped}
 use Rattle.turns.specs.Memory.{Tables, tables, macrosAt, stateAt, Put, workNeed, coreNeed, variableNeed, macroNeed, Proper, Ready, Kept}
 use Rattle.turns.specs.MemoryLaws.{macrosAt-settled, macros-kept}
 use Rattle.turns.specs.Turns.{Left, turnOf, Ends, Follows}
-use Rattle.turns.specs.Uses.{usedOf, outcomeOf, stepped, Used, Unused}
+use Rattle.turns.specs.Uses.{usedOf, outcomeOf, Used, Unused}
 
 -- ---- the definition's step, by its outcome
 

@@ -5,6 +5,7 @@ use mathlib.Core.List.{List, []}
 use Prim.Native.Nat.{ℕ, suc, _+_, _*_, _-_, _≤_}
 use lib.Dec.{ltb}
 use lib.ListN.{length, getD, take}
+use Rattle.words.specs.Limits.{fuelMost}
 use Rattle.recipe.specs.Tree.{Tree, size, tail, mark, produce}
 use Rattle.expansion.specs.Rules.{Rule}
 use Rattle.expansion.specs.Match.{firstFit}
@@ -14,6 +15,7 @@ use Rattle.turns.specs.declared.answers.Reached.{Reached}
 use Rattle.turns.specs.declared.answers.Ended.{Ended}
 use Rattle.turns.specs.declared.answers.Turn.{Turn}
 use Rattle.turns.specs.declared.answers.Turn.the-variants.{Again, Operands, Over}
+use Rattle.turns.specs.Numbers.{stepped}
 use Rattle.turns.specs.Memory.{tables, numberMost, Macros, Placed}
 use Rattle.turns.specs.Leaves.{Refuses}
 
@@ -31,17 +33,13 @@ outcomeOf rules n fuel t r = stepOf (fuel - r .sum) (usedOf t r) (firstFit (getD
 
 pub record UseRoom (work macros : List ℕ) (fuel node w : ℕ) (r : Reached) : Type 0 where
   pub placed : Placed work (r .top) node w
-  pub fuelled : fuel ≤ 8192
+  pub fuelled : fuel ≤ fuelMost
   pub spent : r .sum ≤ fuel
   pub stepped : r .steps ≤ r .sum
   pub fits : r .top + 6 + 6 * (fuel - r .sum) ≤ length work
   pub small : r .top + 6 + 6 * (fuel - r .sum) ≤ numberMost
   pub counted : r .macros ≤ length macros
   pub macros-are : Macros r (tables work [] macros)
-
--- a step that costs n, whose cells end at `top`
-unfoldable pub stepped : (top n : ℕ) → Reached → Reached
-stepped top n r = record { top = top; at = r .at; steps = suc (r .steps); sum = r .sum + n; variables = r .variables; macros = r .macros }
 
 pub record Used (o : Outcome) (fuel : ℕ) (r : Reached) (work work′ : List ℕ) (node w : ℕ) (q : Reached) : Type 0 where
   pub tree : Tree

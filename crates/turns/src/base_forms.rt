@@ -12,6 +12,7 @@ use crate::answers::Turn;
 use crate::leaf;
 use crate::output;
 use arena::lists;
+use core_term::codes;
 use forms::binders;
 use forms::quotes;
 use forms::shapes;
@@ -26,14 +27,7 @@ pub fn quoted(work: &[u32], core: &mut [u32], node: u32, reached: Reached) -> En
     }
     let datum = lists::element(work, node, 1);
     let at = quotes::quote(work, datum, core, reached.at as usize);
-    Ended::Done(Reached {
-        top: reached.top,
-        at: at as u32,
-        steps: reached.steps,
-        sum: reached.sum,
-        variables: reached.variables,
-        macros: reached.macros,
-    })
+    Ended::Done(reached.moved(at as u32))
 }
 
 // (if a b c): its word, then three operands.
@@ -55,13 +49,7 @@ pub fn condition(
 }
 
 // A lambda's binders and words, past its tests: its body stands for it.
-pub fn lambda_body(
-    work: &mut [u32],
-    core: &mut [u32],
-    node: u32,
-    wrap: u32,
-    reached: Reached,
-) -> Turn
+fn lambda_body(work: &mut [u32], core: &mut [u32], node: u32, wrap: u32, reached: Reached) -> Turn
     requires { ⌜ (Roomy (now work) (now core) node wrap reached) × (isLambda (treeAt (now work) node wrap) ≡ true) ⌝ }
     ensures { λ r. ⌜ BoundLeft (treeAt (now (work .entry)) node wrap) reached (now (work .entry)) (now (work .exit)) (now (core .entry)) (now (core .exit)) r ⌝ }
 {
@@ -69,19 +57,8 @@ pub fn lambda_body(
     let count = lists::count(work, lists::element(work, node, 1));
     let body = lists::element(work, node, 2);
     let scope = binders::bind_formals(work, node, wrap, first, reached.top);
-    let at = output::put_three(core, reached.at, 7, first, count);
-    Turn::Again(
-        body,
-        scope.wrap,
-        Reached {
-            top: scope.top,
-            at: at,
-            steps: reached.steps,
-            sum: reached.sum,
-            variables: first + count,
-            macros: reached.macros,
-        },
-    )
+    let at = output::put_three(core, reached.at, codes::LAMBDA, first, count);
+    Turn::Again(body, scope.wrap, reached.widened(scope.top, at, count))
 }
 
 // (lambda (name ...) body)

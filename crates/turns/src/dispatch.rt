@@ -16,12 +16,13 @@ use crate::uses;
 use arena::lists;
 use arena::nodes;
 use arena::nodes::Node;
+use core_term::codes;
 use resolution::names;
 use resolution::names::Looked;
 use resolution::names::Meaning;
 
 // A list whose head finds base form k.
-pub fn form(
+fn form(
     work: &mut [u32],
     core: &mut [u32],
     known: &mut [u32],
@@ -34,26 +35,26 @@ pub fn form(
     requires { ⌜ (FormHead (now work) node tail wrap k) × (FormRoom (now work) (now core) (now known) node wrap reached) ⌝ }
     ensures { λ r. ⌜ Turns (treeAt (now (work .entry)) node wrap) reached (tables (now (work .entry)) (now (core .entry)) (now (known .entry))) (tables (now (work .exit)) (now (core .exit)) (now (known .exit))) r ⌝ }
 {
-    if k == 0 {
+    if k == names::QUOTE {
         return Turn::Over(base_forms::quoted(work, core, node, reached));
     }
-    if k == 1 {
+    if k == names::IF {
         return base_forms::condition(work, core, node, tail, wrap, reached);
     }
-    if k == 2 {
+    if k == names::LAMBDA {
         return base_forms::lambda(work, core, node, wrap, reached);
     }
-    if k == 3 {
+    if k == names::LET_SYNTAX {
         return macros::let_syntax(work, known, node, wrap, false, reached);
     }
-    if k == 4 {
+    if k == names::LETREC_SYNTAX {
         return macros::let_syntax(work, known, node, wrap, true, reached);
     }
     Turn::Over(leaf::refuse(12, reached))
 }
 
 // A list whose head is a name.
-pub fn named(
+fn named(
     work: &mut [u32],
     core: &mut [u32],
     known: &mut [u32],
@@ -76,14 +77,14 @@ pub fn named(
             Turn::Operands(
                 tail,
                 wrap,
-                output::put_application(work, core, tail, 0, v, reached),
+                output::put_application(work, core, tail, codes::VARIABLE, v, reached),
             )
         }
         Meaning::Operation(p) => {
             Turn::Operands(
                 tail,
                 wrap,
-                output::put_application(work, core, tail, 1, p, reached),
+                output::put_application(work, core, tail, codes::OPERATION, p, reached),
             )
         }
         Meaning::Macro(n) => uses::macro_use(work, known, fuel, node, wrap, n, reached),
@@ -92,7 +93,7 @@ pub fn named(
 }
 
 // An application whose head is no name: its header, and the head is the first of what is left.
-pub fn applied(
+fn applied(
     work: &[u32],
     core: &mut [u32],
     node: u32,
@@ -104,11 +105,15 @@ pub fn applied(
     ensures { λ r. ⌜ Applies (now (work .entry)) node tail wrap reached (now (core .entry)) (now (core .exit)) r ⌝ }
 {
     let count = lists::count(work, tail);
-    Turn::Operands(node, wrap, output::put_node(core, reached, 8, count))
+    Turn::Operands(
+        node,
+        wrap,
+        output::put_node(core, reached, codes::APPLICATION, count),
+    )
 }
 
 // A list goes by its head: a name, or an expression that is applied.
-pub fn list(
+fn list(
     work: &mut [u32],
     core: &mut [u32],
     known: &mut [u32],

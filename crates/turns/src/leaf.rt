@@ -8,6 +8,7 @@ ghost use Rattle.turns.specs.Leaves.{Refuses, Leaf, nameEnd, ConstantLef
 use crate::answers::Ended;
 use crate::answers::Reached;
 use crate::output;
+use core_term::codes;
 use resolution::names;
 use resolution::names::Looked;
 use resolution::names::Meaning;
@@ -47,8 +48,8 @@ pub fn bare_name(
         return refuse(11, reached);
     };
     match found {
-        Meaning::Variable(v) => Ended::Done(output::put_node(core, reached, 0, v)),
-        Meaning::Operation(p) => Ended::Done(output::put_node(core, reached, 1, p)),
+        Meaning::Variable(v) => Ended::Done(output::put_node(core, reached, codes::VARIABLE, v)),
+        Meaning::Operation(p) => Ended::Done(output::put_node(core, reached, codes::OPERATION, p)),
         Meaning::Macro(m) => refuse(12, reached),
         Meaning::Form(k) => refuse(12, reached),
     }

@@ -2,6 +2,7 @@
 
 ghost use mathlib.Core.Path.{_≡_};
 ghost use mathlib.Core.Bool.{true, cond};
+ghost use Rattle.words.specs.Limits.{macrosMost};
 ghost use Rattle.expansion.specs.Forms.{isMacros};
 ghost use Rattle.arena.specs.Arena.{treeAt};
 ghost use Rattle.turns.specs.MacroRules.{OneAsk, OneLeft, AllAsk, AllLeft};
@@ -15,9 +16,6 @@ use forms::binders;
 use forms::shapes;
 use rule_cells::rules;
 use words::packed;
-
-// The most macros of one form.
-pub const MACROS_MOST: u32 = 16;
 
 // The new top, or rules that break their rules.
 pub enum Read {
@@ -46,24 +44,17 @@ pub fn one_macro(
 }
 
 // The rules of each (name rules) of a list, as macros from `count` on.
-pub fn all_macros(
-    work: &mut [u32],
-    macros: &mut [u32],
-    list: u32,
-    w: u32,
-    count: u32,
-    top: u32,
-) -> Read
+fn all_macros(work: &mut [u32], macros: &mut [u32], list: u32, w: u32, count: u32, top: u32) -> Read
     requires { ⌜ AllAsk (now work) (now macros) list w count top ⌝ }
     ensures { λ r. ⌜ AllLeft (treeAt (now (work .entry)) list w) (now (work .entry)) (now (work .exit)) (now (macros .entry)) (now (macros .exit)) count top r ⌝ }
 {
     let mut at = list;
     let mut n = count;
     let mut end = top;
-    while cells::word(work, at, 3) == cells::PAIR {
-        let entry = cells::reference(work, at, 2);
+    while cells::word(work, at, cells::KIND) == cells::PAIR {
+        let entry = cells::reference(work, at, cells::HEAD);
         let form = lists::element(work, entry, 1);
-        at = cells::reference(work, at, 1);
+        at = cells::reference(work, at, cells::TAIL);
         let Read::Good(upper) = one_macro(work, macros, form, w, n, end) else {
             return Read::Bad;
         };
@@ -74,7 +65,7 @@ pub fn all_macros(
 }
 
 // The wrap of a form's rules: that of its scope, or the one round the form.
-pub fn rules_wrap(inside: bool, scope: u32, outer: u32) -> u32
+fn rules_wrap(inside: bool, scope: u32, outer: u32) -> u32
     ensures { λ r. ⌜ r ≡ cond inside scope outer ⌝ }
 {
     if inside {
@@ -84,7 +75,7 @@ pub fn rules_wrap(inside: bool, scope: u32, outer: u32) -> u32
 }
 
 // A form's macros, past its tests: its body stands for it.
-pub fn macros_body(
+fn macros_body(
     work: &mut [u32],
     macros: &mut [u32],
     node: u32,
@@ -92,7 +83,7 @@ pub fn macros_body(
     inside: bool,
     reached: Reached,
 ) -> Turn
-    requires { ⌜ (MacroRoom (now work) (now macros) node wrap reached) × (isMacros 16 (treeAt (now work) node wrap) ≡ true) ⌝ }
+    requires { ⌜ (MacroRoom (now work) (now macros) node wrap reached) × (isMacros macrosMost (treeAt (now work) node wrap) ≡ true) ⌝ }
     ensures { λ r. ⌜ KnownLeft (treeAt (now (work .entry)) node wrap) inside reached (now (work .entry)) (now (work .exit)) (now (macros .entry)) (now (macros .exit)) r ⌝ }
 {
     let first = reached.macros;
@@ -104,18 +95,7 @@ pub fn macros_body(
     let Read::Good(top) = all_macros(work, macros, list, w, first, scope.top) else {
         return Turn::Over(leaf::refuse(15, reached));
     };
-    Turn::Again(
-        body,
-        scope.wrap,
-        Reached {
-            top: top,
-            at: reached.at,
-            steps: reached.steps,
-            sum: reached.sum,
-            variables: reached.variables,
-            macros: first + count,
-        },
-    )
+    Turn::Again(body, scope.wrap, reached.grown(top, count))
 }
 
 // (let-syntax ((name rules) ...) body), and letrec-syntax, whose rules stand inside the scope
@@ -130,7 +110,7 @@ pub fn let_syntax(
     requires { ⌜ MacroRoom (now work) (now macros) node wrap reached ⌝ }
     ensures { λ r. ⌜ MacrosLeft (treeAt (now (work .entry)) node wrap) inside reached (now (work .entry)) (now (work .exit)) (now (macros .entry)) (now (macros .exit)) r ⌝ }
 {
-    if !shapes::is_macros(work, node, MACROS_MOST) {
+    if !shapes::is_macros(work, node, words::MACROS) {
         return Turn::Over(leaf::refuse(13, reached));
     }
     if !binders::keywords_distinct(work, node, wrap) {

@@ -1,11 +1,13 @@
 // Core words, written one after another.
 
 ghost use mathlib.Core.List.{[], _∷_};
+ghost use Rattle.core_term.specs.Node.{ifCode};
 ghost use Rattle.turns.specs.Memory.{CoreRoom, Put, Moved, HeaderMoved};
 use crate::answers::Reached;
 use arena::lists;
+use core_term::codes;
 
-pub fn put_word(core: &mut [u32], at: u32, a: u32) -> u32
+fn put_word(core: &mut [u32], at: u32, a: u32) -> u32
     requires { ⌜ CoreRoom (now core) at 1 ⌝ }
     ensures { λ r. ⌜ Put (a ∷ []) at (now (core .entry)) (now (core .exit)) r ⌝ }
 {
@@ -13,7 +15,7 @@ pub fn put_word(core: &mut [u32], at: u32, a: u32) -> u32
     at + 1
 }
 
-pub fn put_two(core: &mut [u32], at: u32, a: u32, b: u32) -> u32
+fn put_two(core: &mut [u32], at: u32, a: u32, b: u32) -> u32
     requires { ⌜ CoreRoom (now core) at 2 ⌝ }
     ensures { λ r. ⌜ Put (a ∷ b ∷ []) at (now (core .entry)) (now (core .exit)) r ⌝ }
 {
@@ -29,7 +31,7 @@ pub fn put_three(core: &mut [u32], at: u32, a: u32, b: u32, c: u32) -> u32
     put_two(core, next, b, c)
 }
 
-pub fn put_four(core: &mut [u32], at: u32, a: u32, b: u32, c: u32, d: u32) -> u32
+fn put_four(core: &mut [u32], at: u32, a: u32, b: u32, c: u32, d: u32) -> u32
     requires { ⌜ CoreRoom (now core) at 4 ⌝ }
     ensures { λ r. ⌜ Put (a ∷ b ∷ c ∷ d ∷ []) at (now (core .entry)) (now (core .exit)) r ⌝ }
 {
@@ -43,18 +45,10 @@ pub fn put_node(core: &mut [u32], reached: Reached, a: u32, b: u32) -> Reached
     ensures { λ r. ⌜ Moved (a ∷ b ∷ []) reached (now (core .entry)) (now (core .exit)) r ⌝ }
 {
     let at = put_two(core, reached.at, a, b);
-    Reached {
-        top: reached.top,
-        at: at,
-        steps: reached.steps,
-        sum: reached.sum,
-        variables: reached.variables,
-        macros: reached.macros,
-    }
+    reached.moved(at)
 }
 
-// The header of an application with a named head, which is a variable (code 0) or an operation (code 1): how many operands,
-// and the head.
+// The header of an application with a named head, which is a variable or an operation: how many operands, and the head.
 pub fn put_application(
     work: &[u32],
     core: &mut [u32],
@@ -67,29 +61,15 @@ pub fn put_application(
     ensures { λ r. ⌜ HeaderMoved list code number reached (now (work .entry)) (now (core .entry)) (now (core .exit)) r ⌝ }
 {
     let count = lists::count(work, list);
-    let at = put_four(core, reached.at, 8, count, code, number);
-    Reached {
-        top: reached.top,
-        at: at,
-        steps: reached.steps,
-        sum: reached.sum,
-        variables: reached.variables,
-        macros: reached.macros,
-    }
+    let at = put_four(core, reached.at, codes::APPLICATION, count, code, number);
+    reached.moved(at)
 }
 
 // The word of an if.
 pub fn put_if(core: &mut [u32], reached: Reached) -> Reached
     requires { ⌜ CoreRoom (now core) (reached .at) 1 ⌝ }
-    ensures { λ r. ⌜ Moved (6 ∷ []) reached (now (core .entry)) (now (core .exit)) r ⌝ }
+    ensures { λ r. ⌜ Moved (ifCode ∷ []) reached (now (core .entry)) (now (core .exit)) r ⌝ }
 {
-    let at = put_word(core, reached.at, 6);
-    Reached {
-        top: reached.top,
-        at: at,
-        steps: reached.steps,
-        sum: reached.sum,
-        variables: reached.variables,
-        macros: reached.macros,
-    }
+    let at = put_word(core, reached.at, codes::IF);
+    reached.moved(at)
 }

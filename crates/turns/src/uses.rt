@@ -15,7 +15,7 @@ use steps::apply;
 use steps::apply::Applied;
 
 // The rules of macro n, of `count` so far; none past them.
-pub fn rules_of(macros: &[u32], count: u32, n: u32) -> u32
+fn rules_of(macros: &[u32], count: u32, n: u32) -> u32
     requires { ⌜ count ≤ length (now macros) ⌝ }
     ensures { λ r. ⌜ r ≡ rulesWord (now (macros .entry)) count n ⌝ }
 {
@@ -49,18 +49,7 @@ pub fn macro_use(
         Applied::Costly => Turn::Over(leaf::refuse(18, reached)),
         Applied::Done(root, cost) => {
             let result = cells::put_mark(work, root, m, 0);
-            Turn::Again(
-                root,
-                result,
-                Reached {
-                    top: result,
-                    at: reached.at,
-                    steps: m,
-                    sum: reached.sum + cost,
-                    variables: reached.variables,
-                    macros: reached.macros,
-                },
-            )
+            Turn::Again(root, result, reached.stepped(result, cost))
         }
     }
 }

@@ -2,7 +2,6 @@
 use borrow.Author.Needs.{needs}
 use Rattle.expander.proofs.start.run.Statement.{statement}
 use Rattle.expander.proofs.start.run.Tie as tie
-use Rattle.expander.specs.Start.{atStart}
 use Rattle.expander.specs.StartLaws.{start-fits, start-lending, start-placed, start-ready, start-expanded}
 
 lay-out-requires : tie.Need-lay-out-requires
@@ -13,26 +12,26 @@ lay-out-requires c κs =
     (l .begun .layout, start-fits (a .items .now) (a .work .now) (a .core .now) (a .operations .now) (a .fuel) l)
 
 expression-requires : tie.Need-expression-requires
-unfolding atStart
 expression-requires c κs =
-    let entry = c .before .before .before .before .before .before .before .before .before .before .before .before .before .before in
+    let entry = c .before .before .before .before .before .before .before .before .before .before .before .before .before .before .before in
     let a = entry .args in
     let l = entry .pre .0 in
-    let laid = c .before .before .before .before .before .before .before .lay-out in
-    let second = c .before .before .before .element .ensures in (
+    let laid = c .before .before .before .before .before .before .before .before .lay-out in
+    let second = c .before .before .before .before .element .ensures in
+    let from-is = c .before .before .before .start .ensures in (
       start-lending (a .items .now) (a .work .now) (a .core .now) (a .operations .now) (a .fuel) l,
-      start-placed (a .items .now) (a .work .now) (a .core .now) (a .operations .now) (a .fuel) l _ _ _ (laid .ensures) second,
-      start-ready (a .items .now) (a .work .now) (a .core .now) (a .operations .now) (a .fuel) l _ _ _ (laid .ensures) second _ (laid .kept .1 .0) (entry .pre .1),
+      start-placed (a .items .now) (a .work .now) (a .core .now) (a .operations .now) (a .fuel) l _ _ _ (laid .ensures) second _ from-is,
+      start-ready (a .items .now) (a .work .now) (a .core .now) (a .operations .now) (a .fuel) l _ _ _ (laid .ensures) second _ from-is _ (laid .kept .1 .0) (entry .pre .1),
     )
 
 returns : tie.Need-returns
-unfolding atStart
 returns c =
-    let entry = c .before .before .before .before .before .before .before .before .before .before .before .before .before .before .before .before .before .before .before .before .before in
+    let entry = c .before .before .before .before .before .before .before .before .before .before .before .before .before .before .before .before .before .before .before .before .before .before in
     let a = entry .args in
-    let laid = c .before .before .before .before .before .before .before .before .before .before .before .before .before .before .lay-out .ensures in
-    let second = c .before .before .before .before .before .before .before .before .before .before .element .ensures in
-    start-expanded (a .items .now) (a .work .now) (a .core .now) (a .operations .now) (a .fuel) (entry .pre .0) _ _ _ laid second _ _ _ (c .before .before .before .before .before .before .expression .ensures)
+    let laid = c .before .before .before .before .before .before .before .before .before .before .before .before .before .before .before .lay-out .ensures in
+    let second = c .before .before .before .before .before .before .before .before .before .before .before .element .ensures in
+    let from-is = c .before .before .before .before .before .before .before .before .before .before .start .ensures in
+    start-expanded (a .items .now) (a .work .now) (a .core .now) (a .operations .now) (a .fuel) (entry .pre .0) _ _ _ laid second _ from-is _ _ _ (c .before .before .before .before .before .before .expression .ensures)
 
 pub run-spec : {M : Type 1} → statement M
 run-spec =
@@ -40,6 +39,7 @@ run-spec =
     (tie.spec
     lay-out-requires
     (λ c κs. search needs)  -- element-requires
+    (λ c κs. search needs)  -- start-requires
     expression-requires
     (λ c. search needs)  -- same-length
     (λ c. search needs)  -- same-length-2

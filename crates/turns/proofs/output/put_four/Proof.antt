@@ -23,7 +23,7 @@ same-length c =
 -- src/output.rt:30:1
 returns : tie.Need-returns
 returns c =
-    put-after (c .before .before .before .before .before .before .put-two .ensures) (c .before .before .put-two2 .ensures) (omega (arith, c .before .before .before .before .before .before .before .before .before .pre .fits, c .before .before .before .before .before .before .put-two .ensures .until))
+    put-after (c .before .before .before .before .before .before .put-two .ensures) (c .before .before .put-two2 .ensures) (omega (arith, c .before .before .before .before .before .before .before .before .before .pre .fits, c .before .before .before .before .before .before .put-two .ensures .end))
 
 pub put-four-spec : {M : Type 1} → statement M
 put-four-spec = tie.close (tie.spec put-two-requires put-two-requires-2 same-length returns)

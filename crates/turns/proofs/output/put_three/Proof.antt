@@ -23,7 +23,7 @@ same-length c =
 -- src/output.rt:22:1
 returns : tie.Need-returns
 returns c =
-    put-after (c .before .before .before .before .before .before .put-word .ensures) (c .before .before .put-two .ensures) (omega (arith, c .before .before .before .before .before .before .before .before .before .pre .fits, c .before .before .before .before .before .before .put-word .ensures .until))
+    put-after (c .before .before .before .before .before .before .put-word .ensures) (c .before .before .put-two .ensures) (omega (arith, c .before .before .before .before .before .before .before .before .before .pre .fits, c .before .before .before .before .before .before .put-word .ensures .end))
 
 pub put-three-spec : {M : Type 1} → statement M
 put-three-spec = tie.close (tie.spec put-word-requires put-two-requires same-length returns)

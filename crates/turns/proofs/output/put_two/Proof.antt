@@ -23,7 +23,7 @@ same-length c =
 -- src/output.rt:14:1
 returns : tie.Need-returns
 returns c =
-    put-after (c .before .before .before .before .before .before .put-word .ensures) (c .before .before .put-word2 .ensures) (omega (arith, c .before .before .before .before .before .before .before .before .before .pre .fits, c .before .before .before .before .before .before .put-word .ensures .until))
+    put-after (c .before .before .before .before .before .before .put-word .ensures) (c .before .before .put-word2 .ensures) (omega (arith, c .before .before .before .before .before .before .before .before .before .pre .fits, c .before .before .before .before .before .before .put-word .ensures .end))
 
 pub put-two-spec : {M : Type 1} → statement M
 put-two-spec = tie.close (tie.spec put-word-requires put-word-requires-2 same-length returns)

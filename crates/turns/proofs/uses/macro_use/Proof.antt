@@ -6,35 +6,61 @@ use Rattle.turns.specs.UseLaws.{use-marks, use-stepping, use-no-rule, us
 
 put-mark-requires : tie.Need-put-mark-requires
 put-mark-requires c κs =
-    let a = c .before .before .before .before .before .before .before .before .args in use-marks (a .work .now) (a .macros .now) (a .fuel) (a .node) (a .wrap) (a .number) (a .reached) (c .before .before .before .before .before .before .before .before .pre)
+    let entry = c .before .before .before .before .before .before .before .before in
+    let a = entry .args in
+    use-marks (a .work .now) (a .macros .now) (a .fuel) (a .node) (a .wrap) (a .number) (a .reached) (entry .pre)
 
 apply-requires : tie.Need-apply-requires
 apply-requires c κs =
-    let a = c .before .before .before .before .before .before .before .before .before .before .before .before .args in use-stepping (a .work .now) (a .macros .now) (a .fuel) (a .node) (a .wrap) (a .number) (a .reached) (c .before .before .before .before .before .before .before .before .before .before .before .before .pre) _ _ _ _ (c .before .before .before .before .before .before .before .rules-of .ensures) (c .before .before .before .before .before .rest .ensures) (c .before .before .before .put-mark .ensures) (c .before .before .before .put-mark .kept .0)
+    let entry = c .before .before .before .before .before .before .before .before .before .before .before .before in
+    let a = entry .args in
+    let marked = c .before .before .before .put-mark in
+    use-stepping (a .work .now) (a .macros .now) (a .fuel) (a .node) (a .wrap) (a .number) (a .reached) (entry .pre) _ _ _ _ (c .before .before .before .before .before .before .before .rules-of .ensures) (c .before .before .before .before .before .rest .ensures) (marked .ensures) (marked .kept .0)
 
 put-mark-requires-2 : tie.Need-put-mark-requires-2
 put-mark-requires-2 c κs =
-    let a = c .before .before .before .before .before .before .before .before .before .before .before .before .before .before .before .before .before .before .before .args in use-marks-again (a .work .now) (a .macros .now) (a .fuel) (a .node) (a .wrap) (a .number) (a .reached) (c .before .before .before .before .before .before .before .before .before .before .before .before .before .before .before .before .before .before .before .pre) _ _ _ _ (c .before .before .before .before .before .before .before .before .before .before .before .before .before .before .rules-of .ensures) (c .before .before .before .before .before .before .before .before .before .before .before .before .rest .ensures) (c .before .before .before .before .before .before .before .before .before .before .put-mark .ensures) (c .before .before .before .before .before .before .before .before .before .before .put-mark .kept .0) _ _ (c .before .before .before .before .before .before .apply .ensures) _ _ (c .before .before .root .given .1) (c .before .before .before .before .before .before .apply .kept .0)
+    let entry = c .before .before .before .before .before .before .before .before .before .before .before .before .before .before .before .before .before .before .before in
+    let a = entry .args in
+    let marked = c .before .before .before .before .before .before .before .before .before .before .put-mark in
+    let made = c .before .before .before .before .before .before .apply in
+    use-marks-again (a .work .now) (a .macros .now) (a .fuel) (a .node) (a .wrap) (a .number) (a .reached) (entry .pre) _ _ _ _ (c .before .before .before .before .before .before .before .before .before .before .before .before .before .before .rules-of .ensures) (c .before .before .before .before .before .before .before .before .before .before .before .before .rest .ensures) (marked .ensures) (marked .kept .0) _ _ (made .ensures) _ _ (c .before .before .root .given .1) (made .kept .0)
 
-add-t29 : tie.Need-add-t29
-add-t29 c =
-    let a = c .before .before .before .before .before .before .before .before .before .before .before .before .before .before .before .before .before .before .before .before .before .before .before .args in record { fits = use-paid (a .work .now) (a .macros .now) (a .fuel) (a .node) (a .wrap) (a .number) (a .reached) (c .before .before .before .before .before .before .before .before .before .before .before .before .before .before .before .before .before .before .before .before .before .before .before .pre) _ _ _ _ (c .before .before .before .before .before .before .before .before .before .before .before .before .before .before .before .before .before .before .rules-of .ensures) (c .before .before .before .before .before .before .before .before .before .before .before .before .before .before .before .before .rest .ensures) (c .before .before .before .before .before .before .before .before .before .before .before .before .before .before .put-mark .ensures) (c .before .before .before .before .before .before .before .before .before .before .before .before .before .before .put-mark .kept .0) _ _ (c .before .before .before .before .before .before .before .before .before .before .apply .ensures) _ _ (c .before .before .before .before .before .before .root .given .1) (c .before .before .before .before .before .before .before .before .before .before .apply .kept .0) }
+stepped-requires : tie.Need-stepped-requires
+stepped-requires c κs =
+    let entry = c .before .before .before .before .before .before .before .before .before .before .before .before .before .before .before .before .before .before .before .before .before .before in
+    let a = entry .args in
+    let marked = c .before .before .before .before .before .before .before .before .before .before .before .before .before .put-mark in
+    let made = c .before .before .before .before .before .before .before .before .before .apply in
+    use-paid (a .work .now) (a .macros .now) (a .fuel) (a .node) (a .wrap) (a .number) (a .reached) (entry .pre) _ _ _ _ (c .before .before .before .before .before .before .before .before .before .before .before .before .before .before .before .before .before .rules-of .ensures) (c .before .before .before .before .before .before .before .before .before .before .before .before .before .before .before .rest .ensures) (marked .ensures) (marked .kept .0) _ _ (made .ensures) _ _ (c .before .before .before .before .before .root .given .1) (made .kept .0)
 
 returns : tie.Need-returns
 returns c =
-    let a = c .before .before .before .before .before .before .before .before .before .before .before .before .before .before .before .before .before .before .args in use-no-rule (a .work .now) (a .macros .now) (a .fuel) (a .node) (a .wrap) (a .number) (a .reached) (c .before .before .before .before .before .before .before .before .before .before .before .before .before .before .before .before .before .before .pre) _ _ _ _ (c .before .before .before .before .before .before .before .before .before .before .before .before .before .rules-of .ensures) (c .before .before .before .before .before .before .before .before .before .before .before .rest .ensures) (c .before .before .before .before .before .before .before .before .before .put-mark .ensures) (c .before .before .before .before .before .before .before .before .before .put-mark .kept .0) _ _ (c .before .before .before .before .before .apply .ensures) (c .before .enum-told .given .1) _ (c .refuse .ensures)
+    let entry = c .before .before .before .before .before .before .before .before .before .before .before .before .before .before .before .before .before .before in
+    let a = entry .args in
+    let marked = c .before .before .before .before .before .before .before .before .before .put-mark in
+    use-no-rule (a .work .now) (a .macros .now) (a .fuel) (a .node) (a .wrap) (a .number) (a .reached) (entry .pre) _ _ _ _ (c .before .before .before .before .before .before .before .before .before .before .before .before .before .rules-of .ensures) (c .before .before .before .before .before .before .before .before .before .before .before .rest .ensures) (marked .ensures) (marked .kept .0) _ _ (c .before .before .before .before .before .apply .ensures) (c .before .enum-told .given .1) _ (c .refuse .ensures)
 
 returns-2 : tie.Need-returns-2
 returns-2 c =
-    let a = c .before .before .before .before .before .before .before .before .before .before .before .before .before .before .before .before .before .before .args in use-differs (a .work .now) (a .macros .now) (a .fuel) (a .node) (a .wrap) (a .number) (a .reached) (c .before .before .before .before .before .before .before .before .before .before .before .before .before .before .before .before .before .before .pre) _ _ _ _ (c .before .before .before .before .before .before .before .before .before .before .before .before .before .rules-of .ensures) (c .before .before .before .before .before .before .before .before .before .before .before .rest .ensures) (c .before .before .before .before .before .before .before .before .before .put-mark .ensures) (c .before .before .before .before .before .before .before .before .before .put-mark .kept .0) _ _ (c .before .before .before .before .before .apply .ensures) (c .before .enum-told2 .given .1) _ (c .refuse2 .ensures)
+    let entry = c .before .before .before .before .before .before .before .before .before .before .before .before .before .before .before .before .before .before in
+    let a = entry .args in
+    let marked = c .before .before .before .before .before .before .before .before .before .put-mark in
+    use-differs (a .work .now) (a .macros .now) (a .fuel) (a .node) (a .wrap) (a .number) (a .reached) (entry .pre) _ _ _ _ (c .before .before .before .before .before .before .before .before .before .before .before .before .before .rules-of .ensures) (c .before .before .before .before .before .before .before .before .before .before .before .rest .ensures) (marked .ensures) (marked .kept .0) _ _ (c .before .before .before .before .before .apply .ensures) (c .before .enum-told2 .given .1) _ (c .refuse2 .ensures)
 
 returns-3 : tie.Need-returns-3
 returns-3 c =
-    let a = c .before .before .before .before .before .before .before .before .before .before .before .before .before .before .before .before .before .before .args in use-costly (a .work .now) (a .macros .now) (a .fuel) (a .node) (a .wrap) (a .number) (a .reached) (c .before .before .before .before .before .before .before .before .before .before .before .before .before .before .before .before .before .before .pre) _ _ _ _ (c .before .before .before .before .before .before .before .before .before .before .before .before .before .rules-of .ensures) (c .before .before .before .before .before .before .before .before .before .before .before .rest .ensures) (c .before .before .before .before .before .before .before .before .before .put-mark .ensures) (c .before .before .before .before .before .before .before .before .before .put-mark .kept .0) _ _ (c .before .before .before .before .before .apply .ensures) (c .before .enum-told3 .given .1) _ (c .refuse3 .ensures)
+    let entry = c .before .before .before .before .before .before .before .before .before .before .before .before .before .before .before .before .before .before in
+    let a = entry .args in
+    let marked = c .before .before .before .before .before .before .before .before .before .put-mark in
+    use-costly (a .work .now) (a .macros .now) (a .fuel) (a .node) (a .wrap) (a .number) (a .reached) (entry .pre) _ _ _ _ (c .before .before .before .before .before .before .before .before .before .before .before .before .before .rules-of .ensures) (c .before .before .before .before .before .before .before .before .before .before .before .rest .ensures) (marked .ensures) (marked .kept .0) _ _ (c .before .before .before .before .before .apply .ensures) (c .before .enum-told3 .given .1) _ (c .refuse3 .ensures)
 
 returns-4 : tie.Need-returns-4
 returns-4 c =
-    let a = c .before .before .before .before .before .before .before .before .before .before .before .before .before .before .before .before .before .before .before .before .before .before .before .args in use-made (a .work .now) (a .macros .now) (a .fuel) (a .node) (a .wrap) (a .number) (a .reached) (c .before .before .before .before .before .before .before .before .before .before .before .before .before .before .before .before .before .before .before .before .before .before .before .pre) _ _ _ _ (c .before .before .before .before .before .before .before .before .before .before .before .before .before .before .before .before .before .before .rules-of .ensures) (c .before .before .before .before .before .before .before .before .before .before .before .before .before .before .before .before .rest .ensures) (c .before .before .before .before .before .before .before .before .before .before .before .before .before .before .put-mark .ensures) (c .before .before .before .before .before .before .before .before .before .before .before .before .before .before .put-mark .kept .0) _ _ (c .before .before .before .before .before .before .before .before .before .before .apply .ensures) _ _ (c .before .before .before .before .before .before .root .given .1) (c .before .before .before .before .before .before .before .before .before .before .apply .kept .0) _ _ (c .before .before .before .put-mark2 .ensures)
+    let entry = c .before .before .before .before .before .before .before .before .before .before .before .before .before .before .before .before .before .before .before .before .before .before .before in
+    let a = entry .args in
+    let marked = c .before .before .before .before .before .before .before .before .before .before .before .before .before .before .put-mark in
+    let made = c .before .before .before .before .before .before .before .before .before .before .apply in
+    use-made (a .work .now) (a .macros .now) (a .fuel) (a .node) (a .wrap) (a .number) (a .reached) (entry .pre) _ _ _ _ (c .before .before .before .before .before .before .before .before .before .before .before .before .before .before .before .before .before .before .rules-of .ensures) (c .before .before .before .before .before .before .before .before .before .before .before .before .before .before .before .before .rest .ensures) (marked .ensures) (marked .kept .0) _ _ (made .ensures) _ _ (c .before .before .before .before .before .before .root .given .1) (made .kept .0) _ _ (c .before .before .before .put-mark2 .ensures) _ (c .stepped .ensures)
 
 pub macro-use-spec : {M : Type 1} → statement M
 macro-use-spec =
@@ -54,7 +80,7 @@ macro-use-spec =
     (λ c κs. search needs)  -- refuse-requires-3
     (λ c. search needs)  -- enum-known-root
     put-mark-requires-2
-    add-t29
+    stepped-requires
     (λ c. search needs)  -- same-length
     returns
     (λ c. search needs)  -- same-length-2
