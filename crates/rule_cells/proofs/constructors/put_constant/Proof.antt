@@ -1,7 +1,7 @@
--- `cells::put_constant`: the new cell is a constant.
+-- `constructors::put_constant`: the new cell is a constant.
 use borrow.Author.Needs.{needs}
-use Rattle.rule_cells.proofs.cells.put_constant.Statement.{statement}
-use Rattle.rule_cells.proofs.cells.put_constant.Tie as tie
+use Rattle.rule_cells.proofs.constructors.put_constant.Statement.{statement}
+use Rattle.rule_cells.proofs.constructors.put_constant.Tie as tie
 use Rattle.rule_cells.specs.MadeLaws.{made-constant}
 
 put-requires : tie.Need-put-requires

@@ -1,7 +1,7 @@
--- `cells::put_insert`: the new cell is an inserted name.
+-- `constructors::put_insert`: the new cell is an inserted name.
 use borrow.Author.Needs.{needs}
-use Rattle.rule_cells.proofs.cells.put_insert.Statement.{statement}
-use Rattle.rule_cells.proofs.cells.put_insert.Tie as tie
+use Rattle.rule_cells.proofs.constructors.put_insert.Statement.{statement}
+use Rattle.rule_cells.proofs.constructors.put_insert.Tie as tie
 use Rattle.rule_cells.specs.MadeLaws.{made-insert}
 
 put-requires : tie.Need-put-requires

@@ -1,7 +1,7 @@
--- `cells::put_rule`: the new cell is a rule and those after it.
+-- `constructors::put_rule`: the new cell is a rule and those after it.
 use borrow.Author.Needs.{needs}
-use Rattle.rule_cells.proofs.cells.put_rule.Statement.{statement}
-use Rattle.rule_cells.proofs.cells.put_rule.Tie as tie
+use Rattle.rule_cells.proofs.constructors.put_rule.Statement.{statement}
+use Rattle.rule_cells.proofs.constructors.put_rule.Tie as tie
 use Rattle.rule_cells.specs.MadeLaws.{made-rule}
 
 put-requires : tie.Need-put-requires

@@ -1,7 +1,7 @@
--- `cells::put_ellipsis`: the new cell is an ellipsis.
+-- `constructors::put_ellipsis`: the new cell is an ellipsis.
 use borrow.Author.Needs.{needs}
-use Rattle.rule_cells.proofs.cells.put_ellipsis.Statement.{statement}
-use Rattle.rule_cells.proofs.cells.put_ellipsis.Tie as tie
+use Rattle.rule_cells.proofs.constructors.put_ellipsis.Statement.{statement}
+use Rattle.rule_cells.proofs.constructors.put_ellipsis.Tie as tie
 use Rattle.rule_cells.specs.MadeLaws.{made-ellipsis}
 
 put-requires : tie.Need-put-requires

@@ -1,7 +1,7 @@
--- `cells::put_ellipsis_template`: the new cell is an ellipsis.
+-- `constructors::put_ellipsis_template`: the new cell is an ellipsis.
 use borrow.Author.Needs.{needs}
-use Rattle.rule_cells.proofs.cells.put_ellipsis_template.Statement.{statement}
-use Rattle.rule_cells.proofs.cells.put_ellipsis_template.Tie as tie
+use Rattle.rule_cells.proofs.constructors.put_ellipsis_template.Statement.{statement}
+use Rattle.rule_cells.proofs.constructors.put_ellipsis_template.Tie as tie
 use Rattle.rule_cells.specs.MadeLaws.{made-ellipsisT}
 
 put-requires : tie.Need-put-requires

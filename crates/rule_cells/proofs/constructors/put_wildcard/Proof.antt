@@ -1,7 +1,7 @@
--- `cells::put_wildcard`: the new cell is the wildcard.
+-- `constructors::put_wildcard`: the new cell is the wildcard.
 use borrow.Author.Needs.{needs}
-use Rattle.rule_cells.proofs.cells.put_wildcard.Statement.{statement}
-use Rattle.rule_cells.proofs.cells.put_wildcard.Tie as tie
+use Rattle.rule_cells.proofs.constructors.put_wildcard.Statement.{statement}
+use Rattle.rule_cells.proofs.constructors.put_wildcard.Tie as tie
 use Rattle.rule_cells.specs.MadeLaws.{made-wildcard}
 
 put-requires : tie.Need-put-requires

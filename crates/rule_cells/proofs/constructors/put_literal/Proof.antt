@@ -1,7 +1,7 @@
--- `cells::put_literal`: the new cell is a literal.
+-- `constructors::put_literal`: the new cell is a literal.
 use borrow.Author.Needs.{needs}
-use Rattle.rule_cells.proofs.cells.put_literal.Statement.{statement}
-use Rattle.rule_cells.proofs.cells.put_literal.Tie as tie
+use Rattle.rule_cells.proofs.constructors.put_literal.Statement.{statement}
+use Rattle.rule_cells.proofs.constructors.put_literal.Tie as tie
 use Rattle.rule_cells.specs.MadeLaws.{made-literal}
 
 put-requires : tie.Need-put-requires

@@ -1,7 +1,7 @@
--- `cells::put` leaves five words at the top.
+-- `constructors::put` leaves five words at the top.
 use borrow.Author.Needs.{needs}
-use Rattle.rule_cells.proofs.cells.put.Statement.{statement}
-use Rattle.rule_cells.proofs.cells.put.Tie as tie
+use Rattle.rule_cells.proofs.constructors.put.Statement.{statement}
+use Rattle.rule_cells.proofs.constructors.put.Tie as tie
 use Rattle.rule_cells.specs.MadeLaws.{five-stored}
 use native.Mathlib.Omega.{arith}
 use lib.ListN.{length-set}

@@ -1,7 +1,7 @@
--- `cells::put_variable`: the new cell is a variable.
+-- `constructors::put_variable`: the new cell is a variable.
 use borrow.Author.Needs.{needs}
-use Rattle.rule_cells.proofs.cells.put_variable.Statement.{statement}
-use Rattle.rule_cells.proofs.cells.put_variable.Tie as tie
+use Rattle.rule_cells.proofs.constructors.put_variable.Statement.{statement}
+use Rattle.rule_cells.proofs.constructors.put_variable.Tie as tie
 use Rattle.rule_cells.specs.MadeLaws.{made-variable}
 
 put-requires : tie.Need-put-requires

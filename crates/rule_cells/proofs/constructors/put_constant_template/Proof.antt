@@ -1,7 +1,7 @@
--- `cells::put_constant_template`: the new cell is a constant.
+-- `constructors::put_constant_template`: the new cell is a constant.
 use borrow.Author.Needs.{needs}
-use Rattle.rule_cells.proofs.cells.put_constant_template.Statement.{statement}
-use Rattle.rule_cells.proofs.cells.put_constant_template.Tie as tie
+use Rattle.rule_cells.proofs.constructors.put_constant_template.Statement.{statement}
+use Rattle.rule_cells.proofs.constructors.put_constant_template.Tie as tie
 use Rattle.rule_cells.specs.MadeLaws.{made-constantT}
 
 put-requires : tie.Need-put-requires
