@@ -13,6 +13,7 @@ use crate::copy;
 use arena::cells;
 use environments::environment;
 use environments::lengths;
+use environments::lengths::Count;
 use words::packed;
 
 // What a template's cell without parts gives.
@@ -125,10 +126,9 @@ fn build_ellipsis(
 {
     let first = cells::reference(work, t, rule_cells::cells::HEAD);
     let rest = cells::reference(work, t, rule_cells::cells::REST);
-    let c = lengths::copies(work, env, first);
-    if !lengths::one_length(work, env, first, c) {
+    let Count::Of(c) = lengths::copies(work, env, first) else {
         return packed::NONE;
-    }
+    };
     let b = build_part(work, top, fuel, env, w, rest);
     if b == packed::NONE {
         return packed::NONE;
