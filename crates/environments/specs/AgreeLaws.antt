@@ -15,7 +15,7 @@ use Rattle.rule_cells.specs.Cells.{templateAt}
 use Rattle.rule_cells.specs.CellLaws.{templateAt-variable, templateAt-insert, templateAt-constant, templateAt-pair, templateAt-ellipsis, templateAt-empty}
 use Rattle.environments.specs.Environment.{enter, lengthsBy, countBy, agreeBy}
 use Rattle.environments.specs.Entries.{environmentAt, AlongAll, Enters}
-use Rattle.environments.specs.Lengths.{driving, AllOf, Copies, Flat, LengthsAgree, CopiesAgree}
+use Rattle.environments.specs.Lengths.{driving, Copies, Differs, Flat, LengthsAgree, CopiesAgree}
 
 -- a template's cell without parts
 pub leaf-other : (P : Template → Type 0) → ((x : _) → P (insertT x)) → ((a : _) → P (constantT a)) → P emptyT
@@ -84,25 +84,26 @@ module _ (work env : List ℕ) where
       agree-tail b r e f good g w =
           rw (pair-is work t tag head rest tag-is head-is rest-is e, ← f w, good) (g w)
 
-      module _ (e : tag ≡ 7) (c : ℕ) (c-is : Copies work env head c) (b : Bool) (b-is : AllOf work env 0 head c b) where
-        here : (w : ℕ) → allOf (eqb (countBy (environmentAt work env w) (templateAt work head))) (lengthsBy (environmentAt work env w) 0 (templateAt work head)) ≡ b
-        unfolding driving
-        here w = rw (← c-is w) (sym (b-is w))
+      module _ (e : tag ≡ 7) where
+        pub agree-differ : Differs work env head → LengthsAgree work env t false
+        unfolding agreeBy driving
+        agree-differ d w = rw (ellipsis-is work t tag head rest tag-is head-is rest-is e, ← d .differ w) refl
 
-        pub agree-differ : b ≡ false → LengthsAgree work env t false
-        unfolding agreeBy
-        agree-differ bad w = rw (ellipsis-is work t tag head rest tag-is head-is rest-is e, here w, bad) refl
+        module _ (c : ℕ) (c-is : Copies work env head c) where
+          here : (w : ℕ) → allOf (eqb (countBy (environmentAt work env w) (templateAt work head))) (lengthsBy (environmentAt work env w) 0 (templateAt work head)) ≡ true
+          unfolding driving
+          here w = rw (← c-is .count w) (sym (c-is .same w))
 
-        module _ (good : b ≡ true) (d : Bool) (d-is : CopiesAgree work env head c d) where
-          pub agree-copies-no : d ≡ false → LengthsAgree work env t false
-          unfolding agreeBy
-          agree-copies-no bad w =
-              rw (ellipsis-is work t tag head rest tag-is head-is rest-is e, here w, good, ← c-is w, ← d-is w, bad) refl
+          module _ (d : Bool) (d-is : CopiesAgree work env head c d) where
+            pub agree-copies-no : d ≡ false → LengthsAgree work env t false
+            unfolding agreeBy
+            agree-copies-no bad w =
+                rw (ellipsis-is work t tag head rest tag-is head-is rest-is e, here w, ← c-is .count w, ← d-is w, bad) refl
 
-          pub agree-rest : (r : Bool) → d ≡ true → LengthsAgree work env rest r → LengthsAgree work env t r
-          unfolding agreeBy
-          agree-rest r too g w =
-              rw (ellipsis-is work t tag head rest tag-is head-is rest-is e, here w, good, ← c-is w, ← d-is w, too) (g w)
+            pub agree-rest : (r : Bool) → d ≡ true → LengthsAgree work env rest r → LengthsAgree work env t r
+            unfolding agreeBy
+            agree-rest r too g w =
+                rw (ellipsis-is work t tag head rest tag-is head-is rest-is e, here w, ← c-is .count w, ← d-is w, too) (g w)
 
 -- ---- copies
 

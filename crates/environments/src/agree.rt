@@ -5,24 +5,25 @@ ghost use mathlib.Core.Bool.{true};
 ghost use Rattle.environments.specs.Lengths.{Flat, LengthsAgree, CopiesAgree};
 use crate::environment;
 use crate::lengths;
-use arena::cells;
+use crate::lengths::Count;
+use rule_cells::cells;
 
 // Whether a template has no ellipsis in it, and so no driving lists to compare.
-pub fn flat(work: &[u32], t: u32) -> bool
+fn flat(work: &[u32], t: u32) -> bool
     ensures { λ r. ⌜ (r ≡ true → Flat (now (work .entry)) t) ⌝ }
 {
-    let tag = cells::word(work, t, cells::TAG);
-    if tag == rule_cells::cells::ELLIPSIS {
+    let tag = arena::cells::word(work, t, cells::TAG);
+    if tag == cells::ELLIPSIS {
         return false;
     }
-    if tag != rule_cells::cells::PAIR {
+    if tag != cells::PAIR {
         return true;
     }
-    let head = cells::reference(work, t, 3);
+    let head = arena::cells::reference(work, t, cells::HEAD);
     if !flat(work, head) {
         return false;
     }
-    let rest = cells::reference(work, t, 2);
+    let rest = arena::cells::reference(work, t, cells::REST);
     flat(work, rest)
 }
 
@@ -30,25 +31,24 @@ pub fn flat(work: &[u32], t: u32) -> bool
 pub fn lengths_agree(work: &[u32], env: &[u32; environment::WORDS], t: u32) -> bool
     ensures { λ r. ⌜ LengthsAgree (now (work .entry)) (now (env .entry)) t r ⌝ }
 {
-    let tag = cells::word(work, t, cells::TAG);
-    if tag < rule_cells::cells::PAIR {
+    let tag = arena::cells::word(work, t, cells::TAG);
+    if tag < cells::PAIR {
         return true;
     }
-    if rule_cells::cells::ELLIPSIS < tag {
+    if cells::ELLIPSIS < tag {
         return true;
     }
-    let head = cells::reference(work, t, 3);
-    let rest = cells::reference(work, t, 2);
-    if tag == rule_cells::cells::PAIR {
+    let head = arena::cells::reference(work, t, cells::HEAD);
+    let rest = arena::cells::reference(work, t, cells::REST);
+    if tag == cells::PAIR {
         if !lengths_agree(work, env, head) {
             return false;
         }
         return lengths_agree(work, env, rest);
     }
-    let c = lengths::copies(work, env, head);
-    if !lengths::one_length(work, env, head, c) {
+    let Count::Of(c) = lengths::copies(work, env, head) else {
         return false;
-    }
+    };
     if !copies_agree(work, env, head, c) {
         return false;
     }
@@ -56,7 +56,7 @@ pub fn lengths_agree(work: &[u32], env: &[u32; environment::WORDS], t: u32) -> b
 }
 
 // Whether they are in each of c copies of an element.
-pub fn copies_agree(work: &[u32], env: &[u32; environment::WORDS], e: u32, c: u32) -> bool
+fn copies_agree(work: &[u32], env: &[u32; environment::WORDS], e: u32, c: u32) -> bool
     ensures { λ r. ⌜ CopiesAgree (now (work .entry)) (now (env .entry)) e c r ⌝ }
 {
     if flat(work, e) {

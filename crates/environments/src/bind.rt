@@ -4,8 +4,8 @@ ghost use mathlib.Core.Path.{_≡_};
 ghost use Rattle.environments.specs.Bind.{bound, BindsOne, BindsList, Binds};
 use crate::environment;
 use crate::environment::Entry;
-use arena::cells;
 use arena::lists;
+use rule_cells::cells;
 
 // Variable k takes a node, and lies under the ellipses of these elements.
 fn bind_variable(env: &mut [u32; environment::WORDS], k: u32, node: u32, first: u32, second: u32)
@@ -41,14 +41,14 @@ fn bind_list(
 )
     ensures { λ _. ⌜ BindsList (now (work .entry)) p list first second (now (env .entry)) (now (env .exit)) ⌝ }
 {
-    let tag = cells::word(work, p, cells::TAG);
-    if tag == rule_cells::cells::VARIABLE {
-        let k = cells::word(work, p, 2);
+    let tag = arena::cells::word(work, p, cells::TAG);
+    if tag == cells::VARIABLE {
+        let k = arena::cells::word(work, p, cells::PATTERN_NUMBER);
         bind_variable(env, k, list, first, second);
         return;
     }
-    let rest = cells::reference(work, p, 2);
-    if tag == rule_cells::cells::ELLIPSIS {
+    let rest = arena::cells::reference(work, p, cells::REST);
+    if tag == cells::ELLIPSIS {
         if second == 0 {
             bind_list(&work[0..], env, rest, list, first, rest);
             return;
@@ -56,10 +56,10 @@ fn bind_list(
         bind_list(&work[0..], env, rest, list, first, second);
         return;
     }
-    if tag != rule_cells::cells::PAIR {
+    if tag != cells::PAIR {
         return;
     }
-    let head = cells::reference(work, p, 3);
+    let head = arena::cells::reference(work, p, cells::HEAD);
     bind_list(&work[0..], env, rest, list, first, second);
     bind_list(&work[0..], env, head, list, first, second);
 }
@@ -68,23 +68,23 @@ fn bind_list(
 pub fn bind(work: &[u32], env: &mut [u32; environment::WORDS], p: u32, u: u32)
     ensures { λ _. ⌜ Binds (now (work .entry)) p u (now (env .entry)) (now (env .exit)) ⌝ }
 {
-    let tag = cells::word(work, p, cells::TAG);
-    if tag == rule_cells::cells::VARIABLE {
-        let k = cells::word(work, p, 2);
+    let tag = arena::cells::word(work, p, cells::TAG);
+    if tag == cells::VARIABLE {
+        let k = arena::cells::word(work, p, cells::PATTERN_NUMBER);
         bind_variable(env, k, u, 0, 0);
         return;
     }
-    let rest = cells::reference(work, p, 2);
-    if tag == rule_cells::cells::ELLIPSIS {
+    let rest = arena::cells::reference(work, p, cells::REST);
+    if tag == cells::ELLIPSIS {
         bind_list(&work[0..], env, rest, u, rest, 0);
         return;
     }
-    if tag != rule_cells::cells::PAIR {
+    if tag != cells::PAIR {
         return;
     }
     let tail = lists::rest(work, u);
     bind(&work[0..], env, rest, tail);
-    let head = cells::reference(work, p, 3);
+    let head = arena::cells::reference(work, p, cells::HEAD);
     let first = lists::first(work, u);
     bind(&work[0..], env, head, first);
 }

@@ -10,15 +10,15 @@ ghost use Prim.Native.Nat.{ℕ, _<_};
 ghost use Rattle.words.specs.Limits.{patternVariablesMost};
 ghost use Rattle.environments.specs.Entries.{tableWords, entryAt, takenIn, level, Listed, Under, Moving, begun, Stored, AlongAll, Within, Next, Enters};
 use crate::parts;
-use arena::cells;
 use arena::lists;
+use rule_cells::cells;
 
 // The words of an entry; entries, one for each of the most variables of a pattern; and words of all.
 const ENTRY: usize = 7;
 
-const ENTRIES: usize = 16;
+const ENTRIES: usize = words::VARIABLES as usize;
 
-pub const WORDS: usize = 112;
+pub const WORDS: usize = ENTRY * ENTRIES;
 
 // What a variable takes under none, one and two of the innermost indices; the patterns of the elements that a first and a
 // second index enter, 0 where there is no ellipsis; and what is left of the lists that these indices count.
@@ -91,18 +91,18 @@ pub fn is_listed(work: &[u32], env: &[u32; WORDS], e: u32) -> bool
     ensures { λ r. ⌜ (r ≡ true → Listed (now (work .entry)) (now (env .entry)) e) ⌝ }
 {
     let table: &[u32] = env;
-    if cells::word(work, e, cells::TAG) != rule_cells::cells::VARIABLE {
+    if arena::cells::word(work, e, cells::TAG) != cells::VARIABLE {
         return false;
     }
-    if cells::word(work, e, 2) != 1 {
+    if arena::cells::word(work, e, cells::DEPTH) != 1 {
         return false;
     }
-    let k = cells::word(work, e, 3);
+    let k = arena::cells::word(work, e, cells::NUMBER);
     if words::VARIABLES <= k {
         return false;
     }
     let q = table[ENTRY * (k as usize) + 3];
-    cells::word(work, q, cells::TAG) == rule_cells::cells::VARIABLE
+    arena::cells::word(work, q, cells::TAG) == cells::VARIABLE
 }
 
 // ---- copies of an element

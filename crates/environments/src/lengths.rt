@@ -1,118 +1,93 @@
-// Driving lists: how many copies an element gets, and whether the lists that drive it are of one length (ground 17).
+// Driving lists: how many copies an element gets, where the lists that drive it are of one length (ground 17).
 
 ghost use mathlib.Core.Path.{_≡_};
 ghost use Prim.Native.Nat.{_+_, _^_, _<_};
-ghost use Rattle.environments.specs.Lengths.{deeper, Drives, AllOf, Copies};
+ghost use Rattle.environments.specs.Lengths.{deeper, also, Drives, Counted};
 use crate::environment;
-use arena::cells;
 use arena::lists;
+use rule_cells::cells;
 
-// The length of the first driving list, where there is one.
+// What the lists that drive an element say: there is none, all are of one length, or two differ in length.
 pub enum Driving {
     None,
     Length(u32),
+    Differ,
+}
+
+// How many copies an element gets, or the lists that drive it differ in length.
+pub enum Count {
+    Of(u32),
+    Differ,
 }
 
 // The ellipses round the first part of a template's cell: one more for an element.
-pub fn deeper(tag: u32, j: u32) -> u32
+fn deeper(tag: u32, j: u32) -> u32
     requires { ⌜ j + 1 < 2 ^ 32 ⌝ }
     ensures { λ r. ⌜ r ≡ deeper tag j ⌝ }
 {
-    if tag == rule_cells::cells::ELLIPSIS {
+    if tag == cells::ELLIPSIS {
         return j + 1;
     }
     j
 }
 
-// The first list that drives the copies of an element; t is the part of it under j ellipses.
-pub fn driver(work: &[u32], env: &[u32; environment::WORDS], j: u32, t: u32) -> Driving
-    requires { ⌜ j + t < 2 ^ 32 ⌝ }
-    ensures { λ r. ⌜ Drives (now (work .entry)) (now (env .entry)) j t r ⌝ }
+// One list more, of this length.
+fn also(before: Driving, length: u32) -> Driving
+    ensures { λ r. ⌜ r ≡ also before length ⌝ }
 {
-    let tag = cells::word(work, t, cells::TAG);
-    if tag == rule_cells::cells::VARIABLE {
-        let d = cells::word(work, t, 2);
-        if d <= j {
-            return Driving::None;
-        }
-        let k = cells::word(work, t, 3);
-        let list = environment::taken(env, k, d - j - 1);
-        return Driving::Length(lists::count(work, list));
-    }
-    if tag < rule_cells::cells::PAIR {
-        return Driving::None;
-    }
-    if rule_cells::cells::ELLIPSIS < tag {
-        return Driving::None;
-    }
-    let head = cells::reference(work, t, 3);
-    let i = deeper(tag, j);
-    match driver(&work[0..], env, i, head) {
+    match before {
+        Driving::None => Driving::Length(length),
         Driving::Length(c) => {
-            return Driving::Length(c);
+            if c == length {
+                return Driving::Length(c);
+            }
+            Driving::Differ
         }
-        Driving::None => {}
-    }
-    let rest = cells::reference(work, t, 2);
-    driver(&work[0..], env, j, rest)
-}
-
-// How many copies an element gets: as many as its first driving list has elements. A variable is driven by its own list.
-pub fn copies(work: &[u32], env: &[u32; environment::WORDS], e: u32) -> u32
-    ensures { λ r. ⌜ Copies (now (work .entry)) (now (env .entry)) e r ⌝ }
-{
-    if cells::word(work, e, cells::TAG) == rule_cells::cells::VARIABLE {
-        let d = cells::word(work, e, 2);
-        if d == 0 {
-            return 0;
-        }
-        let k = cells::word(work, e, 3);
-        let list = environment::taken(env, k, d - 1);
-        return lists::count(work, list);
-    }
-    match driver(&work[0..], env, 0, e) {
-        Driving::Length(c) => c,
-        Driving::None => 0,
+        Driving::Differ => Driving::Differ,
     }
 }
 
-// Whether all the lists that drive an element have c elements; t is the part of it under j ellipses.
-pub fn all_of(work: &[u32], env: &[u32; environment::WORDS], j: u32, t: u32, c: u32) -> bool
+// The lists that drive the copies of an element, after others; t is the part of it under j ellipses.
+fn drivers(
+    work: &[u32],
+    env: &[u32; environment::WORDS],
+    j: u32,
+    t: u32,
+    before: Driving,
+) -> Driving
     requires { ⌜ j + t < 2 ^ 32 ⌝ }
-    ensures { λ r. ⌜ AllOf (now (work .entry)) (now (env .entry)) j t c r ⌝ }
+    ensures { λ r. ⌜ Drives (now (work .entry)) (now (env .entry)) j t before r ⌝ }
 {
-    let tag = cells::word(work, t, cells::TAG);
-    if tag == rule_cells::cells::VARIABLE {
-        let d = cells::word(work, t, 2);
+    let tag = arena::cells::word(work, t, cells::TAG);
+    if tag == cells::VARIABLE {
+        let d = arena::cells::word(work, t, cells::DEPTH);
         if d <= j {
-            return true;
+            return before;
         }
-        let k = cells::word(work, t, 3);
+        let k = arena::cells::word(work, t, cells::NUMBER);
         let list = environment::taken(env, k, d - j - 1);
-        return c == lists::count(work, list);
+        return also(before, lists::count(work, list));
     }
-    if tag < rule_cells::cells::PAIR {
-        return true;
+    if tag < cells::PAIR {
+        return before;
     }
-    if rule_cells::cells::ELLIPSIS < tag {
-        return true;
+    if cells::ELLIPSIS < tag {
+        return before;
     }
-    let head = cells::reference(work, t, 3);
+    let head = arena::cells::reference(work, t, cells::HEAD);
     let i = deeper(tag, j);
-    if !all_of(&work[0..], env, i, head, c) {
-        return false;
-    }
-    let rest = cells::reference(work, t, 2);
-    all_of(&work[0..], env, j, rest, c)
+    let first = drivers(&work[0..], env, i, head, before);
+    let rest = arena::cells::reference(work, t, cells::REST);
+    drivers(&work[0..], env, j, rest, first)
 }
 
-// Whether all the lists that drive an element have as many elements as the first, c. A variable has no second.
-pub fn one_length(work: &[u32], env: &[u32; environment::WORDS], e: u32, c: u32) -> bool
-    requires { ⌜ Copies (now work) (now env) e c ⌝ }
-    ensures { λ r. ⌜ AllOf (now (work .entry)) (now (env .entry)) 0 e c r ⌝ }
+// How many copies an element gets: as many as each list that drives it has elements, none where there is no such list.
+pub fn copies(work: &[u32], env: &[u32; environment::WORDS], e: u32) -> Count
+    ensures { λ r. ⌜ Counted (now (work .entry)) (now (env .entry)) e r ⌝ }
 {
-    if cells::word(work, e, cells::TAG) == rule_cells::cells::VARIABLE {
-        return true;
+    match drivers(&work[0..], env, 0, e, Driving::None) {
+        Driving::None => Count::Of(0),
+        Driving::Length(c) => Count::Of(c),
+        Driving::Differ => Count::Differ,
     }
-    all_of(&work[0..], env, 0, e, c)
 }

@@ -4,4 +4,4 @@ pub mod agree;
 pub mod bind;
 pub mod environment;
 pub mod lengths;
-pub mod parts;
+mod parts;

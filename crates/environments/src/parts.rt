@@ -1,29 +1,29 @@
 // What a pattern's variable takes from a use at no index, found by walking pattern and use together.
 
 ghost use Rattle.environments.specs.Parts.{Holds, Part};
-use arena::cells;
 use arena::lists;
+use rule_cells::cells;
 
 // Whether the pattern holds variable k.
-pub fn holds(work: &[u32], p: u32, k: u32) -> bool
+fn holds(work: &[u32], p: u32, k: u32) -> bool
     ensures { λ r. ⌜ Holds (now (work .entry)) p k r ⌝ }
 {
-    let tag = cells::word(work, p, cells::TAG);
-    if tag == rule_cells::cells::VARIABLE {
-        return k == cells::word(work, p, 2);
+    let tag = arena::cells::word(work, p, cells::TAG);
+    if tag == cells::VARIABLE {
+        return k == arena::cells::word(work, p, cells::PATTERN_NUMBER);
     }
-    if tag == rule_cells::cells::ELLIPSIS {
-        let element = cells::reference(work, p, 2);
+    if tag == cells::ELLIPSIS {
+        let element = arena::cells::reference(work, p, cells::ELEMENT);
         return holds(work, element, k);
     }
-    if tag != rule_cells::cells::PAIR {
+    if tag != cells::PAIR {
         return false;
     }
-    let head = cells::reference(work, p, 3);
+    let head = arena::cells::reference(work, p, cells::HEAD);
     if holds(work, head, k) {
         return true;
     }
-    let tail = cells::reference(work, p, 2);
+    let tail = arena::cells::reference(work, p, cells::REST);
     holds(work, tail, k)
 }
 
@@ -31,8 +31,8 @@ pub fn holds(work: &[u32], p: u32, k: u32) -> bool
 fn part_holds(work: &[u32], p: u32, k: u32) -> bool
     ensures { λ r. ⌜ Holds (now (work .entry)) p k r ⌝ }
 {
-    if cells::word(work, p, cells::TAG) == rule_cells::cells::VARIABLE {
-        return k == cells::word(work, p, 2);
+    if arena::cells::word(work, p, cells::TAG) == cells::VARIABLE {
+        return k == arena::cells::word(work, p, cells::PATTERN_NUMBER);
     }
     holds(work, p, k)
 }
@@ -43,21 +43,21 @@ pub fn part(work: &[u32], p: u32, k: u32, u: u32) -> u32
 {
     let mut at = p;
     let mut node = u;
-    while cells::word(work, at, cells::TAG) == rule_cells::cells::PAIR {
-        let head = cells::reference(work, at, 3);
+    while arena::cells::word(work, at, cells::TAG) == cells::PAIR {
+        let head = arena::cells::reference(work, at, cells::HEAD);
         if part_holds(work, head, k) {
             at = head;
             node = lists::first(work, node);
         } else {
-            at = cells::reference(work, at, 2);
+            at = arena::cells::reference(work, at, cells::REST);
             node = lists::rest(work, node);
         }
     }
-    let tag = cells::word(work, at, cells::TAG);
-    if tag == rule_cells::cells::VARIABLE {
+    let tag = arena::cells::word(work, at, cells::TAG);
+    if tag == cells::VARIABLE {
         return node;
     }
-    if tag == rule_cells::cells::ELLIPSIS {
+    if tag == cells::ELLIPSIS {
         return node;
     }
     0

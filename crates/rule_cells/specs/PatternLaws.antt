@@ -7,10 +7,9 @@ use Prim.Native.Nat.{ℕ, suc, _+_, _^_, _≤_, _<_}
 use native.Mathlib.Omega.{arith}
 use lib.ListN.{length, length-append}
 use borrow.Author.Tests.{ne-eqb, eqb-true}
-use Rattle.words.specs.Lists.{anyOf}
 use Rattle.words.specs.Options.{onlyIf, mapSome, mapBoth}
 use Rattle.datum.specs.Constant.{Constant}
-use Rattle.recipe.specs.Name.{Name, same, isEllipsis, isWildcard, bindingKey}
+use Rattle.recipe.specs.Name.{Name, isEllipsis, isWildcard, bindingKey}
 use Rattle.recipe.specs.Tree.{Tree, empty, constant, name, pair, size, names, onEmpty, onName, onPair, isList, isListOf, elements, tail}
 use Rattle.expansion.specs.Rules.{Pattern, variableP, literalP, wildcardP, constantP, emptyP, pairP, ellipsisP, dotsNext, depthBefore, isVariable, variables, patternOf}
 use Rattle.arena.specs.Arena.{wordAt, referenceAt, nameAt, constantAt, treeAt}
@@ -20,7 +19,6 @@ use Rattle.arena.specs.CellLaws.{tree-kept}
 use Rattle.rule_cells.specs.Cells.{patternAt, patternFrom}
 use Rattle.rule_cells.specs.Made.{Made, MadeLiteral}
 use Rattle.rule_cells.specs.MadeLaws.{pattern-kept}
-use Rattle.rule_cells.specs.GatherLaws.{wildcard-no-variable, literal-no-variable, a-variable}
 use Rattle.rule_cells.specs.Variables.{leafCount}
 use Rattle.rule_cells.specs.Parse.{Asks, PatternMade, PatternLeft}
 use Rattle.rule_cells.specs.ParseLaws.{grows-nothing, grows-leaf, grows-over, kept-both, tree-is, size-is, rest-kept, grows-pair}
@@ -64,23 +62,20 @@ module _ (literals : List Name) (k : ℕ) (x : Name) where
     pub left-dots : x .number ≡ 6 → PatternLeft literals k (name x) old old top Bad
     left-dots e = (name-dots e, refl)
 
-    pub left-wildcard : (new : List ℕ) (r : ℕ) → (x .number ≡ 6 → ⊥) → x .number ≡ 7 → Made patternAt wildcardP old new top r → PatternLeft literals k (name x) old new top (Good r r k)
-    left-wildcard new r n m c =
-        let v = wildcard-no-variable literals x n m in
+    pub left-wildcard : (new : List ℕ) (r : ℕ) → (x .number ≡ 6 → ⊥) → x .number ≡ 7 → isVariable isEllipsis literals x ≡ false → Made patternAt wildcardP old new top r → PatternLeft literals k (name x) old new top (Good r r k)
+    left-wildcard new r n m v c =
         record { means = name-wildcard n m v ∙ ap some (sym (c .means)); counts = count-none v; grows = grows-leaf (name x) old new top r (c .end) (c .kept) }
 
-    pub left-literal : (node w number key : ℕ) (new : List ℕ) (r : ℕ) → x ≡ nameAt old node w → (x .number ≡ 6 → ⊥) → (x .number ≡ 7 → ⊥) → true ≡ anyOf (same x) literals → number ≡ x .number → key ≡ bindingKey (x .binding) → MadeLiteral node w number key old new top r → PatternLeft literals k (name x) old new top (Good r r k)
-    left-literal node w number key new r is n m l e f c =
-        let v = literal-no-variable literals x n m l in
+    pub left-literal : (node w number key : ℕ) (new : List ℕ) (r : ℕ) → x ≡ nameAt old node w → (x .number ≡ 6 → ⊥) → (x .number ≡ 7 → ⊥) → isVariable isEllipsis literals x ≡ false → number ≡ x .number → key ≡ bindingKey (x .binding) → MadeLiteral node w number key old new top r → PatternLeft literals k (name x) old new top (Good r r k)
+    left-literal node w number key new r is n m v e f c =
         record {
           means = name-literal n m v ∙ ap some (ap literalP is ∙ sym (c .means (e ∙ ap (λ (y : Name). y .number) is) (f ∙ ap (λ (y : Name). bindingKey (y .binding)) is)));
           counts = count-none v;
           grows = grows-leaf (name x) old new top r (c .end) (c .kept);
         }
 
-    pub left-variable : (new : List ℕ) (r : ℕ) → (x .number ≡ 6 → ⊥) → (x .number ≡ 7 → ⊥) → false ≡ anyOf (same x) literals → Made patternAt (variableP k) old new top r → PatternLeft literals k (name x) old new top (Good r r (k + 1))
-    left-variable new r n m l c =
-        let v = a-variable literals x n m l in
+    pub left-variable : (new : List ℕ) (r : ℕ) → (x .number ≡ 6 → ⊥) → isVariable isEllipsis literals x ≡ true → Made patternAt (variableP k) old new top r → PatternLeft literals k (name x) old new top (Good r r (k + 1))
+    left-variable new r n v c =
         record { means = name-variable n v ∙ ap some (sym (c .means)); counts = count-one v; grows = grows-leaf (name x) old new top r (c .end) (c .kept) }
 
 -- ---- leaves

@@ -1,16 +1,10 @@
-// Cells of parsed rules: one constructor for each kind. specs/Cells.antt says what they mean.
-// A cell has five words, the last its tag, and is referred to by its end; words that its kind does not use come first and are
-// 0. Reference 0 is the empty pattern, the empty template and the empty list of rules.
+// Cells of parsed rules: tags, and where the words of each kind stand, counted back from the cell's end, by which it is referred
+// to. specs/Cells.antt says what they mean. A cell has five words. Reference 0 is the empty pattern, the empty template and the
+// empty list of rules.
 
-ghost use Prim.Native.Nat.{_≤_};
-ghost use mathlib.Core.List.{_∷_};
-ghost use Rattle.expansion.specs.Rules.{variableP, wildcardP, constantP, pairP, ellipsisP, variableT, insertT, constantT, pairT, ellipsisT};
-ghost use Rattle.arena.specs.Arena.{nameAt};
-ghost use Rattle.arena.specs.Cells.{Room};
-ghost use Rattle.rule_cells.specs.Cells.{patternAt, templateAt, rulesAt};
-ghost use Rattle.rule_cells.specs.Made.{Five, Made, MadeLiteral};
+// Where the tag of a pattern or template stands, and the tags.
+pub const TAG: u32 = 1;
 
-// Tags of patterns and templates.
 pub const VARIABLE: u32 = 1;
 
 pub const NAME: u32 = 2;
@@ -23,118 +17,40 @@ pub const PAIR: u32 = 6;
 
 pub const ELLIPSIS: u32 = 7;
 
-// Five words at the top; answers the new top, which is the cell's reference.
-fn put(work: &mut [u32], top: u32, a: u32, b: u32, c: u32, d: u32, tag: u32) -> u32
-    requires { ⌜ Room (now work) top 5 ⌝ }
-    ensures { λ r. ⌜ Five a b c d tag (now (work .entry)) (now (work .exit)) top r ⌝ }
-{
-    let at = top as usize;
-    work[at] = a;
-    work[at + 1] = b;
-    work[at + 2] = c;
-    work[at + 3] = d;
-    work[at + 4] = tag;
-    top + 5
-}
+// A pair's head and rest; a template's ellipsis has its element for head.
+pub const HEAD: u32 = 3;
 
-// ---- patterns
+pub const REST: u32 = 2;
 
-// Pattern variable k.
-pub fn put_variable(work: &mut [u32], top: u32, k: u32) -> u32
-    requires { ⌜ Room (now work) top 5 ⌝ }
-    ensures { λ r. ⌜ Made patternAt (variableP k) (now (work .entry)) (now (work .exit)) top r ⌝ }
-{
-    put(work, top, 0, 0, 0, k, VARIABLE)
-}
+// A constant's kind and two words.
+pub const KIND: u32 = 4;
 
-// A literal by its node and pending wrap, with the number and the binding's key that its lookup has found.
-pub fn put_literal(work: &mut [u32], top: u32, node: u32, w: u32, number: u32, key: u32) -> u32
-    requires { ⌜ (Room (now work) top 5) × (node ≤ top) × (w ≤ top) ⌝ }
-    ensures { λ r. ⌜ MadeLiteral node w number key (now (work .entry)) (now (work .exit)) top r ⌝ }
-{
-    put(work, top, node, w, number, key, NAME)
-}
+pub const FIRST: u32 = 3;
 
-// The wildcard.
-pub fn put_wildcard(work: &mut [u32], top: u32) -> u32
-    requires { ⌜ Room (now work) top 5 ⌝ }
-    ensures { λ r. ⌜ Made patternAt (wildcardP) (now (work .entry)) (now (work .exit)) top r ⌝ }
-{
-    put(work, top, 0, 0, 0, 0, WILDCARD)
-}
+pub const SECOND: u32 = 2;
 
-// A constant, by its item's three words.
-pub fn put_constant(work: &mut [u32], top: u32, kind: u32, first: u32, second: u32) -> u32
-    requires { ⌜ Room (now work) top 5 ⌝ }
-    ensures { λ r. ⌜ Made patternAt (constantP (record { kind = kind; first = first; second = second })) (now (work .entry)) (now (work .exit)) top r ⌝ }
-{
-    put(work, top, 0, kind, first, second, CONSTANT)
-}
+// Of a pattern: a variable's number; an ellipsis's element; the number and the binding's key that a literal's lookup has found,
+// before which its node and pending wrap stand.
+pub const PATTERN_NUMBER: u32 = 2;
 
-// A pair of two patterns.
-pub fn put_pair(work: &mut [u32], top: u32, head: u32, tail: u32) -> u32
-    requires { ⌜ (Room (now work) top 5) × (head ≤ top) × (tail ≤ top) ⌝ }
-    ensures { λ r. ⌜ Made patternAt (pairP (patternAt (now (work .entry)) head) (patternAt (now (work .entry)) tail)) (now (work .entry)) (now (work .exit)) top r ⌝ }
-{
-    put(work, top, 0, 0, head, tail, PAIR)
-}
+pub const ELEMENT: u32 = 2;
 
-// An element followed by `...`, last in its list.
-pub fn put_ellipsis(work: &mut [u32], top: u32, element: u32) -> u32
-    requires { ⌜ (Room (now work) top 5) × (element ≤ top) ⌝ }
-    ensures { λ r. ⌜ Made patternAt (ellipsisP (patternAt (now (work .entry)) element)) (now (work .entry)) (now (work .exit)) top r ⌝ }
-{
-    put(work, top, 0, 0, 0, element, ELLIPSIS)
-}
+pub const LITERAL_NUMBER: u32 = 3;
 
-// ---- templates
+pub const LITERAL_KEY: u32 = 2;
 
-// Variable k, under d ellipses in the pattern.
-pub fn put_variable_template(work: &mut [u32], top: u32, k: u32, d: u32) -> u32
-    requires { ⌜ Room (now work) top 5 ⌝ }
-    ensures { λ r. ⌜ Made templateAt (variableT k d) (now (work .entry)) (now (work .exit)) top r ⌝ }
-{
-    put(work, top, 0, 0, k, d, VARIABLE)
-}
+// Of a template: a variable's number and depth; an inserted name's node and pending wrap.
+pub const NUMBER: u32 = 3;
 
-// An inserted name, by its node and pending wrap.
-pub fn put_insert(work: &mut [u32], top: u32, node: u32, w: u32) -> u32
-    requires { ⌜ (Room (now work) top 5) × (node ≤ top) × (w ≤ top) ⌝ }
-    ensures { λ r. ⌜ Made templateAt (insertT (nameAt (now (work .entry)) node w)) (now (work .entry)) (now (work .exit)) top r ⌝ }
-{
-    put(work, top, 0, 0, node, w, NAME)
-}
+pub const DEPTH: u32 = 2;
 
-// A constant, by its item's three words.
-pub fn put_constant_template(work: &mut [u32], top: u32, kind: u32, first: u32, second: u32) -> u32
-    requires { ⌜ Room (now work) top 5 ⌝ }
-    ensures { λ r. ⌜ Made templateAt (constantT (record { kind = kind; first = first; second = second })) (now (work .entry)) (now (work .exit)) top r ⌝ }
-{
-    put(work, top, 0, kind, first, second, CONSTANT)
-}
+pub const NODE: u32 = 3;
 
-// A pair of two templates.
-pub fn put_pair_template(work: &mut [u32], top: u32, head: u32, tail: u32) -> u32
-    requires { ⌜ (Room (now work) top 5) × (head ≤ top) × (tail ≤ top) ⌝ }
-    ensures { λ r. ⌜ Made templateAt (pairT (templateAt (now (work .entry)) head) (templateAt (now (work .entry)) tail)) (now (work .entry)) (now (work .exit)) top r ⌝ }
-{
-    put(work, top, 0, 0, head, tail, PAIR)
-}
+pub const WRAP: u32 = 2;
 
-// An element followed by `...`, then the rest of its list.
-pub fn put_ellipsis_template(work: &mut [u32], top: u32, element: u32, rest: u32) -> u32
-    requires { ⌜ (Room (now work) top 5) × (element ≤ top) × (rest ≤ top) ⌝ }
-    ensures { λ r. ⌜ Made templateAt (ellipsisT (templateAt (now (work .entry)) element) (templateAt (now (work .entry)) rest)) (now (work .entry)) (now (work .exit)) top r ⌝ }
-{
-    put(work, top, 0, 0, element, rest, ELLIPSIS)
-}
+// A rule's pattern and template, and the rules after it.
+pub const PATTERN: u32 = 3;
 
-// ---- rules
+pub const TEMPLATE: u32 = 2;
 
-// A rule and the rules after it.
-pub fn put_rule(work: &mut [u32], top: u32, pattern: u32, template: u32, next: u32) -> u32
-    requires { ⌜ (Room (now work) top 5) × (pattern ≤ top) × (template ≤ top) × (next ≤ top) ⌝ }
-    ensures { λ r. ⌜ Made rulesAt (record { pattern = patternAt (now (work .entry)) pattern; template = templateAt (now (work .entry)) template } ∷ rulesAt (now (work .entry)) next) (now (work .entry)) (now (work .exit)) top r ⌝ }
-{
-    put(work, top, 0, 0, pattern, template, next)
-}
+pub const NEXT: u32 = 1;

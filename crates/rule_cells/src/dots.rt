@@ -8,10 +8,10 @@ use arena::cells;
 use resolution::names;
 
 // Whether a tree is `...`.
-pub fn is_dots(work: &[u32], node: u32) -> bool
+fn is_dots(work: &[u32], node: u32) -> bool
     ensures { λ r. ⌜ Tests isDots (now (work .entry)) node r ⌝ }
 {
-    if cells::word(work, node, 3) != cells::NAME {
+    if cells::word(work, node, cells::KIND) != cells::NAME {
         return false;
     }
     names::number_of(work, node) == names::ELLIPSIS
@@ -21,9 +21,9 @@ pub fn is_dots(work: &[u32], node: u32) -> bool
 pub fn dots_next(work: &[u32], node: u32) -> bool
     ensures { λ r. ⌜ Tests (dotsNext isEllipsis) (now (work .entry)) node r ⌝ }
 {
-    if cells::word(work, node, 3) != cells::PAIR {
+    if cells::word(work, node, cells::KIND) != cells::PAIR {
         return false;
     }
-    let first = cells::reference(work, node, 2);
+    let first = cells::reference(work, node, cells::HEAD);
     is_dots(work, first)
 }

@@ -6,9 +6,10 @@ ghost use Rattle.recipe.specs.Tree.{name, names, size};
 ghost use Rattle.arena.specs.Arena.{wordAt, nameAt, treeAt};
 ghost use Rattle.arena.specs.Cells.{Room};
 ghost use Rattle.rule_cells.specs.Parse.{Asks, PatternLeft};
-use crate::cells;
+use crate::constructors;
 use crate::dots;
 use crate::variables;
+use arena::cells;
 use arena::lists;
 use resolution::names;
 
@@ -19,7 +20,7 @@ pub enum Parsed {
 }
 
 // A pattern's name, with k variables to its left: `...` itself is none.
-pub fn pattern_name(work: &mut [u32], literals: u32, node: u32, w: u32, k: u32, top: u32) -> Parsed
+fn pattern_name(work: &mut [u32], literals: u32, node: u32, w: u32, k: u32, top: u32) -> Parsed
     requires { ⌜ (Room (now work) top 5) × (node ≤ top) × (w ≤ top) × (k + 1 < 2 ^ 32) ⌝ }
     ensures { λ r. ⌜ PatternLeft (names (treeAt (now (work .entry)) literals w)) k (name (nameAt (now (work .entry)) node w)) (now (work .entry)) (now (work .exit)) top r ⌝ }
 {
@@ -27,34 +28,34 @@ pub fn pattern_name(work: &mut [u32], literals: u32, node: u32, w: u32, k: u32, 
     if number == names::ELLIPSIS {
         return Parsed::Bad;
     }
+    if variables::is_variable(work, literals, node, w) {
+        let r = constructors::put_variable(work, top, k);
+        return Parsed::Good(r, r, k + 1);
+    }
     if number == names::WILDCARD {
-        let r = cells::put_wildcard(work, top);
+        let r = constructors::put_wildcard(work, top);
         return Parsed::Good(r, r, k);
     }
-    if variables::is_literal(work, literals, node, w) {
-        let key = names::binding_of(work, node, w);
-        let r = cells::put_literal(work, top, node, w, number, key);
-        return Parsed::Good(r, r, k);
-    }
-    let r = cells::put_variable(work, top, k);
-    Parsed::Good(r, r, k + 1)
+    let key = names::binding_of(work, node, w);
+    let r = constructors::put_literal(work, top, node, w, number, key);
+    Parsed::Good(r, r, k)
 }
 
 // A part of a pattern that is no pair.
-pub fn pattern_leaf(work: &mut [u32], literals: u32, node: u32, w: u32, k: u32, top: u32) -> Parsed
+fn pattern_leaf(work: &mut [u32], literals: u32, node: u32, w: u32, k: u32, top: u32) -> Parsed
     requires { ⌜ (Asks (now work) node w top) × (k + 1 < 2 ^ 32) × (wordAt (now work) node 3 ≡ 4 → ⊥) ⌝ }
     ensures { λ r. ⌜ PatternLeft (names (treeAt (now (work .entry)) literals w)) k (treeAt (now (work .entry)) node w) (now (work .entry)) (now (work .exit)) top r ⌝ }
 {
-    let kind = arena::cells::word(work, node, 3);
-    if kind == arena::cells::NAME {
+    let kind = cells::word(work, node, cells::KIND);
+    if kind == cells::NAME {
         return pattern_name(work, literals, node, w, k, top);
     }
-    if kind == arena::cells::EMPTY {
+    if kind == cells::EMPTY {
         return Parsed::Good(0, top, k);
     }
-    let first = arena::cells::word(work, node, 2);
-    let second = arena::cells::word(work, node, 1);
-    let r = cells::put_constant(work, top, kind, first, second);
+    let first = cells::word(work, node, cells::FIRST);
+    let second = cells::word(work, node, cells::SECOND);
+    let r = constructors::put_constant(work, top, kind, first, second);
     Parsed::Good(r, r, k)
 }
 
@@ -63,11 +64,11 @@ pub fn pattern(work: &mut [u32], literals: u32, node: u32, w: u32, k: u32, top: 
     requires { ⌜ (Asks (now work) node w top) × (literals ≤ top) × (k + size (treeAt (now work) node w) < 2 ^ 32) ⌝ }
     ensures { λ r. ⌜ PatternLeft (names (treeAt (now (work .entry)) literals w)) k (treeAt (now (work .entry)) node w) (now (work .entry)) (now (work .exit)) top r ⌝ }
 {
-    if arena::cells::word(work, node, 3) != arena::cells::PAIR {
+    if cells::word(work, node, cells::KIND) != cells::PAIR {
         return pattern_leaf(work, literals, node, w, k, top);
     }
-    let head = arena::cells::reference(work, node, 2);
-    let rest = arena::cells::reference(work, node, 1);
+    let head = cells::reference(work, node, cells::HEAD);
+    let rest = cells::reference(work, node, cells::TAIL);
     if dots::dots_next(work, rest) {
         if lists::is_list_of(work, rest, 1) {
             let last = lists::rest(work, rest);
@@ -75,7 +76,7 @@ pub fn pattern(work: &mut [u32], literals: u32, node: u32, w: u32, k: u32, top: 
             let Parsed::Good(a, t, n) = pattern(work, literals, head, w, k, top) else {
                 return Parsed::Bad;
             };
-            let r = cells::put_ellipsis(work, t, a);
+            let r = constructors::put_ellipsis(work, t, a);
             return Parsed::Good(r, r, n + more);
         }
         return Parsed::Bad;
@@ -86,6 +87,6 @@ pub fn pattern(work: &mut [u32], literals: u32, node: u32, w: u32, k: u32, top: 
     let Parsed::Good(b, u, m) = pattern(work, literals, rest, w, n, t) else {
         return Parsed::Bad;
     };
-    let r = cells::put_pair(work, u, a, b);
+    let r = constructors::put_pair(work, u, a, b);
     Parsed::Good(r, r, m)
 }

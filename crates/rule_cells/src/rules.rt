@@ -12,30 +12,23 @@ ghost use Rattle.arena.specs.Lists.{Tests};
 ghost use Rattle.rule_cells.specs.Built.{builtOf};
 ghost use Rattle.rule_cells.specs.Parse.{Asks};
 ghost use Rattle.rule_cells.specs.RuleParse.{ruleShape, partsOf, PartsAsk, RuleLeft, RulesLeft};
-use crate::cells;
+use crate::constructors;
 use crate::patterns;
 use crate::patterns::Parsed;
 use crate::rules_form;
 use crate::templates;
 use crate::variables;
+use arena::cells;
 use arena::lists;
 use resolution::names;
 use words::packed;
 
 // A rule from the rest p of its pattern and its template q, before the rules at `next`.
-pub fn rule_parts(
-    work: &mut [u32],
-    literals: u32,
-    p: u32,
-    q: u32,
-    w: u32,
-    next: u32,
-    top: u32,
-) -> u64
+fn rule_parts(work: &mut [u32], literals: u32, p: u32, q: u32, w: u32, next: u32, top: u32) -> u64
     requires { ⌜ PartsAsk (now work) literals p q w next top ⌝ }
     ensures { λ r. ⌜ RuleLeft (partsOf (names (treeAt (now (work .entry)) literals w)) (treeAt (now (work .entry)) p w) (treeAt (now (work .entry)) q w)) (size (treeAt (now (work .entry)) p w) + size (treeAt (now (work .entry)) q w) + 1) (now (work .entry)) (now (work .exit)) next top (builtOf r) ⌝ }
 {
-    let mut vars = [0u32; 32];
+    let mut vars = [0u32; variables::WORDS];
     let n = variables::gather(work, &mut vars, literals, p, w, 0, 0);
     if n == variables::BAD {
         return packed::NONE;
@@ -47,18 +40,18 @@ pub fn rule_parts(
     if b == packed::NONE {
         return packed::NONE;
     }
-    let r = cells::put_rule(work, packed::low(b), a, packed::high(b), next);
+    let r = constructors::put_rule(work, packed::low(b), a, packed::high(b), next);
     packed::pair(r, r)
 }
 
 // Whether a tree is a list of two whose first begins with a name other than `...`.
-pub fn rule_shape(work: &[u32], node: u32) -> bool
+fn rule_shape(work: &[u32], node: u32) -> bool
     ensures { λ r. ⌜ Tests ruleShape (now (work .entry)) node r ⌝ }
 {
     if lists::is_list_of(work, node, 2) {
         let pattern = lists::first(work, node);
         let first = lists::first(work, pattern);
-        if arena::cells::word(work, first, 3) != arena::cells::NAME {
+        if cells::word(work, first, cells::KIND) != cells::NAME {
             return false;
         }
         if names::number_of(work, first) == names::ELLIPSIS {
@@ -70,7 +63,7 @@ pub fn rule_shape(work: &[u32], node: u32) -> bool
 }
 
 // A rule, (pattern template), before the rules at `next`.
-pub fn rule(work: &mut [u32], literals: u32, node: u32, w: u32, next: u32, top: u32) -> u64
+fn rule(work: &mut [u32], literals: u32, node: u32, w: u32, next: u32, top: u32) -> u64
     requires { ⌜ (Asks (now work) node w top) × (literals ≤ top) × (next ≤ top) ⌝ }
     ensures { λ r. ⌜ RuleLeft (ruleOf isEllipsis (names (treeAt (now (work .entry)) literals w)) (treeAt (now (work .entry)) node w)) (size (treeAt (now (work .entry)) node w)) (now (work .entry)) (now (work .exit)) next top (builtOf r) ⌝ }
 {
@@ -85,15 +78,15 @@ pub fn rule(work: &mut [u32], literals: u32, node: u32, w: u32, next: u32, top: 
 }
 
 // A list of rules, the last first.
-pub fn rule_list(work: &mut [u32], literals: u32, node: u32, w: u32, top: u32) -> u64
+fn rule_list(work: &mut [u32], literals: u32, node: u32, w: u32, top: u32) -> u64
     requires { ⌜ (Asks (now work) node w top) × (literals ≤ top) ⌝ }
     ensures { λ r. ⌜ RulesLeft (traverse (ruleOf isEllipsis (names (treeAt (now (work .entry)) literals w))) (elements (treeAt (now (work .entry)) node w))) (size (treeAt (now (work .entry)) node w)) (now (work .entry)) (now (work .exit)) top (builtOf r) ⌝ }
 {
-    if arena::cells::word(work, node, 3) != arena::cells::PAIR {
+    if cells::word(work, node, cells::KIND) != cells::PAIR {
         return packed::pair(0, top);
     }
-    let head = arena::cells::reference(work, node, 2);
-    let rest = arena::cells::reference(work, node, 1);
+    let head = cells::reference(work, node, cells::HEAD);
+    let rest = cells::reference(work, node, cells::TAIL);
     let later = rule_list(work, literals, rest, w, top);
     if later == packed::NONE {
         return packed::NONE;

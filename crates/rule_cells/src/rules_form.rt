@@ -12,22 +12,18 @@ use arena::cells;
 use arena::lists;
 use resolution::names;
 
-// The number of syntax-rules; the most literals and rules of a form.
-pub const SYNTAX_RULES: u32 = 5;
-
-pub const LITERALS: u32 = 8;
-
-pub const RULES: u32 = 16;
+// The number of syntax-rules.
+const SYNTAX_RULES: u32 = 5;
 
 // Whether all elements of a list are names other than `...` and `_`.
-pub fn all_ordinary(work: &[u32], node: u32) -> bool
+fn all_ordinary(work: &[u32], node: u32) -> bool
     ensures { λ r. ⌜ Tests ordinaryAll (now (work .entry)) node r ⌝ }
 {
     let mut at = node;
-    while cells::word(work, at, 3) == cells::PAIR {
-        let first = cells::reference(work, at, 2);
+    while cells::word(work, at, cells::KIND) == cells::PAIR {
+        let first = cells::reference(work, at, cells::HEAD);
         if names::is_ordinary(work, first) {
-            at = cells::reference(work, at, 1);
+            at = cells::reference(work, at, cells::TAIL);
         } else {
             return false;
         }
@@ -36,12 +32,12 @@ pub fn all_ordinary(work: &[u32], node: u32) -> bool
 }
 
 // Whether a tree is a list of at most 8 such names.
-pub fn literals_good(work: &[u32], node: u32) -> bool
+fn literals_good(work: &[u32], node: u32) -> bool
     ensures { λ r. ⌜ Tests literalsGood (now (work .entry)) node r ⌝ }
 {
     if lists::is_list(work, node) {
         if all_ordinary(work, node) {
-            return lists::count(work, node) <= LITERALS;
+            return lists::count(work, node) <= words::LITERALS;
         }
         return false;
     }
@@ -49,10 +45,10 @@ pub fn literals_good(work: &[u32], node: u32) -> bool
 }
 
 // Whether a tree is a name whose lookup finds the base form syntax-rules.
-pub fn is_syntax_rules(work: &[u32], node: u32, w: u32) -> bool
+fn is_syntax_rules(work: &[u32], node: u32, w: u32) -> bool
     ensures { λ r. ⌜ r ≡ onName isSyntaxRules false (treeAt (now (work .entry)) node w) ⌝ }
 {
-    if cells::word(work, node, 3) != cells::NAME {
+    if cells::word(work, node, cells::KIND) != cells::NAME {
         return false;
     }
     if names::number_of(work, node) != SYNTAX_RULES {
@@ -75,7 +71,7 @@ pub fn is_rules_form(work: &[u32], node: u32, w: u32) -> bool
             if n == 0 {
                 return false;
             }
-            return n <= RULES;
+            return n <= words::RULES;
         }
         return false;
     }

@@ -17,6 +17,7 @@ ghost use Rattle.rule_cells.specs.Variables.{variablesFrom, Under};
 ghost use Rattle.rule_cells.specs.Built.{builtOf};
 ghost use Rattle.rule_cells.specs.Parse.{Asks, TemplateLeft};
 use crate::cells;
+use crate::constructors;
 use crate::dots;
 use crate::variables;
 use crate::variables::Known;
@@ -24,13 +25,13 @@ use resolution::names;
 use words::packed;
 
 // Whether a template holds a variable that drives its copies: one under more ellipses than the j inside the element.
-pub fn driven(work: &[u32], at: u32, j: u32) -> bool
+fn driven(work: &[u32], at: u32, j: u32) -> bool
     requires { ⌜ j + at < 2 ^ 32 ⌝ }
     ensures { λ r. ⌜ Drives (now (work .entry)) at j r ⌝ }
 {
-    let tag = arena::cells::word(work, at, 1);
+    let tag = arena::cells::word(work, at, cells::TAG);
     if tag == cells::VARIABLE {
-        return j < arena::cells::word(work, at, 2);
+        return j < arena::cells::word(work, at, cells::DEPTH);
     }
     if tag < cells::PAIR {
         return false;
@@ -38,17 +39,17 @@ pub fn driven(work: &[u32], at: u32, j: u32) -> bool
     if cells::ELLIPSIS < tag {
         return false;
     }
-    let first = arena::cells::reference(work, at, 3);
+    let first = arena::cells::reference(work, at, cells::HEAD);
     let inner = j + (tag - cells::PAIR);
     if driven(work, first, inner) {
         return true;
     }
-    let rest = arena::cells::reference(work, at, 2);
+    let rest = arena::cells::reference(work, at, cells::REST);
     driven(work, rest, j)
 }
 
 // Whether an element may stand before what follows it: before `...` it holds a variable that drives its copies.
-pub fn accepted(work: &[u32], dots: bool, at: u32) -> bool
+fn accepted(work: &[u32], dots: bool, at: u32) -> bool
     ensures { λ r. ⌜ Accepts (now (work .entry)) dots at r ⌝ }
 {
     if dots {
@@ -58,7 +59,7 @@ pub fn accepted(work: &[u32], dots: bool, at: u32) -> bool
 }
 
 // A variable under none may be anywhere; one under d > 0 must be under exactly d.
-pub fn depth_fits(d: u32, here: u32) -> bool
+fn depth_fits(d: u32, here: u32) -> bool
     ensures { λ r. ⌜ r ≡ depthFits d here ⌝ }
 {
     if d == 0 {
@@ -68,18 +69,18 @@ pub fn depth_fits(d: u32, here: u32) -> bool
 }
 
 // An element and the rest of its list: an ellipsis where `...` follows the element, a pair otherwise.
-pub fn put_list(work: &mut [u32], top: u32, dots: bool, element: u32, rest: u32) -> u32
+fn put_list(work: &mut [u32], top: u32, dots: bool, element: u32, rest: u32) -> u32
     requires { ⌜ (Room (now work) top 5) × (element ≤ top) × (rest ≤ top) ⌝ }
     ensures { λ r. ⌜ Made templateAt (cond dots (ellipsisT (templateAt (now (work .entry)) element) (templateAt (now (work .entry)) rest)) (pairT (templateAt (now (work .entry)) element) (templateAt (now (work .entry)) rest))) (now (work .entry)) (now (work .exit)) top r ⌝ }
 {
     if dots {
-        return cells::put_ellipsis_template(work, top, element, rest);
+        return constructors::put_ellipsis_template(work, top, element, rest);
     }
-    cells::put_pair_template(work, top, element, rest)
+    constructors::put_pair_template(work, top, element, rest)
 }
 
 // A template's name under d ellipses: a variable, or inserted; `...` itself is none.
-pub fn template_name(
+fn template_name(
     work: &mut [u32],
     vars: &[u32],
     count: u32,
@@ -97,19 +98,19 @@ pub fn template_name(
     match variables::find(work, vars, 0, count, node, w) {
         Known::At(k, e) => {
             if depth_fits(e, d) {
-                let r = cells::put_variable_template(work, top, k, e);
+                let r = constructors::put_variable_template(work, top, k, e);
                 return packed::pair(r, r);
             }
             return packed::NONE;
         }
         Known::Not => {}
     }
-    let r = cells::put_insert(work, top, node, w);
+    let r = constructors::put_insert(work, top, node, w);
     packed::pair(r, r)
 }
 
 // A part of a template that is no pair.
-pub fn template_leaf(
+fn template_leaf(
     work: &mut [u32],
     vars: &[u32],
     count: u32,
@@ -121,16 +122,16 @@ pub fn template_leaf(
     requires { ⌜ (Asks (now work) node w top) × (count ≤ 16) × (32 ≤ length (now vars)) × (wordAt (now work) node 3 ≡ 4 → ⊥) ⌝ }
     ensures { λ r. ⌜ TemplateLeft (variablesFrom (now (work .entry)) w (now (vars .entry)) 0 count) d false (treeAt (now (work .entry)) node w) (now (work .entry)) (now (work .exit)) top (builtOf r) ⌝ }
 {
-    let kind = arena::cells::word(work, node, 3);
+    let kind = arena::cells::word(work, node, arena::cells::KIND);
     if kind == arena::cells::NAME {
         return template_name(work, vars, count, node, w, d, top);
     }
     if kind == arena::cells::EMPTY {
         return packed::pair(0, top);
     }
-    let first = arena::cells::word(work, node, 2);
-    let second = arena::cells::word(work, node, 1);
-    let r = cells::put_constant_template(work, top, kind, first, second);
+    let first = arena::cells::word(work, node, arena::cells::FIRST);
+    let second = arena::cells::word(work, node, arena::cells::SECOND);
+    let r = constructors::put_constant_template(work, top, kind, first, second);
     packed::pair(r, r)
 }
 
@@ -148,11 +149,11 @@ pub fn template(
     requires { ⌜ (Asks (now work) node w top) × (count ≤ 16) × (32 ≤ length (now vars)) × (Under (now vars) count top) × (d + node < 2 ^ 32) ⌝ }
     ensures { λ r. ⌜ TemplateLeft (variablesFrom (now (work .entry)) w (now (vars .entry)) 0 count) d taken (treeAt (now (work .entry)) node w) (now (work .entry)) (now (work .exit)) top (builtOf r) ⌝ }
 {
-    if arena::cells::word(work, node, 3) != arena::cells::PAIR {
+    if arena::cells::word(work, node, arena::cells::KIND) != arena::cells::PAIR {
         return template_leaf(work, vars, count, node, w, d, top);
     }
-    let head = arena::cells::reference(work, node, 2);
-    let rest = arena::cells::reference(work, node, 1);
+    let head = arena::cells::reference(work, node, arena::cells::HEAD);
+    let rest = arena::cells::reference(work, node, arena::cells::TAIL);
     if taken {
         return template(work, vars, count, rest, w, d, false, top);
     }

@@ -9,17 +9,15 @@ ghost use lib.ListN.{length};
 ghost use Rattle.words.specs.Lists.{anyOf};
 ghost use Rattle.recipe.specs.Name.{same, isEllipsis};
 ghost use Rattle.recipe.specs.Tree.{name, names};
-ghost use Rattle.expansion.specs.Rules.{variableFrom, variables};
+ghost use Rattle.expansion.specs.Rules.{isVariable, variableFrom, variables};
 ghost use Rattle.arena.specs.Arena.{nameAt, treeAt};
 ghost use Rattle.rule_cells.specs.Variables.{leafCount, variablesFrom, knownOf, Deeper, keptOf, Held, Gathered};
 use crate::dots;
 use arena::cells;
 use resolution::names;
 
-// The most variables of a pattern, and the most ellipses over one.
-pub const MOST: u32 = 16;
-
-pub const DEPTH: u32 = 2;
+// The words of the table: two for each of the most variables of a pattern.
+pub const WORDS: usize = 2 * words::VARIABLES as usize;
 
 // The variable that a name is the same as: its number and its depth.
 pub enum Known {
@@ -32,14 +30,14 @@ pub fn is_literal(work: &[u32], list: u32, node: u32, w: u32) -> bool
     ensures { λ r. ⌜ r ≡ anyOf (same (nameAt (now (work .entry)) node w)) (names (treeAt (now (work .entry)) list w)) ⌝ }
 {
     let mut at = list;
-    let mut kind = cells::word(work, at, 3);
+    let mut kind = cells::word(work, at, cells::KIND);
     while kind == cells::PAIR {
-        let first = cells::reference(work, at, 2);
+        let first = cells::reference(work, at, cells::HEAD);
         if is_literal(work, first, node, w) {
             return true;
         }
-        at = cells::reference(work, at, 1);
-        kind = cells::word(work, at, 3);
+        at = cells::reference(work, at, cells::TAIL);
+        kind = cells::word(work, at, cells::KIND);
     }
     if kind == cells::NAME {
         return names::same_names(work, node, w, at, w);
@@ -47,24 +45,34 @@ pub fn is_literal(work: &[u32], list: u32, node: u32, w: u32) -> bool
     false
 }
 
+// Whether a pattern's name is a variable: neither `...` nor `_` nor the same as a listed literal.
+pub fn is_variable(work: &[u32], literals: u32, node: u32, w: u32) -> bool
+    ensures { λ r. ⌜ r ≡ isVariable isEllipsis (names (treeAt (now (work .entry)) literals w)) (nameAt (now (work .entry)) node w) ⌝ }
+{
+    let number = names::number_of(work, node);
+    if number == names::ELLIPSIS {
+        return false;
+    }
+    if number == names::WILDCARD {
+        return false;
+    }
+    if is_literal(work, literals, node, w) {
+        return false;
+    }
+    true
+}
+
 // How many variables a leaf of a pattern is, none or one.
 pub fn leaf_count(work: &[u32], literals: u32, node: u32, w: u32) -> u32
     ensures { λ r. ⌜ r ≡ leafCount (names (treeAt (now (work .entry)) literals w)) (treeAt (now (work .entry)) node w) ⌝ }
 {
-    if cells::word(work, node, 3) != cells::NAME {
+    if cells::word(work, node, cells::KIND) != cells::NAME {
         return 0;
     }
-    let number = names::number_of(work, node);
-    if number == names::ELLIPSIS {
-        return 0;
+    if is_variable(work, literals, node, w) {
+        return 1;
     }
-    if number == names::WILDCARD {
-        return 0;
-    }
-    if is_literal(work, literals, node, w) {
-        return 0;
-    }
-    1
+    0
 }
 
 // Which of `left` variables from number i on a name is the same as.
@@ -99,7 +107,7 @@ pub fn element_depth(dots: bool, d: u32) -> u32
 }
 
 // The depth of an element before this rest of its list.
-pub fn depth_before(work: &[u32], rest: u32, d: u32) -> u32
+fn depth_before(work: &[u32], rest: u32, d: u32) -> u32
     requires { ⌜ d + 1 < 2 ^ 32 ⌝ }
     ensures { λ r. ⌜ Deeper (now (work .entry)) rest d r ⌝ }
 {
@@ -107,14 +115,14 @@ pub fn depth_before(work: &[u32], rest: u32, d: u32) -> u32
 }
 
 // One more variable behind the n of the table, under d ellipses: how many the table then holds, or BAD.
-pub fn add(work: &[u32], vars: &mut [u32], node: u32, w: u32, d: u32, n: u32) -> u32
+fn add(work: &[u32], vars: &mut [u32], node: u32, w: u32, d: u32, n: u32) -> u32
     requires { ⌜ (32 ≤ length (now vars)) × (Held (now work) w (now vars) n) ⌝ }
     ensures { λ r. ⌜ Gathered ((nameAt (now (work .entry)) node w, d) ∷ []) (now (work .entry)) w node n (now (vars .entry)) (now (vars .exit)) (keptOf r) ⌝ }
 {
-    if DEPTH < d {
+    if words::DEPTH < d {
         return BAD;
     }
-    if MOST <= n {
+    if words::VARIABLES <= n {
         return BAD;
     }
     match find(work, vars, 0, n, node, w) {
@@ -130,7 +138,7 @@ pub fn add(work: &[u32], vars: &mut [u32], node: u32, w: u32, d: u32, n: u32) ->
 }
 
 // The variable of a pattern's name, where it is one: how many the table then holds, or BAD.
-pub fn gather_name(
+fn gather_name(
     work: &[u32],
     vars: &mut [u32],
     literals: u32,
@@ -142,14 +150,7 @@ pub fn gather_name(
     requires { ⌜ (32 ≤ length (now vars)) × (Held (now work) w (now vars) n) ⌝ }
     ensures { λ r. ⌜ Gathered (variables isEllipsis (names (treeAt (now (work .entry)) literals w)) d (name (nameAt (now (work .entry)) node w))) (now (work .entry)) w node n (now (vars .entry)) (now (vars .exit)) (keptOf r) ⌝ }
 {
-    let number = names::number_of(work, node);
-    if number == names::ELLIPSIS {
-        return n;
-    }
-    if number == names::WILDCARD {
-        return n;
-    }
-    if is_literal(work, literals, node, w) {
+    if !is_variable(work, literals, node, w) {
         return n;
     }
     add(work, vars, node, w, d, n)
@@ -171,9 +172,9 @@ pub fn gather(
 {
     let mut at = node;
     let mut m = n;
-    while cells::word(work, at, 3) == cells::PAIR {
-        let head = cells::reference(work, at, 2);
-        let rest = cells::reference(work, at, 1);
+    while cells::word(work, at, cells::KIND) == cells::PAIR {
+        let head = cells::reference(work, at, cells::HEAD);
+        let rest = cells::reference(work, at, cells::TAIL);
         let inner = depth_before(work, rest, d);
         let k = gather(work, vars, literals, head, w, inner, m);
         if k == BAD {
@@ -182,7 +183,7 @@ pub fn gather(
         m = k;
         at = rest;
     }
-    if cells::word(work, at, 3) == cells::NAME {
+    if cells::word(work, at, cells::KIND) == cells::NAME {
         return gather_name(work, vars, literals, at, w, d, m);
     }
     m

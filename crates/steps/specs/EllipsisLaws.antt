@@ -1,6 +1,6 @@
 -- Laws of an element followed by `...`: the rest of its list is built first, then its copies before that.
 use mathlib.Core.Path.{_≡_, refl, sym, ap, subst, _∙_}
-use mathlib.Core.Bool.{Bool, true, false, _&&_, false≢true}
+use mathlib.Core.Bool.{true, false, _&&_, false≢true}
 use mathlib.Core.List.{List}
 use Prim.Native.Nat.{ℕ, _+_}
 use native.Mathlib.Omega.{arith}
@@ -13,7 +13,7 @@ use Rattle.arena.specs.ArenaLaws.{take-less, referenceAt-most}
 use Rattle.rule_cells.specs.Cells.{templateAt}
 use Rattle.environments.specs.Sound.{Plain}
 use Rattle.environments.specs.Environment.{agreeBy, resultBy}
-use Rattle.environments.specs.Lengths.{driving, AllOf, Copies}
+use Rattle.environments.specs.Lengths.{driving, Copies, Differs}
 use Rattle.environments.specs.AgreeLaws.{ellipsis-is, below-cong}
 use Rattle.environments.specs.EnvironmentLaws.{copies-cong}
 use Rattle.steps.specs.Built.{Built, At, Stopped}
@@ -22,76 +22,80 @@ use Rattle.steps.specs.ResultLaws.{both, plain-ellipsis, copy-kept, copy
 use Rattle.steps.specs.CopyLaws.{produce-copies, size-all-copies, added-cong}
 
 module _ (old : List ℕ) (top fuel : ℕ) (env : List ℕ) (w t tag : ℕ) (tag-is : tag ≡ wordAt old t 1) (ok : Buildable old top fuel env w t) (head rest : ℕ) (head-is : head ≡ referenceAt old t 3) (rest-is : rest ≡ referenceAt old t 2)
-    (e : tag ≡ 7) (c : ℕ) (c-is : Copies old env head c) (b : Bool) (b-is : AllOf old env 0 head c b) where
+    (e : tag ≡ 7) where
   template-is : templateAt old t ≡ ellipsisT (templateAt old head) (templateAt old rest)
   template-is = ellipsis-is old t tag head rest tag-is head-is rest-is e
 
   parts-plain : Plain (templateAt old head) × Plain (templateAt old rest)
   parts-plain = plain-ellipsis _ _ (subst Plain template-is (ok .plain))
 
-  abbrev Copy : ℕ → Tree
-  Copy = copyAt old env w head
-
-  of-ellipsis : resultAt old env w t ≡ copies Copy 0 c (resultAt old env w rest)
-  unfolding resultAt copyAt resultBy
-  of-ellipsis = rw (template-is, c-is w) refl
-
-  size-ellipsis : size (resultAt old env w t) ≡ added Copy c + size (resultAt old env w rest)
-  size-ellipsis = ap size of-ellipsis ∙ size-all-copies Copy c (resultAt old env w rest)
-
-  agrees-ellipsis : agreesAt old env w t ≡ (b && (allBelow (copyAgrees old env w head) c && agreesAt old env w rest))
-  unfolding agreesAt copyAgrees agreeBy driving
-  agrees-ellipsis = rw (template-is, ← c-is w, ← b-is w) refl
-
-  pub ellipsis-differs : b ≡ false → Made old old top fuel env w t Stopped
-  ellipsis-differs bad = record { over = λ a. absurd (false≢true (sym bad ∙ both b _ (sym agrees-ellipsis ∙ a) .0)); kept = refl }
-
-  rest-agrees : agreesAt old env w t ≡ true → (allBelow (copyAgrees old env w head) c ≡ true) × (agreesAt old env w rest ≡ true)
-  rest-agrees a = both (allBelow (copyAgrees old env w head) c) _ (both b _ (sym agrees-ellipsis ∙ a) .1)
+  pub ellipsis-differs : Differs old env head → Made old old top fuel env w t Stopped
+  unfolding agreesAt agreeBy driving
+  ellipsis-differs d =
+      let no : agreesAt old env w t ≡ false = rw (template-is, ← d .differ w) refl in
+      record { over = λ a. absurd (false≢true (sym no ∙ a)); kept = refl }
 
   pub ellipsis-rest : Buildable old top fuel env w rest
   ellipsis-rest = record { room = ok .room; plain = parts-plain .1; under = ok .under; wrap-below = ok .wrap-below; template-below = omega (arith, ok .template-below, referenceAt-most old t 2) }
 
-  pub ellipsis-rest-costly : (one : List ℕ) → Stops old one top fuel env w rest → Made old one top fuel env w t Stopped
-  ellipsis-rest-costly one s = record { over = λ a. omega (arith, s .over (rest-agrees a .1), size-ellipsis); kept = s .kept }
+  module _ (c : ℕ) (c-is : Copies old env head c) where
+    abbrev Copy : ℕ → Tree
+    Copy = copyAt old env w head
 
-  module _ (good : b ≡ true) (one : List ℕ) (s f : ℕ) (g : Gives old one top fuel env w rest s f) (long : length one ≡ length old) where
-    head-buildable : Buildable old top fuel env w head
-    head-buildable = record { room = ok .room; plain = parts-plain .0; under = ok .under; wrap-below = ok .wrap-below; template-below = omega (arith, ok .template-below, referenceAt-most old t 3) }
+    of-ellipsis : resultAt old env w t ≡ copies Copy 0 c (resultAt old env w rest)
+    unfolding resultAt copyAt resultBy
+    of-ellipsis = rw (template-is, c-is .count w) refl
 
-    pub ellipsis-copies : Buildable one s f env w head
-    ellipsis-copies = buildable-left old one top fuel s f env w head head-buildable (g .paid .kept) long (g .paid .above) (g .paid .most)
+    size-ellipsis : size (resultAt old env w t) ≡ added Copy c + size (resultAt old env w rest)
+    size-ellipsis = ap size of-ellipsis ∙ size-all-copies Copy c (resultAt old env w rest)
 
-    at-kept : (i : ℕ) → copyAt one env w head i ≡ Copy i
-    at-kept i = copy-kept old one top (g .paid .kept) env w head i (ok .wrap-below) (head-buildable .template-below) (ok .under)
+    agrees-ellipsis : agreesAt old env w t ≡ (allBelow (copyAgrees old env w head) c && agreesAt old env w rest)
+    unfolding agreesAt copyAgrees agreeBy driving
+    agrees-ellipsis = rw (template-is, ← c-is .count w, ← c-is .same w) refl
 
-    agreed-kept : allBelow (copyAgrees one env w head) c ≡ allBelow (copyAgrees old env w head) c
-    agreed-kept = below-cong _ _ c (λ i. copy-agrees-kept old one top (g .paid .kept) env w head i (ok .wrap-below) (head-buildable .template-below) (ok .under))
+    rest-agrees : agreesAt old env w t ≡ true → (allBelow (copyAgrees old env w head) c ≡ true) × (agreesAt old env w rest ≡ true)
+    rest-agrees a = both (allBelow (copyAgrees old env w head) c) _ (sym agrees-ellipsis ∙ a)
 
-    ellipsis-costly : (new : List ℕ) → Copied one new s f env w head c Stopped → Made old new top fuel env w t Stopped
-    ellipsis-costly new a =
-        record {
-          over = λ h. omega (arith, a .over (agreed-kept ∙ rest-agrees h .0), added-cong _ _ c at-kept, g .paid .spent, size-ellipsis);
-          kept = take-less new one top s (g .paid .above) (a .kept) ∙ g .paid .kept;
-        }
+    pub ellipsis-rest-costly : (one : List ℕ) → Stops old one top fuel env w rest → Made old one top fuel env w t Stopped
+    ellipsis-rest-costly one s = record { over = λ a. omega (arith, s .over (rest-agrees a .1), size-ellipsis); kept = s .kept }
 
-    made-ellipsis : (new : List ℕ) (r l : ℕ) → Copied one new s f env w head c (At r l) → Made old new top fuel env w t (At r l)
-    made-ellipsis new r l a =
-        record {
-          paid =
-              record {
-                spent = omega (arith, a .spent, added-cong _ _ c at-kept, g .paid .spent, size-ellipsis);
-                above = omega (arith, a .above, g .paid .above);
-                most = omega (arith, a .most, g .paid .most);
-                kept = take-less new one top s (g .paid .above) (a .kept) ∙ g .paid .kept;
-                means =
-                    a .means
-                    ∙ copies-cong _ _ 0 c _ _ (λ i. ap produce (at-kept i)) (g .paid .means)
-                    ∙ sym (ap produce of-ellipsis ∙ produce-copies Copy 0 c (resultAt old env w rest));
-              };
-          agrees = agrees-ellipsis ∙ rw (good, ← agreed-kept, a .agreed, g .agrees) refl;
-        }
+    module _ (one : List ℕ) (s f : ℕ) (g : Gives old one top fuel env w rest s f) (long : length one ≡ length old) where
+      head-buildable : Buildable old top fuel env w head
+      head-buildable = record { room = ok .room; plain = parts-plain .0; under = ok .under; wrap-below = ok .wrap-below; template-below = omega (arith, ok .template-below, referenceAt-most old t 3) }
 
-    pub made-copies : (new : List ℕ) (r : Built) → Copied one new s f env w head c r → Made old new top fuel env w t r
-    made-copies new (At r l) a = made-ellipsis new r l a
-    made-copies new Stopped a = ellipsis-costly new a
+      pub ellipsis-copies : Buildable one s f env w head
+      ellipsis-copies = buildable-left old one top fuel s f env w head head-buildable (g .paid .kept) long (g .paid .above) (g .paid .most)
+
+      at-kept : (i : ℕ) → copyAt one env w head i ≡ Copy i
+      at-kept i = copy-kept old one top (g .paid .kept) env w head i (ok .wrap-below) (head-buildable .template-below) (ok .under)
+
+      agreed-kept : allBelow (copyAgrees one env w head) c ≡ allBelow (copyAgrees old env w head) c
+      agreed-kept = below-cong _ _ c (λ i. copy-agrees-kept old one top (g .paid .kept) env w head i (ok .wrap-below) (head-buildable .template-below) (ok .under))
+
+      ellipsis-costly : (new : List ℕ) → Copied one new s f env w head c Stopped → Made old new top fuel env w t Stopped
+      ellipsis-costly new a =
+          record {
+            over = λ h. omega (arith, a .over (agreed-kept ∙ rest-agrees h .0), added-cong _ _ c at-kept, g .paid .spent, size-ellipsis);
+            kept = take-less new one top s (g .paid .above) (a .kept) ∙ g .paid .kept;
+          }
+
+      made-ellipsis : (new : List ℕ) (r l : ℕ) → Copied one new s f env w head c (At r l) → Made old new top fuel env w t (At r l)
+      made-ellipsis new r l a =
+          record {
+            paid =
+                record {
+                  spent = omega (arith, a .spent, added-cong _ _ c at-kept, g .paid .spent, size-ellipsis);
+                  above = omega (arith, a .above, g .paid .above);
+                  most = omega (arith, a .most, g .paid .most);
+                  kept = take-less new one top s (g .paid .above) (a .kept) ∙ g .paid .kept;
+                  means =
+                      a .means
+                      ∙ copies-cong _ _ 0 c _ _ (λ i. ap produce (at-kept i)) (g .paid .means)
+                      ∙ sym (ap produce of-ellipsis ∙ produce-copies Copy 0 c (resultAt old env w rest));
+                };
+            agrees = agrees-ellipsis ∙ rw (← agreed-kept, a .agreed, g .agrees) refl;
+          }
+
+      pub made-copies : (new : List ℕ) (r : Built) → Copied one new s f env w head c r → Made old new top fuel env w t r
+      made-copies new (At r l) a = made-ellipsis new r l a
+      made-copies new Stopped a = ellipsis-costly new a

@@ -49,8 +49,8 @@ pub fn apply(work: &mut [u32], top: u32, rules: u32, u: u32, w: u32, limit: u32)
     if rule == 0 {
         return Applied::NoRule;
     }
-    let p = cells::reference(work, rule, 3);
-    let t = cells::reference(work, rule, 2);
+    let p = cells::reference(work, rule, rule_cells::cells::PATTERN);
+    let t = cells::reference(work, rule, rule_cells::cells::TEMPLATE);
     let mut env = [0u32; environment::WORDS];
     bind::bind(work, &mut env, p, u);
     transcribe(work, top, &env, w, t, limit)

@@ -13,10 +13,11 @@ use crate::copy;
 use arena::cells;
 use environments::environment;
 use environments::lengths;
+use environments::lengths::Count;
 use words::packed;
 
 // What a template's cell without parts gives.
-pub fn build_leaf(
+fn build_leaf(
     work: &mut [u32],
     top: u32,
     fuel: u32,
@@ -27,10 +28,10 @@ pub fn build_leaf(
     requires { ⌜ (Buildable (now work) top fuel (now env) w t) × (wordAt (now work) t 1 ≡ 6 → ⊥) × (wordAt (now work) t 1 ≡ 7 → ⊥) ⌝ }
     ensures { λ r. ⌜ Made (now (work .entry)) (now (work .exit)) top fuel (now (env .entry)) w t (builtOf r) ⌝ }
 {
-    let tag = cells::word(work, t, cells::TAG);
+    let tag = cells::word(work, t, rule_cells::cells::TAG);
     if tag == rule_cells::cells::VARIABLE {
-        let k = cells::word(work, t, 3);
-        let d = cells::word(work, t, 2);
+        let k = cells::word(work, t, rule_cells::cells::NUMBER);
+        let d = cells::word(work, t, rule_cells::cells::DEPTH);
         let node = environment::taken(env, k, d);
         return copy::copy_tree(work, top, fuel, node, w);
     }
@@ -39,21 +40,21 @@ pub fn build_leaf(
     }
     let left = fuel - 1;
     if tag == rule_cells::cells::NAME {
-        let node = cells::reference(work, t, 3);
-        let wrap = cells::reference(work, t, 2);
+        let node = cells::reference(work, t, rule_cells::cells::NODE);
+        let wrap = cells::reference(work, t, rule_cells::cells::WRAP);
         return packed::pair(copy::copy_name(work, top, node, wrap), left);
     }
     if tag == rule_cells::cells::CONSTANT {
-        let kind = cells::word(work, t, 4);
-        let a = cells::word(work, t, 3);
-        let b = cells::word(work, t, 2);
+        let kind = cells::word(work, t, rule_cells::cells::KIND);
+        let a = cells::word(work, t, rule_cells::cells::FIRST);
+        let b = cells::word(work, t, rule_cells::cells::SECOND);
         return packed::pair(cells::put_constant(work, top, kind, a, b), left);
     }
     packed::pair(cells::put_empty(work, top), left)
 }
 
 // What a part of a template gives. A cell without parts is built in place, without a call more.
-pub fn build_part(
+fn build_part(
     work: &mut [u32],
     top: u32,
     fuel: u32,
@@ -64,7 +65,7 @@ pub fn build_part(
     requires { ⌜ Buildable (now work) top fuel (now env) w t ⌝ }
     ensures { λ r. ⌜ Made (now (work .entry)) (now (work .exit)) top fuel (now (env .entry)) w t (builtOf r) ⌝ }
 {
-    let tag = cells::word(work, t, cells::TAG);
+    let tag = cells::word(work, t, rule_cells::cells::TAG);
     if tag < rule_cells::cells::PAIR {
         return build_leaf(work, top, fuel, env, w, t);
     }
@@ -86,7 +87,7 @@ pub fn build(
     requires { ⌜ Buildable (now work) top fuel (now env) w t ⌝ }
     ensures { λ r. ⌜ Made (now (work .entry)) (now (work .exit)) top fuel (now (env .entry)) w t (builtOf r) ⌝ }
 {
-    let tag = cells::word(work, t, cells::TAG);
+    let tag = cells::word(work, t, rule_cells::cells::TAG);
     if tag == rule_cells::cells::ELLIPSIS {
         return build_ellipsis(work, top, fuel, env, w, t);
     }
@@ -96,8 +97,8 @@ pub fn build(
     if fuel == 0 {
         return packed::NONE;
     }
-    let first = cells::reference(work, t, 3);
-    let rest = cells::reference(work, t, 2);
+    let first = cells::reference(work, t, rule_cells::cells::HEAD);
+    let rest = cells::reference(work, t, rule_cells::cells::REST);
     let b = build_part(work, top, fuel - 1, env, w, rest);
     if b == packed::NONE {
         return packed::NONE;
@@ -123,12 +124,11 @@ fn build_ellipsis(
     requires { ⌜ (Buildable (now work) top fuel (now env) w t) × (wordAt (now work) t 1 ≡ 7) ⌝ }
     ensures { λ r. ⌜ Made (now (work .entry)) (now (work .exit)) top fuel (now (env .entry)) w t (builtOf r) ⌝ }
 {
-    let first = cells::reference(work, t, 3);
-    let rest = cells::reference(work, t, 2);
-    let c = lengths::copies(work, env, first);
-    if !lengths::one_length(work, env, first, c) {
+    let first = cells::reference(work, t, rule_cells::cells::HEAD);
+    let rest = cells::reference(work, t, rule_cells::cells::REST);
+    let Count::Of(c) = lengths::copies(work, env, first) else {
         return packed::NONE;
-    }
+    };
     let b = build_part(work, top, fuel, env, w, rest);
     if b == packed::NONE {
         return packed::NONE;
@@ -187,13 +187,13 @@ fn build_elements(
     if !environment::is_listed(work, env, e) {
         return build_backwards(work, top, fuel, env, w, e, c);
     }
-    let k = cells::word(work, e, 3);
+    let k = cells::word(work, e, rule_cells::cells::NUMBER);
     let list = environment::taken(env, k, 0);
     copy::copy_elements(work, top, fuel, list, w, c)
 }
 
 // The copies of an element before the list that ends at the top.
-pub fn build_copies(
+fn build_copies(
     work: &mut [u32],
     top: u32,
     fuel: u32,

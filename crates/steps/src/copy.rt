@@ -28,7 +28,7 @@ pub fn copy_name(work: &mut [u32], top: u32, node: u32, w: u32) -> u32
 }
 
 // A fresh copy of a node that is no pair.
-pub fn copy_leaf(work: &mut [u32], top: u32, fuel: u32, node: u32, w: u32) -> u64
+fn copy_leaf(work: &mut [u32], top: u32, fuel: u32, node: u32, w: u32) -> u64
     requires { ⌜ (Waiting (now work) top fuel node w) × (wordAt (now work) node 3 ≡ 4 → ⊥) ⌝ }
     ensures { λ r. ⌜ Pays (treeAt (now (work .entry)) node w) (now (work .entry)) (now (work .exit)) top fuel (builtOf r) ⌝ }
 {
@@ -49,7 +49,7 @@ pub fn copy_leaf(work: &mut [u32], top: u32, fuel: u32, node: u32, w: u32) -> u6
 }
 
 // A fresh copy of a part of a tree. A part that is no pair is copied in place, without a call more.
-pub fn copy_part(work: &mut [u32], top: u32, fuel: u32, node: u32, w: u32) -> u64
+fn copy_part(work: &mut [u32], top: u32, fuel: u32, node: u32, w: u32) -> u64
     requires { ⌜ Waiting (now work) top fuel node w ⌝ }
     ensures { λ r. ⌜ Pays (treeAt (now (work .entry)) node w) (now (work .entry)) (now (work .exit)) top fuel (builtOf r) ⌝ }
 {

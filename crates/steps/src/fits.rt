@@ -7,19 +7,19 @@ use arena::cells;
 use resolution::names;
 
 // A literal fits a name whose lookup finds what its own has found.
-pub fn literal_fits(work: &[u32], p: u32, u: u32, w: u32) -> bool
+fn literal_fits(work: &[u32], p: u32, u: u32, w: u32) -> bool
     ensures { λ r. ⌜ LiteralFits (now (work .entry)) p u w r ⌝ }
 {
     if cells::word(work, u, cells::KIND) != cells::NAME {
         return false;
     }
-    let number = cells::word(work, p, 3);
-    let binding = cells::word(work, p, 2);
+    let number = cells::word(work, p, rule_cells::cells::LITERAL_NUMBER);
+    let binding = cells::word(work, p, rule_cells::cells::LITERAL_KEY);
     names::agrees(work, number, binding, u, w)
 }
 
 // A constant is matched by value.
-pub fn constant_fits(work: &[u32], p: u32, u: u32) -> bool
+fn constant_fits(work: &[u32], p: u32, u: u32) -> bool
     ensures { λ r. ⌜ ConstantFits (now (work .entry)) p u r ⌝ }
 {
     let kind = cells::word(work, u, cells::KIND);
@@ -32,21 +32,21 @@ pub fn constant_fits(work: &[u32], p: u32, u: u32) -> bool
     if kind == cells::PAIR {
         return false;
     }
-    if cells::word(work, p, 4) != kind {
+    if cells::word(work, p, rule_cells::cells::KIND) != kind {
         return false;
     }
-    if cells::word(work, p, 3) != cells::word(work, u, cells::FIRST) {
+    if cells::word(work, p, rule_cells::cells::FIRST) != cells::word(work, u, cells::FIRST) {
         return false;
     }
-    cells::word(work, p, 2) == cells::word(work, u, cells::SECOND)
+    cells::word(work, p, rule_cells::cells::SECOND) == cells::word(work, u, cells::SECOND)
 }
 
 // Whether a pattern that is no pair fits a use.
-pub fn end_fits(work: &[u32], p: u32, u: u32, w: u32) -> bool
+fn end_fits(work: &[u32], p: u32, u: u32, w: u32) -> bool
     requires { ⌜ (wordAt (now work) p 1 ≡ 6 → ⊥) ⌝ }
     ensures { λ r. ⌜ Fits (now (work .entry)) p u w r ⌝ }
 {
-    let tag = cells::word(work, p, cells::TAG);
+    let tag = cells::word(work, p, rule_cells::cells::TAG);
     if tag == rule_cells::cells::VARIABLE {
         return true;
     }
@@ -60,45 +60,45 @@ pub fn end_fits(work: &[u32], p: u32, u: u32, w: u32) -> bool
         return constant_fits(work, p, u);
     }
     if tag == rule_cells::cells::ELLIPSIS {
-        let element = cells::reference(work, p, 2);
+        let element = cells::reference(work, p, rule_cells::cells::ELEMENT);
         return each_fits(work, element, u, w);
     }
     cells::word(work, u, cells::KIND) == cells::EMPTY
 }
 
 // Whether a part of a pattern fits. A variable takes anything, without a call more.
-pub fn part_fits(work: &[u32], p: u32, u: u32, w: u32) -> bool
+fn part_fits(work: &[u32], p: u32, u: u32, w: u32) -> bool
     ensures { λ r. ⌜ Fits (now (work .entry)) p u w r ⌝ }
 {
-    if cells::word(work, p, cells::TAG) == rule_cells::cells::VARIABLE {
+    if cells::word(work, p, rule_cells::cells::TAG) == rule_cells::cells::VARIABLE {
         return true;
     }
     fits(work, p, u, w)
 }
 
 // Whether a pattern fits a use, from the left, up to the first misfit.
-pub fn fits(work: &[u32], p: u32, u: u32, w: u32) -> bool
+fn fits(work: &[u32], p: u32, u: u32, w: u32) -> bool
     ensures { λ r. ⌜ Fits (now (work .entry)) p u w r ⌝ }
 {
     let mut at = p;
     let mut node = u;
-    while cells::word(work, at, cells::TAG) == rule_cells::cells::PAIR {
+    while cells::word(work, at, rule_cells::cells::TAG) == rule_cells::cells::PAIR {
         if cells::word(work, node, cells::KIND) != cells::PAIR {
             return false;
         }
-        let head = cells::reference(work, at, 3);
+        let head = cells::reference(work, at, rule_cells::cells::HEAD);
         let first = cells::reference(work, node, cells::HEAD);
         if !part_fits(work, head, first, w) {
             return false;
         }
-        at = cells::reference(work, at, 2);
+        at = cells::reference(work, at, rule_cells::cells::REST);
         node = cells::reference(work, node, cells::TAIL);
     }
     end_fits(work, at, node, w)
 }
 
 // Whether every element of a list fits.
-pub fn each_fits(work: &[u32], e: u32, list: u32, w: u32) -> bool
+fn each_fits(work: &[u32], e: u32, list: u32, w: u32) -> bool
     ensures { λ r. ⌜ EachFits (now (work .entry)) e list w r ⌝ }
 {
     let mut node = list;
@@ -118,10 +118,15 @@ pub fn first_fit(work: &[u32], rules: u32, u: u32, w: u32) -> u32
 {
     let mut rule = rules;
     while rule != 0 {
-        if fits(work, cells::reference(work, rule, 3), u, w) {
+        if fits(
+            work,
+            cells::reference(work, rule, rule_cells::cells::PATTERN),
+            u,
+            w,
+        ) {
             return rule;
         }
-        rule = cells::reference(work, rule, 1);
+        rule = cells::reference(work, rule, rule_cells::cells::NEXT);
     }
     0
 }

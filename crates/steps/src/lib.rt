@@ -1,6 +1,6 @@
 // A macro step on cells: matching, and the result's nodes.
 
-pub mod apply;
-pub mod build;
-pub mod copy;
-pub mod fits;
+pub mod apply; // one step
+mod build;
+mod copy;
+mod fits;

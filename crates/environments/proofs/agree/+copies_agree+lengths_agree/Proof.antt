@@ -13,7 +13,6 @@ use Rattle.arena.proofs.cells.word.Reads as word-reads
 use Rattle.environments.proofs.agree.flat.Reads as flat-reads
 use Rattle.environments.proofs.environment.begin.Reads as begin-reads
 use Rattle.environments.proofs.environment.enter.Reads as enter-reads
-use Rattle.environments.proofs.lengths.one_length.Reads as one-length-reads
 use Rattle.environments.proofs.lengths.copies.Reads as copies-reads
 use Rattle.environments.proofs.agree.+copies_agree+lengths_agree.{statement}
 use Rattle.environments.proofs.agree.+copies_agree+lengths_agree.Tie.{close}
@@ -23,6 +22,7 @@ use Rattle.environments.specs.Lengths.{CopiesAgree}
 use Rattle.environments.specs.Entries.{AlongAll}
 use Rattle.environments.specs.EntryLaws.{moving-along}
 use Rattle.environments.specs.AgreeLaws.{agree-leaf, copies-flat, agree-head-no, agree-tail, agree-differ, agree-copies-no, agree-rest, begun-copies, copies-no, copies-more}
+use Rattle.environments.specs.LengthLaws.{counted-of, counted-differ}
 use native.Mathlib.Omega.{arith}
 use borrow.Author.Needs.{needs}
 use mathlib.Core.Path.{_≡_, subst}
@@ -64,7 +64,7 @@ abbrev copies-agree-claims : ℕ → copies-agree-lts.Claims
 copies-agree-claims t = (flat-reads.Asked, flat-reads.Learnt, begin-reads.Asked, begin-reads.Learnt, enter-reads.Asked, enter-reads.Learnt, lengths-agree-below t, lengths-agree.Post)
 
 abbrev lengths-agree-claims : ℕ → lengths-agree-lts.Claims
-lengths-agree-claims t = (word-reads.Asked, word-reads.Learnt, reference-reads.Asked, reference-reads.Learnt, lengths-agree-below t, lengths-agree.Post, copies-reads.Asked, copies-reads.Learnt, one-length-reads.Asked, one-length-reads.Learnt, copies-agree-below t, copies-agree.Post)
+lengths-agree-claims t = (word-reads.Asked, word-reads.Learnt, reference-reads.Asked, reference-reads.Learnt, lengths-agree-below t, lengths-agree.Post, copies-reads.Asked, copies-reads.Learnt, copies-agree-below t, copies-agree.Post)
 
 abbrev copies-agree-Inv-loop : copies-agree-lts.InvT-loop
 copies-agree-Inv-loop work env e c moving table₀ k₀ table k =
@@ -189,46 +189,19 @@ lengths-agree-returns-5 t c =
     let reference2 = c .before .before .before .before .reference2 in
     let if3 = c .before .before .before .if3 in
     let copies = c .before .before .copies in
-    let one-length = c .before .one-length in
-    let if5 = c .if5 in
-    agree-differ (a .work .now) (a .env .now) (a .t) _ (word .ensures) _ _ (reference .ensures) (reference2 .ensures) (omega (arith, if1 .left, if2 .left, if3 .left)) _ (copies .ensures) _ (one-length .ensures) (not-true _ (if5 .taken))
+    agree-differ (a .work .now) (a .env .now) (a .t) _ (word .ensures) _ _ (reference .ensures) (reference2 .ensures) (omega (arith, if1 .left, if2 .left, if3 .left)) (counted-differ _ _ _ _ (c .enum-told .given .1) (copies .ensures))
 
 lengths-agree-copies-agree-requires : (t : ℕ) → lengths-agree-lts.Need-copies-agree-requires (lengths-agree-claims t) (lengths-agree-at t) lengths-agree.Post
 lengths-agree-copies-agree-requires t c κs =
-    let entry = c .before .before .before .before .before .before .before .before .before .before in
+    let entry = c .before .before .before .before .before .before .before .before .before .before .before in
     let a = entry .args in
     let pre = entry .pre in
-    let word = c .before .before .before .before .before .before .before .before .word in
-    let reference = c .before .before .before .before .before .reference in
+    let word = c .before .before .before .before .before .before .before .before .before .word in
+    let reference = c .before .before .before .before .before .before .reference in
     let l = tag-falls (a .work .now) (a .t) _ (word .ensures) 3 _ (λ z. omega arith) (reference .ensures) in omega (arith, l, pre .0)
 
 lengths-agree-returns-6 : (t : ℕ) → lengths-agree-lts.Need-returns-6 (lengths-agree-claims t) (lengths-agree-at t) lengths-agree.Post
 lengths-agree-returns-6 t c =
-    let a = c .before .before .before .before .before .before .before .before .before .before .before .before .args in
-    let word = c .before .before .before .before .before .before .before .before .before .before .word in
-    let if1 = c .before .before .before .before .before .before .before .before .before .if1 in
-    let if2 = c .before .before .before .before .before .before .before .before .if2 in
-    let reference = c .before .before .before .before .before .before .before .reference in
-    let reference2 = c .before .before .before .before .before .before .reference2 in
-    let if3 = c .before .before .before .before .before .if3 in
-    let copies = c .before .before .before .before .copies in
-    let one-length = c .before .before .before .one-length in
-    let if5 = c .before .before .if5 in
-    let copies-agree = c .before .copies-agree in
-    let if6 = c .if6 in
-    agree-copies-no (a .work .now) (a .env .now) (a .t) _ (word .ensures) _ _ (reference .ensures) (reference2 .ensures) (omega (arith, if1 .left, if2 .left, if3 .left)) _ (copies .ensures) _ (one-length .ensures) (not-false _ (if5 .left)) _ (copies-agree .ensures) (not-true _ (if6 .taken))
-
-lengths-agree-lengths-agree-requires-3 : (t : ℕ) → lengths-agree-lts.Need-lengths-agree-requires-3 (lengths-agree-claims t) (lengths-agree-at t) lengths-agree.Post
-lengths-agree-lengths-agree-requires-3 t c κs =
-    let entry = c .before .before .before .before .before .before .before .before .before .before .before .before in
-    let a = entry .args in
-    let pre = entry .pre in
-    let word = c .before .before .before .before .before .before .before .before .before .before .word in
-    let reference2 = c .before .before .before .before .before .before .reference2 in
-    let l = tag-falls (a .work .now) (a .t) _ (word .ensures) 2 _ (λ z. omega arith) (reference2 .ensures) in omega (arith, l, pre .0)
-
-lengths-agree-returns-7 : (t : ℕ) → lengths-agree-lts.Need-returns-7 (lengths-agree-claims t) (lengths-agree-at t) lengths-agree.Post
-lengths-agree-returns-7 t c =
     let a = c .before .before .before .before .before .before .before .before .before .before .before .before .before .args in
     let word = c .before .before .before .before .before .before .before .before .before .before .before .word in
     let if1 = c .before .before .before .before .before .before .before .before .before .before .if1 in
@@ -237,12 +210,33 @@ lengths-agree-returns-7 t c =
     let reference2 = c .before .before .before .before .before .before .before .reference2 in
     let if3 = c .before .before .before .before .before .before .if3 in
     let copies = c .before .before .before .before .before .copies in
-    let one-length = c .before .before .before .before .one-length in
-    let if5 = c .before .before .before .if5 in
+    let copies-agree = c .before .copies-agree in
+    let if5 = c .if5 in
+    agree-copies-no (a .work .now) (a .env .now) (a .t) _ (word .ensures) _ _ (reference .ensures) (reference2 .ensures) (omega (arith, if1 .left, if2 .left, if3 .left)) _ (counted-of _ _ _ _ _ (c .before .before .before .c .given .1) (copies .ensures)) _ (copies-agree .ensures) (not-true _ (if5 .taken))
+
+lengths-agree-lengths-agree-requires-3 : (t : ℕ) → lengths-agree-lts.Need-lengths-agree-requires-3 (lengths-agree-claims t) (lengths-agree-at t) lengths-agree.Post
+lengths-agree-lengths-agree-requires-3 t c κs =
+    let entry = c .before .before .before .before .before .before .before .before .before .before .before .before .before in
+    let a = entry .args in
+    let pre = entry .pre in
+    let word = c .before .before .before .before .before .before .before .before .before .before .before .word in
+    let reference2 = c .before .before .before .before .before .before .before .reference2 in
+    let l = tag-falls (a .work .now) (a .t) _ (word .ensures) 2 _ (λ z. omega arith) (reference2 .ensures) in omega (arith, l, pre .0)
+
+lengths-agree-returns-7 : (t : ℕ) → lengths-agree-lts.Need-returns-7 (lengths-agree-claims t) (lengths-agree-at t) lengths-agree.Post
+lengths-agree-returns-7 t c =
+    let a = c .before .before .before .before .before .before .before .before .before .before .before .before .before .before .args in
+    let word = c .before .before .before .before .before .before .before .before .before .before .before .before .word in
+    let if1 = c .before .before .before .before .before .before .before .before .before .before .before .if1 in
+    let if2 = c .before .before .before .before .before .before .before .before .before .before .if2 in
+    let reference = c .before .before .before .before .before .before .before .before .before .reference in
+    let reference2 = c .before .before .before .before .before .before .before .before .reference2 in
+    let if3 = c .before .before .before .before .before .before .before .if3 in
+    let copies = c .before .before .before .before .before .before .copies in
     let copies-agree = c .before .before .copies-agree in
-    let if6 = c .before .if6 in
+    let if5 = c .before .if5 in
     let lengths-agree3 = c .lengths-agree3 in
-    agree-rest (a .work .now) (a .env .now) (a .t) _ (word .ensures) _ _ (reference .ensures) (reference2 .ensures) (omega (arith, if1 .left, if2 .left, if3 .left)) _ (copies .ensures) _ (one-length .ensures) (not-false _ (if5 .left)) _ (copies-agree .ensures) _ (not-false _ (if6 .left)) (lengths-agree3 .ensures)
+    agree-rest (a .work .now) (a .env .now) (a .t) _ (word .ensures) _ _ (reference .ensures) (reference2 .ensures) (omega (arith, if1 .left, if2 .left, if3 .left)) _ (counted-of _ _ _ _ _ (c .before .before .before .before .c .given .1) (copies .ensures)) _ (copies-agree .ensures) _ (not-false _ (if5 .left)) (lengths-agree3 .ensures)
 
 pub +copies-agree+lengths-agree-spec : {M : Type 1} → statement M
 +copies-agree+lengths-agree-spec =
@@ -275,7 +269,8 @@ pub +copies-agree+lengths-agree-spec : {M : Type 1} → statement M
     (lengths-agree-lengths-agree-requires-2 t)
     (lengths-agree-returns-4 t)
     (λ c κs. search needs)  -- lengths-agree-copies-requires
-    (λ c κs. search needs)  -- lengths-agree-one-length-requires
+    (λ c. search needs)  -- lengths-agree-enum-known-c
+    (λ c. search needs)  -- lengths-agree-enum-told
     (lengths-agree-returns-5 t)
     (lengths-agree-copies-agree-requires t)
     (lengths-agree-returns-6 t)

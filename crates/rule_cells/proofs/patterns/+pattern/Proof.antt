@@ -8,8 +8,8 @@ use Rattle.rule_cells.proofs.patterns.pattern.Kinds as pattern-kinds
 use Rattle.rule_cells.proofs.patterns.+pattern.Lts-pattern as pattern-lts
 use Rattle.arena.proofs.cells.reference.Reads as reference-reads
 use Rattle.arena.proofs.cells.word.Reads as word-reads
-use Rattle.rule_cells.proofs.cells.put_ellipsis.Reads as put-ellipsis-reads
-use Rattle.rule_cells.proofs.cells.put_pair.Reads as put-pair-reads
+use Rattle.rule_cells.proofs.constructors.put_ellipsis.Reads as put-ellipsis-reads
+use Rattle.rule_cells.proofs.constructors.put_pair.Reads as put-pair-reads
 use Rattle.rule_cells.proofs.patterns.pattern_leaf.Reads as pattern-leaf-reads
 use Rattle.rule_cells.proofs.dots.dots_next.Reads as dots-next-reads
 use Rattle.arena.proofs.lists.is_list_of.Reads as is-list-of-reads

@@ -28,7 +28,6 @@ use Rattle.environments.proofs.environment.begin.Reads as begin-reads
 use Rattle.environments.proofs.environment.enter.Reads as enter-reads
 use Rattle.environments.proofs.environment.is_listed.Reads as is-listed-reads
 use Rattle.environments.proofs.environment.taken.Reads as taken-reads
-use Rattle.environments.proofs.lengths.one_length.Reads as one-length-reads
 use Rattle.environments.proofs.lengths.copies.Reads as copies-reads
 use Rattle.words.proofs.packed.high.Reads as high-reads
 use Rattle.words.proofs.packed.low.Reads as low-reads
@@ -39,6 +38,7 @@ use Rattle.steps.proofs.copy.put_reversed.Reads as put-reversed-reads
 use Rattle.steps.proofs.build.+build+build_backwards+build_copies+build_elements+build_ellipsis+build_part.{statement}
 use Rattle.steps.proofs.build.+build+build_backwards+build_copies+build_elements+build_ellipsis+build_part.Tie.{close}
 use Rattle.environments.specs.PartLaws.{tag-falls}
+use Rattle.environments.specs.LengthLaws.{counted-of, counted-differ}
 use Rattle.environments.specs.EntryLaws.{moving-along}
 use Rattle.steps.specs.Built.{builtOf, built-none, built-some}
 use Rattle.steps.specs.Build.{Backwards}
@@ -47,7 +47,7 @@ use Rattle.steps.specs.CopyLaws.{Turning, turning-begins, copies-none, c
 use Rattle.steps.specs.EllipsisLaws.{ellipsis-differs, ellipsis-rest, ellipsis-rest-costly, ellipsis-copies, made-copies}
 use native.Mathlib.Omega.{arith}
 use borrow.Author.Needs.{needs}
-use borrow.Author.Tests.{not-true, not-false}
+use borrow.Author.Tests.{not-false}
 use mathlib.Core.Path.{refl, sym, subst, _∙_}
 
 abbrev μ-build : Measures 2 build-kinds.ps ℕ
@@ -161,7 +161,7 @@ abbrev build-elements-claims : ℕ → build-elements-lts.Claims
 build-elements-claims t = (is-listed-reads.Asked, is-listed-reads.Learnt, build-backwards-below t, build-backwards.Post, word-reads.Asked, word-reads.Learnt, taken-reads.Asked, taken-reads.Learnt, copy-elements-reads.Asked, copy-elements-reads.Learnt)
 
 abbrev build-ellipsis-claims : ℕ → build-ellipsis-lts.Claims
-build-ellipsis-claims t = (reference-reads.Asked, reference-reads.Learnt, copies-reads.Asked, copies-reads.Learnt, one-length-reads.Asked, one-length-reads.Learnt, build-part-below t, build-part.Post, high-reads.Asked, high-reads.Learnt, low-reads.Asked, low-reads.Learnt, build-copies-below t, build-copies.Post)
+build-ellipsis-claims t = (reference-reads.Asked, reference-reads.Learnt, copies-reads.Asked, copies-reads.Learnt, build-part-below t, build-part.Post, high-reads.Asked, high-reads.Learnt, low-reads.Asked, low-reads.Learnt, build-copies-below t, build-copies.Post)
 
 abbrev build-part-claims : ℕ → build-part-lts.Claims
 build-part-claims t = (word-reads.Asked, word-reads.Learnt, build-leaf-reads.Asked, build-leaf-reads.Learnt, build-below t, build.Post)
@@ -347,11 +347,11 @@ build-elements-returns-2 t c =
 build-ellipsis-returns : (t : ℕ) → build-ellipsis-lts.Need-returns (build-ellipsis-claims t) (build-ellipsis-at t) build-ellipsis.Post
 unfolding builtOf
 build-ellipsis-returns t c =
-    let a = c .before .before .before .before .before .before .before .before .before .before .args in ellipsis-differs (a .work .now) (a .top) (a .fuel) (a .env .now) (a .w) (a .t) _ refl (c .before .before .before .before .before .before .before .before .before .before .pre .1 .0) _ _ (c .before .before .before .before .before .before .before .reference .ensures) (c .before .before .before .before .before .reference2 .ensures) (c .before .before .before .before .before .before .before .before .before .before .pre .1 .1) _ (c .before .before .before .copies .ensures) _ (c .before .one-length .ensures) (not-true _ (c .if1 .taken))
+    let a = c .before .before .before .before .before .before .before .before .before .args in ellipsis-differs (a .work .now) (a .top) (a .fuel) (a .env .now) (a .w) (a .t) _ refl (c .before .before .before .before .before .before .before .before .before .pre .1 .0) _ _ (c .before .before .before .before .before .before .reference .ensures) (c .before .before .before .before .reference2 .ensures) (c .before .before .before .before .before .before .before .before .before .pre .1 .1) (counted-differ _ _ _ _ (c .enum-told .given .1) (c .before .before .copies .ensures))
 
 build-ellipsis-build-part-requires : (t : ℕ) → build-ellipsis-lts.Need-build-part-requires (build-ellipsis-claims t) (build-ellipsis-at t) build-ellipsis.Post
 build-ellipsis-build-part-requires t c κs =
-    let a = c .before .before .before .before .before .before .before .before .before .before .before .args in let l = tag-falls (a .work .now) (a .t) _ refl 2 _ (λ z. omega (arith, c .before .before .before .before .before .before .before .before .before .before .before .pre .1 .1)) (c .before .before .before .before .before .before .reference2 .ensures) in (omega (arith, l, c .before .before .before .before .before .before .before .before .before .before .before .pre .0), ellipsis-rest (a .work .now) (a .top) (a .fuel) (a .env .now) (a .w) (a .t) _ refl (c .before .before .before .before .before .before .before .before .before .before .before .pre .1 .0) _ _ (c .before .before .before .before .before .before .before .before .reference .ensures) (c .before .before .before .before .before .before .reference2 .ensures) (c .before .before .before .before .before .before .before .before .before .before .before .pre .1 .1) _ (c .before .before .before .before .copies .ensures) _ (c .before .before .one-length .ensures))
+    let a = c .before .before .before .before .before .before .before .before .before .before .before .args in let l = tag-falls (a .work .now) (a .t) _ refl 2 _ (λ z. omega (arith, c .before .before .before .before .before .before .before .before .before .before .before .pre .1 .1)) (c .before .before .before .before .before .before .reference2 .ensures) in (omega (arith, l, c .before .before .before .before .before .before .before .before .before .before .before .pre .0), ellipsis-rest (a .work .now) (a .top) (a .fuel) (a .env .now) (a .w) (a .t) _ refl (c .before .before .before .before .before .before .before .before .before .before .before .pre .1 .0) _ _ (c .before .before .before .before .before .before .before .before .reference .ensures) (c .before .before .before .before .before .before .reference2 .ensures) (c .before .before .before .before .before .before .before .before .before .before .before .pre .1 .1))
 
 build-ellipsis-same-length-2 : (t : ℕ) → build-ellipsis-lts.Need-same-length-2 (build-ellipsis-claims t) (build-ellipsis-at t) build-ellipsis.Post
 build-ellipsis-same-length-2 t c =
@@ -360,11 +360,11 @@ build-ellipsis-same-length-2 t c =
 build-ellipsis-returns-2 : (t : ℕ) → build-ellipsis-lts.Need-returns-2 (build-ellipsis-claims t) (build-ellipsis-at t) build-ellipsis.Post
 unfolding builtOf
 build-ellipsis-returns-2 t c =
-    let a = c .before .before .before .before .before .before .before .before .before .before .before .before .before .before .before .args in ellipsis-rest-costly (a .work .now) (a .top) (a .fuel) (a .env .now) (a .w) (a .t) _ refl (c .before .before .before .before .before .before .before .before .before .before .before .before .before .before .before .pre .1 .0) _ _ (c .before .before .before .before .before .before .before .before .before .before .before .before .reference .ensures) (c .before .before .before .before .before .before .before .before .before .before .reference2 .ensures) (c .before .before .before .before .before .before .before .before .before .before .before .before .before .before .before .pre .1 .1) _ (c .before .before .before .before .before .before .before .before .copies .ensures) _ (c .before .before .before .before .before .before .one-length .ensures) _ (stops-at (a .work .now) (c .before .before .before .build-part .last .0) (a .top) (a .fuel) (a .env .now) (a .w) (c .before .before .before .before .before .before .before .before .before .before .reference2 .result) _ (built-none _ (c .if2 .taken)) (c .before .before .before .build-part .ensures))
+    let a = c .before .before .before .before .before .before .before .before .before .before .before .before .before .before .before .args in ellipsis-rest-costly (a .work .now) (a .top) (a .fuel) (a .env .now) (a .w) (a .t) _ refl (c .before .before .before .before .before .before .before .before .before .before .before .before .before .before .before .pre .1 .0) _ _ (c .before .before .before .before .before .before .before .before .before .before .before .before .reference .ensures) (c .before .before .before .before .before .before .before .before .before .before .reference2 .ensures) (c .before .before .before .before .before .before .before .before .before .before .before .before .before .before .before .pre .1 .1) _ (counted-of _ _ _ _ _ (c .before .before .before .before .before .before .c .given .1) (c .before .before .before .before .before .before .before .before .copies .ensures)) _ (stops-at (a .work .now) (c .before .before .before .build-part .last .0) (a .top) (a .fuel) (a .env .now) (a .w) (c .before .before .before .before .before .before .before .before .before .before .reference2 .result) _ (built-none _ (c .if1 .taken)) (c .before .before .before .build-part .ensures))
 
 build-ellipsis-build-copies-requires : (t : ℕ) → build-ellipsis-lts.Need-build-copies-requires (build-ellipsis-claims t) (build-ellipsis-at t) build-ellipsis.Post
 build-ellipsis-build-copies-requires t c κs =
-    let a = c .before .before .before .before .before .before .before .before .before .before .before .before .before .before .before .before .before .before .args in let l = tag-falls (a .work .now) (a .t) _ refl 3 _ (λ z. omega (arith, c .before .before .before .before .before .before .before .before .before .before .before .before .before .before .before .before .before .before .pre .1 .1)) (c .before .before .before .before .before .before .before .before .before .before .before .before .before .before .before .reference .ensures) in (omega (arith, l, c .before .before .before .before .before .before .before .before .before .before .before .before .before .before .before .before .before .before .pre .0), ellipsis-copies (a .work .now) (a .top) (a .fuel) (a .env .now) (a .w) (a .t) _ refl (c .before .before .before .before .before .before .before .before .before .before .before .before .before .before .before .before .before .before .pre .1 .0) _ _ (c .before .before .before .before .before .before .before .before .before .before .before .before .before .before .before .reference .ensures) (c .before .before .before .before .before .before .before .before .before .before .before .before .before .reference2 .ensures) (c .before .before .before .before .before .before .before .before .before .before .before .before .before .before .before .before .before .before .pre .1 .1) _ (c .before .before .before .before .before .before .before .before .before .before .before .copies .ensures) _ (c .before .before .before .before .before .before .before .before .before .one-length .ensures) (not-false _ (c .before .before .before .before .before .before .before .before .if1 .left)) _ _ _ (gives-at (a .work .now) (c .before .before .before .before .before .before .build-part .last .0) (a .top) (a .fuel) (a .env .now) (a .w) (c .before .before .before .before .before .before .before .before .before .before .before .before .before .reference2 .result) _ _ _ (built-some _ _ _ (c .before .before .before .if2 .left) (c .before .high .ensures) (c .low .ensures)) (c .before .before .before .before .before .before .build-part .ensures)) (c .before .before .before .before .before .before .build-part .kept .0))
+    let a = c .before .before .before .before .before .before .before .before .before .before .before .before .before .before .before .before .before .before .args in let l = tag-falls (a .work .now) (a .t) _ refl 3 _ (λ z. omega (arith, c .before .before .before .before .before .before .before .before .before .before .before .before .before .before .before .before .before .before .pre .1 .1)) (c .before .before .before .before .before .before .before .before .before .before .before .before .before .before .before .reference .ensures) in (omega (arith, l, c .before .before .before .before .before .before .before .before .before .before .before .before .before .before .before .before .before .before .pre .0), ellipsis-copies (a .work .now) (a .top) (a .fuel) (a .env .now) (a .w) (a .t) _ refl (c .before .before .before .before .before .before .before .before .before .before .before .before .before .before .before .before .before .before .pre .1 .0) _ _ (c .before .before .before .before .before .before .before .before .before .before .before .before .before .before .before .reference .ensures) (c .before .before .before .before .before .before .before .before .before .before .before .before .before .reference2 .ensures) (c .before .before .before .before .before .before .before .before .before .before .before .before .before .before .before .before .before .before .pre .1 .1) _ (counted-of _ _ _ _ _ (c .before .before .before .before .before .before .before .before .before .c .given .1) (c .before .before .before .before .before .before .before .before .before .before .before .copies .ensures)) _ _ _ (gives-at (a .work .now) (c .before .before .before .before .before .before .build-part .last .0) (a .top) (a .fuel) (a .env .now) (a .w) (c .before .before .before .before .before .before .before .before .before .before .before .before .before .reference2 .result) _ _ _ (built-some _ _ _ (c .before .before .before .if1 .left) (c .before .high .ensures) (c .low .ensures)) (c .before .before .before .before .before .before .build-part .ensures)) (c .before .before .before .before .before .before .build-part .kept .0))
 
 build-ellipsis-same-length-3 : (t : ℕ) → build-ellipsis-lts.Need-same-length-3 (build-ellipsis-claims t) (build-ellipsis-at t) build-ellipsis.Post
 build-ellipsis-same-length-3 t c =
@@ -372,7 +372,7 @@ build-ellipsis-same-length-3 t c =
 
 build-ellipsis-returns-3 : (t : ℕ) → build-ellipsis-lts.Need-returns-3 (build-ellipsis-claims t) (build-ellipsis-at t) build-ellipsis.Post
 build-ellipsis-returns-3 t c =
-    let a = c .before .before .before .before .before .before .before .before .before .before .before .before .before .before .before .before .before .before .before .before .before .args in made-copies (a .work .now) (a .top) (a .fuel) (a .env .now) (a .w) (a .t) _ refl (c .before .before .before .before .before .before .before .before .before .before .before .before .before .before .before .before .before .before .before .before .before .pre .1 .0) _ _ (c .before .before .before .before .before .before .before .before .before .before .before .before .before .before .before .before .before .before .reference .ensures) (c .before .before .before .before .before .before .before .before .before .before .before .before .before .before .before .before .reference2 .ensures) (c .before .before .before .before .before .before .before .before .before .before .before .before .before .before .before .before .before .before .before .before .before .pre .1 .1) _ (c .before .before .before .before .before .before .before .before .before .before .before .before .before .before .copies .ensures) _ (c .before .before .before .before .before .before .before .before .before .before .before .before .one-length .ensures) (not-false _ (c .before .before .before .before .before .before .before .before .before .before .before .if1 .left)) _ _ _ (gives-at (a .work .now) (c .before .before .before .before .before .before .before .before .before .build-part .last .0) (a .top) (a .fuel) (a .env .now) (a .w) (c .before .before .before .before .before .before .before .before .before .before .before .before .before .before .before .before .reference2 .result) _ _ _ (built-some _ _ _ (c .before .before .before .before .before .before .if2 .left) (c .before .before .before .before .high .ensures) (c .before .before .before .low .ensures)) (c .before .before .before .before .before .before .before .before .before .build-part .ensures)) (c .before .before .before .before .before .before .before .before .before .build-part .kept .0) (c .before .before .build-copies .last .0) (builtOf (c .before .before .build-copies .result)) (c .before .before .build-copies .ensures)
+    let a = c .before .before .before .before .before .before .before .before .before .before .before .before .before .before .before .before .before .before .before .before .before .args in made-copies (a .work .now) (a .top) (a .fuel) (a .env .now) (a .w) (a .t) _ refl (c .before .before .before .before .before .before .before .before .before .before .before .before .before .before .before .before .before .before .before .before .before .pre .1 .0) _ _ (c .before .before .before .before .before .before .before .before .before .before .before .before .before .before .before .before .before .before .reference .ensures) (c .before .before .before .before .before .before .before .before .before .before .before .before .before .before .before .before .reference2 .ensures) (c .before .before .before .before .before .before .before .before .before .before .before .before .before .before .before .before .before .before .before .before .before .pre .1 .1) _ (counted-of _ _ _ _ _ (c .before .before .before .before .before .before .before .before .before .before .before .before .c .given .1) (c .before .before .before .before .before .before .before .before .before .before .before .before .before .before .copies .ensures)) _ _ _ (gives-at (a .work .now) (c .before .before .before .before .before .before .before .before .before .build-part .last .0) (a .top) (a .fuel) (a .env .now) (a .w) (c .before .before .before .before .before .before .before .before .before .before .before .before .before .before .before .before .reference2 .result) _ _ _ (built-some _ _ _ (c .before .before .before .before .before .before .if1 .left) (c .before .before .before .before .high .ensures) (c .before .before .before .low .ensures)) (c .before .before .before .before .before .before .before .before .before .build-part .ensures)) (c .before .before .before .before .before .before .before .before .before .build-part .kept .0) (c .before .before .build-copies .last .0) (builtOf (c .before .before .build-copies .result)) (c .before .before .build-copies .ensures)
 
 build-part-build-leaf-requires : (t : ℕ) → build-part-lts.Need-build-leaf-requires (build-part-claims t) (build-part-at t) build-part.Post
 build-part-build-leaf-requires t c κs =
@@ -502,7 +502,8 @@ pub +build+build-backwards+build-copies+build-elements+build-ellipsis+build-part
     (λ c κs. search needs)  -- build-ellipsis-reference-requires
     (λ c κs. search needs)  -- build-ellipsis-reference-requires-2
     (λ c κs. search needs)  -- build-ellipsis-copies-requires
-    (λ c κs. search needs)  -- build-ellipsis-one-length-requires
+    (λ c. search needs)  -- build-ellipsis-enum-known-c
+    (λ c. search needs)  -- build-ellipsis-enum-told
     (λ c. search needs)  -- build-ellipsis-same-length
     (build-ellipsis-returns t)
     (build-ellipsis-build-part-requires t)

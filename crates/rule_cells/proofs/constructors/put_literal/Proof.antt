@@ -1,0 +1,18 @@
+-- `constructors::put_literal`: the new cell is a literal.
+use borrow.Author.Needs.{needs}
+use Rattle.rule_cells.proofs.constructors.put_literal.Statement.{statement}
+use Rattle.rule_cells.proofs.constructors.put_literal.Tie as tie
+use Rattle.rule_cells.specs.MadeLaws.{made-literal}
+
+put-requires : tie.Need-put-requires
+put-requires c κs = search needs
+
+same-length : tie.Need-same-length
+same-length c = search needs
+
+returns : tie.Need-returns
+returns c =
+    let a = c .before .before .before .before .before .args in made-literal (a .work .now) _ (a .top) _ (a .node) (a .w) (a .number) (a .key) (c .before .before .before .before .before .pre .1) (c .before .before .before .before .before .pre .2) (c .before .before .put .ensures)
+
+pub put-literal-spec : {M : Type 1} → statement M
+put-literal-spec = tie.close (tie.spec put-requires same-length returns)
