@@ -7,6 +7,17 @@ ghost use Rattle.recipe.specs.ItemLaws.{itemAt};
 ghost use Rattle.recipe.specs.TreeFrom.{headAt, tailAt};
 ghost use Rattle.recipe.specs.Layout.{isListKind};
 
+// Kinds of items.
+pub const EMPTY: u32 = 0;
+
+pub const INTEGER: u32 = 1;
+
+pub const BOOLEAN: u32 = 2;
+
+pub const NAME: u32 = 3;
+
+pub const PAIR: u32 = 4;
+
 // Item i's three words: its kind; a constant's word, a name's number or a pair's head item; a pair's tail item.
 pub fn kind(table: &[u32], i: usize) -> u32
     requires { ⌜ 3 * i + 2 < length (now table) ⌝ }
@@ -33,10 +44,10 @@ pub fn tail(table: &[u32], i: usize) -> usize
 pub fn is_list_kind(k: u32) -> bool
     ensures { λ r. ⌜ r ≡ isListKind k ⌝ }
 {
-    if k == 0 {
+    if k == EMPTY {
         return true;
     }
-    k == 4
+    k == PAIR
 }
 
 // A pair's references point to higher items of the n, and its tail is a list.
@@ -71,16 +82,16 @@ pub fn is_leaf(table: &[u32], i: usize) -> bool
     }
     let k = kind(table, i);
     let word = head(table, i);
-    if k == 0 {
+    if k == EMPTY {
         return word == 0;
     }
-    if k == 1 {
+    if k == INTEGER {
         return true;
     }
-    if k == 2 {
+    if k == BOOLEAN {
         return word < 2;
     }
-    if k == 3 {
+    if k == NAME {
         return word < words::NAMES;
     }
     false
