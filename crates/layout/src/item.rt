@@ -1,7 +1,7 @@
 // One item of a table: its three words, and whether they are those of its kind.
 ghost use mathlib.Core.Path.{_≡_};
 ghost use Prim.Native.Nat.{ℕ, _+_, _*_, _<_};
-ghost use lib.ListN.{length};
+ghost use lib.ListN.{length, getD};
 ghost use Rattle.recipe.specs.Table.{kindAt, isPairItem, isItem};
 ghost use Rattle.recipe.specs.ItemLaws.{itemAt};
 ghost use Rattle.recipe.specs.TreeFrom.{headAt, tailAt};
@@ -26,18 +26,26 @@ pub fn kind(table: &[u32], i: usize) -> u32
     table[3 * i]
 }
 
+// The word at a place, as an item's number.
+fn word(table: &[u32], at: usize) -> usize
+    requires { ⌜ at < length (now table) ⌝ }
+    ensures { λ r. ⌜ r ≡ getD (now (table .entry)) at 0 ⌝ }
+{
+    table[at] as usize
+}
+
 pub fn head(table: &[u32], i: usize) -> usize
     requires { ⌜ 3 * i + 2 < length (now table) ⌝ }
     ensures { λ r. ⌜ r ≡ headAt (now (table .entry)) i ⌝ }
 {
-    table[3 * i + 1] as usize
+    word(table, 3 * i + 1)
 }
 
 pub fn tail(table: &[u32], i: usize) -> usize
     requires { ⌜ 3 * i + 2 < length (now table) ⌝ }
     ensures { λ r. ⌜ r ≡ tailAt (now (table .entry)) i ⌝ }
 {
-    table[3 * i + 2] as usize
+    word(table, 3 * i + 2)
 }
 
 // The empty list or a pair.
