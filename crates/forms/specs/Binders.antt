@@ -24,8 +24,8 @@ unfoldable pub namesIn : (macros : Bool) → Tree → List Name
 namesIn macros t = ownNames macros (elements t)
 
 -- every tail in it is a list, as in all that a run has at hand
-abbrev pub Proper : Tree → Type 0
-Proper = Tidy (λ x. Unit {0}) (λ a. Unit {0})
+abbrev pub ListTails : Tree → Type 0
+ListTails = Tidy (λ x. Unit {0}) (λ a. Unit {0})
 
 -- a form's kind says what it binds names to
 unfoldable pub bindsTo : (macros : Bool) → ℕ → Binding

@@ -9,7 +9,6 @@ use native.Mathlib.Omega.{arith}
 use native.Mathlib.Numerals.{add-one}
 use lib.Dec.{leb}
 use lib.ListN.{length, length-append}
-use borrow.Author.Tests.{leb-true}
 use Rattle.words.specs.Limits.{formalsMost}
 use Rattle.words.specs.Lists.{within, allOf}
 use Rattle.words.specs.ListLaws.{never}
@@ -25,7 +24,7 @@ use Rattle.arena.specs.ArenaLaws.{take-less}
 use Rattle.arena.specs.Cells.{Room, Binds}
 use Rattle.arena.specs.CellLaws.{tree-kept, tree-after}
 use Rattle.forms.specs.Shapes.{ownName, bindsOne}
-use Rattle.forms.specs.Binders.{AllNames, ownNames, namesIn, Proper, bindsTo, bindNames, Opened, Space, Scoped, Scoping}
+use Rattle.forms.specs.Binders.{AllNames, ownNames, namesIn, ListTails, bindsTo, bindNames, Opened, Space, Scoped, Scoping}
 use Rattle.forms.specs.BinderLaws.{binds-ordinary}
 
 -- ---- no name
@@ -132,13 +131,13 @@ scoped-tree f k xs parent old new top wrap end s node h =
 -- ---- a form's names
 
 -- a run's trees are proper
-pub proper : {N : Name → Type 0} {C : Constant → Type 0} {t : Tree} → Tidy N C t → Proper t
+pub proper : {N : Name → Type 0} {C : Constant → Type 0} {t : Tree} → Tidy N C t → ListTails t
 proper tidyEmpty = tidyEmpty
 proper (tidyConstant c) = tidyConstant tt
 proper (tidyName x) = tidyName tt
 proper (tidyPair h t l) = tidyPair (proper h) (proper t) l
 
-formal-names : {t : Tree} → Proper t → isList t ≡ true → namesIn false t ≡ names t
+formal-names : {t : Tree} → ListTails t → isList t ≡ true → namesIn false t ≡ names t
 unfolding namesIn ownNames ownName elements names isList onEmpty onPair
 formal-names tidyEmpty l = refl
 formal-names (tidyConstant c) l = never l refl
@@ -158,7 +157,7 @@ module _ (t : Tree) where
     unfolding bindsOne
     lambda-names = and-left _ (leb (length (elements (element 1 t))) formalsMost) (and-right list-shape _ within-shape)
 
-    pub formals-are : Proper t → namesIn false (element 1 t) ≡ formals t
+    pub formals-are : ListTails t → namesIn false (element 1 t) ≡ formals t
     unfolding formals
     formals-are p = formal-names (tidy-element 1 p) (and-left list-shape _ within-shape)
 
@@ -190,12 +189,8 @@ unfolding namesIn
 names-count macros t h = own-count macros (elements t) h
 
 module _ (t : Tree) where
-  pub formals-count : isLambda t ≡ true → Proper t → length (formals t) ≡ length (elements (element 1 t))
+  pub formals-count : isLambda t ≡ true → ListTails t → length (formals t) ≡ length (elements (element 1 t))
   formals-count shape p = sym (ap length (formals-are t shape p)) ∙ names-count false (element 1 t) (lambda-names t shape)
-
-  pub formals-most : isLambda t ≡ true → Proper t → length (formals t) ≤ 8
-  formals-most shape p =
-      omega (arith, formals-count shape p, leb-true (length (elements (element 1 t))) 8 (and-right (allOf isOrdinaryName (elements (element 1 t))) _ (and-right (isList (element 1 t)) _ (within-shape t shape))))
 
   pub keywords-count : AllNames true (element 1 t) → length (keywords t) ≡ length (elements (element 1 t))
   keywords-count h = sym (ap length (keywords-are t)) ∙ names-count true (element 1 t) h

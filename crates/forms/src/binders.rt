@@ -10,7 +10,7 @@ ghost use Rattle.recipe.specs.Name.{variable, macro, same, distinct, bindingKey
 ghost use Rattle.recipe.specs.Tree.{element};
 ghost use Rattle.expansion.specs.Forms.{isLambda, formals, keywords};
 ghost use Rattle.arena.specs.Arena.{nameAt, treeAt};
-ghost use Rattle.forms.specs.Binders.{AllNames, namesIn, Proper, bindsTo, Space, Scoped};
+ghost use Rattle.forms.specs.Binders.{AllNames, namesIn, ListTails, bindsTo, Space, Scoped};
 use crate::shapes;
 use arena::cells;
 use arena::lists;
@@ -52,7 +52,7 @@ fn are_distinct(work: &[u32], list: u32, w: u32, macros: bool) -> bool
 
 // No two names of a lambda are the same.
 pub fn formals_distinct(work: &[u32], node: u32, w: u32) -> bool
-    requires { ⌜ (isLambda (treeAt (now work) node w) ≡ true) × (Proper (treeAt (now work) node w)) ⌝ }
+    requires { ⌜ (isLambda (treeAt (now work) node w) ≡ true) × (ListTails (treeAt (now work) node w)) ⌝ }
     ensures { λ r. ⌜ r ≡ distinct (formals (treeAt (now (work .entry)) node w)) ⌝ }
 {
     let list = lists::element(work, node, 1);
@@ -120,7 +120,7 @@ fn bind_names(
 
 // Binders for a lambda's names, variables from `first`.
 pub fn bind_formals(work: &mut [u32], node: u32, w: u32, first: u32, top: u32) -> Scope
-    requires { ⌜ (isLambda (treeAt (now work) node w) ≡ true) × (Proper (treeAt (now work) node w)) × (Space (formals (treeAt (now work) node w)) (now work) node w first w top) ⌝ }
+    requires { ⌜ (isLambda (treeAt (now work) node w) ≡ true) × (ListTails (treeAt (now work) node w)) × (Space (formals (treeAt (now work) node w)) (now work) node w first w top) ⌝ }
     ensures { λ r. ⌜ Scoped variable first (formals (treeAt (now (work .entry)) node w)) w (now (work .entry)) (now (work .exit)) top (r .wrap) (r .top) ⌝ }
 {
     let list = lists::element(work, node, 1);

@@ -1,11 +1,22 @@
 // One item of a table: its three words, and whether they are those of its kind.
 ghost use mathlib.Core.Path.{_≡_};
 ghost use Prim.Native.Nat.{ℕ, _+_, _*_, _<_};
-ghost use lib.ListN.{length};
+ghost use lib.ListN.{length, getD};
 ghost use Rattle.recipe.specs.Table.{kindAt, isPairItem, isItem};
 ghost use Rattle.recipe.specs.ItemLaws.{itemAt};
 ghost use Rattle.recipe.specs.TreeFrom.{headAt, tailAt};
 ghost use Rattle.recipe.specs.Layout.{isListKind};
+
+// Kinds of items.
+pub const EMPTY: u32 = 0;
+
+pub const INTEGER: u32 = 1;
+
+pub const BOOLEAN: u32 = 2;
+
+pub const NAME: u32 = 3;
+
+pub const PAIR: u32 = 4;
 
 // Item i's three words: its kind; a constant's word, a name's number or a pair's head item; a pair's tail item.
 pub fn kind(table: &[u32], i: usize) -> u32
@@ -15,28 +26,36 @@ pub fn kind(table: &[u32], i: usize) -> u32
     table[3 * i]
 }
 
+// The word at a place, as an item's number.
+fn word(table: &[u32], at: usize) -> usize
+    requires { ⌜ at < length (now table) ⌝ }
+    ensures { λ r. ⌜ r ≡ getD (now (table .entry)) at 0 ⌝ }
+{
+    table[at] as usize
+}
+
 pub fn head(table: &[u32], i: usize) -> usize
     requires { ⌜ 3 * i + 2 < length (now table) ⌝ }
     ensures { λ r. ⌜ r ≡ headAt (now (table .entry)) i ⌝ }
 {
-    table[3 * i + 1] as usize
+    word(table, 3 * i + 1)
 }
 
 pub fn tail(table: &[u32], i: usize) -> usize
     requires { ⌜ 3 * i + 2 < length (now table) ⌝ }
     ensures { λ r. ⌜ r ≡ tailAt (now (table .entry)) i ⌝ }
 {
-    table[3 * i + 2] as usize
+    word(table, 3 * i + 2)
 }
 
 // The empty list or a pair.
 pub fn is_list_kind(k: u32) -> bool
     ensures { λ r. ⌜ r ≡ isListKind k ⌝ }
 {
-    if k == 0 {
+    if k == EMPTY {
         return true;
     }
-    k == 4
+    k == PAIR
 }
 
 // A pair's references point to higher items of the n, and its tail is a list.
@@ -71,16 +90,16 @@ pub fn is_leaf(table: &[u32], i: usize) -> bool
     }
     let k = kind(table, i);
     let word = head(table, i);
-    if k == 0 {
+    if k == EMPTY {
         return word == 0;
     }
-    if k == 1 {
+    if k == INTEGER {
         return true;
     }
-    if k == 2 {
+    if k == BOOLEAN {
         return word < 2;
     }
-    if k == 3 {
+    if k == NAME {
         return word < words::NAMES;
     }
     false

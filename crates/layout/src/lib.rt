@@ -19,15 +19,15 @@ fn begins_two(table: &[u32], n: usize) -> bool
     requires { ⌜ (length (now table) ≡ 3 * n) × (0 < n) × (allOf (isItem (now table) n) (items 0 (now table)) ≡ true) ⌝ }
     ensures { λ r. ⌜ r ≡ (isListOf 2 (treeOf (now (table .entry))) && isList (element 0 (treeOf (now (table .entry))))) ⌝ }
 {
-    if item::kind(table, 0) != 4 {
+    if item::kind(table, 0) != item::PAIR {
         return false;
     }
     let second = item::tail(table, 0);
-    if item::kind(table, second) != 4 {
+    if item::kind(table, second) != item::PAIR {
         return false;
     }
     let end = item::tail(table, second);
-    if item::kind(table, end) != 0 {
+    if item::kind(table, end) != item::EMPTY {
         return false;
     }
     let first = item::head(table, 0);

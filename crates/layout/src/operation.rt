@@ -1,4 +1,6 @@
 // The operations (ground 10): the first element is at most 256 distinct names above 7.
+use crate::item::NAME;
+use crate::item::PAIR;
 use crate::item::head;
 use crate::item::kind;
 use crate::item::tail;
@@ -19,7 +21,7 @@ fn operation_number(table: &[u32], i: usize) -> usize
     requires { ⌜ (isLayout (now table) ≡ true) × (i < itemCount (now table)) ⌝ }
     ensures { λ r. ⌜ (r ≡ operationNumber (treeFrom (now (table .entry)) i)) × (r < namesMost) ⌝ }
 {
-    if kind(table, i) != 3 {
+    if kind(table, i) != NAME {
         return 0;
     }
     let number = head(table, i);
@@ -38,7 +40,7 @@ pub fn operations(table: &[u32], places: &mut [u16]) -> bool
 {
     let mut i = head(table, 0);
     let mut place = 0;
-    while kind(table, i) == 4 {
+    while kind(table, i) == PAIR {
         let number = operation_number(table, head(table, i));
         if number == 0 {
             return false;

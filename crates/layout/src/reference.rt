@@ -1,5 +1,6 @@
 // All items in one pass: each is tested, and its references are counted. Then each count is tested: every item but
 // item 0 is referred to by exactly one word.
+use crate::item::PAIR;
 use crate::item::head;
 use crate::item::is_leaf;
 use crate::item::is_pair;
@@ -33,7 +34,7 @@ fn takes_item(table: &[u32], n: usize, i: usize, counts: &mut [u16]) -> bool
     ensures fits { λ r. ⌜ r ≡ isItem (now (table .entry)) n (itemAt (now (table .entry)) i) ⌝ }
     ensures counts { λ r. ⌜ (r ≡ true → Counted (now (counts .entry)) (now (counts .exit)) (references (itemAt (now (table .entry)) i ∷ []))) ⌝ }
 {
-    if kind(table, i) != 4 {
+    if kind(table, i) != PAIR {
         return is_leaf(table, i);
     }
     if !is_pair(table, n, i) {

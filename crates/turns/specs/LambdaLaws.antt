@@ -21,6 +21,7 @@ use Rattle.arena.specs.Lists.{Means, Counts}
 use Rattle.forms.specs.Binders as F
 use Rattle.forms.specs.Binders.{Space, Scoped}
 use Rattle.forms.specs.ScopeLaws.{scoped-tree, proper, formals-count}
+use Rattle.forms.specs.Quotes.{Written}
 use Rattle.turns.specs.declared.answers.Reached.{Reached}
 use Rattle.turns.specs.declared.answers.Ended.{Ended}
 use Rattle.turns.specs.declared.answers.Turn.{Turn}
@@ -28,7 +29,7 @@ use Rattle.turns.specs.declared.answers.Turn.the-variants.{Again, Operan
 use Rattle.turns.specs.Ends.{End, finished, stopped, halted, endOf, then, needs, withVariables}
 use Rattle.turns.specs.EndLaws.{lambda-end}
 use Rattle.turns.specs.Numbers.{widened}
-use Rattle.turns.specs.Memory.{tables, stateAt, CoreRoom, Put, workNeed, coreNeed, variableNeed, macroNeed, Proper, Ready, Kept}
+use Rattle.turns.specs.Memory.{tables, stateAt, CoreRoom, workNeed, coreNeed, variableNeed, macroNeed, Proper, Ready, Kept}
 use Rattle.turns.specs.MemoryLaws.{macrosAt-settled, macros-kept, put-long}
 use Rattle.turns.specs.Turns.{Left, turnOf, Ends, Follows}
 use Rattle.turns.specs.Leaves.{Refuses}
@@ -57,7 +58,7 @@ module _ (work core : List ℕ) (node w : ℕ) (r : Reached) (roomy : Roomy work
   abbrev tree : Tree
   tree = treeAt work node w
 
-  pub lambda-proper : F.Proper tree
+  pub lambda-proper : F.ListTails tree
   lambda-proper = proper (roomy .placed .proper)
 
   pub lambda-space : Space (formals tree) work node w (r .variables) w (r .top)
@@ -83,7 +84,7 @@ module _ (work core : List ℕ) (node w : ℕ) (r : Reached) (roomy : Roomy work
     lambda-few = omega (arith, lambda-count, lambda-sizes tree shape, roomy .few)
 
     pub bound-by : (body wrap top at : ℕ) (work′ core′ : List ℕ) → Means work node body (element 2) → Scoped variable (r .variables) (formals tree) w work work′ (r .top) wrap top
-        → Put (lambdaCode ∷ r .variables ∷ count ∷ []) (r .at) core core′ at → (q : Reached) → q ≡ widened top at count r → Bound tree r work work′ core core′ body wrap q
+        → Written (lambdaCode ∷ r .variables ∷ count ∷ []) core core′ (r .at) at → (q : Reached) → q ≡ widened top at count r → Bound tree r work work′ core core′ body wrap q
     unfolding widened
     bound-by body wrap top at work′ core′ body-is scoped put q e =
         subst (Bound tree r work work′ core core′ body wrap) (sym e)
@@ -92,7 +93,7 @@ module _ (work core : List ℕ) (node w : ℕ) (r : Reached) (roomy : Roomy work
           body-below = omega (arith, body-is .low, roomy .placed .node-below);
           wrap-below = scoped .wrap-below;
           numbers = ap₂ (λ (t n : ℕ). widened t at n r) (scoped .end-is) lambda-count;
-          put = subst (λ (n : ℕ). Put (lambdaCode ∷ r .variables ∷ n ∷ []) (r .at) core core′ at) lambda-count put;
+          put = subst (λ (n : ℕ). Written (lambdaCode ∷ r .variables ∷ n ∷ []) core core′ (r .at) at) lambda-count put;
           kept = scoped .kept;
         })
 

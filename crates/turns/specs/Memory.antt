@@ -44,14 +44,10 @@ pub record CoreRoom (core : List ℕ) (at n : ℕ) : Type 0 where
   pub fits : at + n ≤ length core
   pub small : at + n < 2 ^ 32
 
--- words stand from `at` to r; the rest of the table is as it was
-abbrev pub Put : (words : List ℕ) (at : ℕ) (before after : List ℕ) (r : ℕ) → Type 0
-Put words at before after r = Written words before after at r
-
 -- words are written from r .at, and nothing else is done
 pub record Moved (words : List ℕ) (r : Reached) (before after : List ℕ) (q : Reached) : Type 0 where
   pub is : q ≡ moved (q .at) r
-  pub put : Put words (r .at) before after (q .at)
+  pub put : Written words before after (r .at) (q .at)
 
 -- an application's header and its named head, whatever waits on the list of operands
 abbrev pub HeaderMoved : (list code number : ℕ) (r : Reached) (work before after : List ℕ) (q : Reached) → Type 0

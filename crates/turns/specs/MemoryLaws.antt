@@ -16,18 +16,19 @@ use Rattle.recipe.specs.Tree.{elements}
 use Rattle.arena.specs.Arena.{treeAt}
 use Rattle.words.specs.ListLaws.{either}
 use Rattle.arena.specs.ArenaLaws.{take-less}
+use Rattle.forms.specs.Quotes.{Written}
 use Rattle.forms.specs.QuoteLaws.{written-then}
 use Rattle.turns.specs.declared.answers.Reached.{Reached}
 use Rattle.turns.specs.Numbers.{moved}
-use Rattle.turns.specs.Memory.{Tables, tables, macrosAt, stateAt, Put, Moved, workNeed, coreNeed, variableNeed, macroNeed, Macros, Ready, Kept, HeaderMoved}
+use Rattle.turns.specs.Memory.{Tables, tables, macrosAt, stateAt, Moved, workNeed, coreNeed, variableNeed, macroNeed, Macros, Ready, Kept, HeaderMoved}
 
 -- ---- words one after another
 
-pub put-one : (at a : ℕ) (core : List ℕ) → at < length core → Put (a ∷ []) at core (set core at a) (at + 1)
+pub put-one : (at a : ℕ) (core : List ℕ) → at < length core → Written (a ∷ []) core (set core at a) at (at + 1)
 put-one at a core h = record { end = refl; words = set-split core at a h ∙ rw add-one (sym (append-snoc (take at core) a (drop (suc at) core))) }
 
 module _ {at p q : ℕ} {header words core core₁ core₂ : List ℕ} where
-  pub put-after : Put header at core core₁ p → Put words p core₁ core₂ q → p ≤ length core → Put (header ++ words) at core core₂ q
+  pub put-after : Written header core core₁ at p → Written words core₁ core₂ p q → p ≤ length core → Written (header ++ words) core core₂ at q
   put-after a b room = written-then at core header words core₁ core₂ p q room a b
 
 -- ---- the state depends on what is settled alone
@@ -94,7 +95,7 @@ module _ (fuel n m l : ℕ) (r q p : Reached) (a b d : Tables) where
 
 -- ---- words written, and nothing else done
 
-pub put-long : (words : List ℕ) (at : ℕ) (before after : List ℕ) (r : ℕ) → r ≤ length before → Put words at before after r → length after ≡ length before
+pub put-long : (words : List ℕ) (at : ℕ) (before after : List ℕ) (r : ℕ) → r ≤ length before → Written words before after at r → length after ≡ length before
 put-long words at before after r h p =
     let e : length after ≡ length (take at before ++ words ++ drop r before) = ap length (p .words) in
     let k : at ≤ length before = omega (arith, p .end) in
@@ -134,15 +135,15 @@ kept-moved fuel n l r q work core core′ macros words x m less few =
     }
 
 -- words that are written, and nothing else
-pub moved-by : (words : List ℕ) (r q : Reached) (before after : List ℕ) (at : ℕ) → q ≡ moved at r → Put words (r .at) before after at → Moved words r before after q
+pub moved-by : (words : List ℕ) (r q : Reached) (before after : List ℕ) (at : ℕ) → q ≡ moved at r → Written words before after (r .at) at → Moved words r before after q
 unfolding moved
 moved-by words r q before after at e p = subst (Moved words r before after) (sym e) (record { is = refl; put = p })
 
 -- an application's header, by the count of its operands
 pub header-moved : (list code number n at : ℕ) (r q : Reached) (work before after : List ℕ) → ((w : ℕ) → n ≡ length (elements (treeAt work list w)))
-    → q ≡ moved at r → Put (applicationCode ∷ n ∷ code ∷ number ∷ []) (r .at) before after at → HeaderMoved list code number r work before after q
+    → q ≡ moved at r → Written (applicationCode ∷ n ∷ code ∷ number ∷ []) before after (r .at) at → HeaderMoved list code number r work before after q
 header-moved list code number n at r q work before after h e p w =
-    moved-by _ r q before after at e (subst (λ (k : ℕ). Put (applicationCode ∷ k ∷ code ∷ number ∷ []) (r .at) before after at) (h w) p)
+    moved-by _ r q before after at e (subst (λ (k : ℕ). Written (applicationCode ∷ k ∷ code ∷ number ∷ []) before after (r .at) at) (h w) p)
 
 -- ---- the rules of one macro
 

@@ -12,13 +12,14 @@ use Rattle.core_term.specs.Term.{Term, datumC}
 use Rattle.expansion.specs.Computation.{State}
 use Rattle.expansion.specs.Forms.{isLambda, formals}
 use Rattle.arena.specs.Arena.{treeAt}
+use Rattle.forms.specs.Quotes.{Written}
 use Rattle.turns.specs.declared.answers.Reached.{Reached}
 use Rattle.turns.specs.declared.answers.Ended.{Ended}
 use Rattle.turns.specs.declared.answers.Turn.{Turn}
 use Rattle.turns.specs.declared.answers.Turn.the-variants.{Again, Operands, Over}
 use Rattle.turns.specs.Ends.{End, finished, stopped, needs}
 use Rattle.turns.specs.Numbers.{widened}
-use Rattle.turns.specs.Memory.{itemRate, numberMost, Put, Moved, Proper, Placed}
+use Rattle.turns.specs.Memory.{itemRate, numberMost, Moved, Proper, Placed}
 use Rattle.turns.specs.Leaves.{Refuses, Leaf}
 
 -- what is at hand, and room for it
@@ -59,7 +60,7 @@ pub record Bound (tree : Tree) (r : Reached) (work work′ core core′ : List �
   pub body-below : node ≤ r .top
   pub wrap-below : w ≤ q .top
   pub numbers : q ≡ widened (r .top + itemRate * length (formals tree)) (q .at) (length (formals tree)) r
-  pub put : Put (lambdaCode ∷ r .variables ∷ length (formals tree) ∷ []) (r .at) core core′ (q .at)
+  pub put : Written (lambdaCode ∷ r .variables ∷ length (formals tree) ∷ []) core core′ (r .at) (q .at)
   pub kept : take (r .top) work′ ≡ take (r .top) work
 
 abbrev pub BoundLeft : (tree : Tree) (r : Reached) (work work′ core core′ : List ℕ) → Turn → Type 0

@@ -19,13 +19,14 @@ use Rattle.expansion.specs.Lookup.{form, if, lookup}
 use Rattle.expansion.specs.Computation.{State, M, give}
 use Rattle.expansion.specs.Forms.{expandAll, expandOperands, expandApplication, expandList, expandPair, expandTree}
 use Rattle.arena.specs.Arena.{treeAt}
+use Rattle.forms.specs.Quotes.{Written}
 use Rattle.turns.specs.declared.answers.Reached.{Reached}
 use Rattle.turns.specs.declared.answers.Ended.{Ended}
 use Rattle.turns.specs.declared.answers.Ended.the-variants.{Done, Refused}
 use Rattle.turns.specs.Ends.{End, finished, stopped, halted, endOf, then, needs}
 use Rattle.turns.specs.EndLaws.{expandAll-pair, if-end, operands-end, application-end}
 use Rattle.turns.specs.Numbers.{moved}
-use Rattle.turns.specs.Memory.{Tables, tables, stateAt, Put, Moved, coreNeed, Ready, Placed}
+use Rattle.turns.specs.Memory.{Tables, tables, stateAt, Moved, coreNeed, Ready, Placed}
 use Rattle.turns.specs.MemoryLaws.{put-after, kept-moved, state-moved}
 use Rattle.turns.specs.Turns.{Left, turnOf, operandsOf, Spreads}
 use Rattle.turns.specs.LeafLaws.{headed}
@@ -40,10 +41,10 @@ module _ {A B : Type 0} (wordsOf : A → List ℕ) (wordsOf′ : B → List ℕ)
   Prefixed halted = Unit {0}
 
   pub left-after : (r q : Reached) (core core₁ : List ℕ) (last : Tables) (e : End A) (a : Ended)
-      → Prefixed e → Put header (r .at) core core₁ (q .at) → q .at ≤ length core
+      → Prefixed e → Written header core core₁ (r .at) (q .at) → q .at ≤ length core
       → Left wordsOf q core₁ last e a → Left wordsOf′ r core last (then (λ v s. finished (g v) s) e) a
   unfolding then
-  left-after r q core core₁ last (finished v s) (Done p) f h room l = (l .0, subst (λ (ws : List ℕ). Put ws (r .at) core (last .core) (p .at)) (sym f) (put-after h (l .1) room))
+  left-after r q core core₁ last (finished v s) (Done p) f h room l = (l .0, subst (λ (ws : List ℕ). Written ws core (last .core) (r .at) (p .at)) (sym f) (put-after h (l .1) room))
   left-after r q core core₁ last (finished v s) (Refused x y z) f h room l = l
   left-after r q core core₁ last (stopped k s) (Done p) f h room l = l
   left-after r q core core₁ last (stopped k s) (Refused x y z) f h room l = l

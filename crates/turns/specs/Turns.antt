@@ -12,13 +12,14 @@ use Rattle.expansion.specs.Computation.{State, M}
 use Rattle.expansion.specs.Forms.{expandTree, expandAll, expand}
 use Rattle.arena.specs.Arena.{treeAt}
 use Rattle.resolution.specs.Names.{unboundIn}
+use Rattle.forms.specs.Quotes.{Written}
 use Rattle.turns.specs.declared.answers.Reached.{Reached}
 use Rattle.turns.specs.declared.answers.Ended.{Ended}
 use Rattle.turns.specs.declared.answers.Ended.the-variants.{Done, Refused}
 use Rattle.turns.specs.declared.answers.Turn.{Turn}
 use Rattle.turns.specs.declared.answers.Turn.the-variants.{Again, Operands, Over}
 use Rattle.turns.specs.Ends.{End, finished, stopped, halted, endOf}
-use Rattle.turns.specs.Memory.{Tables, stateAt, Placed, Kept, Put}
+use Rattle.turns.specs.Memory.{Tables, stateAt, Placed, Kept}
 
 -- a table of places is that of these operations
 pub record Lent (operations places : List ℕ) : Type 0 where
@@ -29,7 +30,7 @@ pub record Lent (operations places : List ℕ) : Type 0 where
 -- from r and a core table; the words are those of what is made
 module _ {A : Type 0} (wordsOf : A → List ℕ) (r : Reached) (core : List ℕ) (after : Tables) where
   abbrev pub Left : End A → Ended → Type 0
-  Left (finished a s) (Done q) = (s ≡ stateAt after q) × Put (wordsOf a) (r .at) core (after .core) (q .at)
+  Left (finished a s) (Done q) = (s ≡ stateAt after q) × Written (wordsOf a) core (after .core) (r .at) (q .at)
   Left (finished a s) (Refused h n m) = ⊥
   Left (stopped g s) (Done q) = ⊥
   Left (stopped g s) (Refused h n m) = (g ≡ h) × (s .steps ≡ n) × (s .sum ≡ m)

@@ -26,6 +26,7 @@ use Rattle.expansion.specs.Forms.{expandUse}
 use Rattle.arena.specs.Arena.{treeAt}
 use Rattle.words.specs.ListLaws.{either}
 use Rattle.steps.specs.Apply.{Outcome, refused, result, applied, stepOf}
+use Rattle.forms.specs.Quotes.{Written}
 use Rattle.turns.specs.declared.answers.Reached.{Reached}
 use Rattle.turns.specs.declared.answers.Ended.{Ended}
 use Rattle.turns.specs.declared.answers.Ended.the-variants.{Done, Refused}
@@ -33,7 +34,7 @@ use Rattle.turns.specs.Ends.{End, finished, stopped, halted, endOf, need
 use Rattle.turns.specs.Ends as E
 use Rattle.turns.specs.EndLaws as L
 use Rattle.turns.specs.Numbers.{stepped}
-use Rattle.turns.specs.Memory.{Tables, tables, macrosAt, stateAt, Put, workNeed, coreNeed, variableNeed, macroNeed, Proper, Ready, Kept}
+use Rattle.turns.specs.Memory.{Tables, tables, macrosAt, stateAt, workNeed, coreNeed, variableNeed, macroNeed, Proper, Ready, Kept}
 use Rattle.turns.specs.MemoryLaws.{macrosAt-settled, macros-kept}
 use Rattle.turns.specs.Turns.{Left, turnOf, Ends, Follows}
 use Rattle.turns.specs.Uses.{usedOf, outcomeOf, Used, Unused}
@@ -97,7 +98,7 @@ proper-rule limit used p (given {a = x} f) =
 -- ---- the words follow from the same place
 
 pub left-same : (r q : Reached) (core : List ℕ) (last : Tables) (e : End (Term Name)) (a : Ended) → q .at ≡ r .at → Left encode q core last e a → Left encode r core last e a
-left-same r q core last (finished v s) (Done p) h l = (l .0, subst (λ (n : ℕ). Put (encode v) n core (last .core) (p .at)) h (l .1))
+left-same r q core last (finished v s) (Done p) h l = (l .0, subst (λ (n : ℕ). Written (encode v) core (last .core) n (p .at)) h (l .1))
 left-same r q core last (finished v s) (Refused x y z) h l = l
 left-same r q core last (stopped k s) (Done p) h l = l
 left-same r q core last (stopped k s) (Refused x y z) h l = l

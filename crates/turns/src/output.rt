@@ -2,14 +2,15 @@
 
 ghost use mathlib.Core.List.{[], _∷_};
 ghost use Rattle.core_term.specs.Node.{ifCode};
-ghost use Rattle.turns.specs.Memory.{CoreRoom, Put, Moved, HeaderMoved};
+ghost use Rattle.forms.specs.Quotes.{Written};
+ghost use Rattle.turns.specs.Memory.{CoreRoom, Moved, HeaderMoved};
 use crate::answers::Reached;
 use arena::lists;
 use core_term::codes;
 
 fn put_word(core: &mut [u32], at: u32, a: u32) -> u32
     requires { ⌜ CoreRoom (now core) at 1 ⌝ }
-    ensures { λ r. ⌜ Put (a ∷ []) at (now (core .entry)) (now (core .exit)) r ⌝ }
+    ensures { λ r. ⌜ Written (a ∷ []) (now (core .entry)) (now (core .exit)) at r ⌝ }
 {
     core[at as usize] = a;
     at + 1
@@ -17,7 +18,7 @@ fn put_word(core: &mut [u32], at: u32, a: u32) -> u32
 
 fn put_two(core: &mut [u32], at: u32, a: u32, b: u32) -> u32
     requires { ⌜ CoreRoom (now core) at 2 ⌝ }
-    ensures { λ r. ⌜ Put (a ∷ b ∷ []) at (now (core .entry)) (now (core .exit)) r ⌝ }
+    ensures { λ r. ⌜ Written (a ∷ b ∷ []) (now (core .entry)) (now (core .exit)) at r ⌝ }
 {
     let next = put_word(core, at, a);
     put_word(core, next, b)
@@ -25,7 +26,7 @@ fn put_two(core: &mut [u32], at: u32, a: u32, b: u32) -> u32
 
 pub fn put_three(core: &mut [u32], at: u32, a: u32, b: u32, c: u32) -> u32
     requires { ⌜ CoreRoom (now core) at 3 ⌝ }
-    ensures { λ r. ⌜ Put (a ∷ b ∷ c ∷ []) at (now (core .entry)) (now (core .exit)) r ⌝ }
+    ensures { λ r. ⌜ Written (a ∷ b ∷ c ∷ []) (now (core .entry)) (now (core .exit)) at r ⌝ }
 {
     let next = put_word(core, at, a);
     put_two(core, next, b, c)
@@ -33,7 +34,7 @@ pub fn put_three(core: &mut [u32], at: u32, a: u32, b: u32, c: u32) -> u32
 
 fn put_four(core: &mut [u32], at: u32, a: u32, b: u32, c: u32, d: u32) -> u32
     requires { ⌜ CoreRoom (now core) at 4 ⌝ }
-    ensures { λ r. ⌜ Put (a ∷ b ∷ c ∷ d ∷ []) at (now (core .entry)) (now (core .exit)) r ⌝ }
+    ensures { λ r. ⌜ Written (a ∷ b ∷ c ∷ d ∷ []) (now (core .entry)) (now (core .exit)) at r ⌝ }
 {
     let next = put_two(core, at, a, b);
     put_two(core, next, c, d)
