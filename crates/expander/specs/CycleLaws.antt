@@ -19,7 +19,7 @@ use Rattle.forms.specs.QuoteLaws.{written-none}
 use Rattle.turns.specs.declared.answers.Reached.{Reached}
 use Rattle.turns.specs.declared.answers.Ended.{Ended}
 use Rattle.turns.specs.declared.answers.Ended.the-variants.{Done, Refused}
-use Rattle.turns.specs.Ends.{End, finished, stopped, halted, then}
+use Rattle.turns.specs.Ends.{End, finished, refusedEnd, halted, then}
 use Rattle.turns.specs.EndLaws.{expandAll-pair}
 use Rattle.turns.specs.Memory.{Tables, stateAt, workNeed, coreNeed, variableNeed, macroNeed, Proper, Ready, Placed, Kept}
 use Rattle.turns.specs.MemoryLaws.{kept-both}
@@ -134,7 +134,7 @@ module _ (operations : List ℕ) (fuel : ℕ) where
   first-done : (v : Term Name) (e : End (Terms Name)) → Prefixed encodeAll encodeAll (moreC v) (encode v) e
   unfolding encodeAll
   first-done v (finished b s) = refl
-  first-done v (stopped k s) = tt
+  first-done v (refusedEnd k s) = tt
   first-done v halted = tt
 
   -- where the first operand is done, the later ones' words follow its words
@@ -144,7 +144,7 @@ module _ (operations : List ℕ) (fuel : ℕ) where
   later-right r q a b last e (finished v s) later l room k =
       left-after encodeAll encodeAll (moreC v) (encode v) r q (a .core) (b .core) last (later s) e (first-done v (later s)) (l .1) room
       (subst (λ (z : State). Left encodeAll q (b .core) last (later z) e) (sym (l .0)) k)
-  later-right r q a b last e (stopped g s) later l room k = absurd l
+  later-right r q a b last e (refusedEnd g s) later l room k = absurd l
   later-right r q a b last e halted later l room k = absurd l
 
   -- where it is refused, so are the operands
@@ -152,7 +152,7 @@ module _ (operations : List ℕ) (fuel : ℕ) where
       → Left encodeAll r (a .core) last (then (λ v u. then (λ b s. finished (moreC v b) s) (later u)) first) (Refused x y z)
   unfolding then
   first-refused r a last x y z (finished v s) later l = absurd l
-  first-refused r a last x y z (stopped g s) later l = l
+  first-refused r a last x y z (refusedEnd g s) later l = l
   first-refused r a last x y z halted later l = absurd l
 
   module _ (tree : Tree) (r₀ : Reached) (before : Tables) (list w : ℕ) (r : Reached) (a : Tables) (g : Walking operations fuel tree r₀ before list w r a) where

@@ -7,7 +7,7 @@ use Prim.Native.Nat.{ℕ}
 use lib.Dec.{leb}
 use lib.ListN.{length}
 use Rattle.words.specs.Tables.{filled}
-use Rattle.expansion.specs.Run.{Outcome, accepted, turnedBack, unfinished, Run, coreOf, run}
+use Rattle.expansion.specs.Run.{Outcome, accepted, refusedOn, unfinished, Run, coreOf, run}
 use Rattle.expander.specs.declared.Expansion.{Expansion}
 use Rattle.expander.specs.declared.Expansion.the-variants.{Accepted, Refused}
 
@@ -27,7 +27,7 @@ numbersOf (Refused ground steps sum) = record { ground = ground; steps = steps; 
 -- no run is unfinished (`run-finished`); its number is no ground's, and more than a word holds, so that no answer has it
 unfoldable pub groundOf : Outcome → ℕ
 groundOf accepted = 0
-groundOf (turnedBack g) = g
+groundOf (refusedOn g) = g
 groundOf unfinished = 4294967296
 
 unfoldable pub runNumbers : Run → Numbers
@@ -38,7 +38,7 @@ runNumbers r = record { ground = groundOf (r .outcome); steps = r .steps; sum = 
 -- grounds 7 to 10 change no memory; past them a table ends zeroed but for the words it is to hold
 unfoldable pub leftBy : Outcome → List ℕ → List ℕ → List ℕ
 leftBy accepted words table = filled words table
-leftBy (turnedBack g) words table = cond (leb g 10) table (filled words table)
+leftBy (refusedOn g) words table = cond (leb g 10) table (filled words table)
 leftBy unfinished words table = table
 
 -- the core table holds the accepted term, the work table nothing

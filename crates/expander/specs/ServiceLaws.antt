@@ -1,4 +1,4 @@
--- Laws of a call: a run that is turned back before it begins, and one that ends as its expansion.
+-- Laws of a call: a run that is refused before it begins, and one that ends as its expansion.
 use mathlib.Core.Path.{_≡_, refl, ap, sym, _∙_}
 use mathlib.Core.Bool.{Bool, true, false, _&&_}
 use mathlib.Core.List.{List, [], _++_, append-nil}
@@ -33,7 +33,7 @@ use Rattle.expander.specs.Service.{Numbers, numbersOf, groundOf, runNumb
 use Rattle.words.specs.Tables.{filled}
 use Rattle.expander.specs.Start.{Lends, endNumbers, Expanded, keptTo, Finished}
 
--- ---- turned back before it begins
+-- ---- refused before it begins
 
 -- the room that ground 9 asks
 abbrev pub room : (items : List ℕ) (fuel : ℕ) (work core : List ℕ) → Bool
@@ -41,31 +41,31 @@ room items fuel work core = leb (workRate * (itemCount items + fuel)) (length wo
 
 module _ (items : List ℕ) (fuel : ℕ) (work core : List ℕ) where
   -- refused on g, with both tables as they were
-  abbrev pub TurnedBack : ℕ → Type 0
-  TurnedBack g = (r : Expansion) → r ≡ Refused g 0 0 → Served items fuel work work core core r
+  abbrev pub RefusedOn : ℕ → Type 0
+  RefusedOn g = (r : Expansion) → r ≡ Refused g 0 0 → Served items fuel work work core core r
 
-  turned : (g : ℕ) → g ≤ 10 → run items fuel (length work) (length core) ≡ unbegun g → TurnedBack g
+  turned : (g : ℕ) → g ≤ 10 → run items fuel (length work) (length core) ≡ unbegun g → RefusedOn g
   unfolding unbegun numbersOf runNumbers groundOf coreAfter workAfter leftBy
   turned g h e r i =
       let t : leb g 10 ≡ true = le-leb g 10 h in
       record { numbers = rw (e, i); core-after = rw (e, t); work-after = rw (e, t) }
 
-  pub served-layout : isLayout items ≡ false → TurnedBack 7
+  pub served-layout : isLayout items ≡ false → RefusedOn 7
   unfolding run require unbegun
   served-layout e = turned 7 (omega arith) (rw e)
 
   module _ (layout : isLayout items ≡ true) where
-    pub served-fuel : leb fuel fuelMost ≡ false → TurnedBack 8
+    pub served-fuel : leb fuel fuelMost ≡ false → RefusedOn 8
     unfolding run require unbegun
     served-fuel e = turned 8 (omega arith) (rw (layout, e))
 
     module _ (fuelled : leb fuel fuelMost ≡ true) where
-      pub served-tables : room items fuel work core ≡ false → TurnedBack 9
+      pub served-tables : room items fuel work core ≡ false → RefusedOn 9
       unfolding run require unbegun
       served-tables e = turned 9 (omega arith) (rw (layout, fuelled, e))
 
       module _ (roomy : room items fuel work core ≡ true) where
-        pub served-operations : areOperations (treeOf items) ≡ false → TurnedBack 10
+        pub served-operations : areOperations (treeOf items) ≡ false → RefusedOn 10
         unfolding run require unbegun
         served-operations e = turned 10 (omega arith) (rw (layout, fuelled, roomy, e))
 

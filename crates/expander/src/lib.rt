@@ -16,7 +16,7 @@ pub enum Expansion {
     Refused { ground: u32, steps: u32, sum: u32 },
 }
 
-// Turned back before the first step.
+// Refused before the first step.
 fn refused(ground: u32) -> Expansion
     ensures { λ r. ⌜ r ≡ Refused ground 0 0 ⌝ }
 {

@@ -25,7 +25,7 @@ pub data Event : Type 0 where
 abbrev pub Events : Type 0
 Events = List Event
 
--- done; turned back on a ground; or out of gas, which no run is (Gas)
+-- done; refused on a ground; or out of gas, which no run is (Gas)
 pub data Out (A : Type 0) : Type 0 where
   done : A → State → Events → Out A
   refused : (ground : ℕ) → State → Events → Out A
@@ -59,12 +59,12 @@ refuse g = λ s. refused g s []
 unfoldable pub show : Events → M (Unit {0})
 show l = λ s. done tt s l
 
--- turns back on ground g unless the test passes
+-- refuses on ground g unless the test passes
 unfoldable pub test : ℕ → Bool → M (Unit {0})
 test g true = λ s. done tt s []
 test g false = λ s. refused g s []
 
--- turns back on ground g where the answer is missing
+-- refuses on ground g where the answer is missing
 unfoldable pub orRefuse : {A : Type 0} → ℕ → Option A → M A
 orRefuse g none = λ s. refused g s []
 orRefuse g (some a) = λ s. done a s []

@@ -25,7 +25,7 @@ use Rattle.core_term.specs.Words.{encode}
 use Rattle.core_term.specs.Check.{outside, small, termOf}
 use Rattle.expansion.specs.Computation.{start}
 use Rattle.expansion.specs.Run.{accepted, coreOf, ended, operationNumbers, areOperations, expandRecipe, run}
-use Rattle.expansion.specs.RunLaws.{accepted≢turnedBack, accepted≢unfinished, unbegun, run-holds}
+use Rattle.expansion.specs.RunLaws.{accepted≢refusedOn, accepted≢unfinished, unbegun, run-holds}
 use Rattle.expansion.specs.CoreTerm.Worlds.{World, fine-plain}
 use Rattle.expansion.specs.CoreTerm.WorldState.{Closed}
 use Rattle.expansion.specs.CoreTerm.SoundTerms.{sound-termOf}
@@ -60,7 +60,7 @@ pub run-term : (items : List ℕ) (fuel work core : ℕ) → run items fuel work
 unfolding unbegun ended start nowhere
 run-term items fuel work core =
     run-holds (λ r. r .outcome ≡ accepted → CoreTerm (length (operationNumbers (treeOf items))) (coreOf r)) items fuel work core (λ b. expandRecipe-made fuel items (b .layout))
-    (λ g _ e. absurd (accepted≢turnedBack g (sym e)))
+    (λ g _ e. absurd (accepted≢refusedOn g (sym e)))
     (λ b t s l q e. record { term = t; words = refl; passes = sound-termOf _ t (q .passed) (operations-most (treeOf items) (b .operations)) })
-    (λ b g s l r e. absurd (accepted≢turnedBack g (sym e)))
+    (λ b g s l r e. absurd (accepted≢refusedOn g (sym e)))
     (λ b l x e. absurd (accepted≢unfinished (sym e)))

@@ -4,9 +4,9 @@ use Prim.Native.Nat.{ℕ}
 use Prim.Native.String.{String}
 use Rattle.words.specs.Limits.{filingFuel, filingWork, filingCore}
 use Rattle.words.specs.Text.{bytes}
-use Rattle.reading.specs.Elements.{Answer, got, back}
+use Rattle.reading.specs.Elements.{Answer, got, refusedFor}
 use Rattle.reading.specs.Read.{Recipe, recipeOf, itemWords}
-use Rattle.expansion.specs.Run.{Outcome, accepted, turnedBack, Run, coreOf}
+use Rattle.expansion.specs.Run.{Outcome, accepted, refusedOn, Run, coreOf}
 use Rattle.expansion.specs.Computed.{computed}
 
 pub record Row : Type 0 where
@@ -25,7 +25,7 @@ gives text steps sum core = record { text = text; fuel = filingFuel; outcome = a
 
 -- a refused one: ground, steps, sum
 unfoldable pub refuses : String → (ground steps sum : ℕ) → Row
-refuses text ground steps sum = record { text = text; fuel = filingFuel; outcome = turnedBack ground; steps = steps; sum = sum; core = [] }
+refuses text ground steps sum = record { text = text; fuel = filingFuel; outcome = refusedOn ground; steps = steps; sum = sum; core = [] }
 
 -- the row with other fuel
 unfoldable pub withFuel : ℕ → Row → Row
@@ -37,7 +37,7 @@ withFuel fuel r = record { text = r .text; fuel = fuel; outcome = r .outcome; st
 unfoldable pub itemsOf : Answer Recipe → List ℕ
 unfolding itemWords
 itemsOf (got recipe) = itemWords recipe
-itemsOf (back g) = []
+itemsOf (refusedFor g) = []
 
 -- the run of a text in the filing program's tables
 unfoldable pub runOf : String → ℕ → Run

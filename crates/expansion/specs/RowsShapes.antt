@@ -11,7 +11,7 @@ use Rattle.recipe.specs.Table.{treeOf}
 use Rattle.reading.specs.Read.{recipeOf}
 use Rattle.expansion.specs.Computation.{start}
 use Rattle.expansion.specs.Forms.{expandWithin}
-use Rattle.expansion.specs.Run.{Outcome, accepted, turnedBack, ended}
+use Rattle.expansion.specs.Run.{Outcome, accepted, refusedOn, ended}
 use Rattle.expansion.specs.Computed.{computed}
 use Rattle.expansion.specs.Row.{Row, gives, refuses, itemsOf, filed}
 
@@ -127,6 +127,6 @@ two = "() (let-syntax ((a (syntax-rules () ((_) 1))) (b (syntax-rules () ((_) 1)
 abbrev inside : String
 inside = "() (let-syntax ((a (syntax-rules () ((_) 1)))) (if 1 (let-syntax ((a (syntax-rules () ((_) 1))) (b (syntax-rules () ((_) 1)))) 1) 2))"
 
-pub limits-hold : limited 1 2 two ∷ limited 2 1 two ∷ limited 1 2 inside ∷ limited 2 1 inside ∷ [] ≡ turnedBack 13 ∷ accepted ∷ accepted ∷ turnedBack 13 ∷ []
+pub limits-hold : limited 1 2 two ∷ limited 2 1 two ∷ limited 1 2 inside ∷ limited 2 1 inside ∷ [] ≡ refusedOn 13 ∷ accepted ∷ accepted ∷ refusedOn 13 ∷ []
 unfolding limited
 limits-hold = refl

@@ -6,7 +6,7 @@ use Prim.Native.Nat.{ℕ, zero, suc}
 use Rattle.recipe.specs.Name.{plainName}
 use Rattle.recipe.specs.Tree.{Tree, empty, name, pair}
 use Rattle.recipe.specs.Rows.{X1, X2, X3}
-use Rattle.expansion.specs.Run.{Outcome, accepted, turnedBack, coreOf, areOperations}
+use Rattle.expansion.specs.Run.{Outcome, accepted, refusedOn, coreOf, areOperations}
 use Rattle.expansion.specs.Computed.{computed}
 
 pub record Row : Type 0 where
@@ -41,17 +41,17 @@ rows =
     -- the most fuel, and larger tables
     row X2 8192 200000 20000 accepted (2 ∷ 5 ∷ []) ∷
     -- F4: one work word too few, one core word too few
-    row X2 0 119 10 (turnedBack 9) [] ∷
-    row X2 0 120 9 (turnedBack 9) [] ∷
+    row X2 0 119 10 (refusedOn 9) [] ∷
+    row X2 0 120 9 (refusedOn 9) [] ∷
     -- fuel counts like items
-    row X2 1 143 12 (turnedBack 9) [] ∷
-    row X2 1 144 11 (turnedBack 9) [] ∷
+    row X2 1 143 12 (refusedOn 9) [] ∷
+    row X2 1 144 11 (refusedOn 9) [] ∷
     row X2 1 144 12 accepted (2 ∷ 5 ∷ []) ∷
     -- F4: 7 before 8, 8 before 9, 9 before 10
-    row X3 8193 0 0 (turnedBack 7) [] ∷
-    row X2 8193 0 0 (turnedBack 8) [] ∷
-    row ifAsOperation 0 167 14 (turnedBack 9) [] ∷
-    row ifAsOperation 0 168 14 (turnedBack 10) [] ∷
+    row X3 8193 0 0 (refusedOn 7) [] ∷
+    row X2 8193 0 0 (refusedOn 8) [] ∷
+    row ifAsOperation 0 167 14 (refusedOn 9) [] ∷
+    row ifAsOperation 0 168 14 (refusedOn 10) [] ∷
     []
 
 pub rows-hold : map ran rows ≡ rows

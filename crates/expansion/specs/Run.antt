@@ -18,7 +18,7 @@ use Rattle.expansion.specs.Forms.{expand}
 -- accepted, or the ground; no run is unfinished (Gas)
 pub data Outcome : Type 0 where
   accepted : Outcome
-  turnedBack : (ground : ℕ) → Outcome
+  refusedOn : (ground : ℕ) → Outcome
   unfinished : Outcome
 
 -- outcome, the two counts, the accepted term (none where it is refused), and what the run shows
@@ -39,13 +39,13 @@ coreOf r = termWords (r .term)
 
 unfoldable pub ended : Out (Term Name) → Run
 ended (done t s l) = record { outcome = accepted; steps = s .steps; sum = s .sum; term = some t; events = l }
-ended (refused g s l) = record { outcome = turnedBack g; steps = s .steps; sum = s .sum; term = none; events = l }
+ended (refused g s l) = record { outcome = refusedOn g; steps = s .steps; sum = s .sum; term = none; events = l }
 ended (starved l) = record { outcome = unfinished; steps = 0; sum = 0; term = none; events = l }
 
 -- the rest of the run, where the test of ground g passes
 unfoldable pub require : (ground : ℕ) → Bool → Run → Run
 require g true run = run
-require g false run = record { outcome = turnedBack g; steps = 0; sum = 0; term = none; events = [] }
+require g false run = record { outcome = refusedOn g; steps = 0; sum = 0; term = none; events = [] }
 
 -- the recipe's operations, by number
 unfoldable pub operationNumbers : Tree → List ℕ

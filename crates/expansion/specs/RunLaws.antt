@@ -1,4 +1,4 @@
--- What holds of a run holds where it is turned back before it begins and of the end of its expansion.
+-- What holds of a run holds where it is refused before it begins and of the end of its expansion.
 use mathlib.Core.Path.{_≡_, refl, _∙_}
 use mathlib.Core.Bool.{Bool, true, false, false≢true}
 use mathlib.Core.List.{List, []}
@@ -14,25 +14,25 @@ use Rattle.recipe.specs.Name.{Name}
 use Rattle.recipe.specs.Table.{itemCount, isLayout, treeOf}
 use Rattle.core_term.specs.Term.{Term}
 use Rattle.expansion.specs.Computation.{State, Event, Events, Out, done, refused, starved}
-use Rattle.expansion.specs.Run.{accepted, turnedBack, unfinished, Run, ended, require, areOperations, expandRecipe, run}
+use Rattle.expansion.specs.Run.{accepted, refusedOn, unfinished, Run, ended, require, areOperations, expandRecipe, run}
 use Rattle.expansion.specs.Outcomes.{Holds, isDone, isRefused, isStarved}
 
 -- ---- outcomes are told apart
 
-pub accepted≢turnedBack : (g : ℕ) → accepted ≡ turnedBack g → ⊥
-accepted≢turnedBack g e = let z : _≡_ {A = ℕ} 0 1 = cc in omega arith
+pub accepted≢refusedOn : (g : ℕ) → accepted ≡ refusedOn g → ⊥
+accepted≢refusedOn g e = let z : _≡_ {A = ℕ} 0 1 = cc in omega arith
 
 pub accepted≢unfinished : accepted ≡ unfinished → ⊥
 accepted≢unfinished e = let z : _≡_ {A = ℕ} 0 1 = cc in omega arith
 
-pub turnedBack≢unfinished : (g : ℕ) → turnedBack g ≡ unfinished → ⊥
-turnedBack≢unfinished g e = let z : _≡_ {A = ℕ} 0 1 = cc in omega arith
+pub refusedOn≢unfinished : (g : ℕ) → refusedOn g ≡ unfinished → ⊥
+refusedOn≢unfinished g e = let z : _≡_ {A = ℕ} 0 1 = cc in omega arith
 
 -- ---- claims about runs
 
--- turned back on ground g before it begins
+-- refused on ground g before it begins
 unfoldable pub unbegun : (ground : ℕ) → Run
-unbegun g = record { outcome = turnedBack g; steps = 0; sum = 0; term = none; events = [] }
+unbegun g = record { outcome = refusedOn g; steps = 0; sum = 0; term = none; events = [] }
 
 -- the tests of grounds 7 to 10 are passed
 pub record Begun (items : List ℕ) (fuel work core : ℕ) : Type 0 where

@@ -5,7 +5,7 @@ use mathlib.Core.List.{List}
 use mathlib.Core.Option.{some}
 use Prim.Native.Nat.{ℕ}
 use lib.ListN.{length}
-use Rattle.reading.specs.Elements.{Answer, got, back}
+use Rattle.reading.specs.Elements.{Answer, got, refusedFor}
 use Rattle.reading.specs.Read.{Recipe, read, itemWords, itemsAfter, namesAfter}
 use Rattle.expansion.specs.Run.{Run, run}
 use Rattle.expander.specs.Service.{workAfter, coreAfter}
@@ -31,11 +31,11 @@ pub record Expanded (items : List ℕ) (fuel : ℕ) (names work work′ core cor
 module _ (fuel : ℕ) where
   unfoldable pub workLeft : (core : ℕ) → Answer Recipe → List ℕ → List ℕ
   workLeft core (got r) work = workAfter (run (itemWords r) fuel (length work) core) work
-  workLeft core (back g) work = work
+  workLeft core (refusedFor g) work = work
 
   unfoldable pub coreLeft : (work : ℕ) → Answer Recipe → List ℕ → List ℕ
   coreLeft work (got r) core = coreAfter (run (itemWords r) fuel work (length core)) core
-  coreLeft work (back g) core = core
+  coreLeft work (refusedFor g) core = core
 
 -- what a call answers and leaves
 pub record Filed (text : List ℕ) (fuel : ℕ) (items items′ names names′ work work′ core core′ out out′ : List ℕ) (r : Writing) : Type 0 where

@@ -7,7 +7,7 @@ use native.Mathlib.Omega.{arith}
 use lib.ListN.{length, drop, length-append}
 use Rattle.words.specs.Limits.{itemWordsLeast, nameBytesLeast, operationsMost, filingFuel, filingWork, filingCore}
 use Rattle.datum.specs.NameTable.{nameAt, hasName}
-use Rattle.reading.specs.Elements.{Answer, got, back}
+use Rattle.reading.specs.Elements.{Answer, got, refusedFor}
 use Rattle.reading.specs.Read.{Recipe, read, itemWords, nameBytes}
 use Rattle.reading_layout.specs.Answers.{read-ground}
 use Rattle.core_term.specs.Term.{Plain}
@@ -16,9 +16,9 @@ use Rattle.core_term.specs.Text.{spacedAfter, spaced, text}
 use Rattle.core_term.specs.Check.{termOf}
 use Rattle.core_term.specs.CheckLaws as C
 use Rattle.core_term.specs.TextRoom.{limit, number-room, text-room}
-use Rattle.expansion.specs.Run.{Outcome, accepted, turnedBack, unfinished, Run, coreOf, run}
+use Rattle.expansion.specs.Run.{Outcome, accepted, refusedOn, unfinished, Run, coreOf, run}
 use Rattle.expansion.specs.Bounds.{run-sum, run-steps, run-core-fits}
-use Rattle.expansion.specs.Ways.Grounds.{TurnedBack, atOnce, later, run-ground}
+use Rattle.expansion.specs.Ways.Grounds.{RefusedOn, atOnce, later, run-ground}
 use Rattle.output.specs.Output.{line, refusal, header, acceptance, printed, outputOf, filed, output}
 use Rattle.writer.specs.declared.Writing.{Writing}
 use Rattle.writer.specs.declared.Writing.the-variants.{Written, NoTerm, NoRoom}
@@ -72,7 +72,7 @@ module _ (fuel : ℕ) (small : fuel < limit) where
     abbrev it : Run
     it = run items fuel work core
 
-    grounds-few : (g : ℕ) → TurnedBack g it → g ≤ 18
+    grounds-few : (g : ℕ) → RefusedOn g it → g ≤ 18
     grounds-few g (atOnce l e) = omega arith
     grounds-few g (later l) = omega arith
 
@@ -81,7 +81,7 @@ module _ (fuel : ℕ) (small : fuel < limit) where
     printed-room accepted e =
         acceptance-room names (coreOf it) (it .steps) (it .sum) (omega (arith, run-steps items fuel work core, run-sum items fuel work core))
         (omega (arith, run-sum items fuel work core)) (omega (arith, run-core-fits items fuel work core))
-    printed-room (turnedBack g) e =
+    printed-room (refusedOn g) e =
         omega (
           arith,
           refusal-room g (it .steps) (it .sum) (omega (arith, grounds-few g (run-ground items fuel work core g e)))
@@ -96,7 +96,7 @@ module _ (fuel : ℕ) (small : fuel < limit) where
     where
       go : (a : Answer Recipe) → read txt items names ≡ a → length (outputOf fuel work core a) ≤ outputMost
       go (got r) e = printed-room (nameBytes r) (itemWords r) work core few (run (itemWords r) fuel work core .outcome) refl
-      go (back g) e = omega (arith, refusal-room g 0 0 (omega (arith, read-ground txt items names g e)) (omega arith) (omega arith))
+      go (refusedFor g) e = omega (arith, refusal-room g 0 0 (omega (arith, read-ground txt items names g e)) (omega arith) (omega arith))
 
 -- ---- in the filing program's tables
 

@@ -10,7 +10,7 @@ use Rattle.words.specs.Limits.{operationsMost, slotSize}
 use Rattle.datum.specs.Datum.{constantD, nameD, listD, noneD, moreD, dataItems}
 use Rattle.datum.specs.Datum as D
 use Rattle.datum.specs.NameTable.{hasName}
-use Rattle.reading.specs.Elements.{Answer, got, back}
+use Rattle.reading.specs.Elements.{Answer, got, refusedFor}
 use Rattle.reading.specs.Read as Read
 use Rattle.reading.specs.Read.{Recipe, read, readNumbers, itemWords, nameBytes, itemsAfter, namesAfter}
 use Rattle.reading.specs.Laws.Grounds.{ground-some}
@@ -24,10 +24,10 @@ use Rattle.core_term.specs.NodeLaws.{node-some}
 use Rattle.core_term.specs.Term.{Term, variableC, operationC, datumC, ifC, lambdaC, applicationC, count}
 use Rattle.core_term.specs.Words.{datumWords, dataWords, encode, encodeAll}
 use Rattle.core_term.specs.Check.{termOf}
-use Rattle.expansion.specs.Run.{Outcome, accepted, turnedBack, unfinished, Run, coreOf, run}
+use Rattle.expansion.specs.Run.{Outcome, accepted, refusedOn, unfinished, Run, coreOf, run}
 use Rattle.expansion.specs.CoreTerm.{run-term}
 use Rattle.expansion.specs.Bounds.Gas.{run-finished}
-use Rattle.expansion.specs.Ways.Grounds.{TurnedBack, atOnce, later, run-ground}
+use Rattle.expansion.specs.Ways.Grounds.{RefusedOn, atOnce, later, run-ground}
 use Rattle.expander.specs.declared.Expansion.{Expansion}
 use Rattle.expander.specs.declared.Expansion.the-variants.{Accepted, Refused}
 use Rattle.expander.specs.Service as E
@@ -59,7 +59,7 @@ term-words (lambdaC first formals body) = omega (arith, node-some (lambdaN first
 term-words (applicationC h ts) = omega (arith, node-some (applicationN (count ts)), length-append (nodeWords (applicationN (count ts))) (encode h ++ encodeAll ts))
 
 -- no ground is 0
-low : (g : ℕ) (r : Run) → TurnedBack g r → 7 ≤ g
+low : (g : ℕ) (r : Run) → RefusedOn g r → 7 ≤ g
 low g r (atOnce l e) = omega arith
 low g r (later l) = omega arith
 
@@ -74,18 +74,18 @@ module _ (items : List ℕ) (fuel work core : ℕ) where
     where
       go : (o : Outcome) → it .outcome ≡ o → _≡_ {A = ℕ} 0 (groundOf o) → it .outcome ≡ accepted
       go accepted h z = h
-      go (turnedBack g) h z = absurd (omega (arith, low g it (run-ground items fuel work core g h)))
+      go (refusedOn g) h z = absurd (omega (arith, low g it (run-ground items fuel work core g h)))
       go unfinished h z = absurd (run-finished items fuel work core h)
 
-  is-refused : (g n m : ℕ) → numbersOf (Refused g n m) ≡ runNumbers it → it .outcome ≡ turnedBack g
+  is-refused : (g n m : ℕ) → numbersOf (Refused g n m) ≡ runNumbers it → it .outcome ≡ refusedOn g
   unfolding numbersOf runNumbers groundOf
   is-refused g n m e = go (it .outcome) refl (ap (λ (k : Numbers). k .ground) e) (ap (λ (k : Numbers). k .length) e)
     where
-      go : (o : Outcome) → it .outcome ≡ o → g ≡ groundOf o → _≡_ {A = ℕ} 0 (length (coreOf it)) → it .outcome ≡ turnedBack g
+      go : (o : Outcome) → it .outcome ≡ o → g ≡ groundOf o → _≡_ {A = ℕ} 0 (length (coreOf it)) → it .outcome ≡ refusedOn g
       go accepted h z l =
           let t = run-term items fuel work core h in
           absurd (omega (arith, term-words (t .term), ap length (t .words)))
-      go (turnedBack k) h z l = h ∙ ap turnedBack (sym z)
+      go (refusedOn k) h z l = h ∙ ap refusedOn (sym z)
       go unfinished h z l = absurd (run-finished items fuel work core h)
 
 module _ (items : List ℕ) (fuel : ℕ) (work work′ core core′ : List ℕ) (r : Expansion) (s : E.Served items fuel work work′ core core′ r) where
@@ -148,15 +148,15 @@ module _ (text items items′ names names′ : List ℕ) (r : Reading) (s : R.Se
     where
       go : (a : Answer Recipe) → read′ ≡ a → R.numbersOf (RV.Read i n) ≡ readNumbers a → (x : Recipe) × (read′ ≡ got x) × (i ≡ dataItems (x .elements)) × (n ≡ length (x .names))
       go (got x) e k = (x, e, ap (λ (m : Read.Numbers). m .items) k, ap (λ (m : Read.Numbers). m .names) k)
-      go (back g) e k = absurd (omega (arith, ground-some text (length items) (length names) g e, ap (λ (m : Read.Numbers). m .ground) k))
+      go (refusedFor g) e k = absurd (omega (arith, ground-some text (length items) (length names) g e, ap (λ (m : Read.Numbers). m .ground) k))
 
-  refused-read : (g : ℕ) → r ≡ RV.Refused g → read′ ≡ back g
+  refused-read : (g : ℕ) → r ≡ RV.Refused g → read′ ≡ refusedFor g
   unfolding R.numbersOf readNumbers
   refused-read g h = go read′ refl (told-of (RV.Refused g) h)
     where
-      go : (a : Answer Recipe) → read′ ≡ a → R.numbersOf (RV.Refused g) ≡ readNumbers a → read′ ≡ back g
+      go : (a : Answer Recipe) → read′ ≡ a → R.numbersOf (RV.Refused g) ≡ readNumbers a → read′ ≡ refusedFor g
       go (got x) e k = absurd (omega (arith, data-some (x .elements), ap (λ (m : Read.Numbers). m .items) k))
-      go (back j) e k = e ∙ ap back (sym (ap (λ (m : Read.Numbers). m .ground) k))
+      go (refusedFor j) e k = e ∙ ap refusedFor (sym (ap (λ (m : Read.Numbers). m .ground) k))
 
   module _ (i n : ℕ) (h : r ≡ RV.Read i n) where
     abbrev recipe : Recipe

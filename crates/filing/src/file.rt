@@ -29,7 +29,7 @@ use writer::bytes::byte;
 use writer::numbers::wide;
 use writer::write;
 
-// The output of what is turned back. It is measured, then laid.
+// The output of what is refused. It is measured, then laid.
 fn refused(ground: u32, steps: u32, sum: u32, out: &mut [u8]) -> Writing
     ensures { λ r. ⌜ Wrote (some (refusal ground steps sum)) (now (out .entry)) (now (out .exit)) r ⌝ }
 {

@@ -15,7 +15,7 @@ pub struct Cursor {
     pub at: usize,
 }
 
-// What stands at a cursor, with the cursor past it. A name starts at its first field; what is turned back has its ground.
+// What stands at a cursor, with the cursor past it. A name starts at its first field; what is refused has its ground.
 pub enum Token {
     End,
     Open(Cursor),

@@ -5,13 +5,13 @@ use Prim.Native.Nat.{ℕ}
 use Rattle.words.specs.Limits.{itemWordsLeast, nameBytesLeast, operationsMost, filingWork, filingCore}
 use Rattle.words.specs.Text.{bytes}
 use Rattle.datum.specs.NameTable.{hasName, nameAt}
-use Rattle.reading.specs.Elements.{Answer, got, back}
+use Rattle.reading.specs.Elements.{Answer, got, refusedFor}
 use Rattle.reading.specs.Read.{Recipe, read, itemWords, nameBytes}
 use Rattle.core_term.specs.Term.{Plain}
 use Rattle.core_term.specs.Check.{termOf}
 use Rattle.core_term.specs.Decimal.{decimal}
 use Rattle.core_term.specs.Text.{spaced, text}
-use Rattle.expansion.specs.Run.{Outcome, accepted, turnedBack, unfinished, Run, coreOf, run}
+use Rattle.expansion.specs.Run.{Outcome, accepted, refusedOn, unfinished, Run, coreOf, run}
 
 -- a line of words, with its LF
 unfoldable pub line : List (List ℕ) → List ℕ
@@ -33,12 +33,12 @@ acceptance names steps sum (some t) = header steps sum ++ line (text (nameAt nam
 -- a run, with the name table of its recipe
 unfoldable pub printed : List ℕ → Outcome → Run → List ℕ
 printed names accepted r = acceptance names (r .steps) (r .sum) (termOf operationsMost (hasName names) (coreOf r))
-printed names (turnedBack ground) r = refusal ground (r .steps) (r .sum)
+printed names (refusedOn ground) r = refusal ground (r .steps) (r .sum)
 printed names unfinished r = []
 
 -- the answer of reading, with the lengths of the work and core tables
 unfoldable pub outputOf : (fuel work core : ℕ) → Answer Recipe → List ℕ
-outputOf fuel work core (back ground) = refusal ground 0 0
+outputOf fuel work core (refusedFor ground) = refusal ground 0 0
 outputOf fuel work core (got recipe) =
     let r = run (itemWords recipe) fuel work core in
     printed (nameBytes recipe) (r .outcome) r

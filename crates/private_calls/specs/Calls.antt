@@ -12,10 +12,10 @@ use Rattle.words.specs.Lists.{allOf, anyOf}
 use Rattle.words.specs.Tables.{filled}
 use Rattle.words.specs.TestLaws.{and-parts}
 use Rattle.expansion.specs.Computation.{Event}
-use Rattle.expansion.specs.Run.{Outcome, accepted, turnedBack, unfinished, Run, run}
+use Rattle.expansion.specs.Run.{Outcome, accepted, refusedOn, unfinished, Run, run}
 use Rattle.expansion.specs.RunLaws.{unbegun}
 use Rattle.expansion.specs.Bounds.Gas.{run-finished}
-use Rattle.expansion.specs.Ways.Grounds.{TurnedBack, atOnce, later, run-ground}
+use Rattle.expansion.specs.Ways.Grounds.{RefusedOn, atOnce, later, run-ground}
 use Rattle.private_names.specs.Statement.{Choice, renamed, isReachedAt, hypotheses, Answer, answerOf, PrivateNames}
 use Rattle.private_names_proof.specs.Claim.{private-names}
 use Rattle.expander.specs.declared.Expansion.{Expansion}
@@ -31,7 +31,7 @@ module _ (ws : List ℕ) (fuel work core : ℕ) (f : Event → Bool) (shown : an
   abbrev it : Run
   it = run ws fuel work core
 
-  past-tests : (table : List ℕ) (g : ℕ) → TurnedBack g it → cond (leb g 10) table (filled words table) ≡ filled words table
+  past-tests : (table : List ℕ) (g : ℕ) → RefusedOn g it → cond (leb g 10) table (filled words table) ≡ filled words table
   unfolding unbegun anyOf
   past-tests table g (atOnce l e) = absurd (false≢true (sym (ap (λ (r : Run). anyOf f (r .events)) e) ∙ shown))
   past-tests table g (later l) = let h : 10 < g = omega (arith, l .0) in rw (lt-leb g 10 h)
@@ -42,7 +42,7 @@ module _ (ws : List ℕ) (fuel work core : ℕ) (f : Event → Bool) (shown : an
     where
       go : (o : Outcome) → it .outcome ≡ o → leftBy o words table ≡ filled words table
       go accepted e = refl
-      go (turnedBack g) e = past-tests table g (run-ground ws fuel work core g e)
+      go (refusedOn g) e = past-tests table g (run-ground ws fuel work core g e)
       go unfinished e = absurd (run-finished ws fuel work core e)
 
   left-by-length : (t u : List ℕ) → length t ≡ length u → leftBy (it .outcome) words t ≡ leftBy (it .outcome) words u

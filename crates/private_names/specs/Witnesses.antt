@@ -9,18 +9,18 @@ use Prim.Native.String.{String}
 use Rattle.words.specs.Limits.{filingFuel, filingWork, filingCore}
 use Rattle.words.specs.Text.{bytes}
 use Rattle.recipe.specs.Table.{treeOf}
-use Rattle.reading.specs.Elements.{got, back}
+use Rattle.reading.specs.Elements.{got, refusedFor}
 use Rattle.reading.specs.Read.{recipeOf, itemWords}
 use Rattle.expansion.specs.Rules.{hasVariable}
 use Rattle.expansion.specs.Computation.{looked, quoted, reached, binds, Events}
-use Rattle.expansion.specs.Run.{accepted, turnedBack, Run}
+use Rattle.expansion.specs.Run.{accepted, refusedOn, Run}
 use Rattle.expansion.specs.Computed.{computed}
 use Rattle.private_names.specs.Statement.{Choice, isOldItem, isCopy, renamed, hypotheses, parts, firstWith, hasHead, formAt, rulesAt, ruleAt, templateAt, isVariableAt, isPrivate, isNew, renumber, isReachedAt, bindsCopy, isOwnedByCopy, quotesNoCopy, findsOwn, Answer, answerOf}
 
 -- the items of a recipe's text
 unfoldable pub itemsOf : String → List ℕ
 unfolding bytes recipeOf itemWords
-itemsOf text = elim (recipeOf (bytes text)) [ got r ↦ itemWords r | back g ↦ [] ]
+itemsOf text = elim (recipeOf (bytes text)) [ got r ↦ itemWords r | refusedFor g ↦ [] ]
 
 -- how many lookups of copies a run shows
 unfoldable pub copyLookups : (C : ℕ → Bool) → Events → ℕ
@@ -61,7 +61,7 @@ gives steps sum core = record { outcome = accepted; steps = steps; sum = sum; co
 
 -- a refused one: ground, steps, sum
 unfoldable pub refuses : (ground steps sum : ℕ) → Answer
-refuses ground steps sum = record { outcome = turnedBack ground; steps = steps; sum = sum; core = [] }
+refuses ground steps sum = record { outcome = refusedOn ground; steps = steps; sum = sum; core = [] }
 
 unfoldable pub finding : List Bool → ℕ → Answer → Answer → Finding
 finding hold lookups first second = record { hold = hold; lookups = lookups; first = first; second = second }

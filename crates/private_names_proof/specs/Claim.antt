@@ -19,7 +19,7 @@ use Rattle.recipe.specs.TableNames.{numberAt}
 use Rattle.core_term.specs.Term.{Term}
 use Rattle.expansion.specs.Computation.{start, Out, done, refused, starved}
 use Rattle.expansion.specs.Forms.{rulesFormOf, expandWithin, expand}
-use Rattle.expansion.specs.Run.{accepted, turnedBack, ended, operationNumbers, areOperations, expandRecipe, run}
+use Rattle.expansion.specs.Run.{accepted, refusedOn, ended, operationNumbers, areOperations, expandRecipe, run}
 use Rattle.expansion.specs.RunLaws.{Begun, begun-run, shows-begun}
 use Rattle.private_names.specs.Statement as S
 use Rattle.private_names.specs.Statement.{Choice, isOldItem, isNew, renamed, isReachedAt, quotesNoCopy, findsOwn, hypotheses, answerOf, PrivateNames}
@@ -43,7 +43,7 @@ use Rattle.private_names_proof.specs.Taken.{new-large, renaming, held, c
 ended-answer : (ρ : Renaming) (raw : Raw ρ) {x y : Out (Term Name)} → OutRel ρ raw 0 (TermRel ρ) x y → answerOf (ended y) ≡ answerOf (ended x)
 unfolding answerOf ended
 ended-answer ρ raw (dones r q) = λ i. record { outcome = accepted; steps = sym (q .steps) i; sum = sym (q .sum) i; core = sym (encode-rel r) i }
-ended-answer ρ raw (refusals {g = g} q) = λ i. record { outcome = turnedBack g; steps = sym (q .steps) i; sum = sym (q .sum) i; core = [] }
+ended-answer ρ raw (refusals {g = g} q) = λ i. record { outcome = refusedOn g; steps = sym (q .steps) i; sum = sym (q .sum) i; core = [] }
 ended-answer ρ raw starvations = refl
 
 -- ---- an expression and the renumbered one, from the start

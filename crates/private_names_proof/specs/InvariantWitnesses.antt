@@ -10,7 +10,7 @@ use Rattle.recipe.specs.Name.{bindingKey}
 use Rattle.recipe.specs.Tree.{Tree, names}
 use Rattle.recipe.specs.Table.{treeOf}
 use Rattle.expansion.specs.Computation.{State}
-use Rattle.expansion.specs.Run.{Outcome, accepted, turnedBack, ended}
+use Rattle.expansion.specs.Run.{Outcome, accepted, refusedOn, ended}
 use Rattle.expansion.specs.Computed.{computed}
 use Rattle.private_names.specs.Statement.{isCopy}
 use Rattle.private_names.specs.Witnesses.{itemsOf}
@@ -41,6 +41,6 @@ invariants-pass = refl
 unfoldable pub byNumber : Tree → State → Bool
 byNumber t s = allOf (λ x. allOf (λ y. not (eqb (x .number) (y .number)) || eqb (bindingKey (x .binding)) (bindingKey (y .binding))) (names t)) (names t)
 
-pub more-fails : tried byNumber or2 ∷ tried (areApart (eqb 37)) made ∷ [] ≡ (turnedBack 0, 1) ∷ (turnedBack 0, 1) ∷ []
+pub more-fails : tried byNumber or2 ∷ tried (areApart (eqb 37)) made ∷ [] ≡ (refusedOn 0, 1) ∷ (refusedOn 0, 1) ∷ []
 unfolding tried byNumber
 more-fails = refl

@@ -18,7 +18,7 @@ pub struct Place {
     pub known: usize,
 }
 
-// What a token does: it is taken, or the text is turned back.
+// What a token does: it is taken, or the text is refused.
 pub enum Step {
     Went(Place),
     Refused(u32),

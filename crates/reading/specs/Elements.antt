@@ -9,15 +9,15 @@ use Rattle.datum.specs.Datum.{Datum, Data, constantD, nameD, listD, noneD, more
 use Rattle.reading.specs.Meaning.{Meaning, begins, ends, constant, name, refused}
 use Rattle.reading.specs.Numbering.{numberOf, withName}
 
--- an answer, or the ground on which the text is turned back
+-- an answer, or the ground on which the text is refused
 pub data Answer (A : Type 0) : Type 0 where
   got : A → Answer A
-  back : (ground : ℕ) → Answer A
+  refusedFor : (ground : ℕ) → Answer A
 
 -- on with an answer, or back with its ground
 unfoldable pub then : {A B : Type 0} → Answer A → (A → Answer B) → Answer B
 then (got a) f = f a
-then (back g) f = back g
+then (refusedFor g) f = refusedFor g
 
 -- the elements so far of the inmost open list (of the text, where none is open) and of those around it, each from its last;
 -- the names so far; e; and how many elements the text still lacks
@@ -80,7 +80,7 @@ opened r = record { here = []; around = r .here ∷ r .around; known = r .known;
 
 -- the inmost open list is complete; ground 5 where none is open
 unfoldable pub closed : List (List Datum) → Reading → Answer Reading
-closed [] r = back 5
+closed [] r = refusedFor 5
 closed (l ∷ ls) r =
     got (record { here = listD (onto (r .here) noneD) ∷ l; around = ls; known = r .known; count = r .count; missing = r .missing })
 
@@ -90,7 +90,7 @@ isWithin r = leb (r .count) elementsMost && (leb (length (r .known)) namesMost &
 
 -- from r to q by a token that begins an element: ground 5 where it is one too many, 6 past a limit
 unfoldable pub begin : Reading → Reading → Answer Reading
-begin r q = cond (isComplete r) (back 5) (cond (isWithin q) (got q) (back 6))
+begin r q = cond (isComplete r) (refusedFor 5) (cond (isWithin q) (got q) (refusedFor 6))
 
 -- what one token makes of a reading: its own ground, then 5, then 6
 unfoldable pub takes : Meaning → Reading → Answer Reading
@@ -98,9 +98,9 @@ takes begins r = begin r (opened (counted r))
 takes ends r = closed (r .around) r
 takes (constant a) r = begin r (put (constantD a) (counted r))
 takes (name cs) r = begin r (named cs (counted r))
-takes (refused g) r = back g
+takes (refused g) r = refusedFor g
 
--- one token after another, up to the first that is turned back
+-- one token after another, up to the first that is refused
 unfoldable pub takesAll : List Meaning → Reading → Answer Reading
 unfolding then start onto noneOpen isComplete counted put named opened closed isWithin begin takes numberOf withName
 takesAll [] r = got r

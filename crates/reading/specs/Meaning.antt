@@ -12,7 +12,7 @@ use Rattle.words.specs.Lists.{within, allOf, equal}
 use Rattle.datum.specs.Constant.{Constant, integer, boolean}
 use Rattle.reading.specs.Token.{Token, open′, close′, bad, flag, run, isDigit}
 
--- a list begins or ends, a constant, a name, or the ground on which the token is turned back
+-- a list begins or ends, a constant, a name, or the ground on which the token is refused
 pub data Meaning : Type 0 where
   begins ends : Meaning
   constant : Constant → Meaning

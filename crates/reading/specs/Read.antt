@@ -11,7 +11,7 @@ use Rattle.datum.specs.Datum.{Data, noneD, datumItems, dataItems}
 use Rattle.datum.specs.NameTable.{slots}
 use Rattle.reading.specs.Token.{tokens}
 use Rattle.reading.specs.Meaning.{meaningOf}
-use Rattle.reading.specs.Elements.{Answer, got, back, then, Reading, start, onto, isComplete, takesAll}
+use Rattle.reading.specs.Elements.{Answer, got, refusedFor, then, Reading, start, onto, isComplete, takesAll}
 use Rattle.reading.specs.Numbering.{baseNames, dataWords}
 
 -- what a recipe text says: the list of its two elements, names by number, and the names
@@ -21,7 +21,7 @@ pub record Recipe : Type 0 where
 
 -- at the end of the text: ground 5 where a list is open or an element missing
 unfoldable pub finished : Reading → Answer Recipe
-finished r = cond (isComplete r) (got (record { elements = onto (r .here) noneD; names = r .known })) (back 5)
+finished r = cond (isComplete r) (got (record { elements = onto (r .here) noneD; names = r .known })) (refusedFor 5)
 
 -- grounds 3 to 6, over the names that have numbers before the text
 unfoldable pub recipeOver : List (List ℕ) → List ℕ → Answer Recipe
@@ -37,8 +37,8 @@ recipeOf text = recipeOver baseNames text
 unfoldable pub read : List ℕ → ℕ → ℕ → Answer Recipe
 unfolding recipeOf
 read text items names =
-    cond (ltb items itemWordsLeast || ltb names nameBytesLeast) (back 1)
-    (cond (ltb textBytesMost (length text)) (back 2)
+    cond (ltb items itemWordsLeast || ltb names nameBytesLeast) (refusedFor 1)
+    (cond (ltb textBytesMost (length text)) (refusedFor 2)
     (recipeOf text))
 
 -- ---- the numbers of the answer
@@ -52,7 +52,7 @@ pub record Numbers : Type 0 where
 unfoldable pub readNumbers : Answer Recipe → Numbers
 unfolding dataItems
 readNumbers (got r) = record { ground = 0; items = dataItems (r .elements); names = length (r .names) }
-readNumbers (back g) = record { ground = g; items = 0; names = 0 }
+readNumbers (refusedFor g) = record { ground = g; items = 0; names = 0 }
 
 -- ---- the tables
 
@@ -74,10 +74,10 @@ cleared g table = cond (leb g 2) table (replicate (length table) 0)
 unfoldable pub itemsAfter : Answer Recipe → List ℕ → List ℕ
 unfolding filled cleared itemWords
 itemsAfter (got r) table = filled (itemWords r) table
-itemsAfter (back g) table = cleared g table
+itemsAfter (refusedFor g) table = cleared g table
 
 -- the lent name table after the call, from what it held before
 unfoldable pub namesAfter : Answer Recipe → List ℕ → List ℕ
 unfolding filled cleared nameBytes
 namesAfter (got r) table = filled (nameBytes r) table
-namesAfter (back g) table = cleared g table
+namesAfter (refusedFor g) table = cleared g table

@@ -19,8 +19,8 @@ pub record Row : Type 0 where
 unfoldable pub accepted : List ℕ → ℕ → ℕ → Row
 accepted text items names = record { text = text; numbers = record { ground = 0; items = items; names = names } }
 
-unfoldable pub turnedBack : List ℕ → ℕ → Row
-turnedBack text ground = record { text = text; numbers = record { ground = ground; items = 0; names = 0 } }
+unfoldable pub refusedOn : List ℕ → ℕ → Row
+refusedOn text ground = record { text = text; numbers = record { ground = ground; items = 0; names = 0 } }
 
 unfoldable pub rowOf : List ℕ → Row
 unfolding recipeOf readNumbers
@@ -32,42 +32,42 @@ repeated zero bs = []
 repeated (suc n) bs = bs ++ repeated n bs
 
 unfoldable pub rows : List Row
-unfolding accepted turnedBack bytes
+unfolding accepted refusedOn bytes
 rows =
     accepted (bytes "#t#f") 5 8 ∷
     accepted (bytes "#tx") 5 9 ∷
-    turnedBack (bytes "() #tx") 5 ∷
+    refusedOn (bytes "() #tx") 5 ∷
     accepted (bytes "(a)(b)") 9 10 ∷
     accepted (bytes "1(2)") 7 8 ∷
-    turnedBack (bytes "() 1x") 3 ∷
+    refusedOn (bytes "() 1x") 3 ∷
     accepted (bytes "() -") 5 9 ∷
     accepted (bytes "() +5") 5 9 ∷
-    turnedBack (bytes "() .") 3 ∷
+    refusedOn (bytes "() .") 3 ∷
     accepted (bytes "() ..") 5 9 ∷
     accepted (bytes "() ...") 5 8 ∷
-    turnedBack (bytes "() 1.5") 3 ∷
+    refusedOn (bytes "() 1.5") 3 ∷
     accepted (bytes "() .5") 5 9 ∷
-    turnedBack (bytes "() 2147483648") 4 ∷
+    refusedOn (bytes "() 2147483648") 4 ∷
     accepted (bytes "() -2147483648") 5 8 ∷
-    turnedBack (bytes "() -2147483649") 4 ∷
-    turnedBack (bytes "() 99999999999x") 3 ∷
-    turnedBack (bytes "() () a$") 5 ∷
-    turnedBack (bytes "() () 99999999999") 4 ∷
-    turnedBack (bytes "() ())") 5 ∷
-    turnedBack (bytes ")") 5 ∷
-    turnedBack (bytes "") 5 ∷
-    turnedBack (bytes "()") 5 ∷
-    turnedBack (bytes "() (") 5 ∷
-    turnedBack (bytes "() A") 3 ∷
-    turnedBack (bytes "() () (") 5 ∷
-    turnedBack (bytes "() #") 3 ∷
+    refusedOn (bytes "() -2147483649") 4 ∷
+    refusedOn (bytes "() 99999999999x") 3 ∷
+    refusedOn (bytes "() () a$") 5 ∷
+    refusedOn (bytes "() () 99999999999") 4 ∷
+    refusedOn (bytes "() ())") 5 ∷
+    refusedOn (bytes ")") 5 ∷
+    refusedOn (bytes "") 5 ∷
+    refusedOn (bytes "()") 5 ∷
+    refusedOn (bytes "() (") 5 ∷
+    refusedOn (bytes "() A") 3 ∷
+    refusedOn (bytes "() () (") 5 ∷
+    refusedOn (bytes "() #") 3 ∷
     accepted (bytes "() -0") 5 8 ∷
     accepted (bytes "1 2") 5 8 ∷
     accepted (bytes "() " ++ replicate 63 97) 5 9 ∷
-    turnedBack (bytes "() " ++ replicate 64 97) 3 ∷
+    refusedOn (bytes "() " ++ replicate 64 97) 3 ∷
     accepted (bytes "() " ++ replicate 70 48 ++ bytes "7") 5 8 ∷
     accepted (bytes "()" ++ replicate 64 40 ++ replicate 64 41) 131 8 ∷
-    turnedBack (bytes "()" ++ replicate 65 40) 6 ∷
+    refusedOn (bytes "()" ++ replicate 65 40) 6 ∷
     []
 
 pub rows-hold : map (λ (r : Row). rowOf (r .text)) rows ≡ rows
@@ -96,7 +96,7 @@ pub names-hold : drop 448 (namesAfter (recipeOf (bytes "x y")) (replicate 641 9)
 unfolding recipeOf bytes namesAfter slot
 names-hold = refl
 
--- a text that is turned back leaves zeros
+-- a text that is refused leaves zeros
 pub cleared-hold : itemsAfter (recipeOf (bytes "() A")) (replicate 7 9) ≡ replicate 7 0
 unfolding recipeOf bytes itemsAfter
 cleared-hold = refl

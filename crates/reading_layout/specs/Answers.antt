@@ -16,7 +16,7 @@ use Rattle.datum.specs.NameTableLaws.{isShort, length-slots}
 use Rattle.reading.specs.Token.{Token, open′, close′, bad, flag, run, isDigit, tokens}
 use Rattle.reading.specs.Meaning.{Meaning, begins, ends, constant, name, refused, unsigned, isNumeral, signed, integerOf, isName, nameOf, meaningOf}
 use Rattle.reading.specs.Numbering.{baseNames, numberOf, withName}
-use Rattle.reading.specs.Elements.{Answer, got, back, then, Reading, start, isComplete, counted, put, named, opened, closed, isWithin, begin, takes, takesAll}
+use Rattle.reading.specs.Elements.{Answer, got, refusedFor, then, Reading, start, isComplete, counted, put, named, opened, closed, isWithin, begin, takes, takesAll}
 use Rattle.reading.specs.Read.{Recipe, finished, recipeOver, recipeOf, read, nameBytes}
 
 -- a name or ground of a meaning, the names or the ground of an answer
@@ -29,7 +29,7 @@ Short (refused g) = g ≤ 6
 
 abbrev ShortAnswer : {A : Type 0} → (A → List (List ℕ)) → Answer A → Type 0
 ShortAnswer names (got a) = allOf isShort (names a) ≡ true
-ShortAnswer names (back g) = g ≤ 6
+ShortAnswer names (refusedFor g) = g ≤ 6
 
 abbrev ShortReading : Answer Reading → Type 0
 ShortReading = ShortAnswer (λ r. r .known)
@@ -95,7 +95,7 @@ takes-short (refused g) r s h = s
 then-short : (a : Answer Reading) (f : Reading → Answer Reading) → ShortReading a → ((r : Reading) → allOf isShort (r .known) ≡ true → ShortReading (f r)) → ShortReading (then a f)
 unfolding then
 then-short (got r) f h k = k r h
-then-short (back g) f h k = h
+then-short (refusedFor g) f h k = h
 
 all-short : (ts : List Token) (r : Reading) → allOf isShort (r .known) ≡ true → ShortReading (takesAll (map meaningOf ts) r)
 unfolding takesAll
@@ -106,7 +106,7 @@ all-short (t ∷ ts) r h =
 finished-short : (a : Answer Reading) → ShortReading a → ShortRecipe (then a finished)
 unfolding then finished
 finished-short (got r) h = either (isComplete r) (λ c. rw c h) (λ c. rw c (omega arith))
-finished-short (back g) h = h
+finished-short (refusedFor g) h = h
 
 -- ---- texts
 
@@ -127,5 +127,5 @@ pub read-slots : (text : List ℕ) (items names : ℕ) (r : Recipe) → read tex
 unfolding nameBytes
 read-slots text items names r e = length-slots (r .names) (subst ShortRecipe e (read-short text items names))
 
-pub read-ground : (text : List ℕ) (items names : ℕ) (g : ℕ) → read text items names ≡ back g → g ≤ 6
+pub read-ground : (text : List ℕ) (items names : ℕ) (g : ℕ) → read text items names ≡ refusedFor g → g ≤ 6
 read-ground text items names g e = subst ShortRecipe e (read-short text items names)

@@ -33,7 +33,7 @@ first-fine ρ f (refused g s l) h = h
 first-fine ρ f (starved l) h = h
 
 module _ (ρ : Renaming) (raw : Raw ρ) where
-  -- both done with related answers, both turned back on one ground, or both out of gas
+  -- both done with related answers, both refused on one ground, or both out of gas
   pub data OutRel (k : ℕ) {A : Type 0} (R : A → A → Type 0) : Out A → Out A → Type 1 where
     dones : {a b : A} {s t : State} {l l′ : Events} → R a b → StateRel ρ raw k s t → OutRel k R (done a s l) (done b t l′)
     refusals : {g : ℕ} {s t : State} {l l′ : Events} → StateRel ρ raw k s t → OutRel k R (refused g s l) (refused g t l′)

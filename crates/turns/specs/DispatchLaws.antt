@@ -34,7 +34,7 @@ use Rattle.resolution.specs.Names.{meansOf, lookupIn}
 use Rattle.resolution.specs.declared.names.Meaning.the-variants.{Variable, Macro, Form, Operation}
 use Rattle.turns.specs.declared.answers.Turn.{Turn}
 use Rattle.turns.specs.declared.answers.Turn.the-variants.{Again, Operands, Over}
-use Rattle.turns.specs.Ends.{End, stopped, endOf, needs}
+use Rattle.turns.specs.Ends.{End, refusedEnd, endOf, needs}
 use Rattle.turns.specs.EndLaws.{if-end}
 use Rattle.turns.specs.Memory.{tables, macrosAt, CoreRoom, Moved, HeaderMoved, Proper, Ready, Placed}
 use Rattle.turns.specs.Turns.{turnOf, Ends, Spreads, Turned}
@@ -219,7 +219,7 @@ module _ (work core macros : List ℕ) (node list w k : ℕ) (r : Reached) (f : 
       refused-ends operations fuel tree r (tables work core macros) (tables work core macros) 12
       (λ expand s. rw tree-is (auxiliary-turn operations fuel expand s (f .head) t (form-is operations auxiliary (formOf-past k n0 n1 n2 n3 n4)))) a x
 
-  if-unshaped : isListOf 4 tree ≡ false → k ≡ 1 → (operations : List ℕ) (fuel : ℕ) (expand : Tree → M (Term Name)) (s : State) → turnOf operations fuel expand tree s ≡ stopped 13 s
+  if-unshaped : isListOf 4 tree ≡ false → k ≡ 1 → (operations : List ℕ) (fuel : ℕ) (expand : Tree → M (Term Name)) (s : State) → turnOf operations fuel expand tree s ≡ refusedEnd 13 s
   unfolding formOf expandList needs
   if-unshaped shape e operations fuel expand s =
       ap (λ (z : Tree). turnOf operations fuel expand z s) tree-is

@@ -8,27 +8,27 @@ use Rattle.expansion.specs.Computation.{State, Out, done, refused, starved}
 
 pub data End (A : Type 0) : Type 0 where
   finished : A → State → End A
-  stopped : (ground : ℕ) → State → End A
+  refusedEnd : (ground : ℕ) → State → End A
   halted : End A
 
 unfoldable pub endOf : {A : Type 0} → Out A → End A
 endOf (done a s l) = finished a s
-endOf (refused g s l) = stopped g s
+endOf (refused g s l) = refusedEnd g s
 endOf (starved l) = halted
 
 -- what comes after an end
 unfoldable pub then : {A B : Type 0} → (A → State → End B) → End A → End B
 then f (finished a s) = f a s
-then f (stopped g s) = stopped g s
+then f (refusedEnd g s) = refusedEnd g s
 then f halted = halted
 
 -- the end e, where the test of ground g passes
 unfoldable pub needs : {A : Type 0} → (ground : ℕ) → Bool → State → End A → End A
-needs g b s e = cond b e (stopped g s)
+needs g b s e = cond b e (refusedEnd g s)
 
 -- what f makes of an answer; ground g where it is missing
 unfoldable pub given : {A B : Type 0} → (ground : ℕ) → State → (A → End B) → Option A → End B
-given g s f none = stopped g s
+given g s f none = refusedEnd g s
 given g s f (some a) = f a
 
 -- ---- states

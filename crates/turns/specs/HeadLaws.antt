@@ -12,7 +12,7 @@ use Rattle.core_term.specs.Term.{Term, variableC, operationC, datumC}
 use Rattle.expansion.specs.Lookup.{bound, form, quote, lambda, let-syntax, letrec-syntax, auxiliary, operation, nothing, lookup}
 use Rattle.expansion.specs.Computation.{State, M, give, refuse}
 use Rattle.expansion.specs.Forms.{expandTree, expandList, expandOperands, expandUse, expandLambda, expandMacros}
-use Rattle.turns.specs.Ends.{finished, stopped, endOf}
+use Rattle.turns.specs.Ends.{finished, refusedEnd, endOf}
 use Rattle.turns.specs.EndLaws.{quote-end, name-end}
 use Rattle.turns.specs.Turns.{turnOf}
 use Rattle.turns.specs.Leaves.{nameEnd}
@@ -20,7 +20,7 @@ use Rattle.turns.specs.LeafLaws.{expandName-end, headed}
 use Rattle.turns.specs.Scopes.{quoteEnd}
 
 module _ (operations : List ℕ) (fuel : ℕ) (expand : Tree → M (Term Name)) (s : State) where
-  pub empty-turn : turnOf operations fuel expand empty s ≡ stopped 13 s
+  pub empty-turn : turnOf operations fuel expand empty s ≡ refusedEnd 13 s
   unfolding expandTree refuse endOf
   empty-turn = refl
 
@@ -60,10 +60,10 @@ module _ (operations : List ℕ) (fuel : ℕ) (expand : Tree → M (Term Name)) 
     unfolding expandList
     letrec-syntax-turn e = headed operations fuel x t (form letrec-syntax) e expand s
 
-    pub auxiliary-turn : lookup operations x ≡ form auxiliary → turnOf operations fuel expand (pair (name x) t) s ≡ stopped 12 s
+    pub auxiliary-turn : lookup operations x ≡ form auxiliary → turnOf operations fuel expand (pair (name x) t) s ≡ refusedEnd 12 s
     unfolding expandList refuse endOf
     auxiliary-turn e = headed operations fuel x t (form auxiliary) e expand s
 
-    pub nothing-turn : lookup operations x ≡ nothing → turnOf operations fuel expand (pair (name x) t) s ≡ stopped 11 s
+    pub nothing-turn : lookup operations x ≡ nothing → turnOf operations fuel expand (pair (name x) t) s ≡ refusedEnd 11 s
     unfolding expandList refuse endOf
     nothing-turn e = headed operations fuel x t nothing e expand s

@@ -26,7 +26,7 @@ use Rattle.turns.specs.declared.answers.Reached.{Reached}
 use Rattle.turns.specs.declared.answers.Ended.{Ended}
 use Rattle.turns.specs.declared.answers.Turn.{Turn}
 use Rattle.turns.specs.declared.answers.Turn.the-variants.{Again, Operands, Over}
-use Rattle.turns.specs.Ends.{End, finished, stopped, halted, endOf, then, needs, withVariables}
+use Rattle.turns.specs.Ends.{End, finished, refusedEnd, halted, endOf, then, needs, withVariables}
 use Rattle.turns.specs.EndLaws.{lambda-end}
 use Rattle.turns.specs.Numbers.{widened}
 use Rattle.turns.specs.Memory.{tables, stateAt, CoreRoom, workNeed, coreNeed, variableNeed, macroNeed, Proper, Ready, Kept}
@@ -102,7 +102,7 @@ module _ (work core : List ℕ) (node w : ℕ) (r : Reached) (roomy : Roomy work
 lambda-prefixed : (first : ℕ) (xs : List Name) (e : End (Term Name)) → Prefixed encode encode (lambdaC first xs) (lambdaCode ∷ first ∷ length xs ∷ []) e
 unfolding encode nodeWords
 lambda-prefixed first xs (finished v s) = refl
-lambda-prefixed first xs (stopped k s) = tt
+lambda-prefixed first xs (refusedEnd k s) = tt
 lambda-prefixed first xs halted = tt
 
 module _ (operations : List ℕ) (fuel : ℕ) (t : Tree) (r : Reached) (work work′ core core′ macros : List ℕ)

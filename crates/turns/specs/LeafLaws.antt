@@ -28,7 +28,7 @@ use Rattle.resolution.specs.declared.names.Looked.the-variants.{Finds, Nothing}
 use Rattle.turns.specs.declared.answers.Reached.{Reached}
 use Rattle.turns.specs.declared.answers.Ended.{Ended}
 use Rattle.turns.specs.declared.answers.Ended.the-variants.{Done, Refused}
-use Rattle.turns.specs.Ends.{End, stopped, endOf}
+use Rattle.turns.specs.Ends.{End, refusedEnd, endOf}
 use Rattle.turns.specs.EndLaws.{list-end}
 use Rattle.turns.specs.Memory.{Tables, tables, stateAt, Moved, Ready}
 use Rattle.turns.specs.MemoryLaws.{kept-moved, state-moved}
@@ -74,7 +74,7 @@ module _ (found : Found) (a : Looked) (told : foundOf a ≡ found) where
 
 -- ---- refusals
 
-pub refused-leaf : (E : State → End (Term Name)) (most g : ℕ) (r : Reached) (core : List ℕ) (a : Ended) → ((s : State) → E s ≡ stopped g s) → Refuses g r a → Leaf E most r core core a
+pub refused-leaf : (E : State → End (Term Name)) (most g : ℕ) (r : Reached) (core : List ℕ) (a : Ended) → ((s : State) → E s ≡ refusedEnd g s) → Refuses g r a → Leaf E most r core core a
 refused-leaf E most g r core a is e = subst (λ (b : Ended). Leaf E most r core core b) (sym e) (record { is = is; steps-are = refl; sum-is = refl })
 
 -- ---- bare names
@@ -170,7 +170,7 @@ headed operations fuel x t found e expand s =
 
 -- ---- a refusal ends the expression
 
-module _ (operations : List ℕ) (fuel : ℕ) (tree : Tree) (r : Reached) (before after : Tables) (g : ℕ) (is : (expand : Tree → M (Term Name)) (s : State) → turnOf operations fuel expand tree s ≡ stopped g s) where
+module _ (operations : List ℕ) (fuel : ℕ) (tree : Tree) (r : Reached) (before after : Tables) (g : ℕ) (is : (expand : Tree → M (Term Name)) (s : State) → turnOf operations fuel expand tree s ≡ refusedEnd g s) where
   pub refused-ends : (a : Ended) → Refuses g r a → Ends operations fuel tree r before after a
   unfolding stateAt
   refused-ends a e =

@@ -13,7 +13,7 @@ use Rattle.expansion.specs.Computation.{State}
 use Rattle.turns.specs.declared.answers.Reached.{Reached}
 use Rattle.turns.specs.declared.answers.Ended.{Ended}
 use Rattle.turns.specs.declared.answers.Ended.the-variants.{Done, Refused}
-use Rattle.turns.specs.Ends.{End, finished, stopped}
+use Rattle.turns.specs.Ends.{End, finished, refusedEnd}
 use Rattle.turns.specs.Memory.{Moved}
 
 -- ground g with the counts so far
@@ -28,7 +28,7 @@ pub record Makes (E : State → End (Term Name)) (most : ℕ) (r : Reached) (cor
   pub moves : Moved (encode term) r core core′ q
 
 pub record Stops (E : State → End (Term Name)) (r : Reached) (ground steps sum : ℕ) : Type 0 where
-  pub is : (s : State) → E s ≡ stopped ground s
+  pub is : (s : State) → E s ≡ refusedEnd ground s
   pub steps-are : steps ≡ r .steps
   pub sum-is : sum ≡ r .sum
 
@@ -39,10 +39,10 @@ Leaf E most r core core′ (Refused g n m) = Stops E r g n m
 -- the end of a bare name, by what it finds
 unfoldable pub nameEnd : Found → State → End (Term Name)
 nameEnd (bound (variable n)) s = finished (variableC n) s
-nameEnd (bound (macro n)) s = stopped 12 s
-nameEnd (form f) s = stopped 12 s
+nameEnd (bound (macro n)) s = refusedEnd 12 s
+nameEnd (form f) s = refusedEnd 12 s
 nameEnd (operation p) s = finished (operationC p) s
-nameEnd nothing s = stopped 11 s
+nameEnd nothing s = refusedEnd 11 s
 
 -- the end of a constant
 unfoldable pub constantEnd : Constant → State → End (Term Name)

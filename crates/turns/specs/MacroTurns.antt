@@ -18,7 +18,7 @@ use Rattle.turns.specs.declared.answers.Reached.{Reached}
 use Rattle.turns.specs.declared.answers.Ended.{Ended}
 use Rattle.turns.specs.declared.answers.Turn.{Turn}
 use Rattle.turns.specs.declared.answers.Turn.the-variants.{Again, Operands, Over}
-use Rattle.turns.specs.Ends.{End, stopped, needs, given}
+use Rattle.turns.specs.Ends.{End, refusedEnd, needs, given}
 use Rattle.turns.specs.Numbers.{grown}
 use Rattle.turns.specs.Memory.{itemRate, macroItems, macrosAt, numberMost, Placed}
 use Rattle.turns.specs.Leaves.{Refuses}
@@ -65,7 +65,7 @@ pub record MacrosKnown (tree : Tree) (inside : Bool) (r : Reached) (work work′
 pub record MacrosRefused (tree : Tree) (inside : Bool) (r : Reached) (a : Ended) : Type 0 where
   pub ground : ℕ
   pub is : (f : List (List Rule) → End (Term Name)) (s : State)
-      → needs 13 (isMacros macrosMost tree) s (needs 14 (distinct (keywords tree)) s (given 15 s f (traverse rulesOf (formsOf inside tree (r .macros))))) ≡ stopped ground s
+      → needs 13 (isMacros macrosMost tree) s (needs 14 (distinct (keywords tree)) s (given 15 s f (traverse rulesOf (formsOf inside tree (r .macros))))) ≡ refusedEnd ground s
   pub refuses : Refuses ground r a
 
 abbrev pub MacrosLeft : (tree : Tree) (inside : Bool) (r : Reached) (work work′ macros macros′ : List ℕ) → Turn → Type 0

@@ -17,7 +17,7 @@ use Rattle.turns.specs.declared.answers.Reached.{Reached}
 use Rattle.turns.specs.declared.answers.Ended.{Ended}
 use Rattle.turns.specs.declared.answers.Turn.{Turn}
 use Rattle.turns.specs.declared.answers.Turn.the-variants.{Again, Operands, Over}
-use Rattle.turns.specs.Ends.{End, finished, stopped, needs}
+use Rattle.turns.specs.Ends.{End, finished, refusedEnd, needs}
 use Rattle.turns.specs.Numbers.{widened}
 use Rattle.turns.specs.Memory.{itemRate, numberMost, Moved, Proper, Placed}
 use Rattle.turns.specs.Leaves.{Refuses, Leaf}
@@ -75,7 +75,7 @@ pub record LambdaBound (tree : Tree) (r : Reached) (work work′ core core′ : 
 
 pub record LambdaRefused (tree : Tree) (r : Reached) (a : Ended) : Type 0 where
   pub ground : ℕ
-  pub is : (e : End (Term Name)) (s : State) → needs 13 (isLambda tree) s (needs 14 (distinct (formals tree)) s e) ≡ stopped ground s
+  pub is : (e : End (Term Name)) (s : State) → needs 13 (isLambda tree) s (needs 14 (distinct (formals tree)) s e) ≡ refusedEnd ground s
   pub refuses : Refuses ground r a
 
 abbrev pub LambdaLeft : (tree : Tree) (r : Reached) (work work′ core core′ : List ℕ) → Turn → Type 0

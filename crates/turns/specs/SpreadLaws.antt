@@ -23,7 +23,7 @@ use Rattle.forms.specs.Quotes.{Written}
 use Rattle.turns.specs.declared.answers.Reached.{Reached}
 use Rattle.turns.specs.declared.answers.Ended.{Ended}
 use Rattle.turns.specs.declared.answers.Ended.the-variants.{Done, Refused}
-use Rattle.turns.specs.Ends.{End, finished, stopped, halted, endOf, then, needs}
+use Rattle.turns.specs.Ends.{End, finished, refusedEnd, halted, endOf, then, needs}
 use Rattle.turns.specs.EndLaws.{expandAll-pair, if-end, operands-end, application-end}
 use Rattle.turns.specs.Numbers.{moved}
 use Rattle.turns.specs.Memory.{Tables, tables, stateAt, Moved, coreNeed, Ready, Placed}
@@ -37,7 +37,7 @@ use Rattle.turns.specs.LeafLaws.{headed}
 module _ {A B : Type 0} (wordsOf : A → List ℕ) (wordsOf′ : B → List ℕ) (g : A → B) (header : List ℕ) where
   abbrev pub Prefixed : End A → Type 0
   Prefixed (finished v s) = wordsOf′ (g v) ≡ header ++ wordsOf v
-  Prefixed (stopped k s) = Unit {0}
+  Prefixed (refusedEnd k s) = Unit {0}
   Prefixed halted = Unit {0}
 
   pub left-after : (r q : Reached) (core core₁ : List ℕ) (last : Tables) (e : End A) (a : Ended)
@@ -46,27 +46,27 @@ module _ {A B : Type 0} (wordsOf : A → List ℕ) (wordsOf′ : B → List ℕ)
   unfolding then
   left-after r q core core₁ last (finished v s) (Done p) f h room l = (l .0, subst (λ (ws : List ℕ). Written ws core (last .core) (r .at) (p .at)) (sym f) (put-after h (l .1) room))
   left-after r q core core₁ last (finished v s) (Refused x y z) f h room l = l
-  left-after r q core core₁ last (stopped k s) (Done p) f h room l = l
-  left-after r q core core₁ last (stopped k s) (Refused x y z) f h room l = l
+  left-after r q core core₁ last (refusedEnd k s) (Done p) f h room l = l
+  left-after r q core core₁ last (refusedEnd k s) (Refused x y z) f h room l = l
   left-after r q core core₁ last halted a f h room l = l
 
 -- ---- operands are as many as elements
 
 abbrev pub Counts : ℕ → End (Terms Name) → Type 0
 Counts n (finished v s) = count v ≡ n
-Counts n (stopped k s) = Unit {0}
+Counts n (refusedEnd k s) = Unit {0}
 Counts n halted = Unit {0}
 
 counts-more : (n : ℕ) (a : Term Name) (e : End (Terms Name)) → Counts n e → Counts (suc n) (then (λ b v. finished (moreC a b) v) e)
 unfolding then count
 counts-more n a (finished v s) h = ap suc h
-counts-more n a (stopped k s) h = tt
+counts-more n a (refusedEnd k s) h = tt
 counts-more n a halted h = tt
 
 counts-then : (n : ℕ) (f : State → End (Terms Name)) (e : End (Term Name)) → ((s : State) → Counts n (f s)) → Counts (suc n) (then (λ a u. then (λ b v. finished (moreC a b) v) (f u)) e)
 unfolding then
 counts-then n f (finished a u) h = counts-more n a (f u) (h u)
-counts-then n f (stopped k s) h = tt
+counts-then n f (refusedEnd k s) h = tt
 counts-then n f halted h = tt
 
 module _ (operations : List ℕ) (fuel : ℕ) (expand : Tree → M (Term Name)) where
@@ -110,7 +110,7 @@ module _ (head : Term Name) (code number : ℕ) (words : encode head ≡ code �
   application-prefixed : (n : ℕ) (e : End (Terms Name)) → Counts n e → Prefixed encodeAll encode (applicationC head) (applicationCode ∷ n ∷ code ∷ number ∷ []) e
   unfolding encode nodeWords
   application-prefixed n (finished v s) h = ap₂ (λ (k : ℕ) (l : List ℕ). 8 ∷ k ∷ (l ++ encodeAll v)) h words
-  application-prefixed n (stopped k s) h = tt
+  application-prefixed n (refusedEnd k s) h = tt
   application-prefixed n halted h = tt
 
   module _ (operations : List ℕ) (fuel : ℕ) (x : Name) (t : Tree) (r q : Reached) (work core core′ macros : List ℕ) (list w : ℕ)
@@ -136,20 +136,20 @@ applied-prefixed : (n : ℕ) (e : End (Terms Name)) → Counts (suc n) e → Pre
 unfolding encode nodeWords applicationOf count
 applied-prefixed n (finished noneC s) h = absurd (omega arith)
 applied-prefixed n (finished (moreC a b) s) h = let k : count b ≡ n = omega arith in ap (λ (k : ℕ). 8 ∷ k ∷ (encode a ++ encodeAll b)) k
-applied-prefixed n (stopped k s) h = tt
+applied-prefixed n (refusedEnd k s) h = tt
 applied-prefixed n halted h = tt
 
 applied-inner : (a : Term Name) (e : End (Terms Name)) → then (λ b v. finished (applicationC a b) v) e ≡ then (λ v u. finished (applicationOf v) u) (then (λ b v. finished (moreC a b) v) e)
 unfolding then applicationOf
 applied-inner a (finished b v) = refl
-applied-inner a (stopped k s) = refl
+applied-inner a (refusedEnd k s) = refl
 applied-inner a halted = refl
 
 applied-then : (f : State → End (Terms Name)) (e : End (Term Name))
     → then (λ a u. then (λ b v. finished (applicationC a b) v) (f u)) e ≡ then (λ v u. finished (applicationOf v) u) (then (λ a u. then (λ b v. finished (moreC a b) v) (f u)) e)
 unfolding then
 applied-then f (finished a u) = applied-inner a (f u)
-applied-then f (stopped k s) = refl
+applied-then f (refusedEnd k s) = refl
 applied-then f halted = refl
 
 module _ (operations : List ℕ) (fuel : ℕ) where
@@ -197,7 +197,7 @@ if-prefixed (finished (moreC a noneC) s) h = absurd (omega arith)
 if-prefixed (finished (moreC a (moreC b noneC)) s) h = absurd (omega arith)
 if-prefixed (finished (moreC a (moreC b (moreC c noneC))) s) h = ap (λ (l : List ℕ). 6 ∷ (encode a ++ (encode b ++ l))) (sym (append-nil (encode c)))
 if-prefixed (finished (moreC a (moreC b (moreC c (moreC d f)))) s) h = absurd (omega arith)
-if-prefixed (stopped k s) h = tt
+if-prefixed (refusedEnd k s) h = tt
 if-prefixed halted h = tt
 
 -- one operand, and two and three before it
@@ -205,21 +205,21 @@ if-third : (a b : Term Name) (e : End (Term Name)) → then (λ c w. finished (i
     ≡ then (λ v u. finished (ifOf v) u) (then (λ x v. finished (moreC a x) v) (then (λ x v. finished (moreC b x) v) (then (λ c u. then (λ x v. finished (moreC c x) v) (finished noneC u)) e)))
 unfolding then ifOf
 if-third a b (finished c u) = refl
-if-third a b (stopped k s) = refl
+if-third a b (refusedEnd k s) = refl
 if-third a b halted = refl
 
 if-second : (a : Term Name) (f : State → End (Term Name)) (e : End (Term Name)) → then (λ b v. then (λ c w. finished (ifC a b c) w) (f v)) e
     ≡ then (λ v u. finished (ifOf v) u) (then (λ x v. finished (moreC a x) v) (then (λ b u. then (λ x v. finished (moreC b x) v) (then (λ c u. then (λ x v. finished (moreC c x) v) (finished noneC u)) (f u))) e))
 unfolding then
 if-second a f (finished b u) = if-third a b (f u)
-if-second a f (stopped k s) = refl
+if-second a f (refusedEnd k s) = refl
 if-second a f halted = refl
 
 if-first : (f g : State → End (Term Name)) (e : End (Term Name)) → then (λ a u. then (λ b v. then (λ c w. finished (ifC a b c) w) (f v)) (g u)) e
     ≡ then (λ v u. finished (ifOf v) u) (then (λ a u. then (λ x v. finished (moreC a x) v) (then (λ b u. then (λ x v. finished (moreC b x) v) (then (λ c u. then (λ x v. finished (moreC c x) v) (finished noneC u)) (f u))) (g u))) e)
 unfolding then
 if-first f g (finished a u) = if-second a f (g u)
-if-first f g (stopped k s) = refl
+if-first f g (refusedEnd k s) = refl
 if-first f g halted = refl
 
 -- a list that has a first element

@@ -18,7 +18,7 @@ use Rattle.turns.specs.declared.answers.Ended.{Ended}
 use Rattle.turns.specs.declared.answers.Ended.the-variants.{Done, Refused}
 use Rattle.turns.specs.declared.answers.Turn.{Turn}
 use Rattle.turns.specs.declared.answers.Turn.the-variants.{Again, Operands, Over}
-use Rattle.turns.specs.Ends.{End, finished, stopped, halted, endOf}
+use Rattle.turns.specs.Ends.{End, finished, refusedEnd, halted, endOf}
 use Rattle.turns.specs.Memory.{Tables, stateAt, Placed, Kept}
 
 -- a table of places is that of these operations
@@ -32,8 +32,8 @@ module _ {A : Type 0} (wordsOf : A → List ℕ) (r : Reached) (core : List ℕ)
   abbrev pub Left : End A → Ended → Type 0
   Left (finished a s) (Done q) = (s ≡ stateAt after q) × Written (wordsOf a) core (after .core) (r .at) (q .at)
   Left (finished a s) (Refused h n m) = ⊥
-  Left (stopped g s) (Done q) = ⊥
-  Left (stopped g s) (Refused h n m) = (g ≡ h) × (s .steps ≡ n) × (s .sum ≡ m)
+  Left (refusedEnd g s) (Done q) = ⊥
+  Left (refusedEnd g s) (Refused h n m) = (g ≡ h) × (s .steps ≡ n) × (s .sum ≡ m)
   Left halted a = ⊥
 
 -- where the call is done, nothing of the n items is left

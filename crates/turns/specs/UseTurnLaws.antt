@@ -30,7 +30,7 @@ use Rattle.forms.specs.Quotes.{Written}
 use Rattle.turns.specs.declared.answers.Reached.{Reached}
 use Rattle.turns.specs.declared.answers.Ended.{Ended}
 use Rattle.turns.specs.declared.answers.Ended.the-variants.{Done, Refused}
-use Rattle.turns.specs.Ends.{End, finished, stopped, halted, endOf, needs, withStep}
+use Rattle.turns.specs.Ends.{End, finished, refusedEnd, halted, endOf, needs, withStep}
 use Rattle.turns.specs.Ends as E
 use Rattle.turns.specs.EndLaws as L
 use Rattle.turns.specs.Numbers.{stepped}
@@ -42,7 +42,7 @@ use Rattle.turns.specs.Uses.{usedOf, outcomeOf, Used, Unused}
 -- ---- the definition's step, by its outcome
 
 unfoldable pub outcomeEnd : (Tree → M (Term Name)) → State → Outcome → End (Term Name)
-outcomeEnd expand s (refused g) = stopped g s
+outcomeEnd expand s (refused g) = refusedEnd g s
 outcomeEnd expand s (result t) = endOf (expand (produce (mark (suc (s .steps)) t)) (withStep (size t) s))
 
 leb-left : (n s f : ℕ) → s ≤ f → leb (s + n) f ≡ leb n (f - s)
@@ -100,8 +100,8 @@ proper-rule limit used p (given {a = x} f) =
 pub left-same : (r q : Reached) (core : List ℕ) (last : Tables) (e : End (Term Name)) (a : Ended) → q .at ≡ r .at → Left encode q core last e a → Left encode r core last e a
 left-same r q core last (finished v s) (Done p) h l = (l .0, subst (λ (n : ℕ). Written (encode v) core (last .core) n (p .at)) h (l .1))
 left-same r q core last (finished v s) (Refused x y z) h l = l
-left-same r q core last (stopped k s) (Done p) h l = l
-left-same r q core last (stopped k s) (Refused x y z) h l = l
+left-same r q core last (refusedEnd k s) (Done p) h l = l
+left-same r q core last (refusedEnd k s) (Refused x y z) h l = l
 left-same r q core last halted a h l = l
 
 -- ---- the turn

@@ -13,7 +13,7 @@ use resolution::names;
 use resolution::names::Looked;
 use resolution::names::Meaning;
 
-// Turned back, with the counts of completed steps.
+// Refused, with the counts of completed steps.
 pub fn refuse(ground: u32, reached: Reached) -> Ended
     ensures { λ r. ⌜ Refuses ground reached r ⌝ }
 {

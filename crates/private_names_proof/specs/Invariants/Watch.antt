@@ -1,4 +1,4 @@
--- A run that tests each expression before it expands it, and turns back on ground 0, which no expansion does, where the test fails.
+-- A run that tests each expression before it expands it, and refuses on ground 0, which no expansion does, where the test fails.
 -- Where no test fails it is the run itself: `watched-is`.
 use mathlib.Core.Path.{_≡_, refl}
 use mathlib.Core.Bool.{Bool, true, false, cond}

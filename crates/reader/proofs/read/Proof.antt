@@ -1,4 +1,4 @@
--- Each way through the call is a law of Served: grounds 1 and 2, a text that is read, a text that is turned back.
+-- Each way through the call is a law of Served: grounds 1 and 2, a text that is read, a text that is refused.
 use borrow.Author.Needs.{needs}
 use Rattle.reader.proofs.read.Statement.{statement}
 use Rattle.reader.proofs.read.Tie as tie

@@ -18,7 +18,7 @@ use Rattle.reader.specs.declared.element.Move.{Move}
 use Rattle.reader.specs.declared.element.Move.the-variants.{Refused}
 use Rattle.reading.specs.Meaning.{Meaning, begins, ends, constant, refused}
 use Rattle.reading.specs.Numbering.{datumWords, dataWords}
-use Rattle.reading.specs.Elements.{Answer, got, back, then, Reading, onto, noneOpen, isComplete, counted, put, opened, closed, takes, takesAll}
+use Rattle.reading.specs.Elements.{Answer, got, refusedFor, then, Reading, onto, noneOpen, isComplete, counted, put, opened, closed, takes, takesAll}
 use Rattle.reading.specs.Laws.Elements.{got-only, never-got, begin-got}
 use Rattle.reading.specs.Read.{finished, itemWords, nameBytes}
 use Rattle.words.specs.Tables.{filled}
@@ -44,8 +44,8 @@ module _ (text : List ℕ) (at : ℕ) (r : Reading) (words bytes index : List �
     same = rw (t .means, e);
   }
   onward (got q) e (SV.Refused g) h = absurd h
-  onward (back g) e (SV.Went p) h = absurd h
-  onward (back g) e (SV.Refused k) h = rw (t .means, e, h)
+  onward (refusedFor g) e (SV.Went p) h = absurd h
+  onward (refusedFor g) e (SV.Refused k) h = rw (t .means, e, h)
 
   pub stepped-moved : (s : S.Step) (v : Move) → v ≡ movedBy s c → Stepped (takes m r) words bytes s → Moved text at r words bytes index v
   stepped-moved s v e h = subst (Moved text at r words bytes index) (sym e) (onward (takes m r) refl s h)
@@ -76,9 +76,9 @@ unfolding takes put counted withToken datumItems datumWords
 constant-stepped r p words words′ bytes a value s h e f t =
     t r (constantD a) (r .known) bytes bytes h (record { one = refl; words = λ i. rw (e, f) }) (h .known) (h .short) (h .names) (h .enoughNames)
 
--- ---- a token that is turned back
+-- ---- a token that is refused
 
-pub refused-moved : (text : List ℕ) (at : ℕ) (r : Reading) (g next : ℕ) → Took text at (refused g) next → outcomeFrom text at r ≡ back g
+pub refused-moved : (text : List ℕ) (at : ℕ) (r : Reading) (g next : ℕ) → Took text at (refused g) next → outcomeFrom text at r ≡ refusedFor g
 unfolding outcomeFrom takesAll then takes
 refused-moved text at r g next t = rw (t .means)
 
@@ -89,7 +89,7 @@ module _ (text : List ℕ) (at : ℕ) (r : Reading) (p : Place) (words bytes ind
   unfolding outcomeFrom takesAll then
   at-end = rw e
 
-  end-refused : isComplete r ≡ false → outcomeFrom text at r ≡ back 5
+  end-refused : isComplete r ≡ false → outcomeFrom text at r ≡ refusedFor 5
   unfolding finished
   end-refused c = at-end ∙ rw c
 

@@ -8,7 +8,7 @@ use Rattle.reader.specs.declared.Reading.the-variants.{Read, Refused}
 use Rattle.reader.specs.declared.place.Place.{Place}
 use Rattle.lexer.specs.declared.token.Cursor.{Cursor}
 use Rattle.reading.specs.Elements as E
-use Rattle.reading.specs.Elements.{back}
+use Rattle.reading.specs.Elements.{refusedFor}
 use Rattle.reading.specs.Read.{recipeOf}
 use Rattle.reader.specs.Code.Index.{Indexed}
 use Rattle.reader.specs.Code.Placed.{Holds}
@@ -17,7 +17,7 @@ use Rattle.reader.specs.Code.Moved.{outcomeFrom, Whole}
 -- what all tokens come to
 abbrev pub Ended : List ℕ → List ℕ → List ℕ → Reading → Type 0
 Ended text words bytes (Read i n) = Whole (recipeOf text) i n words bytes
-Ended text words bytes (Refused g) = recipeOf text ≡ back g
+Ended text words bytes (Refused g) = recipeOf text ≡ refusedFor g
 
 -- a place from which the rest of the text has the outcome of the whole
 pub record Reached (text words bytes index : List ℕ) (p : Place) (c : Cursor) : Type 0 where

@@ -17,7 +17,7 @@ use Rattle.reader.specs.declared.element.Move.the-variants as MV
 use Rattle.reading.specs.Token.{tokens}
 use Rattle.reading.specs.Numbering.{baseNames}
 use Rattle.reading.specs.Elements as E
-use Rattle.reading.specs.Elements.{got, back, start}
+use Rattle.reading.specs.Elements.{got, refusedFor, start}
 use Rattle.reading.specs.Read.{
   Recipe,
   recipeOver,
@@ -91,7 +91,7 @@ module _ (text words bytes index : List ℕ) where
     pub reached-done : (i n : ℕ) → m ≡ MV.Done i n → Whole (recipeOf text) i n words′ bytes′
     reached-done i n e = subst (λ o. Whole o i n words′ bytes′) (r .same) (here (MV.Done i n) e)
 
-    pub reached-refused : (g : ℕ) → m ≡ MV.Refused g → recipeOf text ≡ back g
+    pub reached-refused : (g : ℕ) → m ≡ MV.Refused g → recipeOf text ≡ refusedFor g
     reached-refused g e = sym (r .same) ∙ here (MV.Refused g) e
 
 -- ---- the call
@@ -104,17 +104,17 @@ module _ (text words bytes : List ℕ) where
   -- grounds 1 and 2 change nothing
   pub served-few-items : length words < itemWordsLeast → Served text words words bytes bytes (Refused 1)
   unfolding read numbersOf readNumbers itemsAfter namesAfter cleared
-  served-few-items h = served-by (back 1) words bytes (Refused 1) (rw (lt-ltb _ _ h)) refl refl refl
+  served-few-items h = served-by (refusedFor 1) words bytes (Refused 1) (rw (lt-ltb _ _ h)) refl refl refl
 
   module _ (i : itemWordsLeast ≤ length words) where
     pub served-few-names : length bytes < nameBytesLeast → Served text words words bytes bytes (Refused 1)
     unfolding read numbersOf readNumbers itemsAfter namesAfter cleared
-    served-few-names h = served-by (back 1) words bytes (Refused 1) (rw (le-ltb _ _ i, lt-ltb _ _ h)) refl refl refl
+    served-few-names h = served-by (refusedFor 1) words bytes (Refused 1) (rw (le-ltb _ _ i, lt-ltb _ _ h)) refl refl refl
 
     module _ (n : nameBytesLeast ≤ length bytes) where
       pub served-long : textBytesMost < length text → Served text words words bytes bytes (Refused 2)
       unfolding read numbersOf readNumbers itemsAfter namesAfter cleared
-      served-long h = served-by (back 2) words bytes (Refused 2) (rw (le-ltb _ _ i, le-ltb _ _ n, lt-ltb _ _ h)) refl refl refl
+      served-long h = served-by (refusedFor 2) words bytes (Refused 2) (rw (le-ltb _ _ i, le-ltb _ _ n, lt-ltb _ _ h)) refl refl refl
 
       module _ (t : length text ≤ textBytesMost) (words′ bytes′ : List ℕ) where
         read-is : read text (length words) (length bytes) ≡ recipeOf text
@@ -129,13 +129,13 @@ module _ (text words bytes : List ℕ) where
             served-by (got (w .recipe)) words′ bytes′ (Read k m) (read-is ∙ w .accepted) (rw (w .itemCount, w .nameCount))
             (w .items ∙ filled-same (itemWords (w .recipe)) words′ words e) (w .names ∙ filled-same (nameBytes (w .recipe)) bytes′ bytes f)
 
-        -- a text that is turned back: both tables wholly zero
-        pub served-refused : (g : ℕ) → recipeOf text ≡ back g → words′ ≡ replicate (length words) 0 → bytes′ ≡ replicate (length bytes) 0
+        -- a text that is refused: both tables wholly zero
+        pub served-refused : (g : ℕ) → recipeOf text ≡ refusedFor g → words′ ≡ replicate (length words) 0 → bytes′ ≡ replicate (length bytes) 0
             → Served text words words′ bytes bytes′ (Refused g)
         unfolding numbersOf readNumbers itemsAfter namesAfter cleared
         served-refused g e z y =
             let h : 2 < g = ground-high text g e in
-            served-by (back g) words′ bytes′ (Refused g) (read-is ∙ e) refl (z ∙ rw (lt-leb g 2 h)) (y ∙ rw (lt-leb g 2 h))
+            served-by (refusedFor g) words′ bytes′ (Refused g) (read-is ∙ e) refl (z ∙ rw (lt-leb g 2 h)) (y ∙ rw (lt-leb g 2 h))
 
 -- ---- a table that was zeroed
 

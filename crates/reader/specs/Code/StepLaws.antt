@@ -20,7 +20,7 @@ use Rattle.reading.specs.Meaning.{begins, ends}
 use Rattle.reading.specs.Elements.{
   Answer,
   got,
-  back,
+  refusedFor,
   Reading,
   onto,
   noneOpen,
@@ -78,7 +78,7 @@ complete-is r p words bytes h = rw (none-open (r .around), h .depth, h .missing)
 abbrev by : Bool → Bool → ℕ
 by c d = cond c 5 (cond d 0 6)
 
-tested : (q : Reading) (a b c d : Bool) → a ≡ c → b ≡ d → (by c d ≡ 0 → ⊥) → cond a (back 5) (cond b (got q) (back 6)) ≡ back (by c d)
+tested : (q : Reading) (a b c d : Bool) → a ≡ c → b ≡ d → (by c d ≡ 0 → ⊥) → cond a (refusedFor 5) (cond b (got q) (refusedFor 6)) ≡ refusedFor (by c d)
 tested q a b true d e f h = rw e
 tested q a b false true e f h = absurd (h refl)
 tested q a b false false e f h = rw (e, f)
@@ -97,7 +97,7 @@ module _ (r : Reading) (p : Place) (words bytes : List ℕ) (h : Holds r p words
   unfolding isWithin
   same-within = rw (k, d, c, h .count)
 
-  pub ground-back : (groundAt p known depth ≡ 0 → ⊥) → begin r q ≡ back (groundAt p known depth)
+  pub ground-back : (groundAt p known depth ≡ 0 → ⊥) → begin r q ≡ refusedFor (groundAt p known depth)
   unfolding begin groundAt
   ground-back n = tested q _ _ _ _ same-complete same-within n
 
@@ -274,7 +274,7 @@ module _ (r : Reading) (p : Place) (words bytes : List ℕ) (h : Holds r p words
 
 -- ---- the code's answers
 
-stepped-back : (a : Answer Reading) (words bytes : List ℕ) (g h : ℕ) → a ≡ back g → h ≡ g → Stepped a words bytes (Refused h)
+stepped-back : (a : Answer Reading) (words bytes : List ℕ) (g h : ℕ) → a ≡ refusedFor g → h ≡ g → Stepped a words bytes (Refused h)
 stepped-back a words bytes g h e f = subst (λ x. Stepped x words bytes (Refused h)) (sym e) f
 
 stepped-got : (a : Answer Reading) (words bytes : List ℕ) (q : Reading) (p : Place) → a ≡ got q → Holds q p words bytes

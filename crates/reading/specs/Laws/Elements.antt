@@ -18,7 +18,7 @@ use Rattle.reading.specs.Numbering.{numberOf, withName}
 use Rattle.reading.specs.Elements.{
   Answer,
   got,
-  back,
+  refusedFor,
   then,
   Reading,
   onto,
@@ -60,13 +60,13 @@ module _ {A : Type 0} where
   pub got-only : {a b : A} → got a ≡ got b → a ≡ b
   got-only h = cc
 
-  pub never-got : {P : Type 0} {g : ℕ} {a : A} → _≡_ {A = Answer A} (back g) (got a) → P
+  pub never-got : {P : Type 0} {g : ℕ} {a : A} → _≡_ {A = Answer A} (refusedFor g) (got a) → P
   never-got h = let e : _≡_ {A = ℕ} 0 1 = cc in absurd (omega arith)
 
 pub then-got : {A B : Type 0} (a : Answer A) (f : A → Answer B) (b : B) → then a f ≡ got b → (x : A) × (a ≡ got x) × (f x ≡ got b)
 unfolding then
 then-got (got x) f b h = (x, refl, h)
-then-got (back g) f b h = never-got h
+then-got (refusedFor g) f b h = never-got h
 
 -- ---- limits
 

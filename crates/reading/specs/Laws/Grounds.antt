@@ -30,7 +30,7 @@ use Rattle.reading.specs.Numbering.{baseNames}
 use Rattle.reading.specs.Elements.{
   Answer,
   got,
-  back,
+  refusedFor,
   then,
   Reading,
   start,
@@ -57,7 +57,7 @@ High (name cs) = 0 ≤ 0
 
 abbrev HighAnswer : {A : Type 0} → Answer A → Type 0
 HighAnswer (got a) = 0 ≤ 0
-HighAnswer (back g) = 3 ≤ g
+HighAnswer (refusedFor g) = 3 ≤ g
 
 -- ---- meanings
 
@@ -105,7 +105,7 @@ takes-high (refused g) r h = h
 then-high : {A B : Type 0} (a : Answer A) (f : A → Answer B) → HighAnswer a → ((x : A) → HighAnswer (f x)) → HighAnswer (then a f)
 unfolding then
 then-high (got x) f h k = k x
-then-high (back g) f h k = h
+then-high (refusedFor g) f h k = h
 
 all-high : (ts : List Token) (r : Reading) → HighAnswer (takesAll (map meaningOf ts) r)
 unfolding takesAll
@@ -122,7 +122,7 @@ recipe-high : (text : List ℕ) → HighAnswer (recipeOf text)
 unfolding recipeOf recipeOver
 recipe-high text = then-high (takesAll (map meaningOf (tokens text)) (start baseNames 2)) finished (all-high (tokens text) (start baseNames 2)) finished-high
 
-pub ground-high : (text : List ℕ) (g : ℕ) → recipeOf text ≡ back g → 3 ≤ g
+pub ground-high : (text : List ℕ) (g : ℕ) → recipeOf text ≡ refusedFor g → 3 ≤ g
 ground-high text g e = subst (λ a. HighAnswer a) e (recipe-high text)
 
 -- ---- calls
@@ -130,11 +130,11 @@ ground-high text g e = subst (λ a. HighAnswer a) e (recipe-high text)
 -- a ground is not 0, by which a call is accepted
 abbrev SomeAnswer : Answer Recipe → Type 0
 SomeAnswer (got r) = 0 ≤ 0
-SomeAnswer (back g) = 1 ≤ g
+SomeAnswer (refusedFor g) = 1 ≤ g
 
 high-some : (a : Answer Recipe) → HighAnswer a → SomeAnswer a
 high-some (got r) h = h
-high-some (back g) h = omega arith
+high-some (refusedFor g) h = omega arith
 
 read-some : (text : List ℕ) (items names : ℕ) → SomeAnswer (read text items names)
 unfolding read
@@ -142,5 +142,5 @@ read-some text items names =
     either (ltb items itemWordsLeast || ltb names nameBytesLeast) (λ e. rw e (omega arith))
     (λ e. either (ltb textBytesMost (length text)) (λ l. rw (e, l) (omega arith)) (λ l. rw (e, l) (high-some (recipeOf text) (recipe-high text))))
 
-pub ground-some : (text : List ℕ) (items names g : ℕ) → read text items names ≡ back g → 1 ≤ g
+pub ground-some : (text : List ℕ) (items names g : ℕ) → read text items names ≡ refusedFor g → 1 ≤ g
 ground-some text items names g e = subst (λ a. SomeAnswer a) e (read-some text items names)
