@@ -1,6 +1,5 @@
 // The environment of a pattern and a use that fits it. The tail of a list is bound before its head, which the definition finds first.
 
-ghost use mathlib.Core.Path.{_≡_};
 ghost use Rattle.environments.specs.Bind.{bound, BindsOne, BindsList, Binds};
 use crate::environment;
 use crate::environment::Entry;
