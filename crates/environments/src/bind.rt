@@ -29,7 +29,7 @@ fn bind_variable(env: &mut [u32; environment::WORDS], k: u32, node: u32, first: 
     );
 }
 
-// The variables of an element: each takes the list.
+// The variables of an element: each takes the list. An ellipsis has its element where a pair has its rest.
 fn bind_list(
     work: &[u32],
     env: &mut [u32; environment::WORDS],
