@@ -1,6 +1,5 @@
 // The environment of a pattern and a use that fits it. The tail of a list is bound before its head, which the definition finds first.
 
-ghost use mathlib.Core.Path.{_≡_};
 ghost use Rattle.environments.specs.Bind.{bound, BindsOne, BindsList, Binds};
 use crate::environment;
 use crate::environment::Entry;
@@ -30,7 +29,7 @@ fn bind_variable(env: &mut [u32; environment::WORDS], k: u32, node: u32, first: 
     );
 }
 
-// The variables of an element: each takes the list.
+// The variables of an element: each takes the list. An ellipsis has its element where a pair has its rest.
 fn bind_list(
     work: &[u32],
     env: &mut [u32; environment::WORDS],

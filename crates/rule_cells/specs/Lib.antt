@@ -7,7 +7,6 @@ pub mod Dots
 pub mod Variables
 pub mod VariableLaws
 pub mod GatherLaws
-pub mod Built
 pub mod Parse
 pub mod ParseLaws
 pub mod PatternLaws

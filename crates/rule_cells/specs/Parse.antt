@@ -13,8 +13,8 @@ use Rattle.arena.specs.Cells.{Room}
 use Rattle.rule_cells.specs.Cells.{patternAt, templateAt}
 use Rattle.rule_cells.specs.declared.patterns.Parsed.{Parsed}
 use Rattle.rule_cells.specs.declared.patterns.Parsed.the-variants.{Good, Bad}
-use Rattle.rule_cells.specs.Built.{Built}
-use Rattle.rule_cells.specs.Built as built
+use Rattle.words.specs.declared.packed.Built.{Built}
+use Rattle.words.specs.declared.packed.Built.the-variants.{At, None}
 
 -- a tree below the top, with room for its cells and a word to spare, so that no top is the largest word (`words::packed`)
 pub record Asks (work : List ℕ) (node w top : ℕ) : Type 0 where
@@ -50,5 +50,5 @@ pub record TemplateMade (vs : List (Name × ℕ)) (d : ℕ) (taken : Bool) (t : 
 
 -- bad exactly where the definition has no template
 abbrev pub TemplateLeft : (vs : List (Name × ℕ)) (d : ℕ) (taken : Bool) (t : Tree) (old new : List ℕ) (top : ℕ) → Built → Type 0
-TemplateLeft vs d taken t old new top (built.Good at upper) = TemplateMade vs d taken t old new top at upper
-TemplateLeft vs d taken t old new top built.Bad = (templateOf isEllipsis vs d taken t ≡ none) × (take top new ≡ take top old)
+TemplateLeft vs d taken t old new top (At at upper) = TemplateMade vs d taken t old new top at upper
+TemplateLeft vs d taken t old new top None = (templateOf isEllipsis vs d taken t ≡ none) × (take top new ≡ take top old)

@@ -13,6 +13,15 @@ use Rattle.arena.specs.Cells.{Room}
 use Rattle.arena.specs.CellLaws.{tree-kept}
 use Rattle.arena.specs.ListLaws.{pair-falls}
 use Rattle.rule_cells.specs.Parse.{Asks, Grows}
+use Rattle.words.specs.Packed.{packed, builtOf, built-holds}
+use Rattle.words.specs.declared.packed.Built.{Built}
+use Rattle.words.specs.declared.packed.Built.the-variants.{At}
+
+-- the word of a reference and a new top, where no such top is the largest word
+pub packs-at : (P : Built → Type 0) (most p at upper : ℕ) → most < 4294967295 → p ≡ packed at upper → upper ≤ most → P (At at upper) → P (builtOf p)
+packs-at P most p at upper l e h x =
+    let small : upper < 4294967295 = omega arith in
+    built-holds P p at upper e small x
 
 -- ---- what grows
 

@@ -8,7 +8,6 @@ use native.Mathlib.Omega.{arith}
 use lib.ListN.{length, take}
 use Rattle.words.specs.Lists.{allOf}
 use Rattle.words.specs.Options.{onlyIf, mapSome, mapBoth}
-use Rattle.words.specs.Packed.{packed}
 use Rattle.recipe.specs.Name.{Name, distinct, isEllipsis}
 use Rattle.recipe.specs.Tree.{Tree, size, names}
 use Rattle.expansion.specs.Rules.{Pattern, Template, Rule, areVariables, variables, patternOf, templateOf}
@@ -22,7 +21,8 @@ use Rattle.rule_cells.specs.Made.{Made}
 use Rattle.rule_cells.specs.MadeLaws.{pattern-kept, rules-kept}
 use Rattle.rule_cells.specs.Variables as kept-is
 use Rattle.rule_cells.specs.Variables.{variablesFrom, Kept, Held, Under, Stored, Gathered}
-use Rattle.rule_cells.specs.Built.{Built, Good, Bad, builtOf, built-packed}
+use Rattle.words.specs.declared.packed.Built.{Built}
+use Rattle.words.specs.declared.packed.Built.the-variants.{At, None}
 use Rattle.rule_cells.specs.Parse.{Asks, PatternMade, PatternLeft, TemplateMade, TemplateLeft}
 use Rattle.rule_cells.specs.TemplateLaws.{variables-kept}
 use Rattle.rule_cells.specs.RuleParse.{partsOf, PartsAsk, RuleLeft}
@@ -50,11 +50,6 @@ module _ (literals : List Name) (p q : Tree) where
   parts-both : (x : Pattern) (y : Template) → areVariables vs ≡ true → patternOf isEllipsis literals 0 p ≡ some x → templateOf isEllipsis vs 0 false q ≡ some y → partsOf literals p q ≡ some (record { pattern = x; template = y })
   unfolding partsOf onlyIf mapBoth mapSome
   parts-both x y v e f = rw (v, e, f) refl
-
--- the word of what is left
-pub rule-packed : (o : Option Rule) (s : ℕ) (old new : List ℕ) (next top at upper p : ℕ) → top + 5 * s < 4294967295 → p ≡ packed at upper → RuleLeft o s old new next top (Good at upper) → RuleLeft o s old new next top (builtOf p)
-rule-packed o s old new next top at upper p l e m =
-    subst (λ (z : Built). RuleLeft o s old new next top z) (sym (built-packed p at upper e (omega (arith, m .words)))) m
 
 -- the table holds nothing at first
 pub held-none : (work : List ℕ) (w : ℕ) (vars : List ℕ) → Held work w vars 0
@@ -94,13 +89,13 @@ module _ (old : List ℕ) (literals p q w next top : ℕ) (ask : PartsAsk old li
   pub small-size : 0 + size pt < 2 ^ 32
   small-size = omega (arith, ask .room .small)
 
-  pub left-variables : (vars new : List ℕ) (r : Kept) → r ≡ kept-is.Bad → Gathered (variables isEllipsis listed 0 pt) old w p 0 vars new r → RuleLeft o s old old next top Bad
+  pub left-variables : (vars new : List ℕ) (r : Kept) → r ≡ kept-is.Bad → Gathered (variables isEllipsis listed 0 pt) old w p 0 vars new r → RuleLeft o s old old next top None
   unfolding variablesFrom
   left-variables vars new r b g =
       let h : Gathered (variables isEllipsis listed 0 pt) old w p 0 vars new kept-is.Bad = subst (λ (z : Kept). Gathered (variables isEllipsis listed 0 pt) old w p 0 vars new z) b g in
       (parts-variables listed pt qt (ap areVariables (sym (append-nil (variables isEllipsis listed 0 pt))) ∙ h []), refl)
 
-  pub left-pattern : (mid : List ℕ) (r : Parsed) → r ≡ parsed.Bad → PatternLeft listed 0 pt old mid top r → RuleLeft o s old mid next top Bad
+  pub left-pattern : (mid : List ℕ) (r : Parsed) → r ≡ parsed.Bad → PatternLeft listed 0 pt old mid top r → RuleLeft o s old mid next top None
   left-pattern mid r b g =
       let h : PatternLeft listed 0 pt old mid top parsed.Bad = subst (λ (z : Parsed). PatternLeft listed 0 pt old mid top z) b g in
       (parts-pattern listed pt qt (h .0), h .1)
@@ -144,12 +139,12 @@ module _ (old : List ℕ) (literals p q w next top : ℕ) (ask : PartsAsk old li
     template-is : templateOf isEllipsis (variablesFrom mid w vars 0 n) 0 false (treeAt mid q w) ≡ templateOf isEllipsis (variables isEllipsis listed 0 pt) 0 false qt
     template-is = rw (variables-are, q-is) refl
 
-    pub left-template : (new : List ℕ) (r : Built) → r ≡ Bad → TemplateLeft (variablesFrom mid w vars 0 n) 0 false (treeAt mid q w) mid new t r → RuleLeft o s old new next top Bad
+    pub left-template : (new : List ℕ) (r : Built) → r ≡ None → TemplateLeft (variablesFrom mid w vars 0 n) 0 false (treeAt mid q w) mid new t r → RuleLeft o s old new next top None
     left-template new r b g =
-        let h : TemplateLeft (variablesFrom mid w vars 0 n) 0 false (treeAt mid q w) mid new t Bad = subst (λ (z : Built). TemplateLeft (variablesFrom mid w vars 0 n) 0 false (treeAt mid q w) mid new t z) b g in
+        let h : TemplateLeft (variablesFrom mid w vars 0 n) 0 false (treeAt mid q w) mid new t None = subst (λ (z : Built). TemplateLeft (variablesFrom mid w vars 0 n) 0 false (treeAt mid q w) mid new t z) b g in
         (parts-template listed pt qt (patternAt mid a) (made .means) (sym template-is ∙ h .0), take-less new mid top t (made .grows .up) (h .1) ∙ made .grows .kept)
 
-    pub made-template : (last : List ℕ) (r : Built) (b u : ℕ) → r ≡ Good b u → TemplateLeft (variablesFrom mid w vars 0 n) 0 false (treeAt mid q w) mid last t r → TemplateMade (variablesFrom mid w vars 0 n) 0 false (treeAt mid q w) mid last t b u
+    pub made-template : (last : List ℕ) (r : Built) (b u : ℕ) → r ≡ At b u → TemplateLeft (variablesFrom mid w vars 0 n) 0 false (treeAt mid q w) mid last t r → TemplateMade (variablesFrom mid w vars 0 n) 0 false (treeAt mid q w) mid last t b u
     made-template last r b u e g = subst (λ (z : Built). TemplateLeft (variablesFrom mid w vars 0 n) 0 false (treeAt mid q w) mid last t z) e g
 
     module _ (last : List ℕ) (b u : ℕ) (same-last : length last ≡ length mid) (second : TemplateMade (variablesFrom mid w vars 0 n) 0 false (treeAt mid q w) mid last t b u) where
@@ -163,7 +158,7 @@ module _ (old : List ℕ) (literals p q w next top : ℕ) (ask : PartsAsk old li
       kept-two : take top last ≡ take top old
       kept-two = take-less last mid top t (made .grows .up) (second .grows .kept) ∙ made .grows .kept
 
-      pub left-rule : (new : List ℕ) (r : ℕ) → Made rulesAt (record { pattern = patternAt last a; template = templateAt last b } ∷ rulesAt last next) last new u r → RuleLeft o s old new next top (Good r r)
+      pub left-rule : (new : List ℕ) (r : ℕ) → Made rulesAt (record { pattern = patternAt last a; template = templateAt last b } ∷ rulesAt last next) last new u r → RuleLeft o s old new next top (At r r)
       left-rule new r c =
           record {
             rule = record { pattern = patternAt mid a; template = templateAt last b };

@@ -3,13 +3,12 @@ use mathlib.Core.Path.{_≡_, refl, sym, ap, ap₂, subst, _∙_}
 use mathlib.Core.Bool.{true, false, not, _&&_}
 use mathlib.Core.List.{List, _∷_}
 use mathlib.Core.Option.{Option, none, some}
-use Prim.Native.Nat.{ℕ, suc, _+_, _*_, _≤_, _<_}
+use Prim.Native.Nat.{ℕ, suc, _+_, _*_, _≤_}
 use native.Mathlib.Omega.{arith}
 use lib.Dec.{eqb}
 use lib.ListN.{length}
 use borrow.Author.Tests.{ne-eqb, eqb-true}
 use Rattle.words.specs.Options.{onlyIf, mapSome, mapBoth, traverse}
-use Rattle.words.specs.Packed.{packed}
 use Rattle.words.specs.TestLaws.{and-left, and-right}
 use Rattle.recipe.specs.Name.{Name, isEllipsis}
 use Rattle.recipe.specs.Tree.{Tree, empty, constant, name, pair, size, names, onName, onPair, isList, isListOf, elements, element, tail}
@@ -23,7 +22,8 @@ use Rattle.arena.specs.CellLaws.{tree-kept}
 use Rattle.arena.specs.Lists.{Means}
 use Rattle.arena.specs.ListLaws.{no-name, no-elements}
 use Rattle.rule_cells.specs.CellLaws.{rulesAt-none}
-use Rattle.rule_cells.specs.Built.{Built, Good, Bad, builtOf, built-packed}
+use Rattle.words.specs.declared.packed.Built.{Built}
+use Rattle.words.specs.declared.packed.Built.the-variants.{At, None}
 use Rattle.rule_cells.specs.Parse.{Asks}
 use Rattle.rule_cells.specs.ParseLaws.{tree-is, size-is, head-below}
 use Rattle.rule_cells.specs.RuleParse.{ruleShape, partsOf, PartsAsk, RuleLeft, RulesMade, RulesLeft}
@@ -95,9 +95,9 @@ shape-size t e =
     list-size t (eqb-true (length (elements t)) 2 (and-right (isList t) (eqb (length (elements t)) 2) l))
 
 rule-as : (o o′ : Option Rule) (s s′ : ℕ) (old new : List ℕ) (next top : ℕ) (r : Built) → o ≡ o′ → s ≤ s′ → RuleLeft o s old new next top r → RuleLeft o′ s′ old new next top r
-rule-as o o′ s s′ old new next top (Good at upper) e l m =
+rule-as o o′ s s′ old new next top (At at upper) e l m =
     record { rule = m .rule; is = sym e ∙ m .is; means = m .means; at-most = m .at-most; up = m .up; words = omega (arith, m .words); kept = m .kept }
-rule-as o o′ s s′ old new next top Bad e l m = (sym e ∙ m .0, m .1)
+rule-as o o′ s s′ old new next top None e l m = (sym e ∙ m .0, m .1)
 
 module _ (old : List ℕ) (literals node w next top : ℕ) (asks : Asks old node w top) (literals-below : literals ≤ top) (next-below : next ≤ top) where
   abbrev listed : List Name
@@ -106,7 +106,7 @@ module _ (old : List ℕ) (literals node w next top : ℕ) (asks : Asks old node
   abbrev t : Tree
   t = treeAt old node w
 
-  pub left-shape : false ≡ ruleShape t → RuleLeft (ruleOf isEllipsis listed t) (size t) old old next top Bad
+  pub left-shape : false ≡ ruleShape t → RuleLeft (ruleOf isEllipsis listed t) (size t) old old next top None
   left-shape e = (rule-none listed t e, refl)
 
   module _ (pattern p after q : ℕ) (shape : true ≡ ruleShape t) (a : Means old node pattern (element 0)) (b : Means old pattern p tail) (c : Means old node after tail) (d : Means old after q (element 0)) where
@@ -135,11 +135,6 @@ module _ (old : List ℕ) (literals node w next top : ℕ) (asks : Asks old node
 
 -- ---- lists of rules
 
--- the word of what is left
-pub rules-packed : (o : Option (List Rule)) (s : ℕ) (old new : List ℕ) (top at upper p : ℕ) → top + 5 * s < 4294967295 → p ≡ packed at upper → RulesLeft o s old new top (Good at upper) → RulesLeft o s old new top (builtOf p)
-rules-packed o s old new top at upper p l e m =
-    subst (λ (z : Built). RulesLeft o s old new top z) (sym (built-packed p at upper e (omega (arith, m .words)))) m
-
 traverse-bad : (f : Tree → Option Rule) (x : Option Rule) (ys : Option (List Rule)) → ys ≡ none → mapBoth _∷_ x ys ≡ none
 unfolding mapBoth mapSome
 traverse-bad f none ys e = refl
@@ -152,7 +147,7 @@ module _ (old : List ℕ) (literals node w top : ℕ) (asks : Asks old node w to
   abbrev answer : Tree → Option (List Rule)
   answer t = traverse (ruleOf isEllipsis names-listed) (elements t)
 
-  pub left-end : (wordAt old node 3 ≡ 4 → ⊥) → RulesLeft (answer (treeAt old node w)) (size (treeAt old node w)) old old top (Good 0 top)
+  pub left-end : (wordAt old node 3 ≡ 4 → ⊥) → RulesLeft (answer (treeAt old node w)) (size (treeAt old node w)) old old top (At 0 top)
   unfolding traverse
   left-end n =
       record {
@@ -174,12 +169,12 @@ module _ (old : List ℕ) (literals node w top : ℕ) (asks : Asks old node w to
     unfolding traverse elements
     answer-is = ap answer (tree-is old node w top asks head rest e f g)
 
-    pub left-later : (mid : List ℕ) (r : Built) → r ≡ Bad → RulesLeft (answer s) (size s) old mid top r → RulesLeft (answer (treeAt old node w)) (size (treeAt old node w)) old mid top Bad
+    pub left-later : (mid : List ℕ) (r : Built) → r ≡ None → RulesLeft (answer s) (size s) old mid top r → RulesLeft (answer (treeAt old node w)) (size (treeAt old node w)) old mid top None
     left-later mid r b p =
-        let q : RulesLeft (answer s) (size s) old mid top Bad = subst (λ (z : Built). RulesLeft (answer s) (size s) old mid top z) b p in
+        let q : RulesLeft (answer s) (size s) old mid top None = subst (λ (z : Built). RulesLeft (answer s) (size s) old mid top z) b p in
         (answer-is ∙ traverse-bad (ruleOf isEllipsis names-listed) (ruleOf isEllipsis names-listed h) (answer s) (q .0), q .1)
 
-    pub made-later : (mid : List ℕ) (r : Built) (next upper : ℕ) → r ≡ Good next upper → RulesLeft (answer s) (size s) old mid top r → RulesMade (answer s) (size s) old mid top next upper
+    pub made-later : (mid : List ℕ) (r : Built) (next upper : ℕ) → r ≡ At next upper → RulesLeft (answer s) (size s) old mid top r → RulesMade (answer s) (size s) old mid top next upper
     made-later mid r next upper b p = subst (λ (z : Built). RulesLeft (answer s) (size s) old mid top z) b p
 
     -- after the later rules
@@ -215,7 +210,7 @@ module _ (old : List ℕ) (literals node w top : ℕ) (asks : Asks old node w to
 
       pub left-both : (new : List ℕ) (r : Built) → RuleLeft one (size (treeAt mid head w)) mid new next upper r → RulesLeft (answer (treeAt old node w)) (size (treeAt old node w)) old new top r
       unfolding mapBoth mapSome
-      left-both new (Good at higher) m =
+      left-both new (At at higher) m =
           let words : higher ≤ upper + 5 * size h = rw head-is at (m .words) in
           record {
             means = answer-is ∙ ap₂ (mapBoth _∷_) (sym one-is ∙ m .is) (made .means) ∙ ap some (sym (m .means));
@@ -224,7 +219,7 @@ module _ (old : List ℕ) (literals node w top : ℕ) (asks : Asks old node w to
             words = omega (arith, made .words, whole-size);
             kept = take-less new mid top upper (made .up) (m .kept) ∙ made .kept;
           }
-      left-both new Bad m =
+      left-both new None m =
           (answer-is ∙ ap₂ (mapBoth _∷_) (sym one-is ∙ m .0) (made .means), take-less new mid top upper (made .up) (m .1) ∙ made .kept)
 
 -- ---- the rules of a form
@@ -238,11 +233,11 @@ unfolding rulesOf onlyIf
 rules-are t e = rw (← e) refl
 
 rules-as : (o o′ : Option (List Rule)) (s s′ : ℕ) (old new : List ℕ) (top : ℕ) (r : Built) → o ≡ o′ → s ≤ s′ → RulesLeft o s old new top r → RulesLeft o′ s′ old new top r
-rules-as o o′ s s′ old new top (Good at upper) e l m = record { means = sym e ∙ m .means; at-most = m .at-most; up = m .up; words = omega (arith, m .words); kept = m .kept }
-rules-as o o′ s s′ old new top Bad e l m = (sym e ∙ m .0, m .1)
+rules-as o o′ s s′ old new top (At at upper) e l m = record { means = sym e ∙ m .means; at-most = m .at-most; up = m .up; words = omega (arith, m .words); kept = m .kept }
+rules-as o o′ s s′ old new top None e l m = (sym e ∙ m .0, m .1)
 
 module _ (old : List ℕ) (node w top : ℕ) (asks : Asks old node w top) where
-  pub left-no-form : false ≡ isRulesForm (treeAt old node w) → RulesLeft (rulesOf (treeAt old node w)) (size (treeAt old node w)) old old top Bad
+  pub left-no-form : false ≡ isRulesForm (treeAt old node w) → RulesLeft (rulesOf (treeAt old node w)) (size (treeAt old node w)) old old top None
   left-no-form e = (rules-none (treeAt old node w) e, refl)
 
   module _ (after literals list : ℕ) (a : Means old node after tail) (b : Means old after literals (element 0)) (c : Means old after list tail) where

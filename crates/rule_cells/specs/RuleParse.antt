@@ -12,7 +12,8 @@ use Rattle.expansion.specs.Rules.{Rule, areVariables, variables, patternOf, tem
 use Rattle.arena.specs.Arena.{treeAt}
 use Rattle.arena.specs.Cells.{Room}
 use Rattle.rule_cells.specs.Cells.{rulesAt}
-use Rattle.rule_cells.specs.Built.{Built, Good, Bad}
+use Rattle.words.specs.declared.packed.Built.{Built}
+use Rattle.words.specs.declared.packed.Built.the-variants.{At, None}
 
 -- (pattern template); a pattern's first place is a name other than `...`
 unfoldable pub ruleShape : Tree → Bool
@@ -44,8 +45,8 @@ pub record RuleMade (o : Option Rule) (s : ℕ) (old new : List ℕ) (next top a
 
 -- bad exactly where the definition has no rule
 abbrev pub RuleLeft : (o : Option Rule) (s : ℕ) (old new : List ℕ) (next top : ℕ) → Built → Type 0
-RuleLeft o s old new next top (Good at upper) = RuleMade o s old new next top at upper
-RuleLeft o s old new next top Bad = (o ≡ none) × (take top new ≡ take top old)
+RuleLeft o s old new next top (At at upper) = RuleMade o s old new next top at upper
+RuleLeft o s old new next top None = (o ≡ none) × (take top new ≡ take top old)
 
 -- the cells of a list of rules
 pub record RulesMade (o : Option (List Rule)) (s : ℕ) (old new : List ℕ) (top at upper : ℕ) : Type 0 where
@@ -57,5 +58,5 @@ pub record RulesMade (o : Option (List Rule)) (s : ℕ) (old new : List ℕ) (to
 
 -- bad exactly where the definition has no rules
 abbrev pub RulesLeft : (o : Option (List Rule)) (s : ℕ) (old new : List ℕ) (top : ℕ) → Built → Type 0
-RulesLeft o s old new top (Good at upper) = RulesMade o s old new top at upper
-RulesLeft o s old new top Bad = (o ≡ none) × (take top new ≡ take top old)
+RulesLeft o s old new top (At at upper) = RulesMade o s old new top at upper
+RulesLeft o s old new top None = (o ≡ none) × (take top new ≡ take top old)

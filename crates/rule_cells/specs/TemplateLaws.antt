@@ -9,7 +9,6 @@ use lib.Dec.{ltb}
 use lib.ListN.{length, take, getD}
 use borrow.Author.Tests.{ne-eqb}
 use Rattle.words.specs.Options.{onlyIf, mapSome, mapBoth}
-use Rattle.words.specs.Packed.{packed}
 use Rattle.datum.specs.Constant.{Constant}
 use Rattle.recipe.specs.Name.{Name, isEllipsis}
 use Rattle.recipe.specs.Tree.{Tree, empty, constant, name, pair, size}
@@ -23,7 +22,8 @@ use Rattle.rule_cells.specs.MadeLaws.{template-kept, name-kept}
 use Rattle.arena.specs.ListLaws.{tree-cases}
 use Rattle.rule_cells.specs.Variables.{variableAt, variablesFrom, Under, Deeper}
 use Rattle.rule_cells.specs.Drive.{drives}
-use Rattle.rule_cells.specs.Built.{Built, Good, Bad, builtOf, built-packed}
+use Rattle.words.specs.declared.packed.Built.{Built}
+use Rattle.words.specs.declared.packed.Built.the-variants.{At, None}
 use Rattle.rule_cells.specs.Parse.{Asks, TemplateMade, TemplateLeft}
 use Rattle.rule_cells.specs.ParseLaws.{grows-nothing, grows-leaf, kept-both, tree-is, size-is, rest-kept, grows-pair}
 
@@ -32,12 +32,7 @@ pub templateAt-none : (work : List ℕ) → templateAt work 0 ≡ emptyT
 unfolding templateAt templateFrom
 templateAt-none work = refl
 
--- ---- the word of what is left
-
-pub left-packed : (vs : List (Name × ℕ)) (d : ℕ) (taken : Bool) (t : Tree) (old new : List ℕ) (top at upper p : ℕ) → top + 5 * size t < 4294967295 → p ≡ packed at upper → TemplateLeft vs d taken t old new top (Good at upper) → TemplateLeft vs d taken t old new top (builtOf p)
-left-packed vs d taken t old new top at upper p l e m =
-    subst (λ (z : Built). TemplateLeft vs d taken t old new top z) (sym (built-packed p at upper e (omega (arith, m .grows .words)))) m
-
+-- --
 -- ---- names
 
 module _ (vs : List (Name × ℕ)) (d : ℕ) (x : Name) where
@@ -58,14 +53,14 @@ module _ (vs : List (Name × ℕ)) (d : ℕ) (x : Name) where
   name-insert f = rw f refl
 
   module _ (old : List ℕ) (top : ℕ) where
-    pub left-dots : x .number ≡ 6 → TemplateLeft vs d false (name x) old old top Bad
+    pub left-dots : x .number ≡ 6 → TemplateLeft vs d false (name x) old old top None
     left-dots e = (name-dots e, refl)
 
-    pub left-depth : (k e : ℕ) → (x .number ≡ 6 → ⊥) → variableFrom 0 vs x ≡ some (k, e) → false ≡ depthFits e d → TemplateLeft vs d false (name x) old old top Bad
+    pub left-depth : (k e : ℕ) → (x .number ≡ 6 → ⊥) → variableFrom 0 vs x ≡ some (k, e) → false ≡ depthFits e d → TemplateLeft vs d false (name x) old old top None
     unfolding onlyIf
     left-depth k e n f h = (name-is n ∙ name-variable k e f ∙ ap (λ (b : Bool). onlyIf b (some (variableT k e))) (sym h), refl)
 
-    pub left-variable : (k e : ℕ) (new : List ℕ) (r : ℕ) → (x .number ≡ 6 → ⊥) → variableFrom 0 vs x ≡ some (k, e) → true ≡ depthFits e d → Made templateAt (variableT k e) old new top r → TemplateLeft vs d false (name x) old new top (Good r r)
+    pub left-variable : (k e : ℕ) (new : List ℕ) (r : ℕ) → (x .number ≡ 6 → ⊥) → variableFrom 0 vs x ≡ some (k, e) → true ≡ depthFits e d → Made templateAt (variableT k e) old new top r → TemplateLeft vs d false (name x) old new top (At r r)
     unfolding onlyIf
     left-variable k e new r n f h c =
         record {
@@ -73,7 +68,7 @@ module _ (vs : List (Name × ℕ)) (d : ℕ) (x : Name) where
           grows = grows-leaf (name x) old new top r (c .end) (c .kept);
         }
 
-    pub left-insert : (node w : ℕ) (new : List ℕ) (r : ℕ) → x ≡ nameAt old node w → (x .number ≡ 6 → ⊥) → variableFrom 0 vs x ≡ none → Made templateAt (insertT (nameAt old node w)) old new top r → TemplateLeft vs d false (name x) old new top (Good r r)
+    pub left-insert : (node w : ℕ) (new : List ℕ) (r : ℕ) → x ≡ nameAt old node w → (x .number ≡ 6 → ⊥) → variableFrom 0 vs x ≡ none → Made templateAt (insertT (nameAt old node w)) old new top r → TemplateLeft vs d false (name x) old new top (At r r)
     left-insert node w new r is n f c =
         record {
           means = name-is n ∙ name-insert f ∙ ap some (ap insertT is ∙ sym (c .means));
@@ -86,22 +81,22 @@ module _ (vs : List (Name × ℕ)) (d : ℕ) (old : List ℕ) (node w top : ℕ)
   pub left-name : (new : List ℕ) (r : Built) → wordAt old node 3 ≡ 3 → TemplateLeft vs d false (name (nameAt old node w)) old new top r → TemplateLeft vs d false (treeAt old node w) old new top r
   left-name new r e g = subst (λ (t : Tree). TemplateLeft vs d false t old new top r) (sym (treeAt-name old node w e)) g
 
-  empty-left : TemplateLeft vs d false empty old old top (Good 0 top)
+  empty-left : TemplateLeft vs d false empty old old top (At 0 top)
   unfolding templateOf
   empty-left = record { means = ap some (sym (templateAt-none old)); grows = grows-nothing empty old top }
 
-  pub left-empty : wordAt old node 3 ≡ 0 → TemplateLeft vs d false (treeAt old node w) old old top (Good 0 top)
-  left-empty e = subst (λ (t : Tree). TemplateLeft vs d false t old old top (Good 0 top)) (sym (treeAt-empty old node w e)) empty-left
+  pub left-empty : wordAt old node 3 ≡ 0 → TemplateLeft vs d false (treeAt old node w) old old top (At 0 top)
+  left-empty e = subst (λ (t : Tree). TemplateLeft vs d false t old old top (At 0 top)) (sym (treeAt-empty old node w e)) empty-left
 
-  constant-left : (a : Constant) (new : List ℕ) (r : ℕ) → Made templateAt (constantT a) old new top r → TemplateLeft vs d false (constant a) old new top (Good r r)
+  constant-left : (a : Constant) (new : List ℕ) (r : ℕ) → Made templateAt (constantT a) old new top r → TemplateLeft vs d false (constant a) old new top (At r r)
   unfolding templateOf
   constant-left a new r c = record { means = ap some (sym (c .means)); grows = grows-leaf (constant a) old new top r (c .end) (c .kept) }
 
-  pub left-constant : (kind first second : ℕ) (new : List ℕ) (r : ℕ) → kind ≡ wordAt old node 3 → first ≡ wordAt old node 2 → second ≡ wordAt old node 1 → (wordAt old node 3 ≡ 0 → ⊥) → (wordAt old node 3 ≡ 3 → ⊥) → (wordAt old node 3 ≡ 4 → ⊥) → Made templateAt (constantT (record { kind = kind; first = first; second = second })) old new top r → TemplateLeft vs d false (treeAt old node w) old new top (Good r r)
+  pub left-constant : (kind first second : ℕ) (new : List ℕ) (r : ℕ) → kind ≡ wordAt old node 3 → first ≡ wordAt old node 2 → second ≡ wordAt old node 1 → (wordAt old node 3 ≡ 0 → ⊥) → (wordAt old node 3 ≡ 3 → ⊥) → (wordAt old node 3 ≡ 4 → ⊥) → Made templateAt (constantT (record { kind = kind; first = first; second = second })) old new top r → TemplateLeft vs d false (treeAt old node w) old new top (At r r)
   unfolding constantAt
   left-constant kind first second new r e f g n0 n3 n4 c =
       let is : constant (record { kind = kind; first = first; second = second }) ≡ treeAt old node w = rw (e, f, g) (sym (treeAt-constant old node w n0 n3 n4)) in
-      subst (λ (t : Tree). TemplateLeft vs d false t old new top (Good r r)) is (constant-left (record { kind = kind; first = first; second = second }) new r c)
+      subst (λ (t : Tree). TemplateLeft vs d false t old new top (At r r)) is (constant-left (record { kind = kind; first = first; second = second }) new r c)
 
 -- ---- pairs
 
@@ -174,12 +169,12 @@ leaf-taken vs d taken old node w n =
 -- one tree's template is another's, no larger
 module _ (vs : List (Name × ℕ)) (old new : List ℕ) (top d e : ℕ) (taken held : Bool) (t s : Tree) (same : templateOf isEllipsis vs e held s ≡ templateOf isEllipsis vs d taken t) (smaller : size s ≤ size t) where
   pub left-as : (r : Built) → TemplateLeft vs e held s old new top r → TemplateLeft vs d taken t old new top r
-  left-as (Good at upper) m =
+  left-as (At at upper) m =
       record {
         means = sym same ∙ m .means;
         grows = record { at-most = m .grows .at-most; up = m .grows .up; words = omega (arith, m .grows .words); kept = m .grows .kept };
       }
-  left-as Bad m = (sym same ∙ m .0, m .1)
+  left-as None m = (sym same ∙ m .0, m .1)
 
 pub left-leaf : (vs : List (Name × ℕ)) (d : ℕ) (taken : Bool) (old : List ℕ) (node w top : ℕ) (new : List ℕ) (r : Built) → (wordAt old node 3 ≡ 4 → ⊥) → TemplateLeft vs d false (treeAt old node w) old new top r → TemplateLeft vs d taken (treeAt old node w) old new top r
 left-leaf vs d taken old node w top new r n m = left-as vs old new top d d taken false _ _ (leaf-taken vs d taken old node w n) (omega arith) r m
@@ -211,19 +206,19 @@ module _ (old : List ℕ) (vars : List ℕ) (count node w d top : ℕ) (asks : A
     whole : templateOf isEllipsis vs d taken (treeAt old node w) ≡ templateOf isEllipsis vs d false (pair h s)
     whole = rw (untaken, whole-is) refl
 
-    pub left-bad : (mid : List ℕ) (r : Built) → r ≡ Bad → TemplateLeft vs inner false h old mid top r → TemplateLeft vs d taken (treeAt old node w) old mid top Bad
+    pub left-bad : (mid : List ℕ) (r : Built) → r ≡ None → TemplateLeft vs inner false h old mid top r → TemplateLeft vs d taken (treeAt old node w) old mid top None
     left-bad mid r b p =
-        let q : TemplateLeft vs inner false h old mid top Bad = subst (λ (z : Built). TemplateLeft vs inner false h old mid top z) b p in
+        let q : TemplateLeft vs inner false h old mid top None = subst (λ (z : Built). TemplateLeft vs inner false h old mid top z) b p in
         (whole ∙ pair-bad vs d h s (sym first-is ∙ q .0), q .1)
 
-    pub made-head : (mid : List ℕ) (r : Built) (a t : ℕ) → r ≡ Good a t → TemplateLeft vs inner false h old mid top r → TemplateMade vs inner false h old mid top a t
+    pub made-head : (mid : List ℕ) (r : Built) (a t : ℕ) → r ≡ At a t → TemplateLeft vs inner false h old mid top r → TemplateMade vs inner false h old mid top a t
     made-head mid r a t b p = subst (λ (z : Built). TemplateLeft vs inner false h old mid top z) b p
 
     module _ (mid : List ℕ) (a t : ℕ) (same-length : length mid ≡ length old) (made : TemplateMade vs inner false h old mid top a t) where
       head-means : firstOf vs d h s ≡ some (templateAt mid a)
       head-means = sym first-is ∙ made .means
 
-      pub left-undriven : false ≡ (not dots || drives 0 (templateAt mid a)) → TemplateLeft vs d taken (treeAt old node w) old mid top Bad
+      pub left-undriven : false ≡ (not dots || drives 0 (templateAt mid a)) → TemplateLeft vs d taken (treeAt old node w) old mid top None
       left-undriven u = (whole ∙ pair-undriven vs d h s (templateAt mid a) head-means (u ∙ ap (λ (b : Bool). not b || drives 0 (templateAt mid a)) next), made .grows .kept)
 
       pub under-still : Under vars count t
@@ -238,15 +233,15 @@ module _ (old : List ℕ) (vars : List ℕ) (count node w d top : ℕ) (asks : A
       rest-means : templateOf isEllipsis vs-again d dots again ≡ laterOf vs d h s
       rest-means = rw (variables-kept old mid w top (asks .wrap-below) (made .grows .kept) vars count under, rest-kept old node w top asks head rest e f g mid a t same-length (made .grows), next) refl
 
-      pub left-bad-rest : (new : List ℕ) (r : Built) → r ≡ Bad → TemplateLeft vs-again d dots again mid new t r → TemplateLeft vs d taken (treeAt old node w) old new top Bad
+      pub left-bad-rest : (new : List ℕ) (r : Built) → r ≡ None → TemplateLeft vs-again d dots again mid new t r → TemplateLeft vs d taken (treeAt old node w) old new top None
       left-bad-rest new r b p =
-          let q : TemplateLeft vs-again d dots again mid new t Bad = subst (λ (z : Built). TemplateLeft vs-again d dots again mid new t z) b p in
+          let q : TemplateLeft vs-again d dots again mid new t None = subst (λ (z : Built). TemplateLeft vs-again d dots again mid new t z) b p in
           (whole ∙ pair-bad-rest vs d h s (templateAt mid a) head-means (sym rest-means ∙ q .0), kept-both h old mid new top a t (made .grows) (q .1))
 
-      pub made-rest : (last : List ℕ) (r : Built) (b u : ℕ) → r ≡ Good b u → TemplateLeft vs-again d dots again mid last t r → TemplateMade vs-again d dots again mid last t b u
+      pub made-rest : (last : List ℕ) (r : Built) (b u : ℕ) → r ≡ At b u → TemplateLeft vs-again d dots again mid last t r → TemplateMade vs-again d dots again mid last t b u
       made-rest last r b u q p = subst (λ (z : Built). TemplateLeft vs-again d dots again mid last t z) q p
 
-      pub left-list : (last new : List ℕ) (b u r : ℕ) → true ≡ (not dots || drives 0 (templateAt mid a)) → TemplateMade vs-again d dots again mid last t b u → Made templateAt (cond dots (ellipsisT (templateAt last a) (templateAt last b)) (pairT (templateAt last a) (templateAt last b))) last new u r → TemplateLeft vs d taken (treeAt old node w) old new top (Good r r)
+      pub left-list : (last new : List ℕ) (b u r : ℕ) → true ≡ (not dots || drives 0 (templateAt mid a)) → TemplateMade vs-again d dots again mid last t b u → Made templateAt (cond dots (ellipsisT (templateAt last a) (templateAt last b)) (pairT (templateAt last a) (templateAt last b))) last new u r → TemplateLeft vs d taken (treeAt old node w) old new top (At r r)
       left-list last new b u r ok second c =
           let x-is : templateAt last a ≡ templateAt mid a = template-kept mid last t (second .grows .kept) a (made .grows .at-most) in
           record {

@@ -4,12 +4,12 @@
 
 ghost use Prim.Native.Nat.{_+_, _≤_};
 ghost use Rattle.recipe.specs.Tree.{names, size, elements};
+ghost use Rattle.words.specs.Packed.{builtOf};
 ghost use Rattle.words.specs.Options.{traverse};
 ghost use Rattle.recipe.specs.Name.{isEllipsis};
 ghost use Rattle.expansion.specs.Rules.{ruleOf, rulesOf};
 ghost use Rattle.arena.specs.Arena.{treeAt};
 ghost use Rattle.arena.specs.Lists.{Tests};
-ghost use Rattle.rule_cells.specs.Built.{builtOf};
 ghost use Rattle.rule_cells.specs.Parse.{Asks};
 ghost use Rattle.rule_cells.specs.RuleParse.{ruleShape, partsOf, PartsAsk, RuleLeft, RulesLeft};
 use crate::constructors;
@@ -22,6 +22,7 @@ use arena::cells;
 use arena::lists;
 use resolution::names;
 use words::packed;
+use words::packed::Built;
 
 // A rule from the rest p of its pattern and its template q, before the rules at `next`.
 fn rule_parts(work: &mut [u32], literals: u32, p: u32, q: u32, w: u32, next: u32, top: u32) -> u64
@@ -36,11 +37,11 @@ fn rule_parts(work: &mut [u32], literals: u32, p: u32, q: u32, w: u32, next: u32
     let Parsed::Good(a, t, m) = patterns::pattern(work, literals, p, w, 0, top) else {
         return packed::NONE;
     };
-    let b = templates::template(work, &vars, n, q, w, 0, false, t);
-    if b == packed::NONE {
+    let word = templates::template(work, &vars, n, q, w, 0, false, t);
+    let Built::At(b, u) = packed::parts(word) else {
         return packed::NONE;
-    }
-    let r = constructors::put_rule(work, packed::low(b), a, packed::high(b), next);
+    };
+    let r = constructors::put_rule(work, u, a, b, next);
     packed::pair(r, r)
 }
 
@@ -87,18 +88,10 @@ fn rule_list(work: &mut [u32], literals: u32, node: u32, w: u32, top: u32) -> u6
     }
     let head = cells::reference(work, node, cells::HEAD);
     let rest = cells::reference(work, node, cells::TAIL);
-    let later = rule_list(work, literals, rest, w, top);
-    if later == packed::NONE {
+    let Built::At(next, upper) = packed::parts(rule_list(work, literals, rest, w, top)) else {
         return packed::NONE;
-    }
-    rule(
-        work,
-        literals,
-        head,
-        w,
-        packed::high(later),
-        packed::low(later),
-    )
+    };
+    rule(work, literals, head, w, next, upper)
 }
 
 // The rules of a form.

@@ -6,6 +6,7 @@ ghost use mathlib.Core.Path.{_≡_};
 ghost use mathlib.Core.Bool.{false, cond};
 ghost use Prim.Native.Nat.{_+_, _^_, _≤_, _<_};
 ghost use lib.ListN.{length};
+ghost use Rattle.words.specs.Packed.{builtOf};
 ghost use Rattle.recipe.specs.Tree.{name};
 ghost use Rattle.expansion.specs.Rules.{depthFits, pairT, ellipsisT};
 ghost use Rattle.arena.specs.Arena.{wordAt, nameAt, treeAt};
@@ -14,7 +15,6 @@ ghost use Rattle.rule_cells.specs.Cells.{templateAt};
 ghost use Rattle.rule_cells.specs.Made.{Made};
 ghost use Rattle.rule_cells.specs.Drive.{Drives, Accepts};
 ghost use Rattle.rule_cells.specs.Variables.{variablesFrom, Under};
-ghost use Rattle.rule_cells.specs.Built.{builtOf};
 ghost use Rattle.rule_cells.specs.Parse.{Asks, TemplateLeft};
 use crate::cells;
 use crate::constructors;
@@ -23,6 +23,7 @@ use crate::variables;
 use crate::variables::Known;
 use resolution::names;
 use words::packed;
+use words::packed::Built;
 
 // Whether a template holds a variable that drives its copies: one under more ellipses than the j inside the element.
 fn driven(work: &[u32], at: u32, j: u32) -> bool
@@ -159,17 +160,16 @@ pub fn template(
     }
     let dots = dots::dots_next(work, rest);
     let inner = variables::element_depth(dots, d);
-    let b = template(work, vars, count, head, w, inner, false, top);
-    if b == packed::NONE {
+    let head_word = template(work, vars, count, head, w, inner, false, top);
+    let Built::At(a, t) = packed::parts(head_word) else {
         return packed::NONE;
-    }
-    let a = packed::high(b);
+    };
     if accepted(work, dots, a) {
-        let l = template(work, vars, count, rest, w, d, dots, packed::low(b));
-        if l == packed::NONE {
+        let rest_word = template(work, vars, count, rest, w, d, dots, t);
+        let Built::At(b, u) = packed::parts(rest_word) else {
             return packed::NONE;
-        }
-        let r = put_list(work, packed::low(l), dots, a, packed::high(l));
+        };
+        let r = put_list(work, u, dots, a, b);
         return packed::pair(r, r);
     }
     packed::NONE

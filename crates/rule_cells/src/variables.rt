@@ -62,7 +62,8 @@ pub fn is_variable(work: &[u32], literals: u32, node: u32, w: u32) -> bool
     true
 }
 
-// How many variables a leaf of a pattern is, none or one.
+// How many variables a leaf of a pattern is, none or one. Behind `...` this is the end of a list: the empty list in every tree of
+// an item table, but the definition speaks of all trees, and a name there is counted among the variables to the left.
 pub fn leaf_count(work: &[u32], literals: u32, node: u32, w: u32) -> u32
     ensures { λ r. ⌜ r ≡ leafCount (names (treeAt (now (work .entry)) literals w)) (treeAt (now (work .entry)) node w) ⌝ }
 {

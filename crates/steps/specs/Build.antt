@@ -12,7 +12,8 @@ use Rattle.rule_cells.specs.Cells.{templateAt}
 use Rattle.environments.specs.Sound.{Plain}
 use Rattle.environments.specs.Environment.{enter, agreeBy, resultBy}
 use Rattle.environments.specs.Entries.{environmentAt, Under}
-use Rattle.steps.specs.Built.{Built, At, Stopped}
+use Rattle.words.specs.declared.packed.Built.{Built}
+use Rattle.words.specs.declared.packed.Built.the-variants.{At, None}
 
 -- a node is three words, and a name's may have a join of three more
 abbrev pub nodeWords : ℕ
@@ -42,7 +43,7 @@ pub record Unpaid (tree : Tree) (old new : List ℕ) (top fuel : ℕ) : Type 0 w
 
 abbrev pub Pays : (tree : Tree) (old new : List ℕ) (top fuel : ℕ) → Built → Type 0
 Pays tree old new top fuel (At root left) = Paid tree old new top fuel root left
-Pays tree old new top fuel Stopped = Unpaid tree old new top fuel
+Pays tree old new top fuel None = Unpaid tree old new top fuel
 
 -- a node and a wrap that stand below the top, with room for as many items as there is fuel
 pub record Waiting (work : List ℕ) (top fuel node w : ℕ) : Type 0 where
@@ -88,7 +89,7 @@ pub record Stops (old new : List ℕ) (top fuel : ℕ) (env : List ℕ) (w t : �
 
 abbrev pub Made : (old new : List ℕ) (top fuel : ℕ) (env : List ℕ) (w t : ℕ) → Built → Type 0
 Made old new top fuel env w t (At root left) = Gives old new top fuel env w t root left
-Made old new top fuel env w t Stopped = Stops old new top fuel env w t
+Made old new top fuel env w t None = Stops old new top fuel env w t
 
 -- ---- copies, of an element or of a list's elements, by what copy i is
 
@@ -116,7 +117,7 @@ pub record ElementsUnpaid (old new : List ℕ) (top fuel list w c : ℕ) : Type 
 
 abbrev pub ElementsBackwards : (old new : List ℕ) (top fuel list w c : ℕ) → Built → Type 0
 ElementsBackwards old new top fuel list w c (At r left) = Turned (elementsAt old list w) old new top fuel c r left
-ElementsBackwards old new top fuel list w c Stopped = ElementsUnpaid old new top fuel list w c
+ElementsBackwards old new top fuel list w c None = ElementsUnpaid old new top fuel list w c
 
 -- ---- copies of an element
 
@@ -130,7 +131,7 @@ pub record CopiesStop (old new : List ℕ) (top fuel : ℕ) (env : List ℕ) (w 
 
 abbrev pub Backwards : (old new : List ℕ) (top fuel : ℕ) (env : List ℕ) (w e c : ℕ) → Built → Type 0
 Backwards old new top fuel env w e c (At list left) = Turned (copyAt old env w e) old new top fuel c list left × CopiesAgreed old env w e c
-Backwards old new top fuel env w e c Stopped = CopiesStop old new top fuel env w e c
+Backwards old new top fuel env w e c None = CopiesStop old new top fuel env w e c
 
 -- the first c elements of a list, the last first, before a tail
 pub record Reversed (old new : List ℕ) (top list tail c r : ℕ) : Type 0 where
@@ -150,4 +151,4 @@ pub record Before (old new : List ℕ) (top fuel : ℕ) (env : List ℕ) (w e c 
 
 abbrev pub Copied : (old new : List ℕ) (top fuel : ℕ) (env : List ℕ) (w e c : ℕ) → Built → Type 0
 Copied old new top fuel env w e c (At r left) = Before old new top fuel env w e c r left
-Copied old new top fuel env w e c Stopped = CopiesStop old new top fuel env w e c
+Copied old new top fuel env w e c None = CopiesStop old new top fuel env w e c

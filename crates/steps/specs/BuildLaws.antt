@@ -1,7 +1,6 @@
 -- Laws of building, one for each way through the code: fresh nodes, and trees whose items are paid for one by one.
 use mathlib.Core.Path.{_≡_, refl, sym, ap, ap₂, subst, _∙_}
-use mathlib.Core.Bool.{Bool, true}
-use mathlib.Core.List.{List, []}
+use mathlib.Core.List.{List}
 use Prim.Native.Nat.{ℕ, _+_, _*_, _-_, _≤_, _<_}
 use native.Mathlib.Omega.{arith}
 use lib.Dec.{ltb}
@@ -11,12 +10,13 @@ use Rattle.recipe.specs.Tree.{Tree, empty, constant, name, pair, size, onNames,
 use Rattle.recipe.specs.TreeLaws.{size-positive}
 use Rattle.arena.specs.Arena.{wordAt, referenceAt, stepLimit, marked, giveKey, isOwn, rebound, wrapAt, originName, nodeName, nameAt, constantAt, treeAt}
 use Rattle.words.specs.ListLaws.{either}
-use Rattle.words.specs.Packed.{packed}
+use Rattle.words.specs.Packed.{packed, builtOf, built-holds}
 use Rattle.arena.specs.ArenaLaws.{take-less, referenceAt-most, wrapAt-none, wrapAt-keeps}
 use Rattle.arena.specs.NodeLaws.{treeAt-empty, treeAt-name, treeAt-pair, treeAt-constant}
 use Rattle.arena.specs.Cells.{Room, Wrapped, Grown}
 use Rattle.arena.specs.CellLaws.{tree-kept}
-use Rattle.steps.specs.Built.{Built, At, Stopped, builtOf, built-packed}
+use Rattle.words.specs.declared.packed.Built.{Built}
+use Rattle.words.specs.declared.packed.Built.the-variants.{At, None}
 use Rattle.steps.specs.Build.{nodeWords, Fresh, Paid, Unpaid, Pays, Waiting}
 
 -- ---- names are produced before or after what waits on them
@@ -96,7 +96,7 @@ room-left old new top fuel r left n long h room = record { fits = omega (arith, 
 pub built-at : (P : Built → Type 0) (work : List ℕ) (top fuel p root left : ℕ) → Room work top (nodeWords * fuel) → left ≤ fuel → p ≡ packed root left → P (At root left) → P (builtOf p)
 built-at P work top fuel p root left room h e x =
     let small : left < 4294967295 = omega (arith, room .small) in
-    subst P (sym (built-packed p root left e small)) x
+    built-holds P p root left e small x
 
 -- ---- trees whose items are paid for
 
@@ -107,7 +107,7 @@ pays-is A B old new top fuel e r p = subst (λ (t : Tree). Pays t old new top fu
 pub paid-at : (A : Tree) (old new : List ℕ) (top fuel : ℕ) (r : Built) (root left : ℕ) → r ≡ At root left → Pays A old new top fuel r → Paid A old new top fuel root left
 paid-at A old new top fuel r root left e p = subst (Pays A old new top fuel) e p
 
-pub unpaid-at : (A : Tree) (old new : List ℕ) (top fuel : ℕ) (r : Built) → r ≡ Stopped → Pays A old new top fuel r → Unpaid A old new top fuel
+pub unpaid-at : (A : Tree) (old new : List ℕ) (top fuel : ℕ) (r : Built) → r ≡ None → Pays A old new top fuel r → Unpaid A old new top fuel
 unpaid-at A old new top fuel r e p = subst (Pays A old new top fuel) e p
 
 pub pays-packed : (A : Tree) (old new : List ℕ) (top fuel p root left : ℕ) → Room old top (nodeWords * fuel) → p ≡ packed root left → Paid A old new top fuel root left → Pays A old new top fuel (builtOf p)
@@ -183,8 +183,8 @@ module _ (old : List ℕ) (top fuel node w left : ℕ) (some-fuel : fuel ≡ 0 �
           wrap-below = waits .wrap-below;
         }
 
-    pub copied-tail-costly : (one : List ℕ) → Unpaid (treeAt old tail w) old one top left → Pays (treeAt old node w) old one top fuel Stopped
-    copied-tail-costly one b = pays-is _ _ old one top fuel pair-is Stopped (unpaid-tail (treeAt old head w) (treeAt old tail w) old one top fuel left some-fuel left-is b)
+    pub copied-tail-costly : (one : List ℕ) → Unpaid (treeAt old tail w) old one top left → Pays (treeAt old node w) old one top fuel None
+    copied-tail-costly one b = pays-is _ _ old one top fuel pair-is None (unpaid-tail (treeAt old head w) (treeAt old tail w) old one top fuel left some-fuel left-is b)
 
     module _ (one : List ℕ) (t f : ℕ) (b : Paid (treeAt old tail w) old one top left t f) (long : length one ≡ length old) where
       head-same : treeAt one head w ≡ treeAt old head w
@@ -198,10 +198,10 @@ module _ (old : List ℕ) (top fuel node w left : ℕ) (some-fuel : fuel ≡ 0 �
             wrap-below = omega (arith, waits .wrap-below, b .above);
           }
 
-      pub copied-head-costly : (two : List ℕ) → Unpaid (treeAt one head w) one two t f → Pays (treeAt old node w) old two top fuel Stopped
+      pub copied-head-costly : (two : List ℕ) → Unpaid (treeAt one head w) one two t f → Pays (treeAt old node w) old two top fuel None
       copied-head-costly two a =
-          pays-is _ _ old two top fuel pair-is Stopped
-          (unpaid-head (treeAt old head w) (treeAt old tail w) old one top fuel left some-fuel left-is t f b two (pays-is _ _ one two t f head-same Stopped a))
+          pays-is _ _ old two top fuel pair-is None
+          (unpaid-head (treeAt old head w) (treeAt old tail w) old one top fuel left some-fuel left-is t f b two (pays-is _ _ one two t f head-same None a))
 
       module _ (two : List ℕ) (h g : ℕ) (a : Paid (treeAt one head w) one two t f h g) where
         head-paid : Paid (treeAt old head w) one two t f h g

@@ -1,7 +1,7 @@
 -- Laws of the copies of an element: built the last first along the lists that drive them, then put before the rest of their list.
 use mathlib.Core.Path.{_≡_, refl, sym, ap, ap₂, subst, _∙_}
 use mathlib.Core.Bool.{true}
-use mathlib.Core.List.{List, []}
+use mathlib.Core.List.{List}
 use mathlib.Core.Option.{some}
 use Prim.Native.Nat.{ℕ, zero, suc, _+_, _*_, _-_, _≤_, _<_}
 use native.Mathlib.Omega.{arith}
@@ -18,14 +18,15 @@ use Rattle.arena.specs.NodeLaws.{treeAt-wrap}
 use Rattle.arena.specs.Cells.{Room, Grown}
 use Rattle.arena.specs.CellLaws.{tree-kept}
 use Rattle.words.specs.Lists.{within}
-use Rattle.words.specs.Packed.{packed}
+use Rattle.words.specs.Packed.{packed, builtOf}
 use Rattle.arena.specs.Lists.{Means}
 use Rattle.rule_cells.specs.CellLaws.{patternAt-variable, templateAt-variable}
 use Rattle.environments.specs.Environment.{takes, entering, enter, resultBy}
 use Rattle.environments.specs.Entries.{field, entryAt, patternIn, takingOf, environmentAt, level, takenIn, Listed, Under, Low, Ahead, Along, AlongAll, Enters}
 use Rattle.environments.specs.EntryLaws.{entry-low}
 use Rattle.environments.specs.AgreeLaws.{flat-leaf, copies-flat, below-at}
-use Rattle.steps.specs.Built.{Built, At, Stopped, builtOf}
+use Rattle.words.specs.declared.packed.Built.{Built}
+use Rattle.words.specs.declared.packed.Built.the-variants.{At, None}
 use Rattle.steps.specs.Build.{nodeWords, Paid, Unpaid, Waiting, resultAt, agreesAt, copyAt, copyAgrees, Buildable, Gives, Stops, added, Turned, elementsAt, ElementsUnpaid, ElementsBackwards, copyAt, CopiesAgreed, CopiesStop, Backwards, Reversed, Copied}
 use Rattle.steps.specs.BuildLaws.{room-left, built-at, pays-is}
 use Rattle.steps.specs.ResultLaws.{copy-kept, copy-agrees-kept, buildable-left}
@@ -463,4 +464,4 @@ module _ (old : List ℕ) (top fuel : ℕ) (env : List ℕ) (w e c : ℕ) (ok : 
     },
     listed-agrees,
   )
-  listed-backwards new Stopped t = record { over = λ a. omega (arith, t .over, added-cong _ _ c listed-copy); kept = t .kept }
+  listed-backwards new None t = record { over = λ a. omega (arith, t .over, added-cong _ _ c listed-copy); kept = t .kept }

@@ -16,7 +16,8 @@ use Rattle.environments.specs.Environment.{agreeBy, resultBy}
 use Rattle.environments.specs.Lengths.{driving, Copies, Differs}
 use Rattle.environments.specs.AgreeLaws.{ellipsis-is, below-cong}
 use Rattle.environments.specs.EnvironmentLaws.{copies-cong}
-use Rattle.steps.specs.Built.{Built, At, Stopped}
+use Rattle.words.specs.declared.packed.Built.{Built}
+use Rattle.words.specs.declared.packed.Built.the-variants.{At, None}
 use Rattle.steps.specs.Build.{resultAt, agreesAt, copyAt, copyAgrees, Buildable, Gives, Stops, Made, added, Copied}
 use Rattle.steps.specs.ResultLaws.{both, plain-ellipsis, copy-kept, copy-agrees-kept, buildable-left}
 use Rattle.steps.specs.CopyLaws.{produce-copies, size-all-copies, added-cong}
@@ -29,7 +30,7 @@ module _ (old : List ℕ) (top fuel : ℕ) (env : List ℕ) (w t tag : ℕ) (tag
   parts-plain : Plain (templateAt old head) × Plain (templateAt old rest)
   parts-plain = plain-ellipsis _ _ (subst Plain template-is (ok .plain))
 
-  pub ellipsis-differs : Differs old env head → Made old old top fuel env w t Stopped
+  pub ellipsis-differs : Differs old env head → Made old old top fuel env w t None
   unfolding agreesAt agreeBy driving
   ellipsis-differs d =
       let no : agreesAt old env w t ≡ false = rw (template-is, ← d .differ w) refl in
@@ -56,7 +57,7 @@ module _ (old : List ℕ) (top fuel : ℕ) (env : List ℕ) (w t tag : ℕ) (tag
     rest-agrees : agreesAt old env w t ≡ true → (allBelow (copyAgrees old env w head) c ≡ true) × (agreesAt old env w rest ≡ true)
     rest-agrees a = both (allBelow (copyAgrees old env w head) c) _ (sym agrees-ellipsis ∙ a)
 
-    pub ellipsis-rest-costly : (one : List ℕ) → Stops old one top fuel env w rest → Made old one top fuel env w t Stopped
+    pub ellipsis-rest-costly : (one : List ℕ) → Stops old one top fuel env w rest → Made old one top fuel env w t None
     ellipsis-rest-costly one s = record { over = λ a. omega (arith, s .over (rest-agrees a .1), size-ellipsis); kept = s .kept }
 
     module _ (one : List ℕ) (s f : ℕ) (g : Gives old one top fuel env w rest s f) (long : length one ≡ length old) where
@@ -72,7 +73,7 @@ module _ (old : List ℕ) (top fuel : ℕ) (env : List ℕ) (w t tag : ℕ) (tag
       agreed-kept : allBelow (copyAgrees one env w head) c ≡ allBelow (copyAgrees old env w head) c
       agreed-kept = below-cong _ _ c (λ i. copy-agrees-kept old one top (g .paid .kept) env w head i (ok .wrap-below) (head-buildable .template-below) (ok .under))
 
-      ellipsis-costly : (new : List ℕ) → Copied one new s f env w head c Stopped → Made old new top fuel env w t Stopped
+      ellipsis-costly : (new : List ℕ) → Copied one new s f env w head c None → Made old new top fuel env w t None
       ellipsis-costly new a =
           record {
             over = λ h. omega (arith, a .over (agreed-kept ∙ rest-agrees h .0), added-cong _ _ c at-kept, g .paid .spent, size-ellipsis);
@@ -98,4 +99,4 @@ module _ (old : List ℕ) (top fuel : ℕ) (env : List ℕ) (w t tag : ℕ) (tag
 
       pub made-copies : (new : List ℕ) (r : Built) → Copied one new s f env w head c r → Made old new top fuel env w t r
       made-copies new (At r l) a = made-ellipsis new r l a
-      made-copies new Stopped a = ellipsis-costly new a
+      made-copies new None a = ellipsis-costly new a

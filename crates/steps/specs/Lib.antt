@@ -1,7 +1,6 @@
 -- A macro step on cells: what its functions mean, and laws.
 pub mod Fits
 pub mod FitLaws
-pub mod Built
 pub mod Build
 pub mod BuildLaws
 pub mod ResultLaws

@@ -1,7 +1,7 @@
 -- Laws of building what a template gives in an environment, one for each way through the code.
 use mathlib.Core.Path.{_≡_, refl, sym, ap, subst, fun-ext, _∙_}
 use mathlib.Core.Bool.{Bool, true, false, _&&_, false≢true}
-use mathlib.Core.List.{List, []}
+use mathlib.Core.List.{List}
 use Prim.Native.Nat.{ℕ, _+_, _*_, _-_, _≤_}
 use native.Mathlib.Omega.{arith}
 use lib.ListN.{length, take}
@@ -12,7 +12,7 @@ use Rattle.arena.specs.Arena.{wordAt, referenceAt, nameAt, treeAt}
 use Rattle.arena.specs.ArenaLaws.{take-less, referenceAt-most}
 use Rattle.arena.specs.Cells.{Room, Grown}
 use Rattle.arena.specs.CellLaws.{tree-kept}
-use Rattle.words.specs.Packed.{packed}
+use Rattle.words.specs.Packed.{packed, builtOf}
 use Rattle.rule_cells.specs.Cells.{constantBefore, templateAt}
 use Rattle.rule_cells.specs.CellLaws.{patternAt-below, templateAt-below, templateAt-variable, templateAt-insert, templateAt-constant, templateAt-empty}
 use Rattle.environments.specs.declared.environment.Entry.{Entry}
@@ -22,7 +22,8 @@ use Rattle.environments.specs.Entries.{field, entryAt, takenIn, patternIn, taki
 use Rattle.environments.specs.EntryLaws.{entry-low}
 use Rattle.environments.specs.LengthLaws.{taken-is}
 use Rattle.environments.specs.AgreeLaws.{flat-leaf, pair-is}
-use Rattle.steps.specs.Built.{Built, At, Stopped, builtOf}
+use Rattle.words.specs.declared.packed.Built.{Built}
+use Rattle.words.specs.declared.packed.Built.the-variants.{At, None}
 use Rattle.steps.specs.Build.{nodeWords, Fresh, Paid, Pays, Waiting, resultAt, agreesAt, copyAt, copyAgrees, Buildable, Gives, Stops, Made}
 use Rattle.steps.specs.BuildLaws.{fresh-empty, fresh-constant, room-left, built-at, pays-is, unpaid-none, paid-one, pair-most, paid-pair}
 
@@ -72,7 +73,7 @@ module _ (old new : List ℕ) (top : ℕ) (kept : take top new ≡ take top old)
 pub gives-at : (old new : List ℕ) (top fuel : ℕ) (env : List ℕ) (w t : ℕ) (r : Built) (root left : ℕ) → r ≡ At root left → Made old new top fuel env w t r → Gives old new top fuel env w t root left
 gives-at old new top fuel env w t r root left e m = subst (Made old new top fuel env w t) e m
 
-pub stops-at : (old new : List ℕ) (top fuel : ℕ) (env : List ℕ) (w t : ℕ) (r : Built) → r ≡ Stopped → Made old new top fuel env w t r → Stops old new top fuel env w t
+pub stops-at : (old new : List ℕ) (top fuel : ℕ) (env : List ℕ) (w t : ℕ) (r : Built) → r ≡ None → Made old new top fuel env w t r → Stops old new top fuel env w t
 stops-at old new top fuel env w t r e m = subst (Made old new top fuel env w t) e m
 
 pub made-packed : (old new : List ℕ) (top fuel : ℕ) (env : List ℕ) (w t p root left : ℕ) → Buildable old top fuel env w t → p ≡ packed root left → Gives old new top fuel env w t root left → Made old new top fuel env w t (builtOf p)
@@ -111,7 +112,7 @@ module _ (old : List ℕ) (top fuel : ℕ) (env : List ℕ) (w t tag : ℕ) (tag
   made-of : (A : Tree) → (A ≡ Of t) → (tag ≡ 6 → ⊥) → (tag ≡ 7 → ⊥) → (new : List ℕ) (r : Built) → Pays A old new top fuel r → Made old new top fuel env w t r
   unfolding agreesAt
   made-of A e n6 n7 new (At root left) p = record { paid = pays-is A (Of t) old new top fuel e (At root left) p; agrees = sym (flat-leaf old t tag tag-is n6 n7 _) }
-  made-of A e n6 n7 new Stopped p = record { over = λ a. pays-is A (Of t) old new top fuel e Stopped p .over; kept = p .kept }
+  made-of A e n6 n7 new None p = record { over = λ a. pays-is A (Of t) old new top fuel e None p .over; kept = p .kept }
 
   module _ (k d node : ℕ) (e : tag ≡ 1) (k-is : k ≡ wordAt old t 3) (d-is : d ≡ wordAt old t 2) (node-is : node ≡ takenIn env k d) where
     variable-is : treeAt old node w ≡ Of t
@@ -125,7 +126,7 @@ module _ (old : List ℕ) (top fuel : ℕ) (env : List ℕ) (w t tag : ℕ) (tag
     pub made-variable : (new : List ℕ) (r : Built) → Pays (treeAt old node w) old new top fuel r → Made old new top fuel env w t r
     made-variable new r p = made-of (treeAt old node w) variable-is (λ z. omega arith) (λ z. omega arith) new r p
 
-  pub made-none : fuel ≡ 0 → Made old old top fuel env w t Stopped
+  pub made-none : fuel ≡ 0 → Made old old top fuel env w t None
   made-none e = record { over = λ a. unpaid-none (Of t) old top fuel e .over; kept = refl }
 
   module _ (left : ℕ) (some-fuel : fuel ≡ 0 → ⊥) (left-is : left ≡ fuel - 1) where
@@ -194,7 +195,7 @@ module _ (old : List ℕ) (top fuel : ℕ) (env : List ℕ) (w t tag : ℕ) (tag
       pub pair-tail : Buildable old top left env w rest
       pair-tail = buildable-left old old top fuel top left env w rest (part-buildable rest rest-low (parts-plain .1)) refl refl (omega arith) (omega arith)
 
-      pub pair-tail-costly : (one : List ℕ) → Stops old one top left env w rest → Made old one top fuel env w t Stopped
+      pub pair-tail-costly : (one : List ℕ) → Stops old one top left env w rest → Made old one top fuel env w t None
       pair-tail-costly one b = record { over = λ a. omega (arith, b .over (parts-agree a .1), size-pair); kept = b .kept }
 
       module _ (one : List ℕ) (s f : ℕ) (b : Gives old one top left env w rest s f) (long : length one ≡ length old) where
@@ -210,7 +211,7 @@ module _ (old : List ℕ) (top fuel : ℕ) (env : List ℕ) (w t tag : ℕ) (tag
         agrees-head : agreesAt one env w head ≡ agreesAt old env w head
         agrees-head = agrees-kept old one top (b .paid .kept) env w head (ok .wrap-below) head-below (ok .under)
 
-        pub pair-head-costly : (two : List ℕ) → Stops one two s f env w head → Made old two top fuel env w t Stopped
+        pub pair-head-costly : (two : List ℕ) → Stops one two s f env w head → Made old two top fuel env w t None
         pair-head-costly two a =
             record {
               over = λ g. omega (arith, a .over (agrees-head ∙ parts-agree g .0), ap size of-head, b .paid .spent, size-pair);

@@ -8,6 +8,7 @@ use environments::agree;
 use environments::bind;
 use environments::environment;
 use words::packed;
+use words::packed::Built;
 
 // Grounds 16, 17 and 18, or the result's root and its items.
 pub enum Applied {
@@ -30,14 +31,13 @@ fn transcribe(
     requires { ⌜ Transcribing (now work) top (now env) w t limit ⌝ }
     ensures { λ r. ⌜ Transcribed (now (work .entry)) (now (work .exit)) top (now (env .entry)) w t limit r ⌝ }
 {
-    let b = build::build(work, top, limit, env, w, t);
-    if b == packed::NONE {
+    let Built::At(root, left) = packed::parts(build::build(work, top, limit, env, w, t)) else {
         if agree::lengths_agree(work, env, t) {
             return Applied::Costly;
         }
         return Applied::Differ;
-    }
-    Applied::Done(packed::high(b), limit - packed::low(b))
+    };
+    Applied::Done(root, limit - left)
 }
 
 // The rules at a use, which waits under w with the step's mark; `limit` is the fuel left.

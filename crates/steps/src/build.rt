@@ -7,7 +7,7 @@
 
 ghost use mathlib.Core.Path.{_≡_};
 ghost use Rattle.arena.specs.Arena.{wordAt};
-ghost use Rattle.steps.specs.Built.{builtOf};
+ghost use Rattle.words.specs.Packed.{builtOf};
 ghost use Rattle.steps.specs.Build.{Buildable, Made, Backwards, Copied};
 use crate::copy;
 use arena::cells;
@@ -15,6 +15,7 @@ use environments::environment;
 use environments::lengths;
 use environments::lengths::Count;
 use words::packed;
+use words::packed::Built;
 
 // What a template's cell without parts gives.
 fn build_leaf(
@@ -99,17 +100,13 @@ pub fn build(
     }
     let first = cells::reference(work, t, rule_cells::cells::HEAD);
     let rest = cells::reference(work, t, rule_cells::cells::REST);
-    let b = build_part(work, top, fuel - 1, env, w, rest);
-    if b == packed::NONE {
+    let Built::At(tail, left) = packed::parts(build_part(work, top, fuel - 1, env, w, rest)) else {
         return packed::NONE;
-    }
-    let tail = packed::high(b);
-    let a = build_part(work, tail, packed::low(b), env, w, first);
-    if a == packed::NONE {
+    };
+    let Built::At(head, spare) = packed::parts(build_part(work, tail, left, env, w, first)) else {
         return packed::NONE;
-    }
-    let head = packed::high(a);
-    packed::pair(cells::put_pair(work, head, head, tail), packed::low(a))
+    };
+    packed::pair(cells::put_pair(work, head, head, tail), spare)
 }
 
 // What an element followed by `...` gives, before the rest of its list.
@@ -129,11 +126,10 @@ fn build_ellipsis(
     let Count::Of(c) = lengths::copies(work, env, first) else {
         return packed::NONE;
     };
-    let b = build_part(work, top, fuel, env, w, rest);
-    if b == packed::NONE {
+    let Built::At(tail, left) = packed::parts(build_part(work, top, fuel, env, w, rest)) else {
         return packed::NONE;
-    }
-    build_copies(work, packed::high(b), packed::low(b), env, w, first, c)
+    };
+    build_copies(work, tail, left, env, w, first, c)
 }
 
 // The copies of an element, the last first.
@@ -159,13 +155,12 @@ fn build_backwards(
             return packed::NONE;
         }
         environment::enter(work, &mut table, moving);
-        let b = build_part(work, list, left - 1, &table, w, e);
-        if b == packed::NONE {
+        let word = build_part(work, list, left - 1, &table, w, e);
+        let Built::At(head, spare) = packed::parts(word) else {
             return packed::NONE;
-        }
-        let head = packed::high(b);
+        };
         list = cells::put_pair(work, head, head, list);
-        left = packed::low(b);
+        left = spare;
         k += 1;
     }
     packed::pair(list, left)
@@ -205,10 +200,8 @@ fn build_copies(
     requires { ⌜ Buildable (now work) top fuel (now env) w e ⌝ }
     ensures { λ r. ⌜ Copied (now (work .entry)) (now (work .exit)) top fuel (now (env .entry)) w e c (builtOf r) ⌝ }
 {
-    let b = build_elements(work, top, fuel, env, w, e, c);
-    if b == packed::NONE {
+    let Built::At(list, left) = packed::parts(build_elements(work, top, fuel, env, w, e, c)) else {
         return packed::NONE;
-    }
-    let list = packed::high(b);
-    packed::pair(copy::put_reversed(work, list, list, top, c), packed::low(b))
+    };
+    packed::pair(copy::put_reversed(work, list, list, top, c), left)
 }

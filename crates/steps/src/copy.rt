@@ -6,12 +6,13 @@ ghost use Prim.Native.Nat.{_*_, _≤_};
 ghost use Rattle.recipe.specs.Tree.{name};
 ghost use Rattle.arena.specs.Arena.{wordAt, nameAt, treeAt};
 ghost use Rattle.arena.specs.Cells.{Room};
-ghost use Rattle.steps.specs.Built.{builtOf};
+ghost use Rattle.words.specs.Packed.{builtOf};
 ghost use Rattle.steps.specs.Build.{Fresh, Waiting, Pays, ElementsBackwards, Reversed};
 use arena::cells;
 use arena::lists;
 use arena::origins;
 use words::packed;
+use words::packed::Built;
 
 // A fresh name from a name's node and a wrap that waits on it.
 pub fn copy_name(work: &mut [u32], top: u32, node: u32, w: u32) -> u32
@@ -72,17 +73,13 @@ pub fn copy_tree(work: &mut [u32], top: u32, fuel: u32, node: u32, w: u32) -> u6
     }
     let first = cells::reference(work, node, cells::HEAD);
     let rest = cells::reference(work, node, cells::TAIL);
-    let b = copy_part(work, top, fuel - 1, rest, w);
-    if b == packed::NONE {
+    let Built::At(tail, left) = packed::parts(copy_part(work, top, fuel - 1, rest, w)) else {
         return packed::NONE;
-    }
-    let tail = packed::high(b);
-    let a = copy_part(work, tail, packed::low(b), first, w);
-    if a == packed::NONE {
+    };
+    let Built::At(head, spare) = packed::parts(copy_part(work, tail, left, first, w)) else {
         return packed::NONE;
-    }
-    let head = packed::high(a);
-    packed::pair(cells::put_pair(work, head, head, tail), packed::low(a))
+    };
+    packed::pair(cells::put_pair(work, head, head, tail), spare)
 }
 
 // The first c elements of a list, copied, the last first.
@@ -99,14 +96,12 @@ pub fn copy_elements(work: &mut [u32], top: u32, fuel: u32, list: u32, w: u32, c
             return packed::NONE;
         }
         let first = lists::first(work, node);
-        let b = copy_part(work, at, left - 1, first, w);
-        if b == packed::NONE {
+        let Built::At(head, spare) = packed::parts(copy_part(work, at, left - 1, first, w)) else {
             return packed::NONE;
-        }
+        };
         node = lists::rest(work, node);
-        let head = packed::high(b);
         at = cells::put_pair(work, head, head, at);
-        left = packed::low(b);
+        left = spare;
         k += 1;
     }
     packed::pair(at, left)

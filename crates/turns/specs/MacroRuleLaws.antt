@@ -21,8 +21,8 @@ use Rattle.rule_cells.specs.Cells.{rulesAt}
 use Rattle.rule_cells.specs.ParseLaws.{tree-is, size-is, head-below, rest-below}
 use Rattle.arena.specs.ListLaws.{no-elements}
 use Rattle.rule_cells.specs.RuleParse.{RulesMade, RulesLeft}
-use Rattle.rule_cells.specs.Built.{Built}
-use Rattle.rule_cells.specs.Built as built
+use Rattle.words.specs.declared.packed.Built.{Built}
+use Rattle.words.specs.declared.packed.Built.the-variants.{At, None}
 use Rattle.arena.specs.Lists.{Means}
 use Rattle.turns.specs.declared.macros.Read.{Read}
 use Rattle.turns.specs.declared.macros.Read.the-variants.{Good, Bad}
@@ -37,12 +37,12 @@ module _ (work macros : List ℕ) (form w count top : ℕ) (ask : OneAsk work ma
   tree = treeAt work form w
 
   module _ (work′ : List ℕ) (b : Built) (left : RulesLeft (rulesOf tree) (size tree) work work′ top b) where
-    pub one-bad : (macros′ : List ℕ) → b ≡ built.Bad → OneLeft tree work work′ macros macros′ count top Bad
+    pub one-bad : (macros′ : List ℕ) → b ≡ None → OneLeft tree work work′ macros macros′ count top Bad
     one-bad macros′ e =
-        let l : RulesLeft (rulesOf tree) (size tree) work work′ top built.Bad = subst (λ (z : Built). RulesLeft (rulesOf tree) (size tree) work work′ top z) e left in
+        let l : RulesLeft (rulesOf tree) (size tree) work work′ top None = subst (λ (z : Built). RulesLeft (rulesOf tree) (size tree) work work′ top z) e left in
         l .0
 
-    pub one-good : (at upper : ℕ) → b ≡ built.Good at upper → OneLeft tree work work′ macros (set macros count at) count top (Good upper)
+    pub one-good : (at upper : ℕ) → b ≡ At at upper → OneLeft tree work work′ macros (set macros count at) count top (Good upper)
     unfolding macrosAt
     one-good at upper e =
         let m : RulesMade (rulesOf tree) (size tree) work work′ top at upper = subst (λ (z : Built). RulesLeft (rulesOf tree) (size tree) work work′ top z) e left in

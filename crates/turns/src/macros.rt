@@ -16,6 +16,7 @@ use forms::binders;
 use forms::shapes;
 use rule_cells::rules;
 use words::packed;
+use words::packed::Built;
 
 // The new top, or rules that break their rules.
 pub enum Read {
@@ -35,12 +36,11 @@ pub fn one_macro(
     requires { ⌜ OneAsk (now work) (now macros) form w count top ⌝ }
     ensures { λ r. ⌜ OneLeft (treeAt (now (work .entry)) form w) (now (work .entry)) (now (work .exit)) (now (macros .entry)) (now (macros .exit)) count top r ⌝ }
 {
-    let built = rules::rules(work, form, w, top);
-    if built == packed::NONE {
+    let Built::At(at, upper) = packed::parts(rules::rules(work, form, w, top)) else {
         return Read::Bad;
-    }
-    macros[count as usize] = packed::high(built);
-    Read::Good(packed::low(built))
+    };
+    macros[count as usize] = at;
+    Read::Good(upper)
 }
 
 // The rules of each (name rules) of a list, as macros from `count` on.

@@ -5,6 +5,8 @@ use Prim.Native.Nat.{ℕ, _+_, _*_, _/_, _%_, _<_}
 use native.Mathlib.Omega.{arith}
 use lib.Dec.{eqb}
 use borrow.Author.Tests.{ne-eqb}
+use Rattle.words.specs.declared.packed.Built.{Built}
+use Rattle.words.specs.declared.packed.Built.the-variants.{At, None}
 
 abbrev pub packed : ℕ → ℕ → ℕ
 packed high low = 4294967296 * high + low
@@ -13,36 +15,23 @@ packed high low = 4294967296 * high + low
 abbrev pub noPair : ℕ
 noPair = 18446744073709551615
 
-unfoldable pub byPair : {A : Type 0} → ℕ → A → (ℕ → ℕ → A) → A
-byPair p forNone forPair = cond (eqb p noPair) forNone (forPair (p / 4294967296) (p % 4294967296))
+-- what a word holds
+unfoldable pub builtOf : ℕ → Built
+builtOf p = cond (eqb p noPair) None (At (p / 4294967296) (p % 4294967296))
 
-module _ {A : Type 0} (n : A) (f : ℕ → ℕ → A) where
-  pub pair-none : (p : ℕ) → p ≡ noPair → byPair p n f ≡ n
-  unfolding byPair
-  pair-none p e = rw e refl
+pub built-none : (p : ℕ) → p ≡ noPair → builtOf p ≡ None
+unfolding builtOf
+built-none p e = rw e refl
 
-  pub pair-some : (p high low : ℕ) → (p ≡ noPair → ⊥) → high ≡ p / 4294967296 → low ≡ p % 4294967296 → byPair p n f ≡ f high low
-  unfolding byPair
-  pair-some p high low h e g = rw (ne-eqb p noPair h, e, g)
+pub built-some : (p : ℕ) → (p ≡ noPair → ⊥) → builtOf p ≡ At (p / 4294967296) (p % 4294967296)
+unfolding builtOf
+built-some p h = rw (ne-eqb p noPair h) refl
 
-  pub pair-packed : (p high low : ℕ) → p ≡ packed high low → low < 4294967295 → byPair p n f ≡ f high low
-  pair-packed p high low e h =
-      let some : p ≡ noPair → ⊥ = λ z. omega arith in
-      let up : high ≡ p / 4294967296 = omega arith in
-      let down : low ≡ p % 4294967296 = omega arith in
-      pair-some p high low some up down
-
--- what holds of an answer holds of what its word stands for
-module _ {A : Type 0} (P : A → Type 0) (n : A) (f : ℕ → ℕ → A) where
-  pub none-holds : (p : ℕ) → p ≡ noPair → P n → P (byPair p n f)
-  none-holds p e x = subst P (sym (pair-none n f p e)) x
-
-  pub pair-holds : (p high low : ℕ) → p ≡ packed high low → low < 4294967295 → P (f high low) → P (byPair p n f)
-  pair-holds p high low e h x = subst P (sym (pair-packed n f p high low e h)) x
-
-  -- and back
-  pub holds-none : (p : ℕ) → p ≡ noPair → P (byPair p n f) → P n
-  holds-none p e x = subst P (pair-none n f p e) x
-
-  pub holds-pair : (p high low : ℕ) → (p ≡ noPair → ⊥) → high ≡ p / 4294967296 → low ≡ p % 4294967296 → P (byPair p n f) → P (f high low)
-  holds-pair p high low h e g x = subst P (pair-some n f p high low h e g) x
+-- what holds of two words holds of what their word holds
+pub built-holds : (P : Built → Type 0) (p high low : ℕ) → p ≡ packed high low → low < 4294967295 → P (At high low) → P (builtOf p)
+built-holds P p high low e h x =
+    let some : p ≡ noPair → ⊥ = λ z. omega arith in
+    let up : high ≡ p / 4294967296 = omega arith in
+    let down : low ≡ p % 4294967296 = omega arith in
+    let is : At high low ≡ builtOf p = rw (up, down) (sym (built-some p some)) in
+    subst P is x

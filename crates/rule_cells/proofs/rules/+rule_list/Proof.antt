@@ -9,14 +9,14 @@ use Rattle.rule_cells.proofs.rules.+rule_list.Lts-rule_list as rule-lis
 use Rattle.arena.proofs.cells.reference.Reads as reference-reads
 use Rattle.arena.proofs.cells.word.Reads as word-reads
 use Rattle.rule_cells.proofs.rules.rule.Reads as rule-reads
-use Rattle.words.proofs.packed.high.Reads as high-reads
-use Rattle.words.proofs.packed.low.Reads as low-reads
 use Rattle.words.proofs.packed.pair.Reads as pair-reads
+use Rattle.words.proofs.packed.parts.Reads as parts-reads
 use Rattle.rule_cells.proofs.rules.+rule_list.{statement}
 use Rattle.rule_cells.proofs.rules.+rule_list.Tie.{close}
-use Rattle.rule_cells.specs.Built.{builtOf, built-bad, built-good}
-use Rattle.rule_cells.specs.ParseLaws.{packs, asks-tail, rest-below}
-use Rattle.rule_cells.specs.RuleListLaws.{rules-packed, left-end, left-later, made-later, asks-first, literals-still, left-both}
+use Rattle.words.specs.Packed.{builtOf}
+use Rattle.rule_cells.specs.ParseLaws.{packs-at, packs, asks-tail, rest-below}
+use Rattle.rule_cells.specs.RuleParse.{RulesLeft}
+use Rattle.rule_cells.specs.RuleListLaws.{left-end, left-later, made-later, asks-first, literals-still, left-both}
 use mathlib.Core.Path.{sym, _∙_}
 use native.Mathlib.Omega.{arith}
 
@@ -32,14 +32,14 @@ rule-list-below t =
     and 1 rule-list-kinds.ps (falls 1 rule-list-kinds.ps _<_ μ-rule-list t) rule-list.Pre
 
 abbrev rule-list-claims : ℕ → rule-list-lts.Claims
-rule-list-claims t = (word-reads.Asked, word-reads.Learnt, pair-reads.Asked, pair-reads.Learnt, reference-reads.Asked, reference-reads.Learnt, rule-list-below t, rule-list.Post, high-reads.Asked, high-reads.Learnt, low-reads.Asked, low-reads.Learnt, rule-reads.Asked, rule-reads.Learnt)
+rule-list-claims t = (word-reads.Asked, word-reads.Learnt, pair-reads.Asked, pair-reads.Learnt, reference-reads.Asked, reference-reads.Learnt, rule-list-below t, rule-list.Post, parts-reads.Asked, parts-reads.Learnt, rule-reads.Asked, rule-reads.Learnt)
 
 rule-list-returns : (t : ℕ) → rule-list-lts.Need-returns (rule-list-claims t) (rule-list-at t) rule-list.Post
 rule-list-returns t c =
     let a = c .before .before .before .before .before .args in
     let p = c .before .before .before .before .before .pre in
-    rules-packed _ _ _ _ _ _ _ _ (packs (a .work .now) (a .node) (a .w) (a .top) (p .1 .0)) (c .pair .ensures)
-    (left-end (a .work .now) (a .literals) (a .node) (a .w) (a .top) (p .1 .0) (p .1 .1) (λ z. c .before .if1 .taken (c .before .before .word .ensures ∙ z)))
+    let left = left-end (a .work .now) (a .literals) (a .node) (a .w) (a .top) (p .1 .0) (p .1 .1) (λ z. c .before .if1 .taken (c .before .before .word .ensures ∙ z)) in
+    packs-at (RulesLeft _ _ _ _ _) _ _ _ _ (packs (a .work .now) (a .node) (a .w) (a .top) (p .1 .0)) (c .pair .ensures) (left .words) left
 
 rule-list-rule-list-requires : (t : ℕ) → rule-list-lts.Need-rule-list-requires (rule-list-claims t) (rule-list-at t) rule-list.Post
 rule-list-rule-list-requires t c κs =
@@ -54,37 +54,37 @@ rule-list-rule-list-requires t c κs =
 rule-list-returns-2 : (t : ℕ) → rule-list-lts.Need-returns-2 (rule-list-claims t) (rule-list-at t) rule-list.Post
 unfolding builtOf
 rule-list-returns-2 t c =
-    let a = c .before .before .before .before .before .before .before .before .before .before .before .before .before .args in
-    let p = c .before .before .before .before .before .before .before .before .before .before .before .before .before .pre in
+    let a = c .before .before .before .before .before .before .before .before .before .before .before .before .before .before .before .args in
+    let p = c .before .before .before .before .before .before .before .before .before .before .before .before .before .before .before .pre in
     let asks = p .1 .0 in
-    let is-pair = sym (c .before .before .before .before .before .before .before .before .before .before .word .ensures) ∙ c .before .before .before .before .before .before .before .before .before .if1 .left in
-    let head-is = c .before .before .before .before .before .before .before .reference .ensures in
-    let rest-is = c .before .before .before .before .before .reference2 .ensures in
-    let l = c .before .before .before .rule-list in
-    left-later (a .work .now) (a .literals) (a .node) (a .w) (a .top) asks (p .1 .1) _ _ is-pair head-is rest-is (l .last .0) (builtOf (l .result)) (built-bad (l .result) (c .if2 .taken)) (l .ensures)
+    let is-pair = sym (c .before .before .before .before .before .before .before .before .before .before .before .before .word .ensures) ∙ c .before .before .before .before .before .before .before .before .before .before .before .if1 .left in
+    let head-is = c .before .before .before .before .before .before .before .before .before .reference .ensures in
+    let rest-is = c .before .before .before .before .before .before .before .reference2 .ensures in
+    let l = c .before .before .before .before .before .rule-list in
+    left-later (a .work .now) (a .literals) (a .node) (a .w) (a .top) asks (p .1 .1) _ _ is-pair head-is rest-is (l .last .0) (builtOf (l .result)) (sym (c .before .before .parts .ensures) ∙ c .enum-told .given .1) (l .ensures)
 
 rule-list-rule-requires : (t : ℕ) → rule-list-lts.Need-rule-requires (rule-list-claims t) (rule-list-at t) rule-list.Post
 rule-list-rule-requires t c κs =
-    let a = c .before .before .before .before .before .before .before .before .before .before .before .before .before .before .before .before .args in
-    let p = c .before .before .before .before .before .before .before .before .before .before .before .before .before .before .before .before .pre in
+    let a = c .before .before .before .before .before .before .before .before .before .before .before .before .before .before .before .before .before .args in
+    let p = c .before .before .before .before .before .before .before .before .before .before .before .before .before .before .before .before .before .pre in
     let asks = p .1 .0 in
-    let is-pair = sym (c .before .before .before .before .before .before .before .before .before .before .before .before .before .word .ensures) ∙ c .before .before .before .before .before .before .before .before .before .before .before .before .if1 .left in
-    let head-is = c .before .before .before .before .before .before .before .before .before .before .reference .ensures in
-    let rest-is = c .before .before .before .before .before .before .before .before .reference2 .ensures in
-    let l = c .before .before .before .before .before .before .rule-list in
-    let later = made-later (a .work .now) (a .literals) (a .node) (a .w) (a .top) asks (p .1 .1) _ _ is-pair head-is rest-is (l .last .0) (builtOf (l .result)) _ _ (built-good (l .result) _ _ (c .before .before .before .if2 .left) (c .before .high .ensures) (c .low .ensures)) (l .ensures) in
+    let is-pair = sym (c .before .before .before .before .before .before .before .before .before .before .before .before .before .before .word .ensures) ∙ c .before .before .before .before .before .before .before .before .before .before .before .before .before .if1 .left in
+    let head-is = c .before .before .before .before .before .before .before .before .before .before .before .reference .ensures in
+    let rest-is = c .before .before .before .before .before .before .before .before .before .reference2 .ensures in
+    let l = c .before .before .before .before .before .before .before .rule-list in
+    let later = made-later (a .work .now) (a .literals) (a .node) (a .w) (a .top) asks (p .1 .1) _ _ is-pair head-is rest-is (l .last .0) (builtOf (l .result)) _ _ (sym (c .before .before .before .before .parts .ensures) ∙ c .before .before .next .given .1) (l .ensures) in
     (asks-first (a .work .now) (a .literals) (a .node) (a .w) (a .top) asks (p .1 .1) _ _ is-pair head-is rest-is (l .last .0) _ _ (l .kept .0) later, literals-still (a .work .now) (a .literals) (a .node) (a .w) (a .top) asks (p .1 .1) _ _ is-pair head-is rest-is (l .last .0) _ _ (l .kept .0) later, later .at-most)
 
 rule-list-returns-3 : (t : ℕ) → rule-list-lts.Need-returns-3 (rule-list-claims t) (rule-list-at t) rule-list.Post
 rule-list-returns-3 t c =
-    let a = c .before .before .before .before .before .before .before .before .before .before .before .before .before .before .before .before .before .before .before .args in
-    let p = c .before .before .before .before .before .before .before .before .before .before .before .before .before .before .before .before .before .before .before .pre in
+    let a = c .before .before .before .before .before .before .before .before .before .before .before .before .before .before .before .before .before .before .before .before .args in
+    let p = c .before .before .before .before .before .before .before .before .before .before .before .before .before .before .before .before .before .before .before .before .pre in
     let asks = p .1 .0 in
-    let is-pair = sym (c .before .before .before .before .before .before .before .before .before .before .before .before .before .before .before .before .word .ensures) ∙ c .before .before .before .before .before .before .before .before .before .before .before .before .before .before .before .if1 .left in
-    let head-is = c .before .before .before .before .before .before .before .before .before .before .before .before .before .reference .ensures in
-    let rest-is = c .before .before .before .before .before .before .before .before .before .before .before .reference2 .ensures in
-    let l = c .before .before .before .before .before .before .before .before .before .rule-list in
-    let later = made-later (a .work .now) (a .literals) (a .node) (a .w) (a .top) asks (p .1 .1) _ _ is-pair head-is rest-is (l .last .0) (builtOf (l .result)) _ _ (built-good (l .result) _ _ (c .before .before .before .before .before .before .if2 .left) (c .before .before .before .before .high .ensures) (c .before .before .before .low .ensures)) (l .ensures) in
+    let is-pair = sym (c .before .before .before .before .before .before .before .before .before .before .before .before .before .before .before .before .before .word .ensures) ∙ c .before .before .before .before .before .before .before .before .before .before .before .before .before .before .before .before .if1 .left in
+    let head-is = c .before .before .before .before .before .before .before .before .before .before .before .before .before .before .reference .ensures in
+    let rest-is = c .before .before .before .before .before .before .before .before .before .before .before .before .reference2 .ensures in
+    let l = c .before .before .before .before .before .before .before .before .before .before .rule-list in
+    let later = made-later (a .work .now) (a .literals) (a .node) (a .w) (a .top) asks (p .1 .1) _ _ is-pair head-is rest-is (l .last .0) (builtOf (l .result)) _ _ (sym (c .before .before .before .before .before .before .before .parts .ensures) ∙ c .before .before .before .before .before .next .given .1) (l .ensures) in
     left-both (a .work .now) (a .literals) (a .node) (a .w) (a .top) asks (p .1 .1) _ _ is-pair head-is rest-is (l .last .0) _ _ (l .kept .0) later (c .before .before .rule .last .0) (builtOf (c .before .before .rule .result)) (c .before .before .rule .ensures)
 
 pub +rule-list-spec : {M : Type 1} → statement M
@@ -96,10 +96,11 @@ pub +rule-list-spec : {M : Type 1} → statement M
     (λ c κs. search needs)  -- rule-list-reference-requires
     (λ c κs. search needs)  -- rule-list-reference-requires-2
     (rule-list-rule-list-requires t)
+    (λ c κs. search needs)  -- rule-list-parts-requires
+    (λ c. search needs)  -- rule-list-enum-known-next
+    (λ c. search needs)  -- rule-list-enum-told
     (λ c. search needs)  -- rule-list-same-length-2
     (rule-list-returns-2 t)
-    (λ c κs. search needs)  -- rule-list-high-requires
-    (λ c κs. search needs)  -- rule-list-low-requires
     (rule-list-rule-requires t)
     (λ c. search needs)  -- rule-list-same-length-3
     (rule-list-returns-3 t)

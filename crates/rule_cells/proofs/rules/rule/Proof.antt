@@ -2,7 +2,7 @@
 use borrow.Author.Needs.{needs}
 use Rattle.rule_cells.proofs.rules.rule.Statement.{statement}
 use Rattle.rule_cells.proofs.rules.rule.Tie as tie
-use Rattle.rule_cells.specs.Built.{builtOf}
+use Rattle.words.specs.Packed.{builtOf}
 use Rattle.rule_cells.specs.RuleListLaws.{left-shape, parts-ask, left-parts}
 use mathlib.Core.Path.{sym, _∙_}
 

@@ -2,10 +2,13 @@
 use borrow.Author.Needs.{needs}
 use Rattle.rule_cells.proofs.rules.rule_parts.Statement.{statement}
 use Rattle.rule_cells.proofs.rules.rule_parts.Tie as tie
-use Rattle.rule_cells.specs.Built.{builtOf, built-bad, built-good}
+use Rattle.words.specs.Packed.{builtOf}
 use Rattle.rule_cells.specs.Variables.{keptOf}
 use Rattle.rule_cells.specs.GatherLaws.{kept-bad, kept-count, gathered-stored}
-use Rattle.rule_cells.specs.RuleLaws.{rule-packed, packs-rule, held-none, small-p, asks-p, small-size, left-variables, left-pattern, made-pattern, under-top, asks-q, small-q, left-template, made-template, rule-asks, left-rule}
+use Rattle.rule_cells.specs.ParseLaws.{packs-at}
+use Rattle.rule_cells.specs.RuleParse.{RuleLeft}
+use Rattle.rule_cells.specs.RuleLaws.{packs-rule, held-none, small-p, asks-p, small-size, left-variables, left-pattern, made-pattern, under-top, asks-q, small-q, left-template, made-template, rule-asks, left-rule}
+use mathlib.Core.Path.{sym, _∙_}
 use native.Mathlib.Omega.{arith}
 
 gather-requires : tie.Need-gather-requires
@@ -48,39 +51,39 @@ template-requires c κs =
 returns-3 : tie.Need-returns-3
 unfolding builtOf
 returns-3 c =
-    let a = c .before .before .before .before .before .before .before .before .before .before .before .before .before .before .before .before .before .before .before .args in
-    let ask = c .before .before .before .before .before .before .before .before .before .before .before .before .before .before .before .before .before .before .before .pre in
-    let g = c .before .before .before .before .before .before .before .before .before .before .before .before .before .before .before .gather in
-    let stored = gathered-stored _ _ _ _ _ _ (g .last .1 .0) (keptOf (g .result)) _ (kept-count (g .result) (c .before .before .before .before .before .before .before .before .before .before .before .before .before .if1 .left)) (g .ensures) in
-    let p = c .before .before .before .before .before .before .before .before .before .before .before .pattern in
-    let pattern = made-pattern (a .work .now) (a .literals) (a .p) (a .q) (a .w) (a .next) (a .top) ask (p .last .0) _ _ _ _ (c .before .before .before .before .before .before .before .a .given .1) (p .ensures) in
-    let q = c .before .before .before .template in
-    left-template (a .work .now) (a .literals) (a .p) (a .q) (a .w) (a .next) (a .top) ask _ (g .last .1 .0) _ stored (p .last .0) _ _ _ (p .kept .0) pattern (q .last .0) (builtOf (q .result)) (built-bad (q .result) (c .if2 .taken)) (q .ensures)
+    let a = c .before .before .before .before .before .before .before .before .before .before .before .before .before .before .before .before .before .before .before .before .before .args in
+    let ask = c .before .before .before .before .before .before .before .before .before .before .before .before .before .before .before .before .before .before .before .before .before .pre in
+    let g = c .before .before .before .before .before .before .before .before .before .before .before .before .before .before .before .before .before .gather in
+    let stored = gathered-stored _ _ _ _ _ _ (g .last .1 .0) (keptOf (g .result)) _ (kept-count (g .result) (c .before .before .before .before .before .before .before .before .before .before .before .before .before .before .before .if1 .left)) (g .ensures) in
+    let p = c .before .before .before .before .before .before .before .before .before .before .before .before .before .pattern in
+    let pattern = made-pattern (a .work .now) (a .literals) (a .p) (a .q) (a .w) (a .next) (a .top) ask (p .last .0) _ _ _ _ (c .before .before .before .before .before .before .before .before .before .a .given .1) (p .ensures) in
+    let q = c .before .before .before .before .before .template in
+    left-template (a .work .now) (a .literals) (a .p) (a .q) (a .w) (a .next) (a .top) ask _ (g .last .1 .0) _ stored (p .last .0) _ _ _ (p .kept .0) pattern (q .last .0) (builtOf (q .result)) (sym (c .before .before .parts .ensures) ∙ c .enum-told2 .given .1) (q .ensures)
 
 put-rule-requires : tie.Need-put-rule-requires
 put-rule-requires c κs =
-    let a = c .before .before .before .before .before .before .before .before .before .before .before .before .before .before .before .before .before .before .before .before .before .before .args in
-    let ask = c .before .before .before .before .before .before .before .before .before .before .before .before .before .before .before .before .before .before .before .before .before .before .pre in
-    let g = c .before .before .before .before .before .before .before .before .before .before .before .before .before .before .before .before .before .before .gather in
-    let stored = gathered-stored _ _ _ _ _ _ (g .last .1 .0) (keptOf (g .result)) _ (kept-count (g .result) (c .before .before .before .before .before .before .before .before .before .before .before .before .before .before .before .before .if1 .left)) (g .ensures) in
-    let p = c .before .before .before .before .before .before .before .before .before .before .before .before .before .before .pattern in
-    let pattern = made-pattern (a .work .now) (a .literals) (a .p) (a .q) (a .w) (a .next) (a .top) ask (p .last .0) _ _ _ _ (c .before .before .before .before .before .before .before .before .before .before .a .given .1) (p .ensures) in
-    let q = c .before .before .before .before .before .before .template in
-    let template = made-template (a .work .now) (a .literals) (a .p) (a .q) (a .w) (a .next) (a .top) ask _ (g .last .1 .0) _ stored (p .last .0) _ _ _ (p .kept .0) pattern (q .last .0) (builtOf (q .result)) _ _ (built-good (q .result) _ _ (c .before .before .before .if2 .left) (c .high .ensures) (c .before .low .ensures)) (q .ensures) in
+    let a = c .before .before .before .before .before .before .before .before .before .before .before .before .before .before .before .before .before .before .before .before .before .before .before .args in
+    let ask = c .before .before .before .before .before .before .before .before .before .before .before .before .before .before .before .before .before .before .before .before .before .before .before .pre in
+    let g = c .before .before .before .before .before .before .before .before .before .before .before .before .before .before .before .before .before .before .before .gather in
+    let stored = gathered-stored _ _ _ _ _ _ (g .last .1 .0) (keptOf (g .result)) _ (kept-count (g .result) (c .before .before .before .before .before .before .before .before .before .before .before .before .before .before .before .before .before .if1 .left)) (g .ensures) in
+    let p = c .before .before .before .before .before .before .before .before .before .before .before .before .before .before .before .pattern in
+    let pattern = made-pattern (a .work .now) (a .literals) (a .p) (a .q) (a .w) (a .next) (a .top) ask (p .last .0) _ _ _ _ (c .before .before .before .before .before .before .before .before .before .before .before .a .given .1) (p .ensures) in
+    let q = c .before .before .before .before .before .before .before .template in
+    let template = made-template (a .work .now) (a .literals) (a .p) (a .q) (a .w) (a .next) (a .top) ask _ (g .last .1 .0) _ stored (p .last .0) _ _ _ (p .kept .0) pattern (q .last .0) (builtOf (q .result)) _ _ (sym (c .before .before .before .before .parts .ensures) ∙ c .before .before .b .given .1) (q .ensures) in
     rule-asks (a .work .now) (a .literals) (a .p) (a .q) (a .w) (a .next) (a .top) ask _ (g .last .1 .0) _ stored (p .last .0) _ _ _ (p .kept .0) pattern (q .last .0) _ _ (q .kept .0) template
 
 returns-4 : tie.Need-returns-4
 returns-4 c =
-    let a = c .before .before .before .before .before .before .before .before .before .before .before .before .before .before .before .before .before .before .before .before .before .before .before .before .before .before .args in
-    let ask = c .before .before .before .before .before .before .before .before .before .before .before .before .before .before .before .before .before .before .before .before .before .before .before .before .before .before .pre in
-    let g = c .before .before .before .before .before .before .before .before .before .before .before .before .before .before .before .before .before .before .before .before .before .before .gather in
-    let stored = gathered-stored _ _ _ _ _ _ (g .last .1 .0) (keptOf (g .result)) _ (kept-count (g .result) (c .before .before .before .before .before .before .before .before .before .before .before .before .before .before .before .before .before .before .before .before .if1 .left)) (g .ensures) in
-    let p = c .before .before .before .before .before .before .before .before .before .before .before .before .before .before .before .before .before .before .pattern in
-    let pattern = made-pattern (a .work .now) (a .literals) (a .p) (a .q) (a .w) (a .next) (a .top) ask (p .last .0) _ _ _ _ (c .before .before .before .before .before .before .before .before .before .before .before .before .before .before .a .given .1) (p .ensures) in
-    let q = c .before .before .before .before .before .before .before .before .before .before .template in
-    let template = made-template (a .work .now) (a .literals) (a .p) (a .q) (a .w) (a .next) (a .top) ask _ (g .last .1 .0) _ stored (p .last .0) _ _ _ (p .kept .0) pattern (q .last .0) (builtOf (q .result)) _ _ (built-good (q .result) _ _ (c .before .before .before .before .before .before .before .if2 .left) (c .before .before .before .before .high .ensures) (c .before .before .before .before .before .low .ensures)) (q .ensures) in
-    rule-packed _ _ _ _ _ _ _ _ _ (packs-rule (a .work .now) (a .literals) (a .p) (a .q) (a .w) (a .next) (a .top) ask) (c .pair .ensures)
-    (left-rule (a .work .now) (a .literals) (a .p) (a .q) (a .w) (a .next) (a .top) ask _ (g .last .1 .0) _ stored (p .last .0) _ _ _ (p .kept .0) pattern (q .last .0) _ _ (q .kept .0) template _ _ (c .before .before .before .put-rule .ensures))
+    let a = c .before .before .before .before .before .before .before .before .before .before .before .before .before .before .before .before .before .before .before .before .before .before .before .before .before .before .before .args in
+    let ask = c .before .before .before .before .before .before .before .before .before .before .before .before .before .before .before .before .before .before .before .before .before .before .before .before .before .before .before .pre in
+    let g = c .before .before .before .before .before .before .before .before .before .before .before .before .before .before .before .before .before .before .before .before .before .before .before .gather in
+    let stored = gathered-stored _ _ _ _ _ _ (g .last .1 .0) (keptOf (g .result)) _ (kept-count (g .result) (c .before .before .before .before .before .before .before .before .before .before .before .before .before .before .before .before .before .before .before .before .before .if1 .left)) (g .ensures) in
+    let p = c .before .before .before .before .before .before .before .before .before .before .before .before .before .before .before .before .before .before .before .pattern in
+    let pattern = made-pattern (a .work .now) (a .literals) (a .p) (a .q) (a .w) (a .next) (a .top) ask (p .last .0) _ _ _ _ (c .before .before .before .before .before .before .before .before .before .before .before .before .before .before .before .a .given .1) (p .ensures) in
+    let q = c .before .before .before .before .before .before .before .before .before .before .before .template in
+    let template = made-template (a .work .now) (a .literals) (a .p) (a .q) (a .w) (a .next) (a .top) ask _ (g .last .1 .0) _ stored (p .last .0) _ _ _ (p .kept .0) pattern (q .last .0) (builtOf (q .result)) _ _ (sym (c .before .before .before .before .before .before .before .before .parts .ensures) ∙ c .before .before .before .before .before .before .b .given .1) (q .ensures) in
+    let left = left-rule (a .work .now) (a .literals) (a .p) (a .q) (a .w) (a .next) (a .top) ask _ (g .last .1 .0) _ stored (p .last .0) _ _ _ (p .kept .0) pattern (q .last .0) _ _ (q .kept .0) template _ _ (c .before .before .before .put-rule .ensures) in
+    packs-at (RuleLeft _ _ _ _ _ _) _ _ _ _ (packs-rule (a .work .now) (a .literals) (a .p) (a .q) (a .w) (a .next) (a .top) ask) (c .pair .ensures) (left .words) left
 
 pub rule-parts-spec : {M : Type 1} → statement M
 rule-parts-spec =
@@ -97,10 +100,11 @@ rule-parts-spec =
     returns-2
     (λ c. search needs)  -- slice-aggregate-template
     template-requires
+    (λ c κs. search needs)  -- parts-requires
+    (λ c. search needs)  -- enum-known-b
+    (λ c. search needs)  -- enum-told-2
     (λ c. search needs)  -- same-length-3
     returns-3
-    (λ c κs. search needs)  -- low-requires
-    (λ c κs. search needs)  -- high-requires
     put-rule-requires
     (λ c κs. search needs)  -- pair-requires
     (λ c. search needs)  -- same-length-4

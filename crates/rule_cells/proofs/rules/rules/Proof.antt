@@ -2,7 +2,7 @@
 use borrow.Author.Needs.{needs}
 use Rattle.rule_cells.proofs.rules.rules.Statement.{statement}
 use Rattle.rule_cells.proofs.rules.rules.Tie as tie
-use Rattle.rule_cells.specs.Built.{builtOf}
+use Rattle.words.specs.Packed.{builtOf}
 use Rattle.rule_cells.specs.RuleListLaws.{left-no-form, asks-list, literals-under, left-form}
 use mathlib.Core.Path.{sym, _∙_}
 

@@ -13,18 +13,18 @@ use Rattle.rule_cells.proofs.templates.accepted.Reads as accepted-reads
 use Rattle.rule_cells.proofs.templates.put_list.Reads as put-list-reads
 use Rattle.rule_cells.proofs.templates.template_leaf.Reads as template-leaf-reads
 use Rattle.rule_cells.proofs.variables.element_depth.Reads as element-depth-reads
-use Rattle.words.proofs.packed.high.Reads as high-reads
-use Rattle.words.proofs.packed.low.Reads as low-reads
 use Rattle.words.proofs.packed.pair.Reads as pair-reads
+use Rattle.words.proofs.packed.parts.Reads as parts-reads
 use Rattle.rule_cells.proofs.templates.+template.{statement}
 use Rattle.rule_cells.proofs.templates.+template.Tie.{close}
 use Rattle.rule_cells.specs.Variables.{variablesFrom}
 use Rattle.rule_cells.specs.GatherLaws.{deeper-most}
 use Rattle.rule_cells.specs.VariableLaws.{deeper-by}
-use Rattle.rule_cells.specs.Built.{builtOf, built-bad, built-good}
-use Rattle.rule_cells.specs.ParseLaws.{packs, asks-head, asks-tail, asks-rest, room-pair, head-below, rest-below}
-use Rattle.rule_cells.specs.TemplateLaws.{left-packed, left-leaf, left-taken, left-bad, made-head, left-undriven, under-still, left-bad-rest, made-rest, left-list}
-use mathlib.Core.Path.{refl, sym, _∙_}
+use Rattle.words.specs.Packed.{builtOf}
+use Rattle.rule_cells.specs.ParseLaws.{packs-at, packs, asks-head, asks-tail, asks-rest, room-pair, head-below, rest-below}
+use Rattle.rule_cells.specs.Parse.{TemplateLeft}
+use Rattle.rule_cells.specs.TemplateLaws.{left-leaf, left-taken, left-bad, made-head, left-undriven, under-still, left-bad-rest, made-rest, left-list}
+use mathlib.Core.Path.{sym, _∙_}
 use native.Mathlib.Omega.{arith}
 
 abbrev μ-template : Measures 2 template-kinds.ps ℕ
@@ -39,7 +39,7 @@ template-below t =
     and 2 template-kinds.ps (falls 2 template-kinds.ps _<_ μ-template t) template.Pre
 
 abbrev template-claims : ℕ → template-lts.Claims
-template-claims t = (word-reads.Asked, word-reads.Learnt, template-leaf-reads.Asked, template-leaf-reads.Learnt, reference-reads.Asked, reference-reads.Learnt, template-below t, template.Post, dots-next-reads.Asked, dots-next-reads.Learnt, element-depth-reads.Asked, element-depth-reads.Learnt, high-reads.Asked, high-reads.Learnt, accepted-reads.Asked, accepted-reads.Learnt, low-reads.Asked, low-reads.Learnt, put-list-reads.Asked, put-list-reads.Learnt, pair-reads.Asked, pair-reads.Learnt)
+template-claims t = (word-reads.Asked, word-reads.Learnt, template-leaf-reads.Asked, template-leaf-reads.Learnt, reference-reads.Asked, reference-reads.Learnt, template-below t, template.Post, dots-next-reads.Asked, dots-next-reads.Learnt, element-depth-reads.Asked, element-depth-reads.Learnt, parts-reads.Asked, parts-reads.Learnt, accepted-reads.Asked, accepted-reads.Learnt, put-list-reads.Asked, put-list-reads.Learnt, pair-reads.Asked, pair-reads.Learnt)
 
 template-template-leaf-requires : (t : ℕ) → template-lts.Need-template-leaf-requires (template-claims t) (template-at t) template.Post
 template-template-leaf-requires t c κs =
@@ -99,53 +99,37 @@ template-template-requires-2 t c κs =
 template-returns-3 : (t : ℕ) → template-lts.Need-returns-3 (template-claims t) (template-at t) template.Post
 unfolding builtOf
 template-returns-3 t c =
-    let a = c .before .before .before .before .before .before .before .before .before .before .before .before .before .before .before .before .before .before .args in
-    let p = c .before .before .before .before .before .before .before .before .before .before .before .before .before .before .before .before .before .before .pre in
+    let a = c .before .before .before .before .before .before .before .before .before .before .before .before .before .before .before .before .before .before .before .before .args in
+    let p = c .before .before .before .before .before .before .before .before .before .before .before .before .before .before .before .before .before .before .before .before .pre in
     let asks = p .1 .0 in
-    let is-pair = sym (c .before .before .before .before .before .before .before .before .before .before .before .before .before .before .word .ensures) ∙ c .before .before .before .before .before .before .before .before .before .before .before .before .before .if1 .left in
-    let head-is = c .before .before .before .before .before .before .before .before .before .before .before .reference .ensures in
-    let rest-is = c .before .before .before .before .before .before .before .before .before .reference2 .ensures in
-    let untaken = c .before .before .before .before .before .before .before .before .if2 .left in
-    let next = c .before .before .before .before .before .before .dots-next .ensures in
-    let deeper = deeper-by _ _ _ _ _ (c .before .before .before .before .before .element-depth .ensures) next in
-    let first = c .before .before .before .template2 in
-    left-bad (a .work .now) (a .vars .now) (a .count) (a .node) (a .w) (a .d) (a .top) asks (p .1 .3) _ _ is-pair head-is rest-is (a .taken) _ _ untaken (next (a .w)) deeper (first .last .0) (builtOf (first .result)) (built-bad (first .result) (c .if3 .taken)) (first .ensures)
+    let is-pair = sym (c .before .before .before .before .before .before .before .before .before .before .before .before .before .before .before .before .word .ensures) ∙ c .before .before .before .before .before .before .before .before .before .before .before .before .before .before .before .if1 .left in
+    let head-is = c .before .before .before .before .before .before .before .before .before .before .before .before .before .reference .ensures in
+    let rest-is = c .before .before .before .before .before .before .before .before .before .before .before .reference2 .ensures in
+    let untaken = c .before .before .before .before .before .before .before .before .before .before .if2 .left in
+    let next = c .before .before .before .before .before .before .before .before .dots-next .ensures in
+    let deeper = deeper-by _ _ _ _ _ (c .before .before .before .before .before .before .before .element-depth .ensures) next in
+    let first = c .before .before .before .before .before .template2 in
+    left-bad (a .work .now) (a .vars .now) (a .count) (a .node) (a .w) (a .d) (a .top) asks (p .1 .3) _ _ is-pair head-is rest-is (a .taken) _ _ untaken (next (a .w)) deeper (first .last .0) (builtOf (first .result)) (sym (c .before .before .parts .ensures) ∙ c .enum-told .given .1) (first .ensures)
 
 template-template-requires-3 : (t : ℕ) → template-lts.Need-template-requires-3 (template-claims t) (template-at t) template.Post
 template-template-requires-3 t c κs =
-    let a = c .before .before .before .before .before .before .before .before .before .before .before .before .before .before .before .before .before .before .before .before .before .before .before .before .args in
-    let p = c .before .before .before .before .before .before .before .before .before .before .before .before .before .before .before .before .before .before .before .before .before .before .before .before .pre in
+    let a = c .before .before .before .before .before .before .before .before .before .before .before .before .before .before .before .before .before .before .before .before .before .before .before .before .before .args in
+    let p = c .before .before .before .before .before .before .before .before .before .before .before .before .before .before .before .before .before .before .before .before .before .before .before .before .before .pre in
     let asks = p .1 .0 in
-    let is-pair = sym (c .before .before .before .before .before .before .before .before .before .before .before .before .before .before .before .before .before .before .before .before .word .ensures) ∙ c .before .before .before .before .before .before .before .before .before .before .before .before .before .before .before .before .before .before .before .if1 .left in
-    let head-is = c .before .before .before .before .before .before .before .before .before .before .before .before .before .before .before .before .before .reference .ensures in
-    let rest-is = c .before .before .before .before .before .before .before .before .before .before .before .before .before .before .before .reference2 .ensures in
-    let untaken = c .before .before .before .before .before .before .before .before .before .before .before .before .before .before .if2 .left in
-    let next = c .before .before .before .before .before .before .before .before .before .before .before .before .dots-next .ensures in
-    let deeper = deeper-by _ _ _ _ _ (c .before .before .before .before .before .before .before .before .before .before .before .element-depth .ensures) next in
-    let first = c .before .before .before .before .before .before .before .before .before .template2 in
-    let head = made-head (a .work .now) (a .vars .now) (a .count) (a .node) (a .w) (a .d) (a .top) asks (p .1 .3) _ _ is-pair head-is rest-is (a .taken) _ _ untaken (next (a .w)) deeper (first .last .0) (builtOf (first .result)) _ _ (built-good (first .result) _ _ (c .before .before .before .before .before .before .if3 .left) (c .before .before .before .before .before .high .ensures) (c .low .ensures)) (first .ensures) in
+    let is-pair = sym (c .before .before .before .before .before .before .before .before .before .before .before .before .before .before .before .before .before .before .before .before .before .word .ensures) ∙ c .before .before .before .before .before .before .before .before .before .before .before .before .before .before .before .before .before .before .before .before .if1 .left in
+    let head-is = c .before .before .before .before .before .before .before .before .before .before .before .before .before .before .before .before .before .before .reference .ensures in
+    let rest-is = c .before .before .before .before .before .before .before .before .before .before .before .before .before .before .before .before .reference2 .ensures in
+    let untaken = c .before .before .before .before .before .before .before .before .before .before .before .before .before .before .before .if2 .left in
+    let next = c .before .before .before .before .before .before .before .before .before .before .before .before .before .dots-next .ensures in
+    let deeper = deeper-by _ _ _ _ _ (c .before .before .before .before .before .before .before .before .before .before .before .before .element-depth .ensures) next in
+    let first = c .before .before .before .before .before .before .before .before .before .before .template2 in
+    let head = made-head (a .work .now) (a .vars .now) (a .count) (a .node) (a .w) (a .d) (a .top) asks (p .1 .3) _ _ is-pair head-is rest-is (a .taken) _ _ untaken (next (a .w)) deeper (first .last .0) (builtOf (first .result)) _ _ (sym (c .before .before .before .before .before .before .before .parts .ensures) ∙ c .before .before .before .before .before .a .given .1) (first .ensures) in
     let below = rest-below (a .work .now) (a .node) (a .w) (a .top) asks _ _ is-pair head-is rest-is in
     (omega (arith, p .0, below), (asks-rest (a .work .now) (a .node) (a .w) (a .top) asks _ _ is-pair head-is rest-is _ _ _ (first .kept .0) (head .grows), p .1 .1, p .1 .2, under-still (a .work .now) (a .vars .now) (a .count) (a .node) (a .w) (a .d) (a .top) asks (p .1 .3) _ _ is-pair head-is rest-is (a .taken) _ _ untaken (next (a .w)) deeper (first .last .0) _ _ (first .kept .0) head, omega (arith, p .1 .4, below)))
 
 template-returns-4 : (t : ℕ) → template-lts.Need-returns-4 (template-claims t) (template-at t) template.Post
 unfolding builtOf
 template-returns-4 t c =
-    let a = c .before .before .before .before .before .before .before .before .before .before .before .before .before .before .before .before .before .before .before .before .before .before .before .before .before .before .before .before .args in
-    let p = c .before .before .before .before .before .before .before .before .before .before .before .before .before .before .before .before .before .before .before .before .before .before .before .before .before .before .before .before .pre in
-    let asks = p .1 .0 in
-    let is-pair = sym (c .before .before .before .before .before .before .before .before .before .before .before .before .before .before .before .before .before .before .before .before .before .before .before .before .word .ensures) ∙ c .before .before .before .before .before .before .before .before .before .before .before .before .before .before .before .before .before .before .before .before .before .before .before .if1 .left in
-    let head-is = c .before .before .before .before .before .before .before .before .before .before .before .before .before .before .before .before .before .before .before .before .before .reference .ensures in
-    let rest-is = c .before .before .before .before .before .before .before .before .before .before .before .before .before .before .before .before .before .before .before .reference2 .ensures in
-    let untaken = c .before .before .before .before .before .before .before .before .before .before .before .before .before .before .before .before .before .before .if2 .left in
-    let next = c .before .before .before .before .before .before .before .before .before .before .before .before .before .before .before .before .dots-next .ensures in
-    let deeper = deeper-by _ _ _ _ _ (c .before .before .before .before .before .before .before .before .before .before .before .before .before .before .before .element-depth .ensures) next in
-    let first = c .before .before .before .before .before .before .before .before .before .before .before .before .before .template2 in
-    let head = made-head (a .work .now) (a .vars .now) (a .count) (a .node) (a .w) (a .d) (a .top) asks (p .1 .3) _ _ is-pair head-is rest-is (a .taken) _ _ untaken (next (a .w)) deeper (first .last .0) (builtOf (first .result)) _ _ (built-good (first .result) _ _ (c .before .before .before .before .before .before .before .before .before .before .if3 .left) (c .before .before .before .before .before .before .before .before .before .high .ensures) (c .before .before .before .before .low .ensures)) (first .ensures) in
-    let second = c .before .before .before .template3 in
-    left-bad-rest (a .work .now) (a .vars .now) (a .count) (a .node) (a .w) (a .d) (a .top) asks (p .1 .3) _ _ is-pair head-is rest-is (a .taken) _ _ untaken (next (a .w)) deeper (first .last .0) _ _ (first .kept .0) head (second .last .0) (builtOf (second .result)) (built-bad (second .result) (c .if5 .taken)) (second .ensures)
-
-template-put-list-requires : (t : ℕ) → template-lts.Need-put-list-requires (template-claims t) (template-at t) template.Post
-template-put-list-requires t c κs =
     let a = c .before .before .before .before .before .before .before .before .before .before .before .before .before .before .before .before .before .before .before .before .before .before .before .before .before .before .before .before .before .before .before .args in
     let p = c .before .before .before .before .before .before .before .before .before .before .before .before .before .before .before .before .before .before .before .before .before .before .before .before .before .before .before .before .before .before .before .pre in
     let asks = p .1 .0 in
@@ -156,44 +140,60 @@ template-put-list-requires t c κs =
     let next = c .before .before .before .before .before .before .before .before .before .before .before .before .before .before .before .before .before .before .before .dots-next .ensures in
     let deeper = deeper-by _ _ _ _ _ (c .before .before .before .before .before .before .before .before .before .before .before .before .before .before .before .before .before .before .element-depth .ensures) next in
     let first = c .before .before .before .before .before .before .before .before .before .before .before .before .before .before .before .before .template2 in
-    let head = made-head (a .work .now) (a .vars .now) (a .count) (a .node) (a .w) (a .d) (a .top) asks (p .1 .3) _ _ is-pair head-is rest-is (a .taken) _ _ untaken (next (a .w)) deeper (first .last .0) (builtOf (first .result)) _ _ (built-good (first .result) _ _ (c .before .before .before .before .before .before .before .before .before .before .before .before .before .if3 .left) (c .before .before .before .before .before .before .before .before .before .before .before .before .high .ensures) (c .before .before .before .before .before .before .before .low .ensures)) (first .ensures) in
-    let second = c .before .before .before .before .before .before .template3 in
-    let later = made-rest (a .work .now) (a .vars .now) (a .count) (a .node) (a .w) (a .d) (a .top) asks (p .1 .3) _ _ is-pair head-is rest-is (a .taken) _ _ untaken (next (a .w)) deeper (first .last .0) _ _ (first .kept .0) head (second .last .0) (builtOf (second .result)) _ _ (built-good (second .result) _ _ (c .before .before .before .if5 .left) (c .high2 .ensures) (c .before .low2 .ensures)) (second .ensures) in
+    let head = made-head (a .work .now) (a .vars .now) (a .count) (a .node) (a .w) (a .d) (a .top) asks (p .1 .3) _ _ is-pair head-is rest-is (a .taken) _ _ untaken (next (a .w)) deeper (first .last .0) (builtOf (first .result)) _ _ (sym (c .before .before .before .before .before .before .before .before .before .before .before .before .before .parts .ensures) ∙ c .before .before .before .before .before .before .before .before .before .before .before .a .given .1) (first .ensures) in
+    let second = c .before .before .before .before .before .template3 in
+    left-bad-rest (a .work .now) (a .vars .now) (a .count) (a .node) (a .w) (a .d) (a .top) asks (p .1 .3) _ _ is-pair head-is rest-is (a .taken) _ _ untaken (next (a .w)) deeper (first .last .0) _ _ (first .kept .0) head (second .last .0) (builtOf (second .result)) (sym (c .before .before .parts2 .ensures) ∙ c .enum-told2 .given .1) (second .ensures)
+
+template-put-list-requires : (t : ℕ) → template-lts.Need-put-list-requires (template-claims t) (template-at t) template.Post
+template-put-list-requires t c κs =
+    let a = c .before .before .before .before .before .before .before .before .before .before .before .before .before .before .before .before .before .before .before .before .before .before .before .before .before .before .before .before .before .before .before .before .before .args in
+    let p = c .before .before .before .before .before .before .before .before .before .before .before .before .before .before .before .before .before .before .before .before .before .before .before .before .before .before .before .before .before .before .before .before .before .pre in
+    let asks = p .1 .0 in
+    let is-pair = sym (c .before .before .before .before .before .before .before .before .before .before .before .before .before .before .before .before .before .before .before .before .before .before .before .before .before .before .before .before .before .word .ensures) ∙ c .before .before .before .before .before .before .before .before .before .before .before .before .before .before .before .before .before .before .before .before .before .before .before .before .before .before .before .before .if1 .left in
+    let head-is = c .before .before .before .before .before .before .before .before .before .before .before .before .before .before .before .before .before .before .before .before .before .before .before .before .before .before .reference .ensures in
+    let rest-is = c .before .before .before .before .before .before .before .before .before .before .before .before .before .before .before .before .before .before .before .before .before .before .before .before .reference2 .ensures in
+    let untaken = c .before .before .before .before .before .before .before .before .before .before .before .before .before .before .before .before .before .before .before .before .before .before .before .if2 .left in
+    let next = c .before .before .before .before .before .before .before .before .before .before .before .before .before .before .before .before .before .before .before .before .before .dots-next .ensures in
+    let deeper = deeper-by _ _ _ _ _ (c .before .before .before .before .before .before .before .before .before .before .before .before .before .before .before .before .before .before .before .before .element-depth .ensures) next in
+    let first = c .before .before .before .before .before .before .before .before .before .before .before .before .before .before .before .before .before .before .template2 in
+    let head = made-head (a .work .now) (a .vars .now) (a .count) (a .node) (a .w) (a .d) (a .top) asks (p .1 .3) _ _ is-pair head-is rest-is (a .taken) _ _ untaken (next (a .w)) deeper (first .last .0) (builtOf (first .result)) _ _ (sym (c .before .before .before .before .before .before .before .before .before .before .before .before .before .before .before .parts .ensures) ∙ c .before .before .before .before .before .before .before .before .before .before .before .before .before .a .given .1) (first .ensures) in
+    let second = c .before .before .before .before .before .before .before .template3 in
+    let later = made-rest (a .work .now) (a .vars .now) (a .count) (a .node) (a .w) (a .d) (a .top) asks (p .1 .3) _ _ is-pair head-is rest-is (a .taken) _ _ untaken (next (a .w)) deeper (first .last .0) _ _ (first .kept .0) head (second .last .0) (builtOf (second .result)) _ _ (sym (c .before .before .before .before .parts2 .ensures) ∙ c .before .before .b .given .1) (second .ensures) in
     (room-pair (a .work .now) (a .node) (a .w) (a .top) asks _ _ is-pair head-is rest-is _ _ _ (first .kept .0) (head .grows) _ _ _ (second .kept .0) (later .grows), omega (arith, head .grows .at-most, later .grows .up), later .grows .at-most)
 
 template-returns-5 : (t : ℕ) → template-lts.Need-returns-5 (template-claims t) (template-at t) template.Post
 template-returns-5 t c =
-    let a = c .before .before .before .before .before .before .before .before .before .before .before .before .before .before .before .before .before .before .before .before .before .before .before .before .before .before .before .before .before .before .before .before .before .before .before .args in
-    let p = c .before .before .before .before .before .before .before .before .before .before .before .before .before .before .before .before .before .before .before .before .before .before .before .before .before .before .before .before .before .before .before .before .before .before .before .pre in
+    let a = c .before .before .before .before .before .before .before .before .before .before .before .before .before .before .before .before .before .before .before .before .before .before .before .before .before .before .before .before .before .before .before .before .before .before .before .before .before .args in
+    let p = c .before .before .before .before .before .before .before .before .before .before .before .before .before .before .before .before .before .before .before .before .before .before .before .before .before .before .before .before .before .before .before .before .before .before .before .before .before .pre in
     let asks = p .1 .0 in
-    let is-pair = sym (c .before .before .before .before .before .before .before .before .before .before .before .before .before .before .before .before .before .before .before .before .before .before .before .before .before .before .before .before .before .before .before .word .ensures) ∙ c .before .before .before .before .before .before .before .before .before .before .before .before .before .before .before .before .before .before .before .before .before .before .before .before .before .before .before .before .before .before .if1 .left in
-    let head-is = c .before .before .before .before .before .before .before .before .before .before .before .before .before .before .before .before .before .before .before .before .before .before .before .before .before .before .before .before .reference .ensures in
-    let rest-is = c .before .before .before .before .before .before .before .before .before .before .before .before .before .before .before .before .before .before .before .before .before .before .before .before .before .before .reference2 .ensures in
-    let untaken = c .before .before .before .before .before .before .before .before .before .before .before .before .before .before .before .before .before .before .before .before .before .before .before .before .before .if2 .left in
-    let next = c .before .before .before .before .before .before .before .before .before .before .before .before .before .before .before .before .before .before .before .before .before .before .before .dots-next .ensures in
-    let deeper = deeper-by _ _ _ _ _ (c .before .before .before .before .before .before .before .before .before .before .before .before .before .before .before .before .before .before .before .before .before .before .element-depth .ensures) next in
-    let first = c .before .before .before .before .before .before .before .before .before .before .before .before .before .before .before .before .before .before .before .before .template2 in
-    let head = made-head (a .work .now) (a .vars .now) (a .count) (a .node) (a .w) (a .d) (a .top) asks (p .1 .3) _ _ is-pair head-is rest-is (a .taken) _ _ untaken (next (a .w)) deeper (first .last .0) (builtOf (first .result)) _ _ (built-good (first .result) _ _ (c .before .before .before .before .before .before .before .before .before .before .before .before .before .before .before .before .before .if3 .left) (c .before .before .before .before .before .before .before .before .before .before .before .before .before .before .before .before .high .ensures) (c .before .before .before .before .before .before .before .before .before .before .before .low .ensures)) (first .ensures) in
-    let second = c .before .before .before .before .before .before .before .before .before .before .template3 in
-    let later = made-rest (a .work .now) (a .vars .now) (a .count) (a .node) (a .w) (a .d) (a .top) asks (p .1 .3) _ _ is-pair head-is rest-is (a .taken) _ _ untaken (next (a .w)) deeper (first .last .0) _ _ (first .kept .0) head (second .last .0) (builtOf (second .result)) _ _ (built-good (second .result) _ _ (c .before .before .before .before .before .before .before .if5 .left) (c .before .before .before .before .high2 .ensures) (c .before .before .before .before .before .low2 .ensures)) (second .ensures) in
-    left-packed _ _ _ _ _ _ _ _ _ _ (packs (a .work .now) (a .node) (a .w) (a .top) asks) (c .pair .ensures)
-    (left-list (a .work .now) (a .vars .now) (a .count) (a .node) (a .w) (a .d) (a .top) asks (p .1 .3) _ _ is-pair head-is rest-is (a .taken) _ _ untaken (next (a .w)) deeper (first .last .0) _ _ (first .kept .0) head _ _ _ _ _ (sym (c .before .before .before .before .before .before .before .before .before .before .before .before .before .if4 .taken) ∙ c .before .before .before .before .before .before .before .before .before .before .before .before .before .before .accepted .ensures) later (c .before .before .before .put-list .ensures))
+    let is-pair = sym (c .before .before .before .before .before .before .before .before .before .before .before .before .before .before .before .before .before .before .before .before .before .before .before .before .before .before .before .before .before .before .before .before .before .word .ensures) ∙ c .before .before .before .before .before .before .before .before .before .before .before .before .before .before .before .before .before .before .before .before .before .before .before .before .before .before .before .before .before .before .before .before .if1 .left in
+    let head-is = c .before .before .before .before .before .before .before .before .before .before .before .before .before .before .before .before .before .before .before .before .before .before .before .before .before .before .before .before .before .before .reference .ensures in
+    let rest-is = c .before .before .before .before .before .before .before .before .before .before .before .before .before .before .before .before .before .before .before .before .before .before .before .before .before .before .before .before .reference2 .ensures in
+    let untaken = c .before .before .before .before .before .before .before .before .before .before .before .before .before .before .before .before .before .before .before .before .before .before .before .before .before .before .before .if2 .left in
+    let next = c .before .before .before .before .before .before .before .before .before .before .before .before .before .before .before .before .before .before .before .before .before .before .before .before .before .dots-next .ensures in
+    let deeper = deeper-by _ _ _ _ _ (c .before .before .before .before .before .before .before .before .before .before .before .before .before .before .before .before .before .before .before .before .before .before .before .before .element-depth .ensures) next in
+    let first = c .before .before .before .before .before .before .before .before .before .before .before .before .before .before .before .before .before .before .before .before .before .before .template2 in
+    let head = made-head (a .work .now) (a .vars .now) (a .count) (a .node) (a .w) (a .d) (a .top) asks (p .1 .3) _ _ is-pair head-is rest-is (a .taken) _ _ untaken (next (a .w)) deeper (first .last .0) (builtOf (first .result)) _ _ (sym (c .before .before .before .before .before .before .before .before .before .before .before .before .before .before .before .before .before .before .before .parts .ensures) ∙ c .before .before .before .before .before .before .before .before .before .before .before .before .before .before .before .before .before .a .given .1) (first .ensures) in
+    let second = c .before .before .before .before .before .before .before .before .before .before .before .template3 in
+    let later = made-rest (a .work .now) (a .vars .now) (a .count) (a .node) (a .w) (a .d) (a .top) asks (p .1 .3) _ _ is-pair head-is rest-is (a .taken) _ _ untaken (next (a .w)) deeper (first .last .0) _ _ (first .kept .0) head (second .last .0) (builtOf (second .result)) _ _ (sym (c .before .before .before .before .before .before .before .before .parts2 .ensures) ∙ c .before .before .before .before .before .before .b .given .1) (second .ensures) in
+    let left = left-list (a .work .now) (a .vars .now) (a .count) (a .node) (a .w) (a .d) (a .top) asks (p .1 .3) _ _ is-pair head-is rest-is (a .taken) _ _ untaken (next (a .w)) deeper (first .last .0) _ _ (first .kept .0) head _ _ _ _ _ (sym (c .before .before .before .before .before .before .before .before .before .before .before .before .before .if3 .taken) ∙ c .before .before .before .before .before .before .before .before .before .before .before .before .before .before .accepted .ensures) later (c .before .before .before .put-list .ensures) in
+    packs-at (TemplateLeft _ _ _ _ _ _ _) _ _ _ _ (packs (a .work .now) (a .node) (a .w) (a .top) asks) (c .pair .ensures) (left .grows .words) left
 
 template-returns-6 : (t : ℕ) → template-lts.Need-returns-6 (template-claims t) (template-at t) template.Post
 unfolding builtOf
 template-returns-6 t c =
-    let a = c .before .before .before .before .before .before .before .before .before .before .before .before .before .before .before .before .before .before .before .before .before .before .args in
-    let p = c .before .before .before .before .before .before .before .before .before .before .before .before .before .before .before .before .before .before .before .before .before .before .pre in
+    let a = c .before .before .before .before .before .before .before .before .before .before .before .before .before .before .before .before .before .before .before .before .before .before .before .before .args in
+    let p = c .before .before .before .before .before .before .before .before .before .before .before .before .before .before .before .before .before .before .before .before .before .before .before .before .pre in
     let asks = p .1 .0 in
-    let is-pair = sym (c .before .before .before .before .before .before .before .before .before .before .before .before .before .before .before .before .before .before .word .ensures) ∙ c .before .before .before .before .before .before .before .before .before .before .before .before .before .before .before .before .before .if1 .left in
-    let head-is = c .before .before .before .before .before .before .before .before .before .before .before .before .before .before .before .reference .ensures in
-    let rest-is = c .before .before .before .before .before .before .before .before .before .before .before .before .before .reference2 .ensures in
-    let untaken = c .before .before .before .before .before .before .before .before .before .before .before .before .if2 .left in
-    let next = c .before .before .before .before .before .before .before .before .before .before .dots-next .ensures in
-    let deeper = deeper-by _ _ _ _ _ (c .before .before .before .before .before .before .before .before .before .element-depth .ensures) next in
-    let first = c .before .before .before .before .before .before .before .template2 in
-    let head = made-head (a .work .now) (a .vars .now) (a .count) (a .node) (a .w) (a .d) (a .top) asks (p .1 .3) _ _ is-pair head-is rest-is (a .taken) _ _ untaken (next (a .w)) deeper (first .last .0) (builtOf (first .result)) _ _ (built-good (first .result) _ _ (c .before .before .before .before .if3 .left) (c .before .before .before .high .ensures) refl) (first .ensures) in
-    left-undriven (a .work .now) (a .vars .now) (a .count) (a .node) (a .w) (a .d) (a .top) asks (p .1 .3) _ _ is-pair head-is rest-is (a .taken) _ _ untaken (next (a .w)) deeper (first .last .0) _ _ (first .kept .0) head (sym (c .if4 .left) ∙ c .before .accepted .ensures)
+    let is-pair = sym (c .before .before .before .before .before .before .before .before .before .before .before .before .before .before .before .before .before .before .before .before .word .ensures) ∙ c .before .before .before .before .before .before .before .before .before .before .before .before .before .before .before .before .before .before .before .if1 .left in
+    let head-is = c .before .before .before .before .before .before .before .before .before .before .before .before .before .before .before .before .before .reference .ensures in
+    let rest-is = c .before .before .before .before .before .before .before .before .before .before .before .before .before .before .before .reference2 .ensures in
+    let untaken = c .before .before .before .before .before .before .before .before .before .before .before .before .before .before .if2 .left in
+    let next = c .before .before .before .before .before .before .before .before .before .before .before .before .dots-next .ensures in
+    let deeper = deeper-by _ _ _ _ _ (c .before .before .before .before .before .before .before .before .before .before .before .element-depth .ensures) next in
+    let first = c .before .before .before .before .before .before .before .before .before .template2 in
+    let head = made-head (a .work .now) (a .vars .now) (a .count) (a .node) (a .w) (a .d) (a .top) asks (p .1 .3) _ _ is-pair head-is rest-is (a .taken) _ _ untaken (next (a .w)) deeper (first .last .0) (builtOf (first .result)) _ _ (sym (c .before .before .before .before .before .before .parts .ensures) ∙ c .before .before .before .before .a .given .1) (first .ensures) in
+    left-undriven (a .work .now) (a .vars .now) (a .count) (a .node) (a .w) (a .d) (a .top) asks (p .1 .3) _ _ is-pair head-is rest-is (a .taken) _ _ untaken (next (a .w)) deeper (first .last .0) _ _ (first .kept .0) head (sym (c .if3 .left) ∙ c .before .accepted .ensures)
 
 pub +template-spec : {M : Type 1} → statement M
 +template-spec = close μ-template λ t. template-lts.spec (template-claims t) (template-at t) template.Post
@@ -209,16 +209,18 @@ pub +template-spec : {M : Type 1} → statement M
     (λ c κs. search needs)  -- template-dots-next-requires
     (template-element-depth-requires t)
     (template-template-requires-2 t)
+    (λ c κs. search needs)  -- template-parts-requires
+    (λ c. search needs)  -- template-enum-known-a
+    (λ c. search needs)  -- template-enum-told
     (λ c. search needs)  -- template-same-length-3
     (template-returns-3 t)
-    (λ c κs. search needs)  -- template-high-requires
     (λ c κs. search needs)  -- template-accepted-requires
-    (λ c κs. search needs)  -- template-low-requires
     (template-template-requires-3 t)
+    (λ c κs. search needs)  -- template-parts-requires-2
+    (λ c. search needs)  -- template-enum-known-b
+    (λ c. search needs)  -- template-enum-told-2
     (λ c. search needs)  -- template-same-length-4
     (template-returns-4 t)
-    (λ c κs. search needs)  -- template-low-requires-2
-    (λ c κs. search needs)  -- template-high-requires-2
     (template-put-list-requires t)
     (λ c κs. search needs)  -- template-pair-requires
     (λ c. search needs)  -- template-same-length-5

@@ -2,10 +2,11 @@
 use borrow.Author.Needs.{needs}
 use Rattle.rule_cells.proofs.templates.template_leaf.Statement.{statement}
 use Rattle.rule_cells.proofs.templates.template_leaf.Tie as tie
-use Rattle.rule_cells.specs.Built.{builtOf}
+use Rattle.words.specs.Packed.{builtOf}
 use Rattle.rule_cells.specs.Variables.{variablesFrom}
-use Rattle.rule_cells.specs.ParseLaws.{packs, leaf-packs, room-leaf}
-use Rattle.rule_cells.specs.TemplateLaws.{left-packed, left-name, left-empty, left-constant}
+use Rattle.rule_cells.specs.ParseLaws.{packs-at, packs, leaf-packs, room-leaf}
+use Rattle.rule_cells.specs.Parse.{TemplateLeft}
+use Rattle.rule_cells.specs.TemplateLaws.{left-name, left-empty, left-constant}
 use mathlib.Core.Path.{sym, _∙_}
 
 template-name-requires : tie.Need-template-name-requires
@@ -21,8 +22,8 @@ returns c =
 returns-2 : tie.Need-returns-2
 returns-2 c =
     let a = c .before .before .before .before .before .before .before .args in
-    left-packed _ _ _ _ _ _ _ _ _ _ (packs (a .work .now) (a .node) (a .w) (a .top) (c .before .before .before .before .before .before .before .pre .0)) (c .pair .ensures)
-    (left-empty (variablesFrom (a .work .now) (a .w) (a .vars .now) 0 (a .count)) (a .d) (a .work .now) (a .node) (a .w) (a .top) (sym (c .before .before .before .word .ensures) ∙ c .before .if2 .taken))
+    let left = left-empty (variablesFrom (a .work .now) (a .w) (a .vars .now) 0 (a .count)) (a .d) (a .work .now) (a .node) (a .w) (a .top) (sym (c .before .before .before .word .ensures) ∙ c .before .if2 .taken) in
+    packs-at (TemplateLeft _ _ _ _ _ _ _) _ _ _ _ (packs (a .work .now) (a .node) (a .w) (a .top) (c .before .before .before .before .before .before .before .pre .0)) (c .pair .ensures) (left .grows .words) left
 
 put-constant-template-requires : tie.Need-put-constant-template-requires
 put-constant-template-requires c κs =
@@ -31,8 +32,8 @@ put-constant-template-requires c κs =
 returns-3 : tie.Need-returns-3
 returns-3 c =
     let a = c .before .before .before .before .before .before .before .before .before .before .before .before .before .before .before .args in
-    left-packed _ _ _ _ _ _ _ _ _ _ (packs (a .work .now) (a .node) (a .w) (a .top) (c .before .before .before .before .before .before .before .before .before .before .before .before .before .before .before .pre .0)) (c .pair2 .ensures)
-    (left-constant (variablesFrom (a .work .now) (a .w) (a .vars .now) 0 (a .count)) (a .d) (a .work .now) (a .node) (a .w) (a .top) _ _ _ _ _ (c .before .before .before .before .before .before .before .before .before .before .before .word .ensures) (c .before .before .before .before .before .before .before .word2 .ensures) (c .before .before .before .before .before .word3 .ensures) (λ z. c .before .before .before .before .before .before .before .before .before .if2 .left (c .before .before .before .before .before .before .before .before .before .before .before .word .ensures ∙ z)) (λ z. c .before .before .before .before .before .before .before .before .before .before .if1 .left (c .before .before .before .before .before .before .before .before .before .before .before .word .ensures ∙ z)) (c .before .before .before .before .before .before .before .before .before .before .before .before .before .before .before .pre .3) (c .before .before .before .put-constant-template .ensures))
+    let left = left-constant (variablesFrom (a .work .now) (a .w) (a .vars .now) 0 (a .count)) (a .d) (a .work .now) (a .node) (a .w) (a .top) _ _ _ _ _ (c .before .before .before .before .before .before .before .before .before .before .before .word .ensures) (c .before .before .before .before .before .before .before .word2 .ensures) (c .before .before .before .before .before .word3 .ensures) (λ z. c .before .before .before .before .before .before .before .before .before .if2 .left (c .before .before .before .before .before .before .before .before .before .before .before .word .ensures ∙ z)) (λ z. c .before .before .before .before .before .before .before .before .before .before .if1 .left (c .before .before .before .before .before .before .before .before .before .before .before .word .ensures ∙ z)) (c .before .before .before .before .before .before .before .before .before .before .before .before .before .before .before .pre .3) (c .before .before .before .put-constant-template .ensures) in
+    packs-at (TemplateLeft _ _ _ _ _ _ _) _ _ _ _ (packs (a .work .now) (a .node) (a .w) (a .top) (c .before .before .before .before .before .before .before .before .before .before .before .before .before .before .before .pre .0)) (c .pair2 .ensures) (left .grows .words) left
 
 pub template-leaf-spec : {M : Type 1} → statement M
 template-leaf-spec =

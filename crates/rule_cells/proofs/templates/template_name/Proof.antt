@@ -2,10 +2,12 @@
 use borrow.Author.Needs.{needs}
 use Rattle.rule_cells.proofs.templates.template_name.Statement.{statement}
 use Rattle.rule_cells.proofs.templates.template_name.Tie as tie
-use Rattle.rule_cells.specs.Built.{builtOf}
+use Rattle.words.specs.Packed.{builtOf}
 use Rattle.rule_cells.specs.Variables.{variablesFrom}
 use Rattle.rule_cells.specs.VariableLaws.{found-at, found-not}
-use Rattle.rule_cells.specs.TemplateLaws.{left-packed, left-dots, left-depth, left-variable, left-insert}
+use Rattle.rule_cells.specs.ParseLaws.{packs-at}
+use Rattle.rule_cells.specs.Parse.{TemplateLeft}
+use Rattle.rule_cells.specs.TemplateLaws.{left-dots, left-depth, left-variable, left-insert}
 use Rattle.recipe.specs.Tree.{size}
 use Rattle.arena.specs.NodeLaws.{nameAt-number}
 use Rattle.arena.specs.Arena.{nameAt}
@@ -21,8 +23,8 @@ returns-2 : tie.Need-returns-2
 unfolding size
 returns-2 c =
     let a = c .before .before .before .before .before .before .before .before .before .before .before .before .before .before .before .before .before .args in
-    left-packed _ _ _ _ _ _ _ _ _ _ (c .before .before .before .before .before .before .before .before .before .before .before .before .before .before .before .before .before .pre .1) (c .pair .ensures)
-    (left-variable (variablesFrom (a .work .now) (a .w) (a .vars .now) 0 (a .count)) (a .d) (nameAt (a .work .now) (a .node) (a .w)) (a .work .now) (a .top) _ _ _ _ (λ z. c .before .before .before .before .before .before .before .before .before .before .before .before .if1 .left (c .before .before .before .before .before .before .before .before .before .before .before .before .before .number-of .ensures ∙ sym (nameAt-number (a .work .now) (a .node) (a .w)) ∙ z)) (found-at _ _ _ _ (c .before .before .before .before .before .before .before .before .k .given .1) (c .before .before .before .before .before .before .before .before .before .before .find .ensures)) (sym (c .before .before .before .before .before .if2 .taken) ∙ c .before .before .before .before .before .before .depth-fits .ensures) (c .before .before .before .put-variable-template .ensures))
+    let left = left-variable (variablesFrom (a .work .now) (a .w) (a .vars .now) 0 (a .count)) (a .d) (nameAt (a .work .now) (a .node) (a .w)) (a .work .now) (a .top) _ _ _ _ (λ z. c .before .before .before .before .before .before .before .before .before .before .before .before .if1 .left (c .before .before .before .before .before .before .before .before .before .before .before .before .before .number-of .ensures ∙ sym (nameAt-number (a .work .now) (a .node) (a .w)) ∙ z)) (found-at _ _ _ _ (c .before .before .before .before .before .before .before .before .k .given .1) (c .before .before .before .before .before .before .before .before .before .before .find .ensures)) (sym (c .before .before .before .before .before .if2 .taken) ∙ c .before .before .before .before .before .before .depth-fits .ensures) (c .before .before .before .put-variable-template .ensures) in
+    packs-at (TemplateLeft _ _ _ _ _ _ _) _ _ _ _ (c .before .before .before .before .before .before .before .before .before .before .before .before .before .before .before .before .before .pre .1) (c .pair .ensures) (left .grows .words) left
 
 returns-3 : tie.Need-returns-3
 unfolding builtOf
@@ -34,8 +36,8 @@ returns-4 : tie.Need-returns-4
 unfolding size
 returns-4 c =
     let a = c .before .before .before .before .before .before .before .before .before .before .before .before .before .before .args in
-    left-packed _ _ _ _ _ _ _ _ _ _ (c .before .before .before .before .before .before .before .before .before .before .before .before .before .before .pre .1) (c .pair2 .ensures)
-    (left-insert (variablesFrom (a .work .now) (a .w) (a .vars .now) 0 (a .count)) (a .d) (nameAt (a .work .now) (a .node) (a .w)) (a .work .now) (a .top) (a .node) (a .w) _ _ refl (λ z. c .before .before .before .before .before .before .before .before .before .if1 .left (c .before .before .before .before .before .before .before .before .before .before .number-of .ensures ∙ sym (nameAt-number (a .work .now) (a .node) (a .w)) ∙ z)) (found-not _ _ (c .before .before .before .before .before .enum-told .given .1) (c .before .before .before .before .before .before .before .find .ensures)) (c .before .before .before .put-insert .ensures))
+    let left = left-insert (variablesFrom (a .work .now) (a .w) (a .vars .now) 0 (a .count)) (a .d) (nameAt (a .work .now) (a .node) (a .w)) (a .work .now) (a .top) (a .node) (a .w) _ _ refl (λ z. c .before .before .before .before .before .before .before .before .before .if1 .left (c .before .before .before .before .before .before .before .before .before .before .number-of .ensures ∙ sym (nameAt-number (a .work .now) (a .node) (a .w)) ∙ z)) (found-not _ _ (c .before .before .before .before .before .enum-told .given .1) (c .before .before .before .before .before .before .before .find .ensures)) (c .before .before .before .put-insert .ensures) in
+    packs-at (TemplateLeft _ _ _ _ _ _ _) _ _ _ _ (c .before .before .before .before .before .before .before .before .before .before .before .before .before .before .pre .1) (c .pair2 .ensures) (left .grows .words) left
 
 pub template-name-spec : {M : Type 1} → statement M
 template-name-spec =

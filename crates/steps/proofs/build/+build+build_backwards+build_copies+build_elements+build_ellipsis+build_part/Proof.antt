@@ -29,9 +29,8 @@ use Rattle.environments.proofs.environment.enter.Reads as enter-reads
 use Rattle.environments.proofs.environment.is_listed.Reads as is-listed-reads
 use Rattle.environments.proofs.environment.taken.Reads as taken-reads
 use Rattle.environments.proofs.lengths.copies.Reads as copies-reads
-use Rattle.words.proofs.packed.high.Reads as high-reads
-use Rattle.words.proofs.packed.low.Reads as low-reads
 use Rattle.words.proofs.packed.pair.Reads as pair-reads
+use Rattle.words.proofs.packed.parts.Reads as parts-reads
 use Rattle.steps.proofs.build.build_leaf.Reads as build-leaf-reads
 use Rattle.steps.proofs.copy.copy_elements.Reads as copy-elements-reads
 use Rattle.steps.proofs.copy.put_reversed.Reads as put-reversed-reads
@@ -40,7 +39,7 @@ use Rattle.steps.proofs.build.+build+build_backwards+build_copies+build
 use Rattle.environments.specs.PartLaws.{tag-falls}
 use Rattle.environments.specs.LengthLaws.{counted-of, counted-differ}
 use Rattle.environments.specs.EntryLaws.{moving-along}
-use Rattle.steps.specs.Built.{builtOf, built-none, built-some}
+use Rattle.words.specs.Packed.{builtOf}
 use Rattle.steps.specs.Build.{Backwards}
 use Rattle.steps.specs.ResultLaws.{gives-at, stops-at, made-packed, made-none, pair-tail, pair-tail-costly, pair-head, pair-head-costly, pair-room, made-pair}
 use Rattle.steps.specs.CopyLaws.{Turning, turning-begins, copies-none, copy-buildable, copy-costly, copy-room, turning-more, turning-ends, backwards-packed, reversed-asks, copied-packed, listed-waits, listed-backwards}
@@ -149,19 +148,19 @@ build-part-below t =
     and 2 build-part-kinds.ps (falls 2 build-part-kinds.ps _<_ μ-build-part t) build-part.Pre
 
 abbrev build-claims : ℕ → build-lts.Claims
-build-claims t = (word-reads.Asked, word-reads.Learnt, build-ellipsis-below t, build-ellipsis.Post, build-leaf-reads.Asked, build-leaf-reads.Learnt, reference-reads.Asked, reference-reads.Learnt, build-part-below t, build-part.Post, high-reads.Asked, high-reads.Learnt, low-reads.Asked, low-reads.Learnt, put-pair-reads.Asked, put-pair-reads.Learnt, pair-reads.Asked, pair-reads.Learnt)
+build-claims t = (word-reads.Asked, word-reads.Learnt, build-ellipsis-below t, build-ellipsis.Post, build-leaf-reads.Asked, build-leaf-reads.Learnt, reference-reads.Asked, reference-reads.Learnt, build-part-below t, build-part.Post, parts-reads.Asked, parts-reads.Learnt, put-pair-reads.Asked, put-pair-reads.Learnt, pair-reads.Asked, pair-reads.Learnt)
 
 abbrev build-backwards-claims : ℕ → build-backwards-lts.Claims
-build-backwards-claims t = (begin-reads.Asked, begin-reads.Learnt, enter-reads.Asked, enter-reads.Learnt, build-part-below t, build-part.Post, high-reads.Asked, high-reads.Learnt, put-pair-reads.Asked, put-pair-reads.Learnt, low-reads.Asked, low-reads.Learnt, pair-reads.Asked, pair-reads.Learnt)
+build-backwards-claims t = (begin-reads.Asked, begin-reads.Learnt, enter-reads.Asked, enter-reads.Learnt, build-part-below t, build-part.Post, parts-reads.Asked, parts-reads.Learnt, put-pair-reads.Asked, put-pair-reads.Learnt, pair-reads.Asked, pair-reads.Learnt)
 
 abbrev build-copies-claims : ℕ → build-copies-lts.Claims
-build-copies-claims t = (build-elements-below t, build-elements.Post, high-reads.Asked, high-reads.Learnt, put-reversed-reads.Asked, put-reversed-reads.Learnt, low-reads.Asked, low-reads.Learnt, pair-reads.Asked, pair-reads.Learnt)
+build-copies-claims t = (build-elements-below t, build-elements.Post, parts-reads.Asked, parts-reads.Learnt, put-reversed-reads.Asked, put-reversed-reads.Learnt, pair-reads.Asked, pair-reads.Learnt)
 
 abbrev build-elements-claims : ℕ → build-elements-lts.Claims
 build-elements-claims t = (is-listed-reads.Asked, is-listed-reads.Learnt, build-backwards-below t, build-backwards.Post, word-reads.Asked, word-reads.Learnt, taken-reads.Asked, taken-reads.Learnt, copy-elements-reads.Asked, copy-elements-reads.Learnt)
 
 abbrev build-ellipsis-claims : ℕ → build-ellipsis-lts.Claims
-build-ellipsis-claims t = (reference-reads.Asked, reference-reads.Learnt, copies-reads.Asked, copies-reads.Learnt, build-part-below t, build-part.Post, high-reads.Asked, high-reads.Learnt, low-reads.Asked, low-reads.Learnt, build-copies-below t, build-copies.Post)
+build-ellipsis-claims t = (reference-reads.Asked, reference-reads.Learnt, copies-reads.Asked, copies-reads.Learnt, build-part-below t, build-part.Post, parts-reads.Asked, parts-reads.Learnt, build-copies-below t, build-copies.Post)
 
 abbrev build-part-claims : ℕ → build-part-lts.Claims
 build-part-claims t = (word-reads.Asked, word-reads.Learnt, build-leaf-reads.Asked, build-leaf-reads.Learnt, build-below t, build.Post)
@@ -201,37 +200,37 @@ build-build-part-requires t c κs =
 
 build-same-length-4 : (t : ℕ) → build-lts.Need-same-length-4 (build-claims t) (build-at t) build.Post
 build-same-length-4 t c =
-    c .before .before .before .build-part .kept .0
+    c .before .before .before .before .before .build-part .kept .0
 
 build-returns-4 : (t : ℕ) → build-lts.Need-returns-4 (build-claims t) (build-at t) build.Post
 unfolding builtOf
 build-returns-4 t c =
-    let a = c .before .before .before .before .before .before .before .before .before .before .before .before .before .before .before .args in pair-tail-costly (a .work .now) (a .top) (a .fuel) (a .env .now) (a .w) (a .t) _ (c .before .before .before .before .before .before .before .before .before .before .before .before .word .ensures) (c .before .before .before .before .before .before .before .before .before .before .before .before .before .before .before .pre .1) _ _ (c .before .before .before .before .before .before .before .reference .ensures) (c .before .before .before .before .before .reference2 .ensures) (c .before .before .before .before .before .before .before .before .before .before .if2 .left) _ (c .before .before .before .before .before .before .before .before .before .if3 .left) refl _ (stops-at (a .work .now) (c .before .before .before .build-part .last .0) (a .top) (a .fuel - 1) (a .env .now) (a .w) (c .before .before .before .before .before .reference2 .result) _ (built-none _ (c .if4 .taken)) (c .before .before .before .build-part .ensures))
+    let a = c .before .before .before .before .before .before .before .before .before .before .before .before .before .before .before .before .before .args in pair-tail-costly (a .work .now) (a .top) (a .fuel) (a .env .now) (a .w) (a .t) _ (c .before .before .before .before .before .before .before .before .before .before .before .before .before .before .word .ensures) (c .before .before .before .before .before .before .before .before .before .before .before .before .before .before .before .before .before .pre .1) _ _ (c .before .before .before .before .before .before .before .before .before .reference .ensures) (c .before .before .before .before .before .before .before .reference2 .ensures) (c .before .before .before .before .before .before .before .before .before .before .before .before .if2 .left) _ (c .before .before .before .before .before .before .before .before .before .before .before .if3 .left) refl _ (stops-at (a .work .now) (c .before .before .before .before .before .build-part .last .0) (a .top) (a .fuel - 1) (a .env .now) (a .w) (c .before .before .before .before .before .before .before .reference2 .result) _ (sym (c .before .before .parts .ensures) ∙ c .enum-told .given .1) (c .before .before .before .before .before .build-part .ensures))
 
 build-build-part-requires-2 : (t : ℕ) → build-lts.Need-build-part-requires-2 (build-claims t) (build-at t) build.Post
 build-build-part-requires-2 t c κs =
-    let a = c .before .before .before .before .before .before .before .before .before .before .before .before .before .before .before .before .before .before .args in let l = tag-falls (a .work .now) (a .t) _ (c .before .before .before .before .before .before .before .before .before .before .before .before .before .before .before .word .ensures) 3 _ (λ z. omega (arith, c .before .before .before .before .before .before .before .before .before .before .before .before .before .if2 .left)) (c .before .before .before .before .before .before .before .before .before .before .reference .ensures) in (omega (arith, l, c .before .before .before .before .before .before .before .before .before .before .before .before .before .before .before .before .before .before .pre .0), pair-head (a .work .now) (a .top) (a .fuel) (a .env .now) (a .w) (a .t) _ (c .before .before .before .before .before .before .before .before .before .before .before .before .before .before .before .word .ensures) (c .before .before .before .before .before .before .before .before .before .before .before .before .before .before .before .before .before .before .pre .1) _ _ (c .before .before .before .before .before .before .before .before .before .before .reference .ensures) (c .before .before .before .before .before .before .before .before .reference2 .ensures) (c .before .before .before .before .before .before .before .before .before .before .before .before .before .if2 .left) _ (c .before .before .before .before .before .before .before .before .before .before .before .before .if3 .left) refl _ _ _ (gives-at (a .work .now) (c .before .before .before .before .before .before .build-part .last .0) (a .top) (a .fuel - 1) (a .env .now) (a .w) (c .before .before .before .before .before .before .before .before .reference2 .result) _ _ _ (built-some _ _ _ (c .before .before .before .if4 .left) (c .before .before .high .ensures) (c .low .ensures)) (c .before .before .before .before .before .before .build-part .ensures)) (c .before .before .before .before .before .before .build-part .kept .0))
+    let a = c .before .before .before .before .before .before .before .before .before .before .before .before .before .before .before .before .before .before .before .args in let l = tag-falls (a .work .now) (a .t) _ (c .before .before .before .before .before .before .before .before .before .before .before .before .before .before .before .before .word .ensures) 3 _ (λ z. omega (arith, c .before .before .before .before .before .before .before .before .before .before .before .before .before .before .if2 .left)) (c .before .before .before .before .before .before .before .before .before .before .before .reference .ensures) in (omega (arith, l, c .before .before .before .before .before .before .before .before .before .before .before .before .before .before .before .before .before .before .before .pre .0), pair-head (a .work .now) (a .top) (a .fuel) (a .env .now) (a .w) (a .t) _ (c .before .before .before .before .before .before .before .before .before .before .before .before .before .before .before .before .word .ensures) (c .before .before .before .before .before .before .before .before .before .before .before .before .before .before .before .before .before .before .before .pre .1) _ _ (c .before .before .before .before .before .before .before .before .before .before .before .reference .ensures) (c .before .before .before .before .before .before .before .before .before .reference2 .ensures) (c .before .before .before .before .before .before .before .before .before .before .before .before .before .before .if2 .left) _ (c .before .before .before .before .before .before .before .before .before .before .before .before .before .if3 .left) refl _ _ _ (gives-at (a .work .now) (c .before .before .before .before .before .before .before .build-part .last .0) (a .top) (a .fuel - 1) (a .env .now) (a .w) (c .before .before .before .before .before .before .before .before .before .reference2 .result) _ _ _ (sym (c .before .before .before .before .parts .ensures) ∙ c .before .before .tail .given .1) (c .before .before .before .before .before .before .before .build-part .ensures)) (c .before .before .before .before .before .before .before .build-part .kept .0))
 
 build-same-length-5 : (t : ℕ) → build-lts.Need-same-length-5 (build-claims t) (build-at t) build.Post
 build-same-length-5 t c =
-    c .before .before .before .build-part2 .kept .0 ∙ c .before .before .before .before .before .before .before .before .before .before .build-part .kept .0
+    c .before .before .before .before .before .build-part2 .kept .0 ∙ c .before .before .before .before .before .before .before .before .before .before .before .before .before .build-part .kept .0
 
 build-returns-5 : (t : ℕ) → build-lts.Need-returns-5 (build-claims t) (build-at t) build.Post
 unfolding builtOf
 build-returns-5 t c =
-    let a = c .before .before .before .before .before .before .before .before .before .before .before .before .before .before .before .before .before .before .before .before .before .before .args in pair-head-costly (a .work .now) (a .top) (a .fuel) (a .env .now) (a .w) (a .t) _ (c .before .before .before .before .before .before .before .before .before .before .before .before .before .before .before .before .before .before .before .word .ensures) (c .before .before .before .before .before .before .before .before .before .before .before .before .before .before .before .before .before .before .before .before .before .before .pre .1) _ _ (c .before .before .before .before .before .before .before .before .before .before .before .before .before .before .reference .ensures) (c .before .before .before .before .before .before .before .before .before .before .before .before .reference2 .ensures) (c .before .before .before .before .before .before .before .before .before .before .before .before .before .before .before .before .before .if2 .left) _ (c .before .before .before .before .before .before .before .before .before .before .before .before .before .before .before .before .if3 .left) refl _ _ _ (gives-at (a .work .now) (c .before .before .before .before .before .before .before .before .before .before .build-part .last .0) (a .top) (a .fuel - 1) (a .env .now) (a .w) (c .before .before .before .before .before .before .before .before .before .before .before .before .reference2 .result) _ _ _ (built-some _ _ _ (c .before .before .before .before .before .before .before .if4 .left) (c .before .before .before .before .before .before .high .ensures) (c .before .before .before .before .low .ensures)) (c .before .before .before .before .before .before .before .before .before .before .build-part .ensures)) (c .before .before .before .before .before .before .before .before .before .before .build-part .kept .0) _ (stops-at (c .before .before .before .before .before .before .before .before .before .before .build-part .last .0) (c .before .before .before .build-part2 .last .0) _ _ (a .env .now) (a .w) (c .before .before .before .before .before .before .before .before .before .before .before .before .before .before .reference .result) _ (built-none _ (c .if5 .taken)) (c .before .before .before .build-part2 .ensures))
+    let a = c .before .before .before .before .before .before .before .before .before .before .before .before .before .before .before .before .before .before .before .before .before .before .before .before .before .args in pair-head-costly (a .work .now) (a .top) (a .fuel) (a .env .now) (a .w) (a .t) _ (c .before .before .before .before .before .before .before .before .before .before .before .before .before .before .before .before .before .before .before .before .before .before .word .ensures) (c .before .before .before .before .before .before .before .before .before .before .before .before .before .before .before .before .before .before .before .before .before .before .before .before .before .pre .1) _ _ (c .before .before .before .before .before .before .before .before .before .before .before .before .before .before .before .before .before .reference .ensures) (c .before .before .before .before .before .before .before .before .before .before .before .before .before .before .before .reference2 .ensures) (c .before .before .before .before .before .before .before .before .before .before .before .before .before .before .before .before .before .before .before .before .if2 .left) _ (c .before .before .before .before .before .before .before .before .before .before .before .before .before .before .before .before .before .before .before .if3 .left) refl _ _ _ (gives-at (a .work .now) (c .before .before .before .before .before .before .before .before .before .before .before .before .before .build-part .last .0) (a .top) (a .fuel - 1) (a .env .now) (a .w) (c .before .before .before .before .before .before .before .before .before .before .before .before .before .before .before .reference2 .result) _ _ _ (sym (c .before .before .before .before .before .before .before .before .before .before .parts .ensures) ∙ c .before .before .before .before .before .before .before .before .tail .given .1) (c .before .before .before .before .before .before .before .before .before .before .before .before .before .build-part .ensures)) (c .before .before .before .before .before .before .before .before .before .before .before .before .before .build-part .kept .0) _ (stops-at (c .before .before .before .before .before .before .before .before .before .before .before .before .before .build-part .last .0) (c .before .before .before .before .before .build-part2 .last .0) _ _ (a .env .now) (a .w) (c .before .before .before .before .before .before .before .before .before .before .before .before .before .before .before .before .before .reference .result) _ (sym (c .before .before .parts2 .ensures) ∙ c .enum-told2 .given .1) (c .before .before .before .before .before .build-part2 .ensures))
 
 build-put-pair-requires : (t : ℕ) → build-lts.Need-put-pair-requires (build-claims t) (build-at t) build.Post
 build-put-pair-requires t c κs =
-    let a = c .before .before .before .before .before .before .before .before .before .before .before .before .before .before .before .before .before .before .before .before .before .before .before .before .args in let h = gives-at (c .before .before .before .before .before .before .before .before .before .before .before .before .build-part .last .0) (c .before .before .before .before .before .build-part2 .last .0) _ _ (a .env .now) (a .w) (c .before .before .before .before .before .before .before .before .before .before .before .before .before .before .before .before .reference .result) _ _ _ (built-some _ _ _ (c .before .before .if5 .left) (c .before .high2 .ensures) refl) (c .before .before .before .before .before .build-part2 .ensures) in (pair-room (a .work .now) (a .top) (a .fuel) (a .env .now) (a .w) (a .t) _ (c .before .before .before .before .before .before .before .before .before .before .before .before .before .before .before .before .before .before .before .before .before .word .ensures) (c .before .before .before .before .before .before .before .before .before .before .before .before .before .before .before .before .before .before .before .before .before .before .before .before .pre .1) _ _ (c .before .before .before .before .before .before .before .before .before .before .before .before .before .before .before .before .reference .ensures) (c .before .before .before .before .before .before .before .before .before .before .before .before .before .before .reference2 .ensures) (c .before .before .before .before .before .before .before .before .before .before .before .before .before .before .before .before .before .before .before .if2 .left) _ (c .before .before .before .before .before .before .before .before .before .before .before .before .before .before .before .before .before .before .if3 .left) refl _ _ _ (gives-at (a .work .now) (c .before .before .before .before .before .before .before .before .before .before .before .before .build-part .last .0) (a .top) (a .fuel - 1) (a .env .now) (a .w) (c .before .before .before .before .before .before .before .before .before .before .before .before .before .before .reference2 .result) _ _ _ (built-some _ _ _ (c .before .before .before .before .before .before .before .before .before .if4 .left) (c .before .before .before .before .before .before .before .before .high .ensures) (c .before .before .before .before .before .before .low .ensures)) (c .before .before .before .before .before .before .before .before .before .before .before .before .build-part .ensures)) (c .before .before .before .before .before .before .before .before .before .before .before .before .build-part .kept .0) _ _ _ h (c .before .before .before .before .before .build-part2 .kept .0), omega arith, h .paid .above)
+    let a = c .before .before .before .before .before .before .before .before .before .before .before .before .before .before .before .before .before .before .before .before .before .before .before .before .before .before .before .args in let h = gives-at (c .before .before .before .before .before .before .before .before .before .before .before .before .before .before .before .build-part .last .0) (c .before .before .before .before .before .before .before .build-part2 .last .0) _ _ (a .env .now) (a .w) (c .before .before .before .before .before .before .before .before .before .before .before .before .before .before .before .before .before .before .before .reference .result) _ _ _ (sym (c .before .before .before .before .parts2 .ensures) ∙ c .before .before .head .given .1) (c .before .before .before .before .before .before .before .build-part2 .ensures) in (pair-room (a .work .now) (a .top) (a .fuel) (a .env .now) (a .w) (a .t) _ (c .before .before .before .before .before .before .before .before .before .before .before .before .before .before .before .before .before .before .before .before .before .before .before .before .word .ensures) (c .before .before .before .before .before .before .before .before .before .before .before .before .before .before .before .before .before .before .before .before .before .before .before .before .before .before .before .pre .1) _ _ (c .before .before .before .before .before .before .before .before .before .before .before .before .before .before .before .before .before .before .before .reference .ensures) (c .before .before .before .before .before .before .before .before .before .before .before .before .before .before .before .before .before .reference2 .ensures) (c .before .before .before .before .before .before .before .before .before .before .before .before .before .before .before .before .before .before .before .before .before .before .if2 .left) _ (c .before .before .before .before .before .before .before .before .before .before .before .before .before .before .before .before .before .before .before .before .before .if3 .left) refl _ _ _ (gives-at (a .work .now) (c .before .before .before .before .before .before .before .before .before .before .before .before .before .before .before .build-part .last .0) (a .top) (a .fuel - 1) (a .env .now) (a .w) (c .before .before .before .before .before .before .before .before .before .before .before .before .before .before .before .before .before .reference2 .result) _ _ _ (sym (c .before .before .before .before .before .before .before .before .before .before .before .before .parts .ensures) ∙ c .before .before .before .before .before .before .before .before .before .before .tail .given .1) (c .before .before .before .before .before .before .before .before .before .before .before .before .before .before .before .build-part .ensures)) (c .before .before .before .before .before .before .before .before .before .before .before .before .before .before .before .build-part .kept .0) _ _ _ h (c .before .before .before .before .before .before .before .build-part2 .kept .0), omega arith, h .paid .above)
 
 build-same-length-6 : (t : ℕ) → build-lts.Need-same-length-6 (build-claims t) (build-at t) build.Post
 build-same-length-6 t c =
-    c .before .before .before .before .put-pair .kept .0 ∙ c .before .before .before .before .before .before .before .before .before .before .build-part2 .kept .0 ∙ c .before .before .before .before .before .before .before .before .before .before .before .before .before .before .before .before .before .build-part .kept .0
+    c .before .before .before .put-pair .kept .0 ∙ c .before .before .before .before .before .before .before .before .before .before .before .build-part2 .kept .0 ∙ c .before .before .before .before .before .before .before .before .before .before .before .before .before .before .before .before .before .before .before .build-part .kept .0
 
 build-returns-6 : (t : ℕ) → build-lts.Need-returns-6 (build-claims t) (build-at t) build.Post
 build-returns-6 t c =
-    let a = c .before .before .before .before .before .before .before .before .before .before .before .before .before .before .before .before .before .before .before .before .before .before .before .before .before .before .before .before .before .args in made-packed (a .work .now) _ (a .top) (a .fuel) (a .env .now) (a .w) (a .t) _ _ _ (c .before .before .before .before .before .before .before .before .before .before .before .before .before .before .before .before .before .before .before .before .before .before .before .before .before .before .before .before .before .pre .1) (c .pair .ensures) (made-pair (a .work .now) (a .top) (a .fuel) (a .env .now) (a .w) (a .t) _ (c .before .before .before .before .before .before .before .before .before .before .before .before .before .before .before .before .before .before .before .before .before .before .before .before .before .before .word .ensures) (c .before .before .before .before .before .before .before .before .before .before .before .before .before .before .before .before .before .before .before .before .before .before .before .before .before .before .before .before .before .pre .1) _ _ (c .before .before .before .before .before .before .before .before .before .before .before .before .before .before .before .before .before .before .before .before .before .reference .ensures) (c .before .before .before .before .before .before .before .before .before .before .before .before .before .before .before .before .before .before .before .reference2 .ensures) (c .before .before .before .before .before .before .before .before .before .before .before .before .before .before .before .before .before .before .before .before .before .before .before .before .if2 .left) _ (c .before .before .before .before .before .before .before .before .before .before .before .before .before .before .before .before .before .before .before .before .before .before .before .if3 .left) refl _ _ _ (gives-at (a .work .now) (c .before .before .before .before .before .before .before .before .before .before .before .before .before .before .before .before .before .build-part .last .0) (a .top) (a .fuel - 1) (a .env .now) (a .w) (c .before .before .before .before .before .before .before .before .before .before .before .before .before .before .before .before .before .before .before .reference2 .result) _ _ _ (built-some _ _ _ (c .before .before .before .before .before .before .before .before .before .before .before .before .before .before .if4 .left) (c .before .before .before .before .before .before .before .before .before .before .before .before .before .high .ensures) (c .before .before .before .before .before .before .before .before .before .before .before .low .ensures)) (c .before .before .before .before .before .before .before .before .before .before .before .before .before .before .before .before .before .build-part .ensures)) (c .before .before .before .before .before .before .before .before .before .before .before .before .before .before .before .before .before .build-part .kept .0) _ _ _ (gives-at (c .before .before .before .before .before .before .before .before .before .before .before .before .before .before .before .before .before .build-part .last .0) (c .before .before .before .before .before .before .before .before .before .before .build-part2 .last .0) _ _ (a .env .now) (a .w) (c .before .before .before .before .before .before .before .before .before .before .before .before .before .before .before .before .before .before .before .before .before .reference .result) _ _ _ (built-some _ _ _ (c .before .before .before .before .before .before .before .if5 .left) (c .before .before .before .before .before .before .high2 .ensures) (c .before .low2 .ensures)) (c .before .before .before .before .before .before .before .before .before .before .build-part2 .ensures)) _ _ (c .before .before .before .before .put-pair .ensures))
+    let a = c .before .before .before .before .before .before .before .before .before .before .before .before .before .before .before .before .before .before .before .before .before .before .before .before .before .before .before .before .before .before .before .args in made-packed (a .work .now) _ (a .top) (a .fuel) (a .env .now) (a .w) (a .t) _ _ _ (c .before .before .before .before .before .before .before .before .before .before .before .before .before .before .before .before .before .before .before .before .before .before .before .before .before .before .before .before .before .before .before .pre .1) (c .pair .ensures) (made-pair (a .work .now) (a .top) (a .fuel) (a .env .now) (a .w) (a .t) _ (c .before .before .before .before .before .before .before .before .before .before .before .before .before .before .before .before .before .before .before .before .before .before .before .before .before .before .before .before .word .ensures) (c .before .before .before .before .before .before .before .before .before .before .before .before .before .before .before .before .before .before .before .before .before .before .before .before .before .before .before .before .before .before .before .pre .1) _ _ (c .before .before .before .before .before .before .before .before .before .before .before .before .before .before .before .before .before .before .before .before .before .before .before .reference .ensures) (c .before .before .before .before .before .before .before .before .before .before .before .before .before .before .before .before .before .before .before .before .before .reference2 .ensures) (c .before .before .before .before .before .before .before .before .before .before .before .before .before .before .before .before .before .before .before .before .before .before .before .before .before .before .if2 .left) _ (c .before .before .before .before .before .before .before .before .before .before .before .before .before .before .before .before .before .before .before .before .before .before .before .before .before .if3 .left) refl _ _ _ (gives-at (a .work .now) (c .before .before .before .before .before .before .before .before .before .before .before .before .before .before .before .before .before .before .before .build-part .last .0) (a .top) (a .fuel - 1) (a .env .now) (a .w) (c .before .before .before .before .before .before .before .before .before .before .before .before .before .before .before .before .before .before .before .before .before .reference2 .result) _ _ _ (sym (c .before .before .before .before .before .before .before .before .before .before .before .before .before .before .before .before .parts .ensures) ∙ c .before .before .before .before .before .before .before .before .before .before .before .before .before .before .tail .given .1) (c .before .before .before .before .before .before .before .before .before .before .before .before .before .before .before .before .before .before .before .build-part .ensures)) (c .before .before .before .before .before .before .before .before .before .before .before .before .before .before .before .before .before .before .before .build-part .kept .0) _ _ _ (gives-at (c .before .before .before .before .before .before .before .before .before .before .before .before .before .before .before .before .before .before .before .build-part .last .0) (c .before .before .before .before .before .before .before .before .before .before .before .build-part2 .last .0) _ _ (a .env .now) (a .w) (c .before .before .before .before .before .before .before .before .before .before .before .before .before .before .before .before .before .before .before .before .before .before .before .reference .result) _ _ _ (sym (c .before .before .before .before .before .before .before .before .parts2 .ensures) ∙ c .before .before .before .before .before .before .head .given .1) (c .before .before .before .before .before .before .before .before .before .before .before .build-part2 .ensures)) _ _ (c .before .before .before .put-pair .ensures))
 
 abbrev build-backwards-Inv-loop : build-backwards-lts.InvT-loop
 build-backwards-Inv-loop work₀ top fuel env w e c moving table₀ list₀ left₀ k₀ work table list left k =
@@ -267,24 +266,24 @@ build-backwards-build-part-requires t c κs =
 
 build-backwards-same-length-2 : (t : ℕ) → build-backwards-lts.Need-same-length-2 (build-backwards-claims t) (build-backwards-at t) build-backwards.Post build-backwards-Inv-loop build-backwards-μ-loop
 build-backwards-same-length-2 t c =
-    c .before .before .before .build-part .kept .0 ∙ c .before .before .before .before .before .before .before .before .before .before .before .loop .inv .long
+    c .before .before .before .before .before .build-part .kept .0 ∙ c .before .before .before .before .before .before .before .before .before .before .before .before .before .loop .inv .long
 
 build-backwards-returns-2 : (t : ℕ) → build-backwards-lts.Need-returns-2 (build-backwards-claims t) (build-backwards-at t) build-backwards.Post build-backwards-Inv-loop build-backwards-μ-loop
 unfolding builtOf
 build-backwards-returns-2 t c =
-    let a = c .before .before .before .before .before .before .before .before .before .before .before .before .before .before .before .args in copy-costly (a .work .now) (a .top) (a .fuel) (a .env .now) (a .w) (a .e) (a .c) (c .before .before .before .before .before .before .before .before .before .before .before .before .before .before .before .pre .1) _ _ _ _ _ (c .before .before .before .before .before .before .before .before .before .before .before .loop .inv) (c .before .before .before .before .before .before .before .before .before .before .loop-test .taken) (c .before .before .before .before .before .before .before .before .before .if1 .left) _ (c .before .before .before .before .before .before .enter .ensures) _ (stops-at (c .before .before .before .before .before .before .before .before .before .before .before .loop .work) (c .before .before .before .build-part .last .0) (c .before .before .before .before .before .before .before .before .before .before .before .loop .list) (c .before .before .before .before .before .before .before .before .before .before .before .loop .left - 1) (c .before .before .before .before .before .before .enter .last .1 .0) (a .w) (a .e) _ (built-none _ (c .if2 .taken)) (c .before .before .before .build-part .ensures))
+    let a = c .before .before .before .before .before .before .before .before .before .before .before .before .before .before .before .before .before .args in copy-costly (a .work .now) (a .top) (a .fuel) (a .env .now) (a .w) (a .e) (a .c) (c .before .before .before .before .before .before .before .before .before .before .before .before .before .before .before .before .before .pre .1) _ _ _ _ _ (c .before .before .before .before .before .before .before .before .before .before .before .before .before .loop .inv) (c .before .before .before .before .before .before .before .before .before .before .before .before .loop-test .taken) (c .before .before .before .before .before .before .before .before .before .before .before .if1 .left) _ (c .before .before .before .before .before .before .before .before .enter .ensures) _ (stops-at (c .before .before .before .before .before .before .before .before .before .before .before .before .before .loop .work) (c .before .before .before .before .before .build-part .last .0) (c .before .before .before .before .before .before .before .before .before .before .before .before .before .loop .list) (c .before .before .before .before .before .before .before .before .before .before .before .before .before .loop .left - 1) (c .before .before .before .before .before .before .before .before .enter .last .1 .0) (a .w) (a .e) _ (sym (c .before .before .parts .ensures) ∙ c .enum-told .given .1) (c .before .before .before .before .before .build-part .ensures))
 
 build-backwards-put-pair-requires : (t : ℕ) → build-backwards-lts.Need-put-pair-requires (build-backwards-claims t) (build-backwards-at t) build-backwards.Post build-backwards-Inv-loop build-backwards-μ-loop
 build-backwards-put-pair-requires t c κs =
-    let a = c .before .before .before .before .before .before .before .before .before .before .before .before .before .before .before .before .before .args in let b = gives-at (c .before .before .before .before .before .before .before .before .before .before .before .before .before .loop .work) (c .before .before .before .before .before .build-part .last .0) (c .before .before .before .before .before .before .before .before .before .before .before .before .before .loop .list) (c .before .before .before .before .before .before .before .before .before .before .before .before .before .loop .left - 1) (c .before .before .before .before .before .before .before .before .enter .last .1 .0) (a .w) (a .e) _ _ _ (built-some _ _ _ (c .before .before .if2 .left) (c .before .high .ensures) refl) (c .before .before .before .before .before .build-part .ensures) in (copy-room (a .work .now) (a .top) (a .fuel) (a .env .now) (a .w) (a .e) (a .c) (c .before .before .before .before .before .before .before .before .before .before .before .before .before .before .before .before .before .pre .1) _ _ _ _ _ (c .before .before .before .before .before .before .before .before .before .before .before .before .before .loop .inv) (c .before .before .before .before .before .before .before .before .before .before .before .before .loop-test .taken) (c .before .before .before .before .before .before .before .before .before .before .before .if1 .left) _ (c .before .before .before .before .before .before .before .before .enter .ensures) _ _ _ b (c .before .before .before .before .before .build-part .kept .0), omega arith, b .paid .above)
+    let a = c .before .before .before .before .before .before .before .before .before .before .before .before .before .before .before .before .before .before .before .args in let b = gives-at (c .before .before .before .before .before .before .before .before .before .before .before .before .before .before .before .loop .work) (c .before .before .before .before .before .before .before .build-part .last .0) (c .before .before .before .before .before .before .before .before .before .before .before .before .before .before .before .loop .list) (c .before .before .before .before .before .before .before .before .before .before .before .before .before .before .before .loop .left - 1) (c .before .before .before .before .before .before .before .before .before .before .enter .last .1 .0) (a .w) (a .e) _ _ _ (sym (c .before .before .before .before .parts .ensures) ∙ c .before .before .head .given .1) (c .before .before .before .before .before .before .before .build-part .ensures) in (copy-room (a .work .now) (a .top) (a .fuel) (a .env .now) (a .w) (a .e) (a .c) (c .before .before .before .before .before .before .before .before .before .before .before .before .before .before .before .before .before .before .before .pre .1) _ _ _ _ _ (c .before .before .before .before .before .before .before .before .before .before .before .before .before .before .before .loop .inv) (c .before .before .before .before .before .before .before .before .before .before .before .before .before .before .loop-test .taken) (c .before .before .before .before .before .before .before .before .before .before .before .before .before .if1 .left) _ (c .before .before .before .before .before .before .before .before .before .before .enter .ensures) _ _ _ b (c .before .before .before .before .before .before .before .build-part .kept .0), omega arith, b .paid .above)
 
 build-backwards-loop-less : (t : ℕ) → build-backwards-lts.Need-loop-less (build-backwards-claims t) (build-backwards-at t) build-backwards.Post build-backwards-Inv-loop build-backwards-μ-loop
 build-backwards-loop-less t c =
-    omega (arith, c .before .before .before .before .before .before .before .before .before .before .before .before .before .before .before .before .loop-test .taken)
+    omega (arith, c .before .before .before .before .before .before .before .before .before .before .before .before .before .before .before .before .before .loop-test .taken)
 
 build-backwards-loop-again : (t : ℕ) → build-backwards-lts.Need-loop-again (build-backwards-claims t) (build-backwards-at t) build-backwards.Post build-backwards-Inv-loop build-backwards-μ-loop
 build-backwards-loop-again t c =
-    let a = c .before .before .before .before .before .before .before .before .before .before .before .before .before .before .before .before .before .before .before .before .before .args in turning-more (a .work .now) (a .top) (a .fuel) (a .env .now) (a .w) (a .e) (a .c) (c .before .before .before .before .before .before .before .before .before .before .before .before .before .before .before .before .before .before .before .before .before .pre .1) _ _ _ _ _ (c .before .before .before .before .before .before .before .before .before .before .before .before .before .before .before .before .before .loop .inv) (c .before .before .before .before .before .before .before .before .before .before .before .before .before .before .before .before .loop-test .taken) (c .before .before .before .before .before .before .before .before .before .before .before .before .before .before .before .if1 .left) _ (c .before .before .before .before .before .before .before .before .before .before .before .before .enter .ensures) _ _ _ (gives-at (c .before .before .before .before .before .before .before .before .before .before .before .before .before .before .before .before .before .loop .work) (c .before .before .before .before .before .before .before .before .before .build-part .last .0) (c .before .before .before .before .before .before .before .before .before .before .before .before .before .before .before .before .before .loop .list) (c .before .before .before .before .before .before .before .before .before .before .before .before .before .before .before .before .before .loop .left - 1) (c .before .before .before .before .before .before .before .before .before .before .before .before .enter .last .1 .0) (a .w) (a .e) _ _ _ (built-some _ _ _ (c .before .before .before .before .before .before .if2 .left) (c .before .before .before .before .before .high .ensures) (c .low .ensures)) (c .before .before .before .before .before .before .before .before .before .build-part .ensures)) (c .before .before .before .before .before .before .before .before .before .build-part .kept .0) _ _ (c .before .before .before .put-pair .ensures) (c .before .before .before .put-pair .kept .0)
+    let a = c .before .before .before .before .before .before .before .before .before .before .before .before .before .before .before .before .before .before .before .before .before .before .args in turning-more (a .work .now) (a .top) (a .fuel) (a .env .now) (a .w) (a .e) (a .c) (c .before .before .before .before .before .before .before .before .before .before .before .before .before .before .before .before .before .before .before .before .before .before .pre .1) _ _ _ _ _ (c .before .before .before .before .before .before .before .before .before .before .before .before .before .before .before .before .before .before .loop .inv) (c .before .before .before .before .before .before .before .before .before .before .before .before .before .before .before .before .before .loop-test .taken) (c .before .before .before .before .before .before .before .before .before .before .before .before .before .before .before .before .if1 .left) _ (c .before .before .before .before .before .before .before .before .before .before .before .before .before .enter .ensures) _ _ _ (gives-at (c .before .before .before .before .before .before .before .before .before .before .before .before .before .before .before .before .before .before .loop .work) (c .before .before .before .before .before .before .before .before .before .before .build-part .last .0) (c .before .before .before .before .before .before .before .before .before .before .before .before .before .before .before .before .before .before .loop .list) (c .before .before .before .before .before .before .before .before .before .before .before .before .before .before .before .before .before .before .loop .left - 1) (c .before .before .before .before .before .before .before .before .before .before .before .before .before .enter .last .1 .0) (a .w) (a .e) _ _ _ (sym (c .before .before .before .before .before .before .before .parts .ensures) ∙ c .before .before .before .before .before .head .given .1) (c .before .before .before .before .before .before .before .before .before .before .build-part .ensures)) (c .before .before .before .before .before .before .before .before .before .before .build-part .kept .0) _ _ (c .before .before .put-pair .ensures) (c .before .before .put-pair .kept .0)
 
 build-backwards-same-length-3 : (t : ℕ) → build-backwards-lts.Need-same-length-3 (build-backwards-claims t) (build-backwards-at t) build-backwards.Post build-backwards-Inv-loop build-backwards-μ-loop
 build-backwards-same-length-3 t c =
@@ -300,24 +299,24 @@ build-copies-build-elements-requires t c κs =
 
 build-copies-same-length : (t : ℕ) → build-copies-lts.Need-same-length (build-copies-claims t) (build-copies-at t) build-copies.Post
 build-copies-same-length t c =
-    c .before .before .before .build-elements .kept .0
+    c .before .before .before .before .before .build-elements .kept .0
 
 build-copies-returns : (t : ℕ) → build-copies-lts.Need-returns (build-copies-claims t) (build-copies-at t) build-copies.Post
 unfolding builtOf
 build-copies-returns t c =
-    let a = c .before .before .before .before .before .before .args in subst (Backwards (a .work .now) (c .before .before .before .build-elements .last .0) (a .top) (a .fuel) (a .env .now) (a .w) (a .e) (a .c)) (built-none _ (c .if1 .taken)) (c .before .before .before .build-elements .ensures)
+    let a = c .before .before .before .before .before .before .before .before .args in subst (Backwards (a .work .now) (c .before .before .before .before .before .build-elements .last .0) (a .top) (a .fuel) (a .env .now) (a .w) (a .e) (a .c)) (sym (c .before .before .parts .ensures) ∙ c .enum-told .given .1) (c .before .before .before .before .before .build-elements .ensures)
 
 build-copies-put-reversed-requires : (t : ℕ) → build-copies-lts.Need-put-reversed-requires (build-copies-claims t) (build-copies-at t) build-copies.Post
 build-copies-put-reversed-requires t c κs =
-    let a = c .before .before .before .before .before .before .before .before .args in reversed-asks (a .work .now) (a .top) (a .fuel) (a .env .now) (a .w) (a .e) (a .c) (c .before .before .before .before .before .before .before .before .pre .1) _ _ _ (subst (Backwards (a .work .now) (c .before .before .before .before .before .build-elements .last .0) (a .top) (a .fuel) (a .env .now) (a .w) (a .e) (a .c)) (built-some _ _ _ (c .before .before .if1 .left) (c .before .high .ensures) refl) (c .before .before .before .before .before .build-elements .ensures)) (c .before .before .before .before .before .build-elements .kept .0)
+    let a = c .before .before .before .before .before .before .before .before .before .before .args in reversed-asks (a .work .now) (a .top) (a .fuel) (a .env .now) (a .w) (a .e) (a .c) (c .before .before .before .before .before .before .before .before .before .before .pre .1) _ _ _ (subst (Backwards (a .work .now) (c .before .before .before .before .before .before .before .build-elements .last .0) (a .top) (a .fuel) (a .env .now) (a .w) (a .e) (a .c)) (sym (c .before .before .before .before .parts .ensures) ∙ c .before .before .list .given .1) (c .before .before .before .before .before .before .before .build-elements .ensures)) (c .before .before .before .before .before .before .before .build-elements .kept .0)
 
 build-copies-same-length-2 : (t : ℕ) → build-copies-lts.Need-same-length-2 (build-copies-claims t) (build-copies-at t) build-copies.Post
 build-copies-same-length-2 t c =
-    c .before .before .before .before .put-reversed .kept .0 ∙ c .before .before .before .before .before .before .before .before .before .before .build-elements .kept .0
+    c .before .before .before .put-reversed .kept .0 ∙ c .before .before .before .before .before .before .before .before .before .before .before .build-elements .kept .0
 
 build-copies-returns-2 : (t : ℕ) → build-copies-lts.Need-returns-2 (build-copies-claims t) (build-copies-at t) build-copies.Post
 build-copies-returns-2 t c =
-    let a = c .before .before .before .before .before .before .before .before .before .before .before .before .before .args in copied-packed (a .work .now) (a .top) (a .fuel) (a .env .now) (a .w) (a .e) (a .c) (c .before .before .before .before .before .before .before .before .before .before .before .before .before .pre .1) _ _ _ (subst (Backwards (a .work .now) (c .before .before .before .before .before .before .before .before .before .before .build-elements .last .0) (a .top) (a .fuel) (a .env .now) (a .w) (a .e) (a .c)) (built-some _ _ _ (c .before .before .before .before .before .before .before .if1 .left) (c .before .before .before .before .before .before .high .ensures) (c .before .low .ensures)) (c .before .before .before .before .before .before .before .before .before .before .build-elements .ensures)) (c .before .before .before .before .before .before .before .before .before .before .build-elements .kept .0) _ _ _ (c .pair .ensures) (c .before .before .before .before .put-reversed .ensures)
+    let a = c .before .before .before .before .before .before .before .before .before .before .before .before .before .before .args in copied-packed (a .work .now) (a .top) (a .fuel) (a .env .now) (a .w) (a .e) (a .c) (c .before .before .before .before .before .before .before .before .before .before .before .before .before .before .pre .1) _ _ _ (subst (Backwards (a .work .now) (c .before .before .before .before .before .before .before .before .before .before .before .build-elements .last .0) (a .top) (a .fuel) (a .env .now) (a .w) (a .e) (a .c)) (sym (c .before .before .before .before .before .before .before .before .parts .ensures) ∙ c .before .before .before .before .before .before .list .given .1) (c .before .before .before .before .before .before .before .before .before .before .before .build-elements .ensures)) (c .before .before .before .before .before .before .before .before .before .before .before .build-elements .kept .0) _ _ _ (c .pair .ensures) (c .before .before .before .put-reversed .ensures)
 
 build-elements-build-backwards-requires :
     (t : ℕ) → build-elements-lts.Need-build-backwards-requires (build-elements-claims t) (build-elements-at t) build-elements.Post
@@ -355,24 +354,24 @@ build-ellipsis-build-part-requires t c κs =
 
 build-ellipsis-same-length-2 : (t : ℕ) → build-ellipsis-lts.Need-same-length-2 (build-ellipsis-claims t) (build-ellipsis-at t) build-ellipsis.Post
 build-ellipsis-same-length-2 t c =
-    c .before .before .before .build-part .kept .0
+    c .before .before .before .before .before .build-part .kept .0
 
 build-ellipsis-returns-2 : (t : ℕ) → build-ellipsis-lts.Need-returns-2 (build-ellipsis-claims t) (build-ellipsis-at t) build-ellipsis.Post
 unfolding builtOf
 build-ellipsis-returns-2 t c =
-    let a = c .before .before .before .before .before .before .before .before .before .before .before .before .before .before .before .args in ellipsis-rest-costly (a .work .now) (a .top) (a .fuel) (a .env .now) (a .w) (a .t) _ refl (c .before .before .before .before .before .before .before .before .before .before .before .before .before .before .before .pre .1 .0) _ _ (c .before .before .before .before .before .before .before .before .before .before .before .before .reference .ensures) (c .before .before .before .before .before .before .before .before .before .before .reference2 .ensures) (c .before .before .before .before .before .before .before .before .before .before .before .before .before .before .before .pre .1 .1) _ (counted-of _ _ _ _ _ (c .before .before .before .before .before .before .c .given .1) (c .before .before .before .before .before .before .before .before .copies .ensures)) _ (stops-at (a .work .now) (c .before .before .before .build-part .last .0) (a .top) (a .fuel) (a .env .now) (a .w) (c .before .before .before .before .before .before .before .before .before .before .reference2 .result) _ (built-none _ (c .if1 .taken)) (c .before .before .before .build-part .ensures))
+    let a = c .before .before .before .before .before .before .before .before .before .before .before .before .before .before .before .before .before .args in ellipsis-rest-costly (a .work .now) (a .top) (a .fuel) (a .env .now) (a .w) (a .t) _ refl (c .before .before .before .before .before .before .before .before .before .before .before .before .before .before .before .before .before .pre .1 .0) _ _ (c .before .before .before .before .before .before .before .before .before .before .before .before .before .before .reference .ensures) (c .before .before .before .before .before .before .before .before .before .before .before .before .reference2 .ensures) (c .before .before .before .before .before .before .before .before .before .before .before .before .before .before .before .before .before .pre .1 .1) _ (counted-of _ _ _ _ _ (c .before .before .before .before .before .before .before .before .c .given .1) (c .before .before .before .before .before .before .before .before .before .before .copies .ensures)) _ (stops-at (a .work .now) (c .before .before .before .before .before .build-part .last .0) (a .top) (a .fuel) (a .env .now) (a .w) (c .before .before .before .before .before .before .before .before .before .before .before .before .reference2 .result) _ (sym (c .before .before .parts .ensures) ∙ c .enum-told2 .given .1) (c .before .before .before .before .before .build-part .ensures))
 
 build-ellipsis-build-copies-requires : (t : ℕ) → build-ellipsis-lts.Need-build-copies-requires (build-ellipsis-claims t) (build-ellipsis-at t) build-ellipsis.Post
 build-ellipsis-build-copies-requires t c κs =
-    let a = c .before .before .before .before .before .before .before .before .before .before .before .before .before .before .before .before .before .before .args in let l = tag-falls (a .work .now) (a .t) _ refl 3 _ (λ z. omega (arith, c .before .before .before .before .before .before .before .before .before .before .before .before .before .before .before .before .before .before .pre .1 .1)) (c .before .before .before .before .before .before .before .before .before .before .before .before .before .before .before .reference .ensures) in (omega (arith, l, c .before .before .before .before .before .before .before .before .before .before .before .before .before .before .before .before .before .before .pre .0), ellipsis-copies (a .work .now) (a .top) (a .fuel) (a .env .now) (a .w) (a .t) _ refl (c .before .before .before .before .before .before .before .before .before .before .before .before .before .before .before .before .before .before .pre .1 .0) _ _ (c .before .before .before .before .before .before .before .before .before .before .before .before .before .before .before .reference .ensures) (c .before .before .before .before .before .before .before .before .before .before .before .before .before .reference2 .ensures) (c .before .before .before .before .before .before .before .before .before .before .before .before .before .before .before .before .before .before .pre .1 .1) _ (counted-of _ _ _ _ _ (c .before .before .before .before .before .before .before .before .before .c .given .1) (c .before .before .before .before .before .before .before .before .before .before .before .copies .ensures)) _ _ _ (gives-at (a .work .now) (c .before .before .before .before .before .before .build-part .last .0) (a .top) (a .fuel) (a .env .now) (a .w) (c .before .before .before .before .before .before .before .before .before .before .before .before .before .reference2 .result) _ _ _ (built-some _ _ _ (c .before .before .before .if1 .left) (c .before .high .ensures) (c .low .ensures)) (c .before .before .before .before .before .before .build-part .ensures)) (c .before .before .before .before .before .before .build-part .kept .0))
+    let a = c .before .before .before .before .before .before .before .before .before .before .before .before .before .before .before .before .before .before .before .args in let l = tag-falls (a .work .now) (a .t) _ refl 3 _ (λ z. omega (arith, c .before .before .before .before .before .before .before .before .before .before .before .before .before .before .before .before .before .before .before .pre .1 .1)) (c .before .before .before .before .before .before .before .before .before .before .before .before .before .before .before .before .reference .ensures) in (omega (arith, l, c .before .before .before .before .before .before .before .before .before .before .before .before .before .before .before .before .before .before .before .pre .0), ellipsis-copies (a .work .now) (a .top) (a .fuel) (a .env .now) (a .w) (a .t) _ refl (c .before .before .before .before .before .before .before .before .before .before .before .before .before .before .before .before .before .before .before .pre .1 .0) _ _ (c .before .before .before .before .before .before .before .before .before .before .before .before .before .before .before .before .reference .ensures) (c .before .before .before .before .before .before .before .before .before .before .before .before .before .before .reference2 .ensures) (c .before .before .before .before .before .before .before .before .before .before .before .before .before .before .before .before .before .before .before .pre .1 .1) _ (counted-of _ _ _ _ _ (c .before .before .before .before .before .before .before .before .before .before .c .given .1) (c .before .before .before .before .before .before .before .before .before .before .before .before .copies .ensures)) _ _ _ (gives-at (a .work .now) (c .before .before .before .before .before .before .before .build-part .last .0) (a .top) (a .fuel) (a .env .now) (a .w) (c .before .before .before .before .before .before .before .before .before .before .before .before .before .before .reference2 .result) _ _ _ (sym (c .before .before .before .before .parts .ensures) ∙ c .before .before .tail .given .1) (c .before .before .before .before .before .before .before .build-part .ensures)) (c .before .before .before .before .before .before .before .build-part .kept .0))
 
 build-ellipsis-same-length-3 : (t : ℕ) → build-ellipsis-lts.Need-same-length-3 (build-ellipsis-claims t) (build-ellipsis-at t) build-ellipsis.Post
 build-ellipsis-same-length-3 t c =
-    c .before .before .build-copies .kept .0 ∙ c .before .before .before .before .before .before .before .before .before .build-part .kept .0
+    c .before .before .build-copies .kept .0 ∙ c .before .before .before .before .before .before .before .before .before .before .build-part .kept .0
 
 build-ellipsis-returns-3 : (t : ℕ) → build-ellipsis-lts.Need-returns-3 (build-ellipsis-claims t) (build-ellipsis-at t) build-ellipsis.Post
 build-ellipsis-returns-3 t c =
-    let a = c .before .before .before .before .before .before .before .before .before .before .before .before .before .before .before .before .before .before .before .before .before .args in made-copies (a .work .now) (a .top) (a .fuel) (a .env .now) (a .w) (a .t) _ refl (c .before .before .before .before .before .before .before .before .before .before .before .before .before .before .before .before .before .before .before .before .before .pre .1 .0) _ _ (c .before .before .before .before .before .before .before .before .before .before .before .before .before .before .before .before .before .before .reference .ensures) (c .before .before .before .before .before .before .before .before .before .before .before .before .before .before .before .before .reference2 .ensures) (c .before .before .before .before .before .before .before .before .before .before .before .before .before .before .before .before .before .before .before .before .before .pre .1 .1) _ (counted-of _ _ _ _ _ (c .before .before .before .before .before .before .before .before .before .before .before .before .c .given .1) (c .before .before .before .before .before .before .before .before .before .before .before .before .before .before .copies .ensures)) _ _ _ (gives-at (a .work .now) (c .before .before .before .before .before .before .before .before .before .build-part .last .0) (a .top) (a .fuel) (a .env .now) (a .w) (c .before .before .before .before .before .before .before .before .before .before .before .before .before .before .before .before .reference2 .result) _ _ _ (built-some _ _ _ (c .before .before .before .before .before .before .if1 .left) (c .before .before .before .before .high .ensures) (c .before .before .before .low .ensures)) (c .before .before .before .before .before .before .before .before .before .build-part .ensures)) (c .before .before .before .before .before .before .before .before .before .build-part .kept .0) (c .before .before .build-copies .last .0) (builtOf (c .before .before .build-copies .result)) (c .before .before .build-copies .ensures)
+    let a = c .before .before .before .before .before .before .before .before .before .before .before .before .before .before .before .before .before .before .before .before .before .before .args in made-copies (a .work .now) (a .top) (a .fuel) (a .env .now) (a .w) (a .t) _ refl (c .before .before .before .before .before .before .before .before .before .before .before .before .before .before .before .before .before .before .before .before .before .before .pre .1 .0) _ _ (c .before .before .before .before .before .before .before .before .before .before .before .before .before .before .before .before .before .before .before .reference .ensures) (c .before .before .before .before .before .before .before .before .before .before .before .before .before .before .before .before .before .reference2 .ensures) (c .before .before .before .before .before .before .before .before .before .before .before .before .before .before .before .before .before .before .before .before .before .before .pre .1 .1) _ (counted-of _ _ _ _ _ (c .before .before .before .before .before .before .before .before .before .before .before .before .before .c .given .1) (c .before .before .before .before .before .before .before .before .before .before .before .before .before .before .before .copies .ensures)) _ _ _ (gives-at (a .work .now) (c .before .before .before .before .before .before .before .before .before .before .build-part .last .0) (a .top) (a .fuel) (a .env .now) (a .w) (c .before .before .before .before .before .before .before .before .before .before .before .before .before .before .before .before .before .reference2 .result) _ _ _ (sym (c .before .before .before .before .before .before .before .parts .ensures) ∙ c .before .before .before .before .before .tail .given .1) (c .before .before .before .before .before .before .before .before .before .before .build-part .ensures)) (c .before .before .before .before .before .before .before .before .before .before .build-part .kept .0) (c .before .before .build-copies .last .0) (builtOf (c .before .before .build-copies .result)) (c .before .before .build-copies .ensures)
 
 build-part-build-leaf-requires : (t : ℕ) → build-part-lts.Need-build-leaf-requires (build-part-claims t) (build-part-at t) build-part.Post
 build-part-build-leaf-requires t c κs =
@@ -436,16 +435,18 @@ pub +build+build-backwards+build-copies+build-elements+build-ellipsis+build-part
     (λ c κs. search needs)  -- build-reference-requires-2
     (λ c. search needs)  -- build-sub-build-part
     (build-build-part-requires t)
+    (λ c κs. search needs)  -- build-parts-requires
+    (λ c. search needs)  -- build-enum-known-tail
+    (λ c. search needs)  -- build-enum-told
     (build-same-length-4 t)
     (build-returns-4 t)
-    (λ c κs. search needs)  -- build-high-requires
-    (λ c κs. search needs)  -- build-low-requires
     (build-build-part-requires-2 t)
+    (λ c κs. search needs)  -- build-parts-requires-2
+    (λ c. search needs)  -- build-enum-known-head
+    (λ c. search needs)  -- build-enum-told-2
     (build-same-length-5 t)
     (build-returns-5 t)
-    (λ c κs. search needs)  -- build-high-requires-2
     (build-put-pair-requires t)
-    (λ c κs. search needs)  -- build-low-requires-2
     (λ c κs. search needs)  -- build-pair-requires
     (build-same-length-6 t)
     (build-returns-6 t))
@@ -461,11 +462,12 @@ pub +build+build-backwards+build-copies+build-elements+build-ellipsis+build-part
     (build-backwards-enter-requires t)
     (λ c. search needs)  -- build-backwards-sub-build-part
     (build-backwards-build-part-requires t)
+    (λ c κs. search needs)  -- build-backwards-parts-requires
+    (λ c. search needs)  -- build-backwards-enum-known-head
+    (λ c. search needs)  -- build-backwards-enum-told
     (build-backwards-same-length-2 t)
     (build-backwards-returns-2 t)
-    (λ c κs. search needs)  -- build-backwards-high-requires
     (build-backwards-put-pair-requires t)
-    (λ c κs. search needs)  -- build-backwards-low-requires
     (λ c. search needs)  -- build-backwards-add-k
     (build-backwards-loop-less t)
     (build-backwards-loop-again t)
@@ -476,11 +478,12 @@ pub +build+build-backwards+build-copies+build-elements+build-ellipsis+build-part
     (build-copies-at t)
     build-copies.Post
     (build-copies-build-elements-requires t)
+    (λ c κs. search needs)  -- build-copies-parts-requires
+    (λ c. search needs)  -- build-copies-enum-known-list
+    (λ c. search needs)  -- build-copies-enum-told
     (build-copies-same-length t)
     (build-copies-returns t)
-    (λ c κs. search needs)  -- build-copies-high-requires
     (build-copies-put-reversed-requires t)
-    (λ c κs. search needs)  -- build-copies-low-requires
     (λ c κs. search needs)  -- build-copies-pair-requires
     (build-copies-same-length-2 t)
     (build-copies-returns-2 t))
@@ -507,10 +510,11 @@ pub +build+build-backwards+build-copies+build-elements+build-ellipsis+build-part
     (λ c. search needs)  -- build-ellipsis-same-length
     (build-ellipsis-returns t)
     (build-ellipsis-build-part-requires t)
+    (λ c κs. search needs)  -- build-ellipsis-parts-requires
+    (λ c. search needs)  -- build-ellipsis-enum-known-tail
+    (λ c. search needs)  -- build-ellipsis-enum-told-2
     (build-ellipsis-same-length-2 t)
     (build-ellipsis-returns-2 t)
-    (λ c κs. search needs)  -- build-ellipsis-high-requires
-    (λ c κs. search needs)  -- build-ellipsis-low-requires
     (build-ellipsis-build-copies-requires t)
     (build-ellipsis-same-length-3 t)
     (build-ellipsis-returns-3 t))

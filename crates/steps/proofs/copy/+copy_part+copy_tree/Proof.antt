@@ -11,16 +11,15 @@ use Rattle.steps.proofs.copy.+copy_part+copy_tree.Lts-copy_tree as copy
 use Rattle.arena.proofs.cells.put_pair.Reads as put-pair-reads
 use Rattle.arena.proofs.cells.reference.Reads as reference-reads
 use Rattle.arena.proofs.cells.word.Reads as word-reads
-use Rattle.words.proofs.packed.high.Reads as high-reads
-use Rattle.words.proofs.packed.low.Reads as low-reads
 use Rattle.words.proofs.packed.pair.Reads as pair-reads
+use Rattle.words.proofs.packed.parts.Reads as parts-reads
 use Rattle.steps.proofs.copy.copy_leaf.Reads as copy-leaf-reads
 use Rattle.steps.proofs.copy.+copy_part+copy_tree.{statement}
 use Rattle.steps.proofs.copy.+copy_part+copy_tree.Tie.{close}
 use borrow.Author.Needs.{needs}
 use Rattle.arena.specs.ListLaws.{pair-falls}
 use Rattle.arena.specs.Arena.{treeAt}
-use Rattle.steps.specs.Built.{builtOf, built-none, built-some}
+use Rattle.words.specs.Packed.{builtOf}
 use Rattle.steps.specs.BuildLaws.{paid-at, pays-packed, unpaid-at, unpaid-none, waiting-tail, waiting-head, copied-tail-costly, copied-head-costly, copied-room, copied-pair}
 use native.Mathlib.Omega.{arith}
 use mathlib.Core.Path.{refl, sym, _∙_}
@@ -79,7 +78,7 @@ copy-part-returns-2 t c =
     c .before .before .copy-leaf .ensures
 
 abbrev copy-tree-claims : ℕ → copy-tree-lts.Claims
-copy-tree-claims t = (word-reads.Asked, word-reads.Learnt, copy-leaf-reads.Asked, copy-leaf-reads.Learnt, reference-reads.Asked, reference-reads.Learnt, copy-part-below t, copy-part.Post, high-reads.Asked, high-reads.Learnt, low-reads.Asked, low-reads.Learnt, put-pair-reads.Asked, put-pair-reads.Learnt, pair-reads.Asked, pair-reads.Learnt)
+copy-tree-claims t = (word-reads.Asked, word-reads.Learnt, copy-leaf-reads.Asked, copy-leaf-reads.Learnt, reference-reads.Asked, reference-reads.Learnt, copy-part-below t, copy-part.Post, parts-reads.Asked, parts-reads.Learnt, put-pair-reads.Asked, put-pair-reads.Learnt, pair-reads.Asked, pair-reads.Learnt)
 
 copy-tree-copy-leaf-requires : (t : ℕ) → copy-tree-lts.Need-copy-leaf-requires (copy-tree-claims t) (copy-tree-at t) copy-tree.Post
 copy-tree-copy-leaf-requires t c κs =
@@ -118,35 +117,35 @@ copy-tree-copy-part-requires t c κs =
 
 copy-tree-same-length-3 : (t : ℕ) → copy-tree-lts.Need-same-length-3 (copy-tree-claims t) (copy-tree-at t) copy-tree.Post
 copy-tree-same-length-3 t c =
-    c .before .before .before .copy-part .kept .0
+    c .before .before .before .before .before .copy-part .kept .0
 
 copy-tree-returns-3 : (t : ℕ) → copy-tree-lts.Need-returns-3 (copy-tree-claims t) (copy-tree-at t) copy-tree.Post
 unfolding builtOf
 copy-tree-returns-3 t c =
-    let entry = c .before .before .before .before .before .before .before .before .before .before .before .before .before .before in
+    let entry = c .before .before .before .before .before .before .before .before .before .before .before .before .before .before .before .before in
     let a = entry .args in
     let pre = entry .pre in
-    let word = c .before .before .before .before .before .before .before .before .before .before .before .word in
-    let if1 = c .before .before .before .before .before .before .before .before .before .before .if1 in
-    let if2 = c .before .before .before .before .before .before .before .before .before .if2 in
-    let reference = c .before .before .before .before .before .before .before .reference in
-    let reference2 = c .before .before .before .before .before .reference2 in
-    let copy-part = c .before .before .before .copy-part in
+    let word = c .before .before .before .before .before .before .before .before .before .before .before .before .before .word in
+    let if1 = c .before .before .before .before .before .before .before .before .before .before .before .before .if1 in
+    let if2 = c .before .before .before .before .before .before .before .before .before .before .before .if2 in
+    let reference = c .before .before .before .before .before .before .before .before .before .reference in
+    let reference2 = c .before .before .before .before .before .before .before .reference2 in
+    let copy-part = c .before .before .before .before .before .copy-part in
     copied-tail-costly (a .work .now) (a .top) (a .fuel) (a .node) (a .w) _ (if2 .left) refl _ (word .ensures) _ _ (if1 .left) (reference .ensures) (reference2 .ensures) (pre .1) _
-    (unpaid-at (treeAt (a .work .now) (reference2 .result) (a .w)) (a .work .now) (copy-part .last .0) (a .top) (a .fuel - 1) _ (built-none _ (c .if3 .taken)) (copy-part .ensures))
+    (unpaid-at (treeAt (a .work .now) (reference2 .result) (a .w)) (a .work .now) (copy-part .last .0) (a .top) (a .fuel - 1) _ (sym (c .before .before .parts .ensures) ∙ c .enum-told .given .1) (copy-part .ensures))
 
 copy-tree-copy-part-requires-2 : (t : ℕ) → copy-tree-lts.Need-copy-part-requires-2 (copy-tree-claims t) (copy-tree-at t) copy-tree.Post
 copy-tree-copy-part-requires-2 t c κs =
-    let entry = c .before .before .before .before .before .before .before .before .before .before .before .before .before .before .before .before .before in
+    let entry = c .before .before .before .before .before .before .before .before .before .before .before .before .before .before .before .before .before .before in
     let a = entry .args in
     let pre = entry .pre in
-    let word = c .before .before .before .before .before .before .before .before .before .before .before .before .before .before .word in
-    let if1 = c .before .before .before .before .before .before .before .before .before .before .before .before .before .if1 in
-    let if2 = c .before .before .before .before .before .before .before .before .before .before .before .before .if2 in
-    let reference = c .before .before .before .before .before .before .before .before .before .before .reference in
-    let reference2 = c .before .before .before .before .before .before .before .before .reference2 in
-    let copy-part = c .before .before .before .before .before .before .copy-part in
-    let tail-is = built-some _ _ _ (c .before .before .before .if3 .left) (c .before .before .high .ensures) (c .low .ensures) in
+    let word = c .before .before .before .before .before .before .before .before .before .before .before .before .before .before .before .word in
+    let if1 = c .before .before .before .before .before .before .before .before .before .before .before .before .before .before .if1 in
+    let if2 = c .before .before .before .before .before .before .before .before .before .before .before .before .before .if2 in
+    let reference = c .before .before .before .before .before .before .before .before .before .before .before .reference in
+    let reference2 = c .before .before .before .before .before .before .before .before .before .reference2 in
+    let copy-part = c .before .before .before .before .before .before .before .copy-part in
+    let tail-is = sym (c .before .before .before .before .parts .ensures) ∙ c .before .before .tail .given .1 in
     let b = paid-at (treeAt (a .work .now) (reference2 .result) (a .w)) (a .work .now) (copy-part .last .0) (a .top) (a .fuel - 1) _ _ _ tail-is (copy-part .ensures) in (
       omega (arith, pre .0, reference .ensures, pair-falls (a .work .now) (a .node) 2 (sym (word .ensures) ∙ if1 .left)),
       waiting-head (a .work .now) (a .top) (a .fuel) (a .node) (a .w) _ (if2 .left) refl _ (word .ensures) _ _ (if1 .left) (reference .ensures) (reference2 .ensures) (pre .1) _ _ _ b (copy-part .kept .0),
@@ -154,42 +153,42 @@ copy-tree-copy-part-requires-2 t c κs =
 
 copy-tree-same-length-4 : (t : ℕ) → copy-tree-lts.Need-same-length-4 (copy-tree-claims t) (copy-tree-at t) copy-tree.Post
 copy-tree-same-length-4 t c =
-    let copy-part = c .before .before .before .before .before .before .before .before .before .before .copy-part in
-    let copy-part2 = c .before .before .before .copy-part2 in
+    let copy-part = c .before .before .before .before .before .before .before .before .before .before .before .before .before .copy-part in
+    let copy-part2 = c .before .before .before .before .before .copy-part2 in
     copy-part2 .kept .0 ∙ copy-part .kept .0
 
 copy-tree-returns-4 : (t : ℕ) → copy-tree-lts.Need-returns-4 (copy-tree-claims t) (copy-tree-at t) copy-tree.Post
 unfolding builtOf
 copy-tree-returns-4 t c =
-    let entry = c .before .before .before .before .before .before .before .before .before .before .before .before .before .before .before .before .before .before .before .before .before in
+    let entry = c .before .before .before .before .before .before .before .before .before .before .before .before .before .before .before .before .before .before .before .before .before .before .before .before in
     let a = entry .args in
     let pre = entry .pre in
-    let word = c .before .before .before .before .before .before .before .before .before .before .before .before .before .before .before .before .before .before .word in
-    let if1 = c .before .before .before .before .before .before .before .before .before .before .before .before .before .before .before .before .before .if1 in
-    let if2 = c .before .before .before .before .before .before .before .before .before .before .before .before .before .before .before .before .if2 in
-    let reference = c .before .before .before .before .before .before .before .before .before .before .before .before .before .before .reference in
-    let reference2 = c .before .before .before .before .before .before .before .before .before .before .before .before .reference2 in
-    let copy-part = c .before .before .before .before .before .before .before .before .before .before .copy-part in
-    let tail-is = built-some _ _ _ (c .before .before .before .before .before .before .before .if3 .left) (c .before .before .before .before .before .before .high .ensures) (c .before .before .before .before .low .ensures) in
-    let copy-part2 = c .before .before .before .copy-part2 in
+    let word = c .before .before .before .before .before .before .before .before .before .before .before .before .before .before .before .before .before .before .before .before .before .word in
+    let if1 = c .before .before .before .before .before .before .before .before .before .before .before .before .before .before .before .before .before .before .before .before .if1 in
+    let if2 = c .before .before .before .before .before .before .before .before .before .before .before .before .before .before .before .before .before .before .before .if2 in
+    let reference = c .before .before .before .before .before .before .before .before .before .before .before .before .before .before .before .before .before .reference in
+    let reference2 = c .before .before .before .before .before .before .before .before .before .before .before .before .before .before .before .reference2 in
+    let copy-part = c .before .before .before .before .before .before .before .before .before .before .before .before .before .copy-part in
+    let tail-is = sym (c .before .before .before .before .before .before .before .before .before .before .parts .ensures) ∙ c .before .before .before .before .before .before .before .before .tail .given .1 in
+    let copy-part2 = c .before .before .before .before .before .copy-part2 in
     let b = paid-at (treeAt (a .work .now) (reference2 .result) (a .w)) (a .work .now) (copy-part .last .0) (a .top) (a .fuel - 1) _ _ _ tail-is (copy-part .ensures) in
     copied-head-costly (a .work .now) (a .top) (a .fuel) (a .node) (a .w) _ (if2 .left) refl _ (word .ensures) _ _ (if1 .left) (reference .ensures) (reference2 .ensures) (pre .1) _ _ _ b (copy-part .kept .0) _
-    (unpaid-at (treeAt (copy-part .last .0) (reference .result) (a .w)) (copy-part .last .0) (copy-part2 .last .0) _ _ _ (built-none _ (c .if4 .taken)) (copy-part2 .ensures))
+    (unpaid-at (treeAt (copy-part .last .0) (reference .result) (a .w)) (copy-part .last .0) (copy-part2 .last .0) _ _ _ (sym (c .before .before .parts2 .ensures) ∙ c .enum-told2 .given .1) (copy-part2 .ensures))
 
 copy-tree-put-pair-requires : (t : ℕ) → copy-tree-lts.Need-put-pair-requires (copy-tree-claims t) (copy-tree-at t) copy-tree.Post
 copy-tree-put-pair-requires t c κs =
-    let entry = c .before .before .before .before .before .before .before .before .before .before .before .before .before .before .before .before .before .before .before .before .before .before .before in
+    let entry = c .before .before .before .before .before .before .before .before .before .before .before .before .before .before .before .before .before .before .before .before .before .before .before .before .before .before in
     let a = entry .args in
     let pre = entry .pre in
-    let word = c .before .before .before .before .before .before .before .before .before .before .before .before .before .before .before .before .before .before .before .before .word in
-    let if1 = c .before .before .before .before .before .before .before .before .before .before .before .before .before .before .before .before .before .before .before .if1 in
-    let if2 = c .before .before .before .before .before .before .before .before .before .before .before .before .before .before .before .before .before .before .if2 in
-    let reference = c .before .before .before .before .before .before .before .before .before .before .before .before .before .before .before .before .reference in
-    let reference2 = c .before .before .before .before .before .before .before .before .before .before .before .before .before .before .reference2 in
-    let copy-part = c .before .before .before .before .before .before .before .before .before .before .before .before .copy-part in
-    let tail-is = built-some _ _ _ (c .before .before .before .before .before .before .before .before .before .if3 .left) (c .before .before .before .before .before .before .before .before .high .ensures) (c .before .before .before .before .before .before .low .ensures) in
-    let copy-part2 = c .before .before .before .before .before .copy-part2 in
-    let head-is = built-some _ _ _ (c .before .before .if4 .left) (c .before .high2 .ensures) refl in
+    let word = c .before .before .before .before .before .before .before .before .before .before .before .before .before .before .before .before .before .before .before .before .before .before .before .word in
+    let if1 = c .before .before .before .before .before .before .before .before .before .before .before .before .before .before .before .before .before .before .before .before .before .before .if1 in
+    let if2 = c .before .before .before .before .before .before .before .before .before .before .before .before .before .before .before .before .before .before .before .before .before .if2 in
+    let reference = c .before .before .before .before .before .before .before .before .before .before .before .before .before .before .before .before .before .before .before .reference in
+    let reference2 = c .before .before .before .before .before .before .before .before .before .before .before .before .before .before .before .before .before .reference2 in
+    let copy-part = c .before .before .before .before .before .before .before .before .before .before .before .before .before .before .before .copy-part in
+    let tail-is = sym (c .before .before .before .before .before .before .before .before .before .before .before .before .parts .ensures) ∙ c .before .before .before .before .before .before .before .before .before .before .tail .given .1 in
+    let copy-part2 = c .before .before .before .before .before .before .before .copy-part2 in
+    let head-is = sym (c .before .before .before .before .parts2 .ensures) ∙ c .before .before .head .given .1 in
     let b = paid-at (treeAt (a .work .now) (reference2 .result) (a .w)) (a .work .now) (copy-part .last .0) (a .top) (a .fuel - 1) _ _ _ tail-is (copy-part .ensures) in
     let h = paid-at (treeAt (copy-part .last .0) (reference .result) (a .w)) (copy-part .last .0) (copy-part2 .last .0) _ _ _ _ _ head-is (copy-part2 .ensures) in (
       copied-room (a .work .now) (a .top) (a .fuel) (a .node) (a .w) _ (if2 .left) refl _ (word .ensures) _ _ (if1 .left) (reference .ensures) (reference2 .ensures) (pre .1) _ _ _ b (copy-part .kept .0) _ _ _ h (copy-part2 .kept .0),
@@ -199,26 +198,26 @@ copy-tree-put-pair-requires t c κs =
 
 copy-tree-same-length-5 : (t : ℕ) → copy-tree-lts.Need-same-length-5 (copy-tree-claims t) (copy-tree-at t) copy-tree.Post
 copy-tree-same-length-5 t c =
-    let copy-part = c .before .before .before .before .before .before .before .before .before .before .before .before .before .before .before .before .before .copy-part in
-    let copy-part2 = c .before .before .before .before .before .before .before .before .before .before .copy-part2 in
-    let put-pair = c .before .before .before .before .put-pair in
+    let copy-part = c .before .before .before .before .before .before .before .before .before .before .before .before .before .before .before .before .before .before .before .copy-part in
+    let copy-part2 = c .before .before .before .before .before .before .before .before .before .before .before .copy-part2 in
+    let put-pair = c .before .before .before .put-pair in
     put-pair .kept .0 ∙ copy-part2 .kept .0 ∙ copy-part .kept .0
 
 copy-tree-returns-5 : (t : ℕ) → copy-tree-lts.Need-returns-5 (copy-tree-claims t) (copy-tree-at t) copy-tree.Post
 copy-tree-returns-5 t c =
-    let entry = c .before .before .before .before .before .before .before .before .before .before .before .before .before .before .before .before .before .before .before .before .before .before .before .before .before .before .before .before in
+    let entry = c .before .before .before .before .before .before .before .before .before .before .before .before .before .before .before .before .before .before .before .before .before .before .before .before .before .before .before .before .before .before in
     let a = entry .args in
     let pre = entry .pre in
-    let word = c .before .before .before .before .before .before .before .before .before .before .before .before .before .before .before .before .before .before .before .before .before .before .before .before .before .word in
-    let if1 = c .before .before .before .before .before .before .before .before .before .before .before .before .before .before .before .before .before .before .before .before .before .before .before .before .if1 in
-    let if2 = c .before .before .before .before .before .before .before .before .before .before .before .before .before .before .before .before .before .before .before .before .before .before .before .if2 in
-    let reference = c .before .before .before .before .before .before .before .before .before .before .before .before .before .before .before .before .before .before .before .before .before .reference in
-    let reference2 = c .before .before .before .before .before .before .before .before .before .before .before .before .before .before .before .before .before .before .before .reference2 in
-    let copy-part = c .before .before .before .before .before .before .before .before .before .before .before .before .before .before .before .before .before .copy-part in
-    let tail-is = built-some _ _ _ (c .before .before .before .before .before .before .before .before .before .before .before .before .before .before .if3 .left) (c .before .before .before .before .before .before .before .before .before .before .before .before .before .high .ensures) (c .before .before .before .before .before .before .before .before .before .before .before .low .ensures) in
-    let copy-part2 = c .before .before .before .before .before .before .before .before .before .before .copy-part2 in
-    let head-is = built-some _ _ _ (c .before .before .before .before .before .before .before .if4 .left) (c .before .before .before .before .before .before .high2 .ensures) (c .before .low2 .ensures) in
-    let put-pair = c .before .before .before .before .put-pair in
+    let word = c .before .before .before .before .before .before .before .before .before .before .before .before .before .before .before .before .before .before .before .before .before .before .before .before .before .before .before .word in
+    let if1 = c .before .before .before .before .before .before .before .before .before .before .before .before .before .before .before .before .before .before .before .before .before .before .before .before .before .before .if1 in
+    let if2 = c .before .before .before .before .before .before .before .before .before .before .before .before .before .before .before .before .before .before .before .before .before .before .before .before .before .if2 in
+    let reference = c .before .before .before .before .before .before .before .before .before .before .before .before .before .before .before .before .before .before .before .before .before .before .before .reference in
+    let reference2 = c .before .before .before .before .before .before .before .before .before .before .before .before .before .before .before .before .before .before .before .before .before .reference2 in
+    let copy-part = c .before .before .before .before .before .before .before .before .before .before .before .before .before .before .before .before .before .before .before .copy-part in
+    let tail-is = sym (c .before .before .before .before .before .before .before .before .before .before .before .before .before .before .before .before .parts .ensures) ∙ c .before .before .before .before .before .before .before .before .before .before .before .before .before .before .tail .given .1 in
+    let copy-part2 = c .before .before .before .before .before .before .before .before .before .before .before .copy-part2 in
+    let head-is = sym (c .before .before .before .before .before .before .before .before .parts2 .ensures) ∙ c .before .before .before .before .before .before .head .given .1 in
+    let put-pair = c .before .before .before .put-pair in
     let b = paid-at (treeAt (a .work .now) (reference2 .result) (a .w)) (a .work .now) (copy-part .last .0) (a .top) (a .fuel - 1) _ _ _ tail-is (copy-part .ensures) in
     let h = paid-at (treeAt (copy-part .last .0) (reference .result) (a .w)) (copy-part .last .0) (copy-part2 .last .0) _ _ _ _ _ head-is (copy-part2 .ensures) in
     pays-packed (treeAt (a .work .now) (a .node) (a .w)) (a .work .now) _ (a .top) (a .fuel) _ _ _ (pre .1 .room) (c .pair .ensures)
@@ -248,16 +247,18 @@ pub +copy-part+copy-tree-spec : {M : Type 1} → statement M
     (λ c κs. search needs)  -- copy-tree-reference-requires-2
     (λ c. search needs)  -- copy-tree-sub-copy-part
     (copy-tree-copy-part-requires t)
+    (λ c κs. search needs)  -- copy-tree-parts-requires
+    (λ c. search needs)  -- copy-tree-enum-known-tail
+    (λ c. search needs)  -- copy-tree-enum-told
     (copy-tree-same-length-3 t)
     (copy-tree-returns-3 t)
-    (λ c κs. search needs)  -- copy-tree-high-requires
-    (λ c κs. search needs)  -- copy-tree-low-requires
     (copy-tree-copy-part-requires-2 t)
+    (λ c κs. search needs)  -- copy-tree-parts-requires-2
+    (λ c. search needs)  -- copy-tree-enum-known-head
+    (λ c. search needs)  -- copy-tree-enum-told-2
     (copy-tree-same-length-4 t)
     (copy-tree-returns-4 t)
-    (λ c κs. search needs)  -- copy-tree-high-requires-2
     (copy-tree-put-pair-requires t)
-    (λ c κs. search needs)  -- copy-tree-low-requires-2
     (λ c κs. search needs)  -- copy-tree-pair-requires
     (copy-tree-same-length-5 t)
     (copy-tree-returns-5 t)
