@@ -19,7 +19,7 @@ use Rattle.recipe.specs.Name.{Name, same, distinct, isEllipsis}
 use Rattle.recipe.specs.Tree.{Tree, empty, constant, name, onEmpty, onName, onPair, isList, isListOf, names, elements, element, tail}
 use Rattle.recipe.specs.Tidy.{Tidy, tidyEmpty, tidyConstant, tidyName, tidyPair, tidy-elements, tidy-element, tidy-tail}
 use Rattle.recipe.specs.TableTidy.{IsConstant}
-use Rattle.expansion.specs.Rules.{Pattern, pairP, ellipsisP, constantT, pairT, ellipsisT, depthFits, variableFrom, nameTemplate, areVariables, dotsNext, depthBefore, isVariable, variables, patternOf, templateOf, ruleOf, isRulesForm, rulesOf}
+use Rattle.expansion.specs.Rules.{literalList, rulePattern, ruleVariables, Pattern, pairP, ellipsisP, constantT, pairT, ellipsisT, depthFits, variableFrom, nameTemplate, areVariables, dotsNext, depthBefore, isVariable, variables, patternOf, templateOf, ruleOf, isRulesForm, rulesOf}
 use Rattle.expansion.specs.Match.{holds}
 use Rattle.words.specs.ListLaws.{either}
 use Rattle.rule_cells.specs.PatternLaws.{count-pair}
@@ -153,13 +153,13 @@ module _ {N : Name → Type 0} where
   ruleOf-sound : (dots : Name → Bool) (literals : List Name) {r : Tree} → Tidy N IsConstant r → Given SoundRule (ruleOf dots literals r)
   unfolding ruleOf
   ruleOf-sound dots literals {r} s =
-      let vs : List (Name × ℕ) = variables dots literals 0 (tail (element 0 r)) in
+      let vs : List (Name × ℕ) = ruleVariables dots literals r in
       given-guarded _
       (λ e.
-      let good : areVariables vs ≡ true = and-right (onName (λ x. not (dots x)) false (element 0 (element 0 r))) _ (and-right (isListOf 2 r) _ e) in
+      let good : areVariables vs ≡ true = and-right (onName (λ x. not (dots x)) false (element 0 (rulePattern r))) _ (and-right (isListOf 2 r) _ e) in
       given-then _ (λ p held. templateOf-sound dots vs good p held 0 false (tidy-element 1 s)) (patternOf-holds dots literals 0 (tidy-tail (tidy-element 0 s))))
 
   pub rulesOf-sound : {r : Tree} → Tidy N IsConstant r → Given (Each SoundRule) (rulesOf r)
   unfolding rulesOf
   rulesOf-sound {r} s =
-      given-guard (isRulesForm r) (given-traverse (each-weaken (λ t f. ruleOf-sound isEllipsis (names (element 1 r)) f) (tidy-elements (tidy-tail (tidy-tail s)))))
+      given-guard (isRulesForm r) (given-traverse (each-weaken (λ t f. ruleOf-sound isEllipsis (names (literalList r)) f) (tidy-elements (tidy-tail (tidy-tail s)))))

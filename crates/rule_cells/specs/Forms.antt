@@ -13,7 +13,7 @@ use Rattle.recipe.specs.Name.{bindingKey}
 use Rattle.recipe.specs.Tree.{Tree, onName, isOrdinaryName, isList, elements, element, tail}
 use Rattle.recipe.specs.TreeLaws.{element-tail}
 use Rattle.expansion.specs.Lookup.{isSyntaxRules}
-use Rattle.expansion.specs.Rules.{isRulesForm}
+use Rattle.expansion.specs.Rules.{literalList, ruleList, isRulesForm}
 use Rattle.arena.specs.Arena.{wordAt, referenceAt, nameAt, treeAt, numberOf}
 use Rattle.arena.specs.NodeLaws.{treeAt-name, treeAt-pair, nameAt-number}
 use Rattle.arena.specs.Lists.{Means, Counts, Tests}
@@ -90,11 +90,11 @@ and-regroup false c d e = refl
 and-regroup true false d e = refl
 and-regroup true true d e = refl
 
-form-is : (t : Tree) → isRulesForm t ≡ (onName isSyntaxRules false (element 0 t) && (literalsGood (element 1 t) && within 1 rulesMost (length (elements (tail (tail t))))))
+form-is : (t : Tree) → isRulesForm t ≡ (onName isSyntaxRules false (element 0 t) && (literalsGood (literalList t) && within 1 rulesMost (length (elements (ruleList t)))))
 unfolding isRulesForm literalsGood ordinaryAll
 form-is t =
     ap (λ (z : Bool). onName isSyntaxRules false (element 0 t) && z)
-    (and-regroup (isList (element 1 t)) (allOf isOrdinaryName (elements (element 1 t))) (leb (length (elements (element 1 t))) literalsMost) (within 1 rulesMost (length (elements (tail (tail t))))))
+    (and-regroup (isList (literalList t)) (allOf isOrdinaryName (elements (literalList t))) (leb (length (elements (literalList t))) literalsMost) (within 1 rulesMost (length (elements (ruleList t)))))
 
 within-none : within 1 rulesMost 0 ≡ false
 unfolding within
@@ -109,7 +109,7 @@ module _ (work : List ℕ) (node w first : ℕ) (p : Means work node first (elem
   form-no h = sym (form-is (treeAt work node w) ∙ rw (← p .is w, ← h) refl)
 
   module _ (h : true ≡ onName isSyntaxRules false (treeAt work first w)) (after literals : ℕ) (a : Means work node after tail) (l : Means work after literals (element 0)) where
-    literals-are : element 1 (treeAt work node w) ≡ treeAt work literals w
+    literals-are : literalList (treeAt work node w) ≡ treeAt work literals w
     literals-are = sym (l .is w ∙ ap (element 0) (a .is w) ∙ element-tail 0 (treeAt work node w))
 
     pub form-literals : Tests literalsGood work literals false → false ≡ isRulesForm (treeAt work node w)
@@ -118,7 +118,7 @@ module _ (work : List ℕ) (node w first : ℕ) (p : Means work node first (elem
     module _ (g : Tests literalsGood work literals true) (list n : ℕ) (b : Means work after list tail) (c : Counts work list n) where
       form-count : isRulesForm (treeAt work node w) ≡ within 1 rulesMost n
       form-count =
-          let e : tail (tail (treeAt work node w)) ≡ treeAt work list w = sym (b .is w ∙ ap tail (a .is w)) in
+          let e : ruleList (treeAt work node w) ≡ treeAt work list w = sym (b .is w ∙ ap tail (a .is w)) in
           form-is (treeAt work node w) ∙ rw (← p .is w, ← h, literals-are, ← g w, e, ← c .is w) refl
 
       pub form-none : n ≡ 0 → false ≡ isRulesForm (treeAt work node w)

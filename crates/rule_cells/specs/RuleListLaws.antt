@@ -13,7 +13,7 @@ use Rattle.words.specs.TestLaws.{and-left, and-right}
 use Rattle.recipe.specs.Name.{Name, isEllipsis}
 use Rattle.recipe.specs.Tree.{Tree, empty, constant, name, pair, size, names, onName, onPair, isList, isListOf, elements, element, tail}
 use Rattle.recipe.specs.TreeLaws.{element-tail}
-use Rattle.expansion.specs.Rules.{Rule, ruleOf, isRulesForm, rulesOf}
+use Rattle.expansion.specs.Rules.{literalList, rulePattern, matchedPart, ruleTemplate, ruleList, Rule, ruleOf, isRulesForm, rulesOf}
 use Rattle.arena.specs.Arena.{wordAt, referenceAt, treeAt, numberOf}
 use Rattle.words.specs.ListLaws.{either}
 use Rattle.arena.specs.ArenaLaws.{take-less}
@@ -36,7 +36,7 @@ module _ (work : List ℕ) (node w : ℕ) where
   shape-no e = rw (← e) refl
 
   module _ (pattern first : ℕ) (l : true ≡ isListOf 2 (treeAt work node w)) (p : Means work node pattern (element 0)) (q : Means work pattern first (element 0)) where
-    first-is : element 0 (element 0 (treeAt work node w)) ≡ treeAt work first w
+    first-is : element 0 (rulePattern (treeAt work node w)) ≡ treeAt work first w
     first-is = sym (q .is w ∙ ap (element 0) (p .is w))
 
     pub shape-other : (wordAt work first 3 ≡ 3 → ⊥) → false ≡ ruleShape (treeAt work node w)
@@ -57,13 +57,13 @@ rule-none : (literals : List Name) (t : Tree) → false ≡ ruleShape t → rule
 unfolding ruleOf onlyIf ruleShape
 rule-none literals t e =
     either (isListOf 2 t)
-    (λ a. let b : false ≡ onName (λ x. not (isEllipsis x)) false (element 0 (element 0 t)) = rw a at e in rw (a, ← b) refl)
+    (λ a. let b : false ≡ onName (λ x. not (isEllipsis x)) false (element 0 (rulePattern t)) = rw a at e in rw (a, ← b) refl)
     (λ a. rw a refl)
 
-rule-is : (literals : List Name) (t : Tree) → true ≡ ruleShape t → partsOf literals (tail (element 0 t)) (element 1 t) ≡ ruleOf isEllipsis literals t
+rule-is : (literals : List Name) (t : Tree) → true ≡ ruleShape t → partsOf literals (matchedPart t) (ruleTemplate t) ≡ ruleOf isEllipsis literals t
 unfolding ruleOf partsOf onlyIf ruleShape
 rule-is literals t e =
-    let first = onName (λ x. not (isEllipsis x)) false (element 0 (element 0 t)) in
+    let first = onName (λ x. not (isEllipsis x)) false (element 0 (rulePattern t)) in
     rw (and-left (isListOf 2 t) first (sym e), and-right (isListOf 2 t) first (sym e)) refl
 
 tail-size : (t : Tree) → size (tail t) ≤ size t
@@ -77,7 +77,7 @@ pair-size : (h q e : Tree) → size (tail h) + size q + 1 ≤ size (pair h (pair
 unfolding size
 pair-size h q e = omega (arith, tail-size h)
 
-list-size : (t : Tree) → length (elements t) ≡ 2 → size (tail (element 0 t)) + size (element 1 t) + 1 ≤ size t
+list-size : (t : Tree) → length (elements t) ≡ 2 → size (matchedPart t) + size (ruleTemplate t) + 1 ≤ size t
 unfolding elements element
 list-size empty e = absurd (omega arith)
 list-size (constant a) e = absurd (omega arith)
@@ -87,10 +87,10 @@ list-size (pair h (constant a)) e = absurd (omega arith)
 list-size (pair h (name x)) e = absurd (omega arith)
 list-size (pair h (pair q s)) e = pair-size h q s
 
-shape-size : (t : Tree) → true ≡ ruleShape t → size (tail (element 0 t)) + size (element 1 t) + 1 ≤ size t
+shape-size : (t : Tree) → true ≡ ruleShape t → size (matchedPart t) + size (ruleTemplate t) + 1 ≤ size t
 unfolding ruleShape isListOf
 shape-size t e =
-    let first = onName (λ x. not (isEllipsis x)) false (element 0 (element 0 t)) in
+    let first = onName (λ x. not (isEllipsis x)) false (element 0 (rulePattern t)) in
     let l : (isList t && eqb (length (elements t)) 2) ≡ true = and-left (isListOf 2 t) first (sym e) in
     list-size t (eqb-true (length (elements t)) 2 (and-right (isList t) (eqb (length (elements t)) 2) l))
 
@@ -110,10 +110,10 @@ module _ (old : List ℕ) (literals node w next top : ℕ) (asks : Asks old node
   left-shape e = (rule-none listed t e, refl)
 
   module _ (pattern p after q : ℕ) (shape : true ≡ ruleShape t) (a : Means old node pattern (element 0)) (b : Means old pattern p tail) (c : Means old node after tail) (d : Means old after q (element 0)) where
-    p-is : treeAt old p w ≡ tail (element 0 t)
+    p-is : treeAt old p w ≡ matchedPart t
     p-is = b .is w ∙ ap tail (a .is w)
 
-    q-is : treeAt old q w ≡ element 1 t
+    q-is : treeAt old q w ≡ ruleTemplate t
     q-is = d .is w ∙ ap (element 0) (c .is w) ∙ element-tail 0 t
 
     fits : size (treeAt old p w) + size (treeAt old q w) + 1 ≤ size t
@@ -228,7 +228,7 @@ rules-none : (t : Tree) → false ≡ isRulesForm t → rulesOf t ≡ none
 unfolding rulesOf onlyIf
 rules-none t e = rw (← e) refl
 
-rules-are : (t : Tree) → true ≡ isRulesForm t → traverse (ruleOf isEllipsis (names (element 1 t))) (elements (tail (tail t))) ≡ rulesOf t
+rules-are : (t : Tree) → true ≡ isRulesForm t → traverse (ruleOf isEllipsis (names (literalList t))) (elements (ruleList t)) ≡ rulesOf t
 unfolding rulesOf onlyIf
 rules-are t e = rw (← e) refl
 
@@ -241,10 +241,10 @@ module _ (old : List ℕ) (node w top : ℕ) (asks : Asks old node w top) where
   left-no-form e = (rules-none (treeAt old node w) e, refl)
 
   module _ (after literals list : ℕ) (a : Means old node after tail) (b : Means old after literals (element 0)) (c : Means old after list tail) where
-    literals-are : treeAt old literals w ≡ element 1 (treeAt old node w)
+    literals-are : treeAt old literals w ≡ literalList (treeAt old node w)
     literals-are = b .is w ∙ ap (element 0) (a .is w) ∙ element-tail 0 (treeAt old node w)
 
-    list-is : treeAt old list w ≡ tail (tail (treeAt old node w))
+    list-is : treeAt old list w ≡ ruleList (treeAt old node w)
     list-is = c .is w ∙ ap tail (a .is w)
 
     smaller : size (treeAt old list w) ≤ size (treeAt old node w)

@@ -8,7 +8,7 @@ use lib.ListN.{take}
 use Rattle.words.specs.Options.{onlyIf, mapBoth}
 use Rattle.recipe.specs.Name.{Name, isEllipsis}
 use Rattle.recipe.specs.Tree.{Tree, size, onName, isListOf, element}
-use Rattle.expansion.specs.Rules.{Rule, areVariables, variables, patternOf, templateOf}
+use Rattle.expansion.specs.Rules.{rulePattern, Rule, areVariables, variables, patternOf, templateOf}
 use Rattle.arena.specs.Arena.{treeAt}
 use Rattle.arena.specs.Cells.{Room}
 use Rattle.rule_cells.specs.Cells.{rulesAt}
@@ -17,7 +17,7 @@ use Rattle.words.specs.declared.packed.Built.the-variants.{At, None}
 
 -- (pattern template); a pattern's first place is a name other than `...`
 unfoldable pub ruleShape : Tree → Bool
-ruleShape t = isListOf 2 t && onName (λ x. not (isEllipsis x)) false (element 0 (element 0 t))
+ruleShape t = isListOf 2 t && onName (λ x. not (isEllipsis x)) false (element 0 (rulePattern t))
 
 -- a rule from the rest of its pattern and its template
 unfoldable pub partsOf : List Name → Tree → Tree → Option Rule
