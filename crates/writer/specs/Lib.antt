@@ -2,6 +2,8 @@
 pub mod Put
 pub mod Laid
 pub mod LaidLaws
+pub mod Digits
+pub mod DigitsLaws
 pub mod Pieces
 pub mod PiecesLaws
 pub mod Opened

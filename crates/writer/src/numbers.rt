@@ -1,14 +1,17 @@
 // Numbers as text.
 ghost use mathlib.Core.Path.{_≡_};
 ghost use mathlib.Core.List.{_∷_};
-ghost use Prim.Native.Nat.{_+_, _≤_, _<_};
+ghost use mathlib.Core.Bool.{true};
+ghost use Prim.Native.Nat.{_+_, _*_, _^_, _≤_, _<_};
 ghost use lib.ListN.{length};
 ghost use Rattle.core_term.specs.Decimal.{decimal, integerText};
 ghost use Rattle.writer.specs.Put.{putOf};
-ghost use Rattle.writer.specs.Laid.{Left};
+ghost use Rattle.writer.specs.Laid.{laid, Left};
+ghost use Rattle.writer.specs.Digits.{tens, quotient, remainder, padded};
 ghost use Rattle.writer.specs.Pieces.{gapText, formalsText};
 use crate::bytes::FULL;
 use crate::bytes::byte;
+use std::num::wrapping_sub_usize;
 use words::signed::of_word;
 use words::signed::size;
 
@@ -18,7 +21,102 @@ pub fn wide(n: u32) -> usize
     n as usize
 }
 
-// The digits of n.
+// The powers of ten up to the tenth. specs/Digits.antt has the same numbers.
+const POWERS: [usize; 11] = [
+    1,
+    10,
+    100,
+    1000,
+    10000,
+    100000,
+    1000000,
+    10000000,
+    100000000,
+    1000000000,
+    10000000000,
+];
+
+// Ten to the k: in the table, or the product of two of it.
+fn power(powers: &[usize], k: usize) -> usize
+    requires { ⌜ (now powers ≡ tens) × (k < 20) ⌝ }
+    ensures { λ r. ⌜ r ≡ 10 ^ k ⌝ }
+{
+    if k <= 10 {
+        return powers[k];
+    }
+    powers[9] * powers[k - 9]
+}
+
+// A digit's byte so far, and what is left of the number.
+struct Part {
+    digit: u8,
+    left: usize,
+}
+
+// A multiple q of a power is subtracted where it can be, and its digit added then. The difference is made first and looked at then, the
+// highest bit telling that it wrapped below 0: so the compiler chooses and does not jump, for digits cannot be foretold.
+fn less(digit: u8, left: usize, q: usize, more: u8) -> Part
+    requires { ⌜ (digit + more < 256) × (left < 2 * q) × (q ≤ 8000000000000000000) ⌝ }
+    ensures { λ r. ⌜ (r .digit ≡ digit + more * quotient left q) × (r .left ≡ remainder left q) × (r .digit ≤ digit + more) × (r .left < q) ⌝ }
+{
+    let rest = wrapping_sub_usize(left, q);
+    if rest < 9223372036854775808 {
+        return Part {
+            digit: digit + more,
+            left: rest,
+        };
+    }
+    Part {
+        digit: digit,
+        left: left,
+    }
+}
+
+// The digit of n at the power p, and what is left below it.
+fn split(n: usize, p: usize) -> Part
+    requires { ⌜ (n < 10 * p) × (p ≤ 1000000000000000000) ⌝ }
+    ensures { λ r. ⌜ (r .digit ≡ 48 + quotient n p) × (r .left ≡ remainder n p) ⌝ }
+{
+    let two = p + p;
+    let four = two + two;
+    let a = less(48, n, four + four, 8);
+    let b = less(a.digit, a.left, four, 4);
+    let c = less(b.digit, b.left, two, 2);
+    less(c.digit, c.left, p, 1)
+}
+
+// How many digits of n come after its first.
+fn places(powers: &[usize], n: usize) -> usize
+    requires { ⌜ (now powers ≡ tens) × (10 ≤ n) ⌝ }
+    ensures { λ r. ⌜ (r < 20) × (10 ^ r ≤ n) × (n < 10 ^ (r + 1)) ⌝ }
+{
+    let mut k = 1;
+    while k < 19 {
+        if n < power(powers, k + 1) {
+            return k;
+        }
+        k = k + 1;
+    }
+    19
+}
+
+// The digits of n from ten to the k down, zeros that lead among them.
+fn lay(powers: &[usize], n: usize, k: usize, out: &mut [u8], at: usize)
+    requires { ⌜ (now powers ≡ tens) × (k < 19) × (n < 10 ^ (k + 1)) × (at + k < length (now out)) ⌝ }
+    ensures { λ r. ⌜ now (out .exit) ≡ laid true (padded k n) at (now (out .entry)) ⌝ }
+{
+    let mut left = n;
+    let mut i = k;
+    while i > 0 {
+        let part = split(left, power(powers, i));
+        out[at + (k - i)] = part.digit;
+        left = part.left;
+        i = i - 1;
+    }
+    out[at + k] = 48 + left as u8;
+}
+
+// The digits of n. Twenty of them begin with 1: 64 bits hold ten to the 19th once.
 pub fn digits(n: usize, out: &mut [u8], at: usize, ink: bool) -> usize
     requires { ⌜ at ≤ length (now out) ⌝ }
     ensures { λ r. ⌜ Left ink (decimal n) at (now (out .entry)) (now (out .exit)) (putOf r) ⌝ }
@@ -26,11 +124,21 @@ pub fn digits(n: usize, out: &mut [u8], at: usize, ink: bool) -> usize
     if n < 10 {
         return byte(48 + n as u8, out, at, ink);
     }
-    let to = digits(n / 10, out, at, ink);
-    if to == FULL {
+    let powers = POWERS;
+    let k = places(&powers, n);
+    if out.len() - at <= k {
         return FULL;
     }
-    byte(48 + (n % 10) as u8, out, to, ink)
+    if !ink {
+        return at + k + 1;
+    }
+    if k == 19 {
+        out[at] = b'1';
+        lay(&powers, n - power(&powers, 19), 18, out, at + 1);
+        return at + k + 1;
+    }
+    lay(&powers, n, k, out, at);
+    at + k + 1
 }
 
 // A letter and the digits of n, as v0.

@@ -116,7 +116,37 @@ fn repeated(n: usize, each: impl Fn(usize) -> String) -> String {
     (0..n).map(each).collect::<Vec<_>>().join(" ")
 }
 
+/// The words of a list of integers with so many digits, as good as random, or all the least.
+fn integers(count: u32, digits: u32) -> Vec<u32> {
+    let number = |i: u32| match digits {
+        0 => i32::MIN as u32,
+        1 => i % 10,
+        10 => 1_000_000_000 + i.wrapping_mul(2_654_435_761) % 1_147_483_648,
+        _ => 10u32.pow(digits - 1) + i.wrapping_mul(2_654_435_761) % (9 * 10u32.pow(digits - 1)),
+    };
+    [5, count].into_iter().chain((1..=count).flat_map(|i| [2, number(i)])).collect()
+}
+
+/// Writing alone: a thousand integers, over and over, and two hundred thousand, whose digits no branch can foretell.
+fn numbers() {
+    println!("\n| integers of a term | ns for each of 1,000 | ns for each of 200,000 |\n|---|---|---|");
+    for (name, digits) in [("1 digit", 1), ("2 digits", 2), ("3 digits", 3), ("5 digits", 5), ("10 digits", 10), ("-2147483648", 0)] {
+        let each = |count: u32| {
+            let words = integers(count, digits);
+            let mut out = vec![0; grebetallboy::TEXT_RATE * words.len()];
+            let us = time(|| {
+                std::hint::black_box(grebetallboy::write(&words, 256, &[], &mut out)).expect("a term");
+            });
+            us * 1e3 / f64::from(count)
+        };
+        println!("| {name} | {:.1} | {:.1} |", each(1_000), each(200_000));
+    }
+}
+
 fn main() {
+    if std::env::args().any(|argument| argument == "numbers") {
+        return numbers();
+    }
     recipes();
     let mut tables = tables(8_192);
     println!("\nWith fuel 8,192 and tables for 4,095 items, of which the floor is {:.1} µs:", time(|| tables.zero()));
@@ -146,4 +176,5 @@ fn main() {
         format!("() (letrec-syntax ((m (syntax-rules (q) {rules} ((_ a) (m a))))) (m ({literals} 1)))")
     });
     growth("operands", &[250, 500, 1_000, 2_000], |n| format!("(f) (f {})", repeated(n, |i| (i % 10).to_string())));
+    numbers();
 }

@@ -1,0 +1,89 @@
+-- One digit by itself; more are counted, then laid without a test of room for each.
+use borrow.Author.Needs.{needs}
+use Rattle.writer.proofs.numbers.digits.Statement.{statement}
+use Rattle.writer.proofs.numbers.digits.Tie as tie
+use Rattle.writer.proofs.numbers.digits.Reads as reads
+use Rattle.writer.proofs.numbers.digits.Lts as lts
+use native.Mathlib.Omega.{arith}
+use mathlib.Core.Path.{refl, sym, _∙_}
+use lib.ListN.{length-set}
+use borrow.Author.Tests.{not-true, not-false}
+use Rattle.core_term.specs.DecimalLaws.{decimal-one}
+use Rattle.writer.specs.LaidLaws.{left-is}
+use Rattle.writer.specs.DigitsLaws.{digits-full, digits-dry, digits-laid, most-first, most-laid}
+
+returns : tie.Need-returns
+returns c =
+    left-is (sym (decimal-one _ (c .before .before .before .before .if1 .taken))) (c .before .before .byte .ensures)
+
+returns-2 : tie.Need-returns-2
+returns-2 c =
+    let f = c .before .before .before .before .before in
+    let k = c .before .places .ensures in
+    digits-full _ _ (c .before .before .before .if1 .left) (k .1) (k .2) (f .args .ink) (f .args .at) (f .args .out .now) (omega arith)
+
+returns-3 : tie.Need-returns-3
+returns-3 c =
+    let f = c .before .before .before .before .before .before in
+    let k = c .before .before .places .ensures in
+    digits-dry _ _ (c .before .before .before .before .if1 .left) (k .1) (k .2) (f .args .ink) (f .args .at) (f .args .out .now) (omega arith) (omega arith) (not-true (f .args .ink) (c .if3 .taken))
+
+sub-lay : tie.Need-sub-lay
+sub-lay c =
+    omega (arith, c .power .ensures, most-first (c .before .before .before .before .before .before .before .before .before .before .args .n) _ (c .before .before .before .before .before .before .places .ensures .1) (c .before .before .before .if4 .taken))
+
+lay-requires : tie.Need-lay-requires
+lay-requires c κs =
+    let f = c .before .before .before .before .before .before .before .before .before .before .before in
+    (refl, omega arith, omega (arith, c .before .power .ensures), omega (arith, length-set (f .args .out .now) (f .args .at) 49))
+
+same-length-2 : tie.Need-same-length-2
+same-length-2 c =
+    c .before .before .lay .kept .1 .1 .1 .0 ∙ length-set (c .before .before .before .before .before .before .before .before .before .before .before .before .before .before .args .out .now) _ _
+
+returns-4 : tie.Need-returns-4
+returns-4 c =
+    let f = c .before .before .before .before .before .before .before .before .before .before .before .before .before .before in
+    let k = c .before .before .before .before .before .before .before .before .before .before .places .ensures in
+    digits-laid _ _ (c .before .before .before .before .before .before .before .before .before .before .before .before .if1 .left) (k .1) (k .2) (f .args .ink) (f .args .at) (f .args .out .now) (omega arith) (omega arith) _ (not-false (f .args .ink) (c .before .before .before .before .before .before .before .before .if3 .left))
+    (most-laid (f .args .n) _ _ (f .args .at) (f .args .out .now) _ (k .1) (omega arith) (c .before .before .before .before .before .before .before .if4 .taken) (c .before .before .before .before .power .ensures) (omega arith) (c .before .before .lay .ensures))
+
+returns-5 : tie.Need-returns-5
+returns-5 c =
+    let f = c .before .before .before .before .before .before .before .before .before .before .before .before in
+    let k = c .before .before .before .before .before .before .before .before .places .ensures in
+    digits-laid _ _ (c .before .before .before .before .before .before .before .before .before .before .if1 .left) (k .1) (k .2) (f .args .ink) (f .args .at) (f .args .out .now) (omega arith) (omega arith) _ (not-false (f .args .ink) (c .before .before .before .before .before .before .if3 .left)) (c .before .before .lay2 .ensures)
+
+pub digits-spec : {M : Type 1} → statement M
+digits-spec =
+    tie.close
+    (tie.spec
+    (λ c. search needs)  -- cast-byte
+    (λ c. search needs)  -- add-byte
+    (λ c κs. search needs)  -- byte-requires
+    (λ c. search needs)  -- same-length
+    returns
+    (λ c. search needs)  -- slice-aggregate-places
+    (λ c κs. search needs)  -- places-requires
+    (λ c. search needs)  -- sub-if2
+    returns-2
+    (λ c. search needs)  -- add-result
+    (λ c. search needs)  -- add-result-2
+    returns-3
+    (λ c. search needs)  -- slice-write-out
+    (λ c. search needs)  -- slice-aggregate-lay
+    (λ c. search needs)  -- slice-aggregate-power
+    (λ c κs. search needs)  -- power-requires
+    sub-lay
+    (λ c. search needs)  -- add-lay
+    lay-requires
+    (λ c. search needs)  -- add-result-3
+    (λ c. search needs)  -- add-result-4
+    same-length-2
+    returns-4
+    (λ c. search needs)  -- slice-aggregate-lay-2
+    (λ c κs. search needs)  -- lay-requires-2
+    (λ c. search needs)  -- add-result-5
+    (λ c. search needs)  -- add-result-6
+    (λ c. search needs)  -- same-length-3
+    returns-5)
