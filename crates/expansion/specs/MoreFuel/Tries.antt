@@ -1,5 +1,5 @@
 -- A computation on one fuel beside the same on more: they go alike, or the first is 18 and the second goes past its fuel. One rule for
--- each way of making a computation; `step-tries` is the only one that knows of fuel.
+-- each way of making a computation; `step-tries` alone is about a line that differs.
 use mathlib.Core.Path.{_≡_, refl}
 use mathlib.Core.Bool.{Bool, true, false, false≢true}
 use mathlib.Core.List.{List, []}
@@ -99,6 +99,7 @@ module _ (fuel : ℕ) {A : Type 0} where
         next = record { steps = suc (s .steps); sum = s .sum + k; variables = s .variables; macros = s .macros }
 
         go : (b c : Bool) → (b ≡ false → fuel < s .sum + k) → (b ≡ true → c ≡ true) → Tries fuel s ((_>>_ (test 18 b) (_>>_ (addStep k) n)) s) ((_>>_ (test 18 c) (_>>_ (addStep k) n′)) s)
+        -- both pass, the second passes alone, or neither does
         go true true x y = tries-after s s [] (omega arith) (tries-after s next [] (omega arith) (r next))
         go true false x y = absurd (false≢true (y refl))
         go false true x y =
