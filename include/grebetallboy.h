@@ -40,7 +40,9 @@ uint32_t grebetallboy_read(const uint8_t *text, size_t text_count, uint32_t *ite
                            size_t names_count, uint64_t *counts, size_t counts_count);
 
 /* Expands an item table. Accepted: counts has the steps, the sum of items and the words of the term, which begin the core table.
- * Refused by 11 to 18: the steps and the sum so far, then 0. */
+ * Refused by 11 to 18: the steps and the sum so far, then 0.
+ * Where neither 8, 9 nor 18 is answered, the sum is the least fuel that gives this answer, and every fuel from it to 8,192
+ * gives it too, in tables for that fuel. */
 uint32_t grebetallboy_expand(const uint32_t *items, size_t items_count, uint32_t fuel, uint32_t *work, size_t work_count,
                              uint32_t *core, size_t core_count, uint64_t *counts, size_t counts_count);
 

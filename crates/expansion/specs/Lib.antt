@@ -1,6 +1,6 @@
 -- The definition of expansion: what marks and substitutions carried through the whole tree immediately give.
 -- Read in this order: what a name means; rules, matching and transcribing; forms; the run. From Computed on, known runs.
--- Then laws: of outcomes, rules, forms and runs; bounds, the core term, and the ways that computations keep to.
+-- Then laws: of outcomes, rules, forms and runs; bounds, the core term, the ways that computations keep to, and tries with more fuel.
 pub mod Lookup
 pub mod Rules
 pub mod Match
@@ -15,6 +15,7 @@ pub mod RowsMore
 pub mod RowsShapes
 pub mod RowsTables
 pub mod RowsEvents
+pub mod RowsFuel
 pub mod Outcomes
 pub mod TidyRules
 pub mod FormLaws
@@ -22,3 +23,4 @@ pub mod RunLaws
 pub mod Bounds
 pub mod CoreTerm
 pub mod Ways
+pub mod MoreFuel

@@ -76,7 +76,7 @@ module _ (P : Run → Type 0) where
 
 -- ---- runs that begin
 
-require-passes : (g : ℕ) (b : Bool) (r : Run) → b ≡ true → require g b r ≡ r
+pub require-passes : (g : ℕ) (b : Bool) (r : Run) → b ≡ true → require g b r ≡ r
 unfolding require
 require-passes g true r e = refl
 require-passes g false r e = absurd (false≢true e)

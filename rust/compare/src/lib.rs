@@ -1,4 +1,4 @@
-//! What the comparisons share: item tables, deep inputs, dirty tables, refusals.
+//! What the comparisons share: item tables, deep inputs, dirty tables, refusals, calls of expansion.
 
 pub mod deep;
 pub mod filing;
@@ -10,6 +10,17 @@ use inputs::Random;
 /// What a call says that does not accept.
 pub fn refusal(error: Error) -> Refused {
     error.refused().unwrap_or_else(|| panic!("{error}"))
+}
+
+/// Ground, steps, sum and length of a call.
+pub fn expanded(items: &[u32], fuel: u32, work: &mut [u32], core: &mut [u32]) -> (u32, u32, u32, u32) {
+    match grebetallboy::expand(items, fuel, work, core) {
+        Ok(run) => (0, run.steps, run.sum, run.length as u32),
+        Err(error) => {
+            let refused = refusal(error);
+            (refused.ground, refused.steps, refused.sum, 0)
+        }
+    }
 }
 
 /// A table with one word throughout, or zeros with a few words among them.

@@ -1,20 +1,9 @@
 //! Expansion beside the second expander's: the answer and every word of both lent tables, on tables read and made otherwise, with
 //! lent tables dirty, short, exact and over-long.
 
-use compare::{dirty, refusal, tables};
+use compare::{dirty, expanded, tables};
 use inputs::{setting, Random};
 use reference::expand;
-
-/// Ground, steps, sum and length of a call.
-fn expanded(items: &[u32], fuel: u32, work: &mut [u32], core: &mut [u32]) -> (u32, u32, u32, u32) {
-    match grebetallboy::expand(items, fuel, work, core) {
-        Ok(run) => (0, run.steps, run.sum, run.length as u32),
-        Err(error) => {
-            let refused = refusal(error);
-            (refused.ground, refused.steps, refused.sum, 0)
-        }
-    }
-}
 
 /// Compares one call; answers its ground.
 fn compare(random: &mut Random, items: &[u32], fuel: u32) -> u32 {

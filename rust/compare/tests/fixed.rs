@@ -13,7 +13,8 @@ fn proved_rows() {
     }
     for (recipe, fuel, (ground, steps, sum, words)) in rows::expansions() {
         let items = text::read(recipe.as_bytes()).expect(&recipe).words();
-        let (mut work, mut core) = (vec![3; 16_368], vec![3; 2_046]);
+        let (work, core) = grebetallboy::table_words(items.len() / 3, fuel);
+        let (mut work, mut core) = (vec![3; work], vec![3; core]);
         match grebetallboy::expand(&items, fuel, &mut work, &mut core) {
             Ok(run) => assert_eq!((0, run.steps, run.sum, &core[..run.length]), (ground, steps, sum, &words[..]), "{recipe}"),
             Err(error) => {

@@ -74,6 +74,8 @@ pub fn read(text: &[u8], items: &mut [u32], names: &mut [u8]) -> Result<Read, Er
 }
 
 /// Expands an item table; an accepted term's words begin the core table.
+/// Where neither 8, 9 nor 18 is answered, the sum is the least fuel that gives this answer, and every fuel from it to 8,192 gives it
+/// too, in tables for that fuel.
 pub fn expand(items: &[u32], fuel: u32, work: &mut [u32], core: &mut [u32]) -> Result<Expanded, Error> {
     // SAFETY: as in `read`.
     let run = |counts, length| unsafe {

@@ -46,6 +46,13 @@ impl Random {
     }
 }
 
+/// Fuels to try again with, after a run of that sum with that fuel: about both, the least, the most, and one at random.
+pub fn fuels(random: &mut Random, sum: u32, fuel: u32) -> Vec<u32> {
+    let any = random.below(700) as u32;
+    let most = if random.chance(5) { 8_192 } else { fuel + 100 };
+    vec![0, sum / 2, sum.saturating_sub(1), sum, sum + 1, fuel / 2, fuel + 1, any, most]
+}
+
 const NAMES: &[&str] = &["t", "x", "y", "a", "b", "else", "m", "k", "if", "lambda", "quote", "op", "syntax-rules", "_"];
 const VARIABLES: &[&str] = &["t", "x", "y", "a", "b"];
 const MACROS: &[&str] = &["m", "k", "w", "t", "if"];

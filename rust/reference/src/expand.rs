@@ -9,7 +9,7 @@ use crate::Ground;
 use std::rc::Rc;
 
 /// What a run shows: lookups, quoted names, let-syntax and letrec-syntax forms reached (by their head), bindings with their own names.
-#[derive(Clone, Debug)]
+#[derive(Clone, Debug, PartialEq)]
 pub enum Event {
     Looked(Name),
     Quoted(Name),
@@ -17,7 +17,7 @@ pub enum Event {
     Binds(Binding, Name),
 }
 
-#[derive(Clone, Debug)]
+#[derive(Clone, Debug, PartialEq)]
 pub struct Run {
     pub outcome: Result<(), Ground>,
     pub steps: u32,
@@ -53,6 +53,12 @@ fn require(test: bool, ground: Ground) -> Result<(), Ground> {
     }
 }
 
+/// Words of the shortest work and core tables that pass ground 9.
+pub fn table_words(items: usize, fuel: u32) -> (usize, usize) {
+    let need = items + fuel as usize;
+    (24 * need, 2 * need)
+}
+
 /// What the definition gives for one item table, fuel and lengths of lent tables.
 pub fn run(words: &[u32], fuel: u32, work: usize, core: usize) -> Run {
     let refused = |ground| Run { outcome: Err(ground), steps: 0, sum: 0, core: Vec::new(), events: Vec::new() };
@@ -60,8 +66,8 @@ pub fn run(words: &[u32], fuel: u32, work: usize, core: usize) -> Run {
     if fuel > 8_192 {
         return refused(8);
     }
-    let need = words.len() / 3 + fuel as usize;
-    if work < 24 * need || core < 2 * need {
+    let need = table_words(words.len() / 3, fuel);
+    if work < need.0 || core < need.1 {
         return refused(9);
     }
     let Some(operations) = operation_numbers(&operations) else { return refused(10) };

@@ -9,7 +9,7 @@ pub enum Binding {
 }
 
 /// Number, marks and binding make sameness; the item it stems from and whether it has stood in a result are for demand 3.
-#[derive(Clone, Debug)]
+#[derive(Clone, Debug, PartialEq)]
 pub struct Name {
     pub number: u32,
     pub marks: BTreeSet<u32>,

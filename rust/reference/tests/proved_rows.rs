@@ -1,6 +1,6 @@
 //! The second expander on the recipes whose answers are proved of the definition, and on those of examples/.
 
-use inputs::rows;
+use inputs::{in_stack, rows};
 use reference::{expand, file, text};
 
 #[test]
@@ -8,9 +8,10 @@ fn expansions() {
     let rows = rows::expansions();
     assert!(rows.len() > 150, "{} rows", rows.len());
     for (recipe, fuel, answer) in rows {
-        let read = text::read(recipe.as_bytes()).expect(&recipe);
-        let run = expand::run(&read.words(), fuel, 16_368, 2_046);
-        assert_eq!((run.outcome.err().unwrap_or(0), run.steps, run.sum, run.core), answer, "{recipe}");
+        let items = text::read(recipe.as_bytes()).expect(&recipe).words();
+        let (work, core) = expand::table_words(items.len() / 3, fuel);
+        let run = in_stack(64 << 20, || expand::run(&items, fuel, work, core));
+        assert_eq!((run.outcome.err().unwrap_or(0), run.steps, run.sum, run.core), answer, "{recipe} fuel {fuel}");
     }
 }
 

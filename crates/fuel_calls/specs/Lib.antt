@@ -1,0 +1,3 @@
+-- Request L9, 'Trying with more fuel', for two calls of the expansion service: the statement, then its proof from the promise alone.
+pub mod Statement
+pub mod Calls
