@@ -3,12 +3,12 @@ ghost use mathlib.Core.Path.{_≡_};
 ghost use mathlib.Core.List.{[]};
 ghost use Prim.Native.Nat.{ℕ, _+_, _*_, _≤_, _<_};
 ghost use lib.ListN.{length, getD, take};
-ghost use Rattle.words.specs.Limits.{nameBytesLeast, nameLengthMost, namesMost, slotSize};
+ghost use Rattle.words.specs.Limits.{nameLengthMost, namesMost, slotSize, baseNameCount};
 ghost use Rattle.words.specs.Lists.{equal};
 ghost use Rattle.datum.specs.NameTable.{lengthAt, nameAt};
 ghost use Rattle.reading.specs.Numbering.{numberOf, baseNames};
 ghost use Rattle.reader.specs.Code.Index.{bucketCount, indexSize, bucketOf, Indexed, linked};
-ghost use Rattle.reader.specs.Code.Stored.{stored, namesIn, NameTable, Entered};
+ghost use Rattle.reader.specs.Code.Stored.{stored, namesIn, NameTable};
 
 // Buckets of the index.
 const BUCKETS: usize = 256;
@@ -104,10 +104,10 @@ pub fn enter(names: &mut [u8], index: &mut [u16], number: usize, word: &[u8], bu
     index[bucket] = (number + 1) as u16;
 }
 
-// A fixed name more.
+// A fixed name more, after those before it.
 fn enter_fixed(names: &mut [u8], index: &mut [u16], number: usize, word: &[u8])
-    requires { ⌜ (number < namesMost) × (nameBytesLeast ≤ length (now names)) × (length (now index) ≡ indexSize) × (length (now word) ≤ nameLengthMost) ⌝ }
-    ensures { λ _. ⌜ Entered (now (names .entry)) (now (names .exit)) (now (index .entry)) (now (index .exit)) number (now (word .entry)) ⌝ }
+    requires { ⌜ NameTable (take number baseNames) (now names) (now index) × (number < baseNameCount) × (now word ≡ getD baseNames number []) ⌝ }
+    ensures { λ _. ⌜ NameTable (take (number + 1) baseNames) (now (names .exit)) (now (index .exit)) ⌝ }
 {
     enter(names, index, number, word, bucket_of(word));
 }

@@ -1,22 +1,25 @@
 -- Laws of finding and storing names, in the shape of the code's loops.
 use mathlib.Core.Path.{_≡_, refl, sym, ap, ap₂, subst, _∙_}
-use mathlib.Core.Bool.{Bool, true, false}
+use mathlib.Core.Bool.{Bool, true, false, _&&_}
+use lib.Dec.{leb}
 use mathlib.Core.List.{List, [], _∷_, _++_, append-assoc, append-nil}
 use Prim.Native.Nat.{ℕ, zero, suc, _+_, _*_, _-_, _≤_, _<_}
 use native.Mathlib.Omega.{arith}
 use native.Mathlib.Numerals.{add-one}
 use lib.ListN.{length, getD, take, drop, set, replicate, length-drop, length-set, length-append, replicate-append-replicate}
-use lib.Seq.{drop-cons, drop-length, length-take-le, getD-take, getD-drop, length-paste, append-snoc, getD-append-seam, set-at, take-at, take-length, drop-append-add}
-use borrow.Author.Tests.{eq-eqb, ne-eqb, le-leb}
-use Rattle.words.specs.Lists.{equal, allOf}
-use Rattle.words.specs.ListLaws.{either, equal-true, all-append}
+use lib.Seq.{take-suc, drop-cons, drop-length, length-take-le, getD-take, getD-drop, length-paste, append-snoc, getD-append-seam, set-at, take-at, take-length, drop-append-add}
+use borrow.Author.Tests.{eq-eqb, ne-eqb, le-leb, leb-true}
+use Rattle.words.specs.Lists.{equal, allOf, anyOf}
+use Rattle.words.specs.ListLaws.{either, equal-true, all-append, valued, valued-at}
+use Rattle.words.specs.TestLaws.{and-left, and-right}
+use Rattle.words.specs.Text.{bytes}
 use Rattle.datum.specs.NameTable.{slot, slots, lengthAt, nameAt}
 use Rattle.datum.specs.NameTableLaws.{isShort, length-slots, slots-append, name-at}
 use Rattle.words.specs.Tables.{filled}
-use Rattle.reading.specs.Numbering.{numberOf}
+use Rattle.reading.specs.Numbering.{baseNames, numberOf}
 use Rattle.reader.specs.Code.Index.{bucketCount, bucketOf, Indexed, linked, Walked}
 use Rattle.reader.specs.Code.IndexLaws.{walked-on, walked-all, walked-found, link-falls, indexed-more}
-use Rattle.reader.specs.Code.Stored.{namesIn, stored, Entered}
+use Rattle.reader.specs.Code.Stored.{namesIn, stored, NameTable, Entered}
 
 -- ---- comparing
 
@@ -201,3 +204,34 @@ table-more word t u index index′ n b w l k s names h e new =
       room = omega (arith, same, h .room);
       indexed = rw (s .1, k) (indexed-more names word index (h .indexed) n e l new);
     }
+
+base-long : length baseNames ≡ 8
+unfolding baseNames bytes
+base-long = refl
+
+-- a fixed name is short, and none of those before it
+isFresh : ℕ → Bool
+isFresh n = leb n (numberOf (getD baseNames n []) (take n baseNames)) && leb (length (getD baseNames n [])) 63
+
+fresh : (n : ℕ) → n < 8 → true ≡ isFresh n
+unfolding isFresh valued baseNames bytes numberOf anyOf
+fresh n l = valued-at isFresh true [] 0 8 refl n (omega arith) (omega arith) refl
+
+pub base-short : (n : ℕ) → n < 8 → length (getD baseNames n []) ≤ 63
+unfolding isFresh
+base-short n l =
+    leb-true (length (getD baseNames n [])) 63 (and-right (leb n (numberOf (getD baseNames n []) (take n baseNames))) (leb (length (getD baseNames n [])) 63) (sym (fresh n l)))
+
+-- a fixed name more
+pub base-more : (n : ℕ) (word t u index index′ : List ℕ) (b : ℕ) → n < 8 → word ≡ getD baseNames n [] → b ≡ bucketOf word
+    → (u ≡ stored t n word) × (index′ ≡ linked index n b) → NameTable (take n baseNames) t index → NameTable (take (n + 1) baseNames) u index′
+unfolding isFresh
+base-more n word t u index index′ b l w k s h =
+    let new : n ≤ numberOf (getD baseNames n []) (take n baseNames) = 
+      leb-true n (numberOf (getD baseNames n []) (take n baseNames)) (and-left (leb n (numberOf (getD baseNames n []) (take n baseNames))) (leb (length (getD baseNames n [])) 63) (sym (fresh n l))) in
+    let long : length (take n baseNames) ≡ n = length-take-le n baseNames (omega (arith, base-long)) in
+    let short : length word ≤ 63 = subst (λ x. length x ≤ 63) (sym w) (base-short n l) in
+    let later : length (take n baseNames) ≤ numberOf word (take n baseNames) = rw (long, w) new in
+    let one : n + 1 ≡ suc n = omega arith in
+    let more = table-more word t u index index′ n b short (omega arith) k s (take n baseNames) h (sym long) later in
+    subst (λ names. NameTable names u index′) (ap (λ x. take n baseNames ++ (x ∷ [])) w ∙ sym (take-suc baseNames n [] (omega (arith, base-long))) ∙ ap (λ m. take m baseNames) (sym one)) more

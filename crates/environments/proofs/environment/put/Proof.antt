@@ -6,30 +6,6 @@ use lib.ListN.{length-set}
 use native.Mathlib.Omega.{arith}
 use Rattle.environments.specs.EntryLaws.{wordOf, place, storing, stored}
 
-slice-write-env-2 : tie.Need-slice-write-env-2
-slice-write-env-2 c =
-    simp length-set (omega arith)
-
-slice-write-env-3 : tie.Need-slice-write-env-3
-slice-write-env-3 c =
-    simp length-set (omega arith)
-
-slice-write-env-4 : tie.Need-slice-write-env-4
-slice-write-env-4 c =
-    simp length-set (omega arith)
-
-slice-write-env-5 : tie.Need-slice-write-env-5
-slice-write-env-5 c =
-    simp length-set (omega arith)
-
-slice-write-env-6 : tie.Need-slice-write-env-6
-slice-write-env-6 c =
-    simp length-set (omega arith)
-
-slice-write-env-7 : tie.Need-slice-write-env-7
-slice-write-env-7 c =
-    simp length-set (omega arith)
-
 returns : tie.Need-returns
 unfolding wordOf place storing
 returns c =
@@ -44,21 +20,21 @@ put-spec =
     (λ c. search needs)  -- slice-write-env
     (λ c. search needs)  -- add-env
     (λ c. search needs)  -- mul-env-2
-    slice-write-env-2
+    (λ c. simp length-set (omega arith))  -- slice-write-env-2
     (λ c. search needs)  -- add-env-2
     (λ c. search needs)  -- mul-env-3
-    slice-write-env-3
+    (λ c. simp length-set (omega arith))  -- slice-write-env-3
     (λ c. search needs)  -- add-env-3
     (λ c. search needs)  -- mul-env-4
-    slice-write-env-4
+    (λ c. simp length-set (omega arith))  -- slice-write-env-4
     (λ c. search needs)  -- add-env-4
     (λ c. search needs)  -- mul-env-5
-    slice-write-env-5
+    (λ c. simp length-set (omega arith))  -- slice-write-env-5
     (λ c. search needs)  -- add-env-5
     (λ c. search needs)  -- mul-env-6
-    slice-write-env-6
+    (λ c. simp length-set (omega arith))  -- slice-write-env-6
     (λ c. search needs)  -- add-env-6
     (λ c. search needs)  -- mul-env-7
-    slice-write-env-7
+    (λ c. simp length-set (omega arith))  -- slice-write-env-7
     (λ c. search needs)  -- same-length
     returns)

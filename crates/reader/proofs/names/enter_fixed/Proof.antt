@@ -1,28 +1,21 @@
 use borrow.Author.Needs.{needs}
 use Rattle.reader.proofs.names.enter_fixed.Statement.{statement}
 use Rattle.reader.proofs.names.enter_fixed.Tie as tie
+use mathlib.Core.Path.{sym, subst}
+use Prim.Native.Nat.{_≤_}
+use lib.ListN.{length}
 use native.Mathlib.Omega.{arith}
+use Rattle.words.specs.Limits.{nameLengthMost}
 use Rattle.reader.specs.Code.IndexLaws.{bucket-below}
-use Rattle.reader.specs.Code.StoredLaws.{table-more}
-
-bucket-of-requires : tie.Need-bucket-of-requires
-bucket-of-requires c κs =
-    search needs
+use Rattle.reader.specs.Code.StoredLaws.{base-short, base-more}
 
 enter-requires : tie.Need-enter-requires
 enter-requires c κs =
     let args = c .before .before .before .before .before .before .args in
     let pre = c .before .before .before .before .before .before .pre in
     let b = bucket-below (args .word .now) in
-    ((omega (arith, pre .0, pre .1), pre .3), (pre .2, pre .0, omega (arith, b, c .bucket-of .ensures)))
-
-same-length : tie.Need-same-length
-same-length c =
-    search needs
-
-same-length-2 : tie.Need-same-length-2
-same-length-2 c =
-    search needs
+    let short = subst (λ x. length x ≤ nameLengthMost) (sym (pre .2)) (base-short (args .number) (pre .1)) in
+    ((omega (arith, pre .0 .room, pre .1), short), (pre .0 .indexed .size, omega (arith, pre .1), omega (arith, b, c .bucket-of .ensures)))
 
 returns : tie.Need-returns
 returns c =
@@ -30,9 +23,15 @@ returns c =
     let pre = c .before .before .before .before .before .before .before .before .before .before .before .pre in
     let bucket-of = c .before .before .before .before .before .bucket-of in
     let enter = c .before .before .before .before .enter in
-    table-more (args .word .now) (args .names .now) (enter .last .0) (args .index .now) (enter .last .1 .0) (args .number)
-    (bucket-of .result) (pre .3) (pre .0) (bucket-of .ensures) (enter .ensures)
+    base-more (args .number) (args .word .now) (args .names .now) (enter .last .0) (args .index .now) (enter .last .1 .0)
+    (bucket-of .result) (pre .1) (pre .2) (bucket-of .ensures) (enter .ensures) (pre .0)
 
 pub enter-fixed-spec : {M : Type 1} → statement M
 enter-fixed-spec =
-    tie.close (tie.spec bucket-of-requires enter-requires same-length same-length-2 returns)
+    tie.close
+    (tie.spec
+    (λ c κs. search needs)  -- bucket-of-requires
+    enter-requires
+    (λ c. search needs)  -- same-length
+    (λ c. search needs)  -- same-length-2
+    returns)
