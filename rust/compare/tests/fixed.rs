@@ -1,5 +1,5 @@
-//! Recipes with known answers, from the text to the output: those proved of the definition, those of examples/, those of document 01 that
-//! are neither, and or, or2 and divide of document 002 as rules.
+//! Recipes with known answers, from the text to the output: those proved of the definition, those of examples/, those of the change
+//! requests, those of document 01 that are none of these, and or, or2 and divide of document 002 as rules.
 
 use compare::filing::file;
 use compare::{deep, refusal};
@@ -131,22 +131,15 @@ fn many_marks() {
 }
 
 #[test]
-fn digits() {
-    let rows = [
-        ("0", "0"),
-        ("-0", "0"),
-        ("-2147483648", "-2147483648"),
-        ("2147483647", "2147483647"),
-        ("(quote (10 100 1000000000 1000000001 -1000000000 2000000000))", "(quote (10 100 1000000000 1000000001 -1000000000 2000000000))"),
-        ("(quote (007 -00042 000))", "(quote (7 -42 0))"),
-        ("(lambda (a b c d e f g h) (lambda (i j k) (k j a)))", "(lambda (v0 v1 v2 v3 v4 v5 v6 v7) (lambda (v8 v9 v10) (v10 v9 v0)))"),
-    ];
-    for (expression, term) in rows {
-        let (recipe, output) = (format!("() {expression}"), format!("accepted 0 0\n{term}\n"));
-        assert_eq!(reference::file(recipe.as_bytes(), 512), output, "{recipe}");
-        assert_eq!(file(recipe.as_bytes(), 512), output, "{recipe}");
+fn of_the_requests() {
+    for (name, recipe, output) in rows::requests() {
+        assert_eq!(file(recipe.as_bytes(), 512), output, "{name}: {recipe}");
     }
-    // around each power of ten, both signs
+}
+
+/// Around each power of ten, both signs.
+#[test]
+fn digits() {
     for power in (1..10).map(|k| 10i64.pow(k)) {
         for n in [power - 1, power, power + 1, 4 * power - 1, 4 * power, 9 * power, 1 - power, -power, -power - 1] {
             if let Ok(n) = i32::try_from(n) {

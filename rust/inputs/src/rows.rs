@@ -1,6 +1,8 @@
-//! Recipes with right answers: those proved of the definition, whose rows are read from the specs themselves, and those of examples/.
+//! Recipes with right answers: those proved of the definition, whose rows are read from the specs themselves, those of examples/, and
+//! those of the change requests, a file of `requests/` for each.
 
 use crate::top;
+use std::path::Path;
 
 fn spec(path: &str) -> String {
     let path = top().join("crates").join(path);
@@ -69,4 +71,16 @@ pub fn examples() -> Vec<(Vec<u8>, String)> {
     let files = top().join("examples").read_dir().unwrap().map(|entry| entry.unwrap().path());
     let recipes = files.filter(|path| path.extension().is_some_and(|e| e == "scm"));
     recipes.map(|path| (std::fs::read(&path).unwrap(), std::fs::read_to_string(path.with_extension("out")).unwrap())).collect()
+}
+
+/// What is said of each recipe of the change requests, its text, and what is printed for it: a row's lines, an empty one between rows.
+pub fn requests() -> Vec<(String, String, String)> {
+    let folder = Path::new(env!("CARGO_MANIFEST_DIR")).join("requests");
+    let texts = folder.read_dir().unwrap().map(|entry| std::fs::read_to_string(entry.unwrap().path()).unwrap());
+    let row = |row: &str| {
+        let mut lines = row.splitn(3, '\n').map(str::to_string);
+        let mut line = || lines.next().unwrap_or_else(|| panic!("three lines or more: {row}"));
+        (line(), line(), format!("{}\n", line()))
+    };
+    texts.flat_map(|text| text.trim_end().split("\n\n").map(row).collect::<Vec<_>>()).collect()
 }

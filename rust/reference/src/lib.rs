@@ -1,4 +1,4 @@
-//! A second expander, written from document 01 alone. Marks and bindings are carried through the whole tree at once.
+//! A second expander, written from documents 01 and 02 alone. Marks and bindings are carried through the whole tree at once.
 //!
 //! The modules follow the paper: [`text`] reads a recipe text, [`table`] holds the item table and its layout,
 //! [`tree`] the trees with their marks and bindings, [`rules`] what macros are, [`expand`] the forms and the run,

@@ -1,7 +1,7 @@
-//! The second expander on texts, tables and words with known answers.
+//! The second expander on texts, tables, words and recipes with known answers.
 
-use inputs::{in_stack, known};
-use reference::{core, expand, text};
+use inputs::{in_stack, known, rows};
+use reference::{core, expand, file, text};
 
 #[test]
 fn readings() {
@@ -31,4 +31,13 @@ fn words() {
     let mut out = [7; 15];
     assert_eq!(core::write_call(&[7, 0, 1, 0, 0], 0, &[], &mut out), (20, 0));
     assert_eq!(out, [7; 15]);
+}
+
+#[test]
+fn requests() {
+    let rows = rows::requests();
+    assert!(rows.len() > 6, "{} rows", rows.len());
+    for (name, recipe, output) in rows {
+        assert_eq!(file(recipe.as_bytes(), 512), output, "{name}: {recipe}");
+    }
 }
