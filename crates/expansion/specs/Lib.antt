@@ -16,6 +16,7 @@ pub mod RowsShapes
 pub mod RowsTables
 pub mod RowsEvents
 pub mod RowsFuel
+pub mod RowsDepths
 pub mod Outcomes
 pub mod TidyRules
 pub mod FormLaws
