@@ -18,6 +18,8 @@ pub mod RowsEvents
 pub mod RowsFuel
 pub mod RowsDepths
 pub mod Outcomes
+pub mod Depths
+pub mod DepthLaws
 pub mod TidyRules
 pub mod FormLaws
 pub mod RunLaws
