@@ -137,6 +137,7 @@ fn nested_ellipses() {
         let items = text::read(recipe.as_bytes()).expect(&recipe).words();
         assert_eq!(both(&items), (ground, 0, Vec::new()), "{recipe}");
     }
+    assert_eq!(both(&deep::nested_ellipses(64, 1_800)), (18, 0, Vec::new()));
 }
 
 #[test]
