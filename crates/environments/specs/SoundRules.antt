@@ -104,7 +104,7 @@ constant-sound p d a c = Sound.constant {a = a} (λ z. false≢true (rw z at c))
 
 depthFits-most : (d here : ℕ) → depthFits d here ≡ true → d ≤ here
 unfolding depthFits
-depthFits-most d here e = either (eqb d 0) (λ z. omega (arith, eqb-true d 0 z)) (λ z. omega (arith, eqb-true d here (rw z at e)))
+depthFits-most d here e = leb-true d here e
 
 -- a number below k + n, under at most two ellipses
 record Known (k n : ℕ) (v : ℕ × ℕ) : Type 0 where

@@ -4,4 +4,5 @@ pub mod agree;
 pub mod bind;
 pub mod environment;
 pub mod lengths;
+mod marks;
 mod parts;

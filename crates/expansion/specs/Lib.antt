@@ -16,7 +16,10 @@ pub mod RowsShapes
 pub mod RowsTables
 pub mod RowsEvents
 pub mod RowsFuel
+pub mod RowsDepths
 pub mod Outcomes
+pub mod Depths
+pub mod DepthLaws
 pub mod TidyRules
 pub mod FormLaws
 pub mod RunLaws

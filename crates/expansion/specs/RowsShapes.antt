@@ -98,7 +98,7 @@ rules =
     refuses "() (let-syntax ((m (syntax-rules () ((_ a b c d e f g h i j k l m n o p q) 1)))) 1)" 15 0 0 ∷
     refuses "() (let-syntax ((m (syntax-rules () ((_ a (a)) 1)))) 1)" 15 0 0 ∷
     -- a variable under one ellipsis, and under two in the template
-    refuses "() (let-syntax ((m (syntax-rules () ((_ (a ...) ((b ...) ...)) (((a b) ...) ...))))) 1)" 15 0 0 ∷
+    gives "() (let-syntax ((m (syntax-rules () ((_ (a ...) ((b ...) ...)) (((a b) ...) ...))))) 1)" 0 0 (2 ∷ 1 ∷ []) ∷
     -- a template is not ..., has no ... first in a list, and no two in succession
     refuses "() (let-syntax ((m (syntax-rules () ((_ a ...) ...)))) 1)" 15 0 0 ∷
     refuses "() (let-syntax ((m (syntax-rules () ((_ a ...) (... a))))) 1)" 15 0 0 ∷

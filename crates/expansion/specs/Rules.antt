@@ -1,6 +1,6 @@
 -- Rules (document 01, 'Forms'): read once, when their form is reached, into patterns and templates; none is ground 15.
 -- What matching and transcribing need is settled here, so that they test nothing more.
-use mathlib.Core.Bool.{Bool, false, not, _&&_, _||_, cond}
+use mathlib.Core.Bool.{Bool, false, not, _&&_, cond}
 use mathlib.Core.List.{List, [], _∷_, _++_, map}
 use mathlib.Core.Option.{Option, none, some}
 use Prim.Native.Nat.{ℕ, suc, _+_, _-_}
@@ -80,9 +80,9 @@ unfoldable pub isDriven : Option Template → Bool
 isDriven none = false
 isDriven (some e) = ltb 0 (length (drivers 0 e))
 
--- a variable under none may be anywhere; one under d > 0 must be under exactly d
+-- a variable under d ellipses of the pattern is under at least d of the template, so under none it may be anywhere
 unfoldable pub depthFits : (d here : ℕ) → Bool
-depthFits d here = eqb d 0 || eqb d here
+depthFits d here = leb d here
 
 -- the variable that x is the same as, with its depth; the list has the variables from number k on
 unfoldable pub variableFrom : ℕ → List (Name × ℕ) → Name → Option (ℕ × ℕ)

@@ -4,9 +4,9 @@ use mathlib.Core.Bool.{Bool, true, false, not, _||_, cond}
 use mathlib.Core.List.{List, [], _∷_, _++_}
 use Prim.Native.Nat.{ℕ, suc, _+_, _-_, _≤_, _<_}
 use native.Mathlib.Omega.{arith}
-use lib.Dec.{eqb, ltb}
+use lib.Dec.{eqb, ltb, leb}
 use lib.ListN.{length}
-use borrow.Author.Tests.{lt-ltb, ne-eqb, eqb-true, eqb-false}
+use borrow.Author.Tests.{lt-ltb, eqb-true, eqb-false}
 use Rattle.expansion.specs.Rules.{Template, variableT, emptyT, pairT, ellipsisT, drivers, depthFits}
 use Rattle.arena.specs.Arena.{wordAt, referenceAt}
 use Rattle.words.specs.ListLaws.{either}
@@ -95,13 +95,9 @@ accepted-dots work at dots r e d = rw e d
 pub accepted-plain : (work : List ℕ) (at : ℕ) (dots : Bool) → dots ≡ false → Accepts work dots at true
 accepted-plain work at dots e = rw e refl
 
-pub depth-none : (d here : ℕ) → d ≡ 0 → true ≡ depthFits d here
+pub depth-fits : (d here : ℕ) → leb d here ≡ depthFits d here
 unfolding depthFits
-depth-none d here e = rw e refl
-
-pub depth-same : (d here : ℕ) → (d ≡ 0 → ⊥) → eqb d here ≡ depthFits d here
-unfolding depthFits
-depth-same d here n = rw (ne-eqb d 0 n) refl
+depth-fits d here = refl
 
 -- ---- an ellipsis or a pair
 

@@ -59,14 +59,11 @@ fn accepted(work: &[u32], dots: bool, at: u32) -> bool
     true
 }
 
-// A variable under none may be anywhere; one under d > 0 must be under exactly d.
+// A variable under d ellipses of the pattern is under at least d of the template.
 fn depth_fits(d: u32, here: u32) -> bool
     ensures { λ r. ⌜ r ≡ depthFits d here ⌝ }
 {
-    if d == 0 {
-        return true;
-    }
-    d == here
+    d <= here
 }
 
 // An element and the rest of its list: an ellipsis where `...` follows the element, a pair otherwise.

@@ -55,7 +55,7 @@ pub fn copied_list(count: usize) -> Vec<u32> {
         0 => t.list(3, &mut |t, place| t.name([WILDCARD, X, ELLIPSIS][place])),
         _ => t.list(3, &mut |t, place| if place == 0 { t.integer(1) } else { t.name([X, ELLIPSIS][place - 1]) }),
     };
-    with_macro(&rule, &|t| t.list(count + 1, &mut |t, place| if place == 0 { t.name(M) } else { t.integer(1) }))
+    with_macro(&rule, &|t| use_ones(t, count))
 }
 
 /// `((_) (1 ... 1))` and `(m)`: a template of so many elements.
@@ -65,6 +65,31 @@ pub fn long_template(count: usize) -> Vec<u32> {
         _ => t.list(count, &mut |t, _| t.integer(1)),
     };
     with_macro(&rule, &|t| t.list(1, &mut |t, _| t.name(M)))
+}
+
+/// `((_ x ...) (1 (x (x ... x ...) ...) ...))` and `(m 1 ... 1)`: so many ellipses over one another, driven by so many elements.
+pub fn nested_ellipses(levels: usize, count: usize) -> Vec<u32> {
+    let rule = |t: &mut Table, place: usize| match place {
+        0 => t.list(3, &mut |t, place| t.name([WILDCARD, X, ELLIPSIS][place])),
+        _ => t.list(3, &mut |t, place| match place {
+            0 => t.integer(1),
+            1 => repeated(t, levels - 1),
+            _ => t.name(ELLIPSIS),
+        }),
+    };
+    with_macro(&rule, &|t| use_ones(t, count))
+}
+
+fn repeated(t: &mut Table, levels: usize) {
+    if levels == 0 {
+        return t.name(X);
+    }
+    t.list(3, &mut |t, place| if place == 1 { repeated(t, levels - 1) } else { t.name([X, 0, ELLIPSIS][place]) });
+}
+
+/// `(m 1 ... 1)`.
+fn use_ones(t: &mut Table, count: usize) {
+    t.list(count + 1, &mut |t, place| if place == 0 { t.name(M) } else { t.integer(1) });
 }
 
 fn use_nested(t: &mut Table, uses: usize) {
@@ -112,6 +137,7 @@ pub fn inputs() -> Vec<(&'static str, Vec<u32>, u32, usize)> {
         ("results nested by many steps", nested_results(100, 30), 8_192, 3_000),
         ("copies along one list", copied_list(2_020), 8_192, 2_020),
         ("a template of one long list", long_template(2_020), 8_192, 2_020),
+        ("ellipses over one another in a template", nested_ellipses(660, 1), 8_192, 660),
         ("a name on which joined wraps wait", many_wraps(), 8_192, 804),
         ("names with many marks", many_marks(10, "(lambda (x) (lambda (y) (f x y)))"), 8_192, 160),
     ]

@@ -1,6 +1,7 @@
-//! What the comparisons share: item tables, deep inputs, dirty tables, refusals, calls of expansion.
+//! What the comparisons share: item tables, deep inputs, nested ellipses, dirty tables, refusals, calls of expansion.
 
 pub mod deep;
+pub mod ellipses;
 pub mod filing;
 pub mod tables;
 

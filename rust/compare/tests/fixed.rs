@@ -2,7 +2,7 @@
 //! requests, those of document 01 that are none of these, and or, or2 and divide of document 002 as rules.
 
 use compare::filing::file;
-use compare::{deep, refusal};
+use compare::{deep, ellipses, refusal};
 use inputs::{in_stack, rows};
 use reference::text;
 
@@ -128,6 +128,16 @@ fn many_marks() {
         assert_eq!(answer("(lambda (x x) y)").0, 14);
         assert_eq!(answer("(lambda (x) y)").0, 11);
     }
+}
+
+/// Sixteen ellipses over one another, whose copies nobody could count one by one: 17 goes before 18 all the same.
+#[test]
+fn nested_ellipses() {
+    for (recipe, ground) in [(ellipses::one_list(16), 18), (ellipses::own_lists(16), 18), (ellipses::last_differs(16), 17)] {
+        let items = text::read(recipe.as_bytes()).expect(&recipe).words();
+        assert_eq!(both(&items), (ground, 0, Vec::new()), "{recipe}");
+    }
+    assert_eq!(both(&deep::nested_ellipses(64, 1_800)), (18, 0, Vec::new()));
 }
 
 #[test]

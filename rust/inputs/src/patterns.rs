@@ -1,4 +1,4 @@
-//! Recipes about rules: patterns with nested ellipses, templates over their variables, uses that mostly fit.
+//! Recipes about rules: patterns with nested ellipses, templates that repeat their variables, uses that mostly fit.
 
 use crate::Random;
 
@@ -20,13 +20,16 @@ pub struct Rules<'a> {
     literals: Vec<&'static str>,
     /// Variables of the rule at hand, each with the ellipses over it.
     variables: Vec<(&'static str, usize)>,
+    /// How many elements most repeated ones of a use get, so that lists are often of one length.
+    length: usize,
 }
 
 impl Rules<'_> {
     /// One or two macros with rules of one or two patterns, and a body of uses.
     pub fn recipe(random: &mut Random) -> String {
         let literals = (0..random.below(3)).map(|_| random.pick(LITERALS)).collect();
-        let mut r = Rules { random, literals, variables: Vec::new() };
+        let length = random.below(4);
+        let mut r = Rules { random, literals, variables: Vec::new(), length };
         let form = r.random.pick(&["let-syntax", "letrec-syntax"]);
         let mut entries = String::new();
         let mut uses = Vec::new();
@@ -34,7 +37,9 @@ impl Rules<'_> {
             let mut rules = String::new();
             for _ in 0..1 + r.random.below(2) {
                 let pattern = if r.random.chance(25) { r.rows() } else { r.list(3, 0) };
-                let template = r.template(3, 0);
+                let template = r.template(4, 0);
+                // quoted, all of it is seen in the term
+                let template = if r.random.chance(40) { format!("(quote {template})") } else { template };
                 rules += &format!(" ({} {template})", text_of("_", &pattern));
                 uses.push(r.used(name, &pattern));
                 r.variables.clear();
@@ -80,16 +85,16 @@ impl Rules<'_> {
         }
     }
 
-    /// A template under so many ellipses, its variables under as many as they want, now and then not.
+    /// A template under so many ellipses, its variables under as many as they want or more, now and then not.
     fn template(&mut self, depth: usize, ellipses: usize) -> String {
         if depth == 0 || self.random.chance(25 - 10 * ellipses.min(2)) {
             return self.leaf(ellipses);
         }
         let mut elements = vec![self.random.pick(&["op", "op", "op", "op", "m", "k", "if"]).to_string()];
         for _ in 0..self.random.below(4) {
-            let over = self.variables.iter().any(|(_, d)| *d > ellipses);
+            let over = self.variables.iter().any(|(_, d)| *d > 0);
             if over && self.random.chance(50) {
-                elements.push(self.template(depth - 1, ellipses + 1));
+                elements.push(self.repeated(depth - 1, ellipses + 1));
                 elements.push("...".to_string());
             } else {
                 elements.push(self.template(depth - 1, ellipses));
@@ -98,14 +103,27 @@ impl Rules<'_> {
         format!("({})", elements.join(" "))
     }
 
+    /// An element under its own ellipsis and those outside it, mostly with a variable that drives it.
+    fn repeated(&mut self, depth: usize, ellipses: usize) -> String {
+        let element = self.template(depth, ellipses);
+        let driving: Vec<(&str, usize)> = self.variables.iter().filter(|(_, d)| *d > 0).copied().collect();
+        let (x, d) = driving[self.random.below(driving.len())];
+        match self.random.below(8) {
+            0 => element,
+            1 | 2 if d <= ellipses => x.to_string(),
+            _ if d <= ellipses => format!("(op {x} {element})"),
+            _ => format!("(op {x} ... {element})"),
+        }
+    }
+
     fn leaf(&mut self, ellipses: usize) -> String {
-        let fitting: Vec<&str> = self.variables.iter().filter(|(_, d)| *d == 0 || *d == ellipses).map(|(x, _)| *x).collect();
-        let driving: Vec<&str> = self.variables.iter().filter(|(_, d)| *d > 0 && *d == ellipses).map(|(x, _)| *x).collect();
+        let fitting: Vec<&str> = self.variables.iter().filter(|(_, d)| *d <= ellipses).map(|(x, _)| *x).collect();
+        let driving: Vec<&str> = self.variables.iter().filter(|(_, d)| *d > 0 && *d <= ellipses).map(|(x, _)| *x).collect();
         match self.random.below(20) {
             0 => self.random.pick(VARIABLES).to_string(),
             1..=3 => self.random.pick(INSERTED).to_string(),
             4 => self.random.below(2).to_string(),
-            _ if ellipses > 0 && !driving.is_empty() => driving[self.random.below(driving.len())].to_string(),
+            _ if !driving.is_empty() => driving[self.random.below(driving.len())].to_string(),
             _ if !fitting.is_empty() => fitting[self.random.below(fitting.len())].to_string(),
             _ => self.random.pick(INSERTED).to_string(),
         }
@@ -120,13 +138,20 @@ impl Rules<'_> {
     fn fitting(&mut self, elements: &[Pattern], repeated: bool) -> String {
         let mut texts = Vec::new();
         for (i, p) in elements.iter().enumerate() {
-            let times = if repeated && i + 1 == elements.len() { self.random.below(4) } else { 1 };
+            let times = if repeated && i + 1 == elements.len() { self.times() } else { 1 };
             texts.extend((0..times).map(|_| self.fits(p)));
         }
         if self.random.chance(3) {
             texts.push("1".to_string());
         }
         texts.join(" ")
+    }
+
+    fn times(&mut self) -> usize {
+        if self.random.chance(60) {
+            return self.length;
+        }
+        self.random.below(4)
     }
 
     fn fits(&mut self, pattern: &Pattern) -> String {

@@ -231,11 +231,10 @@ impl Expander {
             }
         };
         let (rule, taken) = rules.iter().find_map(|r| Some((r, r.matches(&used, &mut agree)?))).ok_or(16u32)?;
-        let cost = rule.cost(&taken, &rule.template).ok_or(17u32)?;
-        require(cost <= u64::from(self.fuel - self.sum), 18)?;
+        let (result, cost) = rule.result(&taken, self.fuel - self.sum)?;
         self.steps = m;
-        self.sum += cost as u32;
-        self.expression(rule.transcribe(&taken, &rule.template).mark(m).produced())
+        self.sum += cost;
+        self.expression(result.mark(m).produced())
     }
 }
 

@@ -1,6 +1,8 @@
-//! Rules: what they must be (ground 15), matching, and transcribing (ground 17).
+//! Rules: what they must be (ground 15), matching, and transcribing (grounds 17 and 18).
 
 use crate::tree::{Name, Tree};
+use crate::Ground;
+use std::collections::HashMap;
 
 /// What a variable takes: a tree, or a list under each ellipsis.
 #[derive(Clone, Debug)]
@@ -73,22 +75,28 @@ fn check_patterns(literals: &[Name], list: &[Tree], depth: usize, variables: &mu
     Some(())
 }
 
+/// The elements of a template list, each with whether an ellipsis follows it.
+fn elements(list: &[Tree]) -> impl Iterator<Item = (&Tree, bool)> {
+    let followed = |i: usize| list.get(i + 1).is_some_and(is_dots);
+    list.iter().enumerate().filter(|(_, t)| !is_dots(t)).map(move |(i, t)| (t, followed(i)))
+}
+
 fn check_template(variables: &[(Name, usize)], t: &Tree, depth: usize) -> Option<()> {
     match t {
         Tree::Name(x) if x.is_ellipsis() => None,
         Tree::Name(x) => match variables.iter().find(|(v, _)| v.same(x)) {
-            Some((_, d)) if *d > 0 && *d != depth => None,
+            Some((_, d)) if *d > depth => None,
             _ => Some(()),
         },
         Tree::List(list) => {
-            let mut i = 0;
-            while i < list.len() {
-                let repeated = list.get(i + 1).is_some_and(is_dots);
-                check_template(variables, &list[i], depth + usize::from(repeated))?;
-                if repeated && driving(variables, &list[i]).is_empty() {
+            if list.first().is_some_and(is_dots) || list.windows(2).any(|two| two.iter().all(is_dots)) {
+                return None;
+            }
+            for (t, repeated) in elements(list) {
+                check_template(variables, t, depth + usize::from(repeated))?;
+                if repeated && driving(variables, t, 0).is_empty() {
                     return None;
                 }
-                i += 1 + usize::from(repeated);
             }
             Some(())
         }
@@ -96,10 +104,17 @@ fn check_template(variables: &[(Name, usize)], t: &Tree, depth: usize) -> Option
     }
 }
 
-/// The variables with d > 0 that an element holds.
-fn driving(variables: &[(Name, usize)], t: &Tree) -> Vec<usize> {
-    let place = |x: &Name| variables.iter().position(|(v, d)| *d > 0 && v.same(x));
-    t.names().into_iter().filter_map(place).collect()
+/// The variables that drive an ellipsis over an element, each with how many of its own ellipses lie outside that one. Of the ellipses
+/// over a variable its own d are the innermost, and so many as `inside` lie between the two.
+fn driving(variables: &[(Name, usize)], t: &Tree, inside: usize) -> Vec<(usize, usize)> {
+    match t {
+        Tree::Name(x) => {
+            let place = variables.iter().position(|(v, d)| *d > inside && v.same(x));
+            place.map(|k| (k, variables[k].1 - inside - 1)).into_iter().collect()
+        }
+        Tree::List(list) => elements(list).flat_map(|(t, repeated)| driving(variables, t, inside + usize::from(repeated))).collect(),
+        _ => Vec::new(),
+    }
 }
 
 // ---- matching
@@ -154,79 +169,91 @@ impl Rule {
 
 // ---- transcribing
 
-impl Rule {
-    /// What stands for a name of the template here: what its variable has taken, or nothing where it is inserted.
-    fn variable(&self, taken: &[Taken], x: &Name) -> Option<Tree> {
-        let k = self.variables.iter().position(|(v, _)| v.same(x))?;
-        match &taken[k] {
-            Taken::One(tree) => Some(tree.clone()),
-            Taken::Many(_) => unreachable!("a checked template has each variable at its depth"),
-        }
+impl Taken {
+    /// What is taken at these indices, the outermost first.
+    fn at(&self, indices: &[usize]) -> &Taken {
+        indices.iter().fold(self, |taken, &i| &taken.list()[i])
     }
 
-    /// What the variables take in each copy of an element; none where driving lists differ in length.
-    fn copies(&self, taken: &[Taken], element: &Tree) -> Option<Vec<Vec<Taken>>> {
-        let drivers = driving(&self.variables, element);
-        let list = |k: usize| match &taken[k] {
+    fn list(&self) -> &[Taken] {
+        match self {
             Taken::Many(list) => list,
-            Taken::One(_) => unreachable!("a driving variable has a list"),
-        };
-        let count = list(drivers[0]).len();
-        if drivers.iter().any(|&k| list(k).len() != count) {
-            return None;
+            Taken::One(_) => unreachable!("no variable has more indices than ellipses"),
         }
-        let copy = |i: usize| {
-            let mut inner = taken.to_vec();
-            drivers.iter().for_each(|&k| inner[k] = list(k)[i].clone());
-            inner
-        };
-        Some((0..count).map(copy).collect())
+    }
+}
+
+/// The innermost indices.
+fn innermost(indices: &[usize], count: usize) -> &[usize] {
+    &indices[indices.len() - count..]
+}
+
+impl Rule {
+    /// The result and its items, of which there may be so many: ground 17, then ground 18.
+    pub fn result(&self, taken: &[Taken], most: u32) -> Result<(Tree, u32), Ground> {
+        if !self.lengths_agree(taken, &self.template, &[], &mut HashMap::new()) {
+            return Err(17);
+        }
+        let mut left = u64::from(most);
+        let result = self.transcribe(taken, &self.template, &[], &mut left).ok_or(18u32)?;
+        Ok((result, most - left as u32))
     }
 
-    /// The items of the result, before it is built; none is ground 17.
-    pub fn cost(&self, taken: &[Taken], t: &Tree) -> Option<u64> {
-        match t {
-            Tree::Name(x) => Some(self.variable(taken, x).map_or(1, |tree| tree.size())),
-            Tree::List(list) => {
-                let mut sum = 1u64;
-                let mut i = 0;
-                while i < list.len() {
-                    if list.get(i + 1).is_some_and(is_dots) {
-                        for inner in self.copies(taken, &list[i])? {
-                            sum = sum.saturating_add(1 + self.cost(&inner, &list[i])?);
-                        }
-                        i += 2;
-                    } else {
-                        sum = sum.saturating_add(1 + self.cost(taken, &list[i])?);
-                        i += 1;
-                    }
-                }
-                Some(sum)
+    /// How many copies of an element are made at these indices; none where driving lists differ in length.
+    fn copies(&self, taken: &[Taken], element: &Tree, indices: &[usize]) -> Option<usize> {
+        let drivers = driving(&self.variables, element, 0);
+        let mut counts = drivers.iter().map(|&(k, outside)| taken[k].at(innermost(indices, outside)).list().len());
+        let count = counts.next()?;
+        counts.all(|other| other == count).then_some(count)
+    }
+
+    /// Whether driving lists are of one length wherever copies are made. A variable has at most two ellipses, so what is compared goes
+    /// by the index next outside alone, and an element is looked into once for each: `seen` has how many of them it was.
+    fn lengths_agree(&self, taken: &[Taken], t: &Tree, next: &[usize], seen: &mut HashMap<*const Tree, usize>) -> bool {
+        let Tree::List(list) = t else { return true };
+        elements(list).all(|(t, repeated)| {
+            if !repeated {
+                return self.lengths_agree(taken, t, next, seen);
             }
-            _ => Some(1),
-        }
+            let Some(count) = self.copies(taken, t, next) else { return false };
+            let before = seen.get(&(t as *const Tree)).copied().unwrap_or(0);
+            seen.insert(t, before.max(count));
+            (before..count).all(|i| self.lengths_agree(taken, t, &[i], seen))
+        })
     }
 
-    /// The result, where its driving lists are known to be of one length.
-    pub fn transcribe(&self, taken: &[Taken], t: &Tree) -> Tree {
+    /// The result at these indices, where driving lists are of one length; none where no items are left to pay for it.
+    fn transcribe(&self, taken: &[Taken], t: &Tree, indices: &[usize], left: &mut u64) -> Option<Tree> {
         match t {
-            Tree::Name(x) => self.variable(taken, x).unwrap_or_else(|| t.clone()),
+            Tree::Name(x) => {
+                let variable = self.variables.iter().position(|(v, _)| v.same(x));
+                let tree = match variable.map(|k| taken[k].at(innermost(indices, self.variables[k].1))) {
+                    Some(Taken::One(tree)) => tree,
+                    Some(Taken::Many(_)) => unreachable!("a checked template has each variable under its ellipses"),
+                    None => t,
+                };
+                pay(left, tree.size())?;
+                Some(tree.clone())
+            }
             Tree::List(list) => {
                 let mut out = Vec::new();
-                let mut i = 0;
-                while i < list.len() {
-                    if list.get(i + 1).is_some_and(is_dots) {
-                        let copies = self.copies(taken, &list[i]).expect("lengths are compared before");
-                        out.extend(copies.iter().map(|inner| self.transcribe(inner, &list[i])));
-                        i += 2;
-                    } else {
-                        out.push(self.transcribe(taken, &list[i]));
-                        i += 1;
+                pay(left, 1)?;
+                for (t, repeated) in elements(list) {
+                    let copies = if repeated { self.copies(taken, t, indices).expect("lengths are compared before") } else { 1 };
+                    for i in 0..copies {
+                        let inner = if repeated { [indices, &[i]].concat() } else { indices.to_vec() };
+                        pay(left, 1)?;
+                        out.push(self.transcribe(taken, t, &inner, left)?);
                     }
                 }
-                Tree::List(out)
+                Some(Tree::List(out))
             }
-            _ => t.clone(),
+            _ => pay(left, 1).map(|_| t.clone()),
         }
     }
+}
+
+fn pay(left: &mut u64, items: u64) -> Option<()> {
+    *left = left.checked_sub(items)?;
+    Some(())
 }

@@ -1,6 +1,7 @@
 //! Microseconds for reading, expanding and writing, as the tables of docs/BENCHMARKS.md: `cargo run --release --bin bench`.
 
 use compare::filing::Tables;
+use compare::{deep, ellipses};
 use std::io::Write;
 use std::process::{Command, Stdio};
 use std::time::Instant;
@@ -112,6 +113,22 @@ fn growth(title: &str, sizes: &[usize], recipe: impl Fn(usize) -> String) {
     }
 }
 
+/// Expanding alone, of tables that reading does not give: as many ellipses over one another, and as long a list under them, as fit.
+fn deeper() {
+    println!("\n| ellipses over one another in a table, expanding alone | elements under them | | µs |\n|---|---|---|---|");
+    for levels in [16, 64, 160, 330, 500] {
+        let count = (4_095 - deep::nested_ellipses(levels, 0).len() / 3) / 2;
+        let items = deep::nested_ellipses(levels, count);
+        let (work, core) = grebetallboy::table_words(items.len() / 3, 8_192);
+        let (mut work, mut core) = (vec![0; work], vec![0; core]);
+        let (ground, ..) = compare::expanded(&items, 8_192, &mut work, &mut core);
+        let us = time(|| {
+            let _ = std::hint::black_box(grebetallboy::expand(&items, 8_192, &mut work, &mut core));
+        });
+        println!("| {levels} | {count} | refused {ground} | {us:.0} |");
+    }
+}
+
 fn repeated(n: usize, each: impl Fn(usize) -> String) -> String {
     (0..n).map(each).collect::<Vec<_>>().join(" ")
 }
@@ -170,6 +187,20 @@ fn main() {
         let list = repeated(n, |i| (i % 10).to_string());
         format!("(f) (let-syntax ((m (syntax-rules () ((_ (x ...) (y ...)) (f (f x y) ...))))) (m ({list}) ({list})))")
     });
+    growth("copies under two ellipses, years beside each row of ten coins", &[80, 160, 320, 640], |n| {
+        let years = repeated(10, |i| i.to_string());
+        let rows = repeated(n / 10, |_| format!("({years})"));
+        format!("(f) (let-syntax ((m (syntax-rules () ((_ (y ...) (c ...) ...) (f (f (f y c) ...) ...))))) (m ({years}) {rows}))")
+    });
+    growth("copies under three ellipses", &[64, 216, 512, 1_000], |n| {
+        let list = repeated((1..).find(|i| i * i * i == n).expect("a cube"), |i| i.to_string());
+        let rule = "((_ (x ...) (y ...) (z ...)) (f (f x (f y (f z) ...) ...) ...))";
+        format!("(f) (let-syntax ((m (syntax-rules () {rule}))) (m ({list}) ({list}) ({list})))")
+    });
+    growth("ellipses over one another, one list for all of them", &[2, 4, 8, 16, 32], ellipses::one_list);
+    growth("ellipses over one another, a list for each", &[2, 4, 8, 16], ellipses::own_lists);
+    growth("ellipses over one another, the last of all lists of another length", &[3, 4, 8, 16, 32], ellipses::last_differs);
+    deeper();
     growth("literals in each of fifteen rules, all compared at each step", &[4, 8, 16], |n| {
         let literals = vec!["q"; n].join(" ");
         let rules = repeated(15, |_| format!("((_ ({literals} 2)) 1)"));
