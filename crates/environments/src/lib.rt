@@ -5,3 +5,4 @@ pub mod bind;
 pub mod environment;
 pub mod lengths;
 mod parts;
+pub mod shares;
