@@ -17,6 +17,7 @@ use Rattle.expansion.specs.Match.{share, holds, part, following}
 use Rattle.expansion.specs.Transcribe.{copies, allBelow, taken, lengths, copyCount, equalLengths, transcribe}
 use Rattle.words.specs.ListLaws.{either}
 use Rattle.environments.specs.Environment.{Ellipsis, Taking, Environment, takes, behind, counts, within, entering, enter, lengthsBy, countBy, agreeBy, resultBy, entered, enteredNext, taking, environment}
+use Rattle.environments.specs.BelowLaws.{below-cong}
 use Rattle.environments.specs.Sound.{Sound, variable, insert, constant, empty, pairs, ellipsis}
 
 -- ---- parts, index by index
@@ -43,12 +44,12 @@ part-two (ellipsisP p n q) k j i t = either (holds k p) (λ h. rw h (part-one p 
 
 -- ---- entering a copy
 
-entering-whole : (k i : ℕ) (o : Option Ellipsis) (x : Taking) → entering k i o x .whole ≡ x .whole
+pub entering-whole : (k i : ℕ) (o : Option Ellipsis) (x : Taking) → entering k i o x .whole ≡ x .whole
 unfolding entering
 entering-whole k i none x = refl
 entering-whole k i (some q) x = refl
 
-entering-one : (k i : ℕ) (o : Option Ellipsis) (x : Taking) → entering k i o x .one ≡ within k i o (x .whole)
+pub entering-one : (k i : ℕ) (o : Option Ellipsis) (x : Taking) → entering k i o x .one ≡ within k i o (x .whole)
 unfolding entering within
 entering-one k i none x = refl
 entering-one k i (some q) x = refl
@@ -67,12 +68,12 @@ entering-two (ellipsisP p n q) k i x e =
     (λ h. rw h (ap (λ (o : Option Ellipsis). within k i o (x .one)) (rw h at e)))
     (λ h. rw h (entering-two q k i x (rw h at e)))
 
-entering-first : (k i : ℕ) (o : Option Ellipsis) (x : Taking) → entering k i o x .first ≡ x .first
+pub entering-first : (k i : ℕ) (o : Option Ellipsis) (x : Taking) → entering k i o x .first ≡ x .first
 unfolding entering
 entering-first k i none x = refl
 entering-first k i (some q) x = refl
 
-entering-second : (k i : ℕ) (o : Option Ellipsis) (x : Taking) → entering k i o x .second ≡ x .second
+pub entering-second : (k i : ℕ) (o : Option Ellipsis) (x : Taking) → entering k i o x .second ≡ x .second
 unfolding entering
 entering-second k i none x = refl
 entering-second k i (some q) x = refl
@@ -100,11 +101,6 @@ following-second (pairP p q) k = either (holds k p) (λ h. rw h (following-secon
 following-second (ellipsisP p n q) k = either (holds k p) (λ h. rw h (following-first p k)) (λ h. rw h (following-second q k))
 
 -- ---- copies
-
-pub allBelow-cong : (f g : ℕ → Bool) (n : ℕ) → ((i : ℕ) → f i ≡ g i) → allBelow f n ≡ allBelow g n
-unfolding allBelow
-allBelow-cong f g zero h = refl
-allBelow-cong f g (suc n) h = ap₂ _&&_ (allBelow-cong f g n h) (h n)
 
 pub copies-cong : (f g : ℕ → Tree) (k n : ℕ) (a b : Tree) → ((i : ℕ) → f i ≡ g i) → a ≡ b → copies f k n a ≡ copies g k n b
 unfolding copies
@@ -189,7 +185,7 @@ module _ (p : Pattern) (used : Tree) where
   agreeBy-is is v s b (ellipsis {a = e} x y) =
       ap₂ _&&_ (ap₂ (λ (c : ℕ) (l : List ℕ). allOf (eqb c) l) (count-is is v s b x) (lengths-is is v s b x))
       (ap₂ _&&_
-      (ap (allBelow (λ i. agreeBy (enter i v) e)) (count-is is v s b x) ∙ allBelow-cong _ _ _ (λ i. agreeBy-is (i ∷ is) (enter i v) (stands-enter i is v s) (omega arith) x))
+      (ap (allBelow (λ i. agreeBy (enter i v) e)) (count-is is v s b x) ∙ below-cong _ _ _ (λ i. agreeBy-is (i ∷ is) (enter i v) (stands-enter i is v s) (omega arith) x))
       (agreeBy-is is v s b y))
 
   resultBy-is : (is : List ℕ) (v : Environment) {n : ℕ} {t : Template} → Stands is v → n ≤ length is → Sound p n t → resultBy v t ≡ transcribe p used is t

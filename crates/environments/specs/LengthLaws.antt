@@ -16,7 +16,7 @@ use Rattle.rule_cells.specs.Cells.{templateAt}
 use Rattle.rule_cells.specs.CellLaws.{templateAt-variable, templateAt-pair, templateAt-ellipsis}
 use Rattle.environments.specs.Environment.{takes, counts, lengthsBy, countBy}
 use Rattle.environments.specs.Entries.{entryAt, takingOf, environmentAt, level, takenIn, CountsCopies}
-use Rattle.environments.specs.AgreeLaws.{leaf-other}
+use Rattle.environments.specs.TemplateCells.{leaf-other}
 use Rattle.environments.specs.Lengths.{driving, also, after, Drives, Copies, Differs, Counted, deeper}
 use Rattle.environments.specs.declared.lengths.Driving.{Driving}
 use Rattle.environments.specs.declared.lengths.Driving.the-variants.{None, Length, Differ}
@@ -36,21 +36,21 @@ unfolding deeper
 deeper-most tag j = either (eqb tag 7) (λ e. rw e (omega arith)) (λ e. rw e (omega arith))
 
 module _ (work : List ℕ) (t tag : ℕ) (tag-is : tag ≡ wordAt work t 1) (j : ℕ) where
-  drivers-none : (tag ≡ 1 → ⊥) → (tag ≡ 6 → ⊥) → (tag ≡ 7 → ⊥) → drivers j (templateAt work t) ≡ []
+  pub drivers-none : (tag ≡ 1 → ⊥) → (tag ≡ 6 → ⊥) → (tag ≡ 7 → ⊥) → drivers j (templateAt work t) ≡ []
   unfolding drivers
   drivers-none = leaf-other (λ s. drivers j s ≡ []) (λ x. refl) (λ a. refl) refl work t tag tag-is
 
-  drivers-few : (d : ℕ) → tag ≡ 1 → d ≡ wordAt work t 2 → d ≤ j → drivers j (templateAt work t) ≡ []
+  pub drivers-few : (d : ℕ) → tag ≡ 1 → d ≡ wordAt work t 2 → d ≤ j → drivers j (templateAt work t) ≡ []
   unfolding drivers
   drivers-few d e d-is h = rw (templateAt-variable work t (sym tag-is ∙ e), ← d-is, le-ltb j d h) refl
 
-  drivers-one : (d k : ℕ) → tag ≡ 1 → d ≡ wordAt work t 2 → k ≡ wordAt work t 3 → j < d → drivers j (templateAt work t) ≡ (k, d - j - 1) ∷ []
+  pub drivers-one : (d k : ℕ) → tag ≡ 1 → d ≡ wordAt work t 2 → k ≡ wordAt work t 3 → j < d → drivers j (templateAt work t) ≡ (k, d - j - 1) ∷ []
   unfolding drivers
   drivers-one d k e d-is k-is h =
       let s : d - suc j ≡ d - j - 1 = omega arith in
       rw (templateAt-variable work t (sym tag-is ∙ e), ← d-is, ← k-is, lt-ltb j d h, s) refl
 
-  drivers-both : (i head rest : ℕ) → 6 ≤ tag → tag ≤ 7 → i ≡ deeper tag j → head ≡ referenceAt work t 3 → rest ≡ referenceAt work t 2 → drivers j (templateAt work t) ≡ drivers i (templateAt work head) ++ drivers j (templateAt work rest)
+  pub drivers-both : (i head rest : ℕ) → 6 ≤ tag → tag ≤ 7 → i ≡ deeper tag j → head ≡ referenceAt work t 3 → rest ≡ referenceAt work t 2 → drivers j (templateAt work t) ≡ drivers i (templateAt work head) ++ drivers j (templateAt work rest)
   unfolding drivers deeper
   drivers-both i head rest l h i-is head-is rest-is =
       either (eqb tag 7)

@@ -5,9 +5,8 @@ use mathlib.Core.List.{List, [], _∷_}
 use Prim.Native.Nat.{ℕ, suc}
 use lib.Dec.{eqb}
 use Rattle.words.specs.Lists.{allOf}
-use Rattle.expansion.specs.Transcribe.{allBelow}
 use Rattle.rule_cells.specs.Cells.{templateAt}
-use Rattle.environments.specs.Environment.{Environment, enter, lengthsBy, countBy, agreeBy}
+use Rattle.environments.specs.Environment.{lengthsBy, countBy, agreeBy}
 use Rattle.environments.specs.Entries.{environmentAt}
 use Rattle.environments.specs.declared.lengths.Driving.{Driving}
 use Rattle.environments.specs.declared.lengths.Driving.the-variants.{None, Length, Differ}
@@ -52,14 +51,6 @@ deeper tag j = cond (eqb tag 7) (suc j) j
 
 -- ---- ground 17
 
--- nothing is compared in a template without an ellipsis
-abbrev pub Flat : (work : List ℕ) (t : ℕ) → Type 0
-Flat work t = (v : Environment) → true ≡ agreeBy v (templateAt work t)
-
 -- driving lists are of one length in all of a template
 abbrev pub LengthsAgree : (work env : List ℕ) (t : ℕ) → Bool → Type 0
 LengthsAgree work env t r = (w : ℕ) → r ≡ agreeBy (environmentAt work env w) (templateAt work t)
-
--- in the first c copies of an element
-abbrev pub CopiesAgree : (work env : List ℕ) (e c : ℕ) → Bool → Type 0
-CopiesAgree work env e c r = (w : ℕ) → r ≡ allBelow (λ k. agreeBy (enter k (environmentAt work env w)) (templateAt work e)) c

@@ -3,6 +3,7 @@ pub mod Parts
 pub mod PartLaws
 pub mod Environment
 pub mod Sound
+pub mod BelowLaws
 pub mod EnvironmentLaws
 pub mod SoundRules
 pub mod Entries
@@ -10,5 +11,10 @@ pub mod EntryLaws
 pub mod Bind
 pub mod BindLaws
 pub mod Lengths
+pub mod TemplateCells
 pub mod LengthLaws
+pub mod Marks
+pub mod MarkLaws
+pub mod Reached
+pub mod ReachedLaws
 pub mod AgreeLaws

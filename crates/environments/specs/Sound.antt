@@ -21,9 +21,9 @@ pub data Sound (p : Pattern) : ℕ → Template → Type 0 where
 abbrev pub SoundRule : Rule → Type 0
 SoundRule r = Sound (r .pattern) 0 (r .template)
 
--- a template whose constants are constants, which is all that building asks
+-- a template whose constants are constants and whose variables are within the limits, which is all that building and comparing ask
 pub data Plain : Template → Type 0 where
-  variable : {k d : ℕ} → Plain (variableT k d)
+  variable : {k d : ℕ} → k < patternVariablesMost → d ≤ depthMost → Plain (variableT k d)
   insert : {x : Name} → Plain (insertT x)
   constant : {a : Constant} → (a .kind ≡ 0 → ⊥) → (a .kind ≡ 3 → ⊥) → (a .kind ≡ 4 → ⊥) → Plain (constantT a)
   empty : Plain emptyT
@@ -31,9 +31,15 @@ pub data Plain : Template → Type 0 where
   ellipsis : {a b : Template} → Plain a → Plain b → Plain (ellipsisT a b)
 
 pub sound-plain : {p : Pattern} {n : ℕ} {t : Template} → Sound p n t → Plain t
-sound-plain (Sound.variable a b c d) = Plain.variable
+sound-plain (Sound.variable a b c d) = Plain.variable a c
 sound-plain Sound.insert = Plain.insert
 sound-plain (Sound.constant a b c) = Plain.constant a b c
 sound-plain Sound.empty = Plain.empty
 sound-plain (Sound.pairs a b) = Plain.pairs (sound-plain a) (sound-plain b)
 sound-plain (Sound.ellipsis a b) = Plain.ellipsis (sound-plain a) (sound-plain b)
+
+pub plain-pair : (a b : Template) → Plain (pairT a b) → Plain a × Plain b
+plain-pair a b (pairs x y) = (x, y)
+
+pub plain-ellipsis : (a b : Template) → Plain (ellipsisT a b) → Plain a × Plain b
+plain-ellipsis a b (ellipsis x y) = (x, y)

@@ -20,7 +20,7 @@ pub enum Count {
 }
 
 // The ellipses round the first part of a template's cell: one more for an element.
-fn deeper(tag: u32, j: u32) -> u32
+pub fn deeper(tag: u32, j: u32) -> u32
     requires { ⌜ j + 1 < 2 ^ 32 ⌝ }
     ensures { λ r. ⌜ r ≡ deeper tag j ⌝ }
 {
@@ -31,7 +31,7 @@ fn deeper(tag: u32, j: u32) -> u32
 }
 
 // One list more, of this length.
-fn also(before: Driving, length: u32) -> Driving
+pub fn also(before: Driving, length: u32) -> Driving
     ensures { λ r. ⌜ r ≡ also before length ⌝ }
 {
     match before {

@@ -4,5 +4,6 @@ pub mod agree;
 pub mod bind;
 pub mod environment;
 pub mod lengths;
+mod marks;
 mod parts;
 pub mod shares;

@@ -19,6 +19,8 @@ pub mod RowsFuel
 pub mod RowsDepths
 pub mod RowsEllipses
 pub mod Outcomes
+pub mod Depths
+pub mod DepthLaws
 pub mod TidyRules
 pub mod FormLaws
 pub mod RunLaws

@@ -15,14 +15,14 @@ use Rattle.expansion.specs.Match.{orNext, firstFit}
 use Rattle.arena.specs.Arena.{referenceAt, treeAt}
 use Rattle.arena.specs.ArenaLaws.{referenceAt-most}
 use Rattle.rule_cells.specs.Cells.{patternAt, templateAt, ruleAt, rulesAt}
-use Rattle.environments.specs.Sound.{Sound, sound-plain}
+use Rattle.environments.specs.Sound.{Sound, Plain, sound-plain}
 use Rattle.environments.specs.EnvironmentLaws.{Agrees, result-is, agree-is}
 use Rattle.environments.specs.Entries.{tableWords, environmentAt, Under}
 use Rattle.environments.specs.Bind.{Binds}
 use Rattle.environments.specs.Lengths.{LengthsAgree}
 use Rattle.steps.specs.Fits.{ruleOr, FirstFit}
 use Rattle.steps.specs.Build.{resultAt, agreesAt, Buildable, Gives, Stops}
-use Rattle.steps.specs.ResultLaws.{agrees-kept}
+use Rattle.steps.specs.ResultLaws.{template-kept, agrees-kept}
 use Rattle.steps.specs.Apply.{applied, stepOf, Answers, outcomeAt, Transcribing, Transcribed, Stepping, Stepped}
 use Rattle.steps.specs.declared.apply.Applied.{Applied}
 use Rattle.steps.specs.declared.apply.Applied.the-variants as A
@@ -55,6 +55,10 @@ module _ (old : List ℕ) (top : ℕ) (env : List ℕ) (w t limit : ℕ) (ok : T
               (omega (arith, m .paid .spent), m .paid .means, m .paid .above, omega (arith, m .paid .most, m .paid .spent));
           kept = m .paid .kept;
         }
+
+    -- the template is as plain where building has stopped
+    pub transcribe-plain : Stops old new top limit env w t → Plain (templateAt new t)
+    transcribe-plain m = subst Plain (sym (template-kept old new top (m .kept) t (ok .template-below))) (ok .plain)
 
     -- there is no result: the lengths, compared after it, tell on which ground
     module _ (m : Stops old new top limit env w t) (b : Bool) (agrees : LengthsAgree new env t b) where

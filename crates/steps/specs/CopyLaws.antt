@@ -24,7 +24,8 @@ use Rattle.rule_cells.specs.CellLaws.{patternAt-variable, templateAt-variable}
 use Rattle.environments.specs.Environment.{takes, entering, enter, resultBy}
 use Rattle.environments.specs.Entries.{field, entryAt, ellipsisIn, takingOf, environmentAt, level, takenIn, Listed, Under, Low, Ahead, Along, AlongAll, Enters}
 use Rattle.environments.specs.EntryLaws.{entry-low}
-use Rattle.environments.specs.AgreeLaws.{flat-leaf, copies-flat, below-at}
+use Rattle.environments.specs.BelowLaws.{below-true, below-at}
+use Rattle.environments.specs.TemplateCells.{leaf-agrees}
 use Rattle.words.specs.declared.packed.Built.{Built}
 use Rattle.words.specs.declared.packed.Built.the-variants.{At, None}
 use Rattle.steps.specs.Build.{nodeWords, Paid, Unpaid, Waiting, resultAt, agreesAt, copyAt, copyAgrees, Buildable, Gives, Stops, added, Turned, elementsAt, ElementsUnpaid, ElementsBackwards, copyAt, CopiesAgreed, CopiesStop, Backwards, Reversed, Copied}
@@ -453,7 +454,7 @@ module _ (old : List ℕ) (top fuel : ℕ) (env : List ℕ) (w e c : ℕ) (ok : 
 
   listed-agrees : allBelow (copyAgrees old env w e) c ≡ true
   unfolding copyAgrees
-  listed-agrees = sym (copies-flat old env e c (flat-leaf old e _ refl (λ z. omega (arith, listed .variable)) (λ z. omega (arith, listed .variable))) w)
+  listed-agrees = sym (below-true _ c (λ k. leaf-agrees old e _ refl (λ z. omega (arith, listed .variable)) (λ z. omega (arith, listed .variable)) _))
 
   pub listed-backwards : (new : List ℕ) (r : Built) → ElementsBackwards old new top fuel list w c r → Backwards old new top fuel env w e c r
   listed-backwards new (At l left) t = (

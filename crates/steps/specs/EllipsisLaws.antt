@@ -11,15 +11,16 @@ use Rattle.expansion.specs.Transcribe.{copies, allBelow}
 use Rattle.arena.specs.Arena.{wordAt, referenceAt}
 use Rattle.arena.specs.ArenaLaws.{take-less, referenceAt-most}
 use Rattle.rule_cells.specs.Cells.{templateAt}
-use Rattle.environments.specs.Sound.{Plain}
+use Rattle.environments.specs.Sound.{Plain, plain-ellipsis}
 use Rattle.environments.specs.Environment.{agreeBy, resultBy}
 use Rattle.environments.specs.Lengths.{driving, Copies, Differs}
-use Rattle.environments.specs.AgreeLaws.{ellipsis-is, below-cong}
+use Rattle.environments.specs.BelowLaws.{below-cong}
+use Rattle.environments.specs.TemplateCells.{ellipsis-is}
 use Rattle.environments.specs.EnvironmentLaws.{copies-cong}
 use Rattle.words.specs.declared.packed.Built.{Built}
 use Rattle.words.specs.declared.packed.Built.the-variants.{At, None}
 use Rattle.steps.specs.Build.{resultAt, agreesAt, copyAt, copyAgrees, Buildable, Gives, Stops, Made, added, Copied}
-use Rattle.steps.specs.ResultLaws.{both, plain-ellipsis, copy-kept, copy-agrees-kept, buildable-left}
+use Rattle.steps.specs.ResultLaws.{both, copy-kept, copy-agrees-kept, buildable-left}
 use Rattle.steps.specs.CopyLaws.{produce-copies, size-all-copies, added-cong}
 
 module _ (old : List ℕ) (top fuel : ℕ) (env : List ℕ) (w t tag : ℕ) (tag-is : tag ≡ wordAt old t 1) (ok : Buildable old top fuel env w t) (head rest : ℕ) (head-is : head ≡ referenceAt old t 3) (rest-is : rest ≡ referenceAt old t 2)

@@ -16,12 +16,12 @@ use Rattle.words.specs.Packed.{packed, builtOf}
 use Rattle.rule_cells.specs.Cells.{constantBefore, templateAt}
 use Rattle.rule_cells.specs.CellLaws.{patternAt-below, templateAt-below, templateAt-variable, templateAt-insert, templateAt-constant, templateAt-empty}
 use Rattle.environments.specs.declared.environment.Entry.{Entry}
-use Rattle.environments.specs.Sound.{Plain, pairs, ellipsis}
+use Rattle.environments.specs.Sound.{Plain, plain-pair}
 use Rattle.environments.specs.Environment.{agreeBy, resultBy}
 use Rattle.environments.specs.Entries.{field, entryAt, takenIn, ellipsisIn, takingOf, environmentAt, Under, Low}
 use Rattle.environments.specs.EntryLaws.{entry-low}
 use Rattle.environments.specs.LengthLaws.{taken-is}
-use Rattle.environments.specs.AgreeLaws.{flat-leaf, pair-is}
+use Rattle.environments.specs.TemplateCells.{leaf-agrees, pair-is}
 use Rattle.words.specs.declared.packed.Built.{Built}
 use Rattle.words.specs.declared.packed.Built.the-variants.{At, None}
 use Rattle.steps.specs.Build.{nodeWords, Fresh, Paid, Pays, Waiting, resultAt, agreesAt, copyAt, copyAgrees, Buildable, Gives, Stops, Made}
@@ -53,7 +53,7 @@ module _ (old new : List ℕ) (top : ℕ) (kept : take top new ≡ take top old)
   unfolding environmentAt
   environment-kept env w h u = fun-ext (λ k. taking-kept w (entryAt env k) h (entry-low env top u k))
 
-  template-kept : (t : ℕ) → t ≤ top → templateAt new t ≡ templateAt old t
+  pub template-kept : (t : ℕ) → t ≤ top → templateAt new t ≡ templateAt old t
   template-kept t h = templateAt-below new old t (take-less new old t top h kept)
 
   pub result-kept : (env : List ℕ) (w t : ℕ) → w ≤ top → t ≤ top → Under env top → resultAt new env w t ≡ resultAt old env w t
@@ -114,7 +114,7 @@ module _ (old : List ℕ) (top fuel : ℕ) (env : List ℕ) (w t tag : ℕ) (tag
   -- a tree that a cell without parts gives
   made-of : (A : Tree) → (A ≡ Of t) → (tag ≡ 6 → ⊥) → (tag ≡ 7 → ⊥) → (new : List ℕ) (r : Built) → Pays A old new top fuel r → Made old new top fuel env w t r
   unfolding agreesAt
-  made-of A e n6 n7 new (At root left) p = record { paid = pays-is A (Of t) old new top fuel e (At root left) p; agrees = sym (flat-leaf old t tag tag-is n6 n7 _) }
+  made-of A e n6 n7 new (At root left) p = record { paid = pays-is A (Of t) old new top fuel e (At root left) p; agrees = sym (leaf-agrees old t tag tag-is n6 n7 _) }
   made-of A e n6 n7 new None p = record { over = λ a. pays-is A (Of t) old new top fuel e None p .over; kept = p .kept }
 
   module _ (k d node : ℕ) (e : tag ≡ 1) (k-is : k ≡ wordAt old t 3) (d-is : d ≡ wordAt old t 2) (node-is : node ≡ takenIn env k d) where
@@ -158,12 +158,6 @@ module _ (old : List ℕ) (top fuel : ℕ) (env : List ℕ) (w t tag : ℕ) (tag
   kind-plain k e k-is = rw k-is (constant-kind (constantBefore old t) (subst Plain (templateAt-constant old t (sym tag-is ∙ e)) (ok .plain)))
 
 -- ---- cells with parts, the rest before the head
-
-plain-pair : (a b : Template) → Plain (pairT a b) → Plain a × Plain b
-plain-pair a b (pairs x y) = (x, y)
-
-pub plain-ellipsis : (a b : Template) → Plain (ellipsisT a b) → Plain a × Plain b
-plain-ellipsis a b (ellipsis x y) = (x, y)
 
 module _ (old : List ℕ) (top fuel : ℕ) (env : List ℕ) (w t tag : ℕ) (tag-is : tag ≡ wordAt old t 1) (ok : Buildable old top fuel env w t) (head rest : ℕ) (head-is : head ≡ referenceAt old t 3) (rest-is : rest ≡ referenceAt old t 2) where
   part-buildable : (s : ℕ) → s ≤ t → (Plain (templateAt old s)) → Buildable old top fuel env w s

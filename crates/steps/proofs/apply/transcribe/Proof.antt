@@ -3,13 +3,17 @@ use borrow.Author.Needs.{needs}
 use Rattle.steps.proofs.apply.transcribe.Statement.{statement}
 use Rattle.steps.proofs.apply.transcribe.Tie as tie
 use Rattle.steps.specs.ResultLaws.{gives-at, stops-at}
-use Rattle.steps.specs.ApplyLaws.{transcribe-buildable, transcribed-done, transcribed-differ, transcribed-costly}
+use Rattle.steps.specs.ApplyLaws.{transcribe-buildable, transcribe-plain, transcribed-done, transcribed-differ, transcribed-costly}
 use native.Mathlib.Omega.{arith}
 use mathlib.Core.Path.{sym, _∙_}
 
 build-requires : tie.Need-build-requires
 build-requires c κs =
     let a = c .before .before .args in transcribe-buildable (a .work .now) (a .top) (a .env .now) (a .w) (a .t) (a .limit) (c .before .before .pre)
+
+lengths-agree-requires : tie.Need-lengths-agree-requires
+lengths-agree-requires c κs =
+    let a = c .before .before .before .before .before .before .before .before .before .args in transcribe-plain (a .work .now) (a .top) (a .env .now) (a .w) (a .t) (a .limit) (c .before .before .before .before .before .before .before .before .before .pre) _ (stops-at (a .work .now) (c .before .before .before .before .before .before .build .last .0) (a .top) (a .limit) (a .env .now) (a .w) (a .t) _ (sym (c .before .before .before .parts .ensures) ∙ c .before .enum-told .given .1) (c .before .before .before .before .before .before .build .ensures))
 
 same-length : tie.Need-same-length
 same-length c =
@@ -47,7 +51,7 @@ transcribe-spec =
     (λ c κs. search needs)  -- parts-requires
     (λ c. search needs)  -- enum-known-root
     (λ c. search needs)  -- enum-told
-    (λ c κs. search needs)  -- lengths-agree-requires
+    lengths-agree-requires
     same-length
     returns
     same-length-2
