@@ -10,7 +10,7 @@ use Rattle.words.specs.ListLaws.{whole, either}
 use Rattle.words.specs.Parts.{rest}
 use Rattle.words.specs.Limits.{patternVariablesMost}
 use Rattle.recipe.specs.Tree.{element, tail, past}
-use Rattle.expansion.specs.Rules.{pairP, ellipsisP}
+use Rattle.expansion.specs.Rules.{variableP, pairP, ellipsisP}
 use Rattle.expansion.specs.Match.{share, holds, part}
 use Rattle.arena.specs.Arena.{wordAt, referenceAt, treeAt}
 use Rattle.arena.specs.ArenaLaws.{wordAt-none, referenceAt-most}
@@ -58,6 +58,25 @@ both-false : (a b : Bool) → a || b ≡ false → (a ≡ false) × (b ≡ false
 both-false true b h = absurd (true≢false h)
 both-false false b h = (refl, h)
 
+-- ---- the second ellipsis inside an element
+
+-- a variable has none of its own
+variable-second : (work : List ℕ) (second k j : ℕ) → ellipsisIn work second ≡ secondOf work second k (variableP j)
+unfolding secondOf entered ellipsisIn
+variable-second work second k j = either (eqb second 0) (λ e. rw e refl) (λ e. rw e refl)
+
+pub inner-plain : (tag p second : ℕ) → (tag ≡ 7 → ⊥) → second ≡ innerSecond tag p second
+unfolding innerSecond
+inner-plain tag p second n = rw (ne-eqb tag 7 n) refl
+
+pub inner-known : (tag p second : ℕ) → tag ≡ 7 → (second ≡ 0 → ⊥) → second ≡ innerSecond tag p second
+unfolding innerSecond
+inner-known tag p second e n = rw (e, ne-eqb second 0 n) refl
+
+pub inner-own : (tag p second : ℕ) → tag ≡ 7 → second ≡ 0 → p ≡ innerSecond tag p second
+unfolding innerSecond
+inner-own tag p second e z = rw (e, z) refl
+
 -- ---- the variables of an element, and of a pattern
 
 module _ (work : List ℕ) (p tag : ℕ) (tag-is : tag ≡ wordAt work p 1) (old : List ℕ) where
@@ -72,13 +91,13 @@ module _ (work : List ℕ) (p tag : ℕ) (tag-is : tag ≡ wordAt work p 1) (old
 
     module _ (new : List ℕ) where
       pub list-variable : (j : ℕ) → tag ≡ 1 → j ≡ wordAt work p 2 → BindsOne j (bound list first second) old new → BindsList work p list first second old new
-      unfolding holds secondOf entered ellipsisIn bound
+      unfolding holds bound
       list-variable j e j-is c =
           record {
             held = λ k l h.
                 let s : k ≡ j = eqb-true k j (rw (patternAt-variable work p (sym tag-is ∙ e), ← j-is) at h) in
                 let is : entryAt new k ≡ bound list first second = ap (entryAt new) s ∙ c .here (omega arith) in
-                (is ∙ rw is refl, rw (is, patternAt-variable work p (sym tag-is ∙ e)) refl);
+                (is ∙ rw is refl, rw (is, patternAt-variable work p (sym tag-is ∙ e)) (variable-second work second k _));
             other = λ k h. c .other k (eqb-false k j (rw (patternAt-variable work p (sym tag-is ∙ e), ← j-is) at h));
             low = λ b q r s t u. c .low b (bound-low list first second b r s t) u;
           }
@@ -98,16 +117,19 @@ module _ (work : List ℕ) (p tag : ℕ) (tag-is : tag ≡ wordAt work p 1) (old
 
       -- the second ellipsis over a variable of the head, and of the rest
       second-head : (second k : ℕ) → holds k (patternAt work head) ≡ true → secondOf work (innerSecond tag p second) k (patternAt work head) ≡ secondOf work second k (patternAt work p)
-      unfolding secondOf innerSecond entered
+      unfolding secondOf entered
       second-head second k t =
           either (eqb tag 7)
           (λ e.
+          let seven : tag ≡ 7 = eqb-true tag 7 e in
           either (eqb second 0)
           (λ z.
           let q : (p ≡ 0 → ⊥) = some-cell work p k (both-is k ∙ rw t refl) in
-          rw (e, z, ne-eqb p 0 q, patternAt-ellipsis work p (sym tag-is ∙ eqb-true tag 7 e), ← head-is, t, ellipsisIn-some work p q) refl)
-          (λ z. rw (e, z) refl))
-          (λ e. let s : tag ≡ 6 = omega (arith, eqb-false tag 7 e) in rw (e, patternAt-pair work p (sym tag-is ∙ s), ← head-is, t) refl)
+          rw (← inner-own tag p second seven (eqb-true second 0 z), z, ne-eqb p 0 q, ellipsisIn-some work p q, patternAt-ellipsis work p (sym tag-is ∙ seven), ← head-is, t) refl)
+          (λ z. rw (← inner-known tag p second seven (eqb-false second 0 z), z) refl))
+          (λ e.
+          let six : tag ≡ 6 = omega (arith, eqb-false tag 7 e) in
+          rw (← inner-plain tag p second (eqb-false tag 7 e), patternAt-pair work p (sym tag-is ∙ six), ← head-is, t) refl)
 
       second-rest : (second k : ℕ) → holds k (patternAt work head) ≡ false → secondOf work second k (patternAt work rest) ≡ secondOf work second k (patternAt work p)
       unfolding secondOf entered

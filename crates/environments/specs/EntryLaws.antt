@@ -12,7 +12,7 @@ use lib.Seq.{getD-set-same, getD-set-other}
 use borrow.Author.Tests.{ltb-true, ltb-false, eqb-true, eqb-false, ne-eqb}
 use borrow.Author.Count.{below-more}
 use Rattle.words.specs.Limits.{patternVariablesMost}
-use Rattle.recipe.specs.Tree.{element, tail}
+use Rattle.recipe.specs.Tree.{elements, element, tail}
 use Rattle.recipe.specs.TreeLaws.{element-tail}
 use Rattle.expansion.specs.Match.{share, part}
 use Rattle.arena.specs.Arena.{wordAt, referenceAt, treeAt}
@@ -486,6 +486,11 @@ unfolding nextLevel
 level-first zero e = refl
 level-first (suc d) e = absurd (omega arith)
 
+pub next-most : (d : ℕ) → nextLevel d ≤ 1
+unfolding nextLevel
+next-most zero = omega arith
+next-most (suc d) = omega arith
+
 pub level-second : (d : ℕ) → (d ≡ 0 → ⊥) → 1 ≡ nextLevel d
 unfolding nextLevel
 level-second zero n = absurd (n refl)
@@ -493,7 +498,7 @@ level-second (suc d) n = refl
 
 module _ (work env : List ℕ) (k d : ℕ) where
   pub copies-out : length env ≡ tableWords → patternVariablesMost ≤ k → CountsCopies work env k d 0
-  unfolding environmentAt takingOf counts share blank
+  unfolding environmentAt takingOf counts share blank elements
   copies-out e h w = rw (entry-out env k e h) (go d)
     where
       go : (n : ℕ) → 0 ≡ counts n (takingOf work w blank)

@@ -16,10 +16,10 @@ use Rattle.words.specs.Options.{onlyIf, mapBoth}
 use Rattle.words.specs.Each.{Each, each-weaken, Given, missing, given, given-weaken, given-traverse, given-cond, given-guard, given-mapSome, given-mapBoth}
 use Rattle.datum.specs.Constant.{Constant, isConstant}
 use Rattle.recipe.specs.Name.{Name, same, distinct}
-use Rattle.recipe.specs.Tree.{Tree, empty, constant, name, pair, onName, onPair, isListOf, names, elements, element}
+use Rattle.recipe.specs.Tree.{Tree, empty, constant, name, pair, onName, onPair, isListOf, names, elements, element, tail}
 use Rattle.recipe.specs.Tidy.{Tidy, tidyEmpty, tidyConstant, tidyName, tidyPair, tidy-elements, tidy-element}
 use Rattle.recipe.specs.TableTidy.{IsConstant}
-use Rattle.expansion.specs.Rules.{literalList, ellipsisOf, rulePattern, matchedPart, templatePlace, ruleVariables, Pattern, pairP, Template, constantT, pairT, ellipsisT, depthFits, variableFrom, nameTemplate, areVariables, listTemplate, Place, asElement, asRest, asTaken, asEscaped, noEllipsis, dotsNext, depthBefore, placeAfter, isVariable, variables, patternOf, templateOf, ruleOf, isRulesForm, rulesOf}
+use Rattle.expansion.specs.Rules.{literalList, ellipsisOf, rulePattern, matchedPart, templatePlace, ruleVariables, Pattern, pairP, ellipsisP, Template, constantT, pairT, ellipsisT, depthFits, variableFrom, nameTemplate, areVariables, listTemplate, Place, asElement, asRest, asTaken, asEscaped, noEllipsis, dotsNext, depthBefore, placeAfter, isVariable, variables, patternOf, templateOf, ruleOf, isRulesForm, rulesOf}
 use Rattle.expansion.specs.TidyRules.{tidy-rules}
 use Rattle.expansion.specs.Match.{holds}
 use Rattle.words.specs.ListLaws.{either}
@@ -79,7 +79,7 @@ module _ (dots : Name → Bool) (literals : List Name) where
       (λ e. given-weaken (λ q g j c l. g j (omega (arith, dots-count dots literals h (b e))) (omega (arith, both))) later)
       (λ e.
       given-cond (dotsNext dots t)
-      (given-guard _ (given-mapBoth _ (λ x y f g j c l. both-hold k (count h) (count t) x y _ (λ i. refl) f g j c (omega (arith, both))) first later))
+      (given-guard _ (given-mapBoth _ (λ x y f g j c l. both-hold k (count h) (count t) x y (ellipsisP x (length (elements (tail t))) y) (λ i. refl) f g j c (omega (arith, both))) first later))
       (given-mapBoth pairP (λ x y f g j c l. both-hold k (count h) (count t) x y (pairP x y) (λ i. refl) f g j c (omega (arith, both))) first later))
 
 -- ---- templates

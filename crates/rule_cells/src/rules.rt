@@ -71,15 +71,7 @@ fn rule_shape(work: &[u32], dots: u32, node: u32, w: u32) -> bool
 }
 
 // A rule, (pattern template), before the rules at `next`.
-fn rule(
-    work: &mut [u32],
-    dots: u32,
-    literals: u32,
-    node: u32,
-    w: u32,
-    next: u32,
-    top: u32,
-) -> u64
+fn rule(work: &mut [u32], dots: u32, literals: u32, node: u32, w: u32, next: u32, top: u32) -> u64
     requires { ⌜ (Asks (now work) node w top) × (dots ≤ top) × (literals ≤ top) × (next ≤ top) ⌝ }
     ensures { λ r. ⌜ RuleLeft (ruleOf (dotsAt (now (work .entry)) dots w) (names (treeAt (now (work .entry)) literals w)) (treeAt (now (work .entry)) node w)) (size (treeAt (now (work .entry)) node w)) (now (work .entry)) (now (work .exit)) next top (builtOf r) ⌝ }
 {

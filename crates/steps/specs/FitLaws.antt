@@ -179,17 +179,30 @@ unfolding fit
 each-begins work p list w s e f = ap (λ (x : Pattern). fit x (treeAt work list w) .1) (patternAt-ellipsis work p e) ∙ rw (← f w) refl
 
 module _ (work : List ℕ) (p list w node left : ℕ) (inv : Matched work p list w node left) where
+  abbrev taken : Pattern
+  taken = patternAt work (referenceAt work p 3)
+
+  abbrev following : Pattern
+  following = patternAt work (referenceAt work p 2)
+
   pub each-ends : (rest : ℕ) (r : Bool) → left ≡ 0 → rest ≡ referenceAt work p 2 → Fits work rest node w r → Fits work p list w r
   unfolding eachFits
   each-ends rest r e f c = c ∙ sym (inv ∙ rw (e, ← f) refl)
 
   module _ (c kind : ℕ) (some-left : left ≡ suc c) (kind-is : kind ≡ wordAt work node 3) where
+    one-left : fit (patternAt work p) (treeAt work list w) .1 ≡ eachFits (fit taken) (fit following) (suc c) (treeAt work node w) .1
+    one-left = inv ∙ ap (λ (n : ℕ). eachFits (fit taken) (fit following) n (treeAt work node w) .1) some-left
+
     pub each-short : (kind ≡ 4 → ⊥) → Fits work p list w false
-    each-short other = each-no-pair work node w kind kind-is _ _ c other ∙ sym (inv ∙ rw some-left refl)
+    each-short other = each-no-pair work node w kind kind-is taken following c other ∙ sym one-left
 
     module _ (element h : ℕ) (b : Bool) (k : kind ≡ 4) (element-is : element ≡ referenceAt work p 3) (h-is : h ≡ referenceAt work node 2) (head : Fits work element h w b) where
-      next-is : fit (patternAt work p) (treeAt work list w) .1 ≡ (b && eachFits (fit (patternAt work (referenceAt work p 3))) (fit (patternAt work (referenceAt work p 2))) c (treeAt work (referenceAt work node 1) w) .1)
-      next-is = inv ∙ rw some-left (each-pair work node w kind kind-is _ _ c k) ∙ ap (λ (z : Bool). z && eachFits (fit (patternAt work (referenceAt work p 3))) (fit (patternAt work (referenceAt work p 2))) c (treeAt work (referenceAt work node 1) w) .1) (rw (← element-is, ← h-is) (sym head))
+      head-is : fit taken (treeAt work (referenceAt work node 2) w) .1 ≡ b
+      head-is = rw (← element-is, ← h-is) (sym head)
+
+      next-is : fit (patternAt work p) (treeAt work list w) .1 ≡ (b && eachFits (fit taken) (fit following) c (treeAt work (referenceAt work node 1) w) .1)
+      next-is =
+          one-left ∙ each-pair work node w kind kind-is taken following c k ∙ ap (λ (z : Bool). z && eachFits (fit taken) (fit following) c (treeAt work (referenceAt work node 1) w) .1) head-is
 
       pub each-no : b ≡ false → Fits work p list w false
       each-no f = sym (next-is ∙ rw f refl)

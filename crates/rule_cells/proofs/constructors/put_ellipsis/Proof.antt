@@ -7,7 +7,6 @@ use Rattle.rule_cells.proofs.constructors.put_ellipsis.Lts as lts
 use Rattle.rule_cells.proofs.constructors.put.Reads as put-reads
 use Rattle.rule_cells.specs.MadeLaws.{made-ellipsis}
 
-
 -- src/constructors.rt:74:5
 put-requires : tie.Need-put-requires
 put-requires c κs =

@@ -14,7 +14,6 @@ use native.Mathlib.Omega.{arith}
 use Rattle.arena.specs.ListLaws.{pair-falls}
 use Rattle.rule_cells.specs.Dots.{dotsAmong, among-end, among-here, among-more}
 
-
 abbrev Inv-loop : tie.InvT-loop
 Inv-loop work dots list w node₀ node =
     (b : Bool) → b ≡ dotsAmong work dots w (treeAt work node w) → b ≡ dotsAmong work dots w (treeAt work list w)

@@ -9,7 +9,6 @@ use Rattle.rule_cells.proofs.dots.among.Reads as among-reads
 use mathlib.Core.Path.{refl, sym, ap, _∙_}
 use Rattle.rule_cells.specs.Dots.{crowded-no, crowded-by}
 
-
 -- src/dots.rt:73:13
 rest-requires : tie.Need-rest-requires
 rest-requires c κs =

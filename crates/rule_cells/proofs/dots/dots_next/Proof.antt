@@ -10,7 +10,6 @@ use Rattle.rule_cells.proofs.dots.is_dots.Reads as is-dots-reads
 use mathlib.Core.Path.{refl, sym, ap, _∙_}
 use Rattle.rule_cells.specs.Dots.{next-pair, next-other}
 
-
 -- src/dots.rt:46:8
 word-requires : tie.Need-word-requires
 word-requires c κs =

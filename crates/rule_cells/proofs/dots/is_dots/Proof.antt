@@ -9,7 +9,6 @@ use Rattle.rule_cells.proofs.dots.is_ellipsis.Reads as is-ellipsis-read
 use mathlib.Core.Path.{refl, sym, ap, _∙_}
 use Rattle.rule_cells.specs.Dots.{dots-name, dots-other}
 
-
 -- src/dots.rt:36:8
 word-requires : tie.Need-word-requires
 word-requires c κs =

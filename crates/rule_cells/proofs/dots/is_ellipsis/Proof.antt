@@ -10,7 +10,6 @@ use mathlib.Core.Path.{refl, sym, ap, _∙_}
 use Rattle.arena.specs.Arena.{wordAt, nameAt, treeAt}
 use Rattle.rule_cells.specs.Dots.{dots-by-number, dots-never, dots-chosen}
 
-
 -- src/dots.rt:24:16
 number-of-requires : tie.Need-number-of-requires
 number-of-requires c κs =

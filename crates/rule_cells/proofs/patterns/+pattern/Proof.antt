@@ -25,7 +25,6 @@ use mathlib.Core.Bool.{false≢true}
 use mathlib.Core.Path.{sym, _∙_}
 use native.Mathlib.Omega.{arith}
 
-
 abbrev μ-pattern : Measures 1 pattern-kinds.ps ℕ
 μ-pattern κs a =
     a .1 .1 .1 .0

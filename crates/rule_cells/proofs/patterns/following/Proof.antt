@@ -9,7 +9,6 @@ use Rattle.arena.proofs.lists.rest.Reads as rest-reads
 use mathlib.Core.Path.{refl, sym, ap, _∙_}
 use Rattle.rule_cells.specs.PatternLaws.{behind-count, behind-none}
 
-
 -- src/patterns.rt:88:13
 rest-requires : tie.Need-rest-requires
 rest-requires c κs =

@@ -14,7 +14,6 @@ use Rattle.arena.specs.Arena.{treeAt}
 use mathlib.Core.Path.{sym, _∙_}
 use Rattle.rule_cells.specs.Dots.{dotsAt}
 
-
 -- src/patterns.rt:70:9
 word-requires : tie.Need-word-requires
 word-requires c κs =

@@ -18,7 +18,6 @@ use Rattle.rule_cells.specs.PatternLaws.{left-dots, left-wildcard, left-
 use Rattle.recipe.specs.Tree.{names}
 use Rattle.arena.specs.NodeLaws.{nameAt-number}
 
-
 -- src/patterns.rt:40:8
 is-ellipsis-requires : tie.Need-is-ellipsis-requires
 is-ellipsis-requires c κs =

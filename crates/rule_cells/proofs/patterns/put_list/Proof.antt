@@ -9,7 +9,6 @@ use Rattle.rule_cells.proofs.constructors.put_pair.Reads as put-pair-re
 use mathlib.Core.Path.{refl, sym, ap, _∙_}
 use Rattle.rule_cells.specs.PatternLaws.{list-ellipsis, list-pair}
 
-
 -- src/patterns.rt:100:9
 put-ellipsis-requires : tie.Need-put-ellipsis-requires
 put-ellipsis-requires c κs =

@@ -20,7 +20,6 @@ use Rattle.rule_cells.specs.RuleListLaws.{left-end, left-later, made-lat
 use mathlib.Core.Path.{sym, _∙_}
 use native.Mathlib.Omega.{arith}
 
-
 abbrev μ-rule-list : Measures 1 rule-list-kinds.ps ℕ
 μ-rule-list κs a =
     a .1 .1 .1 .0

@@ -12,7 +12,6 @@ use Rattle.words.specs.Packed.{builtOf}
 use Rattle.rule_cells.specs.RuleListLaws.{left-shape, parts-ask, left-parts}
 use mathlib.Core.Path.{sym, _∙_}
 
-
 -- src/rules.rt:86:8
 rule-shape-requires : tie.Need-rule-shape-requires
 rule-shape-requires c κs =

@@ -20,7 +20,6 @@ use mathlib.Core.Path.{sym, _∙_}
 use native.Mathlib.Omega.{arith}
 use mathlib.Core.Bool.{false≢true}
 
-
 -- src/rules.rt:43:37
 slice-aggregate-gather : tie.Need-slice-aggregate-gather
 slice-aggregate-gather c =

@@ -11,7 +11,6 @@ use Rattle.rule_cells.proofs.dots.is_ellipsis.Reads as is-ellipsis-read
 use mathlib.Core.Path.{refl, sym, ap, _∙_}
 use Rattle.rule_cells.specs.RuleListLaws.{shape-no, shape-other, shape-by}
 
-
 -- src/rules.rt:62:8
 is-list-of-requires : tie.Need-is-list-of-requires
 is-list-of-requires c κs =

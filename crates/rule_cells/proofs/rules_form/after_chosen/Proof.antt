@@ -10,7 +10,6 @@ use Rattle.arena.proofs.lists.rest.Reads as rest-reads
 use mathlib.Core.Path.{refl, sym, ap, _∙_}
 use Rattle.rule_cells.specs.Forms.{after-chosen, after-plain}
 
-
 -- src/rules_form.rt:100:9
 rest-requires : tie.Need-rest-requires
 rest-requires c κs =

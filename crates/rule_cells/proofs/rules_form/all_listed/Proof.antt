@@ -15,7 +15,6 @@ use Rattle.arena.specs.ListLaws.{pair-falls}
 use Rattle.rule_cells.specs.Dots.{dotsAt}
 use Rattle.rule_cells.specs.Forms.{literalsAll, all-end, all-no, all-more}
 
-
 abbrev Inv-loop : tie.InvT-loop
 Inv-loop work dots node w at₀ at =
     (r : Bool) → r ≡ literalsAll (dotsAt work dots w) (treeAt work at w) → r ≡ literalsAll (dotsAt work dots w) (treeAt work node w)

@@ -9,7 +9,6 @@ use Rattle.resolution.proofs.names.is_ordinary.Reads as is-ordinary-reads
 use mathlib.Core.Path.{refl, sym, ap, _∙_}
 use Rattle.rule_cells.specs.Forms.{chosen-other, chosen-name}
 
-
 -- src/rules_form.rt:79:8
 word-requires : tie.Need-word-requires
 word-requires c κs =

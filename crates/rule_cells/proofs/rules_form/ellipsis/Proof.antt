@@ -9,7 +9,6 @@ use Rattle.arena.proofs.lists.element.Reads as element-reads
 use mathlib.Core.Path.{refl, sym, ap, _∙_}
 use Rattle.rule_cells.specs.Forms.{ellipsis-chosen, ellipsis-default}
 
-
 -- src/rules_form.rt:89:9
 element-requires : tie.Need-element-requires
 element-requires c κs =

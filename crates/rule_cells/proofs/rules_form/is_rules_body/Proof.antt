@@ -13,7 +13,6 @@ use Rattle.rule_cells.proofs.rules_form.literals_good.Reads as literals
 use mathlib.Core.Path.{refl, sym, ap, _∙_}
 use Rattle.rule_cells.specs.Forms.{body-literals, body-none, body-some}
 
-
 -- src/rules_form.rt:112:9
 ellipsis-requires : tie.Need-ellipsis-requires
 ellipsis-requires c κs =

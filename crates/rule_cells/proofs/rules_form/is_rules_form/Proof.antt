@@ -12,7 +12,6 @@ use Rattle.rule_cells.proofs.rules_form.is_syntax_rules.Reads as is-syn
 use mathlib.Core.Path.{refl, sym, ap, _∙_}
 use Rattle.rule_cells.specs.Forms.{form-no, form-unchosen, form-body}
 
-
 -- src/rules_form.rt:130:9
 first-requires : tie.Need-first-requires
 first-requires c κs =

@@ -10,7 +10,6 @@ use Rattle.rule_cells.proofs.rules_form.all_listed.Reads as all-listed-
 use mathlib.Core.Path.{refl, sym, ap, _∙_}
 use Rattle.rule_cells.specs.Forms.{literals-no, literals-other, literals-most}
 
-
 -- src/rules_form.rt:53:8
 is-list-requires : tie.Need-is-list-requires
 is-list-requires c κs =

@@ -10,7 +10,6 @@ use Rattle.rule_cells.proofs.dots.is_ellipsis.Reads as is-ellipsis-read
 use mathlib.Core.Path.{refl, sym, ap, _∙_}
 use Rattle.rule_cells.specs.Forms.{listed-no, listed-dots, listed-by}
 
-
 -- src/rules_form.rt:24:8
 word-requires : tie.Need-word-requires
 word-requires c κs =

@@ -34,7 +34,6 @@ use Rattle.arena.specs.Arena.{treeAt}
 use Rattle.rule_cells.specs.TemplateLaws.{left-leaf, left-taken, left-bad, made-head, left-undriven, under-still, dots-still, left-bad-rest, made-rest, left-list, left-plain, left-unescaped, inside-below, asks-inside, some-top, left-escape}
 use Rattle.rule_cells.specs.Dots.{dotsAt}
 
-
 abbrev μ-list-rest : Measures 2 list-rest-kinds.ps ℕ
 μ-list-rest κs a =
     2 * a .1 .1 .1 .1 .0

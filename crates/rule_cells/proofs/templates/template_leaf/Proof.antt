@@ -16,7 +16,6 @@ use Rattle.rule_cells.specs.TemplateLaws.{left-name, left-empty, left-co
 use mathlib.Core.Path.{sym, _∙_}
 use Rattle.rule_cells.specs.Dots.{dotsAt}
 
-
 -- src/templates.rt:127:9
 word-requires : tie.Need-word-requires
 word-requires c κs =

@@ -22,7 +22,6 @@ use Rattle.arena.specs.Arena.{nameAt}
 use mathlib.Core.Path.{refl, sym, _∙_}
 use Rattle.rule_cells.specs.Dots.{dotsAt}
 
-
 -- src/templates.rt:96:8
 is-ellipsis-requires : tie.Need-is-ellipsis-requires
 is-ellipsis-requires c κs =

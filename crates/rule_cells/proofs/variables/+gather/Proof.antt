@@ -22,7 +22,6 @@ use Rattle.rule_cells.specs.Variables.{Count, Bad, keptOf, Gathering}
 use Rattle.rule_cells.specs.GatherLaws.{deeper-most, kept-bad, kept-count, gathered-count, gathered-stored, gathered-name, gathered-other, gathered-bad, gathering-begins, gathering-more}
 use Rattle.rule_cells.specs.Dots.{dotsAt}
 
-
 abbrev μ-gather : Measures 2 gather-kinds.ps ℕ
 μ-gather κs a =
     a .1 .1 .1 .1 .0
@@ -140,12 +139,12 @@ gather-gather-requires t c κs =
     let p = c .before .before .before .before .before .before .before .before .before .pre in
     let l = c .before .before .before .before .before .before .loop in
     let h = pair-falls (c .before .before .before .before .before .before .before .before .before .args .work .now) (l .at) 2 (sym (c .before .before .before .before .before .word .ensures) ∙ c .before .before .before .before .if1 .taken) in (
-    omega (arith, p .0, l .inv .1 .low, h, c .before .before .before .reference .ensures),
-    (
-    omega (arith, p .1 .0, l .inv .0),
-    l .inv .1 .held,
-    omega (arith, p .1 .2, l .inv .1 .low, h, c .before .before .before .reference .ensures, deeper-most _ _ _ _ (c .before .depth-before .ensures)),
-    ),
+      omega (arith, p .0, l .inv .1 .low, h, c .before .before .before .reference .ensures),
+      (
+        omega (arith, p .1 .0, l .inv .0),
+        l .inv .1 .held,
+        omega (arith, p .1 .2, l .inv .1 .low, h, c .before .before .before .reference .ensures, deeper-most _ _ _ _ (c .before .depth-before .ensures)),
+      ),
     )
 
 -- src/variables.rt:170:13
@@ -218,10 +217,10 @@ gather-loop-again t c =
     let a = c .before .before .before .before .before .before .before .before .before .before .before .before .before .args in
     let l = c .before .before .before .before .before .before .before .before .before .before .loop in
     let g = c .before .before .before .gather in (
-    g .kept .1 .0 ∙ l .inv .0,
-    gathering-more (a .work .now) (a .w) (l .at) (l .m) (l .vars) (dotsAt (a .work .now) (a .dots) (a .w)) (names (treeAt (a .work .now) (a .literals) (a .w))) (a .d) _ _ _ (sym (c .before .before .before .before .before .before .before .before .before .word .ensures) ∙ c .before .before .before .before .before .before .before .before .if1 .taken) (c .before .before .before .before .before .before .before .reference .ensures) (c .before .before .before .before .before .before .reference2 .ensures) (c .before .before .before .before .before .depth-before .ensures) _ _ _ _ _
-    (gathered-stored _ _ _ _ _ _ _ (keptOf (g .result)) _ (kept-count (g .result) (c .if2 .left)) (g .ensures))
-    (l .inv .1),
+      g .kept .1 .0 ∙ l .inv .0,
+      gathering-more (a .work .now) (a .w) (l .at) (l .m) (l .vars) (dotsAt (a .work .now) (a .dots) (a .w)) (names (treeAt (a .work .now) (a .literals) (a .w))) (a .d) _ _ _ (sym (c .before .before .before .before .before .before .before .before .before .word .ensures) ∙ c .before .before .before .before .before .before .before .before .if1 .taken) (c .before .before .before .before .before .before .before .reference .ensures) (c .before .before .before .before .before .before .reference2 .ensures) (c .before .before .before .before .before .depth-before .ensures) _ _ _ _ _
+          (gathered-stored _ _ _ _ _ _ _ (keptOf (g .result)) _ (kept-count (g .result) (c .if2 .left)) (g .ensures))
+          (l .inv .1),
     )
 
 -- src/variables.rt:175:8

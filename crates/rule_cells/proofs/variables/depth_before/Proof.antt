@@ -11,7 +11,6 @@ use Rattle.arena.specs.Arena.{wordAt, nameAt, treeAt}
 use Rattle.rule_cells.specs.Dots.{dotsAt}
 use Rattle.rule_cells.specs.VariableLaws.{deeper-by}
 
-
 -- src/variables.rt:101:19
 dots-next-requires : tie.Need-dots-next-requires
 dots-next-requires c κs =

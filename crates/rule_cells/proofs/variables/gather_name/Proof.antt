@@ -14,7 +14,6 @@ use borrow.Author.Tests.{not-true, not-false}
 use mathlib.Core.Path.{sym, _∙_}
 use Rattle.rule_cells.specs.Dots.{dotsAt}
 
-
 -- src/variables.rt:141:9
 is-variable-requires : tie.Need-is-variable-requires
 is-variable-requires c κs =

@@ -14,7 +14,6 @@ use Rattle.rule_cells.specs.GatherLaws.{dots-no-variable, wildcard-no-va
 use Rattle.recipe.specs.Tree.{names}
 use Rattle.arena.specs.NodeLaws.{nameAt-number}
 
-
 -- src/variables.rt:53:8
 is-ellipsis-requires : tie.Need-is-ellipsis-requires
 is-ellipsis-requires c κs =
