@@ -75,12 +75,12 @@ after-length c [] = refl
 after-length c (l ∷ ls) = either (eqb c l) (λ t. rw t (after-length c ls)) (λ t. rw t (after-differ ls))
 
 -- what is told of lists of these lengths
-abbrev Told : List ℕ → Driving → Type 0
+abbrev pub Told : List ℕ → Driving → Type 0
 Told ls None = ls ≡ []
 Told ls (Length c) = (c ≡ getD ls 0 0) × (true ≡ allOf (eqb c) ls)
 Told ls Differ = false ≡ allOf (eqb (getD ls 0 0)) ls
 
-told : (ls : List ℕ) → Told ls (after None ls)
+pub told : (ls : List ℕ) → Told ls (after None ls)
 unfolding after also allOf
 told [] = refl
 told (x ∷ xs) =

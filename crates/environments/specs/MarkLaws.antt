@@ -17,17 +17,18 @@ use Rattle.expansion.specs.Rules.{Template, variableT, drivers}
 use Rattle.arena.specs.Arena.{wordAt, referenceAt}
 use Rattle.rule_cells.specs.Cells.{templateAt}
 use Rattle.rule_cells.specs.CellLaws.{templateAt-variable}
-use Rattle.environments.specs.Environment.{Environment, behind, counts, enter, lengthsBy}
+use Rattle.environments.specs.Environment.{Taking, Environment, behind, counts, entering, enter, lengthsBy}
 use Rattle.environments.specs.EnvironmentLaws.{entering-whole, entering-first}
 use Rattle.environments.specs.Sound.{Plain, variable, insert, constant, empty, pairs, ellipsis, plain-pair, plain-ellipsis}
-use Rattle.environments.specs.Entries.{environmentAt, CountsCopies}
+use Rattle.environments.specs.Entries.{entryAt, takingOf, environmentAt, CountsCopies, Stored}
+use Rattle.environments.specs.declared.environment.Entry.{Entry}
 use Rattle.environments.specs.Lengths.{driving, after, Drives}
 use Rattle.environments.specs.Lengths as lengths
 use Rattle.environments.specs.TemplateCells.{pair-is, ellipsis-is}
 use Rattle.expansion.specs.Match.{share}
 use Rattle.environments.specs.declared.lengths.Driving.{Driving}
 use Rattle.environments.specs.declared.lengths.Driving.the-variants.{None, Length, Differ}
-use Rattle.environments.specs.Marks.{markWords, marked, among, Marks, Unmarked, alsoIf, gathered, Gathers}
+use Rattle.environments.specs.Marks.{markWords, marked, among, Marks, Unmarked, Keeps, alsoIf, gathered, Gathers}
 
 -- ---- plain cells
 
@@ -120,6 +121,22 @@ module _ (work env marks : List ℕ) (l n : ℕ) (x : Driving) where
     unfolding gathered alsoIf marked
     gather-unmarked off g w = rw (n-is, ← at-is, ne-eqb _ 1 off) (g w)
 
+-- ---- keeping the entries that move
+
+module _ (marks env : List ℕ) (k at : ℕ) (at-is : at ≡ patternVariablesMost * 1 + k) (old : List ℕ) (h : Keeps marks env k old) where
+  pub keeps-more : (x : Entry) (new : List ℕ) → x ≡ entryAt env k → Stored k x old new → Keeps marks env (k + 1) new
+  keeps-more x new x-is s m l on =
+      either (eqb m k)
+      (λ e. rw (eqb-true m k e) (s .here ∙ x-is))
+      (λ e. s .other m (eqb-false m k e) ∙ h m (omega (arith, eqb-false m k e)) on)
+
+  pub keeps-skip : (getD marks at 0 ≡ 1 → ⊥) → Keeps marks env (k + 1) old
+  unfolding marked
+  keeps-skip off m l on =
+      either (eqb m k)
+      (λ e. absurd (off (rw at-is (eqb-true _ 1 (subst (λ (j : ℕ). eqb (getD marks (patternVariablesMost * 1 + j) 0) 1 ≡ true) (eqb-true m k e) on)))))
+      (λ e. h m (omega (arith, eqb-false m k e)) on)
+
 -- ---- gathering: neither order nor repetition tells
 
 also-turned : (x : Driving) (a b : ℕ) → lengths.also (lengths.also x a) b ≡ lengths.also (lengths.also x b) a
@@ -148,12 +165,18 @@ unfolding gathered
 gathered-also p f x a zero = refl
 gathered-also p f x a (suc n) = ap (λ (y : Driving). gathered p f y n) (alsoIf-also (p n) x a (f n)) ∙ gathered-also p f (alsoIf (p n) x (f n)) a n
 
-gathered-cong : (p q : ℕ → Bool) (f g : ℕ → ℕ) (x : Driving) (n : ℕ) → ((k : ℕ) → k < n → p k ≡ q k) → ((k : ℕ) → k < n → f k ≡ g k) → gathered p f x n ≡ gathered q g x n
+alsoIf-cong : (b c : Bool) (x : Driving) (l m : ℕ) → b ≡ c → (b ≡ true → l ≡ m) → alsoIf b x l ≡ alsoIf c x m
+unfolding alsoIf
+alsoIf-cong true c x l m e h = ap₂ (λ (d : Bool) (j : ℕ). alsoIf d x j) e (h refl)
+alsoIf-cong false c x l m e h = ap (λ (d : Bool). alsoIf d x m) e
+
+-- the lengths of lists that are not marked do not tell
+gathered-cong : (p q : ℕ → Bool) (f g : ℕ → ℕ) (x : Driving) (n : ℕ) → ((k : ℕ) → k < n → p k ≡ q k) → ((k : ℕ) → k < n → p k ≡ true → f k ≡ g k) → gathered p f x n ≡ gathered q g x n
 unfolding gathered
 gathered-cong p q f g x zero h m = refl
 gathered-cong p q f g x (suc n) h m =
     gathered-cong p q f g (alsoIf (p n) x (f n)) n (λ k l. h k (omega arith)) (λ k l. m k (omega arith))
-    ∙ ap₂ (λ (b : Bool) (l : ℕ). gathered q g (alsoIf b x l) n) (h n (omega arith)) (m n (omega arith))
+    ∙ ap (λ (y : Driving). gathered q g y n) (alsoIf-cong (p n) (q n) x (f n) (g n) (h n (omega arith)) (m n (omega arith)))
 
 gathered-none : (p : ℕ → Bool) (f : ℕ → ℕ) (x : Driving) (n : ℕ) → ((k : ℕ) → k < n → p k ≡ false) → gathered p f x n ≡ x
 unfolding gathered alsoIf
@@ -170,7 +193,7 @@ gathered-more p q f x k (suc n) h is =
     let e : k ≡ n = eqb-true k n t in
     let on : q n ≡ true = is n ∙ rw t refl in
     let below : (m : ℕ) → m < n → q m ≡ p m = λ m l. is m ∙ rw (ne-eqb k m (λ z. omega arith)) refl in
-    ap (λ (b : Bool). gathered q f (alsoIf b x (f n)) n) on ∙ gathered-cong q p f f (lengths.also x (f n)) n below (λ _ _. refl)
+    ap (λ (b : Bool). gathered q f (alsoIf b x (f n)) n) on ∙ gathered-cong q p f f (lengths.also x (f n)) n below (λ _ _ _. refl)
     ∙ either (p n)
     (λ u. rw (e, u) (sym (ap (λ (y : Driving). lengths.also y (f n)) (gathered-also p f x (f n) n) ∙ also-again (gathered p f x n) (f n) ∙ sym (gathered-also p f x (f n) n))))
     (λ u. rw (e, u) (gathered-also p f x (f n) n)))
@@ -191,7 +214,7 @@ module _ (g : (ℕ × ℕ) → ℕ) where
   levels-more : (k l : ℕ) (ds : List (ℕ × ℕ)) (x : Driving) → k < patternVariablesMost → l < depthMost → levels ((k, l) ∷ ds) x ≡ lengths.also (levels ds x) (g (k, l))
   unfolding levels among anyOf
   levels-more k zero ds x h m =
-      gathered-cong _ (λ i. among i 1 ds) _ (λ i. g (i, 1)) _ patternVariablesMost (λ i _. none (eqb k i) _) (λ _ _. refl)
+      gathered-cong _ (λ i. among i 1 ds) _ (λ i. g (i, 1)) _ patternVariablesMost (λ i _. none (eqb k i) _) (λ _ _ _. refl)
       ∙ ap (λ (y : Driving). gathered (λ i. among i 1 ds) (λ i. g (i, 1)) y patternVariablesMost) (gathered-more (λ i. among i 0 ds) _ _ x k patternVariablesMost h (λ i. one (eqb k i) _))
       ∙ gathered-also _ _ _ _ patternVariablesMost
     where
@@ -204,7 +227,7 @@ module _ (g : (ℕ × ℕ) → ℕ) where
       one false b = refl
   levels-more k (suc zero) ds x h m =
       ap (λ (y : Driving). gathered (λ i. among i 1 ((k, 1) ∷ ds)) (λ i. g (i, 1)) y patternVariablesMost)
-      (gathered-cong _ (λ i. among i 0 ds) _ (λ i. g (i, 0)) x patternVariablesMost (λ i _. none (eqb k i) _) (λ _ _. refl))
+      (gathered-cong _ (λ i. among i 0 ds) _ (λ i. g (i, 0)) x patternVariablesMost (λ i _. none (eqb k i) _) (λ _ _ _. refl))
       ∙ gathered-more (λ i. among i 1 ds) _ _ _ k patternVariablesMost h (λ i. one (eqb k i) _)
     where
       none : (a b : Bool) → ((a && false) || b) ≡ b
@@ -237,10 +260,14 @@ low-drivers j (ellipsis a b) = each-append (low-drivers (suc j) a) (low-drivers 
 
 -- ---- in a copy: what is gathered of level none is gathered outside it, where these lists are the same
 
-pub entered-whole : (v u : Environment) (i k : ℕ) → u ≡ enter i v → counts 0 (v k) ≡ counts 0 (u k)
+entered-whole : (v u : Environment) (i k : ℕ) → u ≡ enter i v → counts 0 (v k) ≡ counts 0 (u k)
 unfolding counts enter
 entered-whole v u i k e =
     ap₂ share (ap behind (sym (ap (λ (z : Environment). z k .first) e ∙ entering-first k i (v k .first) (v k)))) (sym (ap (λ (z : Environment). z k .whole) e ∙ entering-whole k i (v k .first) (v k)))
+
+entered-kept : (work : List ℕ) (w i k : ℕ) (kept env : List ℕ) → entryAt kept k ≡ entryAt env k → enter i (environmentAt work kept w) k ≡ enter i (environmentAt work env w) k
+unfolding enter environmentAt
+entered-kept work w i k kept env e = ap (λ (x : Entry). entering k i (takingOf work w x .first) (takingOf work w x)) e
 
 -- where no list is taken under an index, all are the same in each copy
 lengths-still : (v : Environment) (i : ℕ) {ds : List (ℕ × ℕ)} → Each Low ds → ((k : ℕ) → k < patternVariablesMost → among k 1 ds ≡ false)
@@ -268,23 +295,33 @@ module _ (work env old marks : List ℕ) (e : ℕ) (plain : Plain (templateAt wo
   marks-are k l h m = made k l h m ∙ ap (λ (b : Bool). b || among k l (drivers 0 (templateAt work e))) (nothing k l)
 
   module _ (still : Driving) (still-is : Gathers work env marks 0 patternVariablesMost None still) where
-    pub gathered-drives : (table : List ℕ) (x : Driving) → Gathers work table marks 1 patternVariablesMost still x
-        → ((w k : ℕ) → counts 0 (environmentAt work env w k) ≡ counts 0 (environmentAt work table w k)) → Drives work table 0 e None x
-    unfolding driving lengthsBy levels
-    gathered-drives table x x-is whole w =
-        let g : (ℕ × ℕ) → ℕ = λ v. counts (v .1) (environmentAt work table w (v .0)) in
+    -- with lists of level none as they are outside, and those of level one as an environment has them
+    by-levels : (w : ℕ) (u : Environment) (x : Driving) → ((k : ℕ) → counts 0 (environmentAt work env w k) ≡ counts 0 (u k))
+        → x ≡ gathered (λ k. among k 1 (drivers 0 (templateAt work e))) (λ k. counts 1 (u k)) still patternVariablesMost → x ≡ after None (lengthsBy u 0 (templateAt work e))
+    unfolding lengthsBy levels
+    by-levels w u x whole x-is =
+        let g : (ℕ × ℕ) → ℕ = λ v. counts (v .1) (u (v .0)) in
         let ds : List (ℕ × ℕ) = drivers 0 (templateAt work e) in
-        x-is w
-        ∙ gathered-cong (λ k. marked marks k 1) (λ k. among k 1 ds) (λ k. g (k, 1)) (λ k. g (k, 1)) still patternVariablesMost (λ k h. marks-are k 1 h (omega arith)) (λ k h. refl)
+        x-is
         ∙ ap (λ (y : Driving). gathered (λ k. among k 1 ds) (λ k. g (k, 1)) y patternVariablesMost)
         (still-is w
         ∙ gathered-cong (λ k. marked marks k 0) (λ k. among k 0 ds) (λ k. counts 0 (environmentAt work env w k)) (λ k. g (k, 0)) None patternVariablesMost (λ k h. marks-are k 0 h (omega arith))
-        (λ k h. whole w k))
+        (λ k h t. whole k))
         ∙ levels-after g None (low-drivers 0 plain)
+
+    -- the table has entered copy i, with the entries that move
+    pub gathered-tells : (i : ℕ) (kept table : List ℕ) (x : Driving) → Gathers work table marks 1 patternVariablesMost still x → Keeps marks env patternVariablesMost kept
+        → ((w : ℕ) → environmentAt work table w ≡ enter i (environmentAt work kept w)) → (w : ℕ) → x ≡ after None (lengthsBy (enter i (environmentAt work env w)) 0 (templateAt work e))
+    gathered-tells i kept table x x-is keeps enters w =
+        by-levels w (enter i (environmentAt work env w)) x (λ k. entered-whole (environmentAt work env w) (enter i (environmentAt work env w)) i k refl)
+        (x-is w
+        ∙ gathered-cong (λ k. marked marks k 1) (λ k. among k 1 (drivers 0 (templateAt work e))) _ (λ k. counts 1 (enter i (environmentAt work env w) k)) still patternVariablesMost (λ k h. marks-are k 1 h (omega arith))
+        (λ k h t. ap (λ (z : Taking). counts 1 z) (ap (λ (z : Environment). z k) (enters w) ∙ entered-kept work w i k kept env (keeps k h t))))
 
     module _ (unmarked : Unmarked marks 1 patternVariablesMost) where
       pub still-drives : Drives work env 0 e None still
-      still-drives = gathered-drives env still (λ w. sym (gathered-none _ _ still patternVariablesMost unmarked)) (λ w k. refl)
+      unfolding driving
+      still-drives w = by-levels w (environmentAt work env w) still (λ k. refl) (sym (gathered-none _ _ still patternVariablesMost (λ k h. sym (marks-are k 1 h (omega arith)) ∙ unmarked k h)))
 
       pub still-same : (v : Environment) (i : ℕ) → lengthsBy (enter i v) 0 (templateAt work e) ≡ lengthsBy v 0 (templateAt work e)
       unfolding lengthsBy

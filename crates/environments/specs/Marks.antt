@@ -11,7 +11,7 @@ use Rattle.words.specs.Lists.{anyOf}
 use Rattle.expansion.specs.Rules.{drivers}
 use Rattle.rule_cells.specs.Cells.{templateAt}
 use Rattle.environments.specs.Environment.{counts}
-use Rattle.environments.specs.Entries.{environmentAt}
+use Rattle.environments.specs.Entries.{entryAt, environmentAt, Moving, AlongAll}
 use Rattle.environments.specs.Lengths.{also}
 use Rattle.environments.specs.declared.lengths.Driving.{Driving}
 
@@ -33,6 +33,17 @@ Marks work j t old new = (k l : ℕ) → k < patternVariablesMost → l < depthM
 -- of the first n lists of a level none is marked
 abbrev pub Unmarked : (marks : List ℕ) (l n : ℕ) → Type 0
 Unmarked marks l n = (k : ℕ) → k < n → marked marks k l ≡ false
+
+-- of the first n variables, those whose lists are marked under one index have their entries in a table
+abbrev pub Keeps : (marks env : List ℕ) (n : ℕ) (kept : List ℕ) → Type 0
+Keeps marks env n kept = (k : ℕ) → k < n → marked marks k 1 ≡ true → entryAt kept k ≡ entryAt env k
+
+-- a table of the entries that move stands before copy i
+pub record Goes (work env marks : List ℕ) (moving i : ℕ) (table : List ℕ) : Type 0 where
+  pub kept : List ℕ
+  pub keeps : Keeps marks env patternVariablesMost kept
+  pub moves : Moving kept moving
+  pub along : AlongAll work kept i table
 
 -- one list more, where it is marked
 unfoldable pub alsoIf : Bool → Driving → ℕ → Driving

@@ -19,8 +19,8 @@ use Rattle.environments.specs.BelowLaws.{and-turned, below-true, below-c
 use Rattle.environments.specs.EnvironmentLaws.{entering-whole, entering-one, entering-first, entering-second}
 use Rattle.environments.specs.Sound.{Plain, variable, insert, constant, empty, pairs, ellipsis}
 use Rattle.environments.specs.Entries.{environmentAt}
-use Rattle.environments.specs.Lengths.{driving, Copies, Differs, Drives}
-use Rattle.environments.specs.LengthLaws.{copies-none, copies-some, copies-differ}
+use Rattle.environments.specs.Lengths.{driving, after, Copies, Differs, Drives}
+use Rattle.environments.specs.LengthLaws.{Told, told, copies-none, copies-some, copies-differ}
 use Rattle.environments.specs.Reached.{sameBy, sameBelow, larger, mostBelow, agreeBelow, Reached, DiffersBelow, CountedBelow, most}
 use Rattle.environments.specs.declared.lengths.Driving.{Driving}
 use Rattle.environments.specs.declared.lengths.Driving.the-variants.{None, Length, Differ}
@@ -125,48 +125,47 @@ module _ (work env : List ℕ) (e : ℕ) where
   unfolding sameBelow mostBelow allBelow
   reached-begins = record { same = λ w. refl; most = λ w. refl }
 
-  -- the table has entered copy i, and x is what its lists tell
-  module _ (i : ℕ) (table : List ℕ) (x : Driving) (enters : (w : ℕ) → environmentAt work table w ≡ enter i (environmentAt work env w)) (x-is : Drives work table 0 e None x) where
-    copies-here : (c : ℕ) → Copies work table e c → (w : ℕ) → (countBy (enter i (environmentAt work env w)) (templateAt work e) ≡ c) × (sameBy (enter i (environmentAt work env w)) (templateAt work e) ≡ true)
-    unfolding sameBy driving
-    copies-here c f w = rw (← enters w) (sym (f .count w), rw (← f .count w) (sym (f .same w)))
+  -- x is what the lists tell in copy i
+  module _ (i : ℕ) (x : Driving) (x-is : (w : ℕ) → x ≡ after None (lengthsBy (enter i (environmentAt work env w)) 0 (templateAt work e))) where
+    tells : (w : ℕ) (y : Driving) → x ≡ y → Told (lengthsBy (enter i (environmentAt work env w)) 0 (templateAt work e)) y
+    tells w y q =
+        let ls : List ℕ = lengthsBy (enter i (environmentAt work env w)) 0 (templateAt work e) in
+        subst (Told ls) (sym (x-is w) ∙ q) (told ls)
 
-    differs-here : Differs work table e → (w : ℕ) → sameBy (enter i (environmentAt work env w)) (templateAt work e) ≡ false
-    unfolding sameBy driving
-    differs-here f w = rw (← enters w) (sym (f .differ w))
-
-    reached-with : (c d : ℕ) → Copies work table e d → Reached work env e i c → Reached work env e (i + 1) (larger c d)
+    -- a copy with lists of one length, of which there may be none
+    reached-with : (c d : ℕ) → ((w : ℕ) → (countBy (enter i (environmentAt work env w)) (templateAt work e) ≡ d) × (sameBy (enter i (environmentAt work env w)) (templateAt work e) ≡ true))
+        → Reached work env e i c → Reached work env e (i + 1) (larger c d)
     unfolding sameBelow mostBelow allBelow
     reached-with c d f g =
         let s : i + 1 ≡ suc i = omega arith in
         rw s (record {
-          same = λ w. rw (copies-here d f w .1, ← g .same w) refl;
-          most = λ w. rw (copies-here d f w .0, ← g .most w) refl;
+          same = λ w. rw (f w .1, ← g .same w) refl;
+          most = λ w. rw (f w .0, ← g .most w) refl;
         })
 
     pub reached-more : (c m : ℕ) → most x c ≡ Of m → Reached work env e i c → Reached work env e (i + 1) m
-    unfolding most larger
+    unfolding most larger countBy sameBy allOf
     reached-more c m h g = by x refl
       where
         by : (y : Driving) → x ≡ y → Reached work env e (i + 1) m
         by None q =
             let o : Of c ≡ Of m = ap (λ (y : Driving). most y c) (sym q) ∙ h in
             let s : larger c 0 ≡ m = rw (le-ltb c 0 (omega arith)) cc in
-            subst (Reached work env e (i + 1)) s (reached-with c 0 (copies-none work table e x x-is q) g)
+            subst (Reached work env e (i + 1)) s (reached-with c 0 (λ w. let n = tells w None q in (rw n refl, rw n refl)) g)
         by (Length d) q =
             let o : Of (larger c d) ≡ Of m = ap (λ (y : Driving). most y c) (sym q) ∙ h in
             let s : larger c d ≡ m = cc in
-            subst (Reached work env e (i + 1)) s (reached-with c d (copies-some work table e x x-is d q) g)
+            subst (Reached work env e (i + 1)) s (reached-with c d (λ w. let n = tells w (Length d) q in (sym (n .0), rw (← n .0) (sym (n .1)))) g)
         by Differ q = let z : _≡_ {A = ℕ} 0 1 = cc in absurd (omega arith)
 
     pub reached-differs : (c n : ℕ) → most x c ≡ count.Differ → i < n → DiffersBelow work env e n
-    unfolding most sameBelow
+    unfolding most sameBelow sameBy countBy
     reached-differs c n h l = by x refl
       where
         by : (y : Driving) → x ≡ y → DiffersBelow work env e n
         by None q = let z : _≡_ {A = ℕ} 0 1 = cc in absurd (omega arith)
         by (Length d) q = let z : _≡_ {A = ℕ} 0 1 = cc in absurd (omega arith)
-        by Differ q = record { differ = λ w. sym (below-false _ n i l (differs-here (copies-differ work table e x x-is q) w)) }
+        by Differ q = record { differ = λ w. sym (below-false _ n i l (sym (tells w Differ q))) }
 
 -- ---- where the lists are the same in each copy
 

@@ -42,8 +42,10 @@ fn reached(work: &[u32], env: &[u32; environment::WORDS], e: u32, n: u32) -> Cou
     if !marks::any(&drive, 1, words::VARIABLES) {
         return most(still, 0);
     }
+    let mut kept = [0u32; environment::WORDS];
+    marks::keep(env, &drive, &mut kept);
     let mut table = [0u32; environment::WORDS];
-    let moving = environment::begin(env, &mut table);
+    let moving = environment::begin(&kept, &mut table);
     let mut largest = 0;
     let mut i = 0;
     while i < n {

@@ -34,7 +34,7 @@ pub struct Entry {
 }
 
 // Entry k. Here a table is a slice, since of a slice, and of no array behind a reference, the length is known.
-fn get(env: &[u32], k: usize) -> Entry
+pub fn get(env: &[u32], k: usize) -> Entry
     requires { ⌜ (length (now env) ≡ tableWords) × (k < patternVariablesMost) ⌝ }
     ensures { λ r. ⌜ r ≡ entryAt (now (env .entry)) k ⌝ }
 {

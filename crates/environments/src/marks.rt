@@ -8,7 +8,7 @@ ghost use Prim.Native.Nat.{_+_, _*_, _^_, _≤_, _<_};
 ghost use Rattle.words.specs.Limits.{patternVariablesMost, depthMost};
 ghost use Rattle.rule_cells.specs.Cells.{templateAt};
 ghost use Rattle.environments.specs.Sound.{Plain};
-ghost use Rattle.environments.specs.Marks.{markWords, Marks, Unmarked, Gathers};
+ghost use Rattle.environments.specs.Marks.{markWords, Marks, Unmarked, Keeps, Gathers};
 use crate::environment;
 use crate::lengths;
 use crate::lengths::Driving;
@@ -65,6 +65,23 @@ pub fn any(marks: &[u32], level: u32, n: u32) -> bool
         return true;
     }
     any(marks, level, k)
+}
+
+// The entries of the variables whose lists are marked under one index, in a table of their own, in which no other moves.
+pub fn keep(env: &[u32; environment::WORDS], marks: &[u32], kept: &mut [u32; environment::WORDS])
+    requires { ⌜ length (now marks) ≡ markWords ⌝ }
+    ensures { λ _. ⌜ Keeps (now (marks .entry)) (now (env .entry)) patternVariablesMost (now (kept .exit)) ⌝ }
+{
+    let from: &[u32] = env;
+    let to: &mut [u32] = kept;
+    let mut k: u32 = 0;
+    while k < words::VARIABLES {
+        if marks[place(k, 1)] == 1 {
+            let x = environment::get(from, k as usize);
+            environment::put(to, k as usize, x);
+        }
+        k += 1;
+    }
 }
 
 // Of the first n variables' lists, taken under this many indices, those that are marked, after others.

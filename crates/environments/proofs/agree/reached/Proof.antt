@@ -6,15 +6,15 @@ use native.Mathlib.Omega.{arith}
 use borrow.Author.Needs.{needs}
 use borrow.Author.Tests.{not-true}
 use mathlib.Core.Path.{_≡_, _∙_, sym, refl, subst}
-use Rattle.environments.specs.Entries.{AlongAll}
 use Rattle.environments.specs.EntryLaws.{moving-along}
+use Rattle.environments.specs.Marks.{Goes}
 use Rattle.environments.specs.Reached.{Reached, CountedBelow}
-use Rattle.environments.specs.MarkLaws.{marks-none, entered-whole, gathered-drives, still-drives, still-same}
+use Rattle.environments.specs.MarkLaws.{marks-none, gathered-tells, still-drives, still-same}
 use Rattle.environments.specs.ReachedLaws.{reached-begins, reached-more, reached-differs, reached-still}
 
 abbrev Inv-loop : tie.InvT-loop
 Inv-loop work env e n drive still table₀ moving largest₀ i₀ table largest i =
-    (i ≤ n) × Reached work env e i largest × AlongAll work env i table
+    (i ≤ n) × Reached work env e i largest × Goes work env drive moving i table
 
 abbrev μ-loop : tie.MeasureT-loop
 μ-loop work env e n drive still table₀ moving largest₀ i₀ table largest i =
@@ -40,39 +40,47 @@ returns c =
     let same = still-same (a .work .now) (a .env .now) _ _ (a .e) (c .before .before .before .before .before .before .before .before .before .before .pre .1) marks-none (c .before .before .before .before .before .before .before .mark .ensures) _ (c .before .before .before .before .gather .ensures) unmarked in
     subst (CountedBelow (a .work .now) (a .env .now) (a .e) (a .n)) (sym (c .most .ensures)) (reached-still (a .work .now) (a .env .now) (a .e) _ told same (a .n) (c .before .before .before .before .before .before .before .before .before .before .pre .0))
 
+keep-requires : tie.Need-keep-requires Inv-loop μ-loop
+keep-requires c κs =
+    c .before .before .before .before .before .before .before .before .mark .kept .1 .1 .1 .0
+
 loop-holds : tie.Need-loop-holds Inv-loop μ-loop
 loop-holds c =
-    let a = c .before .before .before .before .before .before .before .before .before .before .before .args in (omega arith, reached-begins (a .work .now) (a .env .now) (a .e), c .begin .ensures .0 (a .work .now))
+    let a = c .before .before .before .before .before .before .before .before .before .before .before .before .before .before .before .args in
+    (omega arith, reached-begins (a .work .now) (a .env .now) (a .e), record { kept = _; keeps = c .before .before .before .keep .ensures; moves = c .begin .ensures .2; along = c .begin .ensures .0 (a .work .now) })
 
 enter-requires : tie.Need-enter-requires Inv-loop μ-loop
 enter-requires c κs =
-    let a = c .before .before .before .before .before .before .before .before .before .before .before .before .before .before .args in moving-along (a .work .now) (a .env .now) _ (c .before .before .loop .i) _ (c .before .before .loop .inv .2) (c .before .before .before .begin .ensures .2)
+    let a = c .before .before .before .before .before .before .before .before .before .before .before .before .before .before .before .before .before .before .args in
+    let g = c .before .before .loop .inv .2 in moving-along (a .work .now) (g .kept) _ (c .before .before .loop .i) _ (g .along) (g .moves)
 
 gather-requires-2 : tie.Need-gather-requires-2 Inv-loop μ-loop
 gather-requires-2 c κs =
-    (c .before .before .before .before .before .before .before .before .before .before .before .before .before .before .mark .kept .1 .1 .1 .0, omega arith, omega arith)
+    (c .before .before .before .before .before .before .before .before .before .before .before .before .before .before .before .before .before .before .mark .kept .1 .1 .1 .0, omega arith, omega arith)
 
 returns-2 : tie.Need-returns-2 Inv-loop μ-loop
 returns-2 c =
-    let a = c .before .before .before .before .before .before .before .before .before .before .before .before .before .before .before .before .before .before .before .before .before .args in
-    let goes = c .before .before .before .before .before .before .enter .ensures .goes (a .env .now) (c .before .before .before .before .before .before .before .before .before .loop .i) (c .before .before .before .before .before .before .before .before .before .loop .inv .2) in
-    let told = gathered-drives (a .work .now) (a .env .now) _ _ (a .e) (c .before .before .before .before .before .before .before .before .before .before .before .before .before .before .before .before .before .before .before .before .before .pre .1) marks-none (c .before .before .before .before .before .before .before .before .before .before .before .before .before .before .before .before .before .before .mark .ensures) _ (c .before .before .before .before .before .before .before .before .before .before .before .before .before .before .before .gather .ensures) _ _ (c .before .before .before .gather2 .ensures) (λ w k. entered-whole _ _ (c .before .before .before .before .before .before .before .before .before .loop .i) k (goes .1 w)) in
-    reached-differs (a .work .now) (a .env .now) (a .e) (c .before .before .before .before .before .before .before .before .before .loop .i) _ _ (goes .1) told (c .before .before .before .before .before .before .before .before .before .loop .largest) (a .n) (sym (c .before .before .most2 .ensures) ∙ c .enum-told .given .1) (omega arith)
+    let a = c .before .before .before .before .before .before .before .before .before .before .before .before .before .before .before .before .before .before .before .before .before .before .before .before .before .args in
+    let g = c .before .before .before .before .before .before .before .before .before .loop .inv .2 in
+    let goes = c .before .before .before .before .before .before .enter .ensures .goes (g .kept) (c .before .before .before .before .before .before .before .before .before .loop .i) (g .along) in
+    let told = gathered-tells (a .work .now) (a .env .now) _ _ (a .e) (c .before .before .before .before .before .before .before .before .before .before .before .before .before .before .before .before .before .before .before .before .before .before .before .before .before .pre .1) marks-none (c .before .before .before .before .before .before .before .before .before .before .before .before .before .before .before .before .before .before .before .before .before .before .mark .ensures) _ (c .before .before .before .before .before .before .before .before .before .before .before .before .before .before .before .before .before .before .before .gather .ensures) (c .before .before .before .before .before .before .before .before .before .loop .i) (g .kept) _ _ (c .before .before .before .gather2 .ensures) (g .keeps) (goes .1) in
+    reached-differs (a .work .now) (a .env .now) (a .e) (c .before .before .before .before .before .before .before .before .before .loop .i) _ told (c .before .before .before .before .before .before .before .before .before .loop .largest) (a .n) (sym (c .before .before .most2 .ensures) ∙ c .enum-told .given .1) (omega arith)
 
 add-i : tie.Need-add-i Inv-loop μ-loop
 add-i c =
-    record { fits = omega (arith, c .before .before .before .before .before .before .before .before .before .before .before .before .before .before .before .before .before .before .before .before .before .before .fits, c .before .before .before .before .before .before .before .before .before .loop-test .taken) }
+    record { fits = omega (arith, c .before .before .before .before .before .before .before .before .before .before .before .before .before .before .before .before .before .before .before .before .before .before .before .before .before .before .fits, c .before .before .before .before .before .before .before .before .before .loop-test .taken) }
 
 loop-again : tie.Need-loop-again Inv-loop μ-loop
 loop-again c =
-    let a = c .before .before .before .before .before .before .before .before .before .before .before .before .before .before .before .before .before .before .before .before .before .before .args in
-    let goes = c .before .before .before .before .before .before .before .enter .ensures .goes (a .env .now) (c .before .before .before .before .before .before .before .before .before .before .loop .i) (c .before .before .before .before .before .before .before .before .before .before .loop .inv .2) in
-    let told = gathered-drives (a .work .now) (a .env .now) _ _ (a .e) (c .before .before .before .before .before .before .before .before .before .before .before .before .before .before .before .before .before .before .before .before .before .before .pre .1) marks-none (c .before .before .before .before .before .before .before .before .before .before .before .before .before .before .before .before .before .before .before .mark .ensures) _ (c .before .before .before .before .before .before .before .before .before .before .before .before .before .before .before .before .gather .ensures) _ _ (c .before .before .before .before .gather2 .ensures) (λ w k. entered-whole _ _ (c .before .before .before .before .before .before .before .before .before .before .loop .i) k (goes .1 w)) in
-    (omega arith, reached-more (a .work .now) (a .env .now) (a .e) (c .before .before .before .before .before .before .before .before .before .before .loop .i) _ _ (goes .1) told (c .before .before .before .before .before .before .before .before .before .before .loop .largest) _ (sym (c .before .before .before .most2 .ensures) ∙ (c .before) .c .given .1) (c .before .before .before .before .before .before .before .before .before .before .loop .inv .1), goes .0)
+    let a = c .before .before .before .before .before .before .before .before .before .before .before .before .before .before .before .before .before .before .before .before .before .before .before .before .before .before .args in
+    let g = c .before .before .before .before .before .before .before .before .before .before .loop .inv .2 in
+    let goes = c .before .before .before .before .before .before .before .enter .ensures .goes (g .kept) (c .before .before .before .before .before .before .before .before .before .before .loop .i) (g .along) in
+    let told = gathered-tells (a .work .now) (a .env .now) _ _ (a .e) (c .before .before .before .before .before .before .before .before .before .before .before .before .before .before .before .before .before .before .before .before .before .before .before .before .before .before .pre .1) marks-none (c .before .before .before .before .before .before .before .before .before .before .before .before .before .before .before .before .before .before .before .before .before .before .before .mark .ensures) _ (c .before .before .before .before .before .before .before .before .before .before .before .before .before .before .before .before .before .before .before .before .gather .ensures) (c .before .before .before .before .before .before .before .before .before .before .loop .i) (g .kept) _ _ (c .before .before .before .before .gather2 .ensures) (g .keeps) (goes .1) in
+    (omega arith, reached-more (a .work .now) (a .env .now) (a .e) (c .before .before .before .before .before .before .before .before .before .before .loop .i) _ told (c .before .before .before .before .before .before .before .before .before .before .loop .largest) _ (sym (c .before .before .before .most2 .ensures) ∙ (c .before) .c .given .1) (c .before .before .before .before .before .before .before .before .before .before .loop .inv .1), record { kept = g .kept; keeps = g .keeps; moves = g .moves; along = goes .0 })
 
 returns-3 : tie.Need-returns-3 Inv-loop μ-loop
 returns-3 c =
-    let a = c .before .before .before .before .before .before .before .before .before .before .before .before .before .args in
+    let a = c .before .before .before .before .before .before .before .before .before .before .before .before .before .before .before .before .before .args in
     let e : c .before .loop .i ≡ a .n = omega arith in subst (λ (k : ℕ). Reached (a .work .now) (a .env .now) (a .e) k (c .before .loop .largest)) e (c .before .loop .inv .1)
 
 pub reached-spec : {M : Type 1} → statement M
@@ -89,6 +97,8 @@ reached-spec =
     any-requires
     (λ c κs. search needs)  -- most-requires
     returns
+    (λ c. search needs)  -- slice-aggregate-keep
+    keep-requires
     (λ c κs. search needs)  -- begin-requires
     loop-holds
     enter-requires
