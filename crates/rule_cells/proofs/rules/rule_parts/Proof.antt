@@ -2,42 +2,86 @@
 use borrow.Author.Needs.{needs}
 use Rattle.rule_cells.proofs.rules.rule_parts.Statement.{statement}
 use Rattle.rule_cells.proofs.rules.rule_parts.Tie as tie
+use Rattle.rule_cells.proofs.rules.rule_parts.Reads as reads
+use Rattle.rule_cells.proofs.rules.rule_parts.Lts as lts
+use Rattle.rule_cells.proofs.constructors.put_rule.Reads as put-rule-reads
+use Rattle.rule_cells.proofs.patterns.pattern.Reads as pattern-reads
+use Rattle.rule_cells.proofs.templates.template.Reads as template-reads
+use Rattle.rule_cells.proofs.variables.gather.Reads as gather-reads
+use Rattle.words.proofs.packed.pair.Reads as pair-reads
+use Rattle.words.proofs.packed.parts.Reads as parts-reads
 use Rattle.words.specs.Packed.{builtOf}
 use Rattle.rule_cells.specs.Variables.{keptOf}
 use Rattle.rule_cells.specs.GatherLaws.{kept-bad, kept-count, gathered-stored}
 use Rattle.rule_cells.specs.ParseLaws.{packs-at}
 use Rattle.rule_cells.specs.RuleParse.{RuleLeft}
-use Rattle.rule_cells.specs.RuleLaws.{packs-rule, held-none, small-p, asks-p, small-size, left-variables, left-pattern, made-pattern, under-top, asks-q, small-q, left-template, made-template, rule-asks, left-rule}
+use Rattle.rule_cells.specs.RuleLaws.{packs-rule, held-none, small-p, asks-p, small-size, left-variables, left-pattern, made-pattern, under-top, asks-q, small-q, left-template, made-template, rule-asks, left-rule, dots-still}
 use mathlib.Core.Path.{sym, _∙_}
 use native.Mathlib.Omega.{arith}
+use mathlib.Core.Bool.{false≢true}
 
+-- src/rules.rt:43:37
+slice-aggregate-gather : tie.Need-slice-aggregate-gather
+slice-aggregate-gather c =
+    search needs
+
+-- src/rules.rt:43:9
 gather-requires : tie.Need-gather-requires
 gather-requires c κs =
     let a = c .before .before .before .args in
     let ask = c .before .before .before .pre in
-    (omega arith, held-none (a .work .now) (a .w) _, small-p (a .work .now) (a .literals) (a .p) (a .q) (a .w) (a .next) (a .top) ask)
+    (omega arith, held-none (a .work .now) (a .w) _, small-p (a .work .now) (a .dots) (a .literals) (a .p) (a .q) (a .w) (a .next) (a .top) ask)
 
+-- src/rules.rt:45:9
+same-length : tie.Need-same-length
+same-length c =
+    search needs
+
+-- src/rules.rt:45:9
 returns : tie.Need-returns
 unfolding builtOf
 returns c =
     let a = c .before .before .before .before .before .before .args in
     let ask = c .before .before .before .before .before .before .pre in
     let g = c .before .before .gather in
-    left-variables (a .work .now) (a .literals) (a .p) (a .q) (a .w) (a .next) (a .top) ask _ (g .last .1 .0) (keptOf (g .result)) (kept-bad (g .result) (c .if1 .taken)) (g .ensures)
+    left-variables (a .work .now) (a .dots) (a .literals) (a .p) (a .q) (a .w) (a .next) (a .top) ask _ (g .last .1 .0) (keptOf (g .result)) (kept-bad (g .result) (c .if1 .taken)) (g .ensures)
 
+-- src/rules.rt:47:33
 pattern-requires : tie.Need-pattern-requires
 pattern-requires c κs =
     let a = c .before .before .before .before .before .before .before .args in
     let ask = c .before .before .before .before .before .before .before .pre in
-    (asks-p (a .work .now) (a .literals) (a .p) (a .q) (a .w) (a .next) (a .top) ask, ask .literals-below, small-size (a .work .now) (a .literals) (a .p) (a .q) (a .w) (a .next) (a .top) ask)
+    (asks-p (a .work .now) (a .dots) (a .literals) (a .p) (a .q) (a .w) (a .next) (a .top) ask, ask .dots-below, ask .literals-below, small-size (a .work .now) (a .dots) (a .literals) (a .p) (a .q) (a .w) (a .next) (a .top) ask, λ z. absurd (false≢true z))
 
+-- src/rules.rt:47:22
+enum-known-a : tie.Need-enum-known-a
+enum-known-a c =
+    search needs
+
+-- src/rules.rt:48:9
+enum-told : tie.Need-enum-told
+enum-told c =
+    search needs
+
+-- src/rules.rt:48:9
+same-length-2 : tie.Need-same-length-2
+same-length-2 c =
+    search needs
+
+-- src/rules.rt:48:9
 returns-2 : tie.Need-returns-2
 unfolding builtOf
 returns-2 c =
     let a = c .before .before .before .before .before .before .before .before .before .before .before .before .args in
     let ask = c .before .before .before .before .before .before .before .before .before .before .before .before .pre in
-    left-pattern (a .work .now) (a .literals) (a .p) (a .q) (a .w) (a .next) (a .top) ask (c .before .before .before .before .pattern .last .0) _ (c .enum-told .given .1) (c .before .before .before .before .pattern .ensures)
+    left-pattern (a .work .now) (a .dots) (a .literals) (a .p) (a .q) (a .w) (a .next) (a .top) ask (c .before .before .before .before .pattern .last .0) _ (c .enum-told .given .1) (c .before .before .before .before .pattern .ensures)
 
+-- src/rules.rt:50:42
+slice-aggregate-template : tie.Need-slice-aggregate-template
+slice-aggregate-template c =
+    search needs
+
+-- src/rules.rt:50:9
 template-requires : tie.Need-template-requires
 template-requires c κs =
     let a = c .before .before .before .before .before .before .before .before .before .before .before .before .before .before .before .args in
@@ -45,9 +89,30 @@ template-requires c κs =
     let g = c .before .before .before .before .before .before .before .before .before .before .before .gather in
     let stored = gathered-stored _ _ _ _ _ _ (g .last .1 .0) (keptOf (g .result)) _ (kept-count (g .result) (c .before .before .before .before .before .before .before .before .before .if1 .left)) (g .ensures) in
     let p = c .before .before .before .before .before .before .before .pattern in
-    let pattern = made-pattern (a .work .now) (a .literals) (a .p) (a .q) (a .w) (a .next) (a .top) ask (p .last .0) _ _ _ _ (c .before .before .before .a .given .1) (p .ensures) in
-    (asks-q (a .work .now) (a .literals) (a .p) (a .q) (a .w) (a .next) (a .top) ask _ (g .last .1 .0) _ stored (p .last .0) _ _ _ (p .kept .0) pattern, stored .held .most, omega (arith, g .kept .1 .0), under-top (a .work .now) (a .literals) (a .p) (a .q) (a .w) (a .next) (a .top) ask _ (g .last .1 .0) _ stored (p .last .0) _ _ _ (p .kept .0) pattern, small-q (a .work .now) (a .literals) (a .p) (a .q) (a .w) (a .next) (a .top) ask _ (g .last .1 .0) _ stored (p .last .0) _ _ _ (p .kept .0) pattern)
+    let pattern = made-pattern (a .work .now) (a .dots) (a .literals) (a .p) (a .q) (a .w) (a .next) (a .top) ask (p .last .0) _ _ _ _ (c .before .before .before .a .given .1) (p .ensures) in
+    (asks-q (a .work .now) (a .dots) (a .literals) (a .p) (a .q) (a .w) (a .next) (a .top) ask _ (g .last .1 .0) _ stored (p .last .0) _ _ _ (p .kept .0) pattern, stored .held .most, omega (arith, g .kept .1 .0), under-top (a .work .now) (a .dots) (a .literals) (a .p) (a .q) (a .w) (a .next) (a .top) ask _ (g .last .1 .0) _ stored (p .last .0) _ _ _ (p .kept .0) pattern, dots-still (a .work .now) (a .dots) (a .literals) (a .p) (a .q) (a .w) (a .next) (a .top) ask _ (g .last .1 .0) _ stored (p .last .0) _ _ _ (p .kept .0) pattern, small-q (a .work .now) (a .dots) (a .literals) (a .p) (a .q) (a .w) (a .next) (a .top) ask _ (g .last .1 .0) _ stored (p .last .0) _ _ _ (p .kept .0) pattern)
 
+-- src/rules.rt:51:27
+parts-requires : tie.Need-parts-requires
+parts-requires c κs =
+    search needs
+
+-- src/rules.rt:51:19
+enum-known-b : tie.Need-enum-known-b
+enum-known-b c =
+    search needs
+
+-- src/rules.rt:52:9
+enum-told-2 : tie.Need-enum-told-2
+enum-told-2 c =
+    search needs
+
+-- src/rules.rt:52:9
+same-length-3 : tie.Need-same-length-3
+same-length-3 c =
+    search needs
+
+-- src/rules.rt:52:9
 returns-3 : tie.Need-returns-3
 unfolding builtOf
 returns-3 c =
@@ -56,10 +121,11 @@ returns-3 c =
     let g = c .before .before .before .before .before .before .before .before .before .before .before .before .before .before .before .before .before .gather in
     let stored = gathered-stored _ _ _ _ _ _ (g .last .1 .0) (keptOf (g .result)) _ (kept-count (g .result) (c .before .before .before .before .before .before .before .before .before .before .before .before .before .before .before .if1 .left)) (g .ensures) in
     let p = c .before .before .before .before .before .before .before .before .before .before .before .before .before .pattern in
-    let pattern = made-pattern (a .work .now) (a .literals) (a .p) (a .q) (a .w) (a .next) (a .top) ask (p .last .0) _ _ _ _ (c .before .before .before .before .before .before .before .before .before .a .given .1) (p .ensures) in
+    let pattern = made-pattern (a .work .now) (a .dots) (a .literals) (a .p) (a .q) (a .w) (a .next) (a .top) ask (p .last .0) _ _ _ _ (c .before .before .before .before .before .before .before .before .before .a .given .1) (p .ensures) in
     let q = c .before .before .before .before .before .template in
-    left-template (a .work .now) (a .literals) (a .p) (a .q) (a .w) (a .next) (a .top) ask _ (g .last .1 .0) _ stored (p .last .0) _ _ _ (p .kept .0) pattern (q .last .0) (builtOf (q .result)) (sym (c .before .before .parts .ensures) ∙ c .enum-told2 .given .1) (q .ensures)
+    left-template (a .work .now) (a .dots) (a .literals) (a .p) (a .q) (a .w) (a .next) (a .top) ask _ (g .last .1 .0) _ stored (p .last .0) _ _ _ (p .kept .0) pattern (q .last .0) (builtOf (q .result)) (sym (c .before .before .parts .ensures) ∙ c .enum-told2 .given .1) (q .ensures)
 
+-- src/rules.rt:54:9
 put-rule-requires : tie.Need-put-rule-requires
 put-rule-requires c κs =
     let a = c .before .before .before .before .before .before .before .before .before .before .before .before .before .before .before .before .before .before .before .before .before .before .before .args in
@@ -67,11 +133,22 @@ put-rule-requires c κs =
     let g = c .before .before .before .before .before .before .before .before .before .before .before .before .before .before .before .before .before .before .before .gather in
     let stored = gathered-stored _ _ _ _ _ _ (g .last .1 .0) (keptOf (g .result)) _ (kept-count (g .result) (c .before .before .before .before .before .before .before .before .before .before .before .before .before .before .before .before .before .if1 .left)) (g .ensures) in
     let p = c .before .before .before .before .before .before .before .before .before .before .before .before .before .before .before .pattern in
-    let pattern = made-pattern (a .work .now) (a .literals) (a .p) (a .q) (a .w) (a .next) (a .top) ask (p .last .0) _ _ _ _ (c .before .before .before .before .before .before .before .before .before .before .before .a .given .1) (p .ensures) in
+    let pattern = made-pattern (a .work .now) (a .dots) (a .literals) (a .p) (a .q) (a .w) (a .next) (a .top) ask (p .last .0) _ _ _ _ (c .before .before .before .before .before .before .before .before .before .before .before .a .given .1) (p .ensures) in
     let q = c .before .before .before .before .before .before .before .template in
-    let template = made-template (a .work .now) (a .literals) (a .p) (a .q) (a .w) (a .next) (a .top) ask _ (g .last .1 .0) _ stored (p .last .0) _ _ _ (p .kept .0) pattern (q .last .0) (builtOf (q .result)) _ _ (sym (c .before .before .before .before .parts .ensures) ∙ c .before .before .b .given .1) (q .ensures) in
-    rule-asks (a .work .now) (a .literals) (a .p) (a .q) (a .w) (a .next) (a .top) ask _ (g .last .1 .0) _ stored (p .last .0) _ _ _ (p .kept .0) pattern (q .last .0) _ _ (q .kept .0) template
+    let template = made-template (a .work .now) (a .dots) (a .literals) (a .p) (a .q) (a .w) (a .next) (a .top) ask _ (g .last .1 .0) _ stored (p .last .0) _ _ _ (p .kept .0) pattern (q .last .0) (builtOf (q .result)) _ _ (sym (c .before .before .before .before .parts .ensures) ∙ c .before .before .b .given .1) (q .ensures) in
+    rule-asks (a .work .now) (a .dots) (a .literals) (a .p) (a .q) (a .w) (a .next) (a .top) ask _ (g .last .1 .0) _ stored (p .last .0) _ _ _ (p .kept .0) pattern (q .last .0) _ _ (q .kept .0) template
 
+-- src/rules.rt:55:5
+pair-requires : tie.Need-pair-requires
+pair-requires c κs =
+    search needs
+
+-- src/rules.rt:29:1
+same-length-4 : tie.Need-same-length-4
+same-length-4 c =
+    search needs
+
+-- src/rules.rt:29:1
 returns-4 : tie.Need-returns-4
 returns-4 c =
     let a = c .before .before .before .before .before .before .before .before .before .before .before .before .before .before .before .before .before .before .before .before .before .before .before .before .before .before .before .args in
@@ -79,33 +156,33 @@ returns-4 c =
     let g = c .before .before .before .before .before .before .before .before .before .before .before .before .before .before .before .before .before .before .before .before .before .before .before .gather in
     let stored = gathered-stored _ _ _ _ _ _ (g .last .1 .0) (keptOf (g .result)) _ (kept-count (g .result) (c .before .before .before .before .before .before .before .before .before .before .before .before .before .before .before .before .before .before .before .before .before .if1 .left)) (g .ensures) in
     let p = c .before .before .before .before .before .before .before .before .before .before .before .before .before .before .before .before .before .before .before .pattern in
-    let pattern = made-pattern (a .work .now) (a .literals) (a .p) (a .q) (a .w) (a .next) (a .top) ask (p .last .0) _ _ _ _ (c .before .before .before .before .before .before .before .before .before .before .before .before .before .before .before .a .given .1) (p .ensures) in
+    let pattern = made-pattern (a .work .now) (a .dots) (a .literals) (a .p) (a .q) (a .w) (a .next) (a .top) ask (p .last .0) _ _ _ _ (c .before .before .before .before .before .before .before .before .before .before .before .before .before .before .before .a .given .1) (p .ensures) in
     let q = c .before .before .before .before .before .before .before .before .before .before .before .template in
-    let template = made-template (a .work .now) (a .literals) (a .p) (a .q) (a .w) (a .next) (a .top) ask _ (g .last .1 .0) _ stored (p .last .0) _ _ _ (p .kept .0) pattern (q .last .0) (builtOf (q .result)) _ _ (sym (c .before .before .before .before .before .before .before .before .parts .ensures) ∙ c .before .before .before .before .before .before .b .given .1) (q .ensures) in
-    let left = left-rule (a .work .now) (a .literals) (a .p) (a .q) (a .w) (a .next) (a .top) ask _ (g .last .1 .0) _ stored (p .last .0) _ _ _ (p .kept .0) pattern (q .last .0) _ _ (q .kept .0) template _ _ (c .before .before .before .put-rule .ensures) in
-    packs-at (RuleLeft _ _ _ _ _ _) _ _ _ _ (packs-rule (a .work .now) (a .literals) (a .p) (a .q) (a .w) (a .next) (a .top) ask) (c .pair .ensures) (left .words) left
+    let template = made-template (a .work .now) (a .dots) (a .literals) (a .p) (a .q) (a .w) (a .next) (a .top) ask _ (g .last .1 .0) _ stored (p .last .0) _ _ _ (p .kept .0) pattern (q .last .0) (builtOf (q .result)) _ _ (sym (c .before .before .before .before .before .before .before .before .parts .ensures) ∙ c .before .before .before .before .before .before .b .given .1) (q .ensures) in
+    let left = left-rule (a .work .now) (a .dots) (a .literals) (a .p) (a .q) (a .w) (a .next) (a .top) ask _ (g .last .1 .0) _ stored (p .last .0) _ _ _ (p .kept .0) pattern (q .last .0) _ _ (q .kept .0) template _ _ (c .before .before .before .put-rule .ensures) in
+    packs-at (RuleLeft _ _ _ _ _ _) _ _ _ _ (packs-rule (a .work .now) (a .dots) (a .literals) (a .p) (a .q) (a .w) (a .next) (a .top) ask) (c .pair .ensures) (left .words) left
 
 pub rule-parts-spec : {M : Type 1} → statement M
 rule-parts-spec =
     tie.close
     (tie.spec
-    (λ c. search needs)  -- slice-aggregate-gather
+    slice-aggregate-gather
     gather-requires
-    (λ c. search needs)  -- same-length
+    same-length
     returns
     pattern-requires
-    (λ c. search needs)  -- enum-known-a
-    (λ c. search needs)  -- enum-told
-    (λ c. search needs)  -- same-length-2
+    enum-known-a
+    enum-told
+    same-length-2
     returns-2
-    (λ c. search needs)  -- slice-aggregate-template
+    slice-aggregate-template
     template-requires
-    (λ c κs. search needs)  -- parts-requires
-    (λ c. search needs)  -- enum-known-b
-    (λ c. search needs)  -- enum-told-2
-    (λ c. search needs)  -- same-length-3
+    parts-requires
+    enum-known-b
+    enum-told-2
+    same-length-3
     returns-3
     put-rule-requires
-    (λ c κs. search needs)  -- pair-requires
-    (λ c. search needs)  -- same-length-4
+    pair-requires
+    same-length-4
     returns-4)

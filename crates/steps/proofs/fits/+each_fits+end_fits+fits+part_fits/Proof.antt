@@ -1,5 +1,5 @@
 -- The proof of the cycle {each_fits, end_fits, fits, part_fits}. The measure is four times the pattern's reference and the
--- member's place among those that hand the same pattern on: each_fits, part_fits, fits, end_fits.
+-- member's place among those that hand the same pattern on: part_fits, fits, end_fits, each_fits.
 use Prim.Native.Nat.{ℕ, _<_, _+_, _*_}
 use borrow.Fn.Kinds.{In}
 use borrow.Fn.PlainCycle.{Measures, is, falls, and}
@@ -17,30 +17,33 @@ use Rattle.steps.proofs.fits.part_fits.Kinds as part-fits-kinds
 use Rattle.steps.proofs.fits.+each_fits+end_fits+fits+part_fits.Lts-part_fits as part-fits-lts
 use Rattle.arena.proofs.cells.reference.Reads as reference-reads
 use Rattle.arena.proofs.cells.word.Reads as word-reads
+use Rattle.environments.proofs.shares.share.Reads as share-reads
 use Rattle.steps.proofs.fits.constant_fits.Reads as constant-fits-reads
 use Rattle.steps.proofs.fits.literal_fits.Reads as literal-fits-reads
 use Rattle.steps.proofs.fits.+each_fits+end_fits+fits+part_fits.{statement}
 use Rattle.steps.proofs.fits.+each_fits+end_fits+fits+part_fits.Tie.{close}
 use Rattle.environments.specs.PartLaws.{tag-falls}
-use Rattle.arena.specs.ListLaws.{kind-some}
 use borrow.Author.Tests.{not-true, not-false}
-use Rattle.steps.specs.FitLaws.{fits-variable, fits-wildcard, fits-literal, fits-constant, fits-ellipsis, fits-no-pair, fits-head-no, fits-tail, fits-empty, Along, along-begins, along-ends, along-more, Matched, each-ends, each-no, each-more}
-use Rattle.arena.specs.ArenaLaws.{referenceAt-falls}
+use Rattle.steps.specs.FitLaws.{fits-variable, fits-wildcard, fits-literal, fits-constant, fits-no-pair, fits-head-no, fits-tail, fits-empty, Along, along-begins, along-ends, along-more, Matched, each-begins, each-ends, each-short, each-no, each-more, fewer}
 use native.Mathlib.Omega.{arith}
 use borrow.Author.Needs.{needs}
 use mathlib.Core.Path.{refl, sym, _∙_}
 
 abbrev μ-each-fits : Measures 1 each-fits-kinds.ps ℕ
-μ-each-fits κs a = 4 * a .1 .0 + 3
+μ-each-fits κs a =
+    4 * a .1 .0
 
 abbrev μ-end-fits : Measures 1 end-fits-kinds.ps ℕ
-μ-end-fits κs a = 4 * a .1 .0
+μ-end-fits κs a =
+    4 * a .1 .0 + 1
 
 abbrev μ-fits : Measures 1 fits-kinds.ps ℕ
-μ-fits κs a = 4 * a .1 .0 + 1
+μ-fits κs a =
+    4 * a .1 .0 + 2
 
 abbrev μ-part-fits : Measures 1 part-fits-kinds.ps ℕ
-μ-part-fits κs a = 4 * a .1 .0 + 2
+μ-part-fits κs a =
+    4 * a .1 .0 + 3
 
 abbrev each-fits-at : ℕ → In 1 each-fits-kinds.ps
 each-fits-at t = and 1 each-fits-kinds.ps (is 1 each-fits-kinds.ps μ-each-fits t) each-fits.Pre
@@ -70,81 +73,321 @@ part-fits-below t =
     and 1 part-fits-kinds.ps (falls 1 part-fits-kinds.ps _<_ μ-part-fits t) part-fits.Pre
 
 abbrev each-fits-Inv-loop : each-fits-lts.InvT-loop
-each-fits-Inv-loop work e list w node₀ node = Matched work e list w node
+each-fits-Inv-loop work p list w element node₀ left₀ node left =
+    Matched work p list w node left
 
 abbrev each-fits-μ-loop : each-fits-lts.MeasureT-loop
-each-fits-μ-loop work e list w node₀ node = node
+each-fits-μ-loop work p list w element node₀ left₀ node left =
+    left
 
-abbrev each-fits-claims : ℕ → each-fits-lts.Claims
-each-fits-claims t = (word-reads.Asked, word-reads.Learnt, reference-reads.Asked, reference-reads.Learnt, part-fits-below t, part-fits.Post)
+-- src/fits.rt:105:9
+each-fits-reference-requires : (t : ℕ) → each-fits-lts.Need-reference-requires (
+  reference-reads.Asked,
+  reference-reads.Learnt,
+  share-reads.Asked,
+  share-reads.Learnt,
+  word-reads.Asked,
+  word-reads.Learnt,
+  part-fits-below t,
+  part-fits.Post,
+  fits-below t,
+  fits.Post,
+) (each-fits-at t) each-fits.Post each-fits-Inv-loop each-fits-μ-loop
+each-fits-reference-requires t c κs =
+    search needs
 
-abbrev end-fits-claims : ℕ → end-fits-lts.Claims
-end-fits-claims t = (word-reads.Asked, word-reads.Learnt, literal-fits-reads.Asked, literal-fits-reads.Learnt, constant-fits-reads.Asked, constant-fits-reads.Learnt, reference-reads.Asked, reference-reads.Learnt, each-fits-below t, each-fits.Post)
+-- src/fits.rt:107:9
+each-fits-share-requires : (t : ℕ) → each-fits-lts.Need-share-requires (
+  reference-reads.Asked,
+  reference-reads.Learnt,
+  share-reads.Asked,
+  share-reads.Learnt,
+  word-reads.Asked,
+  word-reads.Learnt,
+  part-fits-below t,
+  part-fits.Post,
+  fits-below t,
+  fits.Post,
+) (each-fits-at t) each-fits.Post each-fits-Inv-loop each-fits-μ-loop
+each-fits-share-requires t c κs =
+    search needs
 
-abbrev fits-Inv-loop : fits-lts.InvT-loop
-fits-Inv-loop work p u w at₀ node₀ at node = Along work p u w at node
+-- src/fits.rt:108:5
+each-fits-loop-holds : (t : ℕ) → each-fits-lts.Need-loop-holds (
+  reference-reads.Asked,
+  reference-reads.Learnt,
+  share-reads.Asked,
+  share-reads.Learnt,
+  word-reads.Asked,
+  word-reads.Learnt,
+  part-fits-below t,
+  part-fits.Post,
+  fits-below t,
+  fits.Post,
+) (each-fits-at t) each-fits.Post each-fits-Inv-loop each-fits-μ-loop
+each-fits-loop-holds t c =
+    let a = c .before .before .before .args in
+    each-begins (a .work .now) (a .p) (a .list) (a .w) _ (c .before .before .before .pre .1) (c .share .ensures)
 
-abbrev fits-μ-loop : fits-lts.MeasureT-loop
-fits-μ-loop work p u w at₀ node₀ at node = at
+-- src/fits.rt:109:12
+each-fits-word-requires : (t : ℕ) → each-fits-lts.Need-word-requires (
+  reference-reads.Asked,
+  reference-reads.Learnt,
+  share-reads.Asked,
+  share-reads.Learnt,
+  word-reads.Asked,
+  word-reads.Learnt,
+  part-fits-below t,
+  part-fits.Post,
+  fits-below t,
+  fits.Post,
+) (each-fits-at t) each-fits.Post each-fits-Inv-loop each-fits-μ-loop
+each-fits-word-requires t c κs =
+    search needs
 
-abbrev fits-claims : ℕ → fits-lts.Claims
-fits-claims t = (word-reads.Asked, word-reads.Learnt, reference-reads.Asked, reference-reads.Learnt, part-fits-below t, part-fits.Post, end-fits-below t, end-fits.Post)
-
-abbrev part-fits-claims : ℕ → part-fits-lts.Claims
-part-fits-claims t = (word-reads.Asked, word-reads.Learnt, fits-below t, fits.Post)
-
-each-fits-loop-holds : (t : ℕ) → each-fits-lts.Need-loop-holds (each-fits-claims t) (each-fits-at t) each-fits.Post each-fits-Inv-loop each-fits-μ-loop
-each-fits-loop-holds t c = refl
-
-each-fits-part-fits-requires : (t : ℕ) → each-fits-lts.Need-part-fits-requires (each-fits-claims t) (each-fits-at t) each-fits.Post each-fits-Inv-loop each-fits-μ-loop
-each-fits-part-fits-requires t c κs =
-    let loop = c .before .before .before .loop in
-    omega arith
-
-each-fits-returns : (t : ℕ) → each-fits-lts.Need-returns (each-fits-claims t) (each-fits-at t) each-fits.Post each-fits-Inv-loop each-fits-μ-loop
+-- src/fits.rt:110:13
+each-fits-returns : (t : ℕ) → each-fits-lts.Need-returns (
+  reference-reads.Asked,
+  reference-reads.Learnt,
+  share-reads.Asked,
+  share-reads.Learnt,
+  word-reads.Asked,
+  word-reads.Learnt,
+  part-fits-below t,
+  part-fits.Post,
+  fits-below t,
+  fits.Post,
+) (each-fits-at t) each-fits.Post each-fits-Inv-loop each-fits-μ-loop
 each-fits-returns t c =
     let a = c .before .before .before .before .before .before .before .args in
-    let loop = c .before .before .before .before .before .loop in
-    let word = c .before .before .before .before .word in
-    let if1 = c .before .before .before .if1 in
-    let reference = c .before .before .reference in
-    let part-fits = c .before .part-fits in
-    each-no (a .work .now) (a .e) (a .list) (a .w) (loop .node) _ (word .ensures) (loop .inv) _ _ (if1 .taken) (reference .ensures) (part-fits .ensures) (not-true _ (c .if2 .taken))
-
-each-fits-loop-less : (t : ℕ) → each-fits-lts.Need-loop-less (each-fits-claims t) (each-fits-at t) each-fits.Post each-fits-Inv-loop each-fits-μ-loop
-each-fits-loop-less t c =
-    let a = c .before .before .before .before .before .before .before .before .args in
-    let loop = c .before .before .before .before .before .before .loop in
-    let word = c .before .before .before .before .before .word in
-    let if1 = c .before .before .before .before .if1 in
-    omega (arith, c .reference2 .ensures, referenceAt-falls (a .work .now) (loop .node) 1 (kind-some (a .work .now) (loop .node) _ (word .ensures) (if1 .taken)))
-
-each-fits-loop-again : (t : ℕ) → each-fits-lts.Need-loop-again (each-fits-claims t) (each-fits-at t) each-fits.Post each-fits-Inv-loop each-fits-μ-loop
-each-fits-loop-again t c =
-    let a = c .before .before .before .before .before .before .before .before .args in
-    let loop = c .before .before .before .before .before .before .loop in
-    let word = c .before .before .before .before .before .word in
-    let if1 = c .before .before .before .before .if1 in
-    let reference = c .before .before .before .reference in
-    let part-fits = c .before .before .part-fits in
-    let if2 = c .before .if2 in
-    each-more (a .work .now) (a .e) (a .list) (a .w) (loop .node) _ (word .ensures) (loop .inv) _ _ (if1 .taken) (reference .ensures) (part-fits .ensures) _ (not-false _ (if2 .left)) (c .reference2 .ensures)
-
-each-fits-returns-2 : (t : ℕ) → each-fits-lts.Need-returns-2 (each-fits-claims t) (each-fits-at t) each-fits.Post each-fits-Inv-loop each-fits-μ-loop
-each-fits-returns-2 t c =
-    let a = c .before .before .before .before .before .args in
     let loop = c .before .before .before .loop in
-    let word = c .before .before .word in
-    let if1 = c .before .if1 in
-    each-ends (a .work .now) (a .e) (a .list) (a .w) (loop .node) _ (c .word2 .ensures) (loop .inv) (λ z. if1 .left (word .ensures ∙ sym (c .word2 .ensures) ∙ z))
+    each-short (a .work .now) (a .p) (a .list) (a .w) (loop .node) (loop .left) (loop .inv) _ _ (fewer (loop .left) (c .before .before .loop-test .taken)) (c .before .word .ensures) (c .if1 .taken)
 
-end-fits-returns : (t : ℕ) → end-fits-lts.Need-returns (end-fits-claims t) (end-fits-at t) end-fits.Post
+-- src/fits.rt:112:13
+each-fits-reference-requires-2 : (t : ℕ) → each-fits-lts.Need-reference-requires-2 (
+  reference-reads.Asked,
+  reference-reads.Learnt,
+  share-reads.Asked,
+  share-reads.Learnt,
+  word-reads.Asked,
+  word-reads.Learnt,
+  part-fits-below t,
+  part-fits.Post,
+  fits-below t,
+  fits.Post,
+) (each-fits-at t) each-fits.Post each-fits-Inv-loop each-fits-μ-loop
+each-fits-reference-requires-2 t c κs =
+    search needs
+
+-- src/fits.rt:113:13
+each-fits-part-fits-requires : (t : ℕ) → each-fits-lts.Need-part-fits-requires (
+  reference-reads.Asked,
+  reference-reads.Learnt,
+  share-reads.Asked,
+  share-reads.Learnt,
+  word-reads.Asked,
+  word-reads.Learnt,
+  part-fits-below t,
+  part-fits.Post,
+  fits-below t,
+  fits.Post,
+) (each-fits-at t) each-fits.Post each-fits-Inv-loop each-fits-μ-loop
+each-fits-part-fits-requires t c κs =
+    let a = c .before .before .before .before .before .before .before .before .args in
+    let l = tag-falls (a .work .now) (a .p) 7 (sym (c .before .before .before .before .before .before .before .before .pre .1)) 3 _ (λ z. omega arith) (c .before .before .before .before .before .before .reference .ensures) in
+    omega (arith, l, c .before .before .before .before .before .before .before .before .pre .0)
+
+-- src/fits.rt:114:13
+each-fits-returns-2 : (t : ℕ) → each-fits-lts.Need-returns-2 (
+  reference-reads.Asked,
+  reference-reads.Learnt,
+  share-reads.Asked,
+  share-reads.Learnt,
+  word-reads.Asked,
+  word-reads.Learnt,
+  part-fits-below t,
+  part-fits.Post,
+  fits-below t,
+  fits.Post,
+) (each-fits-at t) each-fits.Post each-fits-Inv-loop each-fits-μ-loop
+each-fits-returns-2 t c =
+    let a = c .before .before .before .before .before .before .before .before .before .before .args in
+    let loop = c .before .before .before .before .before .before .loop in
+    each-no (a .work .now) (a .p) (a .list) (a .w) (loop .node) (loop .left) (loop .inv) _ _ (fewer (loop .left) (c .before .before .before .before .before .loop-test .taken)) (c .before .before .before .before .word .ensures) _ _ _ (c .before .before .before .if1 .left) (c .before .before .before .before .before .before .before .before .reference .ensures) (c .before .before .reference2 .ensures) (c .before .part-fits .ensures) (not-true _ (c .if2 .taken))
+
+-- src/fits.rt:116:9
+each-fits-reference-requires-3 : (t : ℕ) → each-fits-lts.Need-reference-requires-3 (
+  reference-reads.Asked,
+  reference-reads.Learnt,
+  share-reads.Asked,
+  share-reads.Learnt,
+  word-reads.Asked,
+  word-reads.Learnt,
+  part-fits-below t,
+  part-fits.Post,
+  fits-below t,
+  fits.Post,
+) (each-fits-at t) each-fits.Post each-fits-Inv-loop each-fits-μ-loop
+each-fits-reference-requires-3 t c κs =
+    search needs
+
+-- src/fits.rt:117:9
+each-fits-sub-left : (t : ℕ) → each-fits-lts.Need-sub-left (
+  reference-reads.Asked,
+  reference-reads.Learnt,
+  share-reads.Asked,
+  share-reads.Learnt,
+  word-reads.Asked,
+  word-reads.Learnt,
+  part-fits-below t,
+  part-fits.Post,
+  fits-below t,
+  fits.Post,
+) (each-fits-at t) each-fits.Post each-fits-Inv-loop each-fits-μ-loop
+each-fits-sub-left t c =
+    search needs
+
+-- src/fits.rt:108:5
+each-fits-loop-less : (t : ℕ) → each-fits-lts.Need-loop-less (
+  reference-reads.Asked,
+  reference-reads.Learnt,
+  share-reads.Asked,
+  share-reads.Learnt,
+  word-reads.Asked,
+  word-reads.Learnt,
+  part-fits-below t,
+  part-fits.Post,
+  fits-below t,
+  fits.Post,
+) (each-fits-at t) each-fits.Post each-fits-Inv-loop each-fits-μ-loop
+each-fits-loop-less t c =
+    search needs
+
+-- src/fits.rt:108:5
+each-fits-loop-again : (t : ℕ) → each-fits-lts.Need-loop-again (
+  reference-reads.Asked,
+  reference-reads.Learnt,
+  share-reads.Asked,
+  share-reads.Learnt,
+  word-reads.Asked,
+  word-reads.Learnt,
+  part-fits-below t,
+  part-fits.Post,
+  fits-below t,
+  fits.Post,
+) (each-fits-at t) each-fits.Post each-fits-Inv-loop each-fits-μ-loop
+each-fits-loop-again t c =
+    let a = c .before .before .before .before .before .before .before .before .before .before .before .args in
+    let loop = c .before .before .before .before .before .before .before .loop in
+    each-more (a .work .now) (a .p) (a .list) (a .w) (loop .node) (loop .left) (loop .inv) _ _ (fewer (loop .left) (c .before .before .before .before .before .before .loop-test .taken)) (c .before .before .before .before .before .word .ensures) _ _ _ (c .before .before .before .before .if1 .left) (c .before .before .before .before .before .before .before .before .before .reference .ensures) (c .before .before .before .reference2 .ensures) (c .before .before .part-fits .ensures) _ (not-false _ (c .before .if2 .left)) (c .reference3 .ensures)
+
+-- src/fits.rt:119:9
+each-fits-reference-requires-4 : (t : ℕ) → each-fits-lts.Need-reference-requires-4 (
+  reference-reads.Asked,
+  reference-reads.Learnt,
+  share-reads.Asked,
+  share-reads.Learnt,
+  word-reads.Asked,
+  word-reads.Learnt,
+  part-fits-below t,
+  part-fits.Post,
+  fits-below t,
+  fits.Post,
+) (each-fits-at t) each-fits.Post each-fits-Inv-loop each-fits-μ-loop
+each-fits-reference-requires-4 t c κs =
+    search needs
+
+-- src/fits.rt:120:5
+each-fits-fits-requires : (t : ℕ) → each-fits-lts.Need-fits-requires (
+  reference-reads.Asked,
+  reference-reads.Learnt,
+  share-reads.Asked,
+  share-reads.Learnt,
+  word-reads.Asked,
+  word-reads.Learnt,
+  part-fits-below t,
+  part-fits.Post,
+  fits-below t,
+  fits.Post,
+) (each-fits-at t) each-fits.Post each-fits-Inv-loop each-fits-μ-loop
+each-fits-fits-requires t c κs =
+    let a = c .before .before .before .before .before .before .args in
+    let l = tag-falls (a .work .now) (a .p) 7 (sym (c .before .before .before .before .before .before .pre .1)) 2 _ (λ z. omega arith) (c .reference4 .ensures) in
+    (omega (arith, l, c .before .before .before .before .before .before .pre .0), tt)
+
+-- src/fits.rt:101:1
+each-fits-returns-3 : (t : ℕ) → each-fits-lts.Need-returns-3 (
+  reference-reads.Asked,
+  reference-reads.Learnt,
+  share-reads.Asked,
+  share-reads.Learnt,
+  word-reads.Asked,
+  word-reads.Learnt,
+  part-fits-below t,
+  part-fits.Post,
+  fits-below t,
+  fits.Post,
+) (each-fits-at t) each-fits.Post each-fits-Inv-loop each-fits-μ-loop
+each-fits-returns-3 t c =
+    let a = c .before .before .before .before .before .before .before .args in
+    let loop = c .before .before .before .loop in
+    each-ends (a .work .now) (a .p) (a .list) (a .w) (loop .node) (loop .left) (loop .inv) _ _ (c .before .before .loop-test .left) (c .before .reference4 .ensures) (c .fits2 .ensures)
+
+-- src/fits.rt:50:9
+end-fits-word-requires : (t : ℕ) → end-fits-lts.Need-word-requires (
+  word-reads.Asked,
+  word-reads.Learnt,
+  literal-fits-reads.Asked,
+  literal-fits-reads.Learnt,
+  constant-fits-reads.Asked,
+  constant-fits-reads.Learnt,
+  each-fits-below t,
+  each-fits.Post,
+) (end-fits-at t) end-fits.Post
+end-fits-word-requires t c κs =
+    search needs
+
+-- src/fits.rt:52:9
+end-fits-returns : (t : ℕ) → end-fits-lts.Need-returns (
+  word-reads.Asked,
+  word-reads.Learnt,
+  literal-fits-reads.Asked,
+  literal-fits-reads.Learnt,
+  constant-fits-reads.Asked,
+  constant-fits-reads.Learnt,
+  each-fits-below t,
+  each-fits.Post,
+) (end-fits-at t) end-fits.Post
 end-fits-returns t c =
     let a = c .before .before .before .args in
     let word = c .before .word in
     fits-variable (a .work .now) (a .p) _ (word .ensures) (a .u) (a .w) (c .if1 .taken)
 
-end-fits-returns-2 : (t : ℕ) → end-fits-lts.Need-returns-2 (end-fits-claims t) (end-fits-at t) end-fits.Post
+-- src/fits.rt:55:9
+end-fits-literal-fits-requires : (t : ℕ) → end-fits-lts.Need-literal-fits-requires (
+  word-reads.Asked,
+  word-reads.Learnt,
+  literal-fits-reads.Asked,
+  literal-fits-reads.Learnt,
+  constant-fits-reads.Asked,
+  constant-fits-reads.Learnt,
+  each-fits-below t,
+  each-fits.Post,
+) (end-fits-at t) end-fits.Post
+end-fits-literal-fits-requires t c κs =
+    search needs
+
+-- src/fits.rt:55:9
+end-fits-returns-2 : (t : ℕ) → end-fits-lts.Need-returns-2 (
+  word-reads.Asked,
+  word-reads.Learnt,
+  literal-fits-reads.Asked,
+  literal-fits-reads.Learnt,
+  constant-fits-reads.Asked,
+  constant-fits-reads.Learnt,
+  each-fits-below t,
+  each-fits.Post,
+) (end-fits-at t) end-fits.Post
 end-fits-returns-2 t c =
     let a = c .before .before .before .before .before .args in
     let word = c .before .before .before .word in
@@ -152,37 +395,106 @@ end-fits-returns-2 t c =
     let literal-fits = c .literal-fits in
     fits-literal (a .work .now) (a .p) _ (word .ensures) (a .u) (a .w) _ (if2 .taken) (literal-fits .ensures)
 
-end-fits-returns-3 : (t : ℕ) → end-fits-lts.Need-returns-3 (end-fits-claims t) (end-fits-at t) end-fits.Post
+-- src/fits.rt:58:9
+end-fits-returns-3 : (t : ℕ) → end-fits-lts.Need-returns-3 (
+  word-reads.Asked,
+  word-reads.Learnt,
+  literal-fits-reads.Asked,
+  literal-fits-reads.Learnt,
+  constant-fits-reads.Asked,
+  constant-fits-reads.Learnt,
+  each-fits-below t,
+  each-fits.Post,
+) (end-fits-at t) end-fits.Post
 end-fits-returns-3 t c =
     let a = c .before .before .before .before .before .args in
     let word = c .before .before .before .word in
     fits-wildcard (a .work .now) (a .p) _ (word .ensures) (a .u) (a .w) (c .if3 .taken)
 
-end-fits-returns-4 : (t : ℕ) → end-fits-lts.Need-returns-4 (end-fits-claims t) (end-fits-at t) end-fits.Post
+-- src/fits.rt:61:9
+end-fits-constant-fits-requires : (t : ℕ) → end-fits-lts.Need-constant-fits-requires (
+  word-reads.Asked,
+  word-reads.Learnt,
+  literal-fits-reads.Asked,
+  literal-fits-reads.Learnt,
+  constant-fits-reads.Asked,
+  constant-fits-reads.Learnt,
+  each-fits-below t,
+  each-fits.Post,
+) (end-fits-at t) end-fits.Post
+end-fits-constant-fits-requires t c κs =
+    search needs
+
+-- src/fits.rt:61:9
+end-fits-returns-4 : (t : ℕ) → end-fits-lts.Need-returns-4 (
+  word-reads.Asked,
+  word-reads.Learnt,
+  literal-fits-reads.Asked,
+  literal-fits-reads.Learnt,
+  constant-fits-reads.Asked,
+  constant-fits-reads.Learnt,
+  each-fits-below t,
+  each-fits.Post,
+) (end-fits-at t) end-fits.Post
 end-fits-returns-4 t c =
     let a = c .before .before .before .before .before .before .before .args in
     let word = c .before .before .before .before .before .word in
     let if4 = c .before .if4 in
     fits-constant (a .work .now) (a .p) _ (word .ensures) (a .u) (a .w) _ (if4 .taken) (c .constant-fits .ensures)
 
-end-fits-each-fits-requires : (t : ℕ) → end-fits-lts.Need-each-fits-requires (end-fits-claims t) (end-fits-at t) end-fits.Post
+-- src/fits.rt:64:9
+end-fits-each-fits-requires : (t : ℕ) → end-fits-lts.Need-each-fits-requires (
+  word-reads.Asked,
+  word-reads.Learnt,
+  literal-fits-reads.Asked,
+  literal-fits-reads.Learnt,
+  constant-fits-reads.Asked,
+  constant-fits-reads.Learnt,
+  each-fits-below t,
+  each-fits.Post,
+) (end-fits-at t) end-fits.Post
 end-fits-each-fits-requires t c κs =
-    let a = c .before .before .before .before .before .before .before .before .args in
-    let pre = c .before .before .before .before .before .before .before .before .pre in
-    let word = c .before .before .before .before .before .before .word in
-    let reference = c .reference in
-    (omega (arith, tag-falls (a .work .now) (a .p) _ (word .ensures) 2 _ (λ z. omega arith) (reference .ensures)), tt)
+    (omega (arith, c .before .before .before .before .before .before .before .pre .0), sym (c .before .before .before .before .before .word .ensures) ∙ c .if5 .taken)
 
-end-fits-returns-5 : (t : ℕ) → end-fits-lts.Need-returns-5 (end-fits-claims t) (end-fits-at t) end-fits.Post
+-- src/fits.rt:64:9
+end-fits-returns-5 : (t : ℕ) → end-fits-lts.Need-returns-5 (
+  word-reads.Asked,
+  word-reads.Learnt,
+  literal-fits-reads.Asked,
+  literal-fits-reads.Learnt,
+  constant-fits-reads.Asked,
+  constant-fits-reads.Learnt,
+  each-fits-below t,
+  each-fits.Post,
+) (end-fits-at t) end-fits.Post
 end-fits-returns-5 t c =
-    let a = c .before .before .before .before .before .before .before .before .before .args in
-    let word = c .before .before .before .before .before .before .before .word in
-    let if5 = c .before .before .if5 in
-    let reference = c .before .reference in
-    let each-fits = c .each-fits in
-    fits-ellipsis (a .work .now) (a .p) _ (word .ensures) (a .u) (a .w) _ _ (if5 .taken) (reference .ensures) (each-fits .ensures)
+    c .each-fits .ensures
 
-end-fits-returns-6 : (t : ℕ) → end-fits-lts.Need-returns-6 (end-fits-claims t) (end-fits-at t) end-fits.Post
+-- src/fits.rt:66:5
+end-fits-word-requires-2 : (t : ℕ) → end-fits-lts.Need-word-requires-2 (
+  word-reads.Asked,
+  word-reads.Learnt,
+  literal-fits-reads.Asked,
+  literal-fits-reads.Learnt,
+  constant-fits-reads.Asked,
+  constant-fits-reads.Learnt,
+  each-fits-below t,
+  each-fits.Post,
+) (end-fits-at t) end-fits.Post
+end-fits-word-requires-2 t c κs =
+    search needs
+
+-- src/fits.rt:46:1
+end-fits-returns-6 : (t : ℕ) → end-fits-lts.Need-returns-6 (
+  word-reads.Asked,
+  word-reads.Learnt,
+  literal-fits-reads.Asked,
+  literal-fits-reads.Learnt,
+  constant-fits-reads.Asked,
+  constant-fits-reads.Learnt,
+  each-fits-below t,
+  each-fits.Post,
+) (end-fits-at t) end-fits.Post
 end-fits-returns-6 t c =
     let a = c .before .before .before .before .before .before .before .before .args in
     let pre = c .before .before .before .before .before .before .before .before .pre in
@@ -194,12 +506,68 @@ end-fits-returns-6 t c =
     let if5 = c .before .if5 in
     fits-empty (a .work .now) (a .p) _ (word .ensures) (a .u) (a .w) _ (c .word2 .ensures) (if1 .left) (if2 .left) (if3 .left) (if4 .left) (pre .1) (if5 .left)
 
-fits-loop-holds : (t : ℕ) → fits-lts.Need-loop-holds (fits-claims t) (fits-at t) fits.Post fits-Inv-loop fits-μ-loop
+abbrev fits-Inv-loop : fits-lts.InvT-loop
+fits-Inv-loop work p u w at₀ node₀ at node =
+    Along work p u w at node
+
+abbrev fits-μ-loop : fits-lts.MeasureT-loop
+fits-μ-loop work p u w at₀ node₀ at node =
+    at
+
+-- src/fits.rt:85:5
+fits-loop-holds : (t : ℕ) → fits-lts.Need-loop-holds (
+  word-reads.Asked,
+  word-reads.Learnt,
+  reference-reads.Asked,
+  reference-reads.Learnt,
+  part-fits-below t,
+  part-fits.Post,
+  end-fits-below t,
+  end-fits.Post,
+) (fits-at t) fits.Post fits-Inv-loop fits-μ-loop
 fits-loop-holds t c =
     let a = c .before .args in
     along-begins (a .work .now) (a .p) (a .u) (a .w)
 
-fits-returns : (t : ℕ) → fits-lts.Need-returns (fits-claims t) (fits-at t) fits.Post fits-Inv-loop fits-μ-loop
+-- src/fits.rt:85:11
+fits-word-requires : (t : ℕ) → fits-lts.Need-word-requires (
+  word-reads.Asked,
+  word-reads.Learnt,
+  reference-reads.Asked,
+  reference-reads.Learnt,
+  part-fits-below t,
+  part-fits.Post,
+  end-fits-below t,
+  end-fits.Post,
+) (fits-at t) fits.Post fits-Inv-loop fits-μ-loop
+fits-word-requires t c κs =
+    search needs
+
+-- src/fits.rt:86:12
+fits-word-requires-2 : (t : ℕ) → fits-lts.Need-word-requires-2 (
+  word-reads.Asked,
+  word-reads.Learnt,
+  reference-reads.Asked,
+  reference-reads.Learnt,
+  part-fits-below t,
+  part-fits.Post,
+  end-fits-below t,
+  end-fits.Post,
+) (fits-at t) fits.Post fits-Inv-loop fits-μ-loop
+fits-word-requires-2 t c κs =
+    search needs
+
+-- src/fits.rt:87:13
+fits-returns : (t : ℕ) → fits-lts.Need-returns (
+  word-reads.Asked,
+  word-reads.Learnt,
+  reference-reads.Asked,
+  reference-reads.Learnt,
+  part-fits-below t,
+  part-fits.Post,
+  end-fits-below t,
+  end-fits.Post,
+) (fits-at t) fits.Post fits-Inv-loop fits-μ-loop
 fits-returns t c =
     let a = c .before .before .before .before .before .before .args in
     let loop = c .before .before .before .before .loop in
@@ -208,7 +576,45 @@ fits-returns t c =
     let word2 = c .before .word2 in
     along-ends (a .work .now) (a .p) (a .u) (a .w) (loop .at) (loop .node) (loop .inv) _ (fits-no-pair (a .work .now) (loop .at) _ (word .ensures) (loop .node) (a .w) _ (word2 .ensures) (if1 .taken) (c .if2 .taken))
 
-fits-part-fits-requires : (t : ℕ) → fits-lts.Need-part-fits-requires (fits-claims t) (fits-at t) fits.Post fits-Inv-loop fits-μ-loop
+-- src/fits.rt:89:13
+fits-reference-requires : (t : ℕ) → fits-lts.Need-reference-requires (
+  word-reads.Asked,
+  word-reads.Learnt,
+  reference-reads.Asked,
+  reference-reads.Learnt,
+  part-fits-below t,
+  part-fits.Post,
+  end-fits-below t,
+  end-fits.Post,
+) (fits-at t) fits.Post fits-Inv-loop fits-μ-loop
+fits-reference-requires t c κs =
+    search needs
+
+-- src/fits.rt:90:13
+fits-reference-requires-2 : (t : ℕ) → fits-lts.Need-reference-requires-2 (
+  word-reads.Asked,
+  word-reads.Learnt,
+  reference-reads.Asked,
+  reference-reads.Learnt,
+  part-fits-below t,
+  part-fits.Post,
+  end-fits-below t,
+  end-fits.Post,
+) (fits-at t) fits.Post fits-Inv-loop fits-μ-loop
+fits-reference-requires-2 t c κs =
+    search needs
+
+-- src/fits.rt:91:13
+fits-part-fits-requires : (t : ℕ) → fits-lts.Need-part-fits-requires (
+  word-reads.Asked,
+  word-reads.Learnt,
+  reference-reads.Asked,
+  reference-reads.Learnt,
+  part-fits-below t,
+  part-fits.Post,
+  end-fits-below t,
+  end-fits.Post,
+) (fits-at t) fits.Post fits-Inv-loop fits-μ-loop
 fits-part-fits-requires t c κs =
     let a = c .before .before .before .before .before .before .before .before .args in
     let loop = c .before .before .before .before .before .before .loop in
@@ -216,7 +622,17 @@ fits-part-fits-requires t c κs =
     let reference = c .before .reference in
     omega (arith, loop .inv .low, tag-falls (a .work .now) (loop .at) _ (word .ensures) 3 _ (λ z. omega arith) (reference .ensures))
 
-fits-returns-2 : (t : ℕ) → fits-lts.Need-returns-2 (fits-claims t) (fits-at t) fits.Post fits-Inv-loop fits-μ-loop
+-- src/fits.rt:92:13
+fits-returns-2 : (t : ℕ) → fits-lts.Need-returns-2 (
+  word-reads.Asked,
+  word-reads.Learnt,
+  reference-reads.Asked,
+  reference-reads.Learnt,
+  part-fits-below t,
+  part-fits.Post,
+  end-fits-below t,
+  end-fits.Post,
+) (fits-at t) fits.Post fits-Inv-loop fits-μ-loop
 fits-returns-2 t c =
     let a = c .before .before .before .before .before .before .before .before .before .before .args in
     let loop = c .before .before .before .before .before .before .before .before .loop in
@@ -229,7 +645,45 @@ fits-returns-2 t c =
     let part-fits = c .before .part-fits in
     along-ends (a .work .now) (a .p) (a .u) (a .w) (loop .at) (loop .node) (loop .inv) _ (fits-head-no (a .work .now) (loop .at) _ (word .ensures) (loop .node) (a .w) _ (word2 .ensures) _ _ _ (if1 .taken) (if2 .left) (reference .ensures) (reference2 .ensures) (part-fits .ensures) (not-true _ (c .if3 .taken)))
 
-fits-loop-less : (t : ℕ) → fits-lts.Need-loop-less (fits-claims t) (fits-at t) fits.Post fits-Inv-loop fits-μ-loop
+-- src/fits.rt:94:9
+fits-reference-requires-3 : (t : ℕ) → fits-lts.Need-reference-requires-3 (
+  word-reads.Asked,
+  word-reads.Learnt,
+  reference-reads.Asked,
+  reference-reads.Learnt,
+  part-fits-below t,
+  part-fits.Post,
+  end-fits-below t,
+  end-fits.Post,
+) (fits-at t) fits.Post fits-Inv-loop fits-μ-loop
+fits-reference-requires-3 t c κs =
+    search needs
+
+-- src/fits.rt:95:9
+fits-reference-requires-4 : (t : ℕ) → fits-lts.Need-reference-requires-4 (
+  word-reads.Asked,
+  word-reads.Learnt,
+  reference-reads.Asked,
+  reference-reads.Learnt,
+  part-fits-below t,
+  part-fits.Post,
+  end-fits-below t,
+  end-fits.Post,
+) (fits-at t) fits.Post fits-Inv-loop fits-μ-loop
+fits-reference-requires-4 t c κs =
+    search needs
+
+-- src/fits.rt:85:5
+fits-loop-less : (t : ℕ) → fits-lts.Need-loop-less (
+  word-reads.Asked,
+  word-reads.Learnt,
+  reference-reads.Asked,
+  reference-reads.Learnt,
+  part-fits-below t,
+  part-fits.Post,
+  end-fits-below t,
+  end-fits.Post,
+) (fits-at t) fits.Post fits-Inv-loop fits-μ-loop
 fits-loop-less t c =
     let a = c .before .before .before .before .before .before .before .before .before .before .before .before .args in
     let loop = c .before .before .before .before .before .before .before .before .before .before .loop in
@@ -237,7 +691,17 @@ fits-loop-less t c =
     let reference3 = c .before .reference3 in
     tag-falls (a .work .now) (loop .at) _ (word .ensures) 2 _ (λ z. omega arith) (reference3 .ensures)
 
-fits-loop-again : (t : ℕ) → fits-lts.Need-loop-again (fits-claims t) (fits-at t) fits.Post fits-Inv-loop fits-μ-loop
+-- src/fits.rt:85:5
+fits-loop-again : (t : ℕ) → fits-lts.Need-loop-again (
+  word-reads.Asked,
+  word-reads.Learnt,
+  reference-reads.Asked,
+  reference-reads.Learnt,
+  part-fits-below t,
+  part-fits.Post,
+  end-fits-below t,
+  end-fits.Post,
+) (fits-at t) fits.Post fits-Inv-loop fits-μ-loop
 fits-loop-again t c =
     let a = c .before .before .before .before .before .before .before .before .before .before .before .before .args in
     let loop = c .before .before .before .before .before .before .before .before .before .before .loop in
@@ -252,32 +716,80 @@ fits-loop-again t c =
     let reference3 = c .before .reference3 in
     along-more (a .work .now) (a .p) (a .u) (a .w) (loop .at) (loop .node) (loop .inv) _ _ (reference3 .ensures) (fits-tail (a .work .now) (loop .at) _ (word .ensures) (loop .node) (a .w) _ (word2 .ensures) _ _ _ (if1 .taken) (if2 .left) (reference .ensures) (reference2 .ensures) (part-fits .ensures) _ _ (not-false _ (if3 .left)) (reference3 .ensures) (c .reference4 .ensures))
 
-fits-end-fits-requires : (t : ℕ) → fits-lts.Need-end-fits-requires (fits-claims t) (fits-at t) fits.Post fits-Inv-loop fits-μ-loop
+-- src/fits.rt:97:5
+fits-end-fits-requires : (t : ℕ) → fits-lts.Need-end-fits-requires (
+  word-reads.Asked,
+  word-reads.Learnt,
+  reference-reads.Asked,
+  reference-reads.Learnt,
+  part-fits-below t,
+  part-fits.Post,
+  end-fits-below t,
+  end-fits.Post,
+) (fits-at t) fits.Post fits-Inv-loop fits-μ-loop
 fits-end-fits-requires t c κs =
     let loop = c .before .before .loop in
     let word = c .before .word in
     let if1 = c .if1 in
     (omega (arith, loop .inv .low), λ z. if1 .left (word .ensures ∙ z))
 
-fits-returns-3 : (t : ℕ) → fits-lts.Need-returns-3 (fits-claims t) (fits-at t) fits.Post fits-Inv-loop fits-μ-loop
+-- src/fits.rt:80:1
+fits-returns-3 : (t : ℕ) → fits-lts.Need-returns-3 (
+  word-reads.Asked,
+  word-reads.Learnt,
+  reference-reads.Asked,
+  reference-reads.Learnt,
+  part-fits-below t,
+  part-fits.Post,
+  end-fits-below t,
+  end-fits.Post,
+) (fits-at t) fits.Post fits-Inv-loop fits-μ-loop
 fits-returns-3 t c =
     let a = c .before .before .before .before .before .args in
     let loop = c .before .before .before .loop in
     let end-fits = c .end-fits in
     along-ends (a .work .now) (a .p) (a .u) (a .w) (loop .at) (loop .node) (loop .inv) _ (end-fits .ensures)
 
-part-fits-returns : (t : ℕ) → part-fits-lts.Need-returns (part-fits-claims t) (part-fits-at t) part-fits.Post
+-- src/fits.rt:73:8
+part-fits-word-requires : (t : ℕ) → part-fits-lts.Need-word-requires (
+  word-reads.Asked,
+  word-reads.Learnt,
+  fits-below t,
+  fits.Post,
+) (part-fits-at t) part-fits.Post
+part-fits-word-requires t c κs =
+    search needs
+
+-- src/fits.rt:74:9
+part-fits-returns : (t : ℕ) → part-fits-lts.Need-returns (
+  word-reads.Asked,
+  word-reads.Learnt,
+  fits-below t,
+  fits.Post,
+) (part-fits-at t) part-fits.Post
 part-fits-returns t c =
     let a = c .before .before .before .args in
     let word = c .before .word in
     fits-variable (a .work .now) (a .p) _ (word .ensures) (a .u) (a .w) (c .if1 .taken)
 
-part-fits-fits-requires : (t : ℕ) → part-fits-lts.Need-fits-requires (part-fits-claims t) (part-fits-at t) part-fits.Post
+-- src/fits.rt:76:5
+part-fits-fits-requires : (t : ℕ) → part-fits-lts.Need-fits-requires (
+  word-reads.Asked,
+  word-reads.Learnt,
+  fits-below t,
+  fits.Post,
+) (part-fits-at t) part-fits.Post
 part-fits-fits-requires t c κs =
     let pre = c .before .before .before .pre in
     (omega arith, pre .1)
 
-part-fits-returns-2 : (t : ℕ) → part-fits-lts.Need-returns-2 (part-fits-claims t) (part-fits-at t) part-fits.Post
+-- src/fits.rt:70:1
+part-fits-returns-2 : (t : ℕ) → part-fits-lts.Need-returns-2 (
+  word-reads.Asked,
+  word-reads.Learnt,
+  fits-below t,
+  fits.Post,
+) (part-fits-at t) part-fits.Post
 part-fits-returns-2 t c =
     let fits2 = c .fits2 in
     fits2 .ensures
@@ -285,27 +797,36 @@ part-fits-returns-2 t c =
 pub +each-fits+end-fits+fits+part-fits-spec : {M : Type 1} → statement M
 +each-fits+end-fits+fits+part-fits-spec =
     close μ-each-fits μ-end-fits μ-fits μ-part-fits (λ t. each-fits-lts.spec (
-      word-reads.Asked,
-      word-reads.Learnt,
       reference-reads.Asked,
       reference-reads.Learnt,
+      share-reads.Asked,
+      share-reads.Learnt,
+      word-reads.Asked,
+      word-reads.Learnt,
       part-fits-below t,
       part-fits.Post,
+      fits-below t,
+      fits.Post,
     )
     (each-fits-at t)
     each-fits.Post
     each-fits-Inv-loop
     each-fits-μ-loop
+    (each-fits-reference-requires t)
+    (each-fits-share-requires t)
     (each-fits-loop-holds t)
-    (λ c κs. search needs)  -- each-fits-word-requires
-    (λ c κs. search needs)  -- each-fits-reference-requires
-    (each-fits-part-fits-requires t)
+    (each-fits-word-requires t)
     (each-fits-returns t)
-    (λ c κs. search needs)  -- each-fits-reference-requires-2
+    (each-fits-reference-requires-2 t)
+    (each-fits-part-fits-requires t)
+    (each-fits-returns-2 t)
+    (each-fits-reference-requires-3 t)
+    (each-fits-sub-left t)
     (each-fits-loop-less t)
     (each-fits-loop-again t)
-    (λ c κs. search needs)  -- each-fits-word-requires-2
-    (each-fits-returns-2 t))
+    (each-fits-reference-requires-4 t)
+    (each-fits-fits-requires t)
+    (each-fits-returns-3 t))
     (λ t. end-fits-lts.spec (
       word-reads.Asked,
       word-reads.Learnt,
@@ -313,24 +834,21 @@ pub +each-fits+end-fits+fits+part-fits-spec : {M : Type 1} → statement M
       literal-fits-reads.Learnt,
       constant-fits-reads.Asked,
       constant-fits-reads.Learnt,
-      reference-reads.Asked,
-      reference-reads.Learnt,
       each-fits-below t,
       each-fits.Post,
     )
     (end-fits-at t)
     end-fits.Post
-    (λ c κs. search needs)  -- end-fits-word-requires
+    (end-fits-word-requires t)
     (end-fits-returns t)
-    (λ c κs. search needs)  -- end-fits-literal-fits-requires
+    (end-fits-literal-fits-requires t)
     (end-fits-returns-2 t)
     (end-fits-returns-3 t)
-    (λ c κs. search needs)  -- end-fits-constant-fits-requires
+    (end-fits-constant-fits-requires t)
     (end-fits-returns-4 t)
-    (λ c κs. search needs)  -- end-fits-reference-requires
     (end-fits-each-fits-requires t)
     (end-fits-returns-5 t)
-    (λ c κs. search needs)  -- end-fits-word-requires-2
+    (end-fits-word-requires-2 t)
     (end-fits-returns-6 t))
     (λ t. fits-lts.spec (
       word-reads.Asked,
@@ -347,15 +865,15 @@ pub +each-fits+end-fits+fits+part-fits-spec : {M : Type 1} → statement M
     fits-Inv-loop
     fits-μ-loop
     (fits-loop-holds t)
-    (λ c κs. search needs)  -- fits-word-requires
-    (λ c κs. search needs)  -- fits-word-requires-2
+    (fits-word-requires t)
+    (fits-word-requires-2 t)
     (fits-returns t)
-    (λ c κs. search needs)  -- fits-reference-requires
-    (λ c κs. search needs)  -- fits-reference-requires-2
+    (fits-reference-requires t)
+    (fits-reference-requires-2 t)
     (fits-part-fits-requires t)
     (fits-returns-2 t)
-    (λ c κs. search needs)  -- fits-reference-requires-3
-    (λ c κs. search needs)  -- fits-reference-requires-4
+    (fits-reference-requires-3 t)
+    (fits-reference-requires-4 t)
     (fits-loop-less t)
     (fits-loop-again t)
     (fits-end-fits-requires t)
@@ -364,7 +882,7 @@ pub +each-fits+end-fits+fits+part-fits-spec : {M : Type 1} → statement M
     (word-reads.Asked, word-reads.Learnt, fits-below t, fits.Post)
     (part-fits-at t)
     part-fits.Post
-    (λ c κs. search needs)  -- part-fits-word-requires
+    (part-fits-word-requires t)
     (part-fits-returns t)
     (part-fits-fits-requires t)
     (part-fits-returns-2 t)
