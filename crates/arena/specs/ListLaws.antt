@@ -9,13 +9,13 @@ use lib.ListN.{length}
 use borrow.Author.Tests.{eqb-true, eqb-false, eq-eqb, ne-eqb}
 use Rattle.datum.specs.Constant.{Constant}
 use Rattle.recipe.specs.Name.{Name, isOrdinary, isEllipsis, isWildcard}
-use Rattle.recipe.specs.Tree.{Tree, empty, constant, name, pair, onEmpty, onName, onPair, isName, isOrdinaryName, isList, isListOf, elements, element, tail}
-use Rattle.recipe.specs.TreeLaws.{element-tail}
+use Rattle.recipe.specs.Tree.{Tree, empty, constant, name, pair, onEmpty, onName, onPair, isName, isOrdinaryName, isList, isListOf, elements, element, tail, past}
+use Rattle.recipe.specs.TreeLaws.{element-past}
 use Rattle.arena.specs.Arena.{wordAt, referenceAt, nameAt, constantAt, treeAt, numberOf}
 use Rattle.words.specs.ListLaws.{either}
 use Rattle.arena.specs.ArenaLaws.{wordAt-some, wordAt-none, referenceAt-most, referenceAt-falls}
 use Rattle.arena.specs.NodeLaws.{treeAt-empty, treeAt-name, treeAt-pair, treeAt-constant, nameAt-number}
-use Rattle.arena.specs.Lists.{Means, Counts, Tests, Counted, Walked}
+use Rattle.arena.specs.Lists.{Means, Counts, Tests, Counted, Skipped}
 
 -- ---- what a node can be
 
@@ -120,21 +120,26 @@ count-begins work list = record { is = λ w. omega arith; low = omega arith }
 
 -- ---- walking to an element
 
-module _ (work : List ℕ) (list i : ℕ) where
-  pub walk-begins : Walked work list i list i
-  walk-begins = record { is = λ w. refl; low = omega arith }
+module _ (work : List ℕ) (list n : ℕ) where
+  pub skip-begins : Skipped work list n list n
+  skip-begins = record { is = λ w. refl; low = omega arith }
 
-  pub walk-more : (node k r : ℕ) → (k ≡ 0 → ⊥) → Means work node r tail → Walked work list i node k → Walked work list i r (k - 1)
-  walk-more node zero r p m c = absurd (p refl)
-  walk-more node (suc k) r p m c =
+  pub skip-more : (node k r : ℕ) → (k ≡ 0 → ⊥) → Means work node r tail → Skipped work list n node k → Skipped work list n r (k - 1)
+  unfolding past
+  skip-more node zero r p m c = absurd (p refl)
+  skip-more node (suc k) r p m c =
       let e : suc k - 1 ≡ k = omega arith in
       record {
-        is = λ w. c .is w ∙ sym (element-tail k _) ∙ rw (e, m .is w) refl;
+        is = λ w. c .is w ∙ rw (e, m .is w) refl;
         low = omega (arith, m .low, c .low);
       }
 
-  pub walk-ends : (node k r : ℕ) → k ≡ 0 → Means work node r (element 0) → Walked work list i node k → Means work list r (element i)
-  walk-ends node k r e m c = record { is = λ w. m .is w ∙ sym (c .is w ∙ rw e); low = omega (arith, m .low, c .low) }
+  pub skip-ends : (node k : ℕ) → k ≡ 0 → Skipped work list n node k → Means work list node (past n)
+  unfolding past
+  skip-ends node k e c = record { is = λ w. sym (c .is w ∙ rw e refl); low = c .low }
+
+  pub skip-first : (node r : ℕ) → Means work list node (past n) → Means work node r (element 0) → Means work list r (element n)
+  skip-first node r c m = record { is = λ w. m .is w ∙ ap (element 0) (c .is w) ∙ element-past n (treeAt work list w); low = omega (arith, m .low, c .low) }
 
 -- ---- lists of n elements
 

@@ -4,7 +4,7 @@ use mathlib.Core.Bool.{Bool}
 use mathlib.Core.List.{List}
 use Prim.Native.Nat.{ℕ, _+_, _≤_}
 use lib.ListN.{length}
-use Rattle.recipe.specs.Tree.{Tree, elements, element}
+use Rattle.recipe.specs.Tree.{Tree, elements, past}
 use Rattle.arena.specs.Arena.{treeAt}
 
 -- r is f of the node, and a reference no higher
@@ -26,7 +26,7 @@ pub record Counted (work : List ℕ) (list node k : ℕ) : Type 0 where
   pub is : (w : ℕ) → length (elements (treeAt work list w)) ≡ k + length (elements (treeAt work node w))
   pub low : node + k ≤ list
 
--- element i of the list is element k of the node
-pub record Walked (work : List ℕ) (list i node k : ℕ) : Type 0 where
-  pub is : (w : ℕ) → element i (treeAt work list w) ≡ element k (treeAt work node w)
+-- the list after its first n elements is the node after its first k
+pub record Skipped (work : List ℕ) (list n node k : ℕ) : Type 0 where
+  pub is : (w : ℕ) → past n (treeAt work list w) ≡ past k (treeAt work node w)
   pub low : node ≤ list

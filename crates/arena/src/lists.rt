@@ -1,7 +1,7 @@
 // Lists in the arena: elements, tails, lengths, tests. Node 0 is the empty list, which is answered where there is none to answer.
 // What a node means is said under every wrap, since opening a list hands its wrap on.
 
-ghost use Rattle.recipe.specs.Tree.{element, tail, isList, isListOf};
+ghost use Rattle.recipe.specs.Tree.{element, tail, past, isList, isListOf};
 ghost use Rattle.arena.specs.Lists.{Means, Counts, Tests};
 use crate::cells;
 
@@ -25,16 +25,24 @@ pub fn rest(work: &[u32], node: u32) -> u32
     cells::reference(work, node, cells::TAIL)
 }
 
-// Element i of a list, from 0.
-pub fn element(work: &[u32], list: u32, i: u32) -> u32
-    ensures { λ r. ⌜ Means (now (work .entry)) list r (element i) ⌝ }
+// The list after its first n elements.
+pub fn skip(work: &[u32], list: u32, n: u32) -> u32
+    ensures { λ r. ⌜ Means (now (work .entry)) list r (past n) ⌝ }
 {
     let mut node = list;
-    let mut k = i;
+    let mut k = n;
     while k != 0 {
         node = rest(work, node);
         k -= 1;
     }
+    node
+}
+
+// Element i of a list, from 0.
+pub fn element(work: &[u32], list: u32, i: u32) -> u32
+    ensures { λ r. ⌜ Means (now (work .entry)) list r (element i) ⌝ }
+{
+    let node = skip(work, list, i);
     first(work, node)
 }
 

@@ -1,17 +1,18 @@
 -- Laws of the environment of a pattern and a use, as a table: one for each way through the code.
 use mathlib.Core.Path.{_≡_, refl, sym, ap, _∙_}
-use mathlib.Core.Bool.{Bool, true, false, cond, _||_, true≢false, false≢true}
+use mathlib.Core.Bool.{Bool, true, false, cond, _&&_, _||_, true≢false, false≢true}
 use mathlib.Core.List.{List}
 use Prim.Native.Nat.{ℕ, _≤_}
 use native.Mathlib.Omega.{arith}
+use lib.Dec.{eqb}
 use borrow.Author.Tests.{eqb-true, eqb-false, ne-eqb}
 use Rattle.words.specs.ListLaws.{whole, either}
 use Rattle.words.specs.Parts.{rest}
 use Rattle.words.specs.Limits.{patternVariablesMost}
-use Rattle.recipe.specs.Tree.{element, tail}
-use Rattle.expansion.specs.Rules.{pairP}
-use Rattle.expansion.specs.Match.{holds, part}
-use Rattle.arena.specs.Arena.{wordAt, referenceAt}
+use Rattle.recipe.specs.Tree.{element, tail, past}
+use Rattle.expansion.specs.Rules.{variableP, pairP, ellipsisP}
+use Rattle.expansion.specs.Match.{share, holds, part}
+use Rattle.arena.specs.Arena.{wordAt, referenceAt, treeAt}
 use Rattle.arena.specs.ArenaLaws.{wordAt-none, referenceAt-most}
 use Rattle.arena.specs.Lists.{Means}
 use Rattle.rule_cells.specs.Cells.{patternAt}
@@ -19,9 +20,10 @@ use Rattle.rule_cells.specs.CellLaws.{patternAt-variable, patternAt-pair, patte
 use Rattle.environments.specs.declared.environment.Entry.{Entry}
 use Rattle.environments.specs.PartLaws.{holds-none}
 use Rattle.environments.specs.Environment.{entered, enteredNext, taking, environment}
-use Rattle.environments.specs.Entries.{entryAt, patternIn, takingOf, Low, Stored}
-use Rattle.environments.specs.EntryLaws.{patternIn-some}
-use Rattle.environments.specs.Bind.{bound, BindsOne, secondOf, BindsList, Binds}
+use Rattle.environments.specs.Entries.{entryAt, ellipsisIn, takingOf, Low, Stored}
+use Rattle.environments.specs.EntryLaws.{ellipsisIn-some}
+use Rattle.environments.specs.Bind.{bound, BindsOne, secondOf, innerSecond, BindsList, Binds}
+use Rattle.environments.specs.Parts.{Shares}
 
 -- ---- of a work table, what is so of the part that is all of it
 
@@ -56,6 +58,25 @@ both-false : (a b : Bool) → a || b ≡ false → (a ≡ false) × (b ≡ false
 both-false true b h = absurd (true≢false h)
 both-false false b h = (refl, h)
 
+-- ---- the second ellipsis inside an element
+
+-- a variable has none of its own
+variable-second : (work : List ℕ) (second k j : ℕ) → ellipsisIn work second ≡ secondOf work second k (variableP j)
+unfolding secondOf entered ellipsisIn
+variable-second work second k j = either (eqb second 0) (λ e. rw e refl) (λ e. rw e refl)
+
+pub inner-plain : (tag p second : ℕ) → (tag ≡ 7 → ⊥) → second ≡ innerSecond tag p second
+unfolding innerSecond
+inner-plain tag p second n = rw (ne-eqb tag 7 n) refl
+
+pub inner-known : (tag p second : ℕ) → tag ≡ 7 → (second ≡ 0 → ⊥) → second ≡ innerSecond tag p second
+unfolding innerSecond
+inner-known tag p second e n = rw (e, ne-eqb second 0 n) refl
+
+pub inner-own : (tag p second : ℕ) → tag ≡ 7 → second ≡ 0 → p ≡ innerSecond tag p second
+unfolding innerSecond
+inner-own tag p second e z = rw (e, z) refl
+
 -- ---- the variables of an element, and of a pattern
 
 module _ (work : List ℕ) (p tag : ℕ) (tag-is : tag ≡ wordAt work p 1) (old : List ℕ) where
@@ -70,75 +91,101 @@ module _ (work : List ℕ) (p tag : ℕ) (tag-is : tag ≡ wordAt work p 1) (old
 
     module _ (new : List ℕ) where
       pub list-variable : (j : ℕ) → tag ≡ 1 → j ≡ wordAt work p 2 → BindsOne j (bound list first second) old new → BindsList work p list first second old new
-      unfolding holds secondOf entered patternIn bound
+      unfolding holds bound
       list-variable j e j-is c =
           record {
             held = λ k l h.
                 let s : k ≡ j = eqb-true k j (rw (patternAt-variable work p (sym tag-is ∙ e), ← j-is) at h) in
                 let is : entryAt new k ≡ bound list first second = ap (entryAt new) s ∙ c .here (omega arith) in
-                (is ∙ rw is refl, rw (is, patternAt-variable work p (sym tag-is ∙ e)) refl);
+                (is ∙ rw is refl, rw (is, patternAt-variable work p (sym tag-is ∙ e)) (variable-second work second k _));
             other = λ k h. c .other k (eqb-false k j (rw (patternAt-variable work p (sym tag-is ∙ e), ← j-is) at h));
             low = λ b q r s t u. c .low b (bound-low list first second b r s t) u;
           }
 
-      module _ (rest : ℕ) (ellipsis : tag ≡ 7) (rest-is : rest ≡ referenceAt work p 2) where
-        -- the first ellipsis within the element
-        pub list-second : second ≡ 0 → BindsList work rest list first rest old new → BindsList work p list first second old new
-        unfolding holds secondOf entered
-        list-second e c =
-            record {
-              held = λ k l h.
-                  let g : holds k (patternAt work rest) ≡ true = rw (patternAt-ellipsis work p (sym tag-is ∙ ellipsis), ← rest-is) at h in
-                  let d = c .held k l g in
-                  (d .0, d .1 ∙ rw (e, patternAt-ellipsis work p (sym tag-is ∙ ellipsis), ← rest-is, ne-eqb rest 0 (some-cell work rest k g)) refl);
-              other = λ k h. c .other k (rw (patternAt-ellipsis work p (sym tag-is ∙ ellipsis), ← rest-is) at h);
-              low = λ b q r s t u. let l : rest ≤ b = omega (arith, referenceAt-most work p 2) in c .low b l r s l u;
-            }
+  -- a pair or an ellipsis: first the rest, then the head
+  module _ (head rest : ℕ) (rest-is : rest ≡ referenceAt work p 2) (head-is : head ≡ referenceAt work p 3) (mid new : List ℕ) where
+    module _ (low : 6 ≤ tag) (high : tag ≤ 7) where
+      both-is : (k : ℕ) → holds k (patternAt work p) ≡ (holds k (patternAt work head) || holds k (patternAt work rest))
+      unfolding holds
+      both-is k =
+          either (eqb tag 7)
+          (λ e. rw (head-is, rest-is) (ap (holds k) (patternAt-ellipsis work p (sym tag-is ∙ eqb-true tag 7 e))))
+          (λ e. let s : tag ≡ 6 = omega (arith, eqb-false tag 7 e) in rw (head-is, rest-is) (ap (holds k) (patternAt-pair work p (sym tag-is ∙ s))))
 
-        pub list-known : (second ≡ 0 → ⊥) → BindsList work rest list first second old new → BindsList work p list first second old new
-        unfolding holds secondOf
-        list-known n c =
-            record {
-              held = λ k l h.
-                  let d = c .held k l (rw (patternAt-ellipsis work p (sym tag-is ∙ ellipsis), ← rest-is) at h) in
-                  (d .0, d .1 ∙ rw (ne-eqb second 0 n) refl);
-              other = λ k h. c .other k (rw (patternAt-ellipsis work p (sym tag-is ∙ ellipsis), ← rest-is) at h);
-              low = λ b q r s t u. c .low b (omega (arith, referenceAt-most work p 2)) r s t u;
-            }
+      neither : (k : ℕ) → holds k (patternAt work p) ≡ false → (holds k (patternAt work head) ≡ false) × (holds k (patternAt work rest) ≡ false)
+      neither k h = both-false _ _ (sym (both-is k) ∙ h)
 
-  -- a pair: first the tail, then the head
-  module _ (head rest : ℕ) (pair : tag ≡ 6) (rest-is : rest ≡ referenceAt work p 2) (head-is : head ≡ referenceAt work p 3) (mid new : List ℕ) where
-    pair-is : patternAt work p ≡ pairP (patternAt work head) (patternAt work rest)
-    pair-is = rw (head-is, rest-is) (patternAt-pair work p (sym tag-is ∙ pair))
+      -- the second ellipsis over a variable of the head, and of the rest
+      second-head : (second k : ℕ) → holds k (patternAt work head) ≡ true → secondOf work (innerSecond tag p second) k (patternAt work head) ≡ secondOf work second k (patternAt work p)
+      unfolding secondOf entered
+      second-head second k t =
+          either (eqb tag 7)
+          (λ e.
+          let seven : tag ≡ 7 = eqb-true tag 7 e in
+          either (eqb second 0)
+          (λ z.
+          let q : (p ≡ 0 → ⊥) = some-cell work p k (both-is k ∙ rw t refl) in
+          rw (← inner-own tag p second seven (eqb-true second 0 z), z, ne-eqb p 0 q, ellipsisIn-some work p q, patternAt-ellipsis work p (sym tag-is ∙ seven), ← head-is, t) refl)
+          (λ z. rw (← inner-known tag p second seven (eqb-false second 0 z), z) refl))
+          (λ e.
+          let six : tag ≡ 6 = omega (arith, eqb-false tag 7 e) in
+          rw (← inner-plain tag p second (eqb-false tag 7 e), patternAt-pair work p (sym tag-is ∙ six), ← head-is, t) refl)
 
-    neither : (k : ℕ) → holds k (patternAt work p) ≡ false → (holds k (patternAt work head) ≡ false) × (holds k (patternAt work rest) ≡ false)
-    unfolding holds
-    neither k h = both-false _ _ (rw pair-is at h)
+      second-rest : (second k : ℕ) → holds k (patternAt work head) ≡ false → secondOf work second k (patternAt work rest) ≡ secondOf work second k (patternAt work p)
+      unfolding secondOf entered
+      second-rest second k t =
+          either (eqb tag 7)
+          (λ e. rw (patternAt-ellipsis work p (sym tag-is ∙ eqb-true tag 7 e), ← head-is, ← rest-is, t) refl)
+          (λ e. let s : tag ≡ 6 = omega (arith, eqb-false tag 7 e) in rw (patternAt-pair work p (sym tag-is ∙ s), ← head-is, ← rest-is, t) refl)
 
-    pub list-pair : (list first second : ℕ) → BindsList work rest list first second old mid → BindsList work head list first second mid new → BindsList work p list first second old new
-    unfolding holds secondOf entered
-    list-pair list first second c d =
-        record {
-          held = λ k l h.
-              either (holds k (patternAt work head))
-              (λ t. let e = d .held k l t in (e .0, e .1 ∙ rw (pair-is, t) refl))
-              (λ t.
-              let e = c .held k l (rw (pair-is, t) at h) in
-              rw (d .other k t, pair-is, t) e);
-          other = λ k h. let n = neither k h in d .other k (n .0) ∙ c .other k (n .1);
-          low = λ b q r s t u. d .low b (omega (arith, referenceAt-most work p 3)) r s t (c .low b (omega (arith, referenceAt-most work p 2)) r s t u);
-        }
+      inner-most : (second b : ℕ) → p ≤ b → second ≤ b → innerSecond tag p second ≤ b
+      unfolding innerSecond
+      inner-most second b l m = either (eqb tag 7 && eqb second 0) (λ e. rw e l) (λ e. rw e m)
 
-    pub pattern-pair : (u later first : ℕ) → Means work u later tail → Binds work rest later old mid → Means work u first (element 0) → Binds work head first mid new → Binds work p u old new
-    unfolding holds environment taking part entered enteredNext
-    pattern-pair u later first m c f d =
+      pub list-both : (list first second inner : ℕ) → inner ≡ innerSecond tag p second → BindsList work rest list first second old mid → BindsList work head list first inner mid new → BindsList work p list first second old new
+      list-both list first second inner i c d =
+          record {
+            held = λ k l h.
+                either (holds k (patternAt work head))
+                (λ t. let e = d .held k l t in (e .0, e .1 ∙ rw i (second-head second k t)))
+                (λ t.
+                let e = c .held k l (sym (rw t at (both-is k)) ∙ h) in
+                rw (d .other k t) (e .0, e .1 ∙ second-rest second k t));
+            other = λ k h. let n = neither k h in d .other k (n .0) ∙ c .other k (n .1);
+            low = λ b q r s t u.
+                d .low b (omega (arith, referenceAt-most work p 3)) r s (rw i (inner-most second b q t)) (c .low b (omega (arith, referenceAt-most work p 2)) r s t u);
+          }
+
+    pub pattern-pair : tag ≡ 6 → (u later first : ℕ) → Means work u later tail → Binds work rest later old mid → Means work u first (element 0) → Binds work head first mid new → Binds work p u old new
+    unfolding environment taking part entered enteredNext
+    pattern-pair pair u later first m c f d =
+        let is : patternAt work p ≡ pairP (patternAt work head) (patternAt work rest) = rw (head-is, rest-is) (patternAt-pair work p (sym tag-is ∙ pair)) in
         record {
           held = λ w k l h.
               either (holds k (patternAt work head))
-              (λ t. d .held w k l t ∙ rw (pair-is, t, f .is w) refl)
-              (λ t. ap (takingOf work w) (d .other k t) ∙ c .held w k l (rw (pair-is, t) at h) ∙ rw (pair-is, t, m .is w) refl);
-          other = λ k h. let n = neither k h in d .other k (n .0) ∙ c .other k (n .1);
+              (λ t. d .held w k l t ∙ rw (is, t, f .is w) refl)
+              (λ t. ap (takingOf work w) (d .other k t) ∙ c .held w k l (sym (rw t at (both-is (omega arith) (omega arith) k)) ∙ h) ∙ rw (is, t, m .is w) refl);
+          other = λ k h. let n = neither (omega arith) (omega arith) k h in d .other k (n .0) ∙ c .other k (n .1);
           low = λ b q r u. d .low b (omega (arith, referenceAt-most work p 3)) (omega (arith, f .low)) (c .low b (omega (arith, referenceAt-most work p 2)) (omega (arith, m .low)) u);
+        }
+
+    pub pattern-ellipsis : tag ≡ 7 → (u s after : ℕ) → Shares work p u s → Means work u after (past s) → Binds work rest after old mid → BindsList work head u p 0 mid new → Binds work p u old new
+    unfolding bound takingOf environment taking part entered enteredNext secondOf
+    pattern-ellipsis ellipsis u s after f m c d =
+        let is : patternAt work p ≡ ellipsisP (patternAt work head) (wordAt work p 4) (patternAt work rest) = rw (head-is, rest-is) (patternAt-ellipsis work p (sym tag-is ∙ ellipsis)) in
+        record {
+          held = λ w k l h.
+              either (holds k (patternAt work head))
+              (λ t.
+              let e = d .held k l t in
+              let q : (p ≡ 0 → ⊥) = some-cell work p k h in
+              ap (takingOf work w) (e .0)
+              ∙ rw (is, t, e .1, ellipsisIn-some work p q, ← head-is) refl)
+              (λ t.
+              let after-is : treeAt work after w ≡ past (share (wordAt work p 4) (treeAt work u w)) (treeAt work u w) = m .is w ∙ ap (λ (n : ℕ). past n (treeAt work u w)) (f w) in
+              ap (takingOf work w) (d .other k t) ∙ c .held w k l (sym (rw t at (both-is (omega arith) (omega arith) k)) ∙ h) ∙ rw (is, t, after-is) refl);
+          other = λ k h. let n = neither (omega arith) (omega arith) k h in d .other k (n .0) ∙ c .other k (n .1);
+          low = λ b q r t. d .low b (omega (arith, referenceAt-most work p 3)) r q (omega arith) (c .low b (omega (arith, referenceAt-most work p 2)) (omega (arith, m .low)) t);
         }
 
   module _ (u : ℕ) where
@@ -152,7 +199,7 @@ module _ (work : List ℕ) (p tag : ℕ) (tag-is : tag ≡ wordAt work p 1) (old
 
     module _ (new : List ℕ) where
       pub pattern-variable : (j : ℕ) → tag ≡ 1 → j ≡ wordAt work p 2 → BindsOne j (bound u 0 0) old new → Binds work p u old new
-      unfolding holds bound takingOf patternIn environment taking part entered enteredNext
+      unfolding holds bound takingOf ellipsisIn environment taking part entered enteredNext
       pattern-variable j e j-is c =
           record {
             held = λ w k l h.
@@ -161,17 +208,4 @@ module _ (work : List ℕ) (p tag : ℕ) (tag-is : tag ≡ wordAt work p 1) (old
                 ap (takingOf work w) is ∙ rw (patternAt-variable work p (sym tag-is ∙ e)) refl;
             other = λ k h. c .other k (eqb-false k j (rw (patternAt-variable work p (sym tag-is ∙ e), ← j-is) at h));
             low = λ b q r t. c .low b (bound-low u 0 0 b r (omega arith) (omega arith)) t;
-          }
-
-      pub pattern-ellipsis : (rest : ℕ) → tag ≡ 7 → rest ≡ referenceAt work p 2 → BindsList work rest u rest 0 old new → Binds work p u old new
-      unfolding holds bound takingOf environment taking part entered enteredNext secondOf
-      pattern-ellipsis rest ellipsis rest-is c =
-          record {
-            held = λ w k l h.
-                let g : holds k (patternAt work rest) ≡ true = rw (patternAt-ellipsis work p (sym tag-is ∙ ellipsis), ← rest-is) at h in
-                let d = c .held k l g in
-                ap (takingOf work w) (d .0)
-                ∙ rw (patternAt-ellipsis work p (sym tag-is ∙ ellipsis), ← rest-is, d .1, patternIn-some work rest (some-cell work rest k g)) refl;
-            other = λ k h. c .other k (rw (patternAt-ellipsis work p (sym tag-is ∙ ellipsis), ← rest-is) at h);
-            low = λ b q r t. let l : rest ≤ b = omega (arith, referenceAt-most work p 2) in c .low b l r l (omega arith) t;
           }

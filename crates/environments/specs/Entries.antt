@@ -8,12 +8,11 @@ use lib.Dec.{eqb}
 use lib.ListN.{getD}
 use Rattle.words.specs.Limits.{patternVariablesMost}
 use Rattle.recipe.specs.Tree.{element}
-use Rattle.expansion.specs.Rules.{Pattern}
 use Rattle.expansion.specs.Match.{part}
-use Rattle.arena.specs.Arena.{wordAt, treeAt}
+use Rattle.arena.specs.Arena.{wordAt, referenceAt, treeAt}
 use Rattle.rule_cells.specs.Cells.{patternAt}
 use Rattle.environments.specs.declared.environment.Entry.{Entry}
-use Rattle.environments.specs.Environment.{Taking, Environment, entering, enter}
+use Rattle.environments.specs.Environment.{Ellipsis, Taking, Environment, counts, entering, enter}
 
 abbrev pub entryWords : ℕ
 entryWords = 7
@@ -30,9 +29,9 @@ unfoldable pub entryAt : List ℕ → ℕ → Entry
 entryAt env k =
     record { whole = field env k 0; one = field env k 1; two = field env k 2; first = field env k 3; second = field env k 4; along = field env k 5; across = field env k 6 }
 
--- a cell of a pattern, where it is one
-unfoldable pub patternIn : (work : List ℕ) → ℕ → Option Pattern
-patternIn work q = cond (eqb q 0) none (some (patternAt work q))
+-- the ellipsis of a pattern's cell, where it is one
+unfoldable pub ellipsisIn : (work : List ℕ) → ℕ → Option Ellipsis
+ellipsisIn work q = cond (eqb q 0) none (some (patternAt work (referenceAt work q 3), wordAt work q 4))
 
 unfoldable pub takingOf : (work : List ℕ) (w : ℕ) → Entry → Taking
 takingOf work w x =
@@ -40,8 +39,8 @@ takingOf work w x =
       whole = treeAt work (x .whole) w;
       one = treeAt work (x .one) w;
       two = treeAt work (x .two) w;
-      first = patternIn work (x .first);
-      second = patternIn work (x .second);
+      first = ellipsisIn work (x .first);
+      second = ellipsisIn work (x .second);
     }
 
 unfoldable pub environmentAt : (work env : List ℕ) (w : ℕ) → Environment
@@ -53,6 +52,11 @@ level zero = 0
 level (suc zero) = 1
 level (suc (suc d)) = 2
 
+-- the word of an entry that has the list which the index after d others counts; its ellipsis stands three words behind
+unfoldable pub nextLevel : ℕ → ℕ
+nextLevel zero = 0
+nextLevel (suc d) = 1
+
 -- the node that variable k takes under the innermost d indices
 unfoldable pub takenIn : List ℕ → (k d : ℕ) → ℕ
 takenIn env k d = field env k (level d)
@@ -61,7 +65,7 @@ takenIn env k d = field env k (level d)
 pub record Listed (work env : List ℕ) (e : ℕ) : Type 0 where
   pub variable : wordAt work e 1 ≡ 1
   pub once : wordAt work e 2 ≡ 1
-  pub element-is : wordAt work (field env (wordAt work e 3) 3) 1 ≡ 1
+  pub element-is : wordAt work (referenceAt work (field env (wordAt work e 3) 3) 3) 1 ≡ 1
 
 -- no word refers past the top
 abbrev pub Under : List ℕ → ℕ → Type 0
@@ -75,6 +79,10 @@ pub record Low (x : Entry) (b : ℕ) : Type 0 where
   pub second-low : x .second ≤ b
   pub along-low : x .along ≤ b
   pub across-low : x .across ≤ b
+
+-- how many copies the list of variable k drives, under d indices
+abbrev pub CountsCopies : (work env : List ℕ) (k d r : ℕ) → Type 0
+CountsCopies work env k d r = (w : ℕ) → r ≡ counts d (environmentAt work env w k)
 
 -- entry k is x, and all others are as they were
 pub record Stored (k : ℕ) (x : Entry) (old new : List ℕ) : Type 0 where
@@ -114,13 +122,13 @@ AlongAll work outer i inner = (k : ℕ) → Along work (entryAt outer k) i (entr
 -- what variable k takes of a list's first element by the element's pattern; without a pattern, what it took before
 pub record Within (work : List ℕ) (q k list before r : ℕ) : Type 0 where
   pub flat : q ≡ 0 → r ≡ before
-  pub is : (q ≡ 0 → ⊥) → (w : ℕ) → treeAt work r w ≡ part (patternAt work q) k [] (element 0 (treeAt work list w))
+  pub is : (q ≡ 0 → ⊥) → (w : ℕ) → treeAt work r w ≡ part (patternAt work (referenceAt work q 3)) k [] (element 0 (treeAt work list w))
   pub low : (b : ℕ) → list ≤ b → before ≤ b → r ≤ b
 
 -- y is the entry of variable k in the copy that x stands before, and stands before the next
 pub record Next (work : List ℕ) (k : ℕ) (x y : Entry) : Type 0 where
   pub goes : (o : Entry) (i : ℕ) → Along work o i x
-      → (Along work o (i + 1) y) × ((w : ℕ) → takingOf work w y ≡ entering k i (patternIn work (o .first)) (takingOf work w o))
+      → (Along work o (i + 1) y) × ((w : ℕ) → takingOf work w y ≡ entering k i (ellipsisIn work (o .first)) (takingOf work w o))
   pub low : (b : ℕ) → Low x b → Low y b
 
 -- the environment of the copy that the table stands before; the table stands before the next

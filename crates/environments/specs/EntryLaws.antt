@@ -12,17 +12,19 @@ use lib.Seq.{getD-set-same, getD-set-other}
 use borrow.Author.Tests.{ltb-true, ltb-false, eqb-true, eqb-false, ne-eqb}
 use borrow.Author.Count.{below-more}
 use Rattle.words.specs.Limits.{patternVariablesMost}
-use Rattle.recipe.specs.Tree.{element, tail}
+use Rattle.recipe.specs.Tree.{elements, element, tail}
 use Rattle.recipe.specs.TreeLaws.{element-tail}
-use Rattle.expansion.specs.Match.{part}
-use Rattle.arena.specs.Arena.{wordAt, treeAt}
+use Rattle.expansion.specs.Match.{share, part}
+use Rattle.arena.specs.Arena.{wordAt, referenceAt, treeAt}
+use Rattle.arena.specs.ArenaLaws.{wordAt-none}
+use Rattle.arena.specs.ListLaws.{treeAt-none}
 use Rattle.words.specs.ListLaws.{either}
 use Rattle.arena.specs.Lists.{Means}
 use Rattle.rule_cells.specs.Cells.{patternAt}
 use Rattle.environments.specs.declared.environment.Entry.{Entry}
-use Rattle.environments.specs.Environment.{within, entering, enter}
-use Rattle.environments.specs.Parts.{Part}
-use Rattle.environments.specs.Entries.{entryWords, tableWords, field, entryAt, patternIn, takingOf, environmentAt, level, takenIn, Listed, Under, Low, Stored, Moving, Ahead, begun, Along, AlongAll, Within, Next, Enters}
+use Rattle.environments.specs.Environment.{behind, counts, within, entering, enter}
+use Rattle.environments.specs.Parts.{Part, Shares}
+use Rattle.environments.specs.Entries.{entryWords, tableWords, field, entryAt, ellipsisIn, takingOf, environmentAt, level, nextLevel, takenIn, Listed, Under, CountsCopies, Low, Stored, Moving, Ahead, begun, Along, AlongAll, Within, Next, Enters}
 
 -- ---- words of an entry
 
@@ -284,11 +286,11 @@ module _ (work : List ℕ) (q k list before : ℕ) where
   pub within-flat : q ≡ 0 → Within work q k list before before
   within-flat e = record { flat = λ z. refl; is = λ h. absurd (h e); low = λ b l m. m }
 
-  pub within-part : (first r : ℕ) → (q ≡ 0 → ⊥) → Means work list first (element 0) → Part work q k first r → Within work q k list before r
-  within-part first r h m c =
+  pub within-part : (inner first r : ℕ) → (q ≡ 0 → ⊥) → inner ≡ referenceAt work q 3 → Means work list first (element 0) → Part work inner k first r → Within work q k list before r
+  within-part inner first r h i m c =
       record {
         flat = λ e. absurd (h e);
-        is = λ z w. c .is-part w ∙ ap (part (patternAt work q) k []) (m .is w);
+        is = λ z w. c .is-part w ∙ rw i (ap (part (patternAt work (referenceAt work q 3)) k []) (m .is w));
         low = λ b l n. omega (arith, c .low, m .low);
       }
 
@@ -305,13 +307,13 @@ ahead-more work list i node r t a =
 ahead-first : (work : List ℕ) (list i node : ℕ) → Ahead work list i node → (w : ℕ) → element 0 (treeAt work node w) ≡ element i (treeAt work list w)
 ahead-first work list i node a w = sym (a .is w 0) ∙ ap (λ (n : ℕ). element n (treeAt work list w)) (let e : i + 0 ≡ i = omega arith in e)
 
-patternIn-none : (work : List ℕ) (q : ℕ) → q ≡ 0 → patternIn work q ≡ none
-unfolding patternIn
-patternIn-none work q e = rw e
+ellipsisIn-none : (work : List ℕ) (q : ℕ) → q ≡ 0 → ellipsisIn work q ≡ none
+unfolding ellipsisIn
+ellipsisIn-none work q e = rw e
 
-pub patternIn-some : (work : List ℕ) (q : ℕ) → (q ≡ 0 → ⊥) → patternIn work q ≡ some (patternAt work q)
-unfolding patternIn
-patternIn-some work q h = rw (ne-eqb q 0 h)
+pub ellipsisIn-some : (work : List ℕ) (q : ℕ) → (q ≡ 0 → ⊥) → ellipsisIn work q ≡ some (patternAt work (referenceAt work q 3), wordAt work q 4)
+unfolding ellipsisIn
+ellipsisIn-some work q h = rw (ne-eqb q 0 h)
 
 -- the next entry, by what its words are
 unfoldable pub nextOf : Entry → (one two along across : ℕ) → Entry
@@ -339,23 +341,23 @@ module _ (work : List ℕ) (k : ℕ) (x : Entry) (one two along across : ℕ) (s
         }
 
     module _ (w : ℕ) where
-      next-one : treeAt work one w ≡ part (patternAt work (o .first)) k [] (element i (treeAt work (o .whole) w))
-      next-one = one-is .is some-pattern w ∙ rw (a .first-is) (ap (part (patternAt work (o .first)) k []) (ahead-first work (o .whole) i (x .along) (a .along-is next-first) w))
+      next-one : treeAt work one w ≡ part (patternAt work (referenceAt work (o .first) 3)) k [] (element i (treeAt work (o .whole) w))
+      next-one = one-is .is some-pattern w ∙ rw (a .first-is) (ap (part (patternAt work (referenceAt work (o .first) 3)) k []) (ahead-first work (o .whole) i (x .along) (a .along-is next-first) w))
 
-      next-two : treeAt work two w ≡ within k i (patternIn work (o .second)) (treeAt work (o .one) w)
+      next-two : treeAt work two w ≡ within k i (ellipsisIn work (o .second)) (treeAt work (o .one) w)
       unfolding within
       next-two =
           either (eqb (o .second) 0)
-          (λ t. let e = eqb-true (o .second) 0 t in rw (patternIn-none work (o .second) e, next-narrow e))
+          (λ t. let e = eqb-true (o .second) 0 t in rw (ellipsisIn-none work (o .second) e, next-narrow e))
           (λ t.
           let h = eqb-false (o .second) 0 t in
-          rw (patternIn-some work (o .second) h)
+          rw (ellipsisIn-some work (o .second) h)
           (two-is .is (λ z. h (sym (a .second-is) ∙ z)) w
-          ∙ rw (a .second-is) (ap (part (patternAt work (o .second)) k []) (ahead-first work (o .one) i (x .across) (a .across-is next-first h) w))))
+          ∙ rw (a .second-is) (ap (part (patternAt work (referenceAt work (o .second) 3)) k []) (ahead-first work (o .one) i (x .across) (a .across-is next-first h) w))))
 
-      next-taking : takingOf work w (nextOf x one two along across) ≡ entering k i (patternIn work (o .first)) (takingOf work w o)
+      next-taking : takingOf work w (nextOf x one two along across) ≡ entering k i (ellipsisIn work (o .first)) (takingOf work w o)
       unfolding nextOf takingOf entering
-      next-taking = rw (a .whole-is, a .first-is, a .second-is, next-one, next-two, patternIn-some work (o .first) next-first)
+      next-taking = rw (a .whole-is, a .first-is, a .second-is, next-one, next-two, ellipsisIn-some work (o .first) next-first)
 
   pub next-is : Next work k x (nextOf x one two along across)
   unfolding nextOf
@@ -389,7 +391,7 @@ follows-low work k x y b f l =
 
 -- an entry without a pattern is the same before and in every copy
 flat-goes : (work : List ℕ) (k : ℕ) (x : Entry) (o : Entry) (i : ℕ) → x .first ≡ 0 → Along work o i x
-    → (Along work o (i + 1) x) × ((w : ℕ) → takingOf work w x ≡ entering k i (patternIn work (o .first)) (takingOf work w o))
+    → (Along work o (i + 1) x) × ((w : ℕ) → takingOf work w x ≡ entering k i (ellipsisIn work (o .first)) (takingOf work w o))
 unfolding takingOf entering begun
 flat-goes work k x o i e a =
     let z : o .first ≡ 0 = sym (a .first-is) ∙ e in (
@@ -402,11 +404,11 @@ flat-goes work k x o i e a =
         along-is = λ h. absurd (h z);
         across-is = λ h g. absurd (h z);
       },
-      λ w. rw (a .flat z, patternIn-none work (o .first) z),
+      λ w. rw (a .flat z, ellipsisIn-none work (o .first) z),
     )
 
 follows-goes : (work : List ℕ) (k : ℕ) (x y : Entry) → Follows work k x y → (o : Entry) (i : ℕ) → Along work o i x
-    → (Along work o (i + 1) y) × ((w : ℕ) → takingOf work w y ≡ entering k i (patternIn work (o .first)) (takingOf work w o))
+    → (Along work o (i + 1) y) × ((w : ℕ) → takingOf work w y ≡ entering k i (ellipsisIn work (o .first)) (takingOf work w o))
 follows-goes work k x y f o i a =
     either (eqb (x .first) 0)
     (λ t. let e = eqb-true _ 0 t in rw (f .flat e) (flat-goes work k x o i e a))
@@ -464,7 +466,49 @@ module _ (work old : List ℕ) where
 
 -- ---- a variable that takes a list's elements
 
-pub listed-is : (work env : List ℕ) (e a b k g : ℕ) → a ≡ wordAt work e 1 → a ≡ 1 → b ≡ wordAt work e 2 → b ≡ 1 → k ≡ wordAt work e 3 → g ≡ wordAt work (getD env (entryWords * k + 3) 0) 1 → eqb g 1 ≡ true → Listed work env e
+pub listed-is : (work env : List ℕ) (e a b k inner g : ℕ) → a ≡ wordAt work e 1 → a ≡ 1 → b ≡ wordAt work e 2 → b ≡ 1 → k ≡ wordAt work e 3 → inner ≡ referenceAt work (getD env (entryWords * k + 3) 0) 3 → g ≡ wordAt work inner 1 → eqb g 1 ≡ true → Listed work env e
 unfolding field
-listed-is work env e a b k g a-is a1 b-is b1 k-is g-is g1 =
-    record { variable = sym a-is ∙ a1; once = sym b-is ∙ b1; element-is = rw (← k-is) (sym g-is ∙ eqb-true g 1 g1) }
+listed-is work env e a b k inner g a-is a1 b-is b1 k-is inner-is g-is g1 =
+    record { variable = sym a-is ∙ a1; once = sym b-is ∙ b1; element-is = rw (← k-is, ← inner-is) (sym g-is ∙ eqb-true g 1 g1) }
+
+-- ---- how many copies a list drives
+
+-- what follows an ellipsis stands in its cell
+behind-word : (work : List ℕ) (q : ℕ) → behind (ellipsisIn work q) ≡ wordAt work q 4
+unfolding behind ellipsisIn
+behind-word work q =
+    either (eqb q 0)
+    (λ t. rw (eqb-true q 0 t) (sym (wordAt-none work 4 (omega arith))))
+    (λ t. rw t refl)
+
+pub level-first : (d : ℕ) → d ≡ 0 → 0 ≡ nextLevel d
+unfolding nextLevel
+level-first zero e = refl
+level-first (suc d) e = absurd (omega arith)
+
+pub next-most : (d : ℕ) → nextLevel d ≤ 1
+unfolding nextLevel
+next-most zero = omega arith
+next-most (suc d) = omega arith
+
+pub level-second : (d : ℕ) → (d ≡ 0 → ⊥) → 1 ≡ nextLevel d
+unfolding nextLevel
+level-second zero n = absurd (n refl)
+level-second (suc d) n = refl
+
+module _ (work env : List ℕ) (k d : ℕ) where
+  pub copies-out : length env ≡ tableWords → patternVariablesMost ≤ k → CountsCopies work env k d 0
+  unfolding environmentAt takingOf counts share blank elements
+  copies-out e h w = rw (entry-out env k e h) (go d)
+    where
+      go : (n : ℕ) → 0 ≡ counts n (takingOf work w blank)
+      go zero = rw (behind-word work 0, treeAt-none work w) (omega arith)
+      go (suc n) = rw (behind-word work 0, treeAt-none work w) (omega arith)
+
+  pub copies-in : (o r : ℕ) → o ≡ nextLevel d → Shares work (getD env (entryWords * k + o + 3) 0) (getD env (entryWords * k + o) 0) r → CountsCopies work env k d r
+  unfolding environmentAt takingOf counts entryAt field nextLevel
+  copies-in o r e c w = go d e
+    where
+      go : (n : ℕ) → o ≡ nextLevel n → r ≡ counts n (environmentAt work env w k)
+      go zero f = c w ∙ rw f (let z : entryWords * k + 0 + 3 ≡ entryWords * k + 3 = omega arith in rw (z, ← behind-word work (getD env (entryWords * k + 3) 0)) refl)
+      go (suc n) f = c w ∙ rw f (let z : entryWords * k + 1 + 3 ≡ entryWords * k + 4 = omega arith in rw (z, ← behind-word work (getD env (entryWords * k + 4) 0)) refl)

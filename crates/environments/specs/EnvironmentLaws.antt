@@ -8,14 +8,15 @@ use Prim.Native.Nat.{ℕ, zero, suc, _+_, _-_, _≤_, _<_}
 use native.Mathlib.Omega.{arith}
 use lib.Dec.{eqb, ltb}
 use lib.ListN.{length, getD}
+use borrow.Author.Tests.{ltb-true}
 use Rattle.words.specs.Limits.{patternVariablesMost, depthMost}
 use Rattle.words.specs.Lists.{allOf}
-use Rattle.recipe.specs.Tree.{Tree, pair, elements}
+use Rattle.recipe.specs.Tree.{Tree, pair}
 use Rattle.expansion.specs.Rules.{Pattern, variableP, literalP, wildcardP, constantP, emptyP, pairP, ellipsisP, Template, drivers}
-use Rattle.expansion.specs.Match.{holds, part}
+use Rattle.expansion.specs.Match.{share, holds, part, following}
 use Rattle.expansion.specs.Transcribe.{copies, allBelow, taken, lengths, copyCount, equalLengths, transcribe}
 use Rattle.words.specs.ListLaws.{either}
-use Rattle.environments.specs.Environment.{Taking, Environment, takes, within, entering, enter, lengthsBy, countBy, agreeBy, resultBy, entered, enteredNext, taking, environment}
+use Rattle.environments.specs.Environment.{Ellipsis, Taking, Environment, takes, behind, counts, within, entering, enter, lengthsBy, countBy, agreeBy, resultBy, entered, enteredNext, taking, environment}
 use Rattle.environments.specs.BelowLaws.{below-cong}
 use Rattle.environments.specs.Sound.{Sound, variable, insert, constant, empty, pairs, ellipsis}
 
@@ -29,7 +30,7 @@ part-one wildcardP k i t = refl
 part-one (constantP a) k i t = refl
 part-one emptyP k i t = refl
 part-one (pairP p q) k i t = either (holds k p) (λ h. rw h (part-one p k i _)) (λ h. rw h (part-one q k i _))
-part-one (ellipsisP p) k i t = refl
+part-one (ellipsisP p n q) k i t = either (holds k p) (λ h. rw h refl) (λ h. rw h (part-one q k i _))
 
 part-two : (p : Pattern) (k j i : ℕ) (t : Tree) → part p k (j ∷ i ∷ []) t ≡ within k i (enteredNext k p) (part p k (j ∷ []) t)
 unfolding part within enteredNext
@@ -39,16 +40,16 @@ part-two wildcardP k j i t = refl
 part-two (constantP a) k j i t = refl
 part-two emptyP k j i t = refl
 part-two (pairP p q) k j i t = either (holds k p) (λ h. rw h (part-two p k j i _)) (λ h. rw h (part-two q k j i _))
-part-two (ellipsisP p) k j i t = part-one p k i _
+part-two (ellipsisP p n q) k j i t = either (holds k p) (λ h. rw h (part-one p k i _)) (λ h. rw h (part-two q k j i _))
 
 -- ---- entering a copy
 
-pub entering-whole : (k i : ℕ) (o : Option Pattern) (x : Taking) → entering k i o x .whole ≡ x .whole
+pub entering-whole : (k i : ℕ) (o : Option Ellipsis) (x : Taking) → entering k i o x .whole ≡ x .whole
 unfolding entering
 entering-whole k i none x = refl
 entering-whole k i (some q) x = refl
 
-pub entering-one : (k i : ℕ) (o : Option Pattern) (x : Taking) → entering k i o x .one ≡ within k i o (x .whole)
+pub entering-one : (k i : ℕ) (o : Option Ellipsis) (x : Taking) → entering k i o x .one ≡ within k i o (x .whole)
 unfolding entering within
 entering-one k i none x = refl
 entering-one k i (some q) x = refl
@@ -62,17 +63,42 @@ entering-two wildcardP k i x e = refl
 entering-two (constantP a) k i x e = refl
 entering-two emptyP k i x e = refl
 entering-two (pairP p q) k i x e = either (holds k p) (λ h. rw h (entering-two p k i x (rw h at e))) (λ h. rw h (entering-two q k i x (rw h at e)))
-entering-two (ellipsisP p) k i x e = ap (λ (o : Option Pattern). within k i o (x .one)) e
+entering-two (ellipsisP p n q) k i x e =
+    either (holds k p)
+    (λ h. rw h (ap (λ (o : Option Ellipsis). within k i o (x .one)) (rw h at e)))
+    (λ h. rw h (entering-two q k i x (rw h at e)))
 
-pub entering-first : (k i : ℕ) (o : Option Pattern) (x : Taking) → entering k i o x .first ≡ x .first
+pub entering-first : (k i : ℕ) (o : Option Ellipsis) (x : Taking) → entering k i o x .first ≡ x .first
 unfolding entering
 entering-first k i none x = refl
 entering-first k i (some q) x = refl
 
-entering-second : (k i : ℕ) (o : Option Pattern) (x : Taking) → entering k i o x .second ≡ x .second
+pub entering-second : (k i : ℕ) (o : Option Ellipsis) (x : Taking) → entering k i o x .second ≡ x .second
 unfolding entering
 entering-second k i none x = refl
 entering-second k i (some q) x = refl
+
+-- ---- what follows the ellipses
+
+following-first : (p : Pattern) (k : ℕ) → following p k 0 ≡ behind (entered k p)
+unfolding following behind entered
+following-first (variableP j) k = refl
+following-first (literalP x) k = refl
+following-first wildcardP k = refl
+following-first (constantP a) k = refl
+following-first emptyP k = refl
+following-first (pairP p q) k = either (holds k p) (λ h. rw h (following-first p k)) (λ h. rw h (following-first q k))
+following-first (ellipsisP p n q) k = either (holds k p) (λ h. rw h refl) (λ h. rw h (following-first q k))
+
+following-second : (p : Pattern) (k : ℕ) → following p k 1 ≡ behind (enteredNext k p)
+unfolding following behind enteredNext
+following-second (variableP j) k = refl
+following-second (literalP x) k = refl
+following-second wildcardP k = refl
+following-second (constantP a) k = refl
+following-second emptyP k = refl
+following-second (pairP p q) k = either (holds k p) (λ h. rw h (following-second p k)) (λ h. rw h (following-second q k))
+following-second (ellipsisP p n q) k = either (holds k p) (λ h. rw h (following-first p k)) (λ h. rw h (following-second q k))
 
 -- ---- copies
 
@@ -104,7 +130,7 @@ module _ (p : Pattern) (used : Tree) where
           entering-one k i (x .first) x ∙ ap₂ (within k i) (s .first-is) (s .takes-is 0 (omega arith) (omega arith)) ∙ sym (part-one p k i used)
       known [] s (suc (suc d)) a b = absurd (omega arith)
       known (j ∷ is) s (suc (suc zero)) a b =
-          ap (λ (o : Option Pattern). entering k i o x .two) (s .first-is) ∙ entering-two p k i x (s .second-is)
+          ap (λ (o : Option Ellipsis). entering k i o x .two) (s .first-is) ∙ entering-two p k i x (s .second-is)
           ∙ ap (within k i (enteredNext k p)) (s .takes-is 1 (omega arith) (omega arith)) ∙ sym (part-two p k j i used)
       known (j ∷ is) s (suc (suc (suc d))) a b = absurd (omega arith)
 
@@ -113,10 +139,16 @@ module _ (p : Pattern) (used : Tree) where
   stands-enter i is v s k l h = standing-enter i is k (v k) (s k l h)
 
   abbrev long : List ℕ → ℕ × ℕ → ℕ
-  long is x = length (elements (taken p used is (x .0) (x .1)))
+  long is x = share (following p (x .0) (x .1)) (taken p used is (x .0) (x .1))
 
   abbrev longBy : Environment → ℕ × ℕ → ℕ
-  longBy v x = length (elements (takes (x .1) (v (x .0))))
+  longBy v x = counts (x .1) (v (x .0))
+
+  standing-long : (is : List ℕ) (k : ℕ) (x : Taking) → Standing p used is k x → (d : ℕ) → d < depthMost → d ≤ length is → counts d x ≡ long is (k, d)
+  unfolding counts takes
+  standing-long is k x s zero l m = ap₂ share (ap behind (s .first-is) ∙ sym (following-first p k)) (s .takes-is 0 (omega arith) m)
+  standing-long is k x s (suc zero) l m = ap₂ share (ap behind (s .second-is) ∙ sym (following-second p k)) (s .takes-is 1 (omega arith) m)
+  standing-long is k x s (suc (suc d)) l m = absurd (omega arith)
 
   -- a driver has one ellipsis fewer than its variable, since the element's own is not entered
   drivers-is : (is : List ℕ) (v : Environment) (j : ℕ) {n : ℕ} {t : Template} → Stands is v → n ≤ suc (j + length is) → Sound p n t
@@ -124,7 +156,7 @@ module _ (p : Pattern) (used : Tree) where
   unfolding drivers
   drivers-is is v j s b (variable {k = k} {d = d} l h m f) =
       either (ltb j d)
-      (λ t. rw t (ap (λ (x : Tree). length (elements x) ∷ []) (s k l h .takes-is (d - suc j) (omega arith) (omega arith))))
+      (λ t. rw t (ap (λ (c : ℕ). c ∷ []) (standing-long is k (v k) (s k l h) (d - suc j) (omega (arith, ltb-true j d t)) (omega (arith, ltb-true j d t)))))
       (λ t. rw t refl)
   drivers-is is v j s b insert = refl
   drivers-is is v j s b (constant x y z) = refl

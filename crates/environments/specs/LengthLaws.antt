@@ -5,19 +5,17 @@ use mathlib.Core.List.{List, [], _∷_, _++_, map, map-append}
 use Prim.Native.Nat.{ℕ, zero, suc, _+_, _-_, _≤_, _<_}
 use native.Mathlib.Omega.{arith}
 use lib.Dec.{eqb}
-use lib.ListN.{length, getD}
+use lib.ListN.{getD}
 use borrow.Author.Tests.{eq-eqb, eqb-true, eqb-false, lt-ltb, le-ltb}
 use Rattle.words.specs.ListLaws.{whole, either}
 use Rattle.words.specs.Parts.{rest}
 use Rattle.words.specs.Lists.{allOf}
-use Rattle.recipe.specs.Tree.{Tree, elements}
 use Rattle.expansion.specs.Rules.{drivers}
 use Rattle.arena.specs.Arena.{wordAt, referenceAt, treeAt}
 use Rattle.rule_cells.specs.Cells.{templateAt}
 use Rattle.rule_cells.specs.CellLaws.{templateAt-variable, templateAt-pair, templateAt-ellipsis}
-use Rattle.arena.specs.Lists.{Counts}
-use Rattle.environments.specs.Environment.{takes, lengthsBy, countBy}
-use Rattle.environments.specs.Entries.{entryAt, takingOf, environmentAt, level, takenIn}
+use Rattle.environments.specs.Environment.{takes, counts, lengthsBy, countBy}
+use Rattle.environments.specs.Entries.{entryAt, takingOf, environmentAt, level, takenIn, CountsCopies}
 use Rattle.environments.specs.TemplateCells.{leaf-other}
 use Rattle.environments.specs.Lengths.{driving, also, after, Drives, Copies, Differs, Counted, deeper}
 use Rattle.environments.specs.declared.lengths.Driving.{Driving}
@@ -105,10 +103,9 @@ module _ (work env : List ℕ) where
     unfolding driving lengthsBy
     driving-nothing w e = rw e refl
 
-    driving-one : (w d k list c : ℕ) → tag ≡ 1 → d ≡ wordAt work t 2 → k ≡ wordAt work t 3 → j < d → list ≡ takenIn env k (d - j - 1) → Counts work list c → driving work env w j t ≡ c ∷ []
+    driving-one : (w d k c : ℕ) → tag ≡ 1 → d ≡ wordAt work t 2 → k ≡ wordAt work t 3 → j < d → CountsCopies work env k (d - j - 1) c → driving work env w j t ≡ c ∷ []
     unfolding driving lengthsBy
-    driving-one w d k list c e d-is k-is h g l =
-        rw (drivers-one work t tag tag-is j d k e d-is k-is h) (ap (λ (x : ℕ). x ∷ []) (ap (λ (x : Tree). length (elements x)) (taken-is work env w k (d - j - 1) ∙ rw g refl) ∙ sym (l .is w)))
+    driving-one w d k c e d-is k-is h l = rw (drivers-one work t tag tag-is j d k e d-is k-is h) (ap (λ (x : ℕ). x ∷ []) (sym (l w)))
 
     pub drives-none : (x : Driving) → (tag ≡ 1 → ⊥) → (tag ≡ 6 → ⊥) → (tag ≡ 7 → ⊥) → Drives work env j t x x
     unfolding after
@@ -118,15 +115,15 @@ module _ (work env : List ℕ) where
     unfolding after
     drives-few x d e d-is h w = rw (driving-nothing w (drivers-few work t tag tag-is j d e d-is h)) refl
 
-    pub drives-one : (x : Driving) (d k list c : ℕ) → tag ≡ 1 → d ≡ wordAt work t 2 → k ≡ wordAt work t 3 → j < d → list ≡ takenIn env k (d - j - 1) → Counts work list c → Drives work env j t x (also x c)
+    pub drives-one : (x : Driving) (d k c : ℕ) → tag ≡ 1 → d ≡ wordAt work t 2 → k ≡ wordAt work t 3 → j < d → CountsCopies work env k (d - j - 1) c → Drives work env j t x (also x c)
     unfolding after
-    drives-one x d k list c e d-is k-is h g l w = rw (driving-one w d k list c e d-is k-is h g l) refl
+    drives-one x d k c e d-is k-is h l w = rw (driving-one w d k c e d-is k-is h l) refl
 
     module _ (i head rest : ℕ) (low : 6 ≤ tag) (high : tag ≤ 7) (i-is : i ≡ deeper tag j) (head-is : head ≡ referenceAt work t 3) (rest-is : rest ≡ referenceAt work t 2) where
       driving-both : (w : ℕ) → driving work env w j t ≡ driving work env w i head ++ driving work env w j rest
       unfolding driving lengthsBy
       driving-both w =
-          let f : (ℕ × ℕ) → ℕ = λ v. length (elements (takes (v .1) (environmentAt work env w (v .0)))) in
+          let f : (ℕ × ℕ) → ℕ = λ v. counts (v .1) (environmentAt work env w (v .0)) in
           ap (map f) (drivers-both work t tag tag-is j i head rest low high i-is head-is rest-is) ∙ map-append f (drivers i (templateAt work head)) (drivers j (templateAt work rest))
 
       pub drives-both : (x y r : Driving) → Drives work env i head x y → Drives work env j rest y r → Drives work env j t x r

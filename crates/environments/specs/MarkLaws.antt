@@ -13,21 +13,19 @@ use Rattle.words.specs.Lists.{anyOf}
 use Rattle.words.specs.ListLaws.{either}
 use Rattle.words.specs.TestLaws.{or-right, any-append}
 use Rattle.words.specs.Each.{Each, noneOf, also, each-append}
-use Rattle.recipe.specs.Tree.{Tree, elements}
 use Rattle.expansion.specs.Rules.{Template, variableT, drivers}
 use Rattle.arena.specs.Arena.{wordAt, referenceAt}
-use Rattle.arena.specs.Lists.{Counts}
 use Rattle.rule_cells.specs.Cells.{templateAt}
 use Rattle.rule_cells.specs.CellLaws.{templateAt-variable}
-use Rattle.environments.specs.Environment.{Taking, Environment, takes, entering, enter, lengthsBy}
-use Rattle.environments.specs.EnvironmentLaws.{entering-whole}
+use Rattle.environments.specs.Environment.{Taking, Environment, behind, counts, entering, enter, lengthsBy}
+use Rattle.environments.specs.EnvironmentLaws.{entering-whole, entering-first}
 use Rattle.environments.specs.Sound.{Plain, variable, insert, constant, empty, pairs, ellipsis, plain-pair, plain-ellipsis}
-use Rattle.environments.specs.Entries.{entryAt, takingOf, environmentAt, takenIn, Stored}
+use Rattle.environments.specs.Entries.{entryAt, takingOf, environmentAt, CountsCopies, Stored}
 use Rattle.environments.specs.declared.environment.Entry.{Entry}
 use Rattle.environments.specs.Lengths.{driving, after, Drives}
 use Rattle.environments.specs.Lengths as lengths
 use Rattle.environments.specs.TemplateCells.{pair-is, ellipsis-is}
-use Rattle.environments.specs.LengthLaws.{taken-is}
+use Rattle.expansion.specs.Match.{share}
 use Rattle.environments.specs.declared.lengths.Driving.{Driving}
 use Rattle.environments.specs.declared.lengths.Driving.the-variants.{None, Length, Differ}
 use Rattle.environments.specs.Marks.{markWords, marked, among, Marks, Unmarked, Keeps, alsoIf, gathered, Gathers}
@@ -115,11 +113,9 @@ module _ (work env marks : List ℕ) (l n : ℕ) (x : Driving) where
   gather-none e w = rw e refl
 
   module _ (k at : ℕ) (n-is : n ≡ suc k) (at-is : at ≡ patternVariablesMost * l + k) (r : Driving) where
-    pub gather-marked : (list c : ℕ) (y : Driving) → getD marks at 0 ≡ 1 → list ≡ takenIn env k l → Counts work list c → y ≡ lengths.also x c → Gathers work env marks l k y r → Gathers work env marks l n x r
+    pub gather-marked : (c : ℕ) (y : Driving) → getD marks at 0 ≡ 1 → CountsCopies work env k l c → y ≡ lengths.also x c → Gathers work env marks l k y r → Gathers work env marks l n x r
     unfolding gathered alsoIf marked
-    gather-marked list c y on list-is c-is y-is g w =
-        let e : length (elements (takes l (environmentAt work env w k))) ≡ c = ap (λ (t : Tree). length (elements t)) (taken-is work env w k l ∙ rw list-is refl) ∙ sym (c-is .is w) in
-        rw (n-is, ← at-is, on, e, ← y-is) (g w)
+    gather-marked c y on c-is y-is g w = rw (n-is, ← at-is, on, ← c-is w, ← y-is) (g w)
 
     pub gather-unmarked : (getD marks at 0 ≡ 1 → ⊥) → Gathers work env marks l k x r → Gathers work env marks l n x r
     unfolding gathered alsoIf marked
@@ -264,9 +260,10 @@ low-drivers j (ellipsis a b) = each-append (low-drivers (suc j) a) (low-drivers 
 
 -- ---- in a copy: what is gathered of level none is gathered outside it, where these lists are the same
 
-entered-whole : (v u : Environment) (i k : ℕ) → u ≡ enter i v → takes 0 (v k) ≡ takes 0 (u k)
-unfolding takes enter
-entered-whole v u i k e = sym (ap (λ (z : Environment). z k .whole) e ∙ entering-whole k i (v k .first) (v k))
+entered-whole : (v u : Environment) (i k : ℕ) → u ≡ enter i v → counts 0 (v k) ≡ counts 0 (u k)
+unfolding counts enter
+entered-whole v u i k e =
+    ap₂ share (ap behind (sym (ap (λ (z : Environment). z k .first) e ∙ entering-first k i (v k .first) (v k)))) (sym (ap (λ (z : Environment). z k .whole) e ∙ entering-whole k i (v k .first) (v k)))
 
 entered-kept : (work : List ℕ) (w i k : ℕ) (kept env : List ℕ) → entryAt kept k ≡ entryAt env k → enter i (environmentAt work kept w) k ≡ enter i (environmentAt work env w) k
 unfolding enter environmentAt
@@ -274,7 +271,7 @@ entered-kept work w i k kept env e = ap (λ (x : Entry). entering k i (takingOf 
 
 -- where no list is taken under an index, all are the same in each copy
 lengths-still : (v : Environment) (i : ℕ) {ds : List (ℕ × ℕ)} → Each Low ds → ((k : ℕ) → k < patternVariablesMost → among k 1 ds ≡ false)
-    → map (λ x. length (elements (takes (x .1) (enter i v (x .0))))) ds ≡ map (λ x. length (elements (takes (x .1) (v (x .0))))) ds
+    → map (λ x. counts (x .1) (enter i v (x .0))) ds ≡ map (λ x. counts (x .1) (v (x .0))) ds
 unfolding among anyOf
 lengths-still v i noneOf h = refl
 lengths-still v i (also {x = d} {xs = ds} f fs) h =
@@ -288,8 +285,8 @@ lengths-still v i (also {x = d} {xs = ds} f fs) h =
     no-right false b e = e
     no-right true b e = absurd (false≢true (sym e))
 
-    first : (l : ℕ) → l < depthMost → (eqb (d .0) (d .0) && eqb l 1) ≡ false → length (elements (takes l (enter i v (d .0)))) ≡ length (elements (takes l (v (d .0))))
-    first zero m e = ap (λ (z : Tree). length (elements z)) (sym (entered-whole v (enter i v) i (d .0) refl))
+    first : (l : ℕ) → l < depthMost → (eqb (d .0) (d .0) && eqb l 1) ≡ false → counts l (enter i v (d .0)) ≡ counts l (v (d .0))
+    first zero m e = sym (entered-whole v (enter i v) i (d .0) refl)
     first (suc zero) m e = absurd (false≢true (sym e ∙ rw (eq-eqb (d .0) (d .0) refl) refl))
     first (suc (suc l)) m e = absurd (omega arith)
 
@@ -299,17 +296,17 @@ module _ (work env old marks : List ℕ) (e : ℕ) (plain : Plain (templateAt wo
 
   module _ (still : Driving) (still-is : Gathers work env marks 0 patternVariablesMost None still) where
     -- with lists of level none as they are outside, and those of level one as an environment has them
-    by-levels : (w : ℕ) (u : Environment) (x : Driving) → ((k : ℕ) → takes 0 (environmentAt work env w k) ≡ takes 0 (u k))
-        → x ≡ gathered (λ k. among k 1 (drivers 0 (templateAt work e))) (λ k. length (elements (takes 1 (u k)))) still patternVariablesMost → x ≡ after None (lengthsBy u 0 (templateAt work e))
+    by-levels : (w : ℕ) (u : Environment) (x : Driving) → ((k : ℕ) → counts 0 (environmentAt work env w k) ≡ counts 0 (u k))
+        → x ≡ gathered (λ k. among k 1 (drivers 0 (templateAt work e))) (λ k. counts 1 (u k)) still patternVariablesMost → x ≡ after None (lengthsBy u 0 (templateAt work e))
     unfolding lengthsBy levels
     by-levels w u x whole x-is =
-        let g : (ℕ × ℕ) → ℕ = λ v. length (elements (takes (v .1) (u (v .0)))) in
+        let g : (ℕ × ℕ) → ℕ = λ v. counts (v .1) (u (v .0)) in
         let ds : List (ℕ × ℕ) = drivers 0 (templateAt work e) in
         x-is
         ∙ ap (λ (y : Driving). gathered (λ k. among k 1 ds) (λ k. g (k, 1)) y patternVariablesMost)
         (still-is w
-        ∙ gathered-cong (λ k. marked marks k 0) (λ k. among k 0 ds) (λ k. length (elements (takes 0 (environmentAt work env w k)))) (λ k. g (k, 0)) None patternVariablesMost (λ k h. marks-are k 0 h (omega arith))
-        (λ k h t. ap (λ (z : Tree). length (elements z)) (whole k)))
+        ∙ gathered-cong (λ k. marked marks k 0) (λ k. among k 0 ds) (λ k. counts 0 (environmentAt work env w k)) (λ k. g (k, 0)) None patternVariablesMost (λ k h. marks-are k 0 h (omega arith))
+        (λ k h t. whole k))
         ∙ levels-after g None (low-drivers 0 plain)
 
     -- the table has entered copy i, with the entries that move
@@ -318,8 +315,8 @@ module _ (work env old marks : List ℕ) (e : ℕ) (plain : Plain (templateAt wo
     gathered-tells i kept table x x-is keeps enters w =
         by-levels w (enter i (environmentAt work env w)) x (λ k. entered-whole (environmentAt work env w) (enter i (environmentAt work env w)) i k refl)
         (x-is w
-        ∙ gathered-cong (λ k. marked marks k 1) (λ k. among k 1 (drivers 0 (templateAt work e))) _ (λ k. length (elements (takes 1 (enter i (environmentAt work env w) k)))) still patternVariablesMost (λ k h. marks-are k 1 h (omega arith))
-        (λ k h t. ap (λ (z : Taking). length (elements (takes 1 z))) (ap (λ (z : Environment). z k) (enters w) ∙ entered-kept work w i k kept env (keeps k h t))))
+        ∙ gathered-cong (λ k. marked marks k 1) (λ k. among k 1 (drivers 0 (templateAt work e))) _ (λ k. counts 1 (enter i (environmentAt work env w) k)) still patternVariablesMost (λ k h. marks-are k 1 h (omega arith))
+        (λ k h t. ap (λ (z : Taking). counts 1 z) (ap (λ (z : Environment). z k) (enters w) ∙ entered-kept work w i k kept env (keeps k h t))))
 
     module _ (unmarked : Unmarked marks 1 patternVariablesMost) where
       pub still-drives : Drives work env 0 e None still

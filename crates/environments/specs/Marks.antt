@@ -5,13 +5,12 @@ use mathlib.Core.Bool.{Bool, true, false, _&&_, _||_}
 use mathlib.Core.List.{List}
 use Prim.Native.Nat.{ℕ, zero, suc, _+_, _*_, _<_}
 use lib.Dec.{eqb}
-use lib.ListN.{length, getD}
+use lib.ListN.{getD}
 use Rattle.words.specs.Limits.{patternVariablesMost, depthMost}
 use Rattle.words.specs.Lists.{anyOf}
-use Rattle.recipe.specs.Tree.{elements}
 use Rattle.expansion.specs.Rules.{drivers}
 use Rattle.rule_cells.specs.Cells.{templateAt}
-use Rattle.environments.specs.Environment.{takes}
+use Rattle.environments.specs.Environment.{counts}
 use Rattle.environments.specs.Entries.{entryAt, environmentAt, Moving, AlongAll}
 use Rattle.environments.specs.Lengths.{also}
 use Rattle.environments.specs.declared.lengths.Driving.{Driving}
@@ -58,4 +57,4 @@ gathered mark long x (suc n) = gathered mark long (alsoIf (mark n) x (long n)) n
 
 -- the marked lists of a level, after others
 abbrev pub Gathers : (work env marks : List ℕ) (l n : ℕ) → (before after : Driving) → Type 0
-Gathers work env marks l n x r = (w : ℕ) → r ≡ gathered (λ k. marked marks k l) (λ k. length (elements (takes l (environmentAt work env w k)))) x n
+Gathers work env marks l n x r = (w : ℕ) → r ≡ gathered (λ k. marked marks k l) (λ k. counts l (environmentAt work env w k)) x n

@@ -1,22 +1,22 @@
 -- Laws of parts on cells, one for each way through the code.
 use mathlib.Core.Path.{_≡_, refl, sym, ap, _∙_}
-use mathlib.Core.Bool.{Bool, true, false}
+use mathlib.Core.Bool.{Bool, true, false, _||_}
 use mathlib.Core.List.{List, []}
-use Prim.Native.Nat.{ℕ, _<_}
+use Prim.Native.Nat.{ℕ, _-_, _≤_, _<_}
 use native.Mathlib.Omega.{arith}
 use lib.Dec.{eqb}
 use borrow.Author.Tests.{eqb-true, eqb-false}
-use Rattle.recipe.specs.Tree.{Tree, empty, element, tail}
+use Rattle.recipe.specs.Tree.{Tree, empty, element, tail, past}
 use Rattle.expansion.specs.Rules.{Pattern}
-use Rattle.expansion.specs.Match.{holds, part}
-use Rattle.arena.specs.Arena.{wordAt, referenceAt}
+use Rattle.expansion.specs.Match.{share, holds, part}
+use Rattle.arena.specs.Arena.{wordAt, referenceAt, treeAt}
 use Rattle.words.specs.ListLaws.{either}
 use Rattle.arena.specs.ArenaLaws.{wordAt-some, referenceAt-falls}
 use Rattle.rule_cells.specs.Cells.{patternAt}
 use Rattle.rule_cells.specs.CellLaws.{patternAt-variable, patternAt-literal, patternAt-wildcard, patternAt-constant, patternAt-pair, patternAt-ellipsis, patternAt-empty}
-use Rattle.arena.specs.Lists.{Means}
+use Rattle.arena.specs.Lists.{Means, Counts}
 use Rattle.arena.specs.ListLaws.{treeAt-none}
-use Rattle.environments.specs.Parts.{Holds, Part}
+use Rattle.environments.specs.Parts.{Holds, Shares, Part}
 
 -- a pattern that holds no variable
 abbrev Bare : Pattern → Type 0
@@ -49,21 +49,23 @@ module _ (work : List ℕ) (p tag : ℕ) (tag-is : tag ≡ wordAt work p 1) wher
     unfolding holds
     holds-variable j e h = rw (h, patternAt-variable work p (sym tag-is ∙ e)) refl
 
-    pub holds-ellipsis : (e : ℕ) (r : Bool) → tag ≡ 7 → e ≡ referenceAt work p 2 → Holds work e k r → Holds work p k r
-    unfolding holds
-    holds-ellipsis e r t h c = c ∙ rw (h, patternAt-ellipsis work p (sym tag-is ∙ t)) refl
-
     pub holds-none : (tag ≡ 1 → ⊥) → (tag ≡ 6 → ⊥) → (tag ≡ 7 → ⊥) → Holds work p k false
     holds-none a b c = sym (bare a b c k .0)
 
-    module _ (head : ℕ) (left : Bool) (pair : tag ≡ 6) (head-is : head ≡ referenceAt work p 3) (left-is : Holds work head k left) where
-      pub holds-head : left ≡ true → Holds work p k true
+    -- a pair's or an ellipsis's
+    module _ (head : ℕ) (left : Bool) (low : 6 ≤ tag) (high : tag ≤ 7) (head-is : head ≡ referenceAt work p 3) (left-is : Holds work head k left) where
+      holds-both : holds k (patternAt work p) ≡ (left || holds k (patternAt work (referenceAt work p 2)))
       unfolding holds
-      holds-head e = rw (patternAt-pair work p (sym tag-is ∙ pair), ← head-is, ← left-is, e) refl
+      holds-both =
+          either (eqb tag 7)
+          (λ e. rw (patternAt-ellipsis work p (sym tag-is ∙ eqb-true tag 7 e), ← head-is, ← left-is) refl)
+          (λ e. let s : tag ≡ 6 = omega (arith, eqb-false tag 7 e) in rw (patternAt-pair work p (sym tag-is ∙ s), ← head-is, ← left-is) refl)
+
+      pub holds-head : left ≡ true → Holds work p k true
+      holds-head e = sym (holds-both ∙ rw e refl)
 
       pub holds-tail : (tail : ℕ) (r : Bool) → left ≡ false → tail ≡ referenceAt work p 2 → Holds work tail k r → Holds work p k r
-      unfolding holds
-      holds-tail tail r e h c = rw (patternAt-pair work p (sym tag-is ∙ pair), ← head-is, ← left-is, e) (c ∙ rw h refl)
+      holds-tail tail r e h c = c ∙ sym (holds-both ∙ rw (e, ← h) refl)
 
     module _ (u : ℕ) where
       pub part-variable : tag ≡ 1 → Part work p k u u
@@ -94,9 +96,32 @@ module _ (work : List ℕ) (p tag : ℕ) (tag-is : tag ≡ wordAt work p 1) wher
               low = omega (arith, c .low, m .low);
             }
 
-      pub part-list : tag ≡ 7 → Part work p k u u
-      unfolding part
-      part-list e = record { is-part = λ w. rw (patternAt-ellipsis work p (sym tag-is ∙ e)) refl; low = omega arith }
+      -- an ellipsis: the list, or what its rest takes of what follows
+      module _ (head : ℕ) (left : Bool) (ellipsis : tag ≡ 7) (head-is : head ≡ referenceAt work p 3) (left-is : Holds work head k left) where
+        pub part-list : left ≡ true → Part work p k u u
+        unfolding part
+        part-list e = record { is-part = λ w. rw (patternAt-ellipsis work p (sym tag-is ∙ ellipsis), ← head-is, ← left-is, e) refl; low = omega arith }
+
+        pub part-after : (rest s v r : ℕ) → left ≡ false → rest ≡ referenceAt work p 2 → Shares work p u s → Means work u v (past s) → Part work rest k v r → Part work p k u r
+        unfolding part
+        part-after rest s v r e h c m d =
+            record {
+              is-part = λ w.
+                  d .is-part w
+                  ∙ rw (patternAt-ellipsis work p (sym tag-is ∙ ellipsis), ← head-is, ← left-is, e, ← h) (ap (part (patternAt work rest) k []) (m .is w ∙ ap (λ (n : ℕ). past n (treeAt work u w)) (c w)));
+              low = omega (arith, d .low, m .low);
+            }
+
+-- ---- how many elements an ellipsis takes
+
+module _ (work : List ℕ) (p list n c : ℕ) (n-is : n ≡ wordAt work p 4) (counted : Counts work list c) where
+  pub share-none : c ≤ n → Shares work p list 0
+  unfolding share
+  share-none h w = rw (← n-is, ← counted .is w) (omega arith)
+
+  pub share-some : Shares work p list (c - n)
+  unfolding share
+  share-some w = rw (← n-is, ← counted .is w) refl
 
 -- what variable k takes of the node by the pattern at `at`, it takes of the use by the whole pattern
 abbrev pub Leads : (work : List ℕ) (p k u at node : ℕ) → Type 0

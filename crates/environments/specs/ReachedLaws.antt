@@ -5,18 +5,18 @@ use mathlib.Core.List.{List, [], _∷_, _++_, map-append}
 use Prim.Native.Nat.{ℕ, zero, suc, _+_, _-_, _≤_, _<_}
 use native.Mathlib.Omega.{arith}
 use lib.Dec.{eqb, ltb}
-use lib.ListN.{length, getD}
+use lib.ListN.{getD}
 use borrow.Author.Tests.{eqb-true, eqb-false, ltb-true, ltb-false, le-ltb}
 use Rattle.words.specs.Limits.{depthMost}
 use Rattle.words.specs.Lists.{allOf}
 use Rattle.words.specs.ListLaws.{either}
-use Rattle.recipe.specs.Tree.{Tree, elements}
 use Rattle.expansion.specs.Rules.{Template, pairT, ellipsisT, drivers}
+use Rattle.expansion.specs.Match.{share}
 use Rattle.expansion.specs.Transcribe.{allBelow}
 use Rattle.rule_cells.specs.Cells.{templateAt}
-use Rattle.environments.specs.Environment.{Environment, takes, within, enter, lengthsBy, countBy, agreeBy}
+use Rattle.environments.specs.Environment.{Environment, behind, counts, within, enter, lengthsBy, countBy, agreeBy}
 use Rattle.environments.specs.BelowLaws.{and-turned, below-true, below-cong, below-both, below-false, below-fewer}
-use Rattle.environments.specs.EnvironmentLaws.{entering-whole, entering-one, entering-first}
+use Rattle.environments.specs.EnvironmentLaws.{entering-whole, entering-one, entering-first, entering-second}
 use Rattle.environments.specs.Sound.{Plain, variable, insert, constant, empty, pairs, ellipsis}
 use Rattle.environments.specs.Entries.{environmentAt}
 use Rattle.environments.specs.Lengths.{driving, after, Copies, Differs, Drives}
@@ -44,27 +44,29 @@ record Alike (v u : Environment) : Type 0 where
   whole-same : (k : ℕ) → v k .whole ≡ u k .whole
   one-same : (k : ℕ) → v k .one ≡ u k .one
   first-same : (k : ℕ) → v k .first ≡ u k .first
+  second-same : (k : ℕ) → v k .second ≡ u k .second
 
-enter-alike : (i : ℕ) (v u : Environment) → ((k : ℕ) → v k .whole ≡ u k .whole) → ((k : ℕ) → v k .first ≡ u k .first) → Alike (enter i v) (enter i u)
+enter-alike : (i : ℕ) (v u : Environment) → ((k : ℕ) → v k .whole ≡ u k .whole) → ((k : ℕ) → v k .first ≡ u k .first) → ((k : ℕ) → v k .second ≡ u k .second) → Alike (enter i v) (enter i u)
 unfolding enter
-enter-alike i v u a b =
+enter-alike i v u a b c =
     record {
       whole-same = λ k. entering-whole k i (v k .first) (v k) ∙ a k ∙ sym (entering-whole k i (u k .first) (u k));
       one-same = λ k. entering-one k i (v k .first) (v k) ∙ ap₂ (within k i) (b k) (a k) ∙ sym (entering-one k i (u k .first) (u k));
       first-same = λ k. entering-first k i (v k .first) (v k) ∙ b k ∙ sym (entering-first k i (u k .first) (u k));
+      second-same = λ k. entering-second k i (v k .first) (v k) ∙ c k ∙ sym (entering-second k i (u k .first) (u k));
     }
 
 module _ (v u : Environment) (alike : Alike v u) where
-  takes-alike : (k d : ℕ) → d < depthMost → takes d (v k) ≡ takes d (u k)
-  unfolding takes
-  takes-alike k zero h = alike .whole-same k
-  takes-alike k (suc zero) h = alike .one-same k
-  takes-alike k (suc (suc d)) h = absurd (omega arith)
+  counts-alike : (k d : ℕ) → d < depthMost → counts d (v k) ≡ counts d (u k)
+  unfolding counts
+  counts-alike k zero h = ap₂ share (ap behind (alike .first-same k)) (alike .whole-same k)
+  counts-alike k (suc zero) h = ap₂ share (ap behind (alike .second-same k)) (alike .one-same k)
+  counts-alike k (suc (suc d)) h = absurd (omega arith)
 
   drivers-alike : (j : ℕ) {t : Template} → Plain t → lengthsBy v j t ≡ lengthsBy u j t
   unfolding lengthsBy drivers
   drivers-alike j (variable {k} {d} h m) =
-      either (ltb j d) (λ e. rw e (ap (λ (x : Tree). length (elements x) ∷ []) (takes-alike k (d - suc j) (omega arith)))) (λ e. rw e refl)
+      either (ltb j d) (λ e. rw e (ap (λ (c : ℕ). c ∷ []) (counts-alike k (d - suc j) (omega arith)))) (λ e. rw e refl)
   drivers-alike j insert = refl
   drivers-alike j (constant x y z) = refl
   drivers-alike j empty = refl
@@ -84,14 +86,14 @@ agree-alike v u s (ellipsis {a = e} x y) =
     ap₂ _&&_ (ap (λ (l : List ℕ). allOf (eqb (getD l 0 0)) l) (drivers-alike v u s 0 x))
     (ap₂ _&&_
     (ap (λ (l : List ℕ). allBelow (λ i. agreeBy (enter i v) e) (getD l 0 0)) (drivers-alike v u s 0 x)
-    ∙ below-cong _ _ _ (λ i. agree-alike (enter i v) (enter i u) (enter-alike i v u (s .whole-same) (s .first-same)) x))
+    ∙ below-cong _ _ _ (λ i. agree-alike (enter i v) (enter i u) (enter-alike i v u (s .whole-same) (s .first-same) (s .second-same)) x))
     (agree-alike v u s y))
 
 -- a copy within a copy: the outer index does not tell
 agree-inner : (v : Environment) (i j : ℕ) {e : Template} → Plain e → agreeBy (enter j (enter i v)) e ≡ agreeBy (enter j v) e
 unfolding enter
 agree-inner v i j p =
-    agree-alike (enter j (enter i v)) (enter j v) (enter-alike j (enter i v) v (λ k. entering-whole k i (v k .first) (v k)) (λ k. entering-first k i (v k .first) (v k))) p
+    agree-alike (enter j (enter i v)) (enter j v) (enter-alike j (enter i v) v (λ k. entering-whole k i (v k .first) (v k)) (λ k. entering-first k i (v k .first) (v k)) (λ k. entering-second k i (v k .first) (v k))) p
 
 -- ---- the law
 

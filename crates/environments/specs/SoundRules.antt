@@ -1,7 +1,7 @@
 -- Rules that parsing makes of tidy trees are sound. Tails must be lists: a name in place of the list after `...` would be counted as
 -- a variable, and no pattern would hold it.
-use mathlib.Core.Path.{_≡_, refl}
-use mathlib.Core.Bool.{Bool, true, false, not, _&&_, cond, false≢true}
+use mathlib.Core.Path.{_≡_, refl, _∙_}
+use mathlib.Core.Bool.{Bool, true, false, not, _&&_, _||_, cond, false≢true}
 use mathlib.Core.List.{List, [], _∷_, map}
 use mathlib.Core.Option.{Option}
 use Prim.Native.Nat.{ℕ, suc, _+_, _≤_, _<_}
@@ -15,14 +15,15 @@ use Rattle.words.specs.TestLaws.{and-left, and-right, or-left, or-right}
 use Rattle.words.specs.Options.{onlyIf, mapBoth}
 use Rattle.words.specs.Each.{Each, each-weaken, Given, missing, given, given-weaken, given-traverse, given-cond, given-guard, given-mapSome, given-mapBoth}
 use Rattle.datum.specs.Constant.{Constant, isConstant}
-use Rattle.recipe.specs.Name.{Name, same, distinct, isEllipsis}
-use Rattle.recipe.specs.Tree.{Tree, empty, constant, name, onEmpty, onName, onPair, isList, isListOf, names, elements, element, tail}
-use Rattle.recipe.specs.Tidy.{Tidy, tidyEmpty, tidyConstant, tidyName, tidyPair, tidy-elements, tidy-element, tidy-tail}
+use Rattle.recipe.specs.Name.{Name, same, distinct}
+use Rattle.recipe.specs.Tree.{Tree, empty, constant, name, pair, onName, onPair, isListOf, names, elements, element, tail}
+use Rattle.recipe.specs.Tidy.{Tidy, tidyEmpty, tidyConstant, tidyName, tidyPair, tidy-elements, tidy-element}
 use Rattle.recipe.specs.TableTidy.{IsConstant}
-use Rattle.expansion.specs.Rules.{literalList, rulePattern, ruleVariables, Pattern, pairP, ellipsisP, constantT, pairT, ellipsisT, depthFits, variableFrom, nameTemplate, areVariables, dotsNext, depthBefore, isVariable, variables, patternOf, templateOf, ruleOf, isRulesForm, rulesOf}
+use Rattle.expansion.specs.Rules.{literalList, ellipsisOf, rulePattern, matchedPart, templatePlace, ruleVariables, Pattern, pairP, ellipsisP, Template, constantT, pairT, ellipsisT, depthFits, variableFrom, nameTemplate, areVariables, listTemplate, Place, asElement, asRest, asTaken, asEscaped, noEllipsis, dotsNext, depthBefore, placeAfter, isVariable, variables, patternOf, templateOf, ruleOf, isRulesForm, rulesOf}
+use Rattle.expansion.specs.TidyRules.{tidy-rules}
 use Rattle.expansion.specs.Match.{holds}
 use Rattle.words.specs.ListLaws.{either}
-use Rattle.rule_cells.specs.PatternLaws.{count-pair}
+use Rattle.rule_cells.specs.PatternLaws.{count-pair, dots-count}
 use Rattle.environments.specs.Sound.{Sound, SoundRule}
 
 -- ---- answers
@@ -52,49 +53,34 @@ module _ (dots : Name → Bool) (literals : List Name) where
   abbrev count : Tree → ℕ
   count t = length (variables dots literals 0 t)
 
-  module _ {N : Name → Type 0} {C : Constant → Type 0} where
-    count-end : {t : Tree} → Tidy N C t → isList t ≡ true → length (elements t) ≡ 0 → count t ≡ 0
-    unfolding isList onEmpty onPair elements variables
-    count-end tidyEmpty l e = refl
-    count-end (tidyConstant c) l e = absurd (false≢true l)
-    count-end (tidyName x) l e = absurd (false≢true l)
-    count-end (tidyPair p q m) l e = absurd (omega arith)
+  -- two parts hold what both hold
+  both-hold : (k m n : ℕ) (p q r : Pattern) → ((j : ℕ) → holds j r ≡ (holds j p || holds j q)) → HoldsFrom k m p → HoldsFrom (k + m) n q → HoldsFrom k (m + n) r
+  both-hold k m n p q r e f g j c l =
+      e j
+      ∙ either (leb (k + m) j)
+      (λ o. or-right (holds j p) (holds j q) (g j (leb-true (k + m) j o) (omega arith)))
+      (λ o. or-left (holds j p) (holds j q) (f j c (leb-false (k + m) j o)))
 
-    -- `...` alone has no variable
-    count-dots : {t : Tree} → Tidy N C t → dotsNext dots t ≡ true → isListOf 1 t ≡ true → count t ≡ 0
-    unfolding dotsNext onPair onName isListOf isList onEmpty elements variables isVariable
-    count-dots tidyEmpty d l = absurd (false≢true d)
-    count-dots (tidyConstant c) d l = absurd (false≢true d)
-    count-dots (tidyName x) d l = absurd (false≢true d)
-    count-dots (tidyPair tidyEmpty q m) d l = absurd (false≢true d)
-    count-dots (tidyPair (tidyConstant c) q m) d l = absurd (false≢true d)
-    count-dots (tidyPair {t = t} (tidyName x) q m) d l =
-        let e : suc (length (elements t)) ≡ 1 = eqb-true (suc (length (elements t))) 1 l in
-        rw d (count-end q m (omega arith))
-    count-dots (tidyPair (tidyPair a b c) q m) d l = absurd (false≢true d)
-
-    -- a pattern holds every variable that is counted
-    patternOf-holds : (k : ℕ) {t : Tree} → Tidy N C t → Given (HoldsFrom k (count t)) (patternOf dots literals k t)
-    unfolding patternOf variables holds
-    patternOf-holds k tidyEmpty = given (λ j a b. absurd (omega arith))
-    patternOf-holds k (tidyConstant c) = given (λ j a b. absurd (omega arith))
-    patternOf-holds k (tidyName {x} y) =
-        given-guard (not (dots x))
-        (either (isVariable dots literals x)
-        (λ v. rw v (given (λ j a b. eq-eqb j k (omega arith))))
-        (λ v. rw v (given (λ j a b. absurd (omega arith)))))
-    patternOf-holds k (tidyPair {h} {t} p q l) =
-        let first = patternOf-holds k p in
-        let both = count-pair dots literals h t in
-        given-tested (dotsNext dots t)
-        (λ d. given-guarded (isListOf 1 t) (λ e. given-mapSome ellipsisP (λ a f j b c. f j b (omega (arith, both, count-dots q d e))) first))
-        (λ d. given-mapBoth pairP (λ a b f g j c e. both-hold a b f g j c (omega (arith, both, e))) first (patternOf-holds (k + count h) q))
-      where
-        both-hold : (a b : Pattern) → HoldsFrom k (count h) a → HoldsFrom (k + count h) (count t) b → HoldsFrom k (count h + count t) (pairP a b)
-        both-hold a b f g j c e =
-            either (leb (k + count h) j)
-            (λ o. or-right (holds j a) (holds j b) (g j (leb-true (k + count h) j o) (omega arith)))
-            (λ o. or-left (holds j a) (holds j b) (f j c (leb-false (k + count h) j o)))
+  -- a pattern holds every variable that is counted
+  patternOf-holds : (k : ℕ) (taken : Bool) (t : Tree) → (taken ≡ true → dotsNext dots t ≡ true) → Given (HoldsFrom k (count t)) (patternOf dots literals k taken t)
+  unfolding patternOf variables holds dotsNext onPair
+  patternOf-holds k taken empty b = given (λ j a c. absurd (omega arith))
+  patternOf-holds k taken (constant x) b = given (λ j a c. absurd (omega arith))
+  patternOf-holds k taken (name x) b =
+      given-guard (not (dots x))
+      (either (isVariable dots literals x)
+      (λ v. rw v (given (λ j a c. eq-eqb j k (omega arith))))
+      (λ v. rw v (given (λ j a c. absurd (omega arith)))))
+  patternOf-holds k taken (pair h t) b =
+      let first = patternOf-holds k false h (λ e. absurd (false≢true e)) in
+      let later = patternOf-holds (k + count h) (not taken && dotsNext dots t) t (λ e. and-right (not taken) (dotsNext dots t) e) in
+      let both = count-pair dots literals h t in
+      given-tested taken
+      (λ e. given-weaken (λ q g j c l. g j (omega (arith, dots-count dots literals h (b e))) (omega (arith, both))) later)
+      (λ e.
+      given-cond (dotsNext dots t)
+      (given-guard _ (given-mapBoth _ (λ x y f g j c l. both-hold k (count h) (count t) x y (ellipsisP x (length (elements (tail t))) y) (λ i. refl) f g j c (omega (arith, both))) first later))
+      (given-mapBoth pairP (λ x y f g j c l. both-hold k (count h) (count t) x y (pairP x y) (λ i. refl) f g j c (omega (arith, both))) first later))
 
 -- ---- templates
 
@@ -118,7 +104,7 @@ variableFrom-known k (v ∷ vs) x s =
     given-cond (same (v .0) x) (given (record { few = omega arith; shallow = leb-true (v .1) depthMost (and-left (leb (v .1) depthMost) _ s) }))
     (given-weaken (λ a f. record { few = omega (arith, f .few); shallow = f .shallow }) (variableFrom-known (suc k) vs x (and-right (leb (v .1) depthMost) _ s)))
 
-module _ (dots : Name → Bool) (vs : List (Name × ℕ)) (good : areVariables vs ≡ true) (p : Pattern) (held : HoldsFrom 0 (length vs) p) where
+module _ (vs : List (Name × ℕ)) (good : areVariables vs ≡ true) (p : Pattern) (held : HoldsFrom 0 (length vs) p) where
   few : length vs ≤ patternVariablesMost
   unfolding areVariables
   few = leb-true (length vs) patternVariablesMost (and-left (leb (length vs) patternVariablesMost) _ good)
@@ -134,18 +120,27 @@ module _ (dots : Name → Bool) (vs : List (Name × ℕ)) (good : areVariables v
       given-guarded (depthFits (v .1) here)
       (λ e. given (Sound.variable (omega (arith, f .few, few)) (held (v .0) (omega arith) (f .few)) (f .shallow) (depthFits-most (v .1) here e)))
 
-  templateOf-sound : {N : Name → Type 0} (d : ℕ) (taken : Bool) {t : Tree} → Tidy N IsConstant t → Given (Sound p d) (templateOf dots vs d taken t)
-  unfolding templateOf depthBefore
-  templateOf-sound d taken tidyEmpty = given Sound.empty
-  templateOf-sound d taken (tidyConstant {a} c) = given (constant-sound p d a c)
-  templateOf-sound d taken (tidyName {x} y) = given-guard (not (dots x)) (nameTemplate-sound d x (variableFrom-known 0 vs x shallow))
-  templateOf-sound d taken (tidyPair {h} {t} a b l) =
-      let first = templateOf-sound (depthBefore dots t d) false a in
-      let later = templateOf-sound d (not taken && dotsNext dots t) b in
-      given-cond taken later
-      (given-tested (dotsNext dots t)
+  -- an element and the rest of its list
+  list-sound : (d : ℕ) (followed : Bool) {first later : Option Template} → Given (Sound p (cond followed (suc d) d)) first → Given (Sound p d) later → Given (Sound p d) (listTemplate followed first later)
+  unfolding listTemplate
+  list-sound d followed first later =
+      given-tested followed
       (λ e. given-guard _ (given-mapBoth ellipsisT (λ x y f g. Sound.ellipsis (rw e at f) g) first later))
-      (λ e. given-mapBoth pairT (λ x y f g. Sound.pairs (rw e at f) g) first later))
+      (λ e. given-mapBoth pairT (λ x y f g. Sound.pairs (rw e at f) g) first later)
+
+  templateOf-sound : {N : Name → Type 0} (dots : Name → Bool) (d : ℕ) (place : Place) {t : Tree} → Tidy N IsConstant t → Given (Sound p d) (templateOf dots vs d place t)
+  unfolding templateOf depthBefore
+  templateOf-sound dots d place tidyEmpty = given Sound.empty
+  templateOf-sound dots d place (tidyConstant {a} c) = given (constant-sound p d a c)
+  templateOf-sound dots d place (tidyName {x} y) = given-guard (not (dots x)) (nameTemplate-sound d x (variableFrom-known 0 vs x shallow))
+  templateOf-sound dots d asElement (tidyPair {h} {t} a b l) =
+      given-cond (onName dots false h)
+      (given-guard _ (templateOf-sound noEllipsis d asEscaped b))
+      (list-sound d (dotsNext dots t) (templateOf-sound dots (depthBefore dots t d) asElement a) (templateOf-sound dots d (placeAfter dots t) b))
+  templateOf-sound dots d asRest (tidyPair {h} {t} a b l) =
+      list-sound d (dotsNext dots t) (templateOf-sound dots (depthBefore dots t d) asElement a) (templateOf-sound dots d (placeAfter dots t) b)
+  templateOf-sound dots d asTaken (tidyPair a b l) = templateOf-sound dots d asRest b
+  templateOf-sound dots d asEscaped (tidyPair a b l) = templateOf-sound dots d asElement a
 
 -- ---- rules
 
@@ -157,9 +152,9 @@ module _ {N : Name → Type 0} where
       given-guarded _
       (λ e.
       let good : areVariables vs ≡ true = and-right (onName (λ x. not (dots x)) false (element 0 (rulePattern r))) _ (and-right (isListOf 2 r) _ e) in
-      given-then _ (λ p held. templateOf-sound dots vs good p held 0 false (tidy-element 1 s)) (patternOf-holds dots literals 0 (tidy-tail (tidy-element 0 s))))
+      given-then _ (λ p held. templateOf-sound vs good p held dots 0 asElement (tidy-element templatePlace s)) (patternOf-holds dots literals 0 false (matchedPart r) (λ e. absurd (false≢true e))))
 
   pub rulesOf-sound : {r : Tree} → Tidy N IsConstant r → Given (Each SoundRule) (rulesOf r)
   unfolding rulesOf
   rulesOf-sound {r} s =
-      given-guard (isRulesForm r) (given-traverse (each-weaken (λ t f. ruleOf-sound isEllipsis (names (literalList r)) f) (tidy-elements (tidy-tail (tidy-tail s)))))
+      given-guard (isRulesForm r) (given-traverse (each-weaken (λ t f. ruleOf-sound (ellipsisOf r) (names (literalList r)) f) (tidy-elements (tidy-rules s))))

@@ -1,12 +1,14 @@
 // The environment of a pattern and a use that fits it. The tail of a list is bound before its head, which the definition finds first.
 
-ghost use Rattle.environments.specs.Bind.{bound, BindsOne, BindsList, Binds};
+ghost use Rattle.environments.specs.Bind.{bound, innerSecond, BindsOne, BindsList, Binds};
+ghost use mathlib.Core.Path.{_≡_};
 use crate::environment;
 use crate::environment::Entry;
+use crate::shares;
 use arena::lists;
 use rule_cells::cells;
 
-// Variable k takes a node, and lies under the ellipses of these elements.
+// Variable k takes a node, and lies under these ellipses.
 fn bind_variable(env: &mut [u32; environment::WORDS], k: u32, node: u32, first: u32, second: u32)
     ensures { λ _. ⌜ BindsOne k (bound node first second) (now (env .entry)) (now (env .exit)) ⌝ }
 {
@@ -29,7 +31,20 @@ fn bind_variable(env: &mut [u32; environment::WORDS], k: u32, node: u32, first: 
     );
 }
 
-// The variables of an element: each takes the list. An ellipsis has its element where a pair has its rest.
+// The second ellipsis over the variables of a cell's head: the cell's own, where it is one and none is known.
+fn inner_second(tag: u32, p: u32, second: u32) -> u32
+    ensures { λ r. ⌜ r ≡ innerSecond tag p second ⌝ }
+{
+    if tag != cells::ELLIPSIS {
+        return second;
+    }
+    if second != 0 {
+        return second;
+    }
+    p
+}
+
+// The variables of an element: each takes the list.
 fn bind_list(
     work: &[u32],
     env: &mut [u32; environment::WORDS],
@@ -46,21 +61,17 @@ fn bind_list(
         bind_variable(env, k, list, first, second);
         return;
     }
+    if tag < cells::PAIR {
+        return;
+    }
+    if cells::ELLIPSIS < tag {
+        return;
+    }
     let rest = arena::cells::reference(work, p, cells::REST);
-    if tag == cells::ELLIPSIS {
-        if second == 0 {
-            bind_list(&work[0..], env, rest, list, first, rest);
-            return;
-        }
-        bind_list(&work[0..], env, rest, list, first, second);
-        return;
-    }
-    if tag != cells::PAIR {
-        return;
-    }
-    let head = arena::cells::reference(work, p, cells::HEAD);
     bind_list(&work[0..], env, rest, list, first, second);
-    bind_list(&work[0..], env, head, list, first, second);
+    let head = arena::cells::reference(work, p, cells::HEAD);
+    let inner = inner_second(tag, p, second);
+    bind_list(&work[0..], env, head, list, first, inner);
 }
 
 // The variables of a pattern, each with what it takes from the use.
@@ -74,8 +85,11 @@ pub fn bind(work: &[u32], env: &mut [u32; environment::WORDS], p: u32, u: u32)
         return;
     }
     let rest = arena::cells::reference(work, p, cells::REST);
+    let head = arena::cells::reference(work, p, cells::HEAD);
     if tag == cells::ELLIPSIS {
-        bind_list(&work[0..], env, rest, u, rest, 0);
+        let after = lists::skip(work, u, shares::share(work, p, u));
+        bind(&work[0..], env, rest, after);
+        bind_list(&work[0..], env, head, u, p, 0);
         return;
     }
     if tag != cells::PAIR {
@@ -83,7 +97,6 @@ pub fn bind(work: &[u32], env: &mut [u32; environment::WORDS], p: u32, u: u32)
     }
     let tail = lists::rest(work, u);
     bind(&work[0..], env, rest, tail);
-    let head = arena::cells::reference(work, p, cells::HEAD);
     let first = lists::first(work, u);
     bind(&work[0..], env, head, first);
 }

@@ -8,8 +8,9 @@ ghost use mathlib.Core.List.{List};
 ghost use lib.ListN.{length};
 ghost use Prim.Native.Nat.{ℕ, _<_};
 ghost use Rattle.words.specs.Limits.{patternVariablesMost};
-ghost use Rattle.environments.specs.Entries.{tableWords, entryAt, takenIn, level, Listed, Under, Moving, begun, Stored, AlongAll, Within, Next, Enters};
+ghost use Rattle.environments.specs.Entries.{tableWords, entryAt, takenIn, level, nextLevel, CountsCopies, Listed, Under, Moving, begun, Stored, AlongAll, Within, Next, Enters};
 use crate::parts;
+use crate::shares;
 use arena::lists;
 use rule_cells::cells;
 
@@ -20,8 +21,8 @@ const ENTRIES: usize = words::VARIABLES as usize;
 
 pub const WORDS: usize = ENTRY * ENTRIES;
 
-// What a variable takes under none, one and two of the innermost indices; the patterns of the elements that a first and a
-// second index enter, 0 where there is no ellipsis; and what is left of the lists that these indices count.
+// What a variable takes under none, one and two of the innermost indices; the ellipses of the pattern that a first and a second
+// index enter, 0 where there is none; and what is left of the lists that these indices count.
 pub struct Entry {
     pub whole: u32,
     pub one: u32,
@@ -102,7 +103,30 @@ pub fn is_listed(work: &[u32], env: &[u32; WORDS], e: u32) -> bool
         return false;
     }
     let q = table[ENTRY * (k as usize) + 3];
-    arena::cells::word(work, q, cells::TAG) == cells::VARIABLE
+    let element = arena::cells::reference(work, q, cells::HEAD);
+    arena::cells::word(work, element, cells::TAG) == cells::VARIABLE
+}
+
+// The word of an entry that has the list which the index after d others counts; its ellipsis stands three words behind.
+fn next_level(d: u32) -> usize
+    ensures { λ r. ⌜ r ≡ nextLevel d ⌝ }
+{
+    if d == 0 {
+        return 0;
+    }
+    1
+}
+
+// How many copies the list of variable k drives, under d indices.
+pub fn copies(work: &[u32], env: &[u32; WORDS], k: u32, d: u32) -> u32
+    ensures { λ r. ⌜ CountsCopies (now (work .entry)) (now (env .entry)) k d r ⌝ }
+{
+    let table: &[u32] = env;
+    if words::VARIABLES <= k {
+        return 0;
+    }
+    let i = ENTRY * (k as usize) + next_level(d);
+    shares::share(work, table[i + 3], table[i])
 }
 
 // ---- copies of an element
@@ -141,15 +165,16 @@ pub fn begin(outer: &[u32; WORDS], inner: &mut [u32; WORDS]) -> usize
     moving
 }
 
-// What variable k takes of a list's first element by the element's pattern q; without a pattern, what it took before.
+// What variable k takes of a list's first element by the pattern of ellipsis q's element; without one, what it took before.
 fn within(work: &[u32], q: u32, k: u32, list: u32, before: u32) -> u32
     ensures { λ r. ⌜ Within (now (work .entry)) q k list before r ⌝ }
 {
     if q == 0 {
         return before;
     }
+    let element = arena::cells::reference(work, q, cells::HEAD);
     let first = lists::first(work, list);
-    parts::part(work, q, k, first)
+    parts::part(work, element, k, first)
 }
 
 // The entry of variable k in the next copy.

@@ -4,7 +4,6 @@ ghost use mathlib.Core.Path.{_≡_};
 ghost use Prim.Native.Nat.{_+_, _^_, _<_};
 ghost use Rattle.environments.specs.Lengths.{deeper, also, Drives, Counted};
 use crate::environment;
-use arena::lists;
 use rule_cells::cells;
 
 // What the lists that drive an element say: there is none, all are of one length, or two differ in length.
@@ -65,8 +64,7 @@ fn drivers(
             return before;
         }
         let k = arena::cells::word(work, t, cells::NUMBER);
-        let list = environment::taken(env, k, d - j - 1);
-        return also(before, lists::count(work, list));
+        return also(before, environment::copies(work, env, k, d - j - 1));
     }
     if tag < cells::PAIR {
         return before;

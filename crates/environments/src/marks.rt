@@ -12,7 +12,6 @@ ghost use Rattle.environments.specs.Marks.{markWords, Marks, Unmarked, K
 use crate::environment;
 use crate::lengths;
 use crate::lengths::Driving;
-use arena::lists;
 use rule_cells::cells;
 
 // A word for each variable, taken under no index, and again under one.
@@ -102,8 +101,7 @@ pub fn gather(
     }
     let k = n - 1;
     if marks[place(k, level)] == 1 {
-        let list = environment::taken(env, k, level);
-        let more = lengths::also(before, lists::count(work, list));
+        let more = lengths::also(before, environment::copies(work, env, k, level));
         return gather(work, env, marks, level, k, more);
     }
     gather(work, env, marks, level, k, before)

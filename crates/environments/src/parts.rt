@@ -1,6 +1,7 @@
 // What a pattern's variable takes from a use at no index, found by walking pattern and use together.
 
 ghost use Rattle.environments.specs.Parts.{Holds, Part};
+use crate::shares;
 use arena::lists;
 use rule_cells::cells;
 
@@ -12,11 +13,10 @@ fn holds(work: &[u32], p: u32, k: u32) -> bool
     if tag == cells::VARIABLE {
         return k == arena::cells::word(work, p, cells::PATTERN_NUMBER);
     }
-    if tag == cells::ELLIPSIS {
-        let element = arena::cells::reference(work, p, cells::ELEMENT);
-        return holds(work, element, k);
+    if tag < cells::PAIR {
+        return false;
     }
-    if tag != cells::PAIR {
+    if cells::ELLIPSIS < tag {
         return false;
     }
     let head = arena::cells::reference(work, p, cells::HEAD);
@@ -37,7 +37,7 @@ fn part_holds(work: &[u32], p: u32, k: u32) -> bool
     holds(work, p, k)
 }
 
-// What variable k takes; at an ellipsis, the list that an index would count.
+// What variable k takes; at an ellipsis over it, the list that an index would count. What follows an ellipsis is counted from the end.
 pub fn part(work: &[u32], p: u32, k: u32, u: u32) -> u32
     ensures { λ r. ⌜ Part (now (work .entry)) p k u r ⌝ }
 {
@@ -57,8 +57,14 @@ pub fn part(work: &[u32], p: u32, k: u32, u: u32) -> u32
     if tag == cells::VARIABLE {
         return node;
     }
-    if tag == cells::ELLIPSIS {
+    if tag != cells::ELLIPSIS {
+        return 0;
+    }
+    let element = arena::cells::reference(work, at, cells::HEAD);
+    if part_holds(work, element, k) {
         return node;
     }
-    0
+    let after = lists::skip(work, node, shares::share(work, at, node));
+    let rest = arena::cells::reference(work, at, cells::REST);
+    part(work, rest, k, after)
 }

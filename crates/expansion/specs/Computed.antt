@@ -28,16 +28,16 @@ unfolding
     Name.plainName Name.bindingKey Name.isBound Name.same Name.distinct Name.isEllipsis Name.isWildcard Name.isOrdinary Name.toggle Name.markName
     Name.produceName Name.giveBinding Name.bindName
     Tree.size Tree.names Tree.strip Tree.onEmpty Tree.onConstant Tree.onName Tree.onPair Tree.isName Tree.isOrdinaryName Tree.isList Tree.elements
-    Tree.isListOf Tree.element Tree.tail Tree.onNames Tree.mark Tree.produce Tree.bind Tree.bindAll
+    Tree.isListOf Tree.element Tree.tail Tree.past Tree.onNames Tree.mark Tree.produce Tree.bind Tree.bindAll
     Table.items Table.byKind Table.constantOf Table.references Table.occurrences Table.kindAt Table.isPairItem Table.isItem Table.isReferredOnce
     Table.trees Table.treeOf Table.itemCount Table.isLayout
     Node.nodeWords
     Term.count
     Words.datumWords Words.encode
     Lookup.formOf Lookup.placeFrom Lookup.unboundMeaning Lookup.orUnbound Lookup.lookup Lookup.isSyntaxRules Lookup.agree
-    Rules.drivers Rules.isDriven Rules.depthFits Rules.variableFrom Rules.nameTemplate Rules.areVariables Rules.dotsNext Rules.depthBefore
-    Rules.isVariable Rules.variables Rules.patternOf Rules.templateOf Rules.ruleOf Rules.isRulesForm Rules.rulesOf
-    Match.fitting Match.misfit Match.andThen Match.bothFit Match.eachFits Match.fit Match.orNext Match.firstFit Match.holds Match.part
+    Rules.chosenCount Rules.afterChosen Rules.ellipsisOf Rules.drivers Rules.isDriven Rules.depthFits Rules.variableFrom Rules.nameTemplate Rules.areVariables
+    Rules.listTemplate Rules.noEllipsis Rules.dotsNext Rules.depthBefore Rules.placeAfter Rules.isLiteral Rules.isVariable Rules.variables Rules.patternOf Rules.templateOf Rules.ruleOf Rules.isRulesForm Rules.rulesOf
+    Match.fitting Match.misfit Match.andThen Match.bothFit Match.share Match.eachFits Match.fit Match.orNext Match.firstFit Match.holds Match.part Match.following
     Transcribe.copies Transcribe.allBelow Transcribe.taken Transcribe.lengths Transcribe.copyCount Transcribe.equalLengths Transcribe.transcribe
     Computation.start Computation.after Computation.goOn Computation._>>=_ Computation._>>_ Computation.give Computation.refuse Computation.show
     Computation.test Computation.orRefuse Computation.get Computation.addVariables Computation.addMacros Computation.addStep

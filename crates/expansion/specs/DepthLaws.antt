@@ -9,9 +9,9 @@ use lib.Dec.{eqb}
 use borrow.Author.Tests.{eqb-true, le-leb}
 use Rattle.words.specs.ListLaws.{either}
 use Rattle.words.specs.Options.{onlyIf, mapSome, mapBoth, traverse}
-use Rattle.recipe.specs.Name.{Name, isEllipsis}
-use Rattle.recipe.specs.Tree.{Tree, empty, constant, name, pair, names, elements}
-use Rattle.expansion.specs.Rules.{Template, pairT, ellipsisT, Rule, literalList, ruleList, matchedPart, ruleTemplate, isDriven, depthFits, variableFrom, nameTemplate, dotsNext, depthBefore, patternOf, templateOf, ruleVariables, ruleOf, isRulesForm, rulesOf}
+use Rattle.recipe.specs.Name.{Name}
+use Rattle.recipe.specs.Tree.{Tree, empty, constant, name, pair, onName, names, isListOf, elements}
+use Rattle.expansion.specs.Rules.{Template, pairT, ellipsisT, Rule, ellipsisOf, literalList, ruleList, matchedPart, ruleTemplate, isDriven, depthFits, variableFrom, nameTemplate, listTemplate, Place, asElement, asRest, asTaken, asEscaped, noEllipsis, dotsNext, depthBefore, placeAfter, patternOf, templateOf, ruleVariables, ruleOf, isRulesForm, rulesOf}
 use Rattle.expansion.specs.Depths.{exactly, nameBy, templateBy, ruleBy, rulesBy}
 
 -- ---- with the definition's test it is the definition's reading
@@ -21,21 +21,25 @@ unfolding nameBy nameTemplate
 nameBy-is here x none = refl
 nameBy-is here x (some v) = refl
 
-templateBy-is : (vs : List (Name × ℕ)) (d : ℕ) (taken : Bool) (t : Tree) → templateBy depthFits vs d taken t ≡ templateOf isEllipsis vs d taken t
+templateBy-is : (dots : Name → Bool) (vs : List (Name × ℕ)) (d : ℕ) (place : Place) (t : Tree) → templateBy depthFits dots vs d place t ≡ templateOf dots vs d place t
 unfolding templateBy templateOf
-templateBy-is vs d taken empty = refl
-templateBy-is vs d taken (constant a) = refl
-templateBy-is vs d taken (name x) = ap (onlyIf (not (isEllipsis x))) (nameBy-is d x (variableFrom 0 vs x))
-templateBy-is vs d taken (pair p ps) =
-    ap₂ (λ (first later : Option Template). cond taken later (cond (dotsNext isEllipsis ps) (onlyIf (isDriven first) (mapBoth ellipsisT first later)) (mapBoth pairT first later)))
-    (templateBy-is vs (depthBefore isEllipsis ps d) false p) (templateBy-is vs d (not taken && dotsNext isEllipsis ps) ps)
+templateBy-is dots vs d place empty = refl
+templateBy-is dots vs d place (constant a) = refl
+templateBy-is dots vs d place (name x) = ap (onlyIf (not (dots x))) (nameBy-is d x (variableFrom 0 vs x))
+templateBy-is dots vs d asElement (pair p ps) =
+    ap₂ (cond (onName dots false p)) (ap (onlyIf (isListOf 1 ps)) (templateBy-is noEllipsis vs d asEscaped ps))
+    (ap₂ (listTemplate (dotsNext dots ps)) (templateBy-is dots vs (depthBefore dots ps d) asElement p) (templateBy-is dots vs d (placeAfter dots ps) ps))
+templateBy-is dots vs d asRest (pair p ps) =
+    ap₂ (listTemplate (dotsNext dots ps)) (templateBy-is dots vs (depthBefore dots ps d) asElement p) (templateBy-is dots vs d (placeAfter dots ps) ps)
+templateBy-is dots vs d asTaken (pair p ps) = templateBy-is dots vs d asRest ps
+templateBy-is dots vs d asEscaped (pair p ps) = templateBy-is dots vs d asElement p
 
-ruleBy-is : (literals : List Name) (r : Tree) → ruleBy depthFits literals r ≡ ruleOf isEllipsis literals r
+ruleBy-is : (dots : Name → Bool) (literals : List Name) (r : Tree) → ruleBy depthFits dots literals r ≡ ruleOf dots literals r
 unfolding ruleBy ruleOf
-ruleBy-is literals r =
+ruleBy-is dots literals r =
     ap (onlyIf _)
-    (ap (mapBoth (λ q t. record { pattern = q; template = t }) (patternOf isEllipsis literals 0 (matchedPart r)))
-    (templateBy-is (ruleVariables isEllipsis literals r) 0 false (ruleTemplate r)))
+    (ap (mapBoth (λ q t. record { pattern = q; template = t }) (patternOf dots literals 0 false (matchedPart r)))
+    (templateBy-is dots (ruleVariables dots literals r) 0 asElement (ruleTemplate r)))
 
 traverse-cong : {A B : Type 0} (f g : A → Option B) → ((x : A) → f x ≡ g x) → (xs : List A) → traverse f xs ≡ traverse g xs
 unfolding traverse
@@ -44,7 +48,7 @@ traverse-cong f g h (x ∷ xs) = ap₂ (mapBoth _∷_) (h x) (traverse-cong f g 
 
 pub rulesBy-is : (r : Tree) → rulesBy depthFits r ≡ rulesOf r
 unfolding rulesBy rulesOf
-rulesBy-is r = ap (onlyIf (isRulesForm r)) (traverse-cong _ _ (ruleBy-is (names (literalList r))) (elements (ruleList r)))
+rulesBy-is r = ap (onlyIf (isRulesForm r)) (traverse-cong _ _ (ruleBy-is (ellipsisOf r) (names (literalList r))) (elements (ruleList r)))
 
 -- ---- a narrower test
 
@@ -89,21 +93,27 @@ module _ (narrow wide : (d here : ℕ) → Bool) (wider : (d here : ℕ) → nar
   name-again here x none = same
   name-again here x (some v) = again-guard (narrow (v .1) here) (wide (v .1) here) (wider (v .1) here) same
 
-  template-again : (vs : List (Name × ℕ)) (d : ℕ) (taken : Bool) (t : Tree) → Again (templateBy narrow vs d taken t) (templateBy wide vs d taken t)
+  list-again : (followed : Bool) {o q p r : Option Template} → Again o q → Again p r → Again (listTemplate followed o p) (listTemplate followed q r)
+  unfolding listTemplate
+  list-again followed first later = again-cond followed (again-guard _ _ (again-driven first) (again-both ellipsisT first later)) (again-both pairT first later)
+
+  template-again : (dots : Name → Bool) (vs : List (Name × ℕ)) (d : ℕ) (place : Place) (t : Tree) → Again (templateBy narrow dots vs d place t) (templateBy wide dots vs d place t)
   unfolding templateBy
-  template-again vs d taken empty = same
-  template-again vs d taken (constant a) = same
-  template-again vs d taken (name x) = again-guard (not (isEllipsis x)) (not (isEllipsis x)) (λ e. e) (name-again d x (variableFrom 0 vs x))
-  template-again vs d taken (pair p ps) =
-      let first = template-again vs (depthBefore isEllipsis ps d) false p in
-      let later = template-again vs d (not taken && dotsNext isEllipsis ps) ps in
-      again-cond taken later (again-cond (dotsNext isEllipsis ps) (again-guard _ _ (again-driven first) (again-both ellipsisT first later)) (again-both pairT first later))
+  template-again dots vs d place empty = same
+  template-again dots vs d place (constant a) = same
+  template-again dots vs d place (name x) = again-guard (not (dots x)) (not (dots x)) (λ e. e) (name-again d x (variableFrom 0 vs x))
+  template-again dots vs d asElement (pair p ps) =
+      again-cond (onName dots false p) (again-guard (isListOf 1 ps) (isListOf 1 ps) (λ e. e) (template-again noEllipsis vs d asEscaped ps))
+      (list-again (dotsNext dots ps) (template-again dots vs (depthBefore dots ps d) asElement p) (template-again dots vs d (placeAfter dots ps) ps))
+  template-again dots vs d asRest (pair p ps) = list-again (dotsNext dots ps) (template-again dots vs (depthBefore dots ps d) asElement p) (template-again dots vs d (placeAfter dots ps) ps)
+  template-again dots vs d asTaken (pair p ps) = template-again dots vs d asRest ps
+  template-again dots vs d asEscaped (pair p ps) = template-again dots vs d asElement p
 
   rules-again : (r : Tree) → Again (rulesBy narrow r) (rulesBy wide r)
   unfolding rulesBy ruleBy
   rules-again r =
       again-guard (isRulesForm r) (isRulesForm r) (λ e. e)
-      (again-traverse _ _ (λ s. again-guard _ _ (λ e. e) (again-both _ same (template-again (ruleVariables isEllipsis (names (literalList r)) s) 0 false (ruleTemplate s)))) (elements (ruleList r)))
+      (again-traverse _ _ (λ s. again-guard _ _ (λ e. e) (again-both _ same (template-again (ellipsisOf r) (ruleVariables (ellipsisOf r) (names (literalList r)) s) 0 asElement (ruleTemplate s)))) (elements (ruleList r)))
 
 exactly-fits : (d here : ℕ) → exactly d here ≡ true → depthFits d here ≡ true
 unfolding exactly depthFits

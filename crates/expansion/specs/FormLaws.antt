@@ -9,17 +9,23 @@ use Rattle.words.specs.Lists.{allOf}
 use Rattle.words.specs.TestLaws.{and-parts, all-parts}
 use Rattle.words.specs.Each.{Each, noneOf, also, each-append, Given, given-at}
 use Rattle.recipe.specs.Name.{Name}
-use Rattle.recipe.specs.Tree.{Tree, empty, constant, name, pair, names, onName, isList, isListOf, isOrdinaryName, elements, element, tail}
+use Rattle.words.specs.ListLaws.{either}
+use Rattle.recipe.specs.Tree.{Tree, empty, constant, name, pair, names, onName, isName, isList, isListOf, isOrdinaryName, elements, element, tail}
 use Rattle.recipe.specs.TreeLaws.{element-tail}
 use Rattle.recipe.specs.Tidy.{ordinary-names}
-use Rattle.expansion.specs.Rules.{Rule, ruleList, rulePlace, rulesOf}
+use Rattle.expansion.specs.Rules.{Rule, chosenCount, afterChosen, ruleList, rulePlace, rulesOf}
 use Rattle.expansion.specs.Computation.{State, Event, looked, quoted, reached, Events}
 use Rattle.expansion.specs.Forms.{isMacro, isMacros, firstNames, keywords, rulesForms, readRules}
 use Rattle.expansion.specs.Outcomes.{Holds, give-holds, show-holds, then-holds, orRefuse-holds}
 
 -- rule j of a rules form, by its place in the form
 pub rule-placed : (j : ℕ) (r : Tree) → element j (ruleList r) ≡ element (rulePlace r j) r
-rule-placed j r = element-tail j (tail r) ∙ element-tail (suc j) r
+unfolding afterChosen chosenCount
+rule-placed j r =
+    let after : element j (tail (tail r)) ≡ element (suc (suc j)) r = element-tail j (tail r) ∙ element-tail (suc j) r in
+    either (isName (element 1 r))
+    (λ c. rw c (element-tail j (tail (tail r)) ∙ element-tail (suc j) (tail r) ∙ element-tail (suc (suc j)) r ∙ ap (λ (n : ℕ). element n r) (let e : suc (suc (suc j)) ≡ suc (suc (1 + j)) = omega arith in e)))
+    (λ c. rw c (after ∙ ap (λ (n : ℕ). element n r) (let e : suc (suc j) ≡ suc (suc (0 + j)) = omega arith in e)))
 
 -- an event that is no binding
 pub data Unbinding : Event → Type 0 where

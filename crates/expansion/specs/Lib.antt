@@ -17,6 +17,7 @@ pub mod RowsTables
 pub mod RowsEvents
 pub mod RowsFuel
 pub mod RowsDepths
+pub mod RowsEllipses
 pub mod Outcomes
 pub mod Depths
 pub mod DepthLaws

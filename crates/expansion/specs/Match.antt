@@ -3,11 +3,12 @@
 use mathlib.Core.Bool.{Bool, true, false, _||_, cond}
 use mathlib.Core.List.{List, [], _∷_, _++_}
 use mathlib.Core.Option.{Option, none, some}
-use Prim.Native.Nat.{ℕ}
+use Prim.Native.Nat.{ℕ, zero, suc, _-_}
 use lib.Dec.{eqb}
+use lib.ListN.{length}
 use Rattle.datum.specs.Constant.{matches}
 use Rattle.recipe.specs.Name.{Name}
-use Rattle.recipe.specs.Tree.{Tree, empty, constant, name, pair, onEmpty, onConstant, onName, onPair, element, tail}
+use Rattle.recipe.specs.Tree.{Tree, empty, constant, name, pair, onEmpty, onConstant, onName, onPair, elements, element, tail, past}
 use Rattle.expansion.specs.Lookup.{agree}
 use Rattle.expansion.specs.Rules.{Pattern, variableP, literalP, wildcardP, constantP, emptyP, pairP, ellipsisP, Rule}
 
@@ -31,12 +32,14 @@ andThen l false f = (l, false)
 unfoldable pub bothFit : Fit → Fit → Fit
 bothFit f g = andThen (f .0) (f .1) g
 
--- zero or more elements
-unfoldable pub eachFits : (Tree → Fit) → Tree → Fit
-eachFits f empty = fitting
-eachFits f (constant a) = misfit
-eachFits f (name x) = misfit
-eachFits f (pair h t) = bothFit (f h) (eachFits f t)
+-- of a list's elements an ellipsis takes all but the n that follow it
+unfoldable pub share : ℕ → Tree → ℕ
+share n t = length (elements t) - n
+
+-- c elements, and then the rest of the list
+unfoldable pub eachFits : (f g : Tree → Fit) → ℕ → Tree → Fit
+eachFits f g zero t = g t
+eachFits f g (suc c) t = onPair (λ h u. bothFit (f h) (eachFits f g c u)) misfit t
 
 -- a literal is compared with a name only, and both names are looked up
 unfoldable pub fit : Pattern → Tree → Fit
@@ -46,7 +49,7 @@ fit wildcardP t = fitting
 fit (constantP a) t = onConstant (λ b. ([], matches a b)) misfit t
 fit emptyP t = onEmpty fitting misfit t
 fit (pairP p q) t = onPair (λ h u. bothFit (fit p h) (fit q u)) misfit t
-fit (ellipsisP p) t = eachFits (fit p) t
+fit (ellipsisP p n q) t = eachFits (fit p) (fit q) (share n t) t
 
 unfoldable pub orNext : Rule → List Name → Bool → List Name × Option Rule → List Name × Option Rule
 orNext r l true later = (l, some r)
@@ -70,9 +73,10 @@ holds k wildcardP = false
 holds k (constantP a) = false
 holds k emptyP = false
 holds k (pairP p q) = holds k p || holds k q
-holds k (ellipsisP p) = holds k p
+holds k (ellipsisP p n q) = holds k p || holds k q
 
--- what variable k takes at these indices, the outermost ellipsis first; where an index is missing, the list that it would count
+-- what variable k takes at these indices, the outermost ellipsis first; where an index is missing, the list that it would count, with
+-- what follows the ellipsis
 unfoldable pub part : Pattern → ℕ → List ℕ → Tree → Tree
 part (variableP j) k is t = t
 part (literalP x) k is t = empty
@@ -80,5 +84,16 @@ part wildcardP k is t = empty
 part (constantP a) k is t = empty
 part emptyP k is t = empty
 part (pairP p q) k is t = cond (holds k p) (part p k is (element 0 t)) (part q k is (tail t))
-part (ellipsisP p) k [] t = t
-part (ellipsisP p) k (i ∷ is) t = part p k is (element i t)
+part (ellipsisP p n q) k [] t = cond (holds k p) t (part q k [] (past (share n t) t))
+part (ellipsisP p n q) k (i ∷ is) t = cond (holds k p) (part p k is (element i t)) (part q k (i ∷ is) (past (share n t) t))
+
+-- how many elements of that list follow the ellipsis; d indices are there, and one more is missing
+unfoldable pub following : Pattern → (k d : ℕ) → ℕ
+following (variableP j) k d = 0
+following (literalP x) k d = 0
+following wildcardP k d = 0
+following (constantP a) k d = 0
+following emptyP k d = 0
+following (pairP p q) k d = cond (holds k p) (following p k d) (following q k d)
+following (ellipsisP p n q) k zero = cond (holds k p) n (following q k zero)
+following (ellipsisP p n q) k (suc d) = cond (holds k p) (following p k d) (following q k (suc d))

@@ -86,11 +86,11 @@ rules =
     refuses "() (let-syntax ((m (syntax-rules () (() 1)))) 1)" 15 0 0 ∷
     refuses "() (let-syntax ((m (syntax-rules () ((1) 1)))) 1)" 15 0 0 ∷
     refuses "() (let-syntax ((m (syntax-rules () ((... a) 1)))) 1)" 15 0 0 ∷
-    -- ... stands last in a list, after an element other than that first place
+    -- ... stands once in a list, after an element other than that first place
     refuses "() (let-syntax ((m (syntax-rules () ((_ ...) 1)))) 1)" 15 0 0 ∷
     refuses "() (let-syntax ((m (syntax-rules () ((_ (... a)) 1)))) 1)" 15 0 0 ∷
     refuses "() (let-syntax ((m (syntax-rules () ((_ (...)) 1)))) 1)" 15 0 0 ∷
-    refuses "() (let-syntax ((m (syntax-rules () ((_ a ... b) 1)))) 1)" 15 0 0 ∷
+    gives "() (let-syntax ((m (syntax-rules () ((_ a ... b) 1)))) 1)" 0 0 (2 ∷ 1 ∷ []) ∷
     refuses "() (let-syntax ((m (syntax-rules () ((_ a ... ...) 1)))) 1)" 15 0 0 ∷
     gives "() (let-syntax ((m (syntax-rules () ((_ _ (1 ...) ...) 1)))) 1)" 0 0 (2 ∷ 1 ∷ []) ∷
     -- at most 16 variables, no two the same
@@ -99,7 +99,7 @@ rules =
     refuses "() (let-syntax ((m (syntax-rules () ((_ a (a)) 1)))) 1)" 15 0 0 ∷
     -- a variable under one ellipsis, and under two in the template
     gives "() (let-syntax ((m (syntax-rules () ((_ (a ...) ((b ...) ...)) (((a b) ...) ...))))) 1)" 0 0 (2 ∷ 1 ∷ []) ∷
-    -- a template is not ..., has no ... first in a list, and no two in succession
+    -- a template is not ..., has no ... first in a list but for an escape, and no two in succession
     refuses "() (let-syntax ((m (syntax-rules () ((_ a ...) ...)))) 1)" 15 0 0 ∷
     refuses "() (let-syntax ((m (syntax-rules () ((_ a ...) (... a))))) 1)" 15 0 0 ∷
     refuses "() (let-syntax ((m (syntax-rules () ((_ a ...) (a ... ...))))) 1)" 15 0 0 ∷

@@ -3,11 +3,11 @@ use mathlib.Core.Bool.{Bool, true, _&&_}
 use mathlib.Core.List.{List, _∷_, map, reverse}
 use Prim.Native.Nat.{ℕ, zero, suc}
 use lib.Dec.{eqb}
-use lib.ListN.{length, getD, take}
+use lib.ListN.{getD, take}
 use Rattle.words.specs.Lists.{allOf}
-use Rattle.recipe.specs.Tree.{Tree, empty, constant, name, pair, elements}
+use Rattle.recipe.specs.Tree.{Tree, empty, constant, name, pair}
 use Rattle.expansion.specs.Rules.{Pattern, Template, variableT, insertT, constantT, emptyT, pairT, ellipsisT, drivers}
-use Rattle.expansion.specs.Match.{part}
+use Rattle.expansion.specs.Match.{share, part, following}
 
 -- f k, f (k + 1), .., n of them, in front of a list
 unfoldable pub copies : (ℕ → Tree) → ℕ → ℕ → Tree → Tree
@@ -24,9 +24,9 @@ module _ (p : Pattern) (used : Tree) where
   unfoldable pub taken : List ℕ → ℕ → ℕ → Tree
   taken is k d = part p k (reverse (take d is)) used
 
-  -- the lengths of the lists that drive the copies of an element
+  -- the lengths of the lists that drive the copies of an element, as far as the pattern's ellipses take them
   unfoldable pub lengths : List ℕ → Template → List ℕ
-  lengths is e = map (λ v. length (elements (taken is (v .0) (v .1)))) (drivers 0 e)
+  lengths is e = map (λ v. share (following p (v .0) (v .1)) (taken is (v .0) (v .1))) (drivers 0 e)
 
   unfoldable pub copyCount : List ℕ → Template → ℕ
   copyCount is e = getD (lengths is e) 0 0

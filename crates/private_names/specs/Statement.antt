@@ -45,7 +45,7 @@ hasHead i t = onName (λ x. eqb (x .item) i) false (element 0 t)
 unfoldable pub formAt : Tree → Choice → Tree
 formAt t c = firstWith (hasHead (c .form)) (parts t)
 
--- the rules of the macro, (syntax-rules (literal ...) (pattern template) ...)
+-- the rules of the macro, (syntax-rules (literal ...) (pattern template) ...), with or without an ellipsis of its author's choice
 unfoldable pub rulesAt : Tree → Choice → Tree
 rulesAt t c = rulesFormOf (c .macro) (formAt t c)
 
@@ -57,7 +57,8 @@ ruleAt t c = element (c .rule) (ruleList (rulesAt t c))
 unfoldable pub templateAt : Tree → Choice → Tree
 templateAt t c = ruleTemplate (ruleAt t c)
 
--- a variable of the rule has this number: neither `...` nor `_` nor a literal, and not in the pattern's first place
+-- a variable of the rule has this number: neither the ellipsis nor `_` nor a literal, and not in the pattern's first place; an ellipsis
+-- name of the author's choice counts as one
 unfoldable pub isVariableAt : Tree → Choice → ℕ → Bool
 isVariableAt t c n = hasVariable (c .rule) n (rulesAt t c)
 

@@ -197,6 +197,21 @@ holding =
       trial "() (if 1 2 (lambda (q) (q (let-syntax ((m (syntax-rules () ((_ (a b) ...) (lambda (t) (t (a t) ...)))))) (let-syntax ((n (syntax-rules () ((_ x) (m (x x) (x x)))))) (n q))))))" 21 0 0 12,
       equal 3 (gives 2 38 (6 ∷ 2 ∷ 1 ∷ 2 ∷ 2 ∷ 7 ∷ 0 ∷ 1 ∷ 8 ∷ 1 ∷ 0 ∷ 0 ∷ 7 ∷ 1 ∷ 1 ∷ 8 ∷ 2 ∷ 0 ∷ 1 ∷ 8 ∷ 1 ∷ 0 ∷ 0 ∷ 0 ∷ 1 ∷ 8 ∷ 1 ∷ 0 ∷ 0 ∷ 0 ∷ 1 ∷ [])),
     ) ∷
+    -- beside an ellipsis of the author's choice
+    (
+      trial "() (let-syntax ((m (syntax-rules e () ((_ a e) (lambda (t) (t a e)))))) (m 1 2))" 4 0 0 11,
+      equal 1 (gives 1 15 (7 ∷ 0 ∷ 1 ∷ 8 ∷ 2 ∷ 0 ∷ 0 ∷ 2 ∷ 1 ∷ 2 ∷ 2 ∷ [])),
+    ) ∷
+    -- E94: the ellipsis of rules that the template makes
+    (
+      trial "(list) (let-syntax ((w (syntax-rules () ((_ x) (let-syntax ((n (syntax-rules e () ((_ a e) (list a e))))) (n x 2)))))) (w 1))" 6 0 0 12,
+      equal 0 (gives 2 50 (8 ∷ 2 ∷ 1 ∷ 0 ∷ 2 ∷ 1 ∷ 2 ∷ 2 ∷ [])),
+    ) ∷
+    -- in an escaped template
+    (
+      trial "() (let-syntax ((m (syntax-rules () ((_ a) (... (lambda (t) (t a))))))) (m 1))" 4 0 0 10,
+      equal 1 (gives 1 13 (7 ∷ 0 ∷ 1 ∷ 8 ∷ 1 ∷ 0 ∷ 0 ∷ 2 ∷ 1 ∷ [])),
+    ) ∷
     -- a macro without end that the template makes
     (
       trial "() (let-syntax ((m (syntax-rules () ((_) (letrec-syntax ((t (syntax-rules () ((_) (t))))) (t)))))) (m))" 4 0 0 9,
@@ -273,6 +288,11 @@ failing =
     -- the old name is `...`
     (
       trial "(list) (let-syntax ((l (syntax-rules () ((_ a ...) (list a ...))))) (l 1 2))" 6 0 0 6,
+      finding (true ∷ false ∷ true ∷ true ∷ true ∷ []) 0 (gives 1 7 (8 ∷ 2 ∷ 1 ∷ 0 ∷ 2 ∷ 1 ∷ 2 ∷ 2 ∷ [])) (refuses 15 0 0),
+    ) ∷
+    -- the old name is the ellipsis of the author's choice
+    (
+      trial "(list) (let-syntax ((l (syntax-rules e () ((_ a e) (list a e))))) (l 1 2))" 6 0 0 10,
       finding (true ∷ false ∷ true ∷ true ∷ true ∷ []) 0 (gives 1 7 (8 ∷ 2 ∷ 1 ∷ 0 ∷ 2 ∷ 1 ∷ 2 ∷ 2 ∷ [])) (refuses 15 0 0),
     ) ∷
     -- the old name is `_`

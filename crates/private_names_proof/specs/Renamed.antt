@@ -9,11 +9,12 @@ use native.Mathlib.Omega.{arith}
 use borrow.Author.Tests.{eq-eqb}
 use lib.Dec.{eqb}
 use Rattle.words.specs.Lists.{anyOf}
+use Rattle.words.specs.ListLaws.{either}
 use Rattle.recipe.specs.Name.{Name, plainName}
-use Rattle.recipe.specs.Tree.{Tree, names, elements, element, onNames}
+use Rattle.recipe.specs.Tree.{Tree, names, isName, elements, element, onNames}
 use Rattle.recipe.specs.TreeNames.{TreeAll, all-empty, all-constant, all-name, all-pair, treeAll-map, treeAll-both, treeAll-element, treeAll-tail, uses, uses-element}
 use Rattle.recipe.specs.TableNames.{Plain}
-use Rattle.expansion.specs.Rules.{ruleList, rulePlace, templatePlace, ruleTemplate, hasVariable}
+use Rattle.expansion.specs.Rules.{afterChosen, ruleList, rulePlace, templatePlace, ruleTemplate, hasVariable}
 use Rattle.expansion.specs.Forms.{rulesFormOf}
 use Rattle.private_names.specs.Statement.{isPrivate}
 use Rattle.simulation.specs.Shapes.{TreeOf, empties, constants, names₂, pairs}
@@ -131,7 +132,8 @@ held-sub N [] t h = h
 held-sub N (k ∷ l) t h = held-sub N l (element k t) (held-element N k t h)
 
 pub treeAll-rules : {P : Name → Type 0} {t : Tree} → TreeAll P t → TreeAll P (ruleList t)
-treeAll-rules a = treeAll-tail (treeAll-tail a)
+unfolding afterChosen
+treeAll-rules {P} {t} a = treeAll-tail (either (isName (element 1 t)) (λ e. rw e (treeAll-tail (treeAll-tail a))) (λ e. rw e (treeAll-tail a)))
 
 -- the template of rule j of a rules form
 unfoldable pub templateIn : ℕ → Tree → Tree

@@ -1,7 +1,7 @@
 -- The renaming that the statement takes, by a choice in a table of the layout, and its rule: what `renamed-hole` asks of it holds.
 -- And the first element, the operations, stays as it is.
-use mathlib.Core.Path.{_≡_, ap, sym, _∙_}
-use mathlib.Core.Bool.{true, false, not}
+use mathlib.Core.Path.{_≡_, ap, ap₂, sym, _∙_}
+use mathlib.Core.Bool.{true, false, not, _||_}
 use mathlib.Core.List.{List}
 use mathlib.Core.Option.{some}
 use Prim.Native.Nat.{ℕ, _≤_}
@@ -16,7 +16,7 @@ use Rattle.recipe.specs.TreeLaws.{onNames-element}
 use Rattle.recipe.specs.TreeNames.{TreeAll, treeAll-element, treeAll-tail, uses-elements}
 use Rattle.recipe.specs.Table.{isLayout, treeOf}
 use Rattle.recipe.specs.TableNames.{numberAt, treeOf-plain, treeOf-numbered, treeOf-uses}
-use Rattle.expansion.specs.Rules.{literalList, ruleList, ruleTemplate, hasVariable}
+use Rattle.expansion.specs.Rules.{literalList, ruleList, ellipsisOf, ruleTemplate, hasVariable}
 use Rattle.expansion.specs.Computation.{Events}
 use Rattle.expansion.specs.Forms.{rulesFormOf}
 use Rattle.expansion.specs.FormLaws.{rule-placed}
@@ -26,7 +26,7 @@ use Rattle.simulation.specs.Names.Shown.{Renaming}
 use Rattle.simulation.specs.Form.Places.{still-eq}
 use Rattle.private_names_proof.specs.Renumber.{tree-new}
 use Rattle.private_names_proof.specs.Paths.{sub, treeAll-sub, Headed, headed-of-element, headed-part}
-use Rattle.private_names_proof.specs.Renamed.OldItems.{isOld, old-some, variables-none}
+use Rattle.private_names_proof.specs.Renamed.OldItems.{isOld, old-some, number-none, variables-none}
 use Rattle.private_names_proof.specs.Renamed.{unbound, renew, still-tree, Held, held-element, treeAll-rules, templateIn, treeAll-template, Chosen, renamed-holds}
 
 -- ---- the form's rules in the table's tree
@@ -101,7 +101,9 @@ module _ (ws : List ℕ) (c : Choice) (layout : isLayout ws ≡ true) (private :
 
     new-at : hasVariable (c .rule) (c .new) R ≡ false
     unfolding hasVariable
-    new-at = variables-none (names (literalList R)) (c .new) 0 (treeAll-tail (treeAll-element 0 (treeAll-element (c .rule) (treeAll-rules new-rules))))
+    new-at =
+        ap₂ _||_ (number-none (c .new) (treeAll-element 1 new-rules))
+        (variables-none (ellipsisOf R) (names (literalList R)) (c .new) 0 (treeAll-tail (treeAll-element 0 (treeAll-element (c .rule) (treeAll-rules new-rules)))))
 
     new-template : TreeAll (λ x. eqb (x .number) (c .new) ≡ false) (templateIn (c .rule) R)
     new-template = treeAll-template (c .rule) new-rules

@@ -1,7 +1,7 @@
 -- Trees: what an item table holds, and what marks and bindings are carried through, at once and wholly.
 use mathlib.Core.Bool.{Bool, true, false, _&&_, _||_}
 use mathlib.Core.List.{List, [], _∷_, _++_}
-use Prim.Native.Nat.{ℕ, suc, _+_}
+use Prim.Native.Nat.{ℕ, zero, suc, _+_}
 use lib.Dec.{eqb}
 use lib.ListN.{length, getD}
 use Rattle.datum.specs.Constant.{Constant}
@@ -98,6 +98,11 @@ element n t = getD (elements t) n empty
 -- the list after its first element
 unfoldable pub tail : Tree → Tree
 tail = onPair (λ h t. t) empty
+
+-- the list after its first n elements
+unfoldable pub past : ℕ → Tree → Tree
+past zero t = t
+past (suc n) t = past n (tail t)
 
 -- ---- marks and bindings, carried through the whole tree immediately
 

@@ -5,7 +5,7 @@ use Prim.Native.Nat.{ℕ, zero, suc, _+_, _≤_}
 use native.Mathlib.Omega.{arith}
 use lib.ListN.{length, length-append}
 use Rattle.recipe.specs.Name.{Binding, Name, markName, produceName, bindName}
-use Rattle.recipe.specs.Tree.{Tree, empty, constant, name, pair, size, names, onPair, elements, element, tail, onNames, mark, produce, bind, bindAll}
+use Rattle.recipe.specs.Tree.{Tree, empty, constant, name, pair, size, names, onPair, elements, element, tail, past, onNames, mark, produce, bind, bindAll}
 
 -- ---- sizes
 
@@ -90,6 +90,11 @@ element-tail k empty = refl
 element-tail k (constant a) = refl
 element-tail k (name x) = refl
 element-tail k (pair h t) = refl
+
+pub element-past : (n : ℕ) (t : Tree) → element 0 (past n t) ≡ element n t
+unfolding past
+element-past zero t = refl
+element-past (suc n) t = element-past n (tail t) ∙ element-tail n t
 
 -- ---- marks and bindings keep the size
 

@@ -51,7 +51,7 @@ module _ (a b : List ℕ) (at : ℕ) (some-word : 0 < at) (e : take at a ≡ tak
   patternStep-agree : (f g : ℕ → Pattern) → ((r : ℕ) → r < at → f r ≡ g r) → patternStep a f at ≡ patternStep b g at
   unfolding patternStep
   patternStep-agree f g agree =
-      rw (wordAt-below a b at 1 (omega arith) e, wordAt-below a b at 2 (omega arith) e, literalAt-agree a b at some-word e, constantBefore-agree a b at some-word e, child a b at some-word e f g agree 3 (omega arith), child a b at some-word e f g agree 2 (omega arith))
+      rw (wordAt-below a b at 1 (omega arith) e, wordAt-below a b at 4 (omega arith) e, wordAt-below a b at 2 (omega arith) e, literalAt-agree a b at some-word e, constantBefore-agree a b at some-word e, child a b at some-word e f g agree 3 (omega arith), child a b at some-word e f g agree 2 (omega arith))
 
   templateStep-agree : (f g : ℕ → Template) → ((r : ℕ) → r < at → f r ≡ g r) → templateStep a f at ≡ templateStep b g at
   unfolding templateStep
@@ -183,7 +183,7 @@ module _ (work : List ℕ) (at : ℕ) where
   unfolding patternStep
   patternAt-pair e = patternAt-step work at ∙ rw e refl
 
-  pub patternAt-ellipsis : wordAt work at 1 ≡ 7 → patternAt work at ≡ ellipsisP (patternAt work (referenceAt work at 2))
+  pub patternAt-ellipsis : wordAt work at 1 ≡ 7 → patternAt work at ≡ ellipsisP (patternAt work (referenceAt work at 3)) (wordAt work at 4) (patternAt work (referenceAt work at 2))
   unfolding patternStep
   patternAt-ellipsis e = patternAt-step work at ∙ rw e refl
 

@@ -22,7 +22,7 @@ literalAt work at =
     record { number = wordAt work at 3; item = x .item; produced = x .produced; marks = x .marks; binding = bindingOf (wordAt work at 2) }
 
 -- tags: 1 variable (k), 2 literal (node, wrap, number, binding), 3 wildcard, 4 constant (three words), 6 pair (head, tail),
--- 7 ellipsis (element); any other the empty list
+-- 7 ellipsis (how many elements follow, element, rest); any other the empty list
 unfoldable pub patternStep : List ℕ → (ℕ → Pattern) → ℕ → Pattern
 patternStep work below at =
     let tag = wordAt work at 1 in
@@ -31,7 +31,7 @@ patternStep work below at =
     (cond (eqb tag 3) wildcardP
     (cond (eqb tag 4) (constantP (constantBefore work at))
     (cond (eqb tag 6) (pairP (below (referenceAt work at 3)) (below (referenceAt work at 2)))
-    (cond (eqb tag 7) (ellipsisP (below (referenceAt work at 2)))
+    (cond (eqb tag 7) (ellipsisP (below (referenceAt work at 3)) (wordAt work at 4) (below (referenceAt work at 2)))
     emptyP)))))
 
 -- references fall, so that the reference itself is gas enough

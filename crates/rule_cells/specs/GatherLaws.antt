@@ -1,69 +1,54 @@
 -- Laws of gathering a pattern's variables.
 use mathlib.Core.Path.{_≡_, refl, sym, ap, subst, _∙_}
-use mathlib.Core.Bool.{true, false, cond}
+use mathlib.Core.Bool.{Bool, true, false}
 use mathlib.Core.List.{List, [], _∷_, _++_, append-assoc, append-nil}
 use Prim.Native.Nat.{ℕ, suc, _+_, _≤_}
 use native.Mathlib.Omega.{arith}
 use borrow.Author.Tests.{ne-eqb}
 use Rattle.words.specs.Lists.{anyOf}
-use Rattle.recipe.specs.Name.{Name, same, isEllipsis, isWildcard}
-use Rattle.recipe.specs.Tree.{name, onName}
+use Rattle.recipe.specs.Name.{Name, same, isWildcard}
+use Rattle.recipe.specs.Tree.{Tree, name}
 use Rattle.expansion.specs.Rules.{areVariables, dotsNext, depthBefore, isVariable, variables}
 use Rattle.arena.specs.Arena.{wordAt, referenceAt, nameAt, treeAt}
 use Rattle.words.specs.ListLaws.{either}
 use Rattle.arena.specs.NodeLaws.{treeAt-name, treeAt-pair}
 use Rattle.arena.specs.ListLaws.{tree-cases, no-name, pair-falls}
-use Rattle.rule_cells.specs.Variables.{leafCount, variablesFrom, Kept, Count, Bad, keptOf, Held, Stored, Gathered, Gathering, Deeper}
+use Rattle.rule_cells.specs.Variables.{variablesFrom, Kept, Count, Bad, keptOf, Held, Stored, Gathered, Gathering, Deeper}
 
 -- ---- which names are variables
 
-module _ (literals : List Name) (x : Name) where
-  pub dots-no-variable : x .number ≡ 6 → isVariable isEllipsis literals x ≡ false
-  unfolding isVariable isEllipsis
+module _ (dots : Name → Bool) (literals : List Name) (x : Name) where
+  pub dots-no-variable : dots x ≡ true → isVariable dots literals x ≡ false
+  unfolding isVariable
   dots-no-variable e = rw e refl
 
-  pub wildcard-no-variable : (x .number ≡ 6 → ⊥) → x .number ≡ 7 → isVariable isEllipsis literals x ≡ false
-  unfolding isVariable isEllipsis isWildcard
-  wildcard-no-variable n e = rw e refl
+  pub wildcard-no-variable : dots x ≡ false → x .number ≡ 7 → isVariable dots literals x ≡ false
+  unfolding isVariable isWildcard
+  wildcard-no-variable n e = rw (n, e) refl
 
-  pub literal-no-variable : (x .number ≡ 6 → ⊥) → (x .number ≡ 7 → ⊥) → true ≡ anyOf (same x) literals → isVariable isEllipsis literals x ≡ false
-  unfolding isVariable isEllipsis isWildcard
-  literal-no-variable n m e = rw (ne-eqb _ _ n, ne-eqb _ _ m, ← e) refl
+  pub literal-no-variable : dots x ≡ false → (x .number ≡ 7 → ⊥) → true ≡ anyOf (same x) literals → isVariable dots literals x ≡ false
+  unfolding isVariable isWildcard
+  literal-no-variable n m e = rw (n, ne-eqb _ _ m, ← e) refl
 
-  pub a-variable : (x .number ≡ 6 → ⊥) → (x .number ≡ 7 → ⊥) → false ≡ anyOf (same x) literals → isVariable isEllipsis literals x ≡ true
-  unfolding isVariable isEllipsis isWildcard
-  a-variable n m e = rw (ne-eqb _ _ n, ne-eqb _ _ m, ← e) refl
+  pub a-variable : dots x ≡ false → (x .number ≡ 7 → ⊥) → false ≡ anyOf (same x) literals → isVariable dots literals x ≡ true
+  unfolding isVariable isWildcard
+  a-variable n m e = rw (n, ne-eqb _ _ m, ← e) refl
 
-  variables-none : (d : ℕ) → isVariable isEllipsis literals x ≡ false → variables isEllipsis literals d (name x) ≡ []
+  variables-none : (d : ℕ) → isVariable dots literals x ≡ false → variables dots literals d (name x) ≡ []
   unfolding variables
   variables-none d e = rw e refl
 
-  variables-one : (d : ℕ) → isVariable isEllipsis literals x ≡ true → variables isEllipsis literals d (name x) ≡ (x, d) ∷ []
+  variables-one : (d : ℕ) → isVariable dots literals x ≡ true → variables dots literals d (name x) ≡ (x, d) ∷ []
   unfolding variables
   variables-one d e = rw e refl
 
--- ---- leaves
-
-module _ (work : List ℕ) (node w : ℕ) (literals : List Name) where
-  pub leaf-no-name : (wordAt work node 3 ≡ 3 → ⊥) → 0 ≡ leafCount literals (treeAt work node w)
-  unfolding leafCount
-  leaf-no-name n = sym (no-name work node w (λ x. cond (isVariable isEllipsis literals x) 1 0) 0 n)
-
-  pub leaf-none : wordAt work node 3 ≡ 3 → isVariable isEllipsis literals (nameAt work node w) ≡ false → 0 ≡ leafCount literals (treeAt work node w)
-  unfolding leafCount onName
-  leaf-none e v = rw (treeAt-name work node w e, v) refl
-
-  pub leaf-one : wordAt work node 3 ≡ 3 → isVariable isEllipsis literals (nameAt work node w) ≡ true → 1 ≡ leafCount literals (treeAt work node w)
-  unfolding leafCount onName
-  leaf-one e v = rw (treeAt-name work node w e, v) refl
-
 -- an element lies at most one deeper than its list
-pub deeper-most : (work : List ℕ) (rest d r : ℕ) → Deeper work rest d r → r ≤ d + 1
+pub deeper-most : (dots : Name → Bool) (rest : Tree) (d r : ℕ) → Deeper dots rest d r → r ≤ d + 1
 unfolding depthBefore
-deeper-most work rest d r h =
-    either (dotsNext isEllipsis (treeAt work rest 0))
-    (λ t. let e : r ≡ suc d = rw t at (h 0) in omega arith)
-    (λ t. let e : r ≡ d = rw t at (h 0) in omega arith)
+deeper-most dots rest d r h =
+    either (dotsNext dots rest)
+    (λ t. let e : r ≡ suc d = rw t at h in omega arith)
+    (λ t. let e : r ≡ d = rw t at h in omega arith)
 
 -- ---- the word of what is gathered
 
@@ -93,40 +78,40 @@ module _ (work : List ℕ) (w node n : ℕ) (old : List ℕ) where
   gathered-none : Held work w old n → Gathered [] work w node n old old (Count n)
   gathered-none h = record { list = sym (append-nil (variablesFrom work w old 0 n)); held = h; under = λ b l u. u }
 
-  module _ (literals : List Name) (d : ℕ) where
+  module _ (dots : Name → Bool) (literals : List Name) (d : ℕ) where
     -- a name that is no variable
-    pub gathered-no : (x : Name) → isVariable isEllipsis literals x ≡ false → Held work w old n → Gathered (variables isEllipsis literals d (name x)) work w node n old old (Count n)
-    gathered-no x e h = gathered-is [] _ old (Count n) (sym (variables-none literals x d e)) (gathered-none h)
+    pub gathered-no : (x : Name) → isVariable dots literals x ≡ false → Held work w old n → Gathered (variables dots literals d (name x)) work w node n old old (Count n)
+    gathered-no x e h = gathered-is [] _ old (Count n) (sym (variables-none dots literals x d e)) (gathered-none h)
 
-    pub gathered-one : (x : Name) (new : List ℕ) (r : Kept) → isVariable isEllipsis literals x ≡ true → Gathered ((x, d) ∷ []) work w node n old new r → Gathered (variables isEllipsis literals d (name x)) work w node n old new r
-    gathered-one x new r e g = gathered-is _ _ new r (sym (variables-one literals x d e)) g
+    pub gathered-one : (x : Name) (new : List ℕ) (r : Kept) → isVariable dots literals x ≡ true → Gathered ((x, d) ∷ []) work w node n old new r → Gathered (variables dots literals d (name x)) work w node n old new r
+    gathered-one x new r e g = gathered-is _ _ new r (sym (variables-one dots literals x d e)) g
 
-    pub gathered-name : (new : List ℕ) (r : Kept) → wordAt work node 3 ≡ 3 → Gathered (variables isEllipsis literals d (name (nameAt work node w))) work w node n old new r → Gathered (variables isEllipsis literals d (treeAt work node w)) work w node n old new r
-    gathered-name new r e g = gathered-is _ _ new r (ap (variables isEllipsis literals d) (sym (treeAt-name work node w e))) g
+    pub gathered-name : (new : List ℕ) (r : Kept) → wordAt work node 3 ≡ 3 → Gathered (variables dots literals d (name (nameAt work node w))) work w node n old new r → Gathered (variables dots literals d (treeAt work node w)) work w node n old new r
+    gathered-name new r e g = gathered-is _ _ new r (ap (variables dots literals d) (sym (treeAt-name work node w e))) g
 
-    variables-other : (wordAt work node 3 ≡ 3 → ⊥) → (wordAt work node 3 ≡ 4 → ⊥) → variables isEllipsis literals d (treeAt work node w) ≡ []
+    variables-other : (wordAt work node 3 ≡ 3 → ⊥) → (wordAt work node 3 ≡ 4 → ⊥) → variables dots literals d (treeAt work node w) ≡ []
     unfolding variables
-    variables-other m k = tree-cases work node w (λ t. variables isEllipsis literals d t ≡ []) (λ e. refl) (λ e. absurd (m e)) (λ e. absurd (k e)) (λ p q s. refl)
+    variables-other m k = tree-cases work node w (λ t. variables dots literals d t ≡ []) (λ e. refl) (λ e. absurd (m e)) (λ e. absurd (k e)) (λ p q s. refl)
 
-    pub gathered-other : (wordAt work node 3 ≡ 3 → ⊥) → (wordAt work node 3 ≡ 4 → ⊥) → Held work w old n → Gathered (variables isEllipsis literals d (treeAt work node w)) work w node n old old (Count n)
+    pub gathered-other : (wordAt work node 3 ≡ 3 → ⊥) → (wordAt work node 3 ≡ 4 → ⊥) → Held work w old n → Gathered (variables dots literals d (treeAt work node w)) work w node n old old (Count n)
     gathered-other m k h = gathered-is [] _ old (Count n) (sym (variables-other m k)) (gathered-none h)
 
-    pub gathering-begins : Held work w old n → Gathering literals d work w node n old node n old
+    pub gathering-begins : Held work w old n → Gathering dots literals d work w node n old node n old
     gathering-begins h = record { low = omega arith; held = h; all = λ last r k. k }
 
     -- a pair: the variables of its head, then those of its tail
-    module _ (head rest inner : ℕ) (e : wordAt work node 3 ≡ 4) (f : head ≡ referenceAt work node 2) (g : rest ≡ referenceAt work node 1) (deeper : Deeper work rest d inner) where
+    module _ (head rest inner : ℕ) (e : wordAt work node 3 ≡ 4) (f : head ≡ referenceAt work node 2) (g : rest ≡ referenceAt work node 1) (deeper : Deeper dots (treeAt work rest w) d inner) where
       abbrev first : List (Name × ℕ)
-      first = variables isEllipsis literals inner (treeAt work head w)
+      first = variables dots literals inner (treeAt work head w)
 
       abbrev later : List (Name × ℕ)
-      later = variables isEllipsis literals d (treeAt work rest w)
+      later = variables dots literals d (treeAt work rest w)
 
-      variables-pair : first ++ later ≡ variables isEllipsis literals d (treeAt work node w)
+      variables-pair : first ++ later ≡ variables dots literals d (treeAt work node w)
       unfolding variables
-      variables-pair = rw (treeAt-pair work node w e, ← f, ← g, ← deeper w) refl
+      variables-pair = rw (treeAt-pair work node w e, ← f, ← g, ← deeper) refl
 
-      pub gathered-bad : (new : List ℕ) (r : Kept) → r ≡ Bad → Gathered first work w head n old new r → Gathered (variables isEllipsis literals d (treeAt work node w)) work w node n old new Bad
+      pub gathered-bad : (new : List ℕ) (r : Kept) → r ≡ Bad → Gathered first work w head n old new r → Gathered (variables dots literals d (treeAt work node w)) work w node n old new Bad
       gathered-bad new r b g =
           let h : Gathered first work w head n old new Bad = subst (λ (k : Kept). Gathered first work w head n old new k) b g in
           gathered-is (first ++ later) _ new Bad variables-pair
@@ -146,10 +131,10 @@ module _ (work : List ℕ) (w node n : ℕ) (old : List ℕ) where
           ∙ ap (λ (l : List (Name × ℕ)). areVariables (l ++ (later ++ more))) (sym (a .list))
           ∙ b more
 
-      gathered-pair : (mid new : List ℕ) (m : ℕ) (r : Kept) → Stored first work w head n old mid m → Gathered later work w rest m mid new r → Gathered (variables isEllipsis literals d (treeAt work node w)) work w node n old new r
+      gathered-pair : (mid new : List ℕ) (m : ℕ) (r : Kept) → Stored first work w head n old mid m → Gathered later work w rest m mid new r → Gathered (variables dots literals d (treeAt work node w)) work w node n old new r
       gathered-pair mid new m r a b = gathered-is (first ++ later) _ new r variables-pair (both mid new m r a b)
 
-      pub gathering-more : (list b : ℕ) (start new : List ℕ) (m : ℕ) → Stored first work w head n old new m → Gathering literals d work w list b start node n old → Gathering literals d work w list b start rest m new
+      pub gathering-more : (list b : ℕ) (start new : List ℕ) (m : ℕ) → Stored first work w head n old new m → Gathering dots literals d work w list b start node n old → Gathering dots literals d work w list b start rest m new
       gathering-more list b start new m s h =
           record {
             low = omega (arith, h .low, pair-falls work node 1 e);

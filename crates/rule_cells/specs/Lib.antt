@@ -14,5 +14,5 @@ pub mod Drive
 pub mod TemplateLaws
 pub mod RuleParse
 pub mod RuleLaws
-pub mod RuleListLaws
 pub mod Forms
+pub mod RuleListLaws

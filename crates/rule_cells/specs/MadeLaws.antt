@@ -6,7 +6,7 @@ use native.Mathlib.Omega.{arith}
 use lib.ListN.{length, getD, take, set, length-set}
 use lib.Seq.{getD-set-same, getD-set-other, take-set-le}
 use Rattle.recipe.specs.Name.{bindingKey}
-use Rattle.expansion.specs.Rules.{variableP, literalP, wildcardP, constantP, pairP, ellipsisP, variableT, insertT, constantT, pairT, ellipsisT}
+use Rattle.expansion.specs.Rules.{Pattern, variableP, literalP, wildcardP, constantP, pairP, ellipsisP, variableT, insertT, constantT, pairT, ellipsisT}
 use Rattle.arena.specs.Arena.{wordAt, referenceAt, nameAt}
 use Rattle.arena.specs.ArenaLaws.{wordAt-in, take-less, bindingOf-key}
 use Rattle.arena.specs.CellLaws.{reference-is}
@@ -108,15 +108,16 @@ module _ (old new : List ℕ) (top r : ℕ) where
             ∙ ap₂ pairP (pattern-kept old new top (c .kept) head h) (pattern-kept old new top (c .kept) tail l);
       }
 
-  pub made-ellipsis : (element : ℕ) → element ≤ top → Five 0 0 0 element 7 old new top r → Made patternAt (ellipsisP (patternAt old element)) old new top r
-  made-ellipsis element h c =
+  pub made-ellipsis : (element n rest : ℕ) → element ≤ top → rest ≤ top → Five 0 n element rest 7 old new top r → Made patternAt (ellipsisP (patternAt old element) n (patternAt old rest)) old new top r
+  made-ellipsis element n rest h l c =
       record {
         end = c .end;
         kept = c .kept;
         means =
             patternAt-ellipsis new r (c .first)
-            ∙ ap (λ (p : ℕ). ellipsisP (patternAt new p)) (refers old new top r 2 element (c .end) (c .second) h)
-            ∙ ap ellipsisP (pattern-kept old new top (c .kept) element h);
+            ∙ ap₂ (λ (p q : ℕ). ellipsisP (patternAt new p) (wordAt new r 4) (patternAt new q)) (refers old new top r 3 element (c .end) (c .third) h) (refers old new top r 2 rest (c .end) (c .second) l)
+            ∙ ap (λ (m : ℕ). ellipsisP (patternAt new element) m (patternAt new rest)) (c .fourth)
+            ∙ ap₂ (λ (p q : Pattern). ellipsisP p n q) (pattern-kept old new top (c .kept) element h) (pattern-kept old new top (c .kept) rest l);
       }
 
   -- the name that a cell refers to

@@ -1,13 +1,13 @@
 -- What parsing asks and leaves: cells above the old top, children first, at most five words for each item of the tree.
 use mathlib.Core.Path.{_≡_}
-use mathlib.Core.Bool.{Bool}
+use mathlib.Core.Bool.{Bool, true, cond}
 use mathlib.Core.List.{List}
 use mathlib.Core.Option.{none, some}
 use Prim.Native.Nat.{ℕ, _+_, _*_, _≤_}
 use lib.ListN.{length, take}
-use Rattle.recipe.specs.Name.{Name, isEllipsis}
-use Rattle.recipe.specs.Tree.{Tree, size}
-use Rattle.expansion.specs.Rules.{variables, patternOf, templateOf}
+use Rattle.recipe.specs.Name.{Name}
+use Rattle.recipe.specs.Tree.{Tree, size, elements, tail}
+use Rattle.expansion.specs.Rules.{Place, asRest, asTaken, variables, patternOf, templateOf}
 use Rattle.arena.specs.Arena.{treeAt}
 use Rattle.arena.specs.Cells.{Room}
 use Rattle.rule_cells.specs.Cells.{patternAt, templateAt}
@@ -31,24 +31,32 @@ pub record Grows (t : Tree) (old new : List ℕ) (top at upper : ℕ) : Type 0 w
 
 -- ---- patterns
 
+-- n elements stand behind the ellipsis that the rest of a list begins with, where it does
+abbrev pub Behind : (work : List ℕ) (rest : ℕ) (followed : Bool) (n : ℕ) → Type 0
+Behind work rest followed n = (w : ℕ) → followed ≡ true → n ≡ length (elements (tail (treeAt work rest w)))
+
 -- the pattern's cells, and the number of the next variable
-pub record PatternMade (literals : List Name) (k : ℕ) (t : Tree) (old new : List ℕ) (top at upper next : ℕ) : Type 0 where
-  pub means : patternOf isEllipsis literals k t ≡ some (patternAt new at)
-  pub counts : next ≡ k + length (variables isEllipsis literals 0 t)
+pub record PatternMade (dots : Name → Bool) (literals : List Name) (k : ℕ) (taken : Bool) (t : Tree) (old new : List ℕ) (top at upper next : ℕ) : Type 0 where
+  pub means : patternOf dots literals k taken t ≡ some (patternAt new at)
+  pub counts : next ≡ k + length (variables dots literals 0 t)
   pub grows : Grows t old new top at upper
 
 -- bad exactly where the definition has no pattern
-abbrev pub PatternLeft : (literals : List Name) (k : ℕ) (t : Tree) (old new : List ℕ) (top : ℕ) → Parsed → Type 0
-PatternLeft literals k t old new top (Good at upper next) = PatternMade literals k t old new top at upper next
-PatternLeft literals k t old new top Bad = (patternOf isEllipsis literals k t ≡ none) × (take top new ≡ take top old)
+abbrev pub PatternLeft : (dots : Name → Bool) (literals : List Name) (k : ℕ) (taken : Bool) (t : Tree) (old new : List ℕ) (top : ℕ) → Parsed → Type 0
+PatternLeft dots literals k taken t old new top (Good at upper next) = PatternMade dots literals k taken t old new top at upper next
+PatternLeft dots literals k taken t old new top Bad = (patternOf dots literals k taken t ≡ none) × (take top new ≡ take top old)
 
 -- ---- templates
 
-pub record TemplateMade (vs : List (Name × ℕ)) (d : ℕ) (taken : Bool) (t : Tree) (old new : List ℕ) (top at upper : ℕ) : Type 0 where
-  pub means : templateOf isEllipsis vs d taken t ≡ some (templateAt new at)
+-- the rest of a list, where it begins with the ellipsis that the element before it has taken, or not
+unfoldable pub restPlace : (taken : Bool) → Place
+restPlace taken = cond taken asTaken asRest
+
+pub record TemplateMade (dots : Name → Bool) (vs : List (Name × ℕ)) (d : ℕ) (place : Place) (t : Tree) (old new : List ℕ) (top at upper : ℕ) : Type 0 where
+  pub means : templateOf dots vs d place t ≡ some (templateAt new at)
   pub grows : Grows t old new top at upper
 
 -- bad exactly where the definition has no template
-abbrev pub TemplateLeft : (vs : List (Name × ℕ)) (d : ℕ) (taken : Bool) (t : Tree) (old new : List ℕ) (top : ℕ) → Built → Type 0
-TemplateLeft vs d taken t old new top (At at upper) = TemplateMade vs d taken t old new top at upper
-TemplateLeft vs d taken t old new top None = (templateOf isEllipsis vs d taken t ≡ none) × (take top new ≡ take top old)
+abbrev pub TemplateLeft : (dots : Name → Bool) (vs : List (Name × ℕ)) (d : ℕ) (place : Place) (t : Tree) (old new : List ℕ) (top : ℕ) → Built → Type 0
+TemplateLeft dots vs d place t old new top (At at upper) = TemplateMade dots vs d place t old new top at upper
+TemplateLeft dots vs d place t old new top None = (templateOf dots vs d place t ≡ none) × (take top new ≡ take top old)

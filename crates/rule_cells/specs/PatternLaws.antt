@@ -1,27 +1,31 @@
 -- Laws of parsing a pattern, one for each way through the code.
 use mathlib.Core.Path.{_≡_, refl, sym, ap, ap₂, subst, _∙_}
-use mathlib.Core.Bool.{Bool, true, false}
+use mathlib.Core.Bool.{Bool, true, false, not, _&&_, cond, false≢true}
 use mathlib.Core.List.{List}
-use mathlib.Core.Option.{none, some}
+use mathlib.Core.Option.{Option, none, some}
 use Prim.Native.Nat.{ℕ, suc, _+_, _^_, _≤_, _<_}
 use native.Mathlib.Omega.{arith}
 use lib.ListN.{length, length-append}
-use borrow.Author.Tests.{ne-eqb, eqb-true}
+use borrow.Author.Tests.{ne-eqb}
+use Rattle.words.specs.Lists.{anyOf}
 use Rattle.words.specs.Options.{onlyIf, mapSome, mapBoth}
+use Rattle.words.specs.TestLaws.{and-left, and-right}
 use Rattle.datum.specs.Constant.{Constant}
-use Rattle.recipe.specs.Name.{Name, isEllipsis, isWildcard, bindingKey}
-use Rattle.recipe.specs.Tree.{Tree, empty, constant, name, pair, size, names, onEmpty, onName, onPair, isList, isListOf, elements, tail}
+use Rattle.recipe.specs.Name.{Name, isWildcard, bindingKey}
+use Rattle.recipe.specs.Tree.{Tree, empty, constant, name, pair, size, names, onName, onPair, elements, tail}
 use Rattle.expansion.specs.Rules.{Pattern, variableP, literalP, wildcardP, constantP, emptyP, pairP, ellipsisP, dotsNext, depthBefore, isVariable, variables, patternOf}
 use Rattle.arena.specs.Arena.{wordAt, referenceAt, nameAt, constantAt, treeAt}
 use Rattle.words.specs.ListLaws.{either}
 use Rattle.arena.specs.NodeLaws.{treeAt-empty, treeAt-name, treeAt-constant}
 use Rattle.arena.specs.CellLaws.{tree-kept}
+use Rattle.arena.specs.Lists.{Means, Counts}
+use Rattle.arena.specs.ListLaws.{tree-cases}
 use Rattle.rule_cells.specs.Cells.{patternAt, patternFrom}
 use Rattle.rule_cells.specs.Made.{Made, MadeLiteral}
 use Rattle.rule_cells.specs.MadeLaws.{pattern-kept}
-use Rattle.rule_cells.specs.Variables.{leafCount}
-use Rattle.rule_cells.specs.Parse.{Asks, PatternMade, PatternLeft}
-use Rattle.rule_cells.specs.ParseLaws.{grows-nothing, grows-leaf, grows-over, kept-both, tree-is, size-is, rest-kept, grows-pair}
+use Rattle.rule_cells.specs.Dots.{dotsAt, dotsAmong, dots-kept}
+use Rattle.rule_cells.specs.Parse.{Asks, Behind, PatternMade, PatternLeft}
+use Rattle.rule_cells.specs.ParseLaws.{grows-nothing, grows-leaf, kept-both, tree-is, size-is, rest-kept, grows-pair}
 use Rattle.rule_cells.specs.declared.patterns.Parsed.{Parsed}
 use Rattle.rule_cells.specs.declared.patterns.Parsed.the-variants.{Good, Bad}
 
@@ -32,41 +36,41 @@ patternAt-none work = refl
 
 -- ---- names
 
-module _ (literals : List Name) (k : ℕ) (x : Name) where
-  name-dots : x .number ≡ 6 → patternOf isEllipsis literals k (name x) ≡ none
-  unfolding patternOf onlyIf isEllipsis
+module _ (dots : Name → Bool) (literals : List Name) (k : ℕ) (x : Name) where
+  name-dots : dots x ≡ true → patternOf dots literals k false (name x) ≡ none
+  unfolding patternOf onlyIf
   name-dots e = rw e refl
 
-  count-none : isVariable isEllipsis literals x ≡ false → k ≡ k + length (variables isEllipsis literals 0 (name x))
+  count-none : isVariable dots literals x ≡ false → k ≡ k + length (variables dots literals 0 (name x))
   unfolding variables
   count-none e = rw e (omega arith)
 
-  count-one : isVariable isEllipsis literals x ≡ true → k + 1 ≡ k + length (variables isEllipsis literals 0 (name x))
+  count-one : isVariable dots literals x ≡ true → k + 1 ≡ k + length (variables dots literals 0 (name x))
   unfolding variables
   count-one e = rw e refl
 
-  name-variable : (x .number ≡ 6 → ⊥) → isVariable isEllipsis literals x ≡ true → patternOf isEllipsis literals k (name x) ≡ some (variableP k)
-  unfolding patternOf onlyIf isEllipsis
-  name-variable n e = rw (e, ne-eqb _ _ n) refl
+  name-variable : dots x ≡ false → isVariable dots literals x ≡ true → patternOf dots literals k false (name x) ≡ some (variableP k)
+  unfolding patternOf onlyIf
+  name-variable n e = rw (e, n) refl
 
-  name-wildcard : (x .number ≡ 6 → ⊥) → x .number ≡ 7 → isVariable isEllipsis literals x ≡ false → patternOf isEllipsis literals k (name x) ≡ some wildcardP
-  unfolding patternOf onlyIf isEllipsis isWildcard
-  name-wildcard n m e = rw (e, m) refl
+  name-wildcard : dots x ≡ false → x .number ≡ 7 → isVariable dots literals x ≡ false → patternOf dots literals k false (name x) ≡ some wildcardP
+  unfolding patternOf onlyIf isWildcard
+  name-wildcard n m e = rw (e, n, m) refl
 
-  name-literal : (x .number ≡ 6 → ⊥) → (x .number ≡ 7 → ⊥) → isVariable isEllipsis literals x ≡ false → patternOf isEllipsis literals k (name x) ≡ some (literalP x)
-  unfolding patternOf onlyIf isEllipsis isWildcard
-  name-literal n m e = rw (e, ne-eqb _ _ n, ne-eqb _ _ m) refl
+  name-literal : dots x ≡ false → (x .number ≡ 7 → ⊥) → isVariable dots literals x ≡ false → patternOf dots literals k false (name x) ≡ some (literalP x)
+  unfolding patternOf onlyIf isWildcard
+  name-literal n m e = rw (e, n, ne-eqb _ _ m) refl
 
   -- what is left after each
   module _ (old : List ℕ) (top : ℕ) where
-    pub left-dots : x .number ≡ 6 → PatternLeft literals k (name x) old old top Bad
+    pub left-dots : dots x ≡ true → PatternLeft dots literals k false (name x) old old top Bad
     left-dots e = (name-dots e, refl)
 
-    pub left-wildcard : (new : List ℕ) (r : ℕ) → (x .number ≡ 6 → ⊥) → x .number ≡ 7 → isVariable isEllipsis literals x ≡ false → Made patternAt wildcardP old new top r → PatternLeft literals k (name x) old new top (Good r r k)
+    pub left-wildcard : (new : List ℕ) (r : ℕ) → dots x ≡ false → x .number ≡ 7 → isVariable dots literals x ≡ false → Made patternAt wildcardP old new top r → PatternLeft dots literals k false (name x) old new top (Good r r k)
     left-wildcard new r n m v c =
         record { means = name-wildcard n m v ∙ ap some (sym (c .means)); counts = count-none v; grows = grows-leaf (name x) old new top r (c .end) (c .kept) }
 
-    pub left-literal : (node w number key : ℕ) (new : List ℕ) (r : ℕ) → x ≡ nameAt old node w → (x .number ≡ 6 → ⊥) → (x .number ≡ 7 → ⊥) → isVariable isEllipsis literals x ≡ false → number ≡ x .number → key ≡ bindingKey (x .binding) → MadeLiteral node w number key old new top r → PatternLeft literals k (name x) old new top (Good r r k)
+    pub left-literal : (node w number key : ℕ) (new : List ℕ) (r : ℕ) → x ≡ nameAt old node w → dots x ≡ false → (x .number ≡ 7 → ⊥) → isVariable dots literals x ≡ false → number ≡ x .number → key ≡ bindingKey (x .binding) → MadeLiteral node w number key old new top r → PatternLeft dots literals k false (name x) old new top (Good r r k)
     left-literal node w number key new r is n m v e f c =
         record {
           means = name-literal n m v ∙ ap some (ap literalP is ∙ sym (c .means (e ∙ ap (λ (y : Name). y .number) is) (f ∙ ap (λ (y : Name). bindingKey (y .binding)) is)));
@@ -74,39 +78,34 @@ module _ (literals : List Name) (k : ℕ) (x : Name) where
           grows = grows-leaf (name x) old new top r (c .end) (c .kept);
         }
 
-    pub left-variable : (new : List ℕ) (r : ℕ) → (x .number ≡ 6 → ⊥) → isVariable isEllipsis literals x ≡ true → Made patternAt (variableP k) old new top r → PatternLeft literals k (name x) old new top (Good r r (k + 1))
+    pub left-variable : (new : List ℕ) (r : ℕ) → dots x ≡ false → isVariable dots literals x ≡ true → Made patternAt (variableP k) old new top r → PatternLeft dots literals k false (name x) old new top (Good r r (k + 1))
     left-variable new r n v c =
         record { means = name-variable n v ∙ ap some (sym (c .means)); counts = count-one v; grows = grows-leaf (name x) old new top r (c .end) (c .kept) }
 
 -- ---- leaves
 
-module _ (literals : List Name) (k : ℕ) (old : List ℕ) (node w top : ℕ) where
-  pub left-name : (new : List ℕ) (r : Parsed) → wordAt old node 3 ≡ 3 → PatternLeft literals k (name (nameAt old node w)) old new top r → PatternLeft literals k (treeAt old node w) old new top r
-  left-name new r e g = subst (λ (t : Tree). PatternLeft literals k t old new top r) (sym (treeAt-name old node w e)) g
+module _ (dots : Name → Bool) (literals : List Name) (k : ℕ) (old : List ℕ) (node w top : ℕ) where
+  pub left-name : (new : List ℕ) (r : Parsed) → wordAt old node 3 ≡ 3 → PatternLeft dots literals k false (name (nameAt old node w)) old new top r → PatternLeft dots literals k false (treeAt old node w) old new top r
+  left-name new r e g = subst (λ (t : Tree). PatternLeft dots literals k false t old new top r) (sym (treeAt-name old node w e)) g
 
-  empty-left : PatternLeft literals k empty old old top (Good 0 top k)
+  empty-left : PatternLeft dots literals k false empty old old top (Good 0 top k)
   unfolding patternOf variables
   empty-left = record { means = ap some (sym (patternAt-none old)); counts = omega arith; grows = grows-nothing empty old top }
 
-  pub left-empty : wordAt old node 3 ≡ 0 → PatternLeft literals k (treeAt old node w) old old top (Good 0 top k)
-  left-empty e = subst (λ (t : Tree). PatternLeft literals k t old old top (Good 0 top k)) (sym (treeAt-empty old node w e)) empty-left
+  pub left-empty : wordAt old node 3 ≡ 0 → PatternLeft dots literals k false (treeAt old node w) old old top (Good 0 top k)
+  left-empty e = subst (λ (t : Tree). PatternLeft dots literals k false t old old top (Good 0 top k)) (sym (treeAt-empty old node w e)) empty-left
 
-  constant-left : (a : Constant) (new : List ℕ) (r : ℕ) → Made patternAt (constantP a) old new top r → PatternLeft literals k (constant a) old new top (Good r r k)
+  constant-left : (a : Constant) (new : List ℕ) (r : ℕ) → Made patternAt (constantP a) old new top r → PatternLeft dots literals k false (constant a) old new top (Good r r k)
   unfolding patternOf variables
   constant-left a new r c = record { means = ap some (sym (c .means)); counts = omega arith; grows = grows-leaf (constant a) old new top r (c .end) (c .kept) }
 
-  pub left-constant : (kind first second : ℕ) (new : List ℕ) (r : ℕ) → kind ≡ wordAt old node 3 → first ≡ wordAt old node 2 → second ≡ wordAt old node 1 → (wordAt old node 3 ≡ 0 → ⊥) → (wordAt old node 3 ≡ 3 → ⊥) → (wordAt old node 3 ≡ 4 → ⊥) → Made patternAt (constantP (record { kind = kind; first = first; second = second })) old new top r → PatternLeft literals k (treeAt old node w) old new top (Good r r k)
+  pub left-constant : (kind first second : ℕ) (new : List ℕ) (r : ℕ) → kind ≡ wordAt old node 3 → first ≡ wordAt old node 2 → second ≡ wordAt old node 1 → (wordAt old node 3 ≡ 0 → ⊥) → (wordAt old node 3 ≡ 3 → ⊥) → (wordAt old node 3 ≡ 4 → ⊥) → Made patternAt (constantP (record { kind = kind; first = first; second = second })) old new top r → PatternLeft dots literals k false (treeAt old node w) old new top (Good r r k)
   unfolding constantAt
   left-constant kind first second new r e f g n0 n3 n4 c =
       let is : constant (record { kind = kind; first = first; second = second }) ≡ treeAt old node w = rw (e, f, g) (sym (treeAt-constant old node w n0 n3 n4)) in
-      subst (λ (t : Tree). PatternLeft literals k t old new top (Good r r k)) is (constant-left (record { kind = kind; first = first; second = second }) new r c)
+      subst (λ (t : Tree). PatternLeft dots literals k false t old new top (Good r r k)) is (constant-left (record { kind = kind; first = first; second = second }) new r c)
 
 -- ---- the variables of a pattern, counted
-
--- a list of one element
-one-only : (h s : Tree) → true ≡ isListOf 1 (pair h s) → length (elements s) ≡ 0
-unfolding isListOf isList onEmpty onPair elements
-one-only h s l = let e : suc (length (elements s)) ≡ 1 = eqb-true (suc (length (elements s))) 1 (sym l) in omega arith
 
 -- variables of a pattern whose ellipses are the names that `dots` tells
 module _ (dots : Name → Bool) (literals : List Name) where
@@ -127,57 +126,116 @@ module _ (dots : Name → Bool) (literals : List Name) where
       length-append (variables dots literals (depthBefore dots s 0) h) (variables dots literals 0 s)
       ∙ ap (λ (n : ℕ). n + length (variables dots literals 0 s)) (variables-count (depthBefore dots s 0) 0 h)
 
-module _ (literals : List Name) where
-  variables-size : (d : ℕ) (t : Tree) → length (variables isEllipsis literals d t) ≤ size t
+  variables-size : (d : ℕ) (t : Tree) → length (variables dots literals d t) ≤ size t
   unfolding variables size
   variables-size d empty = omega arith
   variables-size d (constant a) = omega arith
-  variables-size d (name x) = either (isVariable isEllipsis literals x) (λ v. rw v (omega arith)) (λ v. rw v (omega arith))
+  variables-size d (name x) = either (isVariable dots literals x) (λ v. rw v (omega arith)) (λ v. rw v (omega arith))
   variables-size d (pair p ps) =
-      omega (arith, length-append (variables isEllipsis literals (depthBefore isEllipsis ps d) p) (variables isEllipsis literals d ps), variables-size (depthBefore isEllipsis ps d) p, variables-size d ps)
+      omega (arith, length-append (variables dots literals (depthBefore dots ps d) p) (variables dots literals d ps), variables-size (depthBefore dots ps d) p, variables-size d ps)
 
-  -- what follows `...` where it is last in its list
-  after-dots : (x : Name) (s : Tree) → isEllipsis x ≡ true → length (elements s) ≡ 0 → length (variables isEllipsis literals 0 (pair (name x) s)) ≡ leafCount literals s
-  unfolding variables leafCount elements onName isVariable
-  after-dots x empty e l = rw e refl
-  after-dots x (constant a) e l = rw e refl
-  after-dots x (name y) e l = rw e (either (isVariable isEllipsis literals y) (λ v. rw v refl) (λ v. rw v refl))
-  after-dots x (pair h t) e l = absurd (omega arith)
-
-  count-dots : (s : Tree) → true ≡ dotsNext isEllipsis s → true ≡ isListOf 1 s → length (variables isEllipsis literals 0 s) ≡ leafCount literals (tail s)
-  unfolding dotsNext onPair onName tail
-  count-dots empty d l = absurd (let z : _≡_ {A = ℕ} 0 1 = cc in omega arith)
-  count-dots (constant a) d l = absurd (let z : _≡_ {A = ℕ} 0 1 = cc in omega arith)
-  count-dots (name x) d l = absurd (let z : _≡_ {A = ℕ} 0 1 = cc in omega arith)
-  count-dots (pair (name x) s) d l = after-dots x s (sym d) (one-only (name x) s l)
-  count-dots (pair empty s) d l = absurd (let z : _≡_ {A = ℕ} 0 1 = cc in omega arith)
-  count-dots (pair (constant a) s) d l = absurd (let z : _≡_ {A = ℕ} 0 1 = cc in omega arith)
-  count-dots (pair (pair p q) s) d l = absurd (let z : _≡_ {A = ℕ} 0 1 = cc in omega arith)
+  -- the ellipsis itself is none
+  pub dots-count : (h : Tree) → onName dots false h ≡ true → length (variables dots literals 0 h) ≡ 0
+  unfolding onName variables isVariable
+  dots-count empty e = absurd (false≢true e)
+  dots-count (constant a) e = absurd (false≢true e)
+  dots-count (name x) e = rw e refl
+  dots-count (pair p q) e = absurd (false≢true e)
 
 -- ---- pairs
 
-module _ (literals : List Name) (k : ℕ) (h s : Tree) where
-  pair-long : true ≡ dotsNext isEllipsis s → false ≡ isListOf 1 s → patternOf isEllipsis literals k (pair h s) ≡ none
-  unfolding patternOf onlyIf
-  pair-long d l = rw (← d, ← l) refl
+module _ (dots : Name → Bool) (literals : List Name) (k : ℕ) (h s : Tree) where
+  abbrev firstOf : Option Pattern
+  firstOf = patternOf dots literals k false h
 
-  pair-ellipsis : true ≡ dotsNext isEllipsis s → true ≡ isListOf 1 s → patternOf isEllipsis literals k (pair h s) ≡ mapSome ellipsisP (patternOf isEllipsis literals k h)
-  unfolding patternOf onlyIf
-  pair-ellipsis d l = rw (← d, ← l) refl
+  abbrev laterOf : Option Pattern
+  laterOf = patternOf dots literals (k + length (variables dots literals 0 h)) (dotsNext dots s) s
 
-  pair-plain : false ≡ dotsNext isEllipsis s → patternOf isEllipsis literals k (pair h s) ≡ mapBoth pairP (patternOf isEllipsis literals k h) (patternOf isEllipsis literals (k + length (variables isEllipsis literals 0 h)) s)
+  abbrev crowded : Bool
+  crowded = anyOf (onName dots false) (elements (tail s))
+
+  pair-taken : onName dots false h ≡ true → patternOf dots literals k true (pair h s) ≡ patternOf dots literals k false s
   unfolding patternOf
-  pair-plain d = rw (← d) refl
+  pair-taken e = ap (λ (n : ℕ). patternOf dots literals n false s) (let l = dots-count dots literals h e in omega (arith, l))
 
-  pair-bad : patternOf isEllipsis literals k h ≡ none → patternOf isEllipsis literals k (pair h s) ≡ none
-  unfolding patternOf onlyIf mapSome mapBoth
+  pair-is : patternOf dots literals k false (pair h s)
+      ≡ cond (dotsNext dots s) (onlyIf (not crowded) (mapBoth (λ x y. ellipsisP x (length (elements (tail s))) y) firstOf laterOf)) (mapBoth pairP firstOf laterOf)
+  unfolding patternOf
+  pair-is = refl
+
+  pair-crowded : true ≡ (dotsNext dots s && crowded) → patternOf dots literals k false (pair h s) ≡ none
+  unfolding onlyIf
+  pair-crowded e = pair-is ∙ rw (and-left (dotsNext dots s) crowded (sym e), and-right (dotsNext dots s) crowded (sym e)) refl
+
+  pair-bad : firstOf ≡ none → patternOf dots literals k false (pair h s) ≡ none
+  unfolding onlyIf mapBoth
   pair-bad e =
-      either (dotsNext isEllipsis s)
-      (λ d. either (isListOf 1 s) (λ l. rw (d, l, e) refl) (λ l. rw (d, l) refl))
-      (λ d. rw (d, e) refl)
+      pair-is
+      ∙ rw e
+      (either (dotsNext dots s)
+      (λ d. either crowded (λ c. rw (d, c) refl) (λ c. rw (d, c) refl))
+      (λ d. rw d refl))
+
+  module _ (x : Pattern) (f : firstOf ≡ some x) where
+    pair-bad-rest : laterOf ≡ none → patternOf dots literals k false (pair h s) ≡ none
+    unfolding onlyIf mapBoth mapSome
+    pair-bad-rest e =
+        pair-is
+        ∙ rw (f, e)
+        (either (dotsNext dots s)
+        (λ d. either crowded (λ c. rw (d, c) refl) (λ c. rw (d, c) refl))
+        (λ d. rw d refl))
+
+    pair-both : (y : Pattern) → false ≡ (dotsNext dots s && crowded) → laterOf ≡ some y
+        → patternOf dots literals k false (pair h s) ≡ some (cond (dotsNext dots s) (ellipsisP x (length (elements (tail s))) y) (pairP x y))
+    unfolding onlyIf mapBoth mapSome
+    pair-both y u e =
+        pair-is
+        ∙ rw (f, e)
+        (either (dotsNext dots s)
+        (λ d. let c : false ≡ crowded = rw d at u in rw (d, ← c) refl)
+        (λ d. rw d refl))
+
+-- one tree's pattern is another's, no larger and with as many variables
+module _ (dots : Name → Bool) (literals : List Name) (k : ℕ) (taken : Bool) (t s : Tree) (old new : List ℕ) (top : ℕ) (same : patternOf dots literals k false s ≡ patternOf dots literals k taken t)
+    (counted : length (variables dots literals 0 s) ≡ length (variables dots literals 0 t)) (smaller : size s ≤ size t) where
+  left-as : (r : Parsed) → PatternLeft dots literals k false s old new top r → PatternLeft dots literals k taken t old new top r
+  left-as (Good at upper next) m =
+      record {
+        means = sym same ∙ m .means;
+        counts = omega (arith, m .counts, counted);
+        grows = record { at-most = m .grows .at-most; up = m .grows .up; words = omega (arith, m .grows .words); kept = m .grows .kept };
+      }
+  left-as Bad m = (sym same ∙ m .0, m .1)
+
+-- a leaf may begin after the ellipsis or not
+leaf-taken : (dots : Name → Bool) (literals : List Name) (k : ℕ) (taken : Bool) (old : List ℕ) (node w : ℕ) → (wordAt old node 3 ≡ 4 → ⊥) → patternOf dots literals k false (treeAt old node w) ≡ patternOf dots literals k taken (treeAt old node w)
+unfolding patternOf
+leaf-taken dots literals k taken old node w n =
+    tree-cases old node w (λ t. patternOf dots literals k false t ≡ patternOf dots literals k taken t) (λ e. refl) (λ e. refl) (λ e. absurd (n e)) (λ p q r. refl)
+
+pub left-leaf : (dots : Name → Bool) (literals : List Name) (k : ℕ) (taken : Bool) (old : List ℕ) (node w top : ℕ) (new : List ℕ) (r : Parsed) → (wordAt old node 3 ≡ 4 → ⊥)
+    → PatternLeft dots literals k false (treeAt old node w) old new top r → PatternLeft dots literals k taken (treeAt old node w) old new top r
+left-leaf dots literals k taken old node w top new r n m = left-as dots literals k taken _ _ old new top (leaf-taken dots literals k taken old node w n) refl (omega arith) r m
+
+-- what stands behind the ellipsis
+pub behind-count : (work : List ℕ) (rest after n : ℕ) (followed : Bool) → Means work rest after tail → Counts work after n → Behind work rest followed n
+behind-count work rest after n followed m c w e = c .is w ∙ ap (λ (t : Tree). length (elements t)) (m .is w)
+
+pub behind-none : (work : List ℕ) (rest : ℕ) (followed : Bool) → followed ≡ false → Behind work rest followed 0
+behind-none work rest followed e w f = absurd (false≢true (sym e ∙ f))
+
+pub list-ellipsis : (work new : List ℕ) (followed : Bool) (a n b top r : ℕ) → followed ≡ true → Made patternAt (ellipsisP (patternAt work a) n (patternAt work b)) work new top r → Made patternAt (cond followed (ellipsisP (patternAt work a) n (patternAt work b)) (pairP (patternAt work a) (patternAt work b))) work new top r
+list-ellipsis work new followed a n b top r e m = rw e m
+
+pub list-pair : (work new : List ℕ) (followed : Bool) (a n b top r : ℕ) → followed ≡ false → Made patternAt (pairP (patternAt work a) (patternAt work b)) work new top r → Made patternAt (cond followed (ellipsisP (patternAt work a) n (patternAt work b)) (pairP (patternAt work a) (patternAt work b))) work new top r
+list-pair work new followed a n b top r e m = rw e m
 
 -- what is left after each way through a pair
-module _ (old : List ℕ) (literals node w k top : ℕ) (asks : Asks old node w top) (literals-below : literals ≤ top) (head rest : ℕ) (e : wordAt old node 3 ≡ 4) (f : head ≡ referenceAt old node 2) (g : rest ≡ referenceAt old node 1) where
+module _ (old : List ℕ) (dots literals node w k top : ℕ) (asks : Asks old node w top) (dots-below : dots ≤ top) (literals-below : literals ≤ top) (head rest : ℕ) (e : wordAt old node 3 ≡ 4) (f : head ≡ referenceAt old node 2) (g : rest ≡ referenceAt old node 1) where
+  abbrev ds : Name → Bool
+  ds = dotsAt old dots w
+
   abbrev listed : List Name
   listed = names (treeAt old literals w)
 
@@ -196,69 +254,82 @@ module _ (old : List ℕ) (literals node w k top : ℕ) (asks : Asks old node w 
   pub small-head : k + size (treeAt old node w) < 2 ^ 32 → k + size h < 2 ^ 32
   small-head l = omega (arith, whole-size)
 
-  pub left-long : true ≡ dotsNext isEllipsis s → false ≡ isListOf 1 s → PatternLeft listed k (treeAt old node w) old old top Bad
-  left-long d l = (ap (patternOf isEllipsis listed k) whole-is ∙ pair-long listed k h s d l, refl)
+  pub small-tail : k + size (treeAt old node w) < 2 ^ 32 → k + size s < 2 ^ 32
+  small-tail l = omega (arith, whole-size)
 
-  pub left-bad : (mid : List ℕ) (r : Parsed) → r ≡ Bad → PatternLeft listed k h old mid top r → PatternLeft listed k (treeAt old node w) old mid top Bad
-  left-bad mid r b p =
-      let q : PatternLeft listed k h old mid top Bad = subst (λ (z : Parsed). PatternLeft listed k h old mid top z) b p in
-      (ap (patternOf isEllipsis listed k) whole-is ∙ pair-bad listed k h s (q .0), q .1)
+  pub left-taken : (taken : Bool) (new : List ℕ) (r : Parsed) → taken ≡ true → (taken ≡ true → dotsNext ds (treeAt old node w) ≡ true) → PatternLeft ds listed k false s old new top r → PatternLeft ds listed k taken (treeAt old node w) old new top r
+  unfolding dotsNext onPair
+  left-taken taken new r q d m =
+      let begins : onName ds false h ≡ true = rw whole-is at (d q) in
+      left-as ds listed k taken (treeAt old node w) s old new top (rw (q, whole-is) (sym (pair-taken ds listed k h s begins)))
+      (rw whole-is (omega (arith, count-pair ds listed h s, dots-count ds listed h begins))) (omega (arith, whole-size)) r m
 
-  pub made-head : (mid : List ℕ) (r : Parsed) (a t n : ℕ) → r ≡ Good a t n → PatternLeft listed k h old mid top r → PatternMade listed k h old mid top a t n
-  made-head mid r a t n b p = subst (λ (z : Parsed). PatternLeft listed k h old mid top z) b p
+  module _ (taken followed : Bool) (untaken : taken ≡ false) (next : followed ≡ dotsNext ds s) where
+    whole : patternOf ds listed k taken (treeAt old node w) ≡ patternOf ds listed k false (pair h s)
+    whole = rw (untaken, whole-is) refl
 
-  module _ (mid : List ℕ) (a t n : ℕ) (made : PatternMade listed k h old mid top a t n) where
-    pub left-ellipsis : (new : List ℕ) (r more : ℕ) → true ≡ dotsNext isEllipsis s → true ≡ isListOf 1 s → more ≡ leafCount listed (tail s) → Made patternAt (ellipsisP (patternAt mid a)) mid new t r → PatternLeft listed k (treeAt old node w) old new top (Good r r (n + more))
-    unfolding mapSome
-    left-ellipsis new r more d l c m =
-        record {
-          means = ap (patternOf isEllipsis listed k) whole-is ∙ pair-ellipsis listed k h s d l ∙ ap (mapSome ellipsisP) (made .means) ∙ ap some (sym (m .means));
-          counts = rw (whole-is) (omega (arith, made .counts, count-pair isEllipsis listed h s, count-dots listed s d l));
-          grows = grows-over (treeAt old node w) h old mid new top a t r (made .grows) (omega (arith, whole-size)) (m .end) (m .kept);
-        }
+    pub left-crowded : true ≡ (followed && dotsAmong old dots w (tail s)) → PatternLeft ds listed k taken (treeAt old node w) old old top Bad
+    left-crowded c = (whole ∙ pair-crowded ds listed k h s (c ∙ ap (λ (b : Bool). b && dotsAmong old dots w (tail s)) next), refl)
 
-    pub small-ellipsis : (more : ℕ) → k + size (treeAt old node w) < 2 ^ 32 → true ≡ dotsNext isEllipsis s → true ≡ isListOf 1 s → more ≡ leafCount listed (tail s) → n + more < 2 ^ 32
-    small-ellipsis more l d o c = omega (arith, whole-size, made .counts, variables-size listed 0 h, variables-size listed 0 s, count-dots listed s d o)
+    pub left-bad : (mid : List ℕ) (r : Parsed) → r ≡ Bad → PatternLeft ds listed k false h old mid top r → PatternLeft ds listed k taken (treeAt old node w) old mid top Bad
+    left-bad mid r b p =
+        let q : PatternLeft ds listed k false h old mid top Bad = subst (λ (z : Parsed). PatternLeft ds listed k false h old mid top z) b p in
+        (whole ∙ pair-bad ds listed k h s (q .0), q .1)
 
-    same-listed : names (treeAt mid literals w) ≡ listed
-    same-listed = ap names (tree-kept old mid top literals w literals-below (asks .wrap-below) (made .grows .kept))
+    pub made-head : (mid : List ℕ) (r : Parsed) (a t n : ℕ) → r ≡ Good a t n → PatternLeft ds listed k false h old mid top r → PatternMade ds listed k false h old mid top a t n
+    made-head mid r a t n b p = subst (λ (z : Parsed). PatternLeft ds listed k false h old mid top z) b p
 
-    pub small-rest : k + size (treeAt old node w) < 2 ^ 32 → length mid ≡ length old → n + size (treeAt mid rest w) < 2 ^ 32
-    small-rest l q =
-        rw (rest-kept old node w top asks head rest e f g mid a t q (made .grows))
-        (omega (arith, whole-size, made .counts, variables-size listed 0 h))
-
-    pub literals-still : literals ≤ t
-    literals-still = omega (arith, made .grows .up)
-
-    module _ (same-length : length mid ≡ length old) (plain : false ≡ dotsNext isEllipsis s) where
+    module _ (mid : List ℕ) (a t n : ℕ) (same-length : length mid ≡ length old) (made : PatternMade ds listed k false h old mid top a t n) where
       abbrev again : Tree
       again = treeAt mid rest w
+
+      abbrev ds-again : Name → Bool
+      ds-again = dotsAt mid dots w
+
+      abbrev listed-again : List Name
+      listed-again = names (treeAt mid literals w)
+
+      same-listed : listed-again ≡ listed
+      same-listed = ap names (tree-kept old mid top literals w literals-below (asks .wrap-below) (made .grows .kept))
+
+      same-dots : ds-again ≡ ds
+      same-dots = dots-kept old mid top (made .grows .kept) dots w dots-below (asks .wrap-below)
 
       s-is : again ≡ s
       s-is = rest-kept old node w top asks head rest e f g mid a t same-length (made .grows)
 
-      rest-means : patternOf isEllipsis (names (treeAt mid literals w)) n again ≡ patternOf isEllipsis listed (k + length (variables isEllipsis listed 0 h)) s
-      rest-means = rw (same-listed, s-is, made .counts) refl
+      pub small-rest : k + size (treeAt old node w) < 2 ^ 32 → n + size again < 2 ^ 32
+      small-rest l = rw s-is (omega (arith, whole-size, made .counts, variables-size ds listed 0 h))
 
-      pub left-bad-rest : (new : List ℕ) (r : Parsed) → r ≡ Bad → PatternLeft (names (treeAt mid literals w)) n again mid new t r → PatternLeft listed k (treeAt old node w) old new top Bad
-      unfolding mapBoth mapSome
+      pub literals-still : literals ≤ t
+      literals-still = omega (arith, made .grows .up)
+
+      pub dots-still : dots ≤ t
+      dots-still = omega (arith, made .grows .up)
+
+      pub begins-still : followed ≡ true → dotsNext ds-again again ≡ true
+      begins-still q = rw (same-dots, s-is) (sym next ∙ q)
+
+      rest-means : patternOf ds-again listed-again n followed again ≡ laterOf ds listed k h s
+      rest-means = rw (same-dots, same-listed, s-is, made .counts, next) refl
+
+      pub left-bad-rest : (new : List ℕ) (r : Parsed) → r ≡ Bad → PatternLeft ds-again listed-again n followed again mid new t r → PatternLeft ds listed k taken (treeAt old node w) old new top Bad
       left-bad-rest new r b p =
-          let q : PatternLeft (names (treeAt mid literals w)) n again mid new t Bad = subst (λ (z : Parsed). PatternLeft (names (treeAt mid literals w)) n again mid new t z) b p in
-          (ap (patternOf isEllipsis listed k) whole-is ∙ pair-plain listed k h s plain ∙ ap₂ (mapBoth pairP) (made .means) (sym rest-means ∙ q .0), kept-both h old mid new top a t (made .grows) (q .1))
+          let q : PatternLeft ds-again listed-again n followed again mid new t Bad = subst (λ (z : Parsed). PatternLeft ds-again listed-again n followed again mid new t z) b p in
+          (whole ∙ pair-bad-rest ds listed k h s (patternAt mid a) (made .means) (sym rest-means ∙ q .0), kept-both h old mid new top a t (made .grows) (q .1))
 
-      pub made-rest : (last : List ℕ) (r : Parsed) (b u m : ℕ) → r ≡ Good b u m → PatternLeft (names (treeAt mid literals w)) n again mid last t r → PatternMade (names (treeAt mid literals w)) n again mid last t b u m
-      made-rest last r b u m q p = subst (λ (z : Parsed). PatternLeft (names (treeAt mid literals w)) n again mid last t z) q p
+      pub made-rest : (last : List ℕ) (r : Parsed) (b u m : ℕ) → r ≡ Good b u m → PatternLeft ds-again listed-again n followed again mid last t r → PatternMade ds-again listed-again n followed again mid last t b u m
+      made-rest last r b u m q p = subst (λ (z : Parsed). PatternLeft ds-again listed-again n followed again mid last t z) q p
 
-      pub left-pair : (last new : List ℕ) (b u m r : ℕ) → PatternMade (names (treeAt mid literals w)) n again mid last t b u m → Made patternAt (pairP (patternAt last a) (patternAt last b)) last new u r → PatternLeft listed k (treeAt old node w) old new top (Good r r m)
-      unfolding mapBoth mapSome
-      left-pair last new b u m r second c =
+      pub left-list : (last new : List ℕ) (b u m r c : ℕ) → false ≡ (followed && dotsAmong old dots w (tail s)) → (followed ≡ true → c ≡ length (elements (tail s))) → PatternMade ds-again listed-again n followed again mid last t b u m
+          → Made patternAt (cond followed (ellipsisP (patternAt last a) c (patternAt last b)) (pairP (patternAt last a) (patternAt last b))) last new u r → PatternLeft ds listed k taken (treeAt old node w) old new top (Good r r m)
+      left-list last new b u m r c lone counted second made-it =
           record {
             means =
-                ap (patternOf isEllipsis listed k) whole-is
-                ∙ pair-plain listed k h s plain
-                ∙ ap₂ (mapBoth pairP) (made .means) (sym rest-means ∙ second .means)
-                ∙ ap some (ap (λ (p : Pattern). pairP p (patternAt last b)) (sym (pattern-kept mid last t (second .grows .kept) a (made .grows .at-most))) ∙ sym (c .means));
-            counts = rw (whole-is) (let q : m ≡ n + length (variables isEllipsis listed 0 s) = (rw (same-listed, s-is) at (second .counts)) in omega (arith, made .counts, count-pair isEllipsis listed h s));
-            grows = grows-pair old node w top asks head rest e f g mid a t same-length (made .grows) last new b u r (second .grows) (c .end) (c .kept);
+                whole
+                ∙ pair-both ds listed k h s (patternAt mid a) (made .means) (patternAt last b) (lone ∙ ap (λ (z : Bool). z && dotsAmong old dots w (tail s)) next) (sym rest-means ∙ second .means)
+                ∙ ap some (ap₂ (λ (z : Bool) (x : Pattern). cond z (ellipsisP x (length (elements (tail s))) (patternAt last b)) (pairP x (patternAt last b))) (sym next) (sym (pattern-kept mid last t (second .grows .kept) a (made .grows .at-most)))
+                ∙ either followed (λ z. rw (z, counted z) refl) (λ z. rw z refl) ∙ sym (made-it .means));
+            counts = rw whole-is (let q : m ≡ n + length (variables ds listed 0 s) = (rw (same-dots, same-listed, s-is) at (second .counts)) in omega (arith, made .counts, count-pair ds listed h s));
+            grows = grows-pair old node w top asks head rest e f g mid a t same-length (made .grows) last new b u r (second .grows) (made-it .end) (made-it .kept);
           }

@@ -1,6 +1,6 @@
 -- Laws of parsing rules, one for each way through the code.
 use mathlib.Core.Path.{_≡_, refl, sym, ap, ap₂, subst, _∙_}
-use mathlib.Core.Bool.{true, false}
+use mathlib.Core.Bool.{Bool, true, false}
 use mathlib.Core.List.{List, [], _∷_, append-nil}
 use mathlib.Core.Option.{Option, none, some}
 use Prim.Native.Nat.{ℕ, _+_, _*_, _^_, _≤_, _<_}
@@ -8,9 +8,9 @@ use native.Mathlib.Omega.{arith}
 use lib.ListN.{length, take}
 use Rattle.words.specs.Lists.{allOf}
 use Rattle.words.specs.Options.{onlyIf, mapSome, mapBoth}
-use Rattle.recipe.specs.Name.{Name, distinct, isEllipsis}
+use Rattle.recipe.specs.Name.{Name, distinct}
 use Rattle.recipe.specs.Tree.{Tree, size, names}
-use Rattle.expansion.specs.Rules.{Pattern, Template, Rule, areVariables, variables, patternOf, templateOf}
+use Rattle.expansion.specs.Rules.{Pattern, Template, Rule, asElement, areVariables, variables, patternOf, templateOf}
 use Rattle.arena.specs.Arena.{treeAt}
 use Rattle.words.specs.ListLaws.{either}
 use Rattle.arena.specs.ArenaLaws.{take-less}
@@ -19,6 +19,7 @@ use Rattle.arena.specs.CellLaws.{tree-kept}
 use Rattle.rule_cells.specs.Cells.{patternAt, templateAt, rulesAt}
 use Rattle.rule_cells.specs.Made.{Made}
 use Rattle.rule_cells.specs.MadeLaws.{pattern-kept, rules-kept}
+use Rattle.rule_cells.specs.Dots.{dotsAt, dots-kept}
 use Rattle.rule_cells.specs.Variables as kept-is
 use Rattle.rule_cells.specs.Variables.{variablesFrom, Kept, Held, Under, Stored, Gathered}
 use Rattle.words.specs.declared.packed.Built.{Built}
@@ -31,23 +32,23 @@ use Rattle.rule_cells.specs.declared.patterns.Parsed.the-variants as par
 
 -- ---- a rule's parts
 
-module _ (literals : List Name) (p q : Tree) where
+module _ (dots : Name → Bool) (literals : List Name) (p q : Tree) where
   abbrev vs : List (Name × ℕ)
-  vs = variables isEllipsis literals 0 p
+  vs = variables dots literals 0 p
 
-  parts-variables : areVariables vs ≡ false → partsOf literals p q ≡ none
+  parts-variables : areVariables vs ≡ false → partsOf dots literals p q ≡ none
   unfolding partsOf onlyIf
   parts-variables e = rw e refl
 
-  parts-pattern : patternOf isEllipsis literals 0 p ≡ none → partsOf literals p q ≡ none
+  parts-pattern : patternOf dots literals 0 false p ≡ none → partsOf dots literals p q ≡ none
   unfolding partsOf onlyIf mapBoth
   parts-pattern e = rw e (either (areVariables vs) (λ t. rw t refl) (λ t. rw t refl))
 
-  parts-template : (x : Pattern) → patternOf isEllipsis literals 0 p ≡ some x → templateOf isEllipsis vs 0 false q ≡ none → partsOf literals p q ≡ none
+  parts-template : (x : Pattern) → patternOf dots literals 0 false p ≡ some x → templateOf dots vs 0 asElement q ≡ none → partsOf dots literals p q ≡ none
   unfolding partsOf onlyIf mapBoth mapSome
   parts-template x e f = rw (e, f) (either (areVariables vs) (λ t. rw t refl) (λ t. rw t refl))
 
-  parts-both : (x : Pattern) (y : Template) → areVariables vs ≡ true → patternOf isEllipsis literals 0 p ≡ some x → templateOf isEllipsis vs 0 false q ≡ some y → partsOf literals p q ≡ some (record { pattern = x; template = y })
+  parts-both : (x : Pattern) (y : Template) → areVariables vs ≡ true → patternOf dots literals 0 false p ≡ some x → templateOf dots vs 0 asElement q ≡ some y → partsOf dots literals p q ≡ some (record { pattern = x; template = y })
   unfolding partsOf onlyIf mapBoth mapSome
   parts-both x y v e f = rw (v, e, f) refl
 
@@ -56,7 +57,10 @@ pub held-none : (work : List ℕ) (w : ℕ) (vars : List ℕ) → Held work w va
 unfolding variablesFrom areVariables distinct allOf
 held-none work w vars = record { most = omega arith; good = refl }
 
-module _ (old : List ℕ) (literals p q w next top : ℕ) (ask : PartsAsk old literals p q w next top) where
+module _ (old : List ℕ) (dots literals p q w next top : ℕ) (ask : PartsAsk old dots literals p q w next top) where
+  abbrev ds : Name → Bool
+  ds = dotsAt old dots w
+
   abbrev listed : List Name
   listed = names (treeAt old literals w)
 
@@ -70,7 +74,7 @@ module _ (old : List ℕ) (literals p q w next top : ℕ) (ask : PartsAsk old li
   s = size pt + size qt + 1
 
   abbrev o : Option Rule
-  o = partsOf listed pt qt
+  o = partsOf ds listed pt qt
 
   pub packs-rule : top + 5 * s < 4294967295
   packs-rule = omega (arith, ask .room .small)
@@ -89,36 +93,39 @@ module _ (old : List ℕ) (literals p q w next top : ℕ) (ask : PartsAsk old li
   pub small-size : 0 + size pt < 2 ^ 32
   small-size = omega (arith, ask .room .small)
 
-  pub left-variables : (vars new : List ℕ) (r : Kept) → r ≡ kept-is.Bad → Gathered (variables isEllipsis listed 0 pt) old w p 0 vars new r → RuleLeft o s old old next top None
+  pub left-variables : (vars new : List ℕ) (r : Kept) → r ≡ kept-is.Bad → Gathered (variables ds listed 0 pt) old w p 0 vars new r → RuleLeft o s old old next top None
   unfolding variablesFrom
   left-variables vars new r b g =
-      let h : Gathered (variables isEllipsis listed 0 pt) old w p 0 vars new kept-is.Bad = subst (λ (z : Kept). Gathered (variables isEllipsis listed 0 pt) old w p 0 vars new z) b g in
-      (parts-variables listed pt qt (ap areVariables (sym (append-nil (variables isEllipsis listed 0 pt))) ∙ h []), refl)
+      let h : Gathered (variables ds listed 0 pt) old w p 0 vars new kept-is.Bad = subst (λ (z : Kept). Gathered (variables ds listed 0 pt) old w p 0 vars new z) b g in
+      (parts-variables ds listed pt qt (ap areVariables (sym (append-nil (variables ds listed 0 pt))) ∙ h []), refl)
 
-  pub left-pattern : (mid : List ℕ) (r : Parsed) → r ≡ parsed.Bad → PatternLeft listed 0 pt old mid top r → RuleLeft o s old mid next top None
+  pub left-pattern : (mid : List ℕ) (r : Parsed) → r ≡ parsed.Bad → PatternLeft ds listed 0 false pt old mid top r → RuleLeft o s old mid next top None
   left-pattern mid r b g =
-      let h : PatternLeft listed 0 pt old mid top parsed.Bad = subst (λ (z : Parsed). PatternLeft listed 0 pt old mid top z) b g in
-      (parts-pattern listed pt qt (h .0), h .1)
+      let h : PatternLeft ds listed 0 false pt old mid top parsed.Bad = subst (λ (z : Parsed). PatternLeft ds listed 0 false pt old mid top z) b g in
+      (parts-pattern ds listed pt qt (h .0), h .1)
 
-  pub made-pattern : (mid : List ℕ) (r : Parsed) (a t m : ℕ) → r ≡ parsed.Good a t m → PatternLeft listed 0 pt old mid top r → PatternMade listed 0 pt old mid top a t m
-  made-pattern mid r a t m b g = subst (λ (z : Parsed). PatternLeft listed 0 pt old mid top z) b g
+  pub made-pattern : (mid : List ℕ) (r : Parsed) (a t m : ℕ) → r ≡ parsed.Good a t m → PatternLeft ds listed 0 false pt old mid top r → PatternMade ds listed 0 false pt old mid top a t m
+  made-pattern mid r a t m b g = subst (λ (z : Parsed). PatternLeft ds listed 0 false pt old mid top z) b g
 
   -- after the variables and the pattern
-  module _ (none-yet vars : List ℕ) (n : ℕ) (stored : Stored (variables isEllipsis listed 0 pt) old w p 0 none-yet vars n) (mid : List ℕ) (a t m : ℕ) (same-length : length mid ≡ length old) (made : PatternMade listed 0 pt old mid top a t m) where
+  module _ (none-yet vars : List ℕ) (n : ℕ) (stored : Stored (variables ds listed 0 pt) old w p 0 none-yet vars n) (mid : List ℕ) (a t m : ℕ) (same-length : length mid ≡ length old) (made : PatternMade ds listed 0 false pt old mid top a t m) where
+    pub dots-still : dots ≤ t
+    dots-still = omega (arith, ask .dots-below, made .grows .up)
+
     pub under-top : Under vars n t
     under-top = stored .under t (omega (arith, ask .p-below, made .grows .up)) (λ i l. absurd (omega arith))
 
     under-old : Under vars n top
     under-old = stored .under top (ask .p-below) (λ i l. absurd (omega arith))
 
-    variables-are : variablesFrom mid w vars 0 n ≡ variables isEllipsis listed 0 pt
+    variables-are : variablesFrom mid w vars 0 n ≡ variables ds listed 0 pt
     unfolding variablesFrom
     variables-are = variables-kept old mid w top (ask .wrap-below) (made .grows .kept) vars n under-old ∙ stored .list
 
     q-is : treeAt mid q w ≡ qt
     q-is = tree-kept old mid top q w (ask .q-below) (ask .wrap-below) (made .grows .kept)
 
-    limits : areVariables (variables isEllipsis listed 0 pt) ≡ true
+    limits : areVariables (variables ds listed 0 pt) ≡ true
     unfolding variablesFrom
     limits = ap areVariables (sym (stored .list)) ∙ stored .held .good
 
@@ -136,18 +143,18 @@ module _ (old : List ℕ) (literals p q w next top : ℕ) (ask : PartsAsk old li
     pub small-q : 0 + q < 2 ^ 32
     small-q = omega (arith, ask .q-below, ask .room .small)
 
-    template-is : templateOf isEllipsis (variablesFrom mid w vars 0 n) 0 false (treeAt mid q w) ≡ templateOf isEllipsis (variables isEllipsis listed 0 pt) 0 false qt
-    template-is = rw (variables-are, q-is) refl
+    template-is : templateOf (dotsAt mid dots w) (variablesFrom mid w vars 0 n) 0 asElement (treeAt mid q w) ≡ templateOf ds (variables ds listed 0 pt) 0 asElement qt
+    template-is = rw (dots-kept old mid top (made .grows .kept) dots w (ask .dots-below) (ask .wrap-below), variables-are, q-is) refl
 
-    pub left-template : (new : List ℕ) (r : Built) → r ≡ None → TemplateLeft (variablesFrom mid w vars 0 n) 0 false (treeAt mid q w) mid new t r → RuleLeft o s old new next top None
+    pub left-template : (new : List ℕ) (r : Built) → r ≡ None → TemplateLeft (dotsAt mid dots w) (variablesFrom mid w vars 0 n) 0 asElement (treeAt mid q w) mid new t r → RuleLeft o s old new next top None
     left-template new r b g =
-        let h : TemplateLeft (variablesFrom mid w vars 0 n) 0 false (treeAt mid q w) mid new t None = subst (λ (z : Built). TemplateLeft (variablesFrom mid w vars 0 n) 0 false (treeAt mid q w) mid new t z) b g in
-        (parts-template listed pt qt (patternAt mid a) (made .means) (sym template-is ∙ h .0), take-less new mid top t (made .grows .up) (h .1) ∙ made .grows .kept)
+        let h : TemplateLeft (dotsAt mid dots w) (variablesFrom mid w vars 0 n) 0 asElement (treeAt mid q w) mid new t None = subst (λ (z : Built). TemplateLeft (dotsAt mid dots w) (variablesFrom mid w vars 0 n) 0 asElement (treeAt mid q w) mid new t z) b g in
+        (parts-template ds listed pt qt (patternAt mid a) (made .means) (sym template-is ∙ h .0), take-less new mid top t (made .grows .up) (h .1) ∙ made .grows .kept)
 
-    pub made-template : (last : List ℕ) (r : Built) (b u : ℕ) → r ≡ At b u → TemplateLeft (variablesFrom mid w vars 0 n) 0 false (treeAt mid q w) mid last t r → TemplateMade (variablesFrom mid w vars 0 n) 0 false (treeAt mid q w) mid last t b u
-    made-template last r b u e g = subst (λ (z : Built). TemplateLeft (variablesFrom mid w vars 0 n) 0 false (treeAt mid q w) mid last t z) e g
+    pub made-template : (last : List ℕ) (r : Built) (b u : ℕ) → r ≡ At b u → TemplateLeft (dotsAt mid dots w) (variablesFrom mid w vars 0 n) 0 asElement (treeAt mid q w) mid last t r → TemplateMade (dotsAt mid dots w) (variablesFrom mid w vars 0 n) 0 asElement (treeAt mid q w) mid last t b u
+    made-template last r b u e g = subst (λ (z : Built). TemplateLeft (dotsAt mid dots w) (variablesFrom mid w vars 0 n) 0 asElement (treeAt mid q w) mid last t z) e g
 
-    module _ (last : List ℕ) (b u : ℕ) (same-last : length last ≡ length mid) (second : TemplateMade (variablesFrom mid w vars 0 n) 0 false (treeAt mid q w) mid last t b u) where
+    module _ (last : List ℕ) (b u : ℕ) (same-last : length last ≡ length mid) (second : TemplateMade (dotsAt mid dots w) (variablesFrom mid w vars 0 n) 0 asElement (treeAt mid q w) mid last t b u) where
       words-two : u ≤ t + 5 * size qt
       words-two = rw q-is at (second .grows .words)
 
@@ -162,7 +169,7 @@ module _ (old : List ℕ) (literals p q w next top : ℕ) (ask : PartsAsk old li
       left-rule new r c =
           record {
             rule = record { pattern = patternAt mid a; template = templateAt last b };
-            is = parts-both listed pt qt (patternAt mid a) (templateAt last b) limits (made .means) (sym template-is ∙ second .means);
+            is = parts-both ds listed pt qt (patternAt mid a) (templateAt last b) limits (made .means) (sym template-is ∙ second .means);
             means =
                 c .means
                 ∙ ap₂ (λ (x : Pattern) (l : List Rule). record { pattern = x; template = templateAt last b } ∷ l) (pattern-kept mid last t (second .grows .kept) a (made .grows .at-most)) (rules-kept old last top kept-two next (ask .next-below));

@@ -1,27 +1,29 @@
 -- Laws of a rule's shape and of lists of rules.
 use mathlib.Core.Path.{_≡_, refl, sym, ap, ap₂, subst, _∙_}
-use mathlib.Core.Bool.{true, false, not, _&&_}
+use mathlib.Core.Bool.{Bool, true, false, not, _&&_}
 use mathlib.Core.List.{List, _∷_}
 use mathlib.Core.Option.{Option, none, some}
 use Prim.Native.Nat.{ℕ, suc, _+_, _*_, _≤_}
 use native.Mathlib.Omega.{arith}
 use lib.Dec.{eqb}
 use lib.ListN.{length}
-use borrow.Author.Tests.{ne-eqb, eqb-true}
+use borrow.Author.Tests.{eqb-true}
 use Rattle.words.specs.Options.{onlyIf, mapSome, mapBoth, traverse}
 use Rattle.words.specs.TestLaws.{and-left, and-right}
-use Rattle.recipe.specs.Name.{Name, isEllipsis}
-use Rattle.recipe.specs.Tree.{Tree, empty, constant, name, pair, size, names, onName, onPair, isList, isListOf, elements, element, tail}
+use Rattle.recipe.specs.Name.{Name}
+use Rattle.recipe.specs.Tree.{Tree, empty, constant, name, pair, size, names, onName, onPair, isName, isList, isListOf, elements, element, tail}
 use Rattle.recipe.specs.TreeLaws.{element-tail}
-use Rattle.expansion.specs.Rules.{literalList, rulePattern, matchedPart, ruleTemplate, ruleList, Rule, ruleOf, isRulesForm, rulesOf}
-use Rattle.arena.specs.Arena.{wordAt, referenceAt, treeAt, numberOf}
+use Rattle.expansion.specs.Rules.{afterChosen, literalList, ellipsisOf, rulePattern, matchedPart, ruleTemplate, ruleList, Rule, ruleOf, isRulesForm, rulesOf}
+use Rattle.arena.specs.Arena.{wordAt, referenceAt, nameAt, treeAt}
 use Rattle.words.specs.ListLaws.{either}
 use Rattle.arena.specs.ArenaLaws.{take-less}
-use Rattle.arena.specs.NodeLaws.{treeAt-name, nameAt-number}
+use Rattle.arena.specs.NodeLaws.{treeAt-name}
 use Rattle.arena.specs.CellLaws.{tree-kept}
 use Rattle.arena.specs.Lists.{Means}
 use Rattle.arena.specs.ListLaws.{no-name, no-elements}
 use Rattle.rule_cells.specs.CellLaws.{rulesAt-none}
+use Rattle.rule_cells.specs.Dots.{dotsAt, dots-kept}
+use Rattle.rule_cells.specs.Forms.{Chosen}
 use Rattle.words.specs.declared.packed.Built.{Built}
 use Rattle.words.specs.declared.packed.Built.the-variants.{At, None}
 use Rattle.rule_cells.specs.Parse.{Asks}
@@ -30,8 +32,8 @@ use Rattle.rule_cells.specs.RuleParse.{ruleShape, partsOf, PartsAsk, Rul
 
 -- ---- a rule's shape
 
-module _ (work : List ℕ) (node w : ℕ) where
-  pub shape-no : false ≡ isListOf 2 (treeAt work node w) → false ≡ ruleShape (treeAt work node w)
+module _ (work : List ℕ) (dots node w : ℕ) where
+  pub shape-no : false ≡ isListOf 2 (treeAt work node w) → false ≡ ruleShape (dotsAt work dots w) (treeAt work node w)
   unfolding ruleShape
   shape-no e = rw (← e) refl
 
@@ -39,32 +41,29 @@ module _ (work : List ℕ) (node w : ℕ) where
     first-is : element 0 (rulePattern (treeAt work node w)) ≡ treeAt work first w
     first-is = sym (q .is w ∙ ap (element 0) (p .is w))
 
-    pub shape-other : (wordAt work first 3 ≡ 3 → ⊥) → false ≡ ruleShape (treeAt work node w)
+    pub shape-other : (wordAt work first 3 ≡ 3 → ⊥) → false ≡ ruleShape (dotsAt work dots w) (treeAt work node w)
     unfolding ruleShape
-    shape-other n = rw (← l, first-is, no-name work first w (λ x. not (isEllipsis x)) false n) refl
+    shape-other n = rw (← l, first-is, no-name work first w (λ x. not (dotsAt work dots w x)) false n) refl
 
-    pub shape-dots : (n : ℕ) → wordAt work first 3 ≡ 3 → n ≡ numberOf work first → n ≡ 6 → false ≡ ruleShape (treeAt work node w)
-    unfolding ruleShape onName isEllipsis
-    shape-dots n e f d = rw (← l, first-is, treeAt-name work first w e, nameAt-number work first w, ← f, d) refl
-
-    pub shape-yes : (n : ℕ) → wordAt work first 3 ≡ 3 → n ≡ numberOf work first → (n ≡ 6 → ⊥) → true ≡ ruleShape (treeAt work node w)
-    unfolding ruleShape onName isEllipsis
-    shape-yes n e f d = rw (← l, first-is, treeAt-name work first w e, nameAt-number work first w, ← f, ne-eqb n 6 d) refl
+    pub shape-by : (b : Bool) → wordAt work first 3 ≡ 3 → b ≡ dotsAt work dots w (nameAt work first w) → not b ≡ ruleShape (dotsAt work dots w) (treeAt work node w)
+    unfolding ruleShape onName
+    shape-by b e f = rw (← l, first-is, treeAt-name work first w e, ← f) refl
 
 -- ---- a rule
 
-rule-none : (literals : List Name) (t : Tree) → false ≡ ruleShape t → ruleOf isEllipsis literals t ≡ none
-unfolding ruleOf onlyIf ruleShape
-rule-none literals t e =
-    either (isListOf 2 t)
-    (λ a. let b : false ≡ onName (λ x. not (isEllipsis x)) false (element 0 (rulePattern t)) = rw a at e in rw (a, ← b) refl)
-    (λ a. rw a refl)
+module _ (dots : Name → Bool) where
+  rule-none : (literals : List Name) (t : Tree) → false ≡ ruleShape dots t → ruleOf dots literals t ≡ none
+  unfolding ruleOf onlyIf ruleShape
+  rule-none literals t e =
+      either (isListOf 2 t)
+      (λ a. let b : false ≡ onName (λ x. not (dots x)) false (element 0 (rulePattern t)) = rw a at e in rw (a, ← b) refl)
+      (λ a. rw a refl)
 
-rule-is : (literals : List Name) (t : Tree) → true ≡ ruleShape t → partsOf literals (matchedPart t) (ruleTemplate t) ≡ ruleOf isEllipsis literals t
-unfolding ruleOf partsOf onlyIf ruleShape
-rule-is literals t e =
-    let first = onName (λ x. not (isEllipsis x)) false (element 0 (rulePattern t)) in
-    rw (and-left (isListOf 2 t) first (sym e), and-right (isListOf 2 t) first (sym e)) refl
+  rule-is : (literals : List Name) (t : Tree) → true ≡ ruleShape dots t → partsOf dots literals (matchedPart t) (ruleTemplate t) ≡ ruleOf dots literals t
+  unfolding ruleOf partsOf onlyIf ruleShape
+  rule-is literals t e =
+      let first = onName (λ x. not (dots x)) false (element 0 (rulePattern t)) in
+      rw (and-left (isListOf 2 t) first (sym e), and-right (isListOf 2 t) first (sym e)) refl
 
 tail-size : (t : Tree) → size (tail t) ≤ size t
 unfolding size tail onPair
@@ -87,10 +86,10 @@ list-size (pair h (constant a)) e = absurd (omega arith)
 list-size (pair h (name x)) e = absurd (omega arith)
 list-size (pair h (pair q s)) e = pair-size h q s
 
-shape-size : (t : Tree) → true ≡ ruleShape t → size (matchedPart t) + size (ruleTemplate t) + 1 ≤ size t
+shape-size : (dots : Name → Bool) (t : Tree) → true ≡ ruleShape dots t → size (matchedPart t) + size (ruleTemplate t) + 1 ≤ size t
 unfolding ruleShape isListOf
-shape-size t e =
-    let first = onName (λ x. not (isEllipsis x)) false (element 0 (rulePattern t)) in
+shape-size dots t e =
+    let first = onName (λ x. not (dots x)) false (element 0 (rulePattern t)) in
     let l : (isList t && eqb (length (elements t)) 2) ≡ true = and-left (isListOf 2 t) first (sym e) in
     list-size t (eqb-true (length (elements t)) 2 (and-right (isList t) (eqb (length (elements t)) 2) l))
 
@@ -99,17 +98,20 @@ rule-as o o′ s s′ old new next top (At at upper) e l m =
     record { rule = m .rule; is = sym e ∙ m .is; means = m .means; at-most = m .at-most; up = m .up; words = omega (arith, m .words); kept = m .kept }
 rule-as o o′ s s′ old new next top None e l m = (sym e ∙ m .0, m .1)
 
-module _ (old : List ℕ) (literals node w next top : ℕ) (asks : Asks old node w top) (literals-below : literals ≤ top) (next-below : next ≤ top) where
+module _ (old : List ℕ) (dots literals node w next top : ℕ) (asks : Asks old node w top) (dots-below : dots ≤ top) (literals-below : literals ≤ top) (next-below : next ≤ top) where
+  abbrev ds : Name → Bool
+  ds = dotsAt old dots w
+
   abbrev listed : List Name
   listed = names (treeAt old literals w)
 
   abbrev t : Tree
   t = treeAt old node w
 
-  pub left-shape : false ≡ ruleShape t → RuleLeft (ruleOf isEllipsis listed t) (size t) old old next top None
-  left-shape e = (rule-none listed t e, refl)
+  pub left-shape : false ≡ ruleShape ds t → RuleLeft (ruleOf ds listed t) (size t) old old next top None
+  left-shape e = (rule-none ds listed t e, refl)
 
-  module _ (pattern p after q : ℕ) (shape : true ≡ ruleShape t) (a : Means old node pattern (element 0)) (b : Means old pattern p tail) (c : Means old node after tail) (d : Means old after q (element 0)) where
+  module _ (pattern p after q : ℕ) (shape : true ≡ ruleShape ds t) (a : Means old node pattern (element 0)) (b : Means old pattern p tail) (c : Means old node after tail) (d : Means old after q (element 0)) where
     p-is : treeAt old p w ≡ matchedPart t
     p-is = b .is w ∙ ap tail (a .is w)
 
@@ -117,11 +119,12 @@ module _ (old : List ℕ) (literals node w next top : ℕ) (asks : Asks old node
     q-is = d .is w ∙ ap (element 0) (c .is w) ∙ element-tail 0 t
 
     fits : size (treeAt old p w) + size (treeAt old q w) + 1 ≤ size t
-    fits = rw (p-is, q-is) (shape-size t shape)
+    fits = rw (p-is, q-is) (shape-size ds t shape)
 
-    pub parts-ask : PartsAsk old literals p q w next top
+    pub parts-ask : PartsAsk old dots literals p q w next top
     parts-ask =
         record {
+          dots-below = dots-below;
           literals-below = literals-below;
           p-below = omega (arith, a .low, b .low, asks .node-below);
           q-below = omega (arith, c .low, d .low, asks .node-below);
@@ -130,8 +133,8 @@ module _ (old : List ℕ) (literals node w next top : ℕ) (asks : Asks old node
           room = record { fits = omega (arith, asks .room .fits, fits); small = omega (arith, asks .room .small, fits) };
         }
 
-    pub left-parts : (new : List ℕ) (r : Built) → RuleLeft (partsOf listed (treeAt old p w) (treeAt old q w)) (size (treeAt old p w) + size (treeAt old q w) + 1) old new next top r → RuleLeft (ruleOf isEllipsis listed t) (size t) old new next top r
-    left-parts new r m = rule-as _ _ _ _ old new next top r (rw (p-is, q-is) (rule-is listed t shape)) fits m
+    pub left-parts : (new : List ℕ) (r : Built) → RuleLeft (partsOf ds listed (treeAt old p w) (treeAt old q w)) (size (treeAt old p w) + size (treeAt old q w) + 1) old new next top r → RuleLeft (ruleOf ds listed t) (size t) old new next top r
+    left-parts new r m = rule-as _ _ _ _ old new next top r (rw (p-is, q-is) (rule-is ds listed t shape)) fits m
 
 -- ---- lists of rules
 
@@ -140,18 +143,21 @@ unfolding mapBoth mapSome
 traverse-bad f none ys e = refl
 traverse-bad f (some x) ys e = rw e refl
 
-module _ (old : List ℕ) (literals node w top : ℕ) (asks : Asks old node w top) (literals-below : literals ≤ top) where
+module _ (old : List ℕ) (dots literals node w top : ℕ) (asks : Asks old node w top) (dots-below : dots ≤ top) (literals-below : literals ≤ top) where
+  abbrev told : Name → Bool
+  told = dotsAt old dots w
+
   abbrev names-listed : List Name
   names-listed = names (treeAt old literals w)
 
   abbrev answer : Tree → Option (List Rule)
-  answer t = traverse (ruleOf isEllipsis names-listed) (elements t)
+  answer t = traverse (ruleOf told names-listed) (elements t)
 
   pub left-end : (wordAt old node 3 ≡ 4 → ⊥) → RulesLeft (answer (treeAt old node w)) (size (treeAt old node w)) old old top (At 0 top)
   unfolding traverse
   left-end n =
       record {
-        means = ap (traverse (ruleOf isEllipsis names-listed)) (no-elements old node w n) ∙ ap some (sym (rulesAt-none old 0 refl));
+        means = ap (traverse (ruleOf told names-listed)) (no-elements old node w n) ∙ ap some (sym (rulesAt-none old 0 refl));
         at-most = omega arith;
         up = omega arith;
         words = omega arith;
@@ -165,14 +171,14 @@ module _ (old : List ℕ) (literals node w top : ℕ) (asks : Asks old node w to
     abbrev s : Tree
     s = treeAt old rest w
 
-    answer-is : answer (treeAt old node w) ≡ mapBoth _∷_ (ruleOf isEllipsis names-listed h) (answer s)
+    answer-is : answer (treeAt old node w) ≡ mapBoth _∷_ (ruleOf told names-listed h) (answer s)
     unfolding traverse elements
     answer-is = ap answer (tree-is old node w top asks head rest e f g)
 
     pub left-later : (mid : List ℕ) (r : Built) → r ≡ None → RulesLeft (answer s) (size s) old mid top r → RulesLeft (answer (treeAt old node w)) (size (treeAt old node w)) old mid top None
     left-later mid r b p =
         let q : RulesLeft (answer s) (size s) old mid top None = subst (λ (z : Built). RulesLeft (answer s) (size s) old mid top z) b p in
-        (answer-is ∙ traverse-bad (ruleOf isEllipsis names-listed) (ruleOf isEllipsis names-listed h) (answer s) (q .0), q .1)
+        (answer-is ∙ traverse-bad (ruleOf told names-listed) (ruleOf told names-listed h) (answer s) (q .0), q .1)
 
     pub made-later : (mid : List ℕ) (r : Built) (next upper : ℕ) → r ≡ At next upper → RulesLeft (answer s) (size s) old mid top r → RulesMade (answer s) (size s) old mid top next upper
     made-later mid r next upper b p = subst (λ (z : Built). RulesLeft (answer s) (size s) old mid top z) b p
@@ -199,14 +205,20 @@ module _ (old : List ℕ) (literals node w top : ℕ) (asks : Asks old node w to
             };
           }
 
+      told-is : dotsAt mid dots w ≡ told
+      told-is = dots-kept old mid top (made .kept) dots w dots-below (asks .wrap-below)
+
+      pub dots-still : dots ≤ upper
+      dots-still = omega (arith, made .up)
+
       pub literals-still : literals ≤ upper
       literals-still = omega (arith, made .up)
 
       abbrev one : Option Rule
-      one = ruleOf isEllipsis (names (treeAt mid literals w)) (treeAt mid head w)
+      one = ruleOf (dotsAt mid dots w) (names (treeAt mid literals w)) (treeAt mid head w)
 
-      one-is : one ≡ ruleOf isEllipsis names-listed h
-      one-is = rw (listed-is, head-is) refl
+      one-is : one ≡ ruleOf told names-listed h
+      one-is = rw (told-is, listed-is, head-is) refl
 
       pub left-both : (new : List ℕ) (r : Built) → RuleLeft one (size (treeAt mid head w)) mid new next upper r → RulesLeft (answer (treeAt old node w)) (size (treeAt old node w)) old new top r
       unfolding mapBoth mapSome
@@ -228,7 +240,7 @@ rules-none : (t : Tree) → false ≡ isRulesForm t → rulesOf t ≡ none
 unfolding rulesOf onlyIf
 rules-none t e = rw (← e) refl
 
-rules-are : (t : Tree) → true ≡ isRulesForm t → traverse (ruleOf isEllipsis (names (literalList t))) (elements (ruleList t)) ≡ rulesOf t
+rules-are : (t : Tree) → true ≡ isRulesForm t → traverse (ruleOf (ellipsisOf t) (names (literalList t))) (elements (ruleList t)) ≡ rulesOf t
 unfolding rulesOf onlyIf
 rules-are t e = rw (← e) refl
 
@@ -240,26 +252,36 @@ module _ (old : List ℕ) (node w top : ℕ) (asks : Asks old node w top) where
   pub left-no-form : false ≡ isRulesForm (treeAt old node w) → RulesLeft (rulesOf (treeAt old node w)) (size (treeAt old node w)) old old top None
   left-no-form e = (rules-none (treeAt old node w) e, refl)
 
-  module _ (after literals list : ℕ) (a : Means old node after tail) (b : Means old after literals (element 0)) (c : Means old after list tail) where
+  module _ (dots after literals list : ℕ) (c : Chosen old node dots) (a : Means old node after afterChosen) (b : Means old after literals (element 0)) (d : Means old after list tail) where
     literals-are : treeAt old literals w ≡ literalList (treeAt old node w)
-    literals-are = b .is w ∙ ap (element 0) (a .is w) ∙ element-tail 0 (treeAt old node w)
+    literals-are = b .is w ∙ ap (element 0) (a .is w)
 
     list-is : treeAt old list w ≡ ruleList (treeAt old node w)
-    list-is = c .is w ∙ ap tail (a .is w)
+    list-is = d .is w ∙ ap tail (a .is w)
 
     smaller : size (treeAt old list w) ≤ size (treeAt old node w)
-    smaller = rw list-is (omega (arith, tail-size (treeAt old node w), tail-size (tail (treeAt old node w))))
+    unfolding afterChosen
+    smaller =
+        let t : Tree = treeAt old node w in
+        rw list-is
+        (either (isName (element 1 t))
+        (λ e. rw e (omega (arith, tail-size t, tail-size (tail t), tail-size (tail (tail t)))))
+        (λ e. rw e (omega (arith, tail-size t, tail-size (tail t)))))
 
     pub asks-list : Asks old list w top
     asks-list =
         record {
-          node-below = omega (arith, a .low, c .low, asks .node-below);
+          node-below = omega (arith, a .low, d .low, asks .node-below);
           wrap-below = asks .wrap-below;
           room = record { fits = omega (arith, asks .room .fits, smaller); small = omega (arith, asks .room .small, smaller) };
         }
 
+    pub dots-under : dots ≤ top
+    dots-under = omega (arith, c .low, asks .node-below)
+
     pub literals-under : literals ≤ top
     literals-under = omega (arith, a .low, b .low, asks .node-below)
 
-    pub left-form : (new : List ℕ) (r : Built) → true ≡ isRulesForm (treeAt old node w) → RulesLeft (traverse (ruleOf isEllipsis (names (treeAt old literals w))) (elements (treeAt old list w))) (size (treeAt old list w)) old new top r → RulesLeft (rulesOf (treeAt old node w)) (size (treeAt old node w)) old new top r
-    left-form new r e m = rules-as _ _ _ _ old new top r (rw (literals-are, list-is) (rules-are (treeAt old node w) e)) smaller m
+    pub left-form : (new : List ℕ) (r : Built) → true ≡ isRulesForm (treeAt old node w)
+        → RulesLeft (traverse (ruleOf (dotsAt old dots w) (names (treeAt old literals w))) (elements (treeAt old list w))) (size (treeAt old list w)) old new top r → RulesLeft (rulesOf (treeAt old node w)) (size (treeAt old node w)) old new top r
+    left-form new r e m = rules-as _ _ _ _ old new top r (rw (c .is w, literals-are, list-is) (rules-are (treeAt old node w) e)) smaller m

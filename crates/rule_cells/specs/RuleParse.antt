@@ -6,26 +6,27 @@ use mathlib.Core.Option.{Option, none, some}
 use Prim.Native.Nat.{ℕ, _+_, _*_, _≤_}
 use lib.ListN.{take}
 use Rattle.words.specs.Options.{onlyIf, mapBoth}
-use Rattle.recipe.specs.Name.{Name, isEllipsis}
+use Rattle.recipe.specs.Name.{Name}
 use Rattle.recipe.specs.Tree.{Tree, size, onName, isListOf, element}
-use Rattle.expansion.specs.Rules.{rulePattern, Rule, areVariables, variables, patternOf, templateOf}
+use Rattle.expansion.specs.Rules.{rulePattern, Rule, asElement, areVariables, variables, patternOf, templateOf}
 use Rattle.arena.specs.Arena.{treeAt}
 use Rattle.arena.specs.Cells.{Room}
 use Rattle.rule_cells.specs.Cells.{rulesAt}
 use Rattle.words.specs.declared.packed.Built.{Built}
 use Rattle.words.specs.declared.packed.Built.the-variants.{At, None}
 
--- (pattern template); a pattern's first place is a name other than `...`
-unfoldable pub ruleShape : Tree → Bool
-ruleShape t = isListOf 2 t && onName (λ x. not (isEllipsis x)) false (element 0 (rulePattern t))
+-- (pattern template); a pattern's first place is a name other than the ellipsis
+unfoldable pub ruleShape : (dots : Name → Bool) → Tree → Bool
+ruleShape dots t = isListOf 2 t && onName (λ x. not (dots x)) false (element 0 (rulePattern t))
 
 -- a rule from the rest of its pattern and its template
-unfoldable pub partsOf : List Name → Tree → Tree → Option Rule
-partsOf literals p q =
-    let vs = variables isEllipsis literals 0 p in
-    onlyIf (areVariables vs) (mapBoth (λ x y. record { pattern = x; template = y }) (patternOf isEllipsis literals 0 p) (templateOf isEllipsis vs 0 false q))
+unfoldable pub partsOf : (dots : Name → Bool) → List Name → Tree → Tree → Option Rule
+partsOf dots literals p q =
+    let vs = variables dots literals 0 p in
+    onlyIf (areVariables vs) (mapBoth (λ x y. record { pattern = x; template = y }) (patternOf dots literals 0 false p) (templateOf dots vs 0 asElement q))
 
-pub record PartsAsk (work : List ℕ) (literals p q w next top : ℕ) : Type 0 where
+pub record PartsAsk (work : List ℕ) (dots literals p q w next top : ℕ) : Type 0 where
+  pub dots-below : dots ≤ top
   pub literals-below : literals ≤ top
   pub p-below : p ≤ top
   pub q-below : q ≤ top

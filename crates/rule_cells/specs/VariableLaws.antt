@@ -12,8 +12,8 @@ use borrow.Author.Tests.{le-leb, lt-leb, eqb-true, eqb-false}
 use Rattle.words.specs.Limits.{depthMost}
 use Rattle.words.specs.Lists.{allOf, anyOf}
 use Rattle.words.specs.TestLaws.{and-none-left, and-none-right, and-both, and-left, and-right, or-left, or-right}
-use Rattle.recipe.specs.Name.{Name, same, distinct, isEllipsis}
-use Rattle.recipe.specs.Tree.{names}
+use Rattle.recipe.specs.Name.{Name, same, distinct}
+use Rattle.recipe.specs.Tree.{Tree, names}
 use Rattle.expansion.specs.Rules.{variableFrom, areVariables, dotsNext, depthBefore}
 use Rattle.arena.specs.Arena.{wordAt, referenceAt, nameAt, treeAt}
 use Rattle.words.specs.ListLaws.{either}
@@ -249,7 +249,6 @@ found-not r o h g = sym g ∙ ap knownOf h
 
 -- ---- depths
 
-module _ (work : List ℕ) (rest d : ℕ) where
-  pub deeper-by : (dots : Bool) (r : ℕ) → r ≡ cond dots (d + 1) d → ((w : ℕ) → dots ≡ dotsNext isEllipsis (treeAt work rest w)) → Deeper work rest d r
-  unfolding depthBefore
-  deeper-by dots r e h w = let one : d + 1 ≡ suc d = omega arith in e ∙ rw (← h w, one) refl
+pub deeper-by : (dots : Name → Bool) (rest : Tree) (d : ℕ) (followed : Bool) (r : ℕ) → r ≡ cond followed (d + 1) d → followed ≡ dotsNext dots rest → Deeper dots rest d r
+unfolding depthBefore
+deeper-by dots rest d followed r e h = let one : d + 1 ≡ suc d = omega arith in e ∙ rw (← h, one) refl

@@ -1,21 +1,17 @@
 -- The variables of a pattern in a small table: two words each, the node of its name and its depth; all lie under one wrap.
 use mathlib.Core.Path.{_≡_}
-use mathlib.Core.Bool.{true, false, cond}
+use mathlib.Core.Bool.{Bool, true, false, cond}
 use mathlib.Core.List.{List, [], _∷_, _++_}
 use mathlib.Core.Option.{Option, none, some}
 use Prim.Native.Nat.{ℕ, zero, suc, _+_, _*_, _-_, _≤_, _<_}
 use lib.Dec.{eqb}
 use lib.ListN.{getD}
-use Rattle.recipe.specs.Name.{Name, isEllipsis}
-use Rattle.recipe.specs.Tree.{Tree, onName}
-use Rattle.expansion.specs.Rules.{areVariables, depthBefore, isVariable, variableFrom, variables}
+use Rattle.recipe.specs.Name.{Name}
+use Rattle.recipe.specs.Tree.{Tree}
+use Rattle.expansion.specs.Rules.{areVariables, depthBefore, variableFrom, variables}
 use Rattle.arena.specs.Arena.{nameAt, treeAt}
 use Rattle.rule_cells.specs.declared.variables.Known.{Known}
 use Rattle.rule_cells.specs.declared.variables.Known.the-variants.{At, Not}
-
--- a leaf is a variable or none
-unfoldable pub leafCount : List Name → Tree → ℕ
-leafCount literals = onName (λ x. cond (isVariable isEllipsis literals x) 1 0) 0
 
 -- variable i of the table, with the number of ellipses it lies under
 unfoldable pub variableAt : (work : List ℕ) (w : ℕ) (vars : List ℕ) → ℕ → Name × ℕ
@@ -34,9 +30,9 @@ knownOf Not = none
 abbrev pub knownFrom : (work : List ℕ) (w : ℕ) (vars : List ℕ) (x : Name) → (end i : ℕ) → Option (ℕ × ℕ)
 knownFrom work w vars x end i = variableFrom i (variablesFrom work w vars i (end - i)) x
 
--- the depth of an element before this rest of its list, whatever waits on it
-abbrev pub Deeper : (work : List ℕ) (rest d r : ℕ) → Type 0
-Deeper work rest d r = (w : ℕ) → r ≡ depthBefore isEllipsis (treeAt work rest w) d
+-- the depth of an element before this rest of its list
+abbrev pub Deeper : (dots : Name → Bool) (rest : Tree) (d r : ℕ) → Type 0
+Deeper dots rest d r = r ≡ depthBefore dots rest d
 
 -- ---- gathering
 
@@ -70,7 +66,7 @@ Gathered more work w node n old new (Count m) = Stored more work w node n old ne
 Gathered more work w node n old new Bad = (rest : List (Name × ℕ)) → areVariables (variablesFrom work w old 0 n ++ (more ++ rest)) ≡ false
 
 -- the list `at` is left of the node's, and its variables behind the m of the table are all the node's behind the n
-pub record Gathering (literals : List Name) (d : ℕ) (work : List ℕ) (w node n : ℕ) (old : List ℕ) (at m : ℕ) (vars : List ℕ) : Type 0 where
+pub record Gathering (dots : Name → Bool) (literals : List Name) (d : ℕ) (work : List ℕ) (w node n : ℕ) (old : List ℕ) (at m : ℕ) (vars : List ℕ) : Type 0 where
   pub low : at ≤ node
   pub held : Held work w vars m
-  pub all : (new : List ℕ) (r : Kept) → Gathered (variables isEllipsis literals d (treeAt work at w)) work w at m vars new r → Gathered (variables isEllipsis literals d (treeAt work node w)) work w node n old new r
+  pub all : (new : List ℕ) (r : Kept) → Gathered (variables dots literals d (treeAt work at w)) work w at m vars new r → Gathered (variables dots literals d (treeAt work node w)) work w node n old new r

@@ -17,7 +17,7 @@ pub const PAIR: u32 = 6;
 
 pub const ELLIPSIS: u32 = 7;
 
-// A pair's head and rest; a template's ellipsis has its element for head.
+// A pair's head and rest; an ellipsis has its element for head.
 pub const HEAD: u32 = 3;
 
 pub const REST: u32 = 2;
@@ -29,11 +29,11 @@ pub const FIRST: u32 = 3;
 
 pub const SECOND: u32 = 2;
 
-// Of a pattern: a variable's number; an ellipsis's element; the number and the binding's key that a literal's lookup has found,
-// before which its node and pending wrap stand.
+// Of a pattern: a variable's number; how many elements follow an ellipsis; the number and the binding's key that a literal's lookup
+// has found, before which its node and pending wrap stand.
 pub const PATTERN_NUMBER: u32 = 2;
 
-pub const ELEMENT: u32 = 2;
+pub const FOLLOWING: u32 = 4;
 
 pub const LITERAL_NUMBER: u32 = 3;
 

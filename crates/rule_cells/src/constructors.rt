@@ -66,12 +66,12 @@ pub fn put_pair(work: &mut [u32], top: u32, head: u32, tail: u32) -> u32
     put(work, top, 0, 0, head, tail, cells::PAIR)
 }
 
-// An element followed by `...`, last in its list.
-pub fn put_ellipsis(work: &mut [u32], top: u32, element: u32) -> u32
-    requires { ⌜ (Room (now work) top 5) × (element ≤ top) ⌝ }
-    ensures { λ r. ⌜ Made patternAt (ellipsisP (patternAt (now (work .entry)) element)) (now (work .entry)) (now (work .exit)) top r ⌝ }
+// An element followed by the ellipsis, then n elements more, with the pattern of that rest of its list.
+pub fn put_ellipsis(work: &mut [u32], top: u32, element: u32, n: u32, rest: u32) -> u32
+    requires { ⌜ (Room (now work) top 5) × (element ≤ top) × (rest ≤ top) ⌝ }
+    ensures { λ r. ⌜ Made patternAt (ellipsisP (patternAt (now (work .entry)) element) n (patternAt (now (work .entry)) rest)) (now (work .entry)) (now (work .exit)) top r ⌝ }
 {
-    put(work, top, 0, 0, 0, element, cells::ELLIPSIS)
+    put(work, top, 0, n, element, rest, cells::ELLIPSIS)
 }
 
 // ---- templates
@@ -108,7 +108,7 @@ pub fn put_pair_template(work: &mut [u32], top: u32, head: u32, tail: u32) -> u3
     put(work, top, 0, 0, head, tail, cells::PAIR)
 }
 
-// An element followed by `...`, then the rest of its list.
+// An element followed by the ellipsis, then the rest of its list.
 pub fn put_ellipsis_template(work: &mut [u32], top: u32, element: u32, rest: u32) -> u32
     requires { ⌜ (Room (now work) top 5) × (element ≤ top) × (rest ≤ top) ⌝ }
     ensures { λ r. ⌜ Made templateAt (ellipsisT (templateAt (now (work .entry)) element) (templateAt (now (work .entry)) rest)) (now (work .entry)) (now (work .exit)) top r ⌝ }

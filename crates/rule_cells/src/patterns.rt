@@ -1,11 +1,16 @@
 // Patterns, parsed to cells: children first, so that every reference falls. A part that breaks the rules makes the whole bad.
 
 ghost use mathlib.Core.Path.{_≡_};
+ghost use mathlib.Core.Bool.{true, false, cond};
 ghost use Prim.Native.Nat.{_+_, _^_, _≤_, _<_};
 ghost use Rattle.recipe.specs.Tree.{name, names, size};
 ghost use Rattle.arena.specs.Arena.{wordAt, nameAt, treeAt};
 ghost use Rattle.arena.specs.Cells.{Room};
-ghost use Rattle.rule_cells.specs.Parse.{Asks, PatternLeft};
+ghost use Rattle.expansion.specs.Rules.{pairP, ellipsisP, dotsNext};
+ghost use Rattle.rule_cells.specs.Cells.{patternAt};
+ghost use Rattle.rule_cells.specs.Made.{Made};
+ghost use Rattle.rule_cells.specs.Dots.{dotsAt};
+ghost use Rattle.rule_cells.specs.Parse.{Asks, Behind, PatternLeft};
 use crate::constructors;
 use crate::dots;
 use crate::variables;
@@ -19,16 +24,24 @@ pub enum Parsed {
     Bad,
 }
 
-// A pattern's name, with k variables to its left: `...` itself is none.
-fn pattern_name(work: &mut [u32], literals: u32, node: u32, w: u32, k: u32, top: u32) -> Parsed
+// A pattern's name, with k variables to its left: the ellipsis itself is none.
+fn pattern_name(
+    work: &mut [u32],
+    dots: u32,
+    literals: u32,
+    node: u32,
+    w: u32,
+    k: u32,
+    top: u32,
+) -> Parsed
     requires { ⌜ (Room (now work) top 5) × (node ≤ top) × (w ≤ top) × (k + 1 < 2 ^ 32) ⌝ }
-    ensures { λ r. ⌜ PatternLeft (names (treeAt (now (work .entry)) literals w)) k (name (nameAt (now (work .entry)) node w)) (now (work .entry)) (now (work .exit)) top r ⌝ }
+    ensures { λ r. ⌜ PatternLeft (dotsAt (now (work .entry)) dots w) (names (treeAt (now (work .entry)) literals w)) k false (name (nameAt (now (work .entry)) node w)) (now (work .entry)) (now (work .exit)) top r ⌝ }
 {
-    let number = names::number_of(work, node);
-    if number == names::ELLIPSIS {
+    if dots::is_ellipsis(work, dots, node, w) {
         return Parsed::Bad;
     }
-    if variables::is_variable(work, literals, node, w) {
+    let number = names::number_of(work, node);
+    if variables::is_variable(work, dots, literals, node, w) {
         let r = constructors::put_variable(work, top, k);
         return Parsed::Good(r, r, k + 1);
     }
@@ -42,13 +55,21 @@ fn pattern_name(work: &mut [u32], literals: u32, node: u32, w: u32, k: u32, top:
 }
 
 // A part of a pattern that is no pair.
-fn pattern_leaf(work: &mut [u32], literals: u32, node: u32, w: u32, k: u32, top: u32) -> Parsed
+fn pattern_leaf(
+    work: &mut [u32],
+    dots: u32,
+    literals: u32,
+    node: u32,
+    w: u32,
+    k: u32,
+    top: u32,
+) -> Parsed
     requires { ⌜ (Asks (now work) node w top) × (k + 1 < 2 ^ 32) × (wordAt (now work) node 3 ≡ 4 → ⊥) ⌝ }
-    ensures { λ r. ⌜ PatternLeft (names (treeAt (now (work .entry)) literals w)) k (treeAt (now (work .entry)) node w) (now (work .entry)) (now (work .exit)) top r ⌝ }
+    ensures { λ r. ⌜ PatternLeft (dotsAt (now (work .entry)) dots w) (names (treeAt (now (work .entry)) literals w)) k false (treeAt (now (work .entry)) node w) (now (work .entry)) (now (work .exit)) top r ⌝ }
 {
     let kind = cells::word(work, node, cells::KIND);
     if kind == cells::NAME {
-        return pattern_name(work, literals, node, w, k, top);
+        return pattern_name(work, dots, literals, node, w, k, top);
     }
     if kind == cells::EMPTY {
         return Parsed::Good(0, top, k);
@@ -59,34 +80,62 @@ fn pattern_leaf(work: &mut [u32], literals: u32, node: u32, w: u32, k: u32, top:
     Parsed::Good(r, r, k)
 }
 
-// A part of a pattern, with k variables to its left. `...` may only stand last in its list, after an element.
-pub fn pattern(work: &mut [u32], literals: u32, node: u32, w: u32, k: u32, top: u32) -> Parsed
-    requires { ⌜ (Asks (now work) node w top) × (literals ≤ top) × (k + size (treeAt (now work) node w) < 2 ^ 32) ⌝ }
-    ensures { λ r. ⌜ PatternLeft (names (treeAt (now (work .entry)) literals w)) k (treeAt (now (work .entry)) node w) (now (work .entry)) (now (work .exit)) top r ⌝ }
+// How many elements stand behind the ellipsis that the rest of a list begins with.
+fn following(work: &[u32], rest: u32, followed: bool) -> u32
+    ensures { λ r. ⌜ Behind (now (work .entry)) rest followed r ⌝ }
+{
+    if followed {
+        let after = lists::rest(work, rest);
+        return lists::count(work, after);
+    }
+    0
+}
+
+// An element and the rest of its list: an ellipsis, which n elements follow, or a pair.
+fn put_list(work: &mut [u32], top: u32, followed: bool, element: u32, n: u32, rest: u32) -> u32
+    requires { ⌜ (Room (now work) top 5) × (element ≤ top) × (rest ≤ top) ⌝ }
+    ensures { λ r. ⌜ Made patternAt (cond followed (ellipsisP (patternAt (now (work .entry)) element) n (patternAt (now (work .entry)) rest)) (pairP (patternAt (now (work .entry)) element) (patternAt (now (work .entry)) rest))) (now (work .entry)) (now (work .exit)) top r ⌝ }
+{
+    if followed {
+        return constructors::put_ellipsis(work, top, element, n, rest);
+    }
+    constructors::put_pair(work, top, element, rest)
+}
+
+// A part of a pattern, with k variables to its left; `taken` where it begins with the ellipsis that the element before it has
+// taken. A list has one ellipsis at the most.
+pub fn pattern(
+    work: &mut [u32],
+    dots: u32,
+    literals: u32,
+    node: u32,
+    w: u32,
+    k: u32,
+    taken: bool,
+    top: u32,
+) -> Parsed
+    requires { ⌜ (Asks (now work) node w top) × (dots ≤ top) × (literals ≤ top) × (k + size (treeAt (now work) node w) < 2 ^ 32) × (taken ≡ true → dotsNext (dotsAt (now work) dots w) (treeAt (now work) node w) ≡ true) ⌝ }
+    ensures { λ r. ⌜ PatternLeft (dotsAt (now (work .entry)) dots w) (names (treeAt (now (work .entry)) literals w)) k taken (treeAt (now (work .entry)) node w) (now (work .entry)) (now (work .exit)) top r ⌝ }
 {
     if cells::word(work, node, cells::KIND) != cells::PAIR {
-        return pattern_leaf(work, literals, node, w, k, top);
+        return pattern_leaf(work, dots, literals, node, w, k, top);
     }
     let head = cells::reference(work, node, cells::HEAD);
     let rest = cells::reference(work, node, cells::TAIL);
-    if dots::dots_next(work, rest) {
-        if lists::is_list_of(work, rest, 1) {
-            let last = lists::rest(work, rest);
-            let more = variables::leaf_count(work, literals, last, w);
-            let Parsed::Good(a, t, n) = pattern(work, literals, head, w, k, top) else {
-                return Parsed::Bad;
-            };
-            let r = constructors::put_ellipsis(work, t, a);
-            return Parsed::Good(r, r, n + more);
-        }
+    if taken {
+        return pattern(work, dots, literals, rest, w, k, false, top);
+    }
+    let followed = dots::dots_next(work, dots, rest, w);
+    if dots::crowded(work, dots, rest, w, followed) {
         return Parsed::Bad;
     }
-    let Parsed::Good(a, t, n) = pattern(work, literals, head, w, k, top) else {
+    let count = following(work, rest, followed);
+    let Parsed::Good(a, t, n) = pattern(work, dots, literals, head, w, k, false, top) else {
         return Parsed::Bad;
     };
-    let Parsed::Good(b, u, m) = pattern(work, literals, rest, w, n, t) else {
+    let Parsed::Good(b, u, m) = pattern(work, dots, literals, rest, w, n, followed, t) else {
         return Parsed::Bad;
     };
-    let r = constructors::put_pair(work, u, a, b);
+    let r = put_list(work, u, followed, a, count, b);
     Parsed::Good(r, r, m)
 }

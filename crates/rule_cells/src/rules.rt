@@ -1,18 +1,20 @@
-// Rules, parsed once, when their form is reached: (syntax-rules (literal ...) (pattern template) ...). Bad is ground 15.
+// Rules, parsed once, when their form is reached: (syntax-rules (literal ...) (pattern template) ...), with or without an ellipsis
+// name of the author's choice before the literals. Bad is ground 15.
 // The last rule is parsed first, so that each cell refers to lower ones. An answer is one word: the reference of the list of
 // rules and the new top, or `packed::NONE` where it is bad.
 
+ghost use mathlib.Core.Path.{_≡_};
 ghost use Prim.Native.Nat.{_+_, _≤_};
 ghost use Rattle.recipe.specs.Tree.{names, size, elements};
 ghost use Rattle.words.specs.Packed.{builtOf};
 ghost use Rattle.words.specs.Options.{traverse};
-ghost use Rattle.recipe.specs.Name.{isEllipsis};
 ghost use Rattle.expansion.specs.Rules.{ruleOf, rulesOf};
 ghost use Rattle.arena.specs.Arena.{treeAt};
-ghost use Rattle.arena.specs.Lists.{Tests};
+ghost use Rattle.rule_cells.specs.Dots.{dotsAt};
 ghost use Rattle.rule_cells.specs.Parse.{Asks};
 ghost use Rattle.rule_cells.specs.RuleParse.{ruleShape, partsOf, PartsAsk, RuleLeft, RulesLeft};
 use crate::constructors;
+use crate::dots;
 use crate::patterns;
 use crate::patterns::Parsed;
 use crate::rules_form;
@@ -20,24 +22,32 @@ use crate::templates;
 use crate::variables;
 use arena::cells;
 use arena::lists;
-use resolution::names;
 use words::packed;
 use words::packed::Built;
 
 // A rule from the rest p of its pattern and its template q, before the rules at `next`.
-fn rule_parts(work: &mut [u32], literals: u32, p: u32, q: u32, w: u32, next: u32, top: u32) -> u64
-    requires { ⌜ PartsAsk (now work) literals p q w next top ⌝ }
-    ensures { λ r. ⌜ RuleLeft (partsOf (names (treeAt (now (work .entry)) literals w)) (treeAt (now (work .entry)) p w) (treeAt (now (work .entry)) q w)) (size (treeAt (now (work .entry)) p w) + size (treeAt (now (work .entry)) q w) + 1) (now (work .entry)) (now (work .exit)) next top (builtOf r) ⌝ }
+fn rule_parts(
+    work: &mut [u32],
+    dots: u32,
+    literals: u32,
+    p: u32,
+    q: u32,
+    w: u32,
+    next: u32,
+    top: u32,
+) -> u64
+    requires { ⌜ PartsAsk (now work) dots literals p q w next top ⌝ }
+    ensures { λ r. ⌜ RuleLeft (partsOf (dotsAt (now (work .entry)) dots w) (names (treeAt (now (work .entry)) literals w)) (treeAt (now (work .entry)) p w) (treeAt (now (work .entry)) q w)) (size (treeAt (now (work .entry)) p w) + size (treeAt (now (work .entry)) q w) + 1) (now (work .entry)) (now (work .exit)) next top (builtOf r) ⌝ }
 {
     let mut vars = [0u32; variables::WORDS];
-    let n = variables::gather(work, &mut vars, literals, p, w, 0, 0);
+    let n = variables::gather(work, &mut vars, dots, literals, p, w, 0, 0);
     if n == variables::BAD {
         return packed::NONE;
     }
-    let Parsed::Good(a, t, m) = patterns::pattern(work, literals, p, w, 0, top) else {
+    let Parsed::Good(a, t, m) = patterns::pattern(work, dots, literals, p, w, 0, false, top) else {
         return packed::NONE;
     };
-    let word = templates::template(work, &vars, n, q, w, 0, false, t);
+    let word = templates::template(work, &vars, n, dots, q, w, 0, t);
     let Built::At(b, u) = packed::parts(word) else {
         return packed::NONE;
     };
@@ -45,9 +55,9 @@ fn rule_parts(work: &mut [u32], literals: u32, p: u32, q: u32, w: u32, next: u32
     packed::pair(r, r)
 }
 
-// Whether a tree is a list of two whose first begins with a name other than `...`.
-fn rule_shape(work: &[u32], node: u32) -> bool
-    ensures { λ r. ⌜ Tests ruleShape (now (work .entry)) node r ⌝ }
+// Whether a tree is a list of two whose first begins with a name other than the ellipsis.
+fn rule_shape(work: &[u32], dots: u32, node: u32, w: u32) -> bool
+    ensures { λ r. ⌜ r ≡ ruleShape (dotsAt (now (work .entry)) dots w) (treeAt (now (work .entry)) node w) ⌝ }
 {
     if lists::is_list_of(work, node, 2) {
         let pattern = lists::first(work, node);
@@ -55,43 +65,41 @@ fn rule_shape(work: &[u32], node: u32) -> bool
         if cells::word(work, first, cells::KIND) != cells::NAME {
             return false;
         }
-        if names::number_of(work, first) == names::ELLIPSIS {
-            return false;
-        }
-        return true;
+        return !dots::is_ellipsis(work, dots, first, w);
     }
     false
 }
 
 // A rule, (pattern template), before the rules at `next`.
-fn rule(work: &mut [u32], literals: u32, node: u32, w: u32, next: u32, top: u32) -> u64
-    requires { ⌜ (Asks (now work) node w top) × (literals ≤ top) × (next ≤ top) ⌝ }
-    ensures { λ r. ⌜ RuleLeft (ruleOf isEllipsis (names (treeAt (now (work .entry)) literals w)) (treeAt (now (work .entry)) node w)) (size (treeAt (now (work .entry)) node w)) (now (work .entry)) (now (work .exit)) next top (builtOf r) ⌝ }
+fn rule(work: &mut [u32], dots: u32, literals: u32, node: u32, w: u32, next: u32, top: u32) -> u64
+    requires { ⌜ (Asks (now work) node w top) × (dots ≤ top) × (literals ≤ top) × (next ≤ top) ⌝ }
+    ensures { λ r. ⌜ RuleLeft (ruleOf (dotsAt (now (work .entry)) dots w) (names (treeAt (now (work .entry)) literals w)) (treeAt (now (work .entry)) node w)) (size (treeAt (now (work .entry)) node w)) (now (work .entry)) (now (work .exit)) next top (builtOf r) ⌝ }
 {
-    if rule_shape(work, node) {
+    if rule_shape(work, dots, node, w) {
         let pattern = lists::first(work, node);
         let p = lists::rest(work, pattern);
         let after = lists::rest(work, node);
         let q = lists::first(work, after);
-        return rule_parts(work, literals, p, q, w, next, top);
+        return rule_parts(work, dots, literals, p, q, w, next, top);
     }
     packed::NONE
 }
 
 // A list of rules, the last first.
-fn rule_list(work: &mut [u32], literals: u32, node: u32, w: u32, top: u32) -> u64
-    requires { ⌜ (Asks (now work) node w top) × (literals ≤ top) ⌝ }
-    ensures { λ r. ⌜ RulesLeft (traverse (ruleOf isEllipsis (names (treeAt (now (work .entry)) literals w))) (elements (treeAt (now (work .entry)) node w))) (size (treeAt (now (work .entry)) node w)) (now (work .entry)) (now (work .exit)) top (builtOf r) ⌝ }
+fn rule_list(work: &mut [u32], dots: u32, literals: u32, node: u32, w: u32, top: u32) -> u64
+    requires { ⌜ (Asks (now work) node w top) × (dots ≤ top) × (literals ≤ top) ⌝ }
+    ensures { λ r. ⌜ RulesLeft (traverse (ruleOf (dotsAt (now (work .entry)) dots w) (names (treeAt (now (work .entry)) literals w))) (elements (treeAt (now (work .entry)) node w))) (size (treeAt (now (work .entry)) node w)) (now (work .entry)) (now (work .exit)) top (builtOf r) ⌝ }
 {
     if cells::word(work, node, cells::KIND) != cells::PAIR {
         return packed::pair(0, top);
     }
     let head = cells::reference(work, node, cells::HEAD);
     let rest = cells::reference(work, node, cells::TAIL);
-    let Built::At(next, upper) = packed::parts(rule_list(work, literals, rest, w, top)) else {
+    let word = rule_list(work, dots, literals, rest, w, top);
+    let Built::At(next, upper) = packed::parts(word) else {
         return packed::NONE;
     };
-    rule(work, literals, head, w, next, upper)
+    rule(work, dots, literals, head, w, next, upper)
 }
 
 // The rules of a form.
@@ -100,10 +108,11 @@ pub fn rules(work: &mut [u32], node: u32, w: u32, top: u32) -> u64
     ensures { λ r. ⌜ RulesLeft (rulesOf (treeAt (now (work .entry)) node w)) (size (treeAt (now (work .entry)) node w)) (now (work .entry)) (now (work .exit)) top (builtOf r) ⌝ }
 {
     if rules_form::is_rules_form(work, node, w) {
-        let after = lists::rest(work, node);
+        let dots = rules_form::ellipsis(work, node);
+        let after = rules_form::after_chosen(work, node);
         let literals = lists::first(work, after);
         let list = lists::rest(work, after);
-        return rule_list(work, literals, list, w, top);
+        return rule_list(work, dots, literals, list, w, top);
     }
     packed::NONE
 }

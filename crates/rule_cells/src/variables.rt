@@ -1,4 +1,4 @@
-// The variables of a pattern: names other than `...`, `_` and the listed literals, gathered from the left into a small table,
+// The variables of a pattern: names other than the ellipsis, `_` and the listed literals, gathered from the left into a small table,
 // node and depth of each. specs/Variables.antt says what the table holds. All names here lie under one pending wrap.
 
 ghost use mathlib.Core.Path.{_≡_};
@@ -7,11 +7,12 @@ ghost use mathlib.Core.List.{[], _∷_};
 ghost use Prim.Native.Nat.{_+_, _*_, _^_, _≤_, _<_};
 ghost use lib.ListN.{length};
 ghost use Rattle.words.specs.Lists.{anyOf};
-ghost use Rattle.recipe.specs.Name.{same, isEllipsis};
+ghost use Rattle.recipe.specs.Name.{same};
 ghost use Rattle.recipe.specs.Tree.{name, names};
 ghost use Rattle.expansion.specs.Rules.{isVariable, variableFrom, variables};
 ghost use Rattle.arena.specs.Arena.{nameAt, treeAt};
-ghost use Rattle.rule_cells.specs.Variables.{leafCount, variablesFrom, knownOf, Deeper, keptOf, Held, Gathered};
+ghost use Rattle.rule_cells.specs.Dots.{dotsAt};
+ghost use Rattle.rule_cells.specs.Variables.{variablesFrom, knownOf, Deeper, keptOf, Held, Gathered};
 use crate::dots;
 use arena::cells;
 use resolution::names;
@@ -45,35 +46,20 @@ pub fn is_literal(work: &[u32], list: u32, node: u32, w: u32) -> bool
     false
 }
 
-// Whether a pattern's name is a variable: neither `...` nor `_` nor the same as a listed literal.
-pub fn is_variable(work: &[u32], literals: u32, node: u32, w: u32) -> bool
-    ensures { λ r. ⌜ r ≡ isVariable isEllipsis (names (treeAt (now (work .entry)) literals w)) (nameAt (now (work .entry)) node w) ⌝ }
+// Whether a pattern's name is a variable: neither the ellipsis nor `_` nor the same as a listed literal.
+pub fn is_variable(work: &[u32], dots: u32, literals: u32, node: u32, w: u32) -> bool
+    ensures { λ r. ⌜ r ≡ isVariable (dotsAt (now (work .entry)) dots w) (names (treeAt (now (work .entry)) literals w)) (nameAt (now (work .entry)) node w) ⌝ }
 {
-    let number = names::number_of(work, node);
-    if number == names::ELLIPSIS {
+    if dots::is_ellipsis(work, dots, node, w) {
         return false;
     }
-    if number == names::WILDCARD {
+    if names::number_of(work, node) == names::WILDCARD {
         return false;
     }
     if is_literal(work, literals, node, w) {
         return false;
     }
     true
-}
-
-// How many variables a leaf of a pattern is, none or one. Behind `...` this is the end of a list: the empty list in every tree of
-// an item table, but the definition speaks of all trees, and a name there is counted among the variables to the left.
-pub fn leaf_count(work: &[u32], literals: u32, node: u32, w: u32) -> u32
-    ensures { λ r. ⌜ r ≡ leafCount (names (treeAt (now (work .entry)) literals w)) (treeAt (now (work .entry)) node w) ⌝ }
-{
-    if cells::word(work, node, cells::KIND) != cells::NAME {
-        return 0;
-    }
-    if is_variable(work, literals, node, w) {
-        return 1;
-    }
-    0
 }
 
 // Which of `left` variables from number i on a name is the same as.
@@ -96,23 +82,23 @@ pub fn find(work: &[u32], vars: &[u32], i: u32, left: u32, node: u32, w: u32) ->
 // The answer in place of how many variables the table holds: more than 16, two the same, or one under three ellipses.
 pub const BAD: u32 = 4294967295;
 
-// The depth of an element of a list at depth d: one more before `...`.
-pub fn element_depth(dots: bool, d: u32) -> u32
+// The depth of an element of a list at depth d: one more before the ellipsis.
+pub fn element_depth(followed: bool, d: u32) -> u32
     requires { ⌜ d + 1 < 2 ^ 32 ⌝ }
-    ensures { λ r. ⌜ r ≡ cond dots (d + 1) d ⌝ }
+    ensures { λ r. ⌜ r ≡ cond followed (d + 1) d ⌝ }
 {
-    if dots {
+    if followed {
         return d + 1;
     }
     d
 }
 
 // The depth of an element before this rest of its list.
-fn depth_before(work: &[u32], rest: u32, d: u32) -> u32
+fn depth_before(work: &[u32], dots: u32, rest: u32, w: u32, d: u32) -> u32
     requires { ⌜ d + 1 < 2 ^ 32 ⌝ }
-    ensures { λ r. ⌜ Deeper (now (work .entry)) rest d r ⌝ }
+    ensures { λ r. ⌜ Deeper (dotsAt (now (work .entry)) dots w) (treeAt (now (work .entry)) rest w) d r ⌝ }
 {
-    element_depth(dots::dots_next(work, rest), d)
+    element_depth(dots::dots_next(work, dots, rest, w), d)
 }
 
 // One more variable behind the n of the table, under d ellipses: how many the table then holds, or BAD.
@@ -142,6 +128,7 @@ fn add(work: &[u32], vars: &mut [u32], node: u32, w: u32, d: u32, n: u32) -> u32
 fn gather_name(
     work: &[u32],
     vars: &mut [u32],
+    dots: u32,
     literals: u32,
     node: u32,
     w: u32,
@@ -149,9 +136,9 @@ fn gather_name(
     n: u32,
 ) -> u32
     requires { ⌜ (32 ≤ length (now vars)) × (Held (now work) w (now vars) n) ⌝ }
-    ensures { λ r. ⌜ Gathered (variables isEllipsis (names (treeAt (now (work .entry)) literals w)) d (name (nameAt (now (work .entry)) node w))) (now (work .entry)) w node n (now (vars .entry)) (now (vars .exit)) (keptOf r) ⌝ }
+    ensures { λ r. ⌜ Gathered (variables (dotsAt (now (work .entry)) dots w) (names (treeAt (now (work .entry)) literals w)) d (name (nameAt (now (work .entry)) node w))) (now (work .entry)) w node n (now (vars .entry)) (now (vars .exit)) (keptOf r) ⌝ }
 {
-    if !is_variable(work, literals, node, w) {
+    if !is_variable(work, dots, literals, node, w) {
         return n;
     }
     add(work, vars, node, w, d, n)
@@ -162,6 +149,7 @@ fn gather_name(
 pub fn gather(
     work: &[u32],
     vars: &mut [u32],
+    dots: u32,
     literals: u32,
     node: u32,
     w: u32,
@@ -169,15 +157,15 @@ pub fn gather(
     n: u32,
 ) -> u32
     requires { ⌜ (32 ≤ length (now vars)) × (Held (now work) w (now vars) n) × (d + node < 2 ^ 32) ⌝ }
-    ensures { λ r. ⌜ Gathered (variables isEllipsis (names (treeAt (now (work .entry)) literals w)) d (treeAt (now (work .entry)) node w)) (now (work .entry)) w node n (now (vars .entry)) (now (vars .exit)) (keptOf r) ⌝ }
+    ensures { λ r. ⌜ Gathered (variables (dotsAt (now (work .entry)) dots w) (names (treeAt (now (work .entry)) literals w)) d (treeAt (now (work .entry)) node w)) (now (work .entry)) w node n (now (vars .entry)) (now (vars .exit)) (keptOf r) ⌝ }
 {
     let mut at = node;
     let mut m = n;
     while cells::word(work, at, cells::KIND) == cells::PAIR {
         let head = cells::reference(work, at, cells::HEAD);
         let rest = cells::reference(work, at, cells::TAIL);
-        let inner = depth_before(work, rest, d);
-        let k = gather(work, vars, literals, head, w, inner, m);
+        let inner = depth_before(work, dots, rest, w, d);
+        let k = gather(work, vars, dots, literals, head, w, inner, m);
         if k == BAD {
             return BAD;
         }
@@ -185,7 +173,7 @@ pub fn gather(
         at = rest;
     }
     if cells::word(work, at, cells::KIND) == cells::NAME {
-        return gather_name(work, vars, literals, at, w, d, m);
+        return gather_name(work, vars, dots, literals, at, w, d, m);
     }
     m
 }

@@ -2,19 +2,24 @@
 use mathlib.Core.Path.{_≡_, refl, ap, ap₂, _∙_, subst}
 use mathlib.Core.Bool.{Bool, true, false, _&&_, _||_, true≢false, false≢true}
 use mathlib.Core.List.{List, [], _∷_, _++_, map, reverse}
-use Prim.Native.Nat.{ℕ, zero, suc}
+use Prim.Native.Nat.{ℕ, zero, suc, _-_}
 use lib.Dec.{eqb}
-use lib.ListN.{length, getD, take}
+use lib.ListN.{getD, take}
 use Rattle.words.specs.Lists.{allOf}
 use Rattle.recipe.specs.Name.{Name}
-use Rattle.recipe.specs.Tree.{Tree, onEmpty, onConstant, onName, onPair, elements}
+use Rattle.recipe.specs.Tree.{Tree, onEmpty, onConstant, onName, onPair, past}
 use Rattle.expansion.specs.Lookup.{agree}
 use Rattle.expansion.specs.Rules.{Pattern, Template, drivers}
-use Rattle.expansion.specs.Match.{Fit, fitting, misfit, andThen, bothFit, eachFits, fit, holds, part}
+use Rattle.expansion.specs.Match.{Fit, fitting, misfit, andThen, bothFit, share, eachFits, fit, holds, part, following}
 use Rattle.expansion.specs.Transcribe.{copies, allBelow, taken, lengths, copyCount, equalLengths, transcribe}
 use Rattle.simulation.specs.Relations.{cond-rel, length-rel}
-use Rattle.simulation.specs.Shapes.{TreeOf, empties, constants, names₂, pairs, PatternOf, variablePs, literalPs, wildcardPs, constantPs, emptyPs, pairPs, ellipsisPs, TemplateOf, variableTs, insertTs, constantTs, emptyTs, pairTs, ellipsisTs, tree-map, elements-rel, element-rel, tail-rel}
+use Rattle.simulation.specs.Shapes.{TreeOf, empties, constants, names₂, pairs, PatternOf, variablePs, literalPs, wildcardPs, constantPs, emptyPs, pairPs, ellipsisPs, TemplateOf, variableTs, insertTs, constantTs, emptyTs, pairTs, ellipsisTs, tree-map, elements-rel, element-rel, tail-rel, past-rel}
 use Rattle.simulation.specs.RulesKept.{drivers-rel}
+
+-- lists of one shape give an ellipsis the same share
+share-rel : {U : Name → Name → Type 0} (n : ℕ) {t u : Tree} → TreeOf U t u → share n t ≡ share n u
+unfolding share
+share-rel n r = ap (λ c. c - n) (length-rel (elements-rel r))
 
 -- ---- whether a pattern fits, where the first's lookups are fine
 
@@ -36,12 +41,14 @@ module _ (L U : Name → Name → Type 0) (Looks : List Name → Type 0)
       go false true k fine = absurd (false≢true (k fine))
       go false false k fine = refl
 
-  eachFits-rel : (f g : Tree → Fit) → ((t u : Tree) → TreeOf U t u → FitRel (f t) (g u)) → {t u : Tree} → TreeOf U t u → FitRel (eachFits f t) (eachFits g u)
-  unfolding eachFits fitting misfit
-  eachFits-rel f g h empties = λ _. refl
-  eachFits-rel f g h constants = λ _. refl
-  eachFits-rel f g h (names₂ r) = λ _. refl
-  eachFits-rel f g h (pairs p q) = bothFit-rel _ _ _ _ (h _ _ p) (eachFits-rel f g h q)
+  eachFits-rel : (f f′ g g′ : Tree → Fit) → ((t u : Tree) → TreeOf U t u → FitRel (f t) (f′ u)) → ((t u : Tree) → TreeOf U t u → FitRel (g t) (g′ u))
+      → (c : ℕ) (t u : Tree) → TreeOf U t u → FitRel (eachFits f g c t) (eachFits f′ g′ c u)
+  unfolding eachFits misfit onPair
+  eachFits-rel f f′ g g′ h k zero t u r = k t u r
+  eachFits-rel f f′ g g′ h k (suc c) _ _ empties = λ _. refl
+  eachFits-rel f f′ g g′ h k (suc c) _ _ constants = λ _. refl
+  eachFits-rel f f′ g g′ h k (suc c) _ _ (names₂ r) = λ _. refl
+  eachFits-rel f f′ g g′ h k (suc c) _ _ (pairs p q) = bothFit-rel _ _ _ _ (h _ _ p) (eachFits-rel f f′ g g′ h k c _ _ q)
 
   pub fit-rel : {p q : Pattern} → PatternOf L p q → (t u : Tree) → TreeOf U t u → FitRel (fit p t) (fit q u)
   unfolding fit fitting misfit onName onConstant onEmpty onPair
@@ -63,7 +70,9 @@ module _ (L U : Name → Name → Type 0) (Looks : List Name → Type 0)
   fit-rel (pairPs p q) _ _ constants = λ _. refl
   fit-rel (pairPs p q) _ _ (names₂ r) = λ _. refl
   fit-rel (pairPs p q) _ _ (pairs a b) = bothFit-rel _ _ _ _ (fit-rel p _ _ a) (fit-rel q _ _ b)
-  fit-rel (ellipsisPs p) t u r = eachFits-rel _ _ (fit-rel p) r
+  fit-rel (ellipsisPs {p = p} {p′ = p′} {n = n} {q = q} {q′ = q′} a b) t u r =
+      subst (λ c. FitRel (eachFits (fit p) (fit q) (share n t) t) (eachFits (fit p′) (fit q′) c u)) (share-rel n r)
+      (eachFits-rel _ _ _ _ (fit-rel a) (fit-rel b) (share n t) t u r)
 
 -- ---- what a variable takes
 
@@ -75,7 +84,11 @@ holds-rel k wildcardPs = refl
 holds-rel k constantPs = refl
 holds-rel k emptyPs = refl
 holds-rel k (pairPs p q) = ap₂ _||_ (holds-rel k p) (holds-rel k q)
-holds-rel k (ellipsisPs p) = holds-rel k p
+holds-rel k (ellipsisPs p q) = ap₂ _||_ (holds-rel k p) (holds-rel k q)
+
+-- what follows the ellipsis
+after-rel : {U : Name → Name → Type 0} (n : ℕ) {t u : Tree} → TreeOf U t u → TreeOf U (past (share n t) t) (past (share n u) u)
+after-rel {U} n {t} {u} r = subst (λ c. TreeOf U (past (share n t) t) (past c u)) (share-rel n r) (past-rel (share n t) r)
 
 pub part-rel : {L U : Name → Name → Type 0} {p q : Pattern} → PatternOf L p q → (k : ℕ) (is : List ℕ) {t u : Tree} → TreeOf U t u → TreeOf U (part p k is t) (part q k is u)
 unfolding part
@@ -85,8 +98,19 @@ part-rel wildcardPs k is r = empties
 part-rel constantPs k is r = empties
 part-rel emptyPs k is r = empties
 part-rel {L} {U} (pairPs p q) k is r = cond-rel (TreeOf U) _ _ _ _ _ _ (holds-rel k p) (part-rel p k is (element-rel 0 r)) (part-rel q k is (tail-rel r))
-part-rel (ellipsisPs p) k [] r = r
-part-rel (ellipsisPs p) k (i ∷ is) r = part-rel p k is (element-rel i r)
+part-rel {L} {U} (ellipsisPs {n = n} p q) k [] {t} {u} r = cond-rel (TreeOf U) _ _ _ _ _ _ (holds-rel k p) r (part-rel q k [] (after-rel n r))
+part-rel {L} {U} (ellipsisPs {n = n} p q) k (i ∷ is) r = cond-rel (TreeOf U) _ _ _ _ _ _ (holds-rel k p) (part-rel p k is (element-rel i r)) (part-rel q k (i ∷ is) (after-rel n r))
+
+following-rel : {L : Name → Name → Type 0} {p q : Pattern} → PatternOf L p q → (k d : ℕ) → following p k d ≡ following q k d
+unfolding following
+following-rel variablePs k d = refl
+following-rel (literalPs l) k d = refl
+following-rel wildcardPs k d = refl
+following-rel constantPs k d = refl
+following-rel emptyPs k d = refl
+following-rel (pairPs p q) k d = cond-rel _≡_ _ _ _ _ _ _ (holds-rel k p) (following-rel p k d) (following-rel q k d)
+following-rel (ellipsisPs p q) k zero = cond-rel _≡_ _ _ _ _ _ _ (holds-rel k p) refl (following-rel q k zero)
+following-rel (ellipsisPs p q) k (suc d) = cond-rel _≡_ _ _ _ _ _ _ (holds-rel k p) (following-rel p k d) (following-rel q k (suc d))
 
 -- ---- what a template gives
 
@@ -107,11 +131,11 @@ module _ {L U : Name → Name → Type 0} {p q : Pattern} (pq : PatternOf L p q)
 
   lengths-rel : {T : Name → Name → Type 0} (is : List ℕ) {e f : Template} → TemplateOf T e f → lengths p t is e ≡ lengths q u is f
   unfolding lengths
-  lengths-rel {T} is {e} {f} r = ap (map (λ v. length (elements (taken p t is (v .0) (v .1))))) (drivers-rel 0 r) ∙ go (drivers 0 f)
+  lengths-rel {T} is {e} {f} r = ap (map (λ v. share (following p (v .0) (v .1)) (taken p t is (v .0) (v .1)))) (drivers-rel 0 r) ∙ go (drivers 0 f)
     where
-      go : (l : List (ℕ × ℕ)) → map (λ v. length (elements (taken p t is (v .0) (v .1)))) l ≡ map (λ v. length (elements (taken q u is (v .0) (v .1)))) l
+      go : (l : List (ℕ × ℕ)) → map (λ v. share (following p (v .0) (v .1)) (taken p t is (v .0) (v .1))) l ≡ map (λ v. share (following q (v .0) (v .1)) (taken q u is (v .0) (v .1))) l
       go [] = refl
-      go (v ∷ l) = ap₂ _∷_ (length-rel (elements-rel (taken-rel is (v .0) (v .1)))) (go l)
+      go (v ∷ l) = ap₂ _∷_ (ap (λ n. share n (taken p t is (v .0) (v .1))) (following-rel pq (v .0) (v .1)) ∙ share-rel (following q (v .0) (v .1)) (taken-rel is (v .0) (v .1))) (go l)
 
   copyCount-rel : {T : Name → Name → Type 0} (is : List ℕ) {e f : Template} → TemplateOf T e f → copyCount p t is e ≡ copyCount q u is f
   unfolding copyCount

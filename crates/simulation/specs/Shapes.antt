@@ -1,11 +1,11 @@
 -- Trees, patterns and templates of one shape, with equal constants and related names. Laws of trees over any relation of names.
 use mathlib.Core.Path.{_≡_, refl, ap₂}
 use mathlib.Core.Bool.{Bool, false, not, _&&_}
-use Prim.Native.Nat.{ℕ, suc, _+_}
+use Prim.Native.Nat.{ℕ, zero, suc, _+_}
 use lib.Dec.{eqb}
 use Rattle.datum.specs.Constant.{Constant}
 use Rattle.recipe.specs.Name.{Name, isEllipsis, isWildcard, isOrdinary}
-use Rattle.recipe.specs.Tree.{Tree, empty, constant, name, pair, size, names, onEmpty, onName, onPair, isOrdinaryName, isList, isListOf, elements, element, tail, onNames}
+use Rattle.recipe.specs.Tree.{Tree, empty, constant, name, pair, size, names, onEmpty, onName, onPair, isOrdinaryName, isList, isListOf, elements, element, tail, past, onNames}
 use Rattle.expansion.specs.Rules.{Pattern, variableP, literalP, wildcardP, constantP, emptyP, pairP, ellipsisP, Template, variableT, insertT, constantT, emptyT, pairT, ellipsisT, Rule}
 use Rattle.simulation.specs.Relations.{ListRel, ends, joins, length-rel, append-rel, getD-rel}
 
@@ -22,7 +22,7 @@ pub data PatternOf (R : Name → Name → Type 0) : Pattern → Pattern → Type
   constantPs : {a : Constant} → PatternOf R (constantP a) (constantP a)
   emptyPs : PatternOf R emptyP emptyP
   pairPs : {p p′ q q′ : Pattern} → PatternOf R p p′ → PatternOf R q q′ → PatternOf R (pairP p q) (pairP p′ q′)
-  ellipsisPs : {p p′ : Pattern} → PatternOf R p p′ → PatternOf R (ellipsisP p) (ellipsisP p′)
+  ellipsisPs : {p p′ : Pattern} {n : ℕ} {q q′ : Pattern} → PatternOf R p p′ → PatternOf R q q′ → PatternOf R (ellipsisP p n q) (ellipsisP p′ n q′)
 
 pub data TemplateOf (R : Name → Name → Type 0) : Template → Template → Type 0 where
   variableTs : {k d : ℕ} → TemplateOf R (variableT k d) (variableT k d)
@@ -53,7 +53,7 @@ module _ {R S : Name → Name → Type 0} (h : (x y : Name) → R x y → S x y)
   pattern-map constantPs = constantPs
   pattern-map emptyPs = emptyPs
   pattern-map (pairPs p q) = pairPs (pattern-map p) (pattern-map q)
-  pattern-map (ellipsisPs p) = ellipsisPs (pattern-map p)
+  pattern-map (ellipsisPs p q) = ellipsisPs (pattern-map p) (pattern-map q)
 
   pub template-map : {e f : Template} → TemplateOf R e f → TemplateOf S e f
   template-map variableTs = variableTs
@@ -116,6 +116,11 @@ module _ {R : Name → Name → Type 0} where
   tail-rel constants = empties
   tail-rel (names₂ r) = empties
   tail-rel (pairs p q) = q
+
+  pub past-rel : (n : ℕ) {t u : Tree} → TreeOf R t u → TreeOf R (past n t) (past n u)
+  unfolding past
+  past-rel zero r = r
+  past-rel (suc n) r = past-rel n (tail-rel r)
 
   pub onNames-rel : {S : Name → Name → Type 0} (f g : Name → Name) → ((x y : Name) → R x y → S (f x) (g y)) → {t u : Tree} → TreeOf R t u → TreeOf S (onNames f t) (onNames g u)
   unfolding onNames

@@ -12,8 +12,8 @@ use borrow.Author.Tests.{ne-eqb}
 use Rattle.expansion.specs.Rules.{variableP}
 use Rattle.expansion.specs.Match.{part}
 use Rattle.expansion.specs.Transcribe.{copies, allBelow}
-use Rattle.arena.specs.Arena.{wordAt, treeAt, wrapAt}
-use Rattle.arena.specs.ArenaLaws.{take-less}
+use Rattle.arena.specs.Arena.{wordAt, referenceAt, treeAt, wrapAt}
+use Rattle.arena.specs.ArenaLaws.{take-less, referenceAt-most}
 use Rattle.arena.specs.NodeLaws.{treeAt-wrap}
 use Rattle.arena.specs.Cells.{Room, Grown}
 use Rattle.arena.specs.CellLaws.{tree-kept}
@@ -22,7 +22,7 @@ use Rattle.words.specs.Packed.{packed, builtOf}
 use Rattle.arena.specs.Lists.{Means}
 use Rattle.rule_cells.specs.CellLaws.{patternAt-variable, templateAt-variable}
 use Rattle.environments.specs.Environment.{takes, entering, enter, resultBy}
-use Rattle.environments.specs.Entries.{field, entryAt, patternIn, takingOf, environmentAt, level, takenIn, Listed, Under, Low, Ahead, Along, AlongAll, Enters}
+use Rattle.environments.specs.Entries.{field, entryAt, ellipsisIn, takingOf, environmentAt, level, takenIn, Listed, Under, Low, Ahead, Along, AlongAll, Enters}
 use Rattle.environments.specs.EntryLaws.{entry-low}
 use Rattle.environments.specs.BelowLaws.{below-true, below-at}
 use Rattle.environments.specs.TemplateCells.{leaf-agrees}
@@ -439,16 +439,18 @@ module _ (old : List ℕ) (top fuel : ℕ) (env : List ℕ) (w e c : ℕ) (ok : 
   unfolding wordAt within
   none-tag h = omega (arith, h)
 
-  pattern-some : patternIn old (field env k 3) ≡ some (variableP (wordAt old (field env k 3) 2))
-  unfolding patternIn
-  pattern-some =
-      let q : wordAt old (field env k 3) 1 ≡ 1 = rw k-is (listed .element-is) in
-      rw (ne-eqb (field env k 3) 0 (λ z. none-tag (subst (λ (x : ℕ). wordAt old x 1 ≡ 1) z q)), patternAt-variable old (field env k 3) q) refl
+  element-some : ellipsisIn old (field env k 3) ≡ some (variableP (wordAt old (referenceAt old (field env k 3) 3) 2), wordAt old (field env k 3) 4)
+  unfolding ellipsisIn
+  element-some =
+      let x : ℕ = field env k 3 in
+      let q : wordAt old (referenceAt old x 3) 1 ≡ 1 = rw k-is (listed .element-is) in
+      let n : (x ≡ 0 → ⊥) = λ z. none-tag (subst (λ (y : ℕ). wordAt old y 1 ≡ 1) (let l : referenceAt old x 3 ≡ 0 = omega (arith, referenceAt-most old x 3) in l) q) in
+      rw (ne-eqb x 0 n, patternAt-variable old (referenceAt old x 3) q) refl
 
   pub listed-copy : (i : ℕ) → copyAt old env w e i ≡ elementsAt old list w i
   unfolding copyAt resultBy takes enter entering environmentAt takingOf entryAt part takenIn level
   listed-copy i =
-      rw (templateAt-variable old e (listed .variable), listed .once, ← k-is, list-is, pattern-some) refl
+      rw (templateAt-variable old e (listed .variable), listed .once, ← k-is, list-is, element-some) refl
 
   listed-agrees : allBelow (copyAgrees old env w e) c ≡ true
   unfolding copyAgrees

@@ -4,7 +4,7 @@ use mathlib.Core.Bool.{Bool, true, false, _&&_}
 use mathlib.Core.List.{List}
 use mathlib.Core.Logic.{_⊎_, inl, inr}
 use mathlib.Core.Option.{Option, some}
-use Prim.Native.Nat.{ℕ, _≤_}
+use Prim.Native.Nat.{ℕ, suc, _-_, _≤_}
 use native.Mathlib.Omega.{arith}
 use lib.Dec.{eqb}
 use borrow.Author.Tests.{eq-eqb, ne-eqb}
@@ -20,7 +20,8 @@ use Rattle.resolution.specs.Names.{Agrees}
 use Rattle.arena.specs.ListLaws.{tree-cases, no-pair}
 use Rattle.rule_cells.specs.Cells.{constantBefore, literalAt, patternAt, ruleAt, rulesAt}
 use Rattle.rule_cells.specs.CellLaws.{patternAt-variable, patternAt-literal, patternAt-wildcard, patternAt-constant, patternAt-pair, patternAt-ellipsis, patternAt-empty, rulesAt-none, rulesAt-more}
-use Rattle.steps.specs.Fits.{Fits, EachFits, LiteralFits, ConstantFits, ruleOr, FirstFit}
+use Rattle.environments.specs.Parts.{Shares}
+use Rattle.steps.specs.Fits.{Fits, LiteralFits, ConstantFits, ruleOr, FirstFit}
 
 -- ---- both fit
 
@@ -53,15 +54,13 @@ module _ (work : List ℕ) (u w kind : ℕ) (kind-is : kind ≡ wordAt work u 3)
   unfolding fit onPair
   pair-pair q s e = rw (treeAt-pair work u w (sym kind-is ∙ e)) (bothFit-fits _ _)
 
-  pub each-pair : (q : Pattern) → kind ≡ 4 → eachFits (fit q) (treeAt work u w) .1 ≡ (fit q (treeAt work (referenceAt work u 2) w) .1 && eachFits (fit q) (treeAt work (referenceAt work u 1) w) .1)
-  unfolding eachFits
-  each-pair q e = rw (treeAt-pair work u w (sym kind-is ∙ e)) (bothFit-fits _ _)
+  pub each-pair : (q s : Pattern) (c : ℕ) → kind ≡ 4 → eachFits (fit q) (fit s) (suc c) (treeAt work u w) .1 ≡ (fit q (treeAt work (referenceAt work u 2) w) .1 && eachFits (fit q) (fit s) c (treeAt work (referenceAt work u 1) w) .1)
+  unfolding eachFits onPair
+  each-pair q s c e = rw (treeAt-pair work u w (sym kind-is ∙ e)) (bothFit-fits _ _)
 
-  pub each-end : (p : ℕ) → (kind ≡ 4 → ⊥) → EachFits work p u w (eqb kind 0)
-  unfolding eachFits fitting misfit
-  each-end p other =
-      tree-cases work u w (λ t. eqb kind 0 ≡ eachFits (fit (patternAt work p)) t .1)
-      (λ z. eq-eqb kind 0 (kind-is ∙ z)) (λ z. ne-eqb kind 0 (λ y. omega arith)) (λ z. absurd (other (kind-is ∙ z))) (λ a b c. ne-eqb kind 0 (λ y. a (sym kind-is ∙ y)))
+  pub each-no-pair : (q s : Pattern) (c : ℕ) → (kind ≡ 4 → ⊥) → false ≡ eachFits (fit q) (fit s) (suc c) (treeAt work u w) .1
+  unfolding eachFits onPair misfit
+  each-no-pair q s c other = no-pair work u kind kind-is (λ t. false ≡ eachFits (fit q) (fit s) (suc c) t .1) refl (λ x. refl) (λ a. refl) other w
 
   pub empty-fits : eqb kind 0 ≡ fit emptyP (treeAt work u w) .1
   unfolding fit onEmpty fitting misfit
@@ -130,10 +129,6 @@ module _ (work : List ℕ) (p tag : ℕ) (tag-is : tag ≡ wordAt work p 1) (u w
   pub fits-constant : (r : Bool) → tag ≡ 4 → ConstantFits work p u r → Fits work p u w r
   fits-constant r e c = rw (patternAt-constant work p (sym tag-is ∙ e)) (c w)
 
-  pub fits-ellipsis : (e : ℕ) (r : Bool) → tag ≡ 7 → e ≡ referenceAt work p 2 → EachFits work e u w r → Fits work p u w r
-  unfolding fit
-  fits-ellipsis e r t h c = rw (patternAt-ellipsis work p (sym tag-is ∙ t), ← h) c
-
   module _ (kind : ℕ) (kind-is : kind ≡ wordAt work u 3) where
     pub fits-no-pair : tag ≡ 6 → (kind ≡ 4 → ⊥) → Fits work p u w false
     fits-no-pair t other = rw (patternAt-pair work p (sym tag-is ∙ t)) (pair-no-pair work u w kind kind-is p _ _ other)
@@ -172,22 +167,52 @@ module _ (work : List ℕ) (p u w : ℕ) where
     pub along-more : (s v : ℕ) → s ≡ referenceAt work at 2 → Same work w at node s v → Along work p u w s v
     along-more s v s-is e = record { is = inv .is ∙ e; low = omega (arith, inv .low, referenceAt-most work at 2) }
 
--- ---- zero or more elements
+-- ---- the elements that an ellipsis takes, and then the rest
 
--- the list fits where the elements of the node do
-abbrev pub Matched : (work : List ℕ) (e list w node : ℕ) → Type 0
-Matched work e list w node = eachFits (fit (patternAt work e)) (treeAt work list w) .1 ≡ eachFits (fit (patternAt work e)) (treeAt work node w) .1
+-- the ellipsis fits the list where so many elements of the node fit its element, and then what follows its rest
+abbrev pub Matched : (work : List ℕ) (p list w node left : ℕ) → Type 0
+Matched work p list w node left =
+    fit (patternAt work p) (treeAt work list w) .1 ≡ eachFits (fit (patternAt work (referenceAt work p 3))) (fit (patternAt work (referenceAt work p 2))) left (treeAt work node w) .1
 
-module _ (work : List ℕ) (e list w node kind : ℕ) (kind-is : kind ≡ wordAt work node 3) (inv : Matched work e list w node) where
-  pub each-ends : (kind ≡ 4 → ⊥) → EachFits work e list w (eqb kind 0)
-  each-ends other = sym (inv ∙ sym (each-end work node w kind kind-is e other))
+pub each-begins : (work : List ℕ) (p list w s : ℕ) → wordAt work p 1 ≡ 7 → Shares work p list s → Matched work p list w list s
+unfolding fit
+each-begins work p list w s e f = ap (λ (x : Pattern). fit x (treeAt work list w) .1) (patternAt-ellipsis work p e) ∙ rw (← f w) refl
 
-  module _ (h : ℕ) (b : Bool) (k : kind ≡ 4) (h-is : h ≡ referenceAt work node 2) (head : Fits work e h w b) where
-    pub each-no : b ≡ false → EachFits work e list w false
-    each-no f = sym (inv ∙ each-pair work node w kind kind-is (patternAt work e) k ∙ rw (← h-is, ← head, f))
+module _ (work : List ℕ) (p list w node left : ℕ) (inv : Matched work p list w node left) where
+  abbrev taken : Pattern
+  taken = patternAt work (referenceAt work p 3)
 
-    pub each-more : (t : ℕ) → b ≡ true → t ≡ referenceAt work node 1 → Matched work e list w t
-    each-more t f t-is = inv ∙ each-pair work node w kind kind-is (patternAt work e) k ∙ rw (← h-is, ← head, f, ← t-is) refl
+  abbrev following : Pattern
+  following = patternAt work (referenceAt work p 2)
+
+  pub each-ends : (rest : ℕ) (r : Bool) → left ≡ 0 → rest ≡ referenceAt work p 2 → Fits work rest node w r → Fits work p list w r
+  unfolding eachFits
+  each-ends rest r e f c = c ∙ sym (inv ∙ rw (e, ← f) refl)
+
+  module _ (c kind : ℕ) (some-left : left ≡ suc c) (kind-is : kind ≡ wordAt work node 3) where
+    one-left : fit (patternAt work p) (treeAt work list w) .1 ≡ eachFits (fit taken) (fit following) (suc c) (treeAt work node w) .1
+    one-left = inv ∙ ap (λ (n : ℕ). eachFits (fit taken) (fit following) n (treeAt work node w) .1) some-left
+
+    pub each-short : (kind ≡ 4 → ⊥) → Fits work p list w false
+    each-short other = each-no-pair work node w kind kind-is taken following c other ∙ sym one-left
+
+    module _ (element h : ℕ) (b : Bool) (k : kind ≡ 4) (element-is : element ≡ referenceAt work p 3) (h-is : h ≡ referenceAt work node 2) (head : Fits work element h w b) where
+      head-is : fit taken (treeAt work (referenceAt work node 2) w) .1 ≡ b
+      head-is = rw (← element-is, ← h-is) (sym head)
+
+      next-is : fit (patternAt work p) (treeAt work list w) .1 ≡ (b && eachFits (fit taken) (fit following) c (treeAt work (referenceAt work node 1) w) .1)
+      next-is =
+          one-left ∙ each-pair work node w kind kind-is taken following c k ∙ ap (λ (z : Bool). z && eachFits (fit taken) (fit following) c (treeAt work (referenceAt work node 1) w) .1) head-is
+
+      pub each-no : b ≡ false → Fits work p list w false
+      each-no f = sym (next-is ∙ rw f refl)
+
+      pub each-more : (t : ℕ) → b ≡ true → t ≡ referenceAt work node 1 → Matched work p list w t c
+      each-more t f t-is = next-is ∙ rw (f, ← t-is) refl
+
+-- one fewer is left
+pub fewer : (left : ℕ) → (left ≡ 0 → ⊥) → left ≡ suc (left - 1)
+fewer left n = omega arith
 
 -- ---- rules
 

@@ -6,16 +6,12 @@ use mathlib.Core.Option.{Option, none, some}
 use Prim.Native.Nat.{ℕ, _≤_}
 use lib.Dec.{eqb}
 use Rattle.expansion.specs.Rules.{Rule, literalP, constantP}
-use Rattle.expansion.specs.Match.{fit, eachFits, firstFit}
+use Rattle.expansion.specs.Match.{fit, firstFit}
 use Rattle.arena.specs.Arena.{treeAt}
 use Rattle.rule_cells.specs.Cells.{constantBefore, literalAt, patternAt, ruleAt, rulesAt}
 
 abbrev pub Fits : (work : List ℕ) (p u w : ℕ) → Bool → Type 0
 Fits work p u w r = r ≡ fit (patternAt work p) (treeAt work u w) .1
-
--- zero or more elements
-abbrev pub EachFits : (work : List ℕ) (p u w : ℕ) → Bool → Type 0
-EachFits work p u w r = r ≡ eachFits (fit (patternAt work p)) (treeAt work u w) .1
 
 abbrev pub LiteralFits : (work : List ℕ) (p u w : ℕ) → Bool → Type 0
 LiteralFits work p u w r = r ≡ fit (literalP (literalAt work p)) (treeAt work u w) .1

@@ -9,7 +9,7 @@ use Rattle.datum.specs.Constant.{Constant}
 use Rattle.recipe.specs.Tree.{Tree, empty, constant, name, pair, size}
 use Rattle.expansion.specs.Rules.{Template, constantT, pairT, ellipsisT}
 use Rattle.arena.specs.Arena.{wordAt, referenceAt, nameAt, treeAt}
-use Rattle.arena.specs.ArenaLaws.{take-less, referenceAt-most}
+use Rattle.arena.specs.ArenaLaws.{take-less, wordAt-below, referenceAt-most, referenceAt-below}
 use Rattle.arena.specs.Cells.{Room, Grown}
 use Rattle.arena.specs.CellLaws.{tree-kept}
 use Rattle.words.specs.Packed.{packed, builtOf}
@@ -18,7 +18,7 @@ use Rattle.rule_cells.specs.CellLaws.{patternAt-below, templateAt-below, templa
 use Rattle.environments.specs.declared.environment.Entry.{Entry}
 use Rattle.environments.specs.Sound.{Plain, plain-pair}
 use Rattle.environments.specs.Environment.{agreeBy, resultBy}
-use Rattle.environments.specs.Entries.{field, entryAt, takenIn, patternIn, takingOf, environmentAt, Under, Low}
+use Rattle.environments.specs.Entries.{field, entryAt, takenIn, ellipsisIn, takingOf, environmentAt, Under, Low}
 use Rattle.environments.specs.EntryLaws.{entry-low}
 use Rattle.environments.specs.LengthLaws.{taken-is}
 use Rattle.environments.specs.TemplateCells.{leaf-agrees, pair-is}
@@ -29,9 +29,12 @@ use Rattle.steps.specs.BuildLaws.{fresh-empty, fresh-constant, room-left
 
 -- ---- what stands below the top
 
-patternIn-kept : (old new : List ℕ) (top q : ℕ) → q ≤ top → take top new ≡ take top old → patternIn new q ≡ patternIn old q
-unfolding patternIn
-patternIn-kept old new top q h e = rw (patternAt-below new old q (take-less new old q top h e)) refl
+ellipsisIn-kept : (old new : List ℕ) (top q : ℕ) → q ≤ top → take top new ≡ take top old → ellipsisIn new q ≡ ellipsisIn old q
+unfolding ellipsisIn
+ellipsisIn-kept old new top q h e =
+    let t : take q new ≡ take q old = take-less new old q top h e in
+    let l : referenceAt old q 3 ≤ q = referenceAt-most old q 3 in
+    rw (referenceAt-below new old q 3 (omega arith) t, patternAt-below new old (referenceAt old q 3) (take-less new old (referenceAt old q 3) q l t), wordAt-below new old q 4 (omega arith) t) refl
 
 module _ (old new : List ℕ) (top : ℕ) (kept : take top new ≡ take top old) where
   taking-kept : (w : ℕ) (x : Entry) → w ≤ top → Low x top → takingOf new w x ≡ takingOf old w x
@@ -41,8 +44,8 @@ module _ (old new : List ℕ) (top : ℕ) (kept : take top new ≡ take top old)
         tree-kept old new top (x .whole) w (l .whole-low) h kept,
         tree-kept old new top (x .one) w (l .one-low) h kept,
         tree-kept old new top (x .two) w (l .two-low) h kept,
-        patternIn-kept old new top (x .first) (l .first-low) kept,
-        patternIn-kept old new top (x .second) (l .second-low) kept,
+        ellipsisIn-kept old new top (x .first) (l .first-low) kept,
+        ellipsisIn-kept old new top (x .second) (l .second-low) kept,
       )
       refl
 

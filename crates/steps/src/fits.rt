@@ -2,8 +2,9 @@
 
 ghost use mathlib.Core.Path.{_≡_};
 ghost use Rattle.arena.specs.Arena.{wordAt};
-ghost use Rattle.steps.specs.Fits.{Fits, EachFits, LiteralFits, ConstantFits, FirstFit};
+ghost use Rattle.steps.specs.Fits.{Fits, LiteralFits, ConstantFits, FirstFit};
 use arena::cells;
+use environments::shares;
 use resolution::names;
 
 // A literal fits a name whose lookup finds what its own has found.
@@ -60,8 +61,7 @@ fn end_fits(work: &[u32], p: u32, u: u32, w: u32) -> bool
         return constant_fits(work, p, u);
     }
     if tag == rule_cells::cells::ELLIPSIS {
-        let element = cells::reference(work, p, rule_cells::cells::ELEMENT);
-        return each_fits(work, element, u, w);
+        return each_fits(work, p, u, w);
     }
     cells::word(work, u, cells::KIND) == cells::EMPTY
 }
@@ -97,19 +97,27 @@ fn fits(work: &[u32], p: u32, u: u32, w: u32) -> bool
     end_fits(work, at, node, w)
 }
 
-// Whether every element of a list fits.
-fn each_fits(work: &[u32], e: u32, list: u32, w: u32) -> bool
-    ensures { λ r. ⌜ EachFits (now (work .entry)) e list w r ⌝ }
+// Whether an ellipsis fits a list: the elements that it takes, all but as many as follow it, then the rest.
+fn each_fits(work: &[u32], p: u32, list: u32, w: u32) -> bool
+    requires { ⌜ wordAt (now work) p 1 ≡ 7 ⌝ }
+    ensures { λ r. ⌜ Fits (now (work .entry)) p list w r ⌝ }
 {
+    let element = cells::reference(work, p, rule_cells::cells::HEAD);
     let mut node = list;
-    while cells::word(work, node, cells::KIND) == cells::PAIR {
+    let mut left = shares::share(work, p, list);
+    while left != 0 {
+        if cells::word(work, node, cells::KIND) != cells::PAIR {
+            return false;
+        }
         let first = cells::reference(work, node, cells::HEAD);
-        if !part_fits(work, e, first, w) {
+        if !part_fits(work, element, first, w) {
             return false;
         }
         node = cells::reference(work, node, cells::TAIL);
+        left -= 1;
     }
-    cells::word(work, node, cells::KIND) == cells::EMPTY
+    let rest = cells::reference(work, p, rule_cells::cells::REST);
+    fits(work, rest, node, w)
 }
 
 // The first of the rules that fits the use, 0 where none does.

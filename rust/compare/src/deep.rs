@@ -87,6 +87,15 @@ fn repeated(t: &mut Table, levels: usize) {
     t.list(3, &mut |t, place| if place == 1 { repeated(t, levels - 1) } else { t.name([X, 0, ELLIPSIS][place]) });
 }
 
+/// `((_ x ... 1 ... 1) (1 x ...))` and `(m 1 ... 1)`: so many elements after the ellipsis, and as many that it takes.
+pub fn long_tail(count: usize) -> Vec<u32> {
+    let rule = |t: &mut Table, place: usize| match place {
+        0 => t.list(3 + count, &mut |t, place| if place < 3 { t.name([WILDCARD, X, ELLIPSIS][place]) } else { t.integer(1) }),
+        _ => t.list(3, &mut |t, place| if place == 0 { t.integer(1) } else { t.name([X, ELLIPSIS][place - 1]) }),
+    };
+    with_macro(&rule, &|t| use_ones(t, 2 * count))
+}
+
 /// `(m 1 ... 1)`.
 fn use_ones(t: &mut Table, count: usize) {
     t.list(count + 1, &mut |t, place| if place == 0 { t.name(M) } else { t.integer(1) });
@@ -138,6 +147,7 @@ pub fn inputs() -> Vec<(&'static str, Vec<u32>, u32, usize)> {
         ("copies along one list", copied_list(2_020), 8_192, 2_020),
         ("a template of one long list", long_template(2_020), 8_192, 2_020),
         ("ellipses over one another in a template", nested_ellipses(660, 1), 8_192, 660),
+        ("elements after an ellipsis", long_tail(660), 8_192, 660),
         ("a name on which joined wraps wait", many_wraps(), 8_192, 804),
         ("names with many marks", many_marks(10, "(lambda (x) (lambda (y) (f x y)))"), 8_192, 160),
     ]

@@ -1,8 +1,10 @@
-//! What the comparisons share: item tables, deep inputs, nested ellipses, dirty tables, refusals, calls of expansion.
+//! What the comparisons share: item tables, deep inputs, nested ellipses, other expanders, dirty tables, refusals, calls
+//! of expansion.
 
 pub mod deep;
 pub mod ellipses;
 pub mod filing;
+pub mod scheme;
 pub mod tables;
 
 use grebetallboy::{Error, Refused};

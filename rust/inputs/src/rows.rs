@@ -2,7 +2,7 @@
 //! those of the change requests, a file of `requests/` for each.
 
 use crate::top;
-use std::path::Path;
+use std::path::{Path, PathBuf};
 
 fn spec(path: &str) -> String {
     let path = top().join("crates").join(path);
@@ -73,14 +73,24 @@ pub fn examples() -> Vec<(Vec<u8>, String)> {
     recipes.map(|path| (std::fs::read(&path).unwrap(), std::fs::read_to_string(path.with_extension("out")).unwrap())).collect()
 }
 
-/// What is said of each recipe of the change requests, its text, and what is printed for it: a row's lines, an empty one between rows.
+/// The folder of the change requests' recipes.
+fn folder() -> PathBuf {
+    Path::new(env!("CARGO_MANIFEST_DIR")).join("requests")
+}
+
+/// What is said of each recipe of the change requests, its text, and what is printed for it.
 pub fn requests() -> Vec<(String, String, String)> {
-    let folder = Path::new(env!("CARGO_MANIFEST_DIR")).join("requests");
-    let texts = folder.read_dir().unwrap().map(|entry| std::fs::read_to_string(entry.unwrap().path()).unwrap());
+    let names = folder().read_dir().unwrap().map(|entry| entry.unwrap().path().file_stem().unwrap().to_str().unwrap().to_string());
+    names.flat_map(|name| request(&name)).collect()
+}
+
+/// Those of one request, as `L02`: a row's lines, an empty one between rows.
+pub fn request(name: &str) -> Vec<(String, String, String)> {
+    let text = std::fs::read_to_string(folder().join(name).with_extension("txt")).unwrap();
     let row = |row: &str| {
         let mut lines = row.splitn(3, '\n').map(str::to_string);
         let mut line = || lines.next().unwrap_or_else(|| panic!("three lines or more: {row}"));
         (line(), line(), format!("{}\n", line()))
     };
-    texts.flat_map(|text| text.trim_end().split("\n\n").map(row).collect::<Vec<_>>()).collect()
+    text.trim_end().split("\n\n").map(row).collect()
 }

@@ -1,10 +1,11 @@
 //! Demand 3 tried on random recipes, with the new name unused anywhere and with one that is new to its template alone.
 //! `RECIPES=1000000 SEED=7 cargo test --release --test private_names` makes a long run.
 
-use inputs::{in_stack, setting, Random, Recipes};
+use inputs::{in_stack, patterns::Rules, setting, Random, Recipes};
 use reference::expand::{run, Event, Run};
 use reference::tree::{Binding, Name, Tree};
-use reference::{rules, table, text};
+use reference::rules::{self, Ellipsis};
+use reference::{table, text};
 use std::collections::{HashMap, HashSet};
 
 const FUEL: u32 = 300;
@@ -19,7 +20,7 @@ fn form(t: &Tree, item: u32) -> Option<&[Tree]> {
     }
 }
 
-/// A rule of a form, as far as its pieces exist: the numbers of its variables, and its template.
+/// A rule of a form, as far as its pieces exist: the numbers of its variables and of an ellipsis of the author's choice, and its template.
 struct Place {
     variables: HashSet<u32>,
     template: Tree,
@@ -30,9 +31,11 @@ fn places(form: &[Tree]) -> Vec<Place> {
     for entry in form.get(1).and_then(Tree::list).unwrap_or(&[]) {
         let Some([_, rules_form]) = entry.list() else { continue };
         let Some(parsed) = rules::parse(rules_form) else { continue };
-        out.extend(parsed.into_iter().map(|rule| Place {
-            variables: rule.variables.iter().map(|(x, _)| x.number).collect(),
-            template: rule.template,
+        let texts = rules_form.list().unwrap().iter().rev().take(parsed.len()).rev();
+        out.extend(parsed.iter().zip(texts).map(|(rule, text)| {
+            let chosen = if let Ellipsis::Chosen(x) = &rule.ellipsis { Some(x) } else { None };
+            let variables = rule.variables.iter().map(|(x, _)| x).chain(chosen).map(|x| x.number).collect();
+            Place { variables, template: text.list().unwrap()[1].clone() }
         }));
     }
     out
@@ -116,11 +119,27 @@ fn private_names_never_show() {
         let recipes = setting("RECIPES", 5_000);
         let mut count = Count::default();
         for _ in 0..recipes {
-            let source = Recipes::recipe(&mut random);
+            let source = if random.chance(60) { Recipes::recipe(&mut random) } else { Rules::recipe(&mut random) };
             try_recipe(&source, &mut random, &mut count);
         }
         println!("{recipes} recipes: {count:?}");
         assert!(count.with_lookups as u64 > recipes / 100 && count.differ_where_shown as u64 > recipes / 100, "{count:?}");
     };
     in_stack(256 << 20, body);
+}
+
+/// An author's ellipsis counts as a variable: where it is renamed in the template alone, rules break, and no copy has been seen.
+#[test]
+fn a_chosen_ellipsis_is_not_private() {
+    let source = "(list) (let-syntax ((m (syntax-rules dots () ((_ a dots) (list a dots))))) (m 1 2))";
+    let recipe = text::read(source.as_bytes()).unwrap();
+    let words = recipe.words();
+    let dots = recipe.names.iter().position(|name| name == b"dots").unwrap() as u32;
+    let item = words.chunks(3).rposition(|item| item == [3, dots, 0]).unwrap();
+    let mut renamed = words.clone();
+    renamed[3 * item + 1] = recipe.names.len() as u32;
+    let (first, second) = (run(&words, FUEL, WORDS, WORDS), run(&renamed, FUEL, WORDS, WORDS));
+    let said = shown(&first, &HashSet::from([item as u32]));
+    assert!(said.hidden && said.lookups == 0);
+    assert_eq!((first.outcome, second.outcome), (Ok(()), Err(15)));
 }

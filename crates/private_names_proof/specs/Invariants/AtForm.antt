@@ -13,12 +13,12 @@ use Rattle.words.specs.Lists.{anyOf}
 use Rattle.words.specs.TestLaws.{iff-eq}
 use Rattle.words.specs.Each.{Each, noneOf, also, each-map, Given, missing, given, given-any, given-weaken, given-guard, given-mapBoth, given-traverse}
 use Rattle.datum.specs.Constant.{Constant}
-use Rattle.recipe.specs.Name.{Binding, macro, Name, isEllipsis, bindName}
-use Rattle.recipe.specs.Tree.{Tree, empty, constant, name, pair, names, elements, element, onNames, bind, bindAll}
+use Rattle.recipe.specs.Name.{Binding, macro, Name, bindName}
+use Rattle.recipe.specs.Tree.{Tree, empty, constant, name, pair, names, onName, isName, elements, element, onNames, bind, bindAll}
 use Rattle.recipe.specs.TreeLaws.{onNames-element}
 use Rattle.recipe.specs.TreeNames.{TreeAll, all-empty, all-constant, all-name, all-pair, treeAll-map, treeAll-both, treeAll-element, uses, uses-element, uses-elements, bindName-item}
 use Rattle.recipe.specs.Tidy.{Tidy, tidyEmpty, tidyConstant, tidyName, tidyPair, tidy-element, tidy-bindAll}
-use Rattle.expansion.specs.Rules.{Template, Rule, ruleList, rulePlace, templatePlace, ruleTemplate, variableFrom, templateOf, ruleOf, rulesOf}
+use Rattle.expansion.specs.Rules.{Template, Rule, asElement, chosenCount, ruleList, rulePlace, templatePlace, ruleTemplate, variableFrom, templateOf, ruleOf, rulesOf}
 use Rattle.expansion.specs.Forms.{keywords, rulesForms, rulesFormOf}
 use Rattle.expansion.specs.FormLaws.{rule-placed}
 use Rattle.expansion.specs.TidyRules.{rulesOf-tidy}
@@ -51,17 +51,17 @@ module _ (P : Name → Type 0) where
   inserts-itself (ellipsisTs p q) x (in-element i) = inserts-itself p x i
   inserts-itself (ellipsisTs p q) x (in-rest i) = inserts-itself q x i
 
-  template-names : (vs : List (Name × ℕ)) {t : Tree} → TreeAll P t → Given (λ (e : Template). (x : Name) → Inserts x e → P x) (templateOf isEllipsis vs 0 false t)
-  template-names vs a = go (templateOf-rel (Itself P) isEllipsis isEllipsis (λ x y r. ap isEllipsis (r .0)) vs vs (λ x y r. ap (variableFrom 0 vs) (r .0)) 0 false (itself a))
+  template-names : (dots : Name → Bool) (vs : List (Name × ℕ)) {t : Tree} → TreeAll P t → Given (λ (e : Template). (x : Name) → Inserts x e → P x) (templateOf dots vs 0 asElement t)
+  template-names dots vs a = go (templateOf-rel (Itself P) dots dots (λ x y r. ap dots (r .0)) vs vs (λ x y r. ap (variableFrom 0 vs) (r .0)) 0 asElement (itself a))
     where
       go : {o q : Option Template} → OptionRel (TemplateOf (Itself P)) o q → Given (λ (e : Template). (x : Name) → Inserts x e → P x) o
       go nones = missing
       go (somes r) = given (inserts-itself r)
 
   -- what holds of the names of a rule's template holds of those it inserts
-  rule-names : (literals : List Name) (r : Tree) → TreeAll P (ruleTemplate r) → Given (λ (rule : Rule). (x : Name) → Inserts x (rule .template) → P x) (ruleOf isEllipsis literals r)
+  rule-names : (dots : Name → Bool) (literals : List Name) (r : Tree) → TreeAll P (ruleTemplate r) → Given (λ (rule : Rule). (x : Name) → Inserts x (rule .template) → P x) (ruleOf dots literals r)
   unfolding ruleOf
-  rule-names literals r a = given-guard _ (given-mapBoth _ (λ p t _ f. f) (given-any _) (template-names _ a))
+  rule-names dots literals r a = given-guard _ (given-mapBoth _ (λ p t _ f. f) (given-any _) (template-names dots _ a))
 
 each-element : {P : Tree → Type 0} (t : Tree) → ((j : ℕ) → P (element j t)) → Each P (elements t)
 unfolding element elements
@@ -94,9 +94,20 @@ tidy-each (tidyConstant c) all-constant = tidyConstant c
 tidy-each (tidyName q) (all-name p) = tidyName p
 tidy-each (tidyPair a b l) (all-pair p q) = tidyPair (tidy-each a p) (tidy-each b q) l
 
+onNames-isName : (f : Name → Name) (t : Tree) → isName (onNames f t) ≡ isName t
+unfolding isName onName onNames
+onNames-isName f empty = refl
+onNames-isName f (constant a) = refl
+onNames-isName f (name x) = refl
+onNames-isName f (pair h t) = refl
+
+rulePlace-onNames : (f : Name → Name) (j : ℕ) (t : Tree) → rulePlace (onNames f t) j ≡ rulePlace t j
+unfolding chosenCount
+rulePlace-onNames f j t = ap (λ b. suc (suc (cond b 1 0 + j))) (ap isName (onNames-element f 1 t) ∙ onNames-isName f (element 1 t))
+
 pub templateIn-onNames : (f : Name → Name) (j : ℕ) (t : Tree) → templateIn j (onNames f t) ≡ onNames f (templateIn j t)
 unfolding templateIn
-templateIn-onNames f j t = ap ruleTemplate (onNames-element f (rulePlace t j) t) ∙ onNames-element f templatePlace (element (rulePlace t j) t)
+templateIn-onNames f j t = ap (λ k. ruleTemplate (element k (onNames f t))) (rulePlace-onNames f j t) ∙ ap ruleTemplate (onNames-element f (rulePlace t j) t) ∙ onNames-element f templatePlace (element (rulePlace t j) t)
 
 pub templateIn-uses : (q j : ℕ) (t : Tree) → uses q (templateIn j t) ≤ uses q (element (rulePlace t j) t)
 unfolding templateIn
@@ -160,16 +171,16 @@ module _ (private : ℕ → Bool) where
         settled-bindAll f (suc k) xs (onNames (bindName x (f k)) r)
         (λ j. subst Settled (sym (templateIn-onNames (bindName x (f k)) j r)) (settled-bind x (f k) (templateIn j r) (h j)))
 
-    rule-good : (k : ℕ) (literals : List Name) (r : Tree) → Settled (ruleTemplate r) → Given (λ (rule : Rule). Good isPrivateName k (λ x. Inserts x (rule .template))) (ruleOf isEllipsis literals r)
-    rule-good k literals r (inl a) = given-weaken (λ rule h. good-fewer isPrivateName h (public-good k)) (rule-names Public literals r a)
-    rule-good k literals r (inr a) = given-weaken (λ rule h. good-fewer isPrivateName h (numbered-good k)) (rule-names Numbered literals r a)
+    rule-good : (k : ℕ) (dots : Name → Bool) (literals : List Name) (r : Tree) → Settled (ruleTemplate r) → Given (λ (rule : Rule). Good isPrivateName k (λ x. Inserts x (rule .template))) (ruleOf dots literals r)
+    rule-good k dots literals r (inl a) = given-weaken (λ rule h. good-fewer isPrivateName h (public-good k)) (rule-names Public dots literals r a)
+    rule-good k dots literals r (inr a) = given-weaken (λ rule h. good-fewer isPrivateName h (numbered-good k)) (rule-names Numbered dots literals r a)
 
     -- the rules of a rules form whose templates are settled
     pub rules-good : (C : Constant → Type 0) (k : ℕ) (r : Tree) → Tidy (λ x. Unit {0}) C r → ((j : ℕ) → Settled (templateIn j r)) → Given (Each (GoodRule isPrivateName Copied C k)) (rulesOf r)
     unfolding rulesOf templateIn
     rules-good C k r a h =
         given-each (λ rule p q. record { good = q; tidy = tidy-inserts p }) (rulesOf-tidy a)
-        (given-guard _ (given-traverse (each-element (ruleList r) (λ j. rule-good k _ (element j (ruleList r))
+        (given-guard _ (given-traverse (each-element (ruleList r) (λ j. rule-good k _ _ (element j (ruleList r))
         (subst (λ t. Settled (ruleTemplate t)) (sym (rule-placed j r)) (h j))))))
 
     pub scoped-good : (C : Constant → Type 0) (k : ℕ) (inside : Bool) (i : ℕ) (xs : List Name) (r : Tree) → Tidy (λ x. Unit {0}) C r × ((j : ℕ) → Settled (templateIn j r))

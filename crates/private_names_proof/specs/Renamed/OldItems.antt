@@ -8,8 +8,8 @@ use borrow.Author.Tests.{eqb-true, eq-eqb}
 use lib.Dec.{eqb}
 use Rattle.words.specs.Lists.{anyOf}
 use Rattle.words.specs.TestLaws.{or-left, or-right, any-append}
-use Rattle.recipe.specs.Name.{Name, isEllipsis}
-use Rattle.recipe.specs.Tree.{Tree, empty, constant, name, pair, names}
+use Rattle.recipe.specs.Name.{Name}
+use Rattle.recipe.specs.Tree.{Tree, empty, constant, name, pair, onName, names}
 use Rattle.recipe.specs.TreeNames.{TreeAll, all-empty, all-constant, all-name, all-pair, treeAll-map, uses}
 use Rattle.expansion.specs.Rules.{variables, isVariable, depthBefore}
 
@@ -75,15 +75,22 @@ module _ (o : ℕ) where
 
 -- ---- no variable has a number that no name has
 
-pub variables-none : (literals : List Name) (n d : ℕ) {t : Tree} → TreeAll (λ x. eqb (x .number) n ≡ false) t → anyOf (λ v. eqb (v .0 .number) n) (variables isEllipsis literals d t) ≡ false
+pub number-none : (n : ℕ) {t : Tree} → TreeAll (λ x. eqb (x .number) n ≡ false) t → onName (λ x. eqb (x .number) n) false t ≡ false
+unfolding onName
+number-none n all-empty = refl
+number-none n all-constant = refl
+number-none n (all-name e) = e
+number-none n (all-pair p q) = refl
+
+pub variables-none : (dots : Name → Bool) (literals : List Name) (n d : ℕ) {t : Tree} → TreeAll (λ x. eqb (x .number) n ≡ false) t → anyOf (λ v. eqb (v .0 .number) n) (variables dots literals d t) ≡ false
 unfolding variables anyOf
-variables-none literals n d all-empty = refl
-variables-none literals n d all-constant = refl
-variables-none literals n d (all-name {x = x} e) = go (isVariable isEllipsis literals x)
+variables-none dots literals n d all-empty = refl
+variables-none dots literals n d all-constant = refl
+variables-none dots literals n d (all-name {x = x} e) = go (isVariable dots literals x)
   where
     go : (b : Bool) → anyOf (λ (v : Name × ℕ). eqb (v .0 .number) n) (cond b ((x, d) ∷ []) []) ≡ false
     go true = ap (λ c. c || false) e
     go false = refl
-variables-none literals n d (all-pair {h = h} {t = t} p q) =
-    any-append (λ v. eqb (v .0 .number) n) (variables isEllipsis literals (depthBefore isEllipsis t d) h) (variables isEllipsis literals d t)
-    ∙ ap₂ _||_ (variables-none literals n (depthBefore isEllipsis t d) p) (variables-none literals n d q)
+variables-none dots literals n d (all-pair {h = h} {t = t} p q) =
+    any-append (λ v. eqb (v .0 .number) n) (variables dots literals (depthBefore dots t d) h) (variables dots literals d t)
+    ∙ ap₂ _||_ (variables-none dots literals n (depthBefore dots t d) p) (variables-none dots literals n d q)

@@ -15,6 +15,7 @@ use Rattle.expansion.specs.Rules.{rulePlace, templatePlace, hasVariable}
 use Rattle.expansion.specs.Forms.{bindings}
 use Rattle.simulation.specs.Relations.{ListRel, ends, joins}
 use Rattle.simulation.specs.Shapes.{TreeOf, onNames-rel, empties, constants, names₂, pairs}
+use Rattle.simulation.specs.RulesKept.{rulePlace-rel}
 use Rattle.simulation.specs.Form.Holes.{Hole, hole-onNames, graph, hole-graph}
 use Rattle.simulation.specs.Names.Shown.{Renaming, ofCopy, not-private-not-copy, binds-fine, AllFine}
 use Rattle.simulation.specs.Names.{Kind, Coherent, Ready, Raw, NameRel, kept}
@@ -120,7 +121,8 @@ module _ (ρ : Renaming) (β : Scope) (i : Name) (p : Placed β i) (b : Binding)
       let g : TreeOf (Moved β γ) t (onNames (bindName i b) t) = hole-graph (bindName i b) (λ x y s. moved x (s .placed)) (λ t u r. graph (bindName i b) (λ x y s. moved x (in-template x y s)) r) (c .hole) in
       record {
         rule = c .rule;
-        hole = hole-onNames (bindName i b) still-bind (λ t u r. onNames-rel _ _ template-bind r) (c .hole);
+        hole = subst (λ k. Hole (Still ρ γ) (TreeOf (InTemplate ρ γ)) (k ∷ templatePlace ∷ []) (onNames (bindName i b) t) (onNames (bindName i b) u)) (rulePlace-rel (c .rule) g)
+            (hole-onNames (bindName i b) still-bind (λ t u r. onNames-rel _ _ template-bind r) (c .hole));
         old-free = sym (hasVariable-moved β γ (c .rule) (ρ .old) g) ∙ c .old-free;
         new-free = sym (hasVariable-moved β γ (c .rule) (ρ .new) g) ∙ c .new-free;
       }

@@ -1,6 +1,6 @@
 -- Names in place, which never stood in a result: they have no marks, and their number tells their binding, in the scope at hand.
 use mathlib.Core.Path.{_≡_, refl, ap, ap₂, sym, _∙_}
-use mathlib.Core.Bool.{Bool, true, false, cond}
+use mathlib.Core.Bool.{Bool, true, false, _||_, cond}
 use mathlib.Core.List.{List, [], _∷_}
 use mathlib.Core.Option.{Option, some}
 use Prim.Native.Nat.{ℕ, suc}
@@ -12,8 +12,8 @@ use Rattle.recipe.specs.Name.{Binding, Name, same, isEllipsis, isWildcard, give
 use Rattle.recipe.specs.Tree.{Tree, names, element, tail}
 use Rattle.expansion.specs.Rules.{hasVariable}
 use Rattle.simulation.specs.Relations.{any-rel}
-use Rattle.simulation.specs.Shapes.{TreeOf, names-rel, element-rel, tail-rel}
-use Rattle.simulation.specs.RulesKept.{variables-rel, literalList-rel, ruleList-rel}
+use Rattle.simulation.specs.Shapes.{TreeOf, names-rel, onName-rel, element-rel, tail-rel}
+use Rattle.simulation.specs.RulesKept.{variables-rel, literalList-rel, ruleList-rel, ellipsisOf-rel}
 use Rattle.simulation.specs.Names.Sameness.{same→Same, Same→same}
 
 -- the bindings in force, by number
@@ -71,7 +71,9 @@ pub record Moved (β γ : Scope) (x y : Name) : Type 0 where
 
 pub hasVariable-moved : (β γ : Scope) (j n : ℕ) {t u : Tree} → TreeOf (Moved β γ) t u → hasVariable j n t ≡ hasVariable j n u
 unfolding hasVariable isEllipsis isWildcard
-hasVariable-moved β γ j n r =
-    any-rel _ _ (λ v w q. ap (λ k. eqb k n) (q .names .number))
-    (variables-rel (Moved β γ) (λ i k x y p q. same-placed β i x (p .from) (q .from) ∙ ap₂ eqb (p .number) (q .number) ∙ sym (same-placed γ k y (p .to) (q .to)))
-    (λ x y p. ap (λ k. eqb k 7) (p .number)) isEllipsis isEllipsis (λ x y p. ap (λ k. eqb k 6) (p .number)) (names-rel (literalList-rel r)) 0 (tail-rel (element-rel 0 (element-rel j (ruleList-rel r)))))
+hasVariable-moved β γ j n {t} {u} r =
+    let same-eq : (i k x y : Name) → Moved β γ i k → Moved β γ x y → same i x ≡ same k y = λ i k x y p q. same-placed β i x (p .from) (q .from) ∙ ap₂ eqb (p .number) (q .number) ∙ sym (same-placed γ k y (p .to) (q .to)) in
+    let wild-eq : (x y : Name) → Moved β γ x y → isWildcard x ≡ isWildcard y = λ x y p. ap (λ k. eqb k 7) (p .number) in
+    ap₂ _||_ (onName-rel _ _ (λ x y p. ap (λ k. eqb k n) (p .number)) false (element-rel 1 r))
+    (any-rel _ _ (λ v w q. ap (λ k. eqb k n) (q .names .number))
+    (variables-rel (Moved β γ) same-eq wild-eq _ _ (ellipsisOf-rel (Moved β γ) (λ x y p. ap (λ k. eqb k 6) (p .number)) wild-eq same-eq t u (element-rel 1 r)) (names-rel (literalList-rel r)) 0 (tail-rel (element-rel 0 (element-rel j (ruleList-rel r))))))

@@ -1,9 +1,7 @@
 //! Microseconds for reading, expanding and writing, as the tables of docs/BENCHMARKS.md: `cargo run --release --bin bench`.
 
 use compare::filing::Tables;
-use compare::{deep, ellipses};
-use std::io::Write;
-use std::process::{Command, Stdio};
+use compare::{deep, ellipses, scheme};
 use std::time::Instant;
 
 const OR: &str = "(letrec-syntax ((or (syntax-rules () ((_) #f) ((_ e) e) ((_ e r ...) ((lambda (t) (if t t (or r ...))) e)))))";
@@ -49,12 +47,9 @@ fn second(text: &str, fuel: u32) -> f64 {
 
 // ---- other expanders
 
-/// What an interpreter's script prints for the expression: microseconds, where the program is on the path.
-fn other(program: &str, arguments: &[&str], script: &str) -> Option<f64> {
-    let mut child = Command::new(program).args(arguments).stdin(Stdio::piped()).stdout(Stdio::piped()).stderr(Stdio::null()).spawn().ok()?;
-    child.stdin.take()?.write_all(script.as_bytes()).ok()?;
-    let out = child.wait_with_output().ok()?;
-    String::from_utf8_lossy(&out.stdout).split_whitespace().rev().find_map(|word| word.parse().ok())
+/// The number that a script prints last: microseconds.
+fn last(printed: String) -> Option<f64> {
+    printed.split_whitespace().rev().find_map(|word| word.parse().ok())
 }
 
 /// The best of 20 rounds of 500 expansions; `now` is in microseconds.
@@ -67,13 +62,12 @@ fn rounds(expand: &str, expression: &str) -> String {
 
 fn chez(expression: &str) -> Option<f64> {
     let now = "(define (now) (let ((t (current-time 'time-monotonic))) (+ (* 1e6 (time-second t)) (/ (time-nanosecond t) 1e3))))\n";
-    let script = now.to_string() + &rounds("expand", expression);
-    ["scheme", "chezscheme"].iter().find_map(|program| other(program, &["-q"], &script))
+    scheme::chez(&(now.to_string() + &rounds("expand", expression))).and_then(last)
 }
 
 fn guile(expression: &str) -> Option<f64> {
     let now = "(define (now) (* 1e6 (/ (get-internal-real-time) internal-time-units-per-second 1.0)))\n";
-    other("guile", &["--no-auto-compile", "-q", "/dev/stdin"], &(now.to_string() + &rounds("macroexpand", expression)))
+    scheme::guile(&(now.to_string() + &rounds("macroexpand", expression))).and_then(last)
 }
 
 fn shown(us: Option<f64>, own: f64) -> String {
@@ -201,6 +195,23 @@ fn main() {
     growth("ellipses over one another, a list for each", &[2, 4, 8, 16], ellipses::own_lists);
     growth("ellipses over one another, the last of all lists of another length", &[3, 4, 8, 16, 32], ellipses::last_differs);
     deeper();
+    growth("elements before three that follow the ellipsis", &[250, 500, 1_000, 2_000], |n| {
+        let list = repeated(n, |i| (i % 10).to_string());
+        format!("(f) (let-syntax ((m (syntax-rules () ((_ x ... a b c) (f c b a x ...))))) (m {list} 1 2 3))")
+    });
+    growth("elements that follow the ellipsis, as many before them", &[80, 160, 320, 640], |n| {
+        let list = repeated(n, |_| "1".to_string());
+        format!("(f) (let-syntax ((m (syntax-rules () ((_ x ... {list}) (f x ...))))) (m {list} {list}))")
+    });
+    growth("rows, an element after the ellipsis in each", &[50, 100, 200, 400], |n| {
+        let rows = repeated(n, |_| "(1 2 3)".to_string());
+        format!("(f) (let-syntax ((m (syntax-rules () ((_ (x ... y) ...) (f (f y x ...) ...))))) (m {rows}))")
+    });
+    growth("rules that a macro makes, each with an escaped ellipsis", &[2, 4, 8, 16], |n| {
+        let rules = repeated(n, |i| format!("((_ {i} x (... ...)) (f x (... ...)))"));
+        let made = format!("(let-syntax ((k (syntax-rules () {rules}))) (k {} 1 2))", n - 1);
+        format!("(f) (let-syntax ((m (syntax-rules () ((_) {made})))) (m))")
+    });
     growth("literals in each of fifteen rules, all compared at each step", &[4, 8, 16], |n| {
         let literals = vec!["q"; n].join(" ");
         let rules = repeated(15, |_| format!("((_ ({literals} 2)) 1)"));

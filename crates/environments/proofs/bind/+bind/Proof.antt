@@ -9,8 +9,10 @@ use Rattle.arena.proofs.cells.reference.Reads as reference-reads
 use Rattle.arena.proofs.cells.word.Reads as word-reads
 use Rattle.arena.proofs.lists.first.Reads as first-reads
 use Rattle.arena.proofs.lists.rest.Reads as rest-reads
+use Rattle.arena.proofs.lists.skip.Reads as skip-reads
 use Rattle.environments.proofs.bind.bind_list.Reads as bind-list-reads
 use Rattle.environments.proofs.bind.bind_variable.Reads as bind-variable-reads
+use Rattle.environments.proofs.shares.share.Reads as share-reads
 use Rattle.environments.proofs.bind.+bind.{statement}
 use Rattle.environments.proofs.bind.+bind.Tie.{close}
 use native.Mathlib.Omega.{arith}
@@ -29,49 +31,38 @@ abbrev bind-below : ℕ → In 2 bind-kinds.ps
 bind-below t = and 2 bind-kinds.ps (falls 2 bind-kinds.ps _<_ μ-bind t) bind.Pre
 
 abbrev bind-claims : ℕ → bind-lts.Claims
-bind-claims t = (word-reads.Asked, word-reads.Learnt, bind-variable-reads.Asked, bind-variable-reads.Learnt, reference-reads.Asked, reference-reads.Learnt, bind-list-reads.Asked, bind-list-reads.Learnt, rest-reads.Asked, rest-reads.Learnt, bind-below t, bind.Post, first-reads.Asked, first-reads.Learnt)
+bind-claims t = (word-reads.Asked, word-reads.Learnt, bind-variable-reads.Asked, bind-variable-reads.Learnt, reference-reads.Asked, reference-reads.Learnt, share-reads.Asked, share-reads.Learnt, skip-reads.Asked, skip-reads.Learnt, bind-below t, bind.Post, bind-list-reads.Asked, bind-list-reads.Learnt, rest-reads.Asked, rest-reads.Learnt, first-reads.Asked, first-reads.Learnt)
 
 bind-returns : (t : ℕ) → bind-lts.Need-returns (bind-claims t) (bind-at t) bind.Post
 bind-returns t c =
     let a = c .before .before .before .before .before .before .args in pattern-variable (a .work .now) (a .p) _ (c .before .before .before .before .word .ensures) (a .env .now) (a .u) _ _ (c .before .before .before .if1 .taken) (c .before .before .word2 .ensures) (c .bind-variable .ensures)
 
+bind-bind-requires : (t : ℕ) → bind-lts.Need-bind-requires (bind-claims t) (bind-at t) bind.Post
+bind-bind-requires t c κs =
+    let a = c .before .before .before .before .before .before .before .before .before .before .args in let l = tag-falls (a .work .now) (a .p) _ (c .before .before .before .before .before .before .before .before .word .ensures) 2 _ (λ z. omega arith) (c .before .before .before .before .before .before .reference .ensures) in omega (arith, l)
+
 bind-returns-2 : (t : ℕ) → bind-lts.Need-returns-2 (bind-claims t) (bind-at t) bind.Post
 bind-returns-2 t c =
-    let a = c .before .before .before .before .before .before .before .before .args in pattern-ellipsis (a .work .now) (a .p) _ (c .before .before .before .before .before .before .word .ensures) (a .env .now) (a .u) _ _ (c .before .before .before .if2 .taken) (c .before .before .before .before .reference .ensures) (whole-list (a .work .now) _ _ _ _ _ _ (c .bind-list .ensures))
+    let a = c .before .before .before .before .before .before .before .before .before .before .before .before .before .before .args in pattern-ellipsis (a .work .now) (a .p) _ (c .before .before .before .before .before .before .before .before .before .before .before .before .word .ensures) (a .env .now) _ _ (c .before .before .before .before .before .before .before .before .before .before .reference .ensures) (c .before .before .before .before .before .before .before .before .before .reference2 .ensures) _ _ (c .before .before .before .before .before .before .before .before .if2 .taken) (a .u) _ _ (c .before .before .before .before .before .before .before .share .ensures) (c .before .before .before .before .before .before .skip .ensures) (whole-binds (a .work .now) _ _ _ _ (c .before .before .before .bind .ensures)) (whole-list (a .work .now) _ _ _ _ _ _ (c .bind-list .ensures))
 
 bind-returns-3 : (t : ℕ) → bind-lts.Need-returns-3 (bind-claims t) (bind-at t) bind.Post
 bind-returns-3 t c =
-    let a = c .before .before .before .before .before .before .args in pattern-none (a .work .now) (a .p) _ (c .before .before .before .before .word .ensures) (a .env .now) (a .u) (c .before .before .before .if1 .left) (c .if3 .taken) (c .before .if2 .left)
-
-bind-bind-requires : (t : ℕ) → bind-lts.Need-bind-requires (bind-claims t) (bind-at t) bind.Post
-bind-bind-requires t c κs =
-    let a = c .before .before .before .before .before .before .before .before .before .args in let l = tag-falls (a .work .now) (a .p) _ (c .before .before .before .before .before .before .before .word .ensures) 2 _ (λ z. omega arith) (c .before .before .before .before .before .reference .ensures) in omega (arith, l)
+    let a = c .before .before .before .before .before .before .before .args in pattern-none (a .work .now) (a .p) _ (c .before .before .before .before .before .word .ensures) (a .env .now) (a .u) (c .before .before .before .before .if1 .left) (c .if3 .taken) (c .before .if2 .left)
 
 bind-bind-requires-2 : (t : ℕ) → bind-lts.Need-bind-requires-2 (bind-claims t) (bind-at t) bind.Post
 bind-bind-requires-2 t c κs =
-    let a = c .before .before .before .before .before .before .before .before .before .before .before .before .before .before .args in let l = tag-falls (a .work .now) (a .p) _ (c .before .before .before .before .before .before .before .before .before .before .before .before .word .ensures) 3 _ (λ z. omega arith) (c .before .before .before .reference2 .ensures) in omega (arith, l)
+    let a = c .before .before .before .before .before .before .before .before .before .before .args in let l = tag-falls (a .work .now) (a .p) _ (c .before .before .before .before .before .before .before .before .word .ensures) 2 _ (λ z. omega arith) (c .before .before .before .before .before .before .reference .ensures) in omega (arith, l)
+
+bind-bind-requires-3 : (t : ℕ) → bind-lts.Need-bind-requires-3 (bind-claims t) (bind-at t) bind.Post
+bind-bind-requires-3 t c κs =
+    let a = c .before .before .before .before .before .before .before .before .before .before .before .before .before .before .args in let l = tag-falls (a .work .now) (a .p) _ (c .before .before .before .before .before .before .before .before .before .before .before .before .word .ensures) 3 _ (λ z. omega arith) (c .before .before .before .before .before .before .before .before .before .reference2 .ensures) in omega (arith, l)
 
 bind-returns-4 : (t : ℕ) → bind-lts.Need-returns-4 (bind-claims t) (bind-at t) bind.Post
 bind-returns-4 t c =
-    let a = c .before .before .before .before .before .before .before .before .before .before .before .before .before .before .before .args in pattern-pair (a .work .now) (a .p) _ (c .before .before .before .before .before .before .before .before .before .before .before .before .before .word .ensures) (a .env .now) _ _ (c .before .before .before .before .before .before .before .before .before .if3 .left) (c .before .before .before .before .before .before .before .before .before .before .before .reference .ensures) (c .before .before .before .before .reference2 .ensures) _ _ (a .u) _ _ (c .before .before .before .before .before .before .before .before .rest .ensures) (whole-binds (a .work .now) _ _ _ _ (c .before .before .before .before .before .bind .ensures)) (c .before .before .before .first .ensures) (whole-binds (a .work .now) _ _ _ _ (c .bind2 .ensures))
+    let a = c .before .before .before .before .before .before .before .before .before .before .before .before .before .before .before .args in pattern-pair (a .work .now) (a .p) _ (c .before .before .before .before .before .before .before .before .before .before .before .before .before .word .ensures) (a .env .now) _ _ (c .before .before .before .before .before .before .before .before .before .before .before .reference .ensures) (c .before .before .before .before .before .before .before .before .before .before .reference2 .ensures) _ _ (c .before .before .before .before .before .before .before .before .if3 .left) (a .u) _ _ (c .before .before .before .before .before .before .before .rest .ensures) (whole-binds (a .work .now) _ _ _ _ (c .before .before .before .before .bind2 .ensures)) (c .before .before .before .first .ensures) (whole-binds (a .work .now) _ _ _ _ (c .bind3 .ensures))
 
 pub +bind-spec : {M : Type 1} → statement M
-+bind-spec = close μ-bind λ t. bind-lts.spec (
-  word-reads.Asked,
-  word-reads.Learnt,
-  bind-variable-reads.Asked,
-  bind-variable-reads.Learnt,
-  reference-reads.Asked,
-  reference-reads.Learnt,
-  bind-list-reads.Asked,
-  bind-list-reads.Learnt,
-  rest-reads.Asked,
-  rest-reads.Learnt,
-  bind-below t,
-  bind.Post,
-  first-reads.Asked,
-  first-reads.Learnt,
-)
++bind-spec = close μ-bind λ t. bind-lts.spec (bind-claims t)
     (bind-at t)
     bind.Post
     (λ c κs. search needs)  -- bind-word-requires
@@ -79,6 +70,13 @@ pub +bind-spec : {M : Type 1} → statement M
     (λ c κs. search needs)  -- bind-bind-variable-requires
     (bind-returns t)
     (λ c κs. search needs)  -- bind-reference-requires
+    (λ c κs. search needs)  -- bind-reference-requires-2
+    (λ c κs. search needs)  -- bind-share-requires
+    (λ c κs. search needs)  -- bind-skip-requires
+    (λ c. search needs)  -- bind-sub-bind
+    (λ c. search needs)  -- bind-part-bind-start
+    (λ c. search needs)  -- bind-part-bind-end
+    (bind-bind-requires t)
     (λ c. search needs)  -- bind-sub-bind-list
     (λ c. search needs)  -- bind-part-bind-list-start
     (λ c. search needs)  -- bind-part-bind-list-end
@@ -86,14 +84,13 @@ pub +bind-spec : {M : Type 1} → statement M
     (bind-returns-2 t)
     (bind-returns-3 t)
     (λ c κs. search needs)  -- bind-rest-requires
-    (λ c. search needs)  -- bind-sub-bind
-    (λ c. search needs)  -- bind-part-bind-start
-    (λ c. search needs)  -- bind-part-bind-end
-    (bind-bind-requires t)
-    (λ c κs. search needs)  -- bind-reference-requires-2
-    (λ c κs. search needs)  -- bind-first-requires
     (λ c. search needs)  -- bind-sub-bind-2
     (λ c. search needs)  -- bind-part-bind-start-2
     (λ c. search needs)  -- bind-part-bind-end-2
     (bind-bind-requires-2 t)
+    (λ c κs. search needs)  -- bind-first-requires
+    (λ c. search needs)  -- bind-sub-bind-3
+    (λ c. search needs)  -- bind-part-bind-start-3
+    (λ c. search needs)  -- bind-part-bind-end-3
+    (bind-bind-requires-3 t)
     (bind-returns-4 t)

@@ -4,6 +4,7 @@ use Rattle.environments.proofs.environment.is_listed.Statement.{stateme
 use Rattle.environments.proofs.environment.is_listed.Tie as tie
 use Rattle.environments.proofs.environment.is_listed.Reads as reads
 use Rattle.environments.proofs.environment.is_listed.Lts as lts
+use Rattle.arena.proofs.cells.reference.Reads as reference-reads
 use Rattle.arena.proofs.cells.word.Reads as word-reads
 use mathlib.Core.Bool.{false≢true}
 use Rattle.environments.specs.EntryLaws.{listed-is}
@@ -27,7 +28,7 @@ shared-slice-read-q c =
 
 returns-4 : tie.Need-returns-4
 returns-4 c =
-    listed-is (c .before .before .before .before .before .before .before .before .before .before .args .work .now) (c .before .before .before .before .before .before .before .before .before .before .args .env .now) (c .before .before .before .before .before .before .before .before .before .before .args .e) _ _ _ _ (c .before .before .before .before .before .before .before .word .ensures) (c .before .before .before .before .before .before .if1 .left) (c .before .before .before .before .before .word2 .ensures) (c .before .before .before .before .if2 .left) (c .before .before .before .word3 .ensures) (c .word4 .ensures)
+    listed-is (c .before .before .before .before .before .before .before .before .before .before .before .args .work .now) (c .before .before .before .before .before .before .before .before .before .before .before .args .env .now) (c .before .before .before .before .before .before .before .before .before .before .before .args .e) _ _ _ _ _ (c .before .before .before .before .before .before .before .before .word .ensures) (c .before .before .before .before .before .before .before .if1 .left) (c .before .before .before .before .before .before .word2 .ensures) (c .before .before .before .before .before .if2 .left) (c .before .before .before .before .word3 .ensures) (c .before .reference .ensures) (c .word4 .ensures)
 
 pub is-listed-spec : {M : Type 1} → statement M
 is-listed-spec =
@@ -44,5 +45,6 @@ is-listed-spec =
     (λ c. search needs)  -- add-q
     (λ c. search needs)  -- mul-q-2
     shared-slice-read-q
+    (λ c κs. search needs)  -- reference-requires
     (λ c κs. search needs)  -- word-requires-4
     returns-4)

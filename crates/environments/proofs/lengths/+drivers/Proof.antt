@@ -7,10 +7,9 @@ use Rattle.environments.proofs.lengths.drivers.Kinds as drivers-kinds
 use Rattle.environments.proofs.lengths.+drivers.Lts-drivers as drivers-lts
 use Rattle.arena.proofs.cells.reference.Reads as reference-reads
 use Rattle.arena.proofs.cells.word.Reads as word-reads
+use Rattle.environments.proofs.environment.copies.Reads as copies-reads
 use Rattle.environments.proofs.lengths.also.Reads as also-reads
 use Rattle.environments.proofs.lengths.deeper.Reads as deeper-reads
-use Rattle.arena.proofs.lists.count.Reads as count-reads
-use Rattle.environments.proofs.environment.taken.Reads as taken-reads
 use Rattle.environments.proofs.lengths.+drivers.{statement}
 use Rattle.environments.proofs.lengths.+drivers.Tie.{close}
 use Rattle.environments.specs.PartLaws.{tag-falls}
@@ -30,7 +29,7 @@ abbrev drivers-below : ℕ → In 2 drivers-kinds.ps
 drivers-below t = and 2 drivers-kinds.ps (falls 2 drivers-kinds.ps _<_ μ-drivers t) drivers.Pre
 
 abbrev drivers-claims : ℕ → drivers-lts.Claims
-drivers-claims t = (word-reads.Asked, word-reads.Learnt, taken-reads.Asked, taken-reads.Learnt, count-reads.Asked, count-reads.Learnt, also-reads.Asked, also-reads.Learnt, reference-reads.Asked, reference-reads.Learnt, deeper-reads.Asked, deeper-reads.Learnt, drivers-below t, drivers.Post)
+drivers-claims t = (word-reads.Asked, word-reads.Learnt, copies-reads.Asked, copies-reads.Learnt, also-reads.Asked, also-reads.Learnt, reference-reads.Asked, reference-reads.Learnt, deeper-reads.Asked, deeper-reads.Learnt, drivers-below t, drivers.Post)
 
 drivers-returns : (t : ℕ) → drivers-lts.Need-returns (drivers-claims t) (drivers-at t) drivers.Post
 drivers-returns t c =
@@ -38,8 +37,8 @@ drivers-returns t c =
 
 drivers-returns-2 : (t : ℕ) → drivers-lts.Need-returns-2 (drivers-claims t) (drivers-at t) drivers.Post
 drivers-returns-2 t c =
-    let a = c .before .before .before .before .before .before .before .before .before .args in
-    λ w. c .also .ensures ∙ drives-one (a .work .now) (a .env .now) (a .t) _ (c .before .before .before .before .before .before .before .word .ensures) (a .j) (a .before) _ _ _ _ (c .before .before .before .before .before .before .if1 .taken) (c .before .before .before .before .before .word2 .ensures) (c .before .before .before .word3 .ensures) (omega arith) (c .before .before .taken .ensures) (c .before .count .ensures) w
+    let a = c .before .before .before .before .before .before .before .before .args in
+    λ w. c .also .ensures ∙ drives-one (a .work .now) (a .env .now) (a .t) _ (c .before .before .before .before .before .before .word .ensures) (a .j) (a .before) _ _ _ (c .before .before .before .before .before .if1 .taken) (c .before .before .before .before .word2 .ensures) (c .before .before .word3 .ensures) (omega arith) (c .before .copies .ensures) w
 
 drivers-returns-3 : (t : ℕ) → drivers-lts.Need-returns-3 (drivers-claims t) (drivers-at t) drivers.Post
 drivers-returns-3 t c =
@@ -69,15 +68,16 @@ drivers-returns-5 t c =
     drives-both (a .work .now) (a .env .now) (a .t) _ (c .before .before .before .before .before .before .before .before .before .before .word .ensures) (a .j) _ _ _ (omega arith) (omega arith) (c .before .before .before .before .before .deeper .ensures) (c .before .before .before .before .before .before .reference .ensures) (c .before .before .reference2 .ensures) _ _ _ first later
 
 pub +drivers-spec : {M : Type 1} → statement M
-+drivers-spec = close μ-drivers λ t. drivers-lts.spec (drivers-claims t) (drivers-at t) drivers.Post
++drivers-spec = close μ-drivers λ t. drivers-lts.spec (drivers-claims t)
+    (drivers-at t)
+    drivers.Post
     (λ c κs. search needs)  -- drivers-word-requires
     (λ c κs. search needs)  -- drivers-word-requires-2
     (drivers-returns t)
     (λ c κs. search needs)  -- drivers-word-requires-3
-    (λ c. search needs)  -- drivers-sub-taken
-    (λ c. search needs)  -- drivers-sub-taken-2
-    (λ c κs. search needs)  -- drivers-taken-requires
-    (λ c κs. search needs)  -- drivers-count-requires
+    (λ c. search needs)  -- drivers-sub-copies
+    (λ c. search needs)  -- drivers-sub-copies-2
+    (λ c κs. search needs)  -- drivers-copies-requires
     (λ c κs. search needs)  -- drivers-also-requires
     (drivers-returns-2 t)
     (drivers-returns-3 t)

@@ -5,8 +5,7 @@ use borrow.Fn.PlainCycle.{Measures, is, falls, and}
 use Rattle.environments.proofs.marks.gather.Reads as gather
 use Rattle.environments.proofs.marks.gather.Kinds as gather-kinds
 use Rattle.environments.proofs.marks.+gather.Lts-gather as gather-lts
-use Rattle.arena.proofs.lists.count.Reads as count-reads
-use Rattle.environments.proofs.environment.taken.Reads as taken-reads
+use Rattle.environments.proofs.environment.copies.Reads as copies-reads
 use Rattle.environments.proofs.lengths.also.Reads as also-reads
 use Rattle.environments.proofs.marks.place.Reads as place-reads
 use Rattle.environments.proofs.marks.+gather.{statement}
@@ -26,7 +25,7 @@ abbrev gather-below : ℕ → In 3 gather-kinds.ps
 gather-below t = and 3 gather-kinds.ps (falls 3 gather-kinds.ps _<_ μ-gather t) gather.Pre
 
 abbrev gather-claims : ℕ → gather-lts.Claims
-gather-claims t = (place-reads.Asked, place-reads.Learnt, taken-reads.Asked, taken-reads.Learnt, count-reads.Asked, count-reads.Learnt, also-reads.Asked, also-reads.Learnt, gather-below t, gather.Post)
+gather-claims t = (place-reads.Asked, place-reads.Learnt, copies-reads.Asked, copies-reads.Learnt, also-reads.Asked, also-reads.Learnt, gather-below t, gather.Post)
 
 gather-returns : (t : ℕ) → gather-lts.Need-returns (gather-claims t) (gather-at t) gather.Post
 gather-returns t c =
@@ -46,12 +45,12 @@ gather-shared-slice-read-if2 t c =
 
 gather-gather-requires : (t : ℕ) → gather-lts.Need-gather-requires (gather-claims t) (gather-at t) gather.Post
 gather-gather-requires t c κs =
-    (omega (arith, c .before .before .before .before .before .before .before .before .before .pre .0), (c .before .before .before .before .before .before .before .before .before .pre .1 .0, c .before .before .before .before .before .before .before .before .before .pre .1 .1, omega (arith, c .before .before .before .before .before .before .before .before .before .pre .1 .2)))
+    (omega (arith, c .before .before .before .before .before .before .before .before .pre .0), (c .before .before .before .before .before .before .before .before .pre .1 .0, c .before .before .before .before .before .before .before .before .pre .1 .1, omega (arith, c .before .before .before .before .before .before .before .before .pre .1 .2)))
 
 gather-returns-2 : (t : ℕ) → gather-lts.Need-returns-2 (gather-claims t) (gather-at t) gather.Post
 gather-returns-2 t c =
-    let a = c .before .before .before .before .before .before .before .before .before .before .args in
-    gather-marked (a .work .now) (a .env .now) (a .marks .now) (a .level) (a .n) (a .before) _ _ (omega arith) (c .before .before .before .before .before .before .place .ensures) _ _ _ _ (c .before .before .before .before .if2 .taken) (c .before .before .before .taken .ensures) (c .before .before .count .ensures) (c .before .also .ensures) (c .gather .ensures)
+    let a = c .before .before .before .before .before .before .before .before .before .args in
+    gather-marked (a .work .now) (a .env .now) (a .marks .now) (a .level) (a .n) (a .before) _ _ (omega arith) (c .before .before .before .before .before .place .ensures) _ _ _ (c .before .before .before .if2 .taken) (c .before .before .copies .ensures) (c .before .also .ensures) (c .gather .ensures)
 
 gather-gather-requires-2 : (t : ℕ) → gather-lts.Need-gather-requires-2 (gather-claims t) (gather-at t) gather.Post
 gather-gather-requires-2 t c κs =
@@ -71,8 +70,7 @@ pub +gather-spec : {M : Type 1} → statement M
     (gather-place-requires t)
     (gather-mul-if2 t)
     (gather-shared-slice-read-if2 t)
-    (λ c κs. search needs)  -- gather-taken-requires
-    (λ c κs. search needs)  -- gather-count-requires
+    (λ c κs. search needs)  -- gather-copies-requires
     (λ c κs. search needs)  -- gather-also-requires
     (gather-gather-requires t)
     (gather-returns-2 t)

@@ -2,12 +2,19 @@
 use borrow.Author.Needs.{needs}
 use Rattle.rule_cells.proofs.templates.template_leaf.Statement.{statement}
 use Rattle.rule_cells.proofs.templates.template_leaf.Tie as tie
+use Rattle.rule_cells.proofs.templates.template_leaf.Reads as reads
+use Rattle.rule_cells.proofs.templates.template_leaf.Lts as lts
+use Rattle.arena.proofs.cells.word.Reads as word-reads
+use Rattle.rule_cells.proofs.constructors.put_constant_template.Reads as put-constant-template-reads
+use Rattle.rule_cells.proofs.templates.template_name.Reads as template-name-reads
+use Rattle.words.proofs.packed.pair.Reads as pair-reads
 use Rattle.words.specs.Packed.{builtOf}
 use Rattle.rule_cells.specs.Variables.{variablesFrom}
 use Rattle.rule_cells.specs.ParseLaws.{packs-at, packs, leaf-packs, room-leaf}
 use Rattle.rule_cells.specs.Parse.{TemplateLeft}
 use Rattle.rule_cells.specs.TemplateLaws.{left-name, left-empty, left-constant}
 use mathlib.Core.Path.{sym, _∙_}
+use Rattle.rule_cells.specs.Dots.{dotsAt}
 
 template-name-requires : tie.Need-template-name-requires
 template-name-requires c κs =
@@ -17,13 +24,13 @@ template-name-requires c κs =
 returns : tie.Need-returns
 returns c =
     let a = c .before .before .before .before .before .before .before .before .before .args in
-    left-name (variablesFrom (a .work .now) (a .w) (a .vars .now) 0 (a .count)) (a .d) (a .work .now) (a .node) (a .w) (a .top) (c .before .before .template-name .last .0) (builtOf (c .before .before .template-name .result)) (sym (c .before .before .before .before .before .word .ensures) ∙ c .before .before .before .before .if1 .taken) (c .before .before .template-name .ensures)
+    left-name (dotsAt (a .work .now) (a .dots) (a .w)) (variablesFrom (a .work .now) (a .w) (a .vars .now) 0 (a .count)) (a .d) (a .work .now) (a .node) (a .w) (a .top) (c .before .before .template-name .last .0) (builtOf (c .before .before .template-name .result)) (sym (c .before .before .before .before .before .word .ensures) ∙ c .before .before .before .before .if1 .taken) (c .before .before .template-name .ensures)
 
 returns-2 : tie.Need-returns-2
 returns-2 c =
     let a = c .before .before .before .before .before .before .before .args in
-    let left = left-empty (variablesFrom (a .work .now) (a .w) (a .vars .now) 0 (a .count)) (a .d) (a .work .now) (a .node) (a .w) (a .top) (sym (c .before .before .before .word .ensures) ∙ c .before .if2 .taken) in
-    packs-at (TemplateLeft _ _ _ _ _ _ _) _ _ _ _ (packs (a .work .now) (a .node) (a .w) (a .top) (c .before .before .before .before .before .before .before .pre .0)) (c .pair .ensures) (left .grows .words) left
+    let left = left-empty (dotsAt (a .work .now) (a .dots) (a .w)) (variablesFrom (a .work .now) (a .w) (a .vars .now) 0 (a .count)) (a .d) (a .work .now) (a .node) (a .w) (a .top) (sym (c .before .before .before .word .ensures) ∙ c .before .if2 .taken) in
+    packs-at (TemplateLeft _ _ _ _ _ _ _ _) _ _ _ _ (packs (a .work .now) (a .node) (a .w) (a .top) (c .before .before .before .before .before .before .before .pre .0)) (c .pair .ensures) (left .grows .words) left
 
 put-constant-template-requires : tie.Need-put-constant-template-requires
 put-constant-template-requires c κs =
@@ -32,8 +39,8 @@ put-constant-template-requires c κs =
 returns-3 : tie.Need-returns-3
 returns-3 c =
     let a = c .before .before .before .before .before .before .before .before .before .before .before .before .before .before .before .args in
-    let left = left-constant (variablesFrom (a .work .now) (a .w) (a .vars .now) 0 (a .count)) (a .d) (a .work .now) (a .node) (a .w) (a .top) _ _ _ _ _ (c .before .before .before .before .before .before .before .before .before .before .before .word .ensures) (c .before .before .before .before .before .before .before .word2 .ensures) (c .before .before .before .before .before .word3 .ensures) (λ z. c .before .before .before .before .before .before .before .before .before .if2 .left (c .before .before .before .before .before .before .before .before .before .before .before .word .ensures ∙ z)) (λ z. c .before .before .before .before .before .before .before .before .before .before .if1 .left (c .before .before .before .before .before .before .before .before .before .before .before .word .ensures ∙ z)) (c .before .before .before .before .before .before .before .before .before .before .before .before .before .before .before .pre .3) (c .before .before .before .put-constant-template .ensures) in
-    packs-at (TemplateLeft _ _ _ _ _ _ _) _ _ _ _ (packs (a .work .now) (a .node) (a .w) (a .top) (c .before .before .before .before .before .before .before .before .before .before .before .before .before .before .before .pre .0)) (c .pair2 .ensures) (left .grows .words) left
+    let left = left-constant (dotsAt (a .work .now) (a .dots) (a .w)) (variablesFrom (a .work .now) (a .w) (a .vars .now) 0 (a .count)) (a .d) (a .work .now) (a .node) (a .w) (a .top) _ _ _ _ _ (c .before .before .before .before .before .before .before .before .before .before .before .word .ensures) (c .before .before .before .before .before .before .before .word2 .ensures) (c .before .before .before .before .before .word3 .ensures) (λ z. c .before .before .before .before .before .before .before .before .before .if2 .left (c .before .before .before .before .before .before .before .before .before .before .before .word .ensures ∙ z)) (λ z. c .before .before .before .before .before .before .before .before .before .before .if1 .left (c .before .before .before .before .before .before .before .before .before .before .before .word .ensures ∙ z)) (c .before .before .before .before .before .before .before .before .before .before .before .before .before .before .before .pre .3) (c .before .before .before .put-constant-template .ensures) in
+    packs-at (TemplateLeft _ _ _ _ _ _ _ _) _ _ _ _ (packs (a .work .now) (a .node) (a .w) (a .top) (c .before .before .before .before .before .before .before .before .before .before .before .before .before .before .before .pre .0)) (c .pair2 .ensures) (left .grows .words) left
 
 pub template-leaf-spec : {M : Type 1} → statement M
 template-leaf-spec =

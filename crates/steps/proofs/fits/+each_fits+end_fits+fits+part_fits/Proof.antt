@@ -1,5 +1,5 @@
 -- The proof of the cycle {each_fits, end_fits, fits, part_fits}. The measure is four times the pattern's reference and the
--- member's place among those that hand the same pattern on: each_fits, part_fits, fits, end_fits.
+-- member's place among those that hand the same pattern on: part_fits, fits, end_fits, each_fits.
 use Prim.Native.Nat.{ℕ, _<_, _+_, _*_}
 use borrow.Fn.Kinds.{In}
 use borrow.Fn.PlainCycle.{Measures, is, falls, and}
@@ -17,30 +17,33 @@ use Rattle.steps.proofs.fits.part_fits.Kinds as part-fits-kinds
 use Rattle.steps.proofs.fits.+each_fits+end_fits+fits+part_fits.Lts-part_fits as part-fits-lts
 use Rattle.arena.proofs.cells.reference.Reads as reference-reads
 use Rattle.arena.proofs.cells.word.Reads as word-reads
+use Rattle.environments.proofs.shares.share.Reads as share-reads
 use Rattle.steps.proofs.fits.constant_fits.Reads as constant-fits-reads
 use Rattle.steps.proofs.fits.literal_fits.Reads as literal-fits-reads
 use Rattle.steps.proofs.fits.+each_fits+end_fits+fits+part_fits.{statement}
 use Rattle.steps.proofs.fits.+each_fits+end_fits+fits+part_fits.Tie.{close}
 use Rattle.environments.specs.PartLaws.{tag-falls}
-use Rattle.arena.specs.ListLaws.{kind-some}
 use borrow.Author.Tests.{not-true, not-false}
-use Rattle.steps.specs.FitLaws.{fits-variable, fits-wildcard, fits-literal, fits-constant, fits-ellipsis, fits-no-pair, fits-head-no, fits-tail, fits-empty, Along, along-begins, along-ends, along-more, Matched, each-ends, each-no, each-more}
-use Rattle.arena.specs.ArenaLaws.{referenceAt-falls}
+use Rattle.steps.specs.FitLaws.{fits-variable, fits-wildcard, fits-literal, fits-constant, fits-no-pair, fits-head-no, fits-tail, fits-empty, Along, along-begins, along-ends, along-more, Matched, each-begins, each-ends, each-short, each-no, each-more, fewer}
 use native.Mathlib.Omega.{arith}
 use borrow.Author.Needs.{needs}
 use mathlib.Core.Path.{refl, sym, _∙_}
 
 abbrev μ-each-fits : Measures 1 each-fits-kinds.ps ℕ
-μ-each-fits κs a = 4 * a .1 .0 + 3
+μ-each-fits κs a =
+    4 * a .1 .0
 
 abbrev μ-end-fits : Measures 1 end-fits-kinds.ps ℕ
-μ-end-fits κs a = 4 * a .1 .0
+μ-end-fits κs a =
+    4 * a .1 .0 + 1
 
 abbrev μ-fits : Measures 1 fits-kinds.ps ℕ
-μ-fits κs a = 4 * a .1 .0 + 1
+μ-fits κs a =
+    4 * a .1 .0 + 2
 
 abbrev μ-part-fits : Measures 1 part-fits-kinds.ps ℕ
-μ-part-fits κs a = 4 * a .1 .0 + 2
+μ-part-fits κs a =
+    4 * a .1 .0 + 3
 
 abbrev each-fits-at : ℕ → In 1 each-fits-kinds.ps
 each-fits-at t = and 1 each-fits-kinds.ps (is 1 each-fits-kinds.ps μ-each-fits t) each-fits.Pre
@@ -69,23 +72,11 @@ abbrev part-fits-below : ℕ → In 1 part-fits-kinds.ps
 part-fits-below t =
     and 1 part-fits-kinds.ps (falls 1 part-fits-kinds.ps _<_ μ-part-fits t) part-fits.Pre
 
-abbrev each-fits-Inv-loop : each-fits-lts.InvT-loop
-each-fits-Inv-loop work e list w node₀ node = Matched work e list w node
-
-abbrev each-fits-μ-loop : each-fits-lts.MeasureT-loop
-each-fits-μ-loop work e list w node₀ node = node
-
 abbrev each-fits-claims : ℕ → each-fits-lts.Claims
-each-fits-claims t = (word-reads.Asked, word-reads.Learnt, reference-reads.Asked, reference-reads.Learnt, part-fits-below t, part-fits.Post)
+each-fits-claims t = (reference-reads.Asked, reference-reads.Learnt, share-reads.Asked, share-reads.Learnt, word-reads.Asked, word-reads.Learnt, part-fits-below t, part-fits.Post, fits-below t, fits.Post)
 
 abbrev end-fits-claims : ℕ → end-fits-lts.Claims
-end-fits-claims t = (word-reads.Asked, word-reads.Learnt, literal-fits-reads.Asked, literal-fits-reads.Learnt, constant-fits-reads.Asked, constant-fits-reads.Learnt, reference-reads.Asked, reference-reads.Learnt, each-fits-below t, each-fits.Post)
-
-abbrev fits-Inv-loop : fits-lts.InvT-loop
-fits-Inv-loop work p u w at₀ node₀ at node = Along work p u w at node
-
-abbrev fits-μ-loop : fits-lts.MeasureT-loop
-fits-μ-loop work p u w at₀ node₀ at node = at
+end-fits-claims t = (word-reads.Asked, word-reads.Learnt, literal-fits-reads.Asked, literal-fits-reads.Learnt, constant-fits-reads.Asked, constant-fits-reads.Learnt, each-fits-below t, each-fits.Post)
 
 abbrev fits-claims : ℕ → fits-lts.Claims
 fits-claims t = (word-reads.Asked, word-reads.Learnt, reference-reads.Asked, reference-reads.Learnt, part-fits-below t, part-fits.Post, end-fits-below t, end-fits.Post)
@@ -93,50 +84,54 @@ fits-claims t = (word-reads.Asked, word-reads.Learnt, reference-reads.Asked, ref
 abbrev part-fits-claims : ℕ → part-fits-lts.Claims
 part-fits-claims t = (word-reads.Asked, word-reads.Learnt, fits-below t, fits.Post)
 
-each-fits-loop-holds : (t : ℕ) → each-fits-lts.Need-loop-holds (each-fits-claims t) (each-fits-at t) each-fits.Post each-fits-Inv-loop each-fits-μ-loop
-each-fits-loop-holds t c = refl
+abbrev each-fits-Inv-loop : each-fits-lts.InvT-loop
+each-fits-Inv-loop work p list w element node₀ left₀ node left =
+    Matched work p list w node left
 
-each-fits-part-fits-requires : (t : ℕ) → each-fits-lts.Need-part-fits-requires (each-fits-claims t) (each-fits-at t) each-fits.Post each-fits-Inv-loop each-fits-μ-loop
-each-fits-part-fits-requires t c κs =
-    let loop = c .before .before .before .loop in
-    omega arith
+abbrev each-fits-μ-loop : each-fits-lts.MeasureT-loop
+each-fits-μ-loop work p list w element node₀ left₀ node left =
+    left
+
+each-fits-loop-holds : (t : ℕ) → each-fits-lts.Need-loop-holds (each-fits-claims t) (each-fits-at t) each-fits.Post each-fits-Inv-loop each-fits-μ-loop
+each-fits-loop-holds t c =
+    let a = c .before .before .before .args in
+    each-begins (a .work .now) (a .p) (a .list) (a .w) _ (c .before .before .before .pre .1) (c .share .ensures)
 
 each-fits-returns : (t : ℕ) → each-fits-lts.Need-returns (each-fits-claims t) (each-fits-at t) each-fits.Post each-fits-Inv-loop each-fits-μ-loop
 each-fits-returns t c =
     let a = c .before .before .before .before .before .before .before .args in
-    let loop = c .before .before .before .before .before .loop in
-    let word = c .before .before .before .before .word in
-    let if1 = c .before .before .before .if1 in
-    let reference = c .before .before .reference in
-    let part-fits = c .before .part-fits in
-    each-no (a .work .now) (a .e) (a .list) (a .w) (loop .node) _ (word .ensures) (loop .inv) _ _ (if1 .taken) (reference .ensures) (part-fits .ensures) (not-true _ (c .if2 .taken))
+    let loop = c .before .before .before .loop in
+    each-short (a .work .now) (a .p) (a .list) (a .w) (loop .node) (loop .left) (loop .inv) _ _ (fewer (loop .left) (c .before .before .loop-test .taken)) (c .before .word .ensures) (c .if1 .taken)
 
-each-fits-loop-less : (t : ℕ) → each-fits-lts.Need-loop-less (each-fits-claims t) (each-fits-at t) each-fits.Post each-fits-Inv-loop each-fits-μ-loop
-each-fits-loop-less t c =
+each-fits-part-fits-requires : (t : ℕ) → each-fits-lts.Need-part-fits-requires (each-fits-claims t) (each-fits-at t) each-fits.Post each-fits-Inv-loop each-fits-μ-loop
+each-fits-part-fits-requires t c κs =
     let a = c .before .before .before .before .before .before .before .before .args in
-    let loop = c .before .before .before .before .before .before .loop in
-    let word = c .before .before .before .before .before .word in
-    let if1 = c .before .before .before .before .if1 in
-    omega (arith, c .reference2 .ensures, referenceAt-falls (a .work .now) (loop .node) 1 (kind-some (a .work .now) (loop .node) _ (word .ensures) (if1 .taken)))
-
-each-fits-loop-again : (t : ℕ) → each-fits-lts.Need-loop-again (each-fits-claims t) (each-fits-at t) each-fits.Post each-fits-Inv-loop each-fits-μ-loop
-each-fits-loop-again t c =
-    let a = c .before .before .before .before .before .before .before .before .args in
-    let loop = c .before .before .before .before .before .before .loop in
-    let word = c .before .before .before .before .before .word in
-    let if1 = c .before .before .before .before .if1 in
-    let reference = c .before .before .before .reference in
-    let part-fits = c .before .before .part-fits in
-    let if2 = c .before .if2 in
-    each-more (a .work .now) (a .e) (a .list) (a .w) (loop .node) _ (word .ensures) (loop .inv) _ _ (if1 .taken) (reference .ensures) (part-fits .ensures) _ (not-false _ (if2 .left)) (c .reference2 .ensures)
+    let l = tag-falls (a .work .now) (a .p) 7 (sym (c .before .before .before .before .before .before .before .before .pre .1)) 3 _ (λ z. omega arith) (c .before .before .before .before .before .before .reference .ensures) in
+    omega (arith, l, c .before .before .before .before .before .before .before .before .pre .0)
 
 each-fits-returns-2 : (t : ℕ) → each-fits-lts.Need-returns-2 (each-fits-claims t) (each-fits-at t) each-fits.Post each-fits-Inv-loop each-fits-μ-loop
 each-fits-returns-2 t c =
-    let a = c .before .before .before .before .before .args in
+    let a = c .before .before .before .before .before .before .before .before .before .before .args in
+    let loop = c .before .before .before .before .before .before .loop in
+    each-no (a .work .now) (a .p) (a .list) (a .w) (loop .node) (loop .left) (loop .inv) _ _ (fewer (loop .left) (c .before .before .before .before .before .loop-test .taken)) (c .before .before .before .before .word .ensures) _ _ _ (c .before .before .before .if1 .left) (c .before .before .before .before .before .before .before .before .reference .ensures) (c .before .before .reference2 .ensures) (c .before .part-fits .ensures) (not-true _ (c .if2 .taken))
+
+each-fits-loop-again : (t : ℕ) → each-fits-lts.Need-loop-again (each-fits-claims t) (each-fits-at t) each-fits.Post each-fits-Inv-loop each-fits-μ-loop
+each-fits-loop-again t c =
+    let a = c .before .before .before .before .before .before .before .before .before .before .before .args in
+    let loop = c .before .before .before .before .before .before .before .loop in
+    each-more (a .work .now) (a .p) (a .list) (a .w) (loop .node) (loop .left) (loop .inv) _ _ (fewer (loop .left) (c .before .before .before .before .before .before .loop-test .taken)) (c .before .before .before .before .before .word .ensures) _ _ _ (c .before .before .before .before .if1 .left) (c .before .before .before .before .before .before .before .before .before .reference .ensures) (c .before .before .before .reference2 .ensures) (c .before .before .part-fits .ensures) _ (not-false _ (c .before .if2 .left)) (c .reference3 .ensures)
+
+each-fits-fits-requires : (t : ℕ) → each-fits-lts.Need-fits-requires (each-fits-claims t) (each-fits-at t) each-fits.Post each-fits-Inv-loop each-fits-μ-loop
+each-fits-fits-requires t c κs =
+    let a = c .before .before .before .before .before .before .args in
+    let l = tag-falls (a .work .now) (a .p) 7 (sym (c .before .before .before .before .before .before .pre .1)) 2 _ (λ z. omega arith) (c .reference4 .ensures) in
+    (omega (arith, l, c .before .before .before .before .before .before .pre .0), tt)
+
+each-fits-returns-3 : (t : ℕ) → each-fits-lts.Need-returns-3 (each-fits-claims t) (each-fits-at t) each-fits.Post each-fits-Inv-loop each-fits-μ-loop
+each-fits-returns-3 t c =
+    let a = c .before .before .before .before .before .before .before .args in
     let loop = c .before .before .before .loop in
-    let word = c .before .before .word in
-    let if1 = c .before .if1 in
-    each-ends (a .work .now) (a .e) (a .list) (a .w) (loop .node) _ (c .word2 .ensures) (loop .inv) (λ z. if1 .left (word .ensures ∙ sym (c .word2 .ensures) ∙ z))
+    each-ends (a .work .now) (a .p) (a .list) (a .w) (loop .node) (loop .left) (loop .inv) _ _ (c .before .before .loop-test .left) (c .before .reference4 .ensures) (c .fits2 .ensures)
 
 end-fits-returns : (t : ℕ) → end-fits-lts.Need-returns (end-fits-claims t) (end-fits-at t) end-fits.Post
 end-fits-returns t c =
@@ -167,20 +162,11 @@ end-fits-returns-4 t c =
 
 end-fits-each-fits-requires : (t : ℕ) → end-fits-lts.Need-each-fits-requires (end-fits-claims t) (end-fits-at t) end-fits.Post
 end-fits-each-fits-requires t c κs =
-    let a = c .before .before .before .before .before .before .before .before .args in
-    let pre = c .before .before .before .before .before .before .before .before .pre in
-    let word = c .before .before .before .before .before .before .word in
-    let reference = c .reference in
-    (omega (arith, tag-falls (a .work .now) (a .p) _ (word .ensures) 2 _ (λ z. omega arith) (reference .ensures)), tt)
+    (omega (arith, c .before .before .before .before .before .before .before .pre .0), sym (c .before .before .before .before .before .word .ensures) ∙ c .if5 .taken)
 
 end-fits-returns-5 : (t : ℕ) → end-fits-lts.Need-returns-5 (end-fits-claims t) (end-fits-at t) end-fits.Post
 end-fits-returns-5 t c =
-    let a = c .before .before .before .before .before .before .before .before .before .args in
-    let word = c .before .before .before .before .before .before .before .word in
-    let if5 = c .before .before .if5 in
-    let reference = c .before .reference in
-    let each-fits = c .each-fits in
-    fits-ellipsis (a .work .now) (a .p) _ (word .ensures) (a .u) (a .w) _ _ (if5 .taken) (reference .ensures) (each-fits .ensures)
+    c .each-fits .ensures
 
 end-fits-returns-6 : (t : ℕ) → end-fits-lts.Need-returns-6 (end-fits-claims t) (end-fits-at t) end-fits.Post
 end-fits-returns-6 t c =
@@ -193,6 +179,14 @@ end-fits-returns-6 t c =
     let if4 = c .before .before .if4 in
     let if5 = c .before .if5 in
     fits-empty (a .work .now) (a .p) _ (word .ensures) (a .u) (a .w) _ (c .word2 .ensures) (if1 .left) (if2 .left) (if3 .left) (if4 .left) (pre .1) (if5 .left)
+
+abbrev fits-Inv-loop : fits-lts.InvT-loop
+fits-Inv-loop work p u w at₀ node₀ at node =
+    Along work p u w at node
+
+abbrev fits-μ-loop : fits-lts.MeasureT-loop
+fits-μ-loop work p u w at₀ node₀ at node =
+    at
 
 fits-loop-holds : (t : ℕ) → fits-lts.Need-loop-holds (fits-claims t) (fits-at t) fits.Post fits-Inv-loop fits-μ-loop
 fits-loop-holds t c =
@@ -284,40 +278,27 @@ part-fits-returns-2 t c =
 
 pub +each-fits+end-fits+fits+part-fits-spec : {M : Type 1} → statement M
 +each-fits+end-fits+fits+part-fits-spec =
-    close μ-each-fits μ-end-fits μ-fits μ-part-fits (λ t. each-fits-lts.spec (
-      word-reads.Asked,
-      word-reads.Learnt,
-      reference-reads.Asked,
-      reference-reads.Learnt,
-      part-fits-below t,
-      part-fits.Post,
-    )
+    close μ-each-fits μ-end-fits μ-fits μ-part-fits (λ t. each-fits-lts.spec (each-fits-claims t)
     (each-fits-at t)
     each-fits.Post
     each-fits-Inv-loop
     each-fits-μ-loop
+    (λ c κs. search needs)  -- each-fits-reference-requires
+    (λ c κs. search needs)  -- each-fits-share-requires
     (each-fits-loop-holds t)
     (λ c κs. search needs)  -- each-fits-word-requires
-    (λ c κs. search needs)  -- each-fits-reference-requires
-    (each-fits-part-fits-requires t)
     (each-fits-returns t)
     (λ c κs. search needs)  -- each-fits-reference-requires-2
-    (each-fits-loop-less t)
+    (each-fits-part-fits-requires t)
+    (each-fits-returns-2 t)
+    (λ c κs. search needs)  -- each-fits-reference-requires-3
+    (λ c. search needs)  -- each-fits-sub-left
+    (λ c. search needs)  -- each-fits-loop-less
     (each-fits-loop-again t)
-    (λ c κs. search needs)  -- each-fits-word-requires-2
-    (each-fits-returns-2 t))
-    (λ t. end-fits-lts.spec (
-      word-reads.Asked,
-      word-reads.Learnt,
-      literal-fits-reads.Asked,
-      literal-fits-reads.Learnt,
-      constant-fits-reads.Asked,
-      constant-fits-reads.Learnt,
-      reference-reads.Asked,
-      reference-reads.Learnt,
-      each-fits-below t,
-      each-fits.Post,
-    )
+    (λ c κs. search needs)  -- each-fits-reference-requires-4
+    (each-fits-fits-requires t)
+    (each-fits-returns-3 t))
+    (λ t. end-fits-lts.spec (end-fits-claims t)
     (end-fits-at t)
     end-fits.Post
     (λ c κs. search needs)  -- end-fits-word-requires
@@ -327,21 +308,11 @@ pub +each-fits+end-fits+fits+part-fits-spec : {M : Type 1} → statement M
     (end-fits-returns-3 t)
     (λ c κs. search needs)  -- end-fits-constant-fits-requires
     (end-fits-returns-4 t)
-    (λ c κs. search needs)  -- end-fits-reference-requires
     (end-fits-each-fits-requires t)
     (end-fits-returns-5 t)
     (λ c κs. search needs)  -- end-fits-word-requires-2
     (end-fits-returns-6 t))
-    (λ t. fits-lts.spec (
-      word-reads.Asked,
-      word-reads.Learnt,
-      reference-reads.Asked,
-      reference-reads.Learnt,
-      part-fits-below t,
-      part-fits.Post,
-      end-fits-below t,
-      end-fits.Post,
-    )
+    (λ t. fits-lts.spec (fits-claims t)
     (fits-at t)
     fits.Post
     fits-Inv-loop
@@ -361,7 +332,7 @@ pub +each-fits+end-fits+fits+part-fits-spec : {M : Type 1} → statement M
     (fits-end-fits-requires t)
     (fits-returns-3 t))
     λ t. part-fits-lts.spec
-    (word-reads.Asked, word-reads.Learnt, fits-below t, fits.Post)
+    (part-fits-claims t)
     (part-fits-at t)
     part-fits.Post
     (λ c κs. search needs)  -- part-fits-word-requires
