@@ -41,12 +41,16 @@ whole cs = take (leading isDigit cs) cs
 unfoldable pub fraction : List ℕ → List ℕ
 fraction cs = drop (leading isDigit cs) cs
 
--- behind a number's digits stands nothing, or a dot, which is 46, and one to four digits
+-- a decimal's places are one to four digits
+unfoldable pub arePlaces : List ℕ → Bool
+arePlaces cs = within 1 placesMost (length cs) && allOf isDigit cs
+
+-- behind a number's digits stands nothing, or a dot, which is 46, and places
 unfoldable pub isFraction : List ℕ → Bool
 isFraction [] = true
-isFraction (c ∷ cs) = eqb c 46 && (within 1 placesMost (length cs) && allOf isDigit cs)
+isFraction (c ∷ cs) = eqb c 46 && arePlaces cs
 
--- the digits behind the dot
+-- what stands behind the dot
 unfoldable pub places : List ℕ → List ℕ
 places cs = drop 1 (fraction cs)
 
@@ -69,10 +73,9 @@ unfoldable pub signed : (negative : Bool) → (size places : ℕ) → Meaning
 signed true n p = cond (leb n 2147483648) (constant (number (ofZ w32 (negℤ (pos n))) p)) (refused 4)
 signed false n p = cond (leb n 2147483647) (constant (number (ofZ w32 (pos n)) p)) (refused 4)
 
--- an optional minus, digits, and for a decimal a dot and its places, within the range
-unfoldable pub numeralOf : List ℕ → Meaning
-numeralOf cs =
-    let ds = unsigned cs in cond (isFraction (fraction ds)) (signed (isNegative cs) (size ds) (length (places ds))) (refused 3)
+-- past an optional minus: digits, for a decimal also a dot and its places, within the range
+unfoldable pub numeralOf : (negative : Bool) → List ℕ → Meaning
+numeralOf negative cs = cond (isFraction (fraction cs)) (signed negative (size cs) (length (places cs))) (refused 3)
 
 -- ---- names
 
@@ -88,9 +91,9 @@ nameOf cs = cond (isName cs) (name cs) (refused 3)
 
 -- each token by itself
 unfoldable pub meaningOf : Token → Meaning
-unfolding isNegative unsigned isNumeral leading whole fraction isFraction places valueFrom size number signed numeralOf isName nameOf isDigit within allOf equal integer boolean decimal
+unfolding isNegative unsigned isNumeral leading whole fraction arePlaces isFraction places valueFrom size number signed numeralOf isName nameOf isDigit within allOf equal integer boolean decimal
 meaningOf open′ = begins
 meaningOf close′ = ends
 meaningOf bad = refused 3
 meaningOf (flag b) = constant (boolean b)
-meaningOf (run cs) = cond (isNumeral cs) (numeralOf cs) (nameOf cs)
+meaningOf (run cs) = cond (isNumeral cs) (numeralOf (isNegative cs) (unsigned cs)) (nameOf cs)

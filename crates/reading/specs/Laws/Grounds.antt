@@ -17,6 +17,7 @@ use Rattle.reading.specs.Meaning.{
   constant,
   name,
   refused,
+  isNegative,
   unsigned,
   isNumeral,
   fraction,
@@ -67,9 +68,9 @@ unfolding signed
 signed-high true n p = either (leb n 2147483648) (λ e. rw e (omega arith)) (λ e. rw e (omega arith))
 signed-high false n p = either (leb n 2147483647) (λ e. rw e (omega arith)) (λ e. rw e (omega arith))
 
-numeral-high : (cs : List ℕ) → High (numeralOf cs)
+numeral-high : (t : Bool) (cs : List ℕ) → High (numeralOf t cs)
 unfolding numeralOf
-numeral-high cs = either (isFraction (fraction (unsigned cs))) (λ e. rw e (signed-high _ _ _)) (λ e. rw e (omega arith))
+numeral-high t cs = either (isFraction (fraction cs)) (λ e. rw e (signed-high _ _ _)) (λ e. rw e (omega arith))
 
 name-high : (cs : List ℕ) → High (nameOf cs)
 unfolding nameOf
@@ -81,7 +82,7 @@ meaning-high open′ = omega arith
 meaning-high close′ = omega arith
 meaning-high bad = omega arith
 meaning-high (flag b) = omega arith
-meaning-high (run cs) = either (isNumeral cs) (λ e. rw e (numeral-high cs)) (λ e. rw e (name-high cs))
+meaning-high (run cs) = either (isNumeral cs) (λ e. rw e (numeral-high (isNegative cs) (unsigned cs))) (λ e. rw e (name-high cs))
 
 -- ---- elements
 

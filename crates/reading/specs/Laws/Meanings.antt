@@ -1,6 +1,6 @@
 -- Meanings: a token means what meaningOf gives, where that is no refusal, and nothing else.
 use mathlib.Core.Path.{_≡_, refl, sym, ap, ap₂, subst, _∙_}
-use mathlib.Core.Bool.{Bool, true, false, not, _&&_}
+use mathlib.Core.Bool.{Bool, true, false, not}
 use mathlib.Core.List.{List, [], _∷_, _++_}
 use Prim.Native.Nat.{ℕ, _≤_}
 use native.Mathlib.Omega.{arith}
@@ -28,6 +28,7 @@ use Rattle.reading.specs.Meaning.{
   isNumeral,
   whole,
   fraction,
+  arePlaces,
   isFraction,
   places,
   valueFrom,
@@ -96,15 +97,15 @@ fraction-leading noDot = refl
 fraction-leading (dot l u d) = refl
 
 fraction-is : {fs ps : List ℕ} → Fraction fs ps → (isFraction fs ≡ true) × (drop 1 fs ≡ ps)
-unfolding isFraction
+unfolding isFraction arePlaces
 fraction-is noDot = (refl, refl)
 fraction-is (dot {ps} l u d) = (rw (within-is 1 placesMost (length ps) l u, d), refl)
 
 is-fraction : (fs : List ℕ) → isFraction fs ≡ true → Fraction fs (drop 1 fs)
-unfolding isFraction
+unfolding isFraction arePlaces
 is-fraction [] h = noDot
 is-fraction (c ∷ cs) h =
-    let p = and-parts (eqb c 46) (within 1 placesMost (length cs) && allOf isDigit cs) h in
+    let p = and-parts (eqb c 46) (arePlaces cs) h in
     let q = and-parts (within 1 placesMost (length cs)) (allOf isDigit cs) (p .1) in
     let w = within-parts 1 placesMost (length cs) (q .0) in
     subst (λ n. Fraction (n ∷ cs) cs) (sym (eqb-true c 46 (p .0))) (dot (w .0) (w .1) (q .1))
@@ -134,9 +135,9 @@ module _ (ds : List ℕ) (h : allOf isDigit ds ≡ true) {fs ps : List ℕ} (f :
   unfolding size
   size-is = ap₂ (λ a b. valueFrom 0 (a ++ b)) whole-is places-are
 
-  digits-numeral : (cs : List ℕ) → unsigned cs ≡ ds ++ fs → numeralOf cs ≡ signed (isNegative cs) (valueFrom 0 (ds ++ ps)) (length ps)
+  digits-numeral : (t : Bool) → numeralOf t (ds ++ fs) ≡ signed t (valueFrom 0 (ds ++ ps)) (length ps)
   unfolding numeralOf
-  digits-numeral cs e = rw (e, fraction-behind, fraction-is f .0, size-is, places-are)
+  digits-numeral t = rw (fraction-behind, fraction-is f .0, size-is, places-are)
 
 -- what holds of all digits before a fraction holds of a run that starts with a digit, where a fraction stands behind its digits
 digits-split : (P : List ℕ → ℕ → ℕ → Type 0) (c : ℕ) (cs : List ℕ) → isDigit c ≡ true → isFraction (fraction (c ∷ cs)) ≡ true
@@ -151,7 +152,7 @@ digits-split P c cs d h all =
 
 -- ---- what a run means
 
-pub numeral-means : (cs : List ℕ) → isNumeral cs ≡ true → meaningOf (run cs) ≡ numeralOf cs
+pub numeral-means : (cs : List ℕ) → isNumeral cs ≡ true → meaningOf (run cs) ≡ numeralOf (isNegative cs) (unsigned cs)
 unfolding meaningOf
 numeral-means cs h = rw h
 
@@ -159,14 +160,13 @@ pub other-means : (cs : List ℕ) → isNumeral cs ≡ false → meaningOf (run 
 unfolding meaningOf
 other-means cs h = rw h
 
-pub numeral-is : (cs : List ℕ) → isFraction (fraction (unsigned cs)) ≡ true
-    → numeralOf cs ≡ signed (isNegative cs) (size (unsigned cs)) (length (places (unsigned cs)))
+pub numeral-is : (t : Bool) (cs : List ℕ) → isFraction (fraction cs) ≡ true → numeralOf t cs ≡ signed t (size cs) (length (places cs))
 unfolding numeralOf
-numeral-is cs h = rw h
+numeral-is t cs h = rw h
 
-pub numeral-malformed : (cs : List ℕ) → isFraction (fraction (unsigned cs)) ≡ false → numeralOf cs ≡ refused 3
+pub numeral-malformed : (t : Bool) (cs : List ℕ) → isFraction (fraction cs) ≡ false → numeralOf t cs ≡ refused 3
 unfolding numeralOf
-numeral-malformed cs h = rw h
+numeral-malformed t cs h = rw h
 
 pub name-is : (cs : List ℕ) → isName cs ≡ true → nameOf cs ≡ name cs
 unfolding nameOf
@@ -196,16 +196,14 @@ module _ (c : ℕ) (cs : List ℕ) (h : allOf isDigit (c ∷ cs) ≡ true) where
     unfolding signed isNegative
     positive-is k =
         numeral-means (c ∷ cs ++ fs) (starts-numeral (digit first-digit))
-        ∙ digits-numeral (c ∷ cs) h f (c ∷ cs ++ fs) (unsigned-plain c (cs ++ fs) plain)
-        ∙ rw (plain, le-leb _ _ k)
+        ∙ rw (plain, unsigned-plain c (cs ++ fs) plain) (digits-numeral (c ∷ cs) h f false ∙ rw (le-leb _ _ k))
 
     negative-is : valueFrom 0 (c ∷ cs ++ ps) ≤ 2147483648
         → meaningOf (run (45 ∷ c ∷ cs ++ fs)) ≡ constant (number (ofZ w32 (negℤ (pos (valueFrom 0 (c ∷ cs ++ ps))))) (length ps))
     unfolding signed isNegative unsigned
     negative-is k =
         numeral-means (45 ∷ c ∷ cs ++ fs) (starts-numeral (minus first-digit))
-        ∙ digits-numeral (c ∷ cs) h f (45 ∷ c ∷ cs ++ fs) refl
-        ∙ rw (le-leb _ _ k)
+        ∙ digits-numeral (c ∷ cs) h f true ∙ rw (le-leb _ _ k)
 
 named-is : (cs : List ℕ) → (StartsNumber cs → ⊥) → 1 ≤ length cs → length cs ≤ nameLengthMost → (cs ≡ 46 ∷ [] → ⊥)
     → meaningOf (run cs) ≡ name cs
@@ -248,8 +246,7 @@ module _ (c : ℕ) (cs : List ℕ) (h : allOf isDigit (c ∷ cs) ≡ true) {fs p
   negative-means k = either (leb value 2147483648) (λ r. rw r (negative cs h f (leb-true _ _ r))) (λ r. never refl (rw r at k))
 
 number-means : (cs : List ℕ) → StartsNumber cs → isFraction (fraction (unsigned cs)) ≡ true
-    → isRefused (signed (isNegative cs) (size (unsigned cs)) (length (places (unsigned cs)))) ≡ false
-    → Means (run cs) (signed (isNegative cs) (size (unsigned cs)) (length (places (unsigned cs))))
+    → (let ds = unsigned cs in let m = signed (isNegative cs) (size ds) (length (places ds)) in isRefused m ≡ false → Means (run cs) m)
 unfolding isNegative unsigned
 number-means cs (digit {c} {cs = ds} d) =
     rw (digit-no-minus c d) (λ h. digits-split (λ r n p. isRefused (signed false n p) ≡ false → Means (run r) (signed false n p)) c ds d h
@@ -259,12 +256,12 @@ number-means cs (minus {c} {cs = ds} d) =
     (λ ds fs ps a f. negative-means c ds a f)
 
 module _ (cs : List ℕ) where
-  numeral-meant : isNumeral cs ≡ true → isRefused (numeralOf cs) ≡ false → Means (run cs) (numeralOf cs)
+  numeral-meant : isNumeral cs ≡ true → (let m = numeralOf (isNegative cs) (unsigned cs) in isRefused m ≡ false → Means (run cs) m)
   unfolding isRefused
   numeral-meant n h =
       either (isFraction (fraction (unsigned cs)))
-      (λ d. let e = numeral-is cs d in rw e (number-means cs (numeral-starts cs n) d (rw e at h)))
-      (λ d. never refl (rw (numeral-malformed cs d) at h))
+      (λ d. let e = numeral-is (isNegative cs) (unsigned cs) d in rw e (number-means cs (numeral-starts cs n) d (rw e at h)))
+      (λ d. never refl (rw (numeral-malformed (isNegative cs) (unsigned cs) d) at h))
 
   name-means : isNumeral cs ≡ false → isRefused (nameOf cs) ≡ false → Means (run cs) (nameOf cs)
   unfolding isRefused isName

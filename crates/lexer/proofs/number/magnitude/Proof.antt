@@ -10,11 +10,11 @@ use Rattle.lexer.specs.NumberLaws.{all-at, digit-range, value-step, valu
 use borrow.Author.Needs.{needs}
 
 abbrev Inv-loop : tie.InvT-loop
-Inv-loop digits value₀ i₀ value i =
-    (i ≤ length digits) × (value ≤ 2147483648) × (valueFrom value (drop i digits) ≡ valueFrom 0 digits)
+Inv-loop before digits value₀ i₀ value i =
+    (i ≤ length digits) × (value ≤ 2147483649) × (valueFrom value (drop i digits) ≡ valueFrom before digits)
 
 abbrev μ-loop : tie.MeasureT-loop
-μ-loop digits value₀ i₀ value i =
+μ-loop before digits value₀ i₀ value i =
     length digits - i
 
 loop-holds : tie.Need-loop-holds Inv-loop μ-loop
@@ -31,7 +31,7 @@ sub-value c =
     let loop = c .before .before .before .loop in
     let pre = c .before .before .before .before .before .pre in
     let loop-test = c .before .before .loop-test in
-    let d = digit-range _ (all-at (args .digits .now) (loop .i) (pre) (loop-test .taken)) in omega (arith, d .0, c .wide .ensures)
+    let d = digit-range _ (all-at (args .digits .now) (loop .i) (pre .1) (loop-test .taken)) in omega (arith, d .0, c .wide .ensures)
 
 add-value : tie.Need-add-value Inv-loop μ-loop
 add-value c =
@@ -39,7 +39,7 @@ add-value c =
     let loop = c .before .before .before .loop in
     let pre = c .before .before .before .before .before .pre in
     let loop-test = c .before .before .loop-test in
-    let d = digit-range _ (all-at (args .digits .now) (loop .i) (pre) (loop-test .taken)) in omega
+    let d = digit-range _ (all-at (args .digits .now) (loop .i) (pre .1) (loop-test .taken)) in omega
     (arith, d .0, d .1, c .wide .ensures)
 
 returns : tie.Need-returns Inv-loop μ-loop
