@@ -9,7 +9,7 @@ use native.Mathlib.Numerals.{add-one}
 use lib.Dec.{eqb, leb}
 use lib.IntN.{pos, negsuc, negℤ, _-ℤ_}
 use lib.ListN.{length, getD, take, drop}
-use lib.Seq.{drop-cons, drop-length, take-length, length-take-le}
+use lib.Seq.{drop-cons, drop-length, take-length, take-suc}
 use mir.Syntax.{w32}
 use mir.Val.{SFits, toZ, ofZ}
 use mir.Facts.{toZ-pos, toZ-ofZ}
@@ -17,8 +17,10 @@ use borrow.Author.Tests.{le-leb, lt-leb, leb-true, leb-false, eqb-true, eq-eqb, 
 use Rattle.words.specs.Limits.{placesMost}
 use Rattle.words.specs.Lists.{within, allOf}
 use Rattle.words.specs.Parts.{rest}
-use Rattle.words.specs.TestLaws.{and-left, and-right, and-parts, iff-eq, within-is, within-least, within-most}
+use Rattle.words.specs.TestLaws.{iff-eq, within-is, within-least, within-most}
 use Rattle.words.specs.ListLaws.{either, rest-is}
+use Rattle.lexer.specs.declared.number.Digits.{Digits}
+use Rattle.lexer.specs.Answers.{DigitsAfter, behindDot}
 use Rattle.reading.specs.Token.{isDigit}
 use Rattle.reading.specs.Meaning.{Meaning, constant, refused, isNegative, unsigned, isNumeral, whole, fraction, arePlaces, isFraction, places, valueFrom, size, number, signed, numeralOf}
 use Rattle.reading.specs.Offset.{leading}
@@ -27,18 +29,12 @@ use Rattle.reading.specs.Laws.Meanings.{numeral-is, numeral-malformed}
 
 -- ---- digits
 
-pub all-at : (l : List ℕ) (i : ℕ) → allOf isDigit l ≡ true → i < length l → isDigit (getD l i 0) ≡ true
-unfolding allOf
-all-at [] i h l = absurd (omega arith)
-all-at (c ∷ cs) zero h l = and-left (isDigit c) (allOf isDigit cs) h
-all-at (c ∷ cs) (suc i) h l = all-at cs i (and-right (isDigit c) (allOf isDigit cs) h) (omega arith)
-
 pub digit-range : (c : ℕ) → isDigit c ≡ true → (48 ≤ c) × (c ≤ 57)
 unfolding isDigit
 digit-range c h = (within-least 48 57 c h, within-most 48 57 c h)
 
 -- all are digits where as many lead as there are
-pub all-leading : (cs : List ℕ) → eqb (leading isDigit cs) (length cs) ≡ allOf isDigit cs
+all-leading : (cs : List ℕ) → eqb (leading isDigit cs) (length cs) ≡ allOf isDigit cs
 unfolding leading
 all-leading cs =
     iff-eq (eqb (leading isDigit cs) (length cs)) (allOf isDigit cs)
@@ -50,16 +46,8 @@ all-leading cs =
 
 -- ---- values
 
-pub value-step : (l : List ℕ) (i : ℕ) → i < length l → (n : ℕ) → valueFrom n (drop i l) ≡ valueFrom (10 * n + (getD l i 0 - 48)) (drop (i + 1) l)
-unfolding valueFrom
-value-step l i h n = rw (drop-cons l i 0 h, add-one)
-
-pub value-end : (l : List ℕ) (i n : ℕ) → length l ≤ i → i ≤ length l → valueFrom n (drop i l) ≡ n
-unfolding valueFrom
-value-end l i n a b = let e : i ≡ length l = omega arith in rw (e, drop-length)
-
 -- a value only grows
-pub value-least : (n : ℕ) (cs : List ℕ) → n ≤ valueFrom n cs
+value-least : (n : ℕ) (cs : List ℕ) → n ≤ valueFrom n cs
 unfolding valueFrom
 value-least n [] = omega arith
 value-least n (c ∷ cs) = omega (arith, value-least (10 * n + (c - 48)) cs)
@@ -68,6 +56,19 @@ value-append : (n : ℕ) (a b : List ℕ) → valueFrom n (a ++ b) ≡ valueFrom
 unfolding valueFrom
 value-append n [] b = refl
 value-append n (c ∷ cs) b = value-append (10 * n + (c - 48)) cs b
+
+pub value-none : (n : ℕ) → n ≤ 2147483649 → n ≡ min (valueFrom n []) 2147483649
+unfolding valueFrom
+value-none n h = omega arith
+
+-- one digit more, of a value that stops growing
+pub value-more : (n : ℕ) (l : List ℕ) (i v r : ℕ) → i < length l → v ≡ min (valueFrom n (take i l)) 2147483649
+    → r ≡ min (10 * v + (getD l i 0 - 48)) 2147483649 → r ≡ min (valueFrom n (take (i + 1) l)) 2147483649
+unfolding valueFrom
+value-more n l i v r h e f =
+    let k : valueFrom n (take (i + 1) l) ≡ 10 * valueFrom n (take i l) + (getD l i 0 - 48)
+    = rw (add-one, take-suc l i 0 h) (value-append n (take i l) (getD l i 0 ∷ [])) in
+    omega (arith, k)
 
 -- digits after a value that has stopped growing
 value-most : (n : ℕ) (cs : List ℕ) → min (valueFrom (min n 2147483649) cs) 2147483649 ≡ min (valueFrom n cs) 2147483649
@@ -81,7 +82,7 @@ value-most n cs =
 
 module _ (p : ℕ) where
   -- past the range the value itself does not matter
-  pub signed-most : (t : Bool) (n : ℕ) → signed t (min n 2147483649) p ≡ signed t n p
+  signed-most : (t : Bool) (n : ℕ) → signed t (min n 2147483649) p ≡ signed t n p
   unfolding signed
   signed-most true n =
       either (leb n 2147483648)
@@ -91,6 +92,10 @@ module _ (p : ℕ) where
       either (leb n 2147483647)
       (λ h. let e : min n 2147483649 ≡ n = omega (arith, leb-true n 2147483647 h) in rw e)
       (λ h. let k : 2147483647 < min n 2147483649 = omega (arith, leb-false n 2147483647 h) in rw (h, lt-leb _ _ k))
+
+  signed-after : (t : Bool) (n : ℕ) (cs : List ℕ) → signed t (valueFrom (min n 2147483649) cs) p ≡ signed t (valueFrom n cs) p
+  signed-after t n cs =
+      sym (signed-most t (valueFrom (min n 2147483649) cs)) ∙ ap (λ i. signed t i p) (value-most n cs) ∙ signed-most t (valueFrom n cs)
 
   pub positive-past : (n : ℕ) → 2147483647 < n → refused 4 ≡ signed false n p
   unfolding signed
@@ -165,73 +170,69 @@ unfolding isNumeral unsigned isNegative
 numeral-minus [] e = absurd (omega arith)
 numeral-minus (c ∷ cs) e = rw e
 
--- places, way by way through the code
+-- ---- places, way by way through the code
+
 module _ (cs : List ℕ) where
-  pub places-none : length cs ≡ 0 → false ≡ arePlaces cs
+  pub places-none : length cs ≡ 0 → arePlaces cs ≡ false
   unfolding arePlaces within
   places-none h = rw h
 
-  pub places-many : placesMost < length cs → false ≡ arePlaces cs
+  pub places-many : placesMost < length cs → arePlaces cs ≡ false
   unfolding arePlaces within
   places-many h = rw (lt-leb _ _ h, and-false)
 
-  pub places-few : (length cs ≡ 0 → ⊥) → length cs ≤ placesMost → eqb (leading isDigit cs) (length cs) ≡ arePlaces cs
-  unfolding arePlaces
-  places-few h k =
-      let l : 1 ≤ length cs = omega arith in
-      all-leading cs ∙ rw (within-is 1 placesMost (length cs) l k)
+  module _ (h : length cs ≡ 0 → ⊥) (k : length cs ≤ placesMost) (n : ℕ) (e : n ≡ leading isDigit cs) where
+    places-few : arePlaces cs ≡ eqb n (length cs)
+    unfolding arePlaces
+    places-few =
+        let l : 1 ≤ length cs = omega arith in
+        rw (within-is 1 placesMost (length cs) l k, e) (sym (all-leading cs))
 
-pub places-are : (cs : List ℕ) → arePlaces cs ≡ true → (length cs ≤ placesMost) × (allOf isDigit cs ≡ true)
-unfolding arePlaces
-places-are cs h =
-    let p = and-parts (within 1 placesMost (length cs)) (allOf isDigit cs) h in
-    (within-most 1 placesMost (length cs) (p .0), p .1)
+    pub places-other : (n ≡ length cs → ⊥) → arePlaces cs ≡ false
+    places-other l = places-few ∙ ne-eqb _ _ l
 
--- a run past its minus, by how many digits it begins with
-module _ (cs : List ℕ) (dot : ℕ) (e : dot ≡ leading isDigit cs) where
-  pub start-length : dot ≡ length (take dot cs)
-  start-length = sym (length-take-le dot cs (rw e (leading-within isDigit cs)))
+    pub with-places : (t : Bool) (whole : ℕ) (m : Meaning) (v : ℕ) → n ≡ length cs → m ≡ signed t v n
+        → v ≡ min (valueFrom whole (take n cs)) 2147483649 → m ≡ behindDot t whole cs
+    with-places t whole m v l w f =
+        w ∙ ap (λ j. signed t j n) f ∙ signed-most n t (valueFrom whole (take n cs)) ∙ rw (places-few, l, take-length cs, eq-eqb (length cs) (length cs) refl)
 
+pub no-places : (t : Bool) (whole : ℕ) (cs : List ℕ) → arePlaces cs ≡ false → refused 3 ≡ behindDot t whole cs
+no-places t whole cs h = rw h
+
+-- ---- a run past its minus, by the digits that it begins with
+
+module _ (cs : List ℕ) (r : Digits) (d : DigitsAfter 0 cs r) where
   -- where they are not all of it
-  pub dot-within : (dot ≡ length cs → ⊥) → dot < length cs
-  dot-within h = let k : dot ≤ length cs = rw e (leading-within isDigit cs) in omega (arith, h)
-
-  pub start-digits : allOf isDigit (take dot cs) ≡ true
-  start-digits = rw e (leading-all isDigit cs)
+  pub dot-within : (r .count ≡ length cs → ⊥) → r .count < length cs
+  dot-within h = omega (arith, h, d .count, leading-within isDigit cs)
 
   -- its value is taken from the digits before the dot to those behind it
-  size-is : size cs ≡ valueFrom (valueFrom 0 (take dot cs)) (places cs)
+  size-is : size cs ≡ valueFrom (valueFrom 0 (take (r .count) cs)) (places cs)
   unfolding size whole
-  size-is = rw e (value-append 0 (take (leading isDigit cs) cs) (places cs))
+  size-is = rw (d .count) (value-append 0 (take (leading isDigit cs) cs) (places cs))
 
-  pub no-dot : (t : Bool) (m : Meaning) (n : ℕ) → dot ≡ length cs → m ≡ signed t n 0 → n ≡ min (valueFrom 0 (take dot cs)) 2147483649
-      → m ≡ numeralOf t cs
+  pub no-dot : (t : Bool) (m : Meaning) → r .count ≡ length cs → m ≡ signed t (r .value) 0 → m ≡ numeralOf t cs
   unfolding fraction isFraction places valueFrom
-  no-dot t m n h w k =
-      let f : drop (leading isDigit cs) cs ≡ [] = ap (λ i. drop i cs) (sym e ∙ h) ∙ drop-length cs in
-      w ∙ ap (λ i. signed t i 0) k ∙ signed-most 0 t (valueFrom 0 (take dot cs))
+  no-dot t m h w =
+      let f : drop (leading isDigit cs) cs ≡ [] = ap (λ i. drop i cs) (sym (d .count) ∙ h) ∙ drop-length cs in
+      w ∙ ap (λ i. signed t i 0) (d .value) ∙ signed-most 0 t (valueFrom 0 (take (r .count) cs))
       ∙ sym (numeral-is t cs (rw f) ∙ rw (size-is, f))
 
-  module _ (h : dot < length cs) where
-    behind : fraction cs ≡ getD cs dot 0 ∷ rest (dot + 1) cs
+  module _ (h : r .count < length cs) (t : Bool) where
+    behind : fraction cs ≡ getD cs (r .count) 0 ∷ rest (r .count + 1) cs
     unfolding fraction
-    behind = ap (λ i. drop i cs) (sym e) ∙ drop-cons cs dot 0 h ∙ rw (rest-is (dot + 1) cs, add-one)
+    behind = ap (λ i. drop i cs) (sym (d .count)) ∙ drop-cons cs (r .count) 0 h ∙ rw (rest-is (r .count + 1) cs, add-one)
 
-    pub other-byte : (t : Bool) → (getD cs dot 0 ≡ 46 → ⊥) → refused 3 ≡ numeralOf t cs
+    pub other-byte : (getD cs (r .count) 0 ≡ 46 → ⊥) → refused 3 ≡ numeralOf t cs
     unfolding isFraction
-    other-byte t n = sym (numeral-malformed t cs (rw (behind, ne-eqb _ _ n)))
+    other-byte n = sym (numeral-malformed t cs (rw (behind, ne-eqb _ _ n)))
 
-    pub no-places : (t : Bool) → arePlaces (rest (dot + 1) cs) ≡ false → refused 3 ≡ numeralOf t cs
-    unfolding isFraction
-    no-places t n = sym (numeral-malformed t cs (rw (behind, n, and-false)))
-
-    pub with-places : (t : Bool) (m : Meaning) (v n : ℕ) → getD cs dot 0 ≡ 46 → arePlaces (rest (dot + 1) cs) ≡ true
-        → m ≡ signed t n (length (rest (dot + 1) cs)) → v ≡ min (valueFrom 0 (take dot cs)) 2147483649
-        → n ≡ min (valueFrom v (rest (dot + 1) cs)) 2147483649 → m ≡ numeralOf t cs
+    pub dot-taken : getD cs (r .count) 0 ≡ 46 → behindDot t (r .value) (rest (r .count + 1) cs) ≡ numeralOf t cs
     unfolding isFraction places
-    with-places t m v n b a w i k =
-        let ps = rest (dot + 1) cs in
-        let whole = valueFrom 0 (take dot cs) in
-        w ∙ ap (λ j. signed t j (length ps)) (k ∙ ap (λ j. min (valueFrom j ps) 2147483649) i ∙ value-most whole ps)
-        ∙ signed-most (length ps) t (valueFrom whole ps)
-        ∙ sym (numeral-is t cs (rw (behind, b, a)) ∙ rw (size-is, behind))
+    dot-taken b =
+        let ps = rest (r .count + 1) cs in
+        let whole = valueFrom 0 (take (r .count) cs) in
+        either (arePlaces ps)
+        (λ a. let e : numeralOf t cs ≡ signed t (valueFrom whole ps) (length ps) = numeral-is t cs (rw (behind, b, a)) ∙ rw (size-is, behind) in
+        rw (a, d .value) (signed-after (length ps) t whole ps ∙ sym e))
+        (λ a. rw a (sym (numeral-malformed t cs (rw (behind, a, and-false)))))

@@ -1,13 +1,11 @@
 // Runs that are numbers: an integer, or a decimal by its value without the dot and its places.
 ghost use mathlib.Core.Path.{_≡_};
 ghost use mathlib.Core.Bool.{true};
-ghost use Prim.Native.Nat.{_≤_, min};
+ghost use Prim.Native.Nat.{_+_, _*_, _-_, _≤_, min};
 ghost use lib.ListN.{length};
-ghost use Rattle.words.specs.Lists.{allOf};
 ghost use Rattle.reading.specs.Token.{isDigit};
-ghost use Rattle.reading.specs.Offset.{leading};
-ghost use Rattle.reading.specs.Meaning.{isNegative, unsigned, isNumeral, arePlaces, valueFrom, signed, numeralOf};
-ghost use Rattle.lexer.specs.Answers.{numeralMeaning};
+ghost use Rattle.reading.specs.Meaning.{isNegative, unsigned, isNumeral, signed, numeralOf};
+ghost use Rattle.lexer.specs.Answers.{numeralMeaning, DigitsAfter, behindDot};
 use crate::bytes::is_digit;
 
 // What a run that starts as a number is.
@@ -26,36 +24,40 @@ fn wide(b: u8) -> u64
     b as u64
 }
 
-// How many digits a run begins with.
-pub fn digit_count(run: &[u8]) -> usize
-    ensures { λ r. ⌜ r ≡ leading isDigit (now (run .entry)) ⌝ }
-{
-    let mut i = 0;
-    while i < run.len() {
-        if !is_digit(run[i]) {
-            return i;
-        }
-        i += 1;
-    }
-    i
+// The digits that a run begins with: how many, and the number that they spell after another, or the one beyond all.
+pub struct Digits {
+    pub count: usize,
+    pub value: u64,
 }
 
-// The number that digits spell after another, or the one beyond all.
-pub fn magnitude(before: u64, digits: &[u8]) -> u64
+// A digit more; the one beyond all stays.
+fn appended(value: u64, digit: u8) -> u64
+    requires { ⌜ value ≤ 2147483649 ⌝ }
+    requires { ⌜ isDigit digit ≡ true ⌝ }
+    ensures { λ r. ⌜ r ≡ min (10 * value + (digit - 48)) 2147483649 ⌝ }
+{
+    let next = 10 * value + (wide(digit) - 48);
+    if BEYOND < next {
+        return BEYOND;
+    }
+    next
+}
+
+// The digits of a run from the left, up to the first byte that is none.
+pub fn digits_after(before: u64, run: &[u8]) -> Digits
     requires { ⌜ before ≤ 2147483649 ⌝ }
-    requires { ⌜ allOf isDigit (now digits) ≡ true ⌝ }
-    ensures { λ r. ⌜ r ≡ min (valueFrom before (now (digits .entry))) 2147483649 ⌝ }
+    ensures { λ r. ⌜ DigitsAfter before (now (run .entry)) r ⌝ }
 {
     let mut value = before;
     let mut i = 0;
-    while i < digits.len() {
-        value = 10 * value + (wide(digits[i]) - 48);
-        if BEYOND <= value {
-            return BEYOND;
+    while i < run.len() {
+        if !is_digit(run[i]) {
+            return Digits { count: i, value };
         }
+        value = appended(value, run[i]);
         i += 1;
     }
-    value
+    Digits { count: i, value }
 }
 
 // A number with its sign; no sum passes the range.
@@ -93,36 +95,37 @@ pub fn is_numeral(word: &[u8]) -> bool
     is_digit(word[1])
 }
 
-// What stands behind a dot is a decimal's places: one to four digits.
-fn are_places(digits: &[u8]) -> bool
-    ensures { λ r. ⌜ r ≡ arePlaces (now (digits .entry)) ⌝ }
+// What stands behind the dot of a number is its places: one to four digits.
+fn decimal_of(negative: bool, whole: u64, places: &[u8]) -> Numeral
+    requires { ⌜ whole ≤ 2147483649 ⌝ }
+    ensures { λ r. ⌜ numeralMeaning r ≡ behindDot negative whole (now (places .entry)) ⌝ }
 {
-    if digits.len() == 0 {
-        return false;
+    if places.len() == 0 {
+        return Numeral::Malformed;
     }
-    if (words::PLACES as usize) < digits.len() {
-        return false;
+    if (words::PLACES as usize) < places.len() {
+        return Numeral::Malformed;
     }
-    digit_count(digits) == digits.len()
+    let digits = digits_after(whole, places);
+    if digits.count != places.len() {
+        return Numeral::Malformed;
+    }
+    signed(negative, digits.value, digits.count as u32)
 }
 
 // The number that a run past its minus is.
 fn unsigned_of(negative: bool, word: &[u8]) -> Numeral
     ensures { λ r. ⌜ numeralMeaning r ≡ numeralOf negative (now (word .entry)) ⌝ }
 {
-    let dot = digit_count(word);
-    let whole = magnitude(0, &word[..dot]);
+    let whole = digits_after(0, word);
+    let dot = whole.count;
     if dot == word.len() {
-        return signed(negative, whole, 0);
+        return signed(negative, whole.value, 0);
     }
     if word[dot] != b'.' {
         return Numeral::Malformed;
     }
-    let places = &word[dot + 1..];
-    if !are_places(places) {
-        return Numeral::Malformed;
-    }
-    signed(negative, magnitude(whole, places), places.len() as u32)
+    decimal_of(negative, whole.value, &word[dot + 1..])
 }
 
 // The number that a run starting as one is.
