@@ -1,11 +1,14 @@
--- Constants: integers and booleans. All that depends on which kinds there are stands here.
+-- Constants: integers, booleans and decimals. All that depends on which kinds there are stands here.
 use mathlib.Core.Bool.{Bool, false, _&&_}
 use mathlib.Core.List.{List, [], _∷_}
 use Prim.Native.Nat.{ℕ, suc}
 use lib.Dec.{eqb, ltb}
 use lib.ListN.{getD}
+use Rattle.words.specs.Limits.{placesMost}
+use Rattle.words.specs.Lists.{within}
 
--- a constant has its item's three words: kind 1 is an integer (its second word two's complement), kind 2 a boolean (0, 1)
+-- a constant has its item's three words: kind 1 is an integer (its second word two's complement), kind 2 a boolean (0, 1),
+-- kind 5 a decimal (its value without the dot, two's complement, and its places)
 pub record Constant : Type 0 where
   pub kind : ℕ
   pub first : ℕ
@@ -13,7 +16,8 @@ pub record Constant : Type 0 where
 
 -- the three words are those of a constant (ground 7)
 unfoldable pub isConstant : Constant → Bool
-isConstant a = getD (false ∷ eqb (a .second) 0 ∷ (ltb (a .first) 2 && eqb (a .second) 0) ∷ []) (a .kind) false
+isConstant a =
+    getD (false ∷ eqb (a .second) 0 ∷ (ltb (a .first) 2 && eqb (a .second) 0) ∷ false ∷ false ∷ within 1 placesMost (a .second) ∷ []) (a .kind) false
 
 -- a pattern's constant matches by value
 unfoldable pub matches : Constant → Constant → Bool
@@ -28,3 +32,6 @@ integer w = record { kind = 1; first = w; second = 0 }
 
 unfoldable pub boolean : ℕ → Constant
 boolean w = record { kind = 2; first = w; second = 0 }
+
+unfoldable pub decimal : (w places : ℕ) → Constant
+decimal w p = record { kind = 5; first = w; second = p }
