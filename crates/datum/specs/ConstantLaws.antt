@@ -1,0 +1,70 @@
+-- Laws of constants: the kinds there are, how many words each has in the core term, and what matches.
+use mathlib.Core.Path.{_≡_, refl, sym, ap, subst}
+use mathlib.Core.Bool.{Bool, true, false, _&&_, cond, false≢true}
+use mathlib.Core.List.{List, [], _∷_}
+use Prim.Native.Nat.{ℕ, zero, suc, _+_, _≤_, _<_}
+use native.Mathlib.Omega.{arith}
+use lib.Dec.{eqb, ltb, leb}
+use lib.ListN.{length}
+use borrow.Author.Tests.{eqb-true, ltb-true, ne-eqb}
+use Rattle.words.specs.Limits.{placesMost}
+use Rattle.words.specs.Lists.{within}
+use Rattle.words.specs.ListLaws.{either}
+use Rattle.words.specs.TestLaws.{and-parts}
+use Rattle.datum.specs.Constant.{Constant, decimalKind, isConstant, isNumber, sameValue, matches, constantWords, integer, boolean, decimal}
+
+-- a constant of its three words
+abbrev pub made : (kind first second : ℕ) → Constant
+made k w v = record { kind = k; first = w; second = v }
+
+-- ---- the kinds
+
+-- what holds of integers, of the booleans and of decimals holds of every constant
+module _ (P : Constant → Type 0) (int : (w : ℕ) → P (integer w)) (bool : (w : ℕ) → w < 2 → P (boolean w))
+    (dec : (w p : ℕ) → within 1 placesMost p ≡ true → P (decimal w p)) where
+  words-case : (k w v : ℕ) → isConstant (made k w v) ≡ true → P (made k w v)
+  unfolding isConstant integer boolean decimal
+  words-case zero w v h = absurd (false≢true h)
+  words-case (suc zero) w v h = subst (λ (n : ℕ). P (made 1 w n)) (sym (eqb-true v 0 h)) (int w)
+  words-case (suc (suc zero)) w v h =
+      let p = and-parts (ltb w 2) (eqb v 0) h in
+      subst (λ (n : ℕ). P (made 2 w n)) (sym (eqb-true v 0 (p .1))) (bool w (ltb-true w 2 (p .0)))
+  words-case (suc (suc (suc zero))) w v h = absurd (false≢true h)
+  words-case (suc (suc (suc (suc zero)))) w v h = absurd (false≢true h)
+  words-case (suc (suc (suc (suc (suc zero))))) w v h = dec w v h
+  words-case (suc (suc (suc (suc (suc (suc k)))))) w v h = absurd (false≢true h)
+
+  pub constant-case : (a : Constant) → isConstant a ≡ true → P a
+  constant-case a h = words-case (a .kind) (a .first) (a .second) h
+
+pub kind-most : (a : Constant) → isConstant a ≡ true → a .kind ≤ decimalKind
+unfolding integer boolean decimal
+kind-most = constant-case (λ a. a .kind ≤ decimalKind) (λ w. omega arith) (λ w h. omega arith) (λ w p h. omega arith)
+
+-- ---- words
+
+module _ (a : Constant) where
+  pub words-decimal : a .kind ≡ decimalKind → constantWords a ≡ 9 ∷ a .first ∷ a .second ∷ []
+  unfolding constantWords
+  words-decimal e = rw e
+
+  pub words-other : (a .kind ≡ decimalKind → ⊥) → constantWords a ≡ suc (a .kind) ∷ a .first ∷ []
+  unfolding constantWords
+  words-other n = rw (ne-eqb (a .kind) decimalKind n)
+
+  -- two or three of them
+  pub words-few : (2 ≤ length (constantWords a)) × (length (constantWords a) ≤ 3)
+  unfolding constantWords
+  words-few = either (eqb (a .kind) decimalKind) (λ e. rw e (omega arith, omega arith)) (λ e. rw e (omega arith, omega arith))
+
+-- ---- matching
+
+module _ (a b : Constant) where
+  pub matches-numbers : isNumber a ≡ true → isNumber b ≡ true → matches a b ≡ sameValue a b
+  unfolding matches
+  matches-numbers p q = rw (p, q)
+
+  -- one is a boolean
+  pub matches-words : (isNumber a && isNumber b) ≡ false → matches a b ≡ (eqb (a .kind) (b .kind) && eqb (a .first) (b .first))
+  unfolding matches
+  matches-words p = rw p
