@@ -10,22 +10,12 @@ use lib.ListN.{length, drop, drop-of-length-le}
 use borrow.Author.Tests.{ne-eqb, lt-leb}
 use Rattle.words.specs.Limits.{namesMost}
 use Rattle.words.specs.Lists.{within, allOf}
-use Rattle.words.specs.TestLaws.{and-none-left, and-none-right, within-is}
+use Rattle.words.specs.TestLaws.{and-none-left, and-none-right, within-is, outside-below, outside-above}
 use Rattle.datum.specs.Constant.{isConstant}
 use Rattle.recipe.specs.Table.{Item, items, byKind, constantOf, kindAt, isPairItem, isItem}
 use Rattle.recipe.specs.ItemLaws.{itemAt, items-length, items-drop}
 use Rattle.recipe.specs.TreeFrom.{headAt, tailAt}
 use Rattle.recipe.specs.Layout.{isListKind}
-
--- ---- within
-
-pub outside-below : (a b n : ℕ) → n < a → within a b n ≡ false
-unfolding within
-outside-below a b n h = and-none-left (leb a n) (leb n b) (lt-leb a n h)
-
-pub outside-above : (a b n : ℕ) → b < n → within a b n ≡ false
-unfolding within
-outside-above a b n h = and-none-right (leb a n) (leb n b) (lt-leb n b h)
 
 -- ---- a pair's references
 
