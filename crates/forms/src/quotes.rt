@@ -10,10 +10,8 @@ ghost use Rattle.forms.specs.Quotes.{quotedAt, elementsAt, Quotable, Wri
 use arena::cells;
 use arena::lists;
 use core_term::codes;
+use datum::constants;
 use resolution::names;
-
-// The kind of a decimal.
-const DECIMAL: u32 = 5;
 
 // Two words at `at`; answers where the next stand.
 fn put_two(core: &mut [u32], at: usize, a: u32, b: u32) -> usize
@@ -30,7 +28,7 @@ pub fn put_constant(core: &mut [u32], at: usize, kind: u32, first: u32, second: 
     requires { ⌜ (at + length (constantWords (made kind first second)) ≤ length (now core)) × (kind ≤ decimalKind) ⌝ }
     ensures { λ r. ⌜ Written (constantWords (made kind first second)) (now (core .entry)) (now (core .exit)) at r ⌝ }
 {
-    if kind != DECIMAL {
+    if kind != constants::DECIMAL {
         return put_two(core, at, kind + 1, first);
     }
     core[at] = codes::DECIMAL;
