@@ -39,7 +39,7 @@ unfoldable row : List ℕ → S.String → Row
 unfolding rowWith names
 row = rowWith 1 names
 
--- W1 to W24, with one operation where no count is given
+-- W1 to W25, with one operation where no count is given
 unfoldable rows : List Row
 unfolding row
 rows =
