@@ -51,7 +51,7 @@ abbrev pub workRate : ℕ
 workRate = 24
 
 abbrev pub coreRate : ℕ
-coreRate = 2
+coreRate = 3
 
 abbrev pub operationsMost : ℕ
 operationsMost = 256

@@ -37,7 +37,7 @@ pub const FUEL: u32 = 8192;
 
 pub const WORK_RATE: usize = 24;
 
-pub const CORE_RATE: usize = 2;
+pub const CORE_RATE: usize = 3;
 
 pub const OPERATIONS: u32 = 256;
 
