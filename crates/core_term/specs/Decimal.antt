@@ -1,6 +1,6 @@
--- Numbers as decimal text.
+-- Numbers as text: integers in decimal, and decimals.
 use mathlib.Core.List.{List, [], _∷_, _++_}
-use Prim.Native.Nat.{ℕ, zero, suc, _+_, _*_, _-_, _/_, _%_}
+use Prim.Native.Nat.{ℕ, zero, suc, _+_, _*_, _-_, _/_, _%_, _^_}
 use lib.IntN.{ℤ, pos, negsuc}
 use mir.Syntax.{w32}
 use mir.Val.{toZ}
@@ -26,11 +26,24 @@ valueAfter n (c ∷ cs) = valueAfter (10 * n + (c - 48)) cs
 unfoldable pub value : List ℕ → ℕ
 value = valueAfter 0
 
--- with a minus below 0
-unfoldable pub signed : ℤ → List ℕ
-signed (pos n) = decimal n
-signed (negsuc n) = 45 ∷ decimal (suc n)
+-- k + 1 digits of a number below 10 to the k + 1, zeros that lead among them
+unfoldable pub padded : ℕ → ℕ → List ℕ
+padded zero n = (48 + n) ∷ []
+padded (suc k) n = (48 + n / 10 ^ suc k) ∷ padded k (n % 10 ^ suc k)
+
+-- the whole part, with no zero that leads but its own, a dot, and as many digits as places
+unfoldable pub pointed : (places n : ℕ) → List ℕ
+pointed places n = decimal (n / 10 ^ places) ++ (46 ∷ padded (places - 1) (n % 10 ^ places))
+
+-- a size's text, with a minus below 0
+unfoldable pub signed : (ℕ → List ℕ) → ℤ → List ℕ
+signed text (pos n) = text n
+signed text (negsuc n) = 45 ∷ text (suc n)
 
 -- the integer with a word's two's complement bits
 unfoldable pub integerText : ℕ → List ℕ
-integerText w = signed (toZ w32 w)
+integerText w = signed decimal (toZ w32 w)
+
+-- the decimal whose value without the dot has these bits
+unfoldable pub decimalText : (w places : ℕ) → List ℕ
+decimalText w places = signed (pointed places) (toZ w32 w)

@@ -1,10 +1,10 @@
--- Laws of decimal: the digits' value is the number, and how many there are.
+-- Laws of numbers' text: the digits' value is the number, how many there are, and the sign.
 use mathlib.Core.Path.{_≡_, refl, sym, ap, _∙_}
 use mathlib.Core.Bool.{Bool, true, false, true≢false}
 use mathlib.Core.List.{List, [], _∷_, _++_}
 use Prim.Native.Nat.{ℕ, zero, suc, _+_, _-_, _*_, _/_, _%_, _^_, _≤_, _<_}
 use native.Mathlib.Omega.{arith}
-use native.Mathlib.Nat.{pow-succ'}
+use native.Mathlib.Nat.{pow-succ', div-le-self}
 use lib.Dec.{ltb}
 use lib.IntN.{ℤ, pos, negsuc, natAbs}
 use lib.ListN.{length, length-append}
@@ -13,7 +13,8 @@ use mir.Syntax.{w32}
 use mir.Val.{Fits, toZ, ofZ}
 use mir.Facts.{toZ-pos, toZ-ofZ, sfits-toZ}
 use borrow.Author.Tests.{ltb-true, ltb-false}
-use Rattle.core_term.specs.Decimal.{leading, digitsBy, decimal, valueAfter, value, signed, integerText}
+use Rattle.words.specs.ListLaws.{either}
+use Rattle.core_term.specs.Decimal.{leading, digitsBy, decimal, valueAfter, value, padded, pointed, signed, integerText, decimalText}
 
 -- one digit or more
 digits-case : {X : Type 0} (n : ℕ) → (n < 10 → X) → (10 ≤ n → X) → X
@@ -107,25 +108,77 @@ pub integer-plain : (w : ℕ) → w < 2147483648 → integerText w ≡ decimal w
 unfolding integerText signed
 integer-plain w h = rw (toZ-pos w32 h)
 
-signed-below : (y : ℤ) → ltZ y (pos 0) ≡ true → 45 ∷ decimal (natAbs y) ≡ signed y
-unfolding signed
-signed-below (pos m) h = absurd (omega (arith, ltb-true m 0 h))
-signed-below (negsuc m) h = refl
+module _ (text : ℕ → List ℕ) where
+  signed-below : (y : ℤ) → ltZ y (pos 0) ≡ true → 45 ∷ text (natAbs y) ≡ signed text y
+  unfolding signed
+  signed-below (pos m) h = absurd (omega (arith, ltb-true m 0 h))
+  signed-below (negsuc m) h = refl
 
-signed-above : (y : ℤ) → ltZ y (pos 0) ≡ false → decimal (natAbs y) ≡ signed y
-unfolding signed
-signed-above (pos m) h = refl
-signed-above (negsuc m) h = absurd (true≢false h)
+  signed-above : (y : ℤ) → ltZ y (pos 0) ≡ false → text (natAbs y) ≡ signed text y
+  unfolding signed
+  signed-above (pos m) h = refl
+  signed-above (negsuc m) h = absurd (true≢false h)
+
+  -- no more than a byte longer than the text of a size of at most 31 bits
+  signed-length : (w k : ℕ) → ((n : ℕ) → n < 4294967296 → length (text n) ≤ k) → length (signed text (toZ w32 w)) ≤ suc k
+  unfolding signed
+  signed-length w k h =
+      either (ltb w 2147483648)
+      (λ e. let l = ltb-true w 2147483648 e in rw (toZ-pos w32 l) (omega (arith, h w (omega arith))))
+      (λ e. let l = ltb-false w 2147483648 e in rw e (omega (arith, h (suc (4294967296 - suc w)) (omega arith))))
+
+-- ---- room
+
+pub integer-room : (w : ℕ) → length (integerText w) ≤ 11
+unfolding integerText
+integer-room w = signed-length decimal w 10 decimal-word
+
+pub padded-length : (k n : ℕ) → length (padded k n) ≡ suc k
+unfolding padded
+padded-length zero n = refl
+padded-length (suc k) n = ap suc (padded-length k (n % 10 ^ suc k))
+
+pub decimal-room : (w places : ℕ) → 1 ≤ places → length (decimalText w places) ≤ 12 + places
+unfolding decimalText pointed
+decimal-room w places h =
+    omega (
+      arith,
+      signed-length (pointed places) w (11 + places) (λ n l.
+          let whole = n / 10 ^ places in
+          omega (
+            arith,
+            decimal-word whole (omega (arith, div-le-self n (10 ^ places))),
+            length-append (decimal whole) (46 ∷ padded (places - 1) (n % 10 ^ places)),
+            padded-length (places - 1) (n % 10 ^ places),
+          )),
+    )
+
+-- ---- the number of a word
 
 -- the number of a word, as its bits come back, and its size: below 0 a minus stands before it
 module _ (w : ℕ) (word : Fits w32 w) (z : ℤ) (value : z ≡ toZ w32 w) (n : ℕ) (size : n ≡ natAbs (toZ w32 (ofZ w32 z))) where
   back : toZ w32 (ofZ w32 z) ≡ toZ w32 w
   back = ap (λ y. toZ w32 (ofZ w32 y)) value ∙ toZ-ofZ (sfits-toZ word)
 
+  module _ (text : ℕ → List ℕ) where
+    word-below : ltZ (toZ w32 (ofZ w32 z)) (pos 0) ≡ true → 45 ∷ text n ≡ signed text (toZ w32 w)
+    word-below h = ap (λ m. 45 ∷ text m) size ∙ signed-below text (toZ w32 (ofZ w32 z)) h ∙ ap (signed text) back
+
+    word-above : ltZ (toZ w32 (ofZ w32 z)) (pos 0) ≡ false → text n ≡ signed text (toZ w32 w)
+    word-above h = ap text size ∙ signed-above text (toZ w32 (ofZ w32 z)) h ∙ ap (signed text) back
+
   pub integer-below : ltZ (toZ w32 (ofZ w32 z)) (pos 0) ≡ true → 45 ∷ decimal n ≡ integerText w
   unfolding integerText
-  integer-below h = ap (λ m. 45 ∷ decimal m) size ∙ signed-below (toZ w32 (ofZ w32 z)) h ∙ ap signed back
+  integer-below = word-below decimal
 
   pub integer-above : ltZ (toZ w32 (ofZ w32 z)) (pos 0) ≡ false → decimal n ≡ integerText w
   unfolding integerText
-  integer-above h = ap decimal size ∙ signed-above (toZ w32 (ofZ w32 z)) h ∙ ap signed back
+  integer-above = word-above decimal
+
+  pub decimal-below : (places : ℕ) → ltZ (toZ w32 (ofZ w32 z)) (pos 0) ≡ true → 45 ∷ pointed places n ≡ decimalText w places
+  unfolding decimalText
+  decimal-below places = word-below (pointed places)
+
+  pub decimal-above : (places : ℕ) → ltZ (toZ w32 (ofZ w32 z)) (pos 0) ≡ false → pointed places n ≡ decimalText w places
+  unfolding decimalText
+  decimal-above places = word-above (pointed places)

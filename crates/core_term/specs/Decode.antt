@@ -4,7 +4,8 @@ use mathlib.Core.List.{List, [], _∷_}
 use mathlib.Core.Option.{Option, none, some}
 use Prim.Native.Nat.{ℕ, zero, suc}
 use lib.ListN.{length, replicate}
-use Rattle.datum.specs.Constant.{integer, boolean, isConstant}
+use Rattle.words.specs.Lists.{within}
+use Rattle.datum.specs.Constant.{integer, boolean, decimal, isConstant}
 use Rattle.datum.specs.Datum.{Datum, constantD, nameD, listD, Data, noneD, moreD}
 use Rattle.core_term.specs.Node.{Node, Got, got, missing, Read, nothing, withWord, withTwo, alone, codes, ofCode, isNode, sound, nodeAt, variableN, operationN, constantN, nameN, listN, ifN, lambdaN, applicationN}
 use Rattle.core_term.specs.Term.{variableC, operationC, datumC, ifC, lambdaC, applicationC, noneC, moreC, Plain, Plains}
@@ -34,7 +35,7 @@ dataBy one (suc n) = do
   ds ← dataBy one n
   pure (moreD d ds)
 
--- the datum that a node begins; only codes 2 to 5 begin one
+-- the datum that a node begins; only codes 2 to 5 and 9 begin one
 unfoldable pub datumFrom : Read Datum → Node → Read Datum
 datumFrom one (variableN n) = nothing
 datumFrom one (operationN n) = nothing
@@ -99,5 +100,5 @@ whole (got t []) = some t
 whole (got t (w ∷ ws)) = none
 
 unfoldable pub decode : List ℕ → Option Plain
-unfolding codes withWord withTwo alone integer boolean isConstant nothing ofCode isNode sound nodeAt pure after _>>=_ dataBy datumFrom datumAt termsBy termFrom termAt whole
+unfolding codes withWord withTwo alone integer boolean decimal within isConstant nothing ofCode isNode sound nodeAt pure after _>>=_ dataBy datumFrom datumAt termsBy termFrom termAt whole
 decode ws = whole (termAt (length ws) ws)

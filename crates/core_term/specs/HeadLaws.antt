@@ -1,7 +1,8 @@
 -- What the checker finds at the beginning of words, by their code.
-use mathlib.Core.Path.{_≡_, refl, sym, ap, _∙_}
+use mathlib.Core.Path.{_≡_, refl, sym, ap, subst, _∙_}
 use mathlib.Core.Bool.{Bool, true, false, _&&_, and-false, false≢true}
 use mathlib.Core.List.{List, [], _∷_, _++_}
+use mathlib.Core.Logic.{_⊎_, inl, inr}
 use Prim.Native.Nat.{ℕ, zero, suc, _+_, _≤_, _<_}
 use native.Mathlib.Omega.{arith}
 use native.Mathlib.Numerals.{add-one}
@@ -9,9 +10,12 @@ use native.Mathlib.Nat.{add-zero}
 use lib.Dec.{eqb, ltb, leb}
 use lib.ListN.{length, getD, drop}
 use borrow.Author.Tests.{lt-ltb, le-ltb, le-leb, lt-leb, eq-eqb, ne-eqb}
-use Rattle.words.specs.Limits.{formalsMost}
-use Rattle.datum.specs.Constant.{isConstant, constantWords, integer, boolean}
-use Rattle.core_term.specs.Node.{variableCode, operationCode, integerCode, booleanCode, nameCode, listCode, ifCode, lambdaCode, applicationCode, Node, isNode, isDatumNode, isListNode, nodeWords, parts, binds, Got, got, missing, nothing, withWord, withTwo, alone, codes, ofCode, sound, nodeAt, variableN, operationN, constantN, nameN, listN, ifN, lambdaN, applicationN}
+use Rattle.words.specs.Limits.{placesMost, formalsMost}
+use Rattle.words.specs.Lists.{within}
+use Rattle.words.specs.TestLaws.{within-is}
+use Rattle.datum.specs.Constant.{isConstant, constantWords, integer, boolean, decimal}
+use Rattle.datum.specs.ConstantLaws.{constant-case}
+use Rattle.core_term.specs.Node.{variableCode, operationCode, integerCode, booleanCode, nameCode, listCode, ifCode, lambdaCode, applicationCode, decimalCode, Node, isNode, isDatumNode, isListNode, nodeWords, parts, binds, Got, got, missing, nothing, withWord, withTwo, alone, codes, ofCode, sound, nodeAt, variableN, operationN, constantN, nameN, listN, ifN, lambdaN, applicationN}
 use Rattle.core_term.specs.NodeLaws.{NodeRead, node-read}
 use Rattle.core_term.specs.declared.head.Head.{Head}
 use Rattle.core_term.specs.declared.head.Head.the-variants as H
@@ -35,12 +39,12 @@ at-none [] h = refl
 at-none (w ∷ ws) h = absurd (omega arith)
 
 -- a code past the last
-pub at-past : (ws : List ℕ) → 9 ≤ getD ws 0 0 → nodeAt ws ≡ missing
+pub at-past : (ws : List ℕ) → decimalCode < getD ws 0 0 → nodeAt ws ≡ missing
 unfolding nodeAt ofCode sound codes nothing
 at-past [] h = absurd (omega arith)
 at-past (w ∷ ws) h = go w h
   where
-    go : (w : ℕ) → 9 ≤ w → sound (getD codes w nothing ws) ≡ missing
+    go : (w : ℕ) → decimalCode < w → sound (getD codes w nothing ws) ≡ missing
     go zero l = absurd (omega arith)
     go (suc zero) l = absurd (omega arith)
     go (suc (suc zero)) l = absurd (omega arith)
@@ -50,7 +54,8 @@ at-past (w ∷ ws) h = go w h
     go (suc (suc (suc (suc (suc (suc zero)))))) l = absurd (omega arith)
     go (suc (suc (suc (suc (suc (suc (suc zero))))))) l = absurd (omega arith)
     go (suc (suc (suc (suc (suc (suc (suc (suc zero)))))))) l = absurd (omega arith)
-    go (suc (suc (suc (suc (suc (suc (suc (suc (suc w))))))))) l = refl
+    go (suc (suc (suc (suc (suc (suc (suc (suc (suc zero))))))))) l = absurd (omega arith)
+    go (suc (suc (suc (suc (suc (suc (suc (suc (suc (suc w)))))))))) l = refl
 
 -- the words after the code
 pub word-found : (f : ℕ → Node) (ws : List ℕ) → 2 ≤ length ws → withWord f (drop 1 ws) ≡ got (f (getD ws 1 0)) (drop 2 ws)
@@ -114,6 +119,10 @@ if-at ws l e = rw (at-code ws ifCode e l)
 pub lambda-at : (ws : List ℕ) → 3 ≤ length ws → getD ws 0 0 ≡ lambdaCode → nodeAt ws ≡ sound (got (lambdaN (getD ws 1 0) (getD ws 2 0)) (drop 3 ws))
 unfolding codes
 lambda-at ws l e = let h : 1 ≤ length ws = omega arith in rw (at-code ws lambdaCode e h, two-found lambdaN ws l)
+
+pub decimal-at : (ws : List ℕ) → 3 ≤ length ws → getD ws 0 0 ≡ decimalCode → nodeAt ws ≡ sound (got (constantN (decimal (getD ws 1 0) (getD ws 2 0))) (drop 3 ws))
+unfolding codes
+decimal-at ws l e = let h : 1 ≤ length ws = omega arith in rw (at-code ws decimalCode e h, two-found (λ w p. constantN (decimal w p)) ws l)
 
 -- ---- what the checker finds
 
@@ -185,6 +194,15 @@ module _ (operations base : ℕ) (nameGood : ℕ → Bool) (flags : List ℕ) (b
     unfolding headOf window allowed isDatumNode sound isNode
     lambda-other h k = rw (lambda-at ws l e, le-leb _ _ h, free, ne-eqb _ _ k, and-false)
 
+  module _ (l : 3 ≤ length ws) (e : getD ws 0 0 ≡ decimalCode) where
+    pub decimal-found : 1 ≤ getD ws 2 0 → getD ws 2 0 ≤ placesMost → H.Node 3 0 b false ≡ Answer
+    unfolding headOf window allowed nodeWords parts binds isDatumNode isListNode isConstant constantWords decimal sound isNode
+    decimal-found h k = rw (decimal-at ws l e, within-is 1 placesMost _ h k, within-is 1 placesMost _ h k, add-zero)
+
+    pub decimal-other : within 1 placesMost (getD ws 2 0) ≡ false → H.No ≡ Answer
+    unfolding headOf sound isNode isConstant decimal
+    decimal-other h = rw (decimal-at ws l e, h)
+
 -- ---- too few words
 
 -- only an if has no more than its code
@@ -203,39 +221,47 @@ short-missing (w ∷ []) k l = go w k
     go (suc (suc (suc (suc (suc (suc zero)))))) k = absurd (k refl)
     go (suc (suc (suc (suc (suc (suc (suc zero))))))) k = refl
     go (suc (suc (suc (suc (suc (suc (suc (suc zero)))))))) k = refl
-    go (suc (suc (suc (suc (suc (suc (suc (suc (suc w))))))))) k = refl
+    go (suc (suc (suc (suc (suc (suc (suc (suc (suc zero))))))))) k = refl
+    go (suc (suc (suc (suc (suc (suc (suc (suc (suc (suc w)))))))))) k = refl
 short-missing (w ∷ a ∷ ws) k l = absurd (omega arith)
 
--- code 7
-pub lambda-short : (ws : List ℕ) → getD ws 0 0 ≡ lambdaCode → length ws < 3 → nodeAt ws ≡ missing
-unfolding codes sound
-lambda-short ws e l = go (length ws) refl
+-- a node of three words
+two-short : (k : ℕ) (f : ℕ → ℕ → Node) (ws : List ℕ) → getD codes k nothing ≡ withTwo f → getD ws 0 0 ≡ k → length ws < 3 → nodeAt ws ≡ missing
+unfolding sound
+two-short k f ws is e l = go (length ws) refl
   where
     go : (n : ℕ) → length ws ≡ n → nodeAt ws ≡ missing
     go zero h = at-none ws h
-    go (suc n) h = let k : 1 ≤ length ws = omega arith in rw (at-code ws lambdaCode e k, two-missing lambdaN ws l)
+    go (suc n) h = let m : 1 ≤ length ws = omega arith in rw (at-code ws k e m, is, two-missing f ws l)
+
+pub lambda-short : (ws : List ℕ) → getD ws 0 0 ≡ lambdaCode → length ws < 3 → nodeAt ws ≡ missing
+unfolding codes
+lambda-short ws = two-short lambdaCode lambdaN ws refl
+
+pub decimal-short : (ws : List ℕ) → getD ws 0 0 ≡ decimalCode → length ws < 3 → nodeAt ws ≡ missing
+unfolding codes
+decimal-short ws = two-short decimalCode (λ w p. constantN (decimal w p)) ws refl
 
 -- ---- no datum
 
 -- the code of a node that begins a datum
-datum-code : (x : Node) (r : List ℕ) → isNode x ≡ true → isDatumNode x ≡ true → (integerCode ≤ getD (nodeWords x ++ r) 0 0) × (getD (nodeWords x ++ r) 0 0 ≤ listCode)
-unfolding isNode isDatumNode nodeWords constantWords isConstant
+abbrev BeginsDatum : ℕ → Type 0
+BeginsDatum code = ((integerCode ≤ code) × (code ≤ listCode)) ⊎ (code ≡ decimalCode)
+
+datum-code : (x : Node) (r : List ℕ) → isNode x ≡ true → isDatumNode x ≡ true → BeginsDatum (getD (nodeWords x ++ r) 0 0)
+unfolding isNode isDatumNode nodeWords constantWords integer boolean decimal
 datum-code (variableN n) r p h = absurd (false≢true h)
 datum-code (operationN n) r p h = absurd (false≢true h)
-datum-code (constantN a) r p h = go (a .kind) p
-  where
-    go : (k : ℕ) → getD (false ∷ eqb (a .second) 0 ∷ (ltb (a .first) 2 && eqb (a .second) 0) ∷ []) k false ≡ true → (integerCode ≤ suc k) × (suc k ≤ listCode)
-    go zero q = absurd (false≢true q)
-    go (suc zero) q = omega arith
-    go (suc (suc zero)) q = omega arith
-    go (suc (suc (suc k))) q = absurd (false≢true q)
-datum-code (nameN n) r p h = omega arith
-datum-code (listN n) r p h = omega arith
+datum-code (constantN a) r p h =
+    constant-case (λ b. BeginsDatum (getD (constantWords b ++ r) 0 0))
+    (λ w. inl (omega arith, omega arith)) (λ w l. inl (omega arith, omega arith)) (λ w q l. inr refl) a p
+datum-code (nameN n) r p h = inl (omega arith, omega arith)
+datum-code (listN n) r p h = inl (omega arith, omega arith)
 datum-code ifN r p h = absurd (false≢true h)
 datum-code (lambdaN first n) r p h = absurd (false≢true h)
 datum-code (applicationN n) r p h = absurd (false≢true h)
 
--- a datum is wanted, and the code is none of 2 to 5
+-- a datum is wanted, and the code is none of 2 to 5 and 9
 module _ (operations base : ℕ) (nameGood : ℕ → Bool) (flags : List ℕ) (b : ℕ) (q : Bool) (ws : List ℕ) (wanted : q ≡ true) where
   no-datum : (g : Got Node) → ((x : Node) (r : List ℕ) → g ≡ got x r → isDatumNode x ≡ true → ⊥) → H.No ≡ headOf (window operations nameGood base) q flags b g
   unfolding headOf
@@ -246,11 +272,13 @@ module _ (operations base : ℕ) (nameGood : ℕ → Bool) (flags : List ℕ) (b
       go true e = absurd (h x r refl e)
       go false e = rw (wanted, e)
 
-  pub quoted-none : (integerCode ≤ getD ws 0 0 → getD ws 0 0 ≤ listCode → ⊥) → H.No ≡ Answer operations base nameGood flags b q ws
-  quoted-none h = no-datum (nodeAt ws) (λ x r e d. other x r (node-read ws x r e) d)
+  pub quoted-none : (integerCode ≤ getD ws 0 0 → getD ws 0 0 ≤ listCode → ⊥) → (getD ws 0 0 ≡ decimalCode → ⊥) → H.No ≡ Answer operations base nameGood flags b q ws
+  quoted-none h n = no-datum (nodeAt ws) (λ x r e d. other x r (node-read ws x r e) d)
     where
+      neither : BeginsDatum (getD ws 0 0) → ⊥
+      neither (inl (a, b)) = h a b
+      neither (inr e) = n e
+
       other : (x : Node) (r : List ℕ) → NodeRead ws x r → isDatumNode x ≡ true → ⊥
       other x r k d =
-          let c = datum-code x r (k .proper) d in
-          let e : getD ws 0 0 ≡ getD (nodeWords x ++ r) 0 0 = ap (λ (l : List ℕ). getD l 0 0) (k .words) in
-          h (omega arith) (omega arith)
+          neither (subst BeginsDatum (sym (ap (λ (l : List ℕ). getD l 0 0) (k .words))) (datum-code x r (k .proper) d))

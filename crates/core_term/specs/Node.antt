@@ -6,7 +6,7 @@ use Prim.Native.Nat.{ℕ, suc}
 use lib.Dec.{leb}
 use lib.ListN.{getD}
 use Rattle.words.specs.Limits.{formalsMost}
-use Rattle.datum.specs.Constant.{Constant, isConstant, constantWords, integer, boolean}
+use Rattle.datum.specs.Constant.{Constant, isConstant, constantWords, integer, boolean, decimal}
 
 -- ---- the codes; src/codes.rt has the same numbers for code. Those of constants are constantWords of datum/specs/Constant.antt
 
@@ -36,6 +36,9 @@ lambdaCode = 7
 
 abbrev pub applicationCode : ℕ
 applicationCode = 8
+
+abbrev pub decimalCode : ℕ
+decimalCode = 9
 
 -- ---- nodes
 
@@ -81,7 +84,7 @@ binds ifN = 0
 binds (lambdaN first n) = n
 binds (applicationN n) = 0
 
--- codes 2 to 5 begin a datum
+-- codes 2 to 5 and 9 begin a datum
 unfoldable pub isDatumNode : Node → Bool
 isDatumNode (variableN n) = false
 isDatumNode (operationN n) = false
@@ -103,7 +106,7 @@ isListNode ifN = false
 isListNode (lambdaN first n) = false
 isListNode (applicationN n) = false
 
--- booleans are 0 or 1, and a lambda has 0 to 8 variables
+-- booleans are 0 or 1, decimals have 1 to 4 places, and a lambda has 0 to 8 variables
 unfoldable pub isNode : Node → Bool
 isNode (variableN n) = true
 isNode (operationN n) = true
@@ -140,11 +143,12 @@ withTwo f (a ∷ b ∷ ws) = got (f a b) ws
 unfoldable pub alone : Node → Read Node
 alone x ws = got x ws
 
--- what each code from 0 to 8 reads
+-- what each code from 0 to 9 reads
 unfoldable pub codes : List (Read Node)
 codes =
     withWord variableN ∷ withWord operationN ∷ withWord (λ w. constantN (integer w)) ∷ withWord (λ w. constantN (boolean w)) ∷
-    withWord nameN ∷ withWord listN ∷ alone ifN ∷ withTwo lambdaN ∷ withWord applicationN ∷ []
+    withWord nameN ∷ withWord listN ∷ alone ifN ∷ withTwo lambdaN ∷ withWord applicationN ∷
+    withTwo (λ w p. constantN (decimal w p)) ∷ []
 
 unfoldable pub ofCode : Read Node
 ofCode [] = missing

@@ -4,10 +4,10 @@ use mathlib.Core.Bool.{Bool, true, false, cond, _&&_, false≢true}
 use mathlib.Core.List.{List, [], _∷_, _++_}
 use Prim.Native.Nat.{ℕ, zero, suc, _≤_}
 use native.Mathlib.Omega.{arith}
-use lib.Dec.{eqb, ltb}
 use lib.ListN.{length}
-use borrow.Author.Tests.{eqb-true}
-use Rattle.datum.specs.Constant.{Constant, isConstant, constantWords, integer, boolean}
+use borrow.Author.Tests.{lt-ltb}
+use Rattle.datum.specs.Constant.{Constant, isConstant, constantWords, integer, boolean, decimal}
+use Rattle.datum.specs.ConstantLaws.{constant-case, words-few}
 use Rattle.core_term.specs.Node.{Node, got, missing, nodeWords, isNode, nodeAt, nothing, withWord, withTwo, alone, codes, ofCode, sound, variableN, operationN, constantN, nameN, listN, ifN, lambdaN, applicationN}
 
 -- ---- nodeWords, then nodeAt
@@ -16,29 +16,23 @@ sound-node : (x : Node) (r : List ℕ) → isNode x ≡ true → sound (got x r)
 unfolding sound
 sound-node x r h = rw h
 
--- a constant of its three words
-made : ℕ → ℕ → ℕ → Constant
-made k w v = record { kind = k; first = w; second = v }
-
 pub both : (a b : Bool) → (a && b) ≡ true → (a ≡ true) × (b ≡ true)
 both true b h = (refl, h)
 both false b h = absurd (false≢true h)
 
-constant-round : (k w v : ℕ) (r : List ℕ) → isConstant (made k w v) ≡ true → nodeAt (suc k ∷ w ∷ r) ≡ got (constantN (made k w v)) r
-unfolding made nodeAt ofCode codes withWord integer boolean isConstant isNode
-constant-round zero w v r h = absurd (false≢true h)
-constant-round (suc zero) w v r h = let e : v ≡ 0 = eqb-true v 0 h in rw e (sound-node (constantN (integer w)) r refl)
-constant-round (suc (suc zero)) w v r h =
-    let e : v ≡ 0 = eqb-true v 0 (both (ltb w 2) (eqb v 0) h .1) in
-    let g : isNode (constantN (boolean w)) ≡ true = rw (both (ltb w 2) (eqb v 0) h .0) in
-    rw e (sound-node (constantN (boolean w)) r g)
-constant-round (suc (suc (suc k))) w v r h = absurd (false≢true h)
+constant-round : (r : List ℕ) (a : Constant) → isConstant a ≡ true → nodeAt (constantWords a ++ r) ≡ got (constantN a) r
+unfolding nodeAt ofCode codes withWord withTwo integer boolean decimal isConstant isNode constantWords
+constant-round r =
+    constant-case (λ a. nodeAt (constantWords a ++ r) ≡ got (constantN a) r)
+    (λ w. sound-node (constantN (integer w)) r refl)
+    (λ w l. let g : isNode (constantN (boolean w)) ≡ true = rw (lt-ltb w 2 l) in sound-node (constantN (boolean w)) r g)
+    (λ w p l. sound-node (constantN (decimal w p)) r l)
 
 pub node-round : (x : Node) (r : List ℕ) → isNode x ≡ true → nodeAt (nodeWords x ++ r) ≡ got x r
-unfolding nodeAt ofCode nodeWords isNode codes withWord withTwo alone constantWords made
+unfolding nodeAt ofCode nodeWords isNode codes withWord withTwo alone
 node-round (variableN n) r h = sound-node (variableN n) r h
 node-round (operationN n) r h = sound-node (operationN n) r h
-node-round (constantN a) r h = constant-round (a .kind) (a .first) (a .second) r h
+node-round (constantN a) r h = constant-round r a h
 node-round (nameN n) r h = sound-node (nameN n) r h
 node-round (listN n) r h = sound-node (listN n) r h
 node-round ifN r h = sound-node ifN r h
@@ -73,14 +67,15 @@ unfolding withWord
 word-read k f [] x r is h = no-node x r h
 word-read k f (a ∷ ws) x r is h = sound-read (k ∷ a ∷ ws) r x (f a) ws (rw (is a)) h
 
-two-read : (first : List ℕ) (x : Node) (r : List ℕ) → sound (withTwo lambdaN first) ≡ got x r → NodeRead (7 ∷ first) x r
-unfolding withTwo nodeWords
-two-read [] x r h = no-node x r h
-two-read (a ∷ []) x r h = no-node x r h
-two-read (a ∷ b ∷ ws) x r h = sound-read (7 ∷ a ∷ b ∷ ws) r x (lambdaN a b) ws refl h
+two-read : (k : ℕ) (f : ℕ → ℕ → Node) (ws : List ℕ) (x : Node) (r : List ℕ) → ((a b : ℕ) → nodeWords (f a b) ≡ k ∷ a ∷ b ∷ [])
+    → sound (withTwo f ws) ≡ got x r → NodeRead (k ∷ ws) x r
+unfolding withTwo
+two-read k f [] x r is h = no-node x r h
+two-read k f (a ∷ []) x r is h = no-node x r h
+two-read k f (a ∷ b ∷ ws) x r is h = sound-read (k ∷ a ∷ b ∷ ws) r x (f a b) ws (rw (is a b)) h
 
 pub node-read : (ws : List ℕ) (x : Node) (r : List ℕ) → nodeAt ws ≡ got x r → NodeRead ws x r
-unfolding nodeAt ofCode nodeWords codes nothing alone constantWords integer boolean
+unfolding nodeAt ofCode nodeWords codes nothing alone constantWords integer boolean decimal
 node-read [] x r h = no-node x r h
 node-read (zero ∷ ws) x r h = word-read 0 variableN ws x r (λ a. refl) h
 node-read (suc zero ∷ ws) x r h = word-read 1 operationN ws x r (λ a. refl) h
@@ -89,16 +84,17 @@ node-read (suc (suc (suc zero)) ∷ ws) x r h = word-read 3 (λ w. constantN (bo
 node-read (suc (suc (suc (suc zero))) ∷ ws) x r h = word-read 4 nameN ws x r (λ a. refl) h
 node-read (suc (suc (suc (suc (suc zero)))) ∷ ws) x r h = word-read 5 listN ws x r (λ a. refl) h
 node-read (suc (suc (suc (suc (suc (suc zero))))) ∷ ws) x r h = sound-read (6 ∷ ws) r x ifN ws refl h
-node-read (suc (suc (suc (suc (suc (suc (suc zero)))))) ∷ ws) x r h = two-read ws x r h
+node-read (suc (suc (suc (suc (suc (suc (suc zero)))))) ∷ ws) x r h = two-read 7 lambdaN ws x r (λ a b. refl) h
 node-read (suc (suc (suc (suc (suc (suc (suc (suc zero))))))) ∷ ws) x r h = word-read 8 applicationN ws x r (λ a. refl) h
-node-read (suc (suc (suc (suc (suc (suc (suc (suc (suc k)))))))) ∷ ws) x r h = no-node x r h
+node-read (suc (suc (suc (suc (suc (suc (suc (suc (suc zero)))))))) ∷ ws) x r h = two-read 9 (λ w p. constantN (decimal w p)) ws x r (λ a b. refl) h
+node-read (suc (suc (suc (suc (suc (suc (suc (suc (suc (suc k))))))))) ∷ ws) x r h = no-node x r h
 
 -- a node has at least one word
 pub node-some : (x : Node) → 1 ≤ length (nodeWords x)
-unfolding nodeWords constantWords
+unfolding nodeWords
 node-some (variableN n) = omega arith
 node-some (operationN n) = omega arith
-node-some (constantN a) = omega arith
+node-some (constantN a) = omega (arith, words-few a .0)
 node-some (nameN n) = omega arith
 node-some (listN n) = omega arith
 node-some ifN = omega arith

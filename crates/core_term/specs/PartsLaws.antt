@@ -6,7 +6,7 @@ use Prim.Native.Nat.{ℕ, suc, _+_, _≤_}
 use native.Mathlib.Omega.{arith}
 use native.Mathlib.Nat.{add-zero}
 use lib.ListN.{length, replicate, length-append, length-replicate}
-use Rattle.datum.specs.Constant.{constantWords}
+use Rattle.datum.specs.ConstantLaws.{words-few}
 use Rattle.datum.specs.Datum.{constantD, nameD, listD, Data, noneD, moreD}
 use Rattle.datum.specs.Datum as D
 use Rattle.core_term.specs.Node.{Node, nodeWords, parts, binds, isDatumNode, isListNode, variableN, operationN, constantN, nameN, listN, ifN, lambdaN, applicationN}
@@ -36,10 +36,10 @@ encode-parts (applicationC h ts) = refl
 
 -- a term has at least two words
 pub encode-two : (t : Plain) → 2 ≤ length (encode t)
-unfolding encode datumWords nodeWords constantWords
+unfolding encode datumWords nodeWords
 encode-two (variableC n) = omega arith
 encode-two (operationC n) = omega arith
-encode-two (datumC (constantD a)) = omega arith
+encode-two (datumC (constantD a)) = omega (arith, words-few a .0)
 encode-two (datumC (nameD n)) = omega arith
 encode-two (datumC (listD ds)) = omega arith
 encode-two (ifC x y z) = omega (arith, encode-two x, length-append (encode x) (encode y ++ encode z))

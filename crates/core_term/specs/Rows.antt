@@ -10,7 +10,7 @@ use Rattle.words.specs.Text.{bytes}
 use Rattle.datum.specs.NameTable.{hasName, lengthAt, nameAt, slot}
 use Rattle.core_term.specs.Term.{Plain}
 use Rattle.core_term.specs.Check.{termOf}
-use Rattle.core_term.specs.Decimal.{leading, digitsBy, decimal, signed, integerText}
+use Rattle.core_term.specs.Decimal.{leading, digitsBy, decimal, padded, pointed, signed, integerText, decimalText}
 use Rattle.core_term.specs.Text.{spacedAfter, spaced, parenthesized, variableText, operationText, formalTexts, constantText, bare, outermost, text}
 
 -- nine slots, of which the last is x
@@ -23,7 +23,7 @@ textOr19 table none = bytes "ground 19"
 textOr19 table (some t) = text (nameAt table) t
 
 unfoldable shown : ℕ → List ℕ → List ℕ → List ℕ
-unfolding hasName within lengthAt nameAt bytes termOf leading digitsBy decimal signed integerText spacedAfter spaced parenthesized variableText operationText formalTexts constantText bare outermost text textOr19
+unfolding hasName within lengthAt nameAt bytes termOf leading digitsBy decimal padded pointed signed integerText decimalText spacedAfter spaced parenthesized variableText operationText formalTexts constantText bare outermost text textOr19
 shown operations table ws = textOr19 table (termOf operations (hasName table) ws)
 
 record Row : Type 0 where
@@ -39,7 +39,7 @@ unfoldable row : List ℕ → S.String → Row
 unfolding rowWith names
 row = rowWith 1 names
 
--- W1 to W17, with one operation where no count is given
+-- W1 to W25, with one operation where no count is given
 unfoldable rows : List Row
 unfolding row
 rows =
@@ -65,6 +65,13 @@ rows =
     row (5 ∷ 0 ∷ []) "(quote ())" ∷
     row (7 ∷ 0 ∷ 1 ∷ 8 ∷ 1 ∷ 0 ∷ 0 ∷ 7 ∷ 1 ∷ 0 ∷ 0 ∷ 0 ∷ []) "(lambda (v0) (v0 (lambda () v0)))" ∷
     row [] "ground 19" ∷
+    row (9 ∷ 80 ∷ 2 ∷ []) "0.80" ∷
+    row (9 ∷ 4294967291 ∷ 1 ∷ []) "-0.5" ∷
+    row (9 ∷ 2147483648 ∷ 4 ∷ []) "-214748.3648" ∷
+    row (5 ∷ 4 ∷ 9 ∷ 0 ∷ 1 ∷ 9 ∷ 123400 ∷ 4 ∷ 9 ∷ 2147483647 ∷ 2 ∷ 9 ∷ 2147483648 ∷ 1 ∷ []) "(quote (0.0 12.3400 21474836.47 -214748364.8))" ∷
+    row (9 ∷ 8 ∷ 0 ∷ []) "ground 19" ∷
+    row (9 ∷ 8 ∷ 5 ∷ []) "ground 19" ∷
+    row (9 ∷ 8 ∷ []) "ground 19" ∷
     rowWith 256 names (1 ∷ 255 ∷ []) "o255" ∷
     rowWith 257 names (1 ∷ 255 ∷ []) "ground 19" ∷
     rowWith 1 (replicate 65535 1) (4 ∷ 1023 ∷ []) "ground 19" ∷

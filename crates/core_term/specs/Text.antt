@@ -5,10 +5,10 @@ use Prim.Native.Nat.{ℕ, zero, suc}
 use lib.Dec.{eqb}
 use lib.ListN.{length}
 use Rattle.words.specs.Text.{bytes}
-use Rattle.datum.specs.Constant.{Constant}
+use Rattle.datum.specs.Constant.{Constant, decimalKind}
 use Rattle.datum.specs.Datum.{Datum, constantD, nameD, listD, Data, noneD, moreD}
 use Rattle.core_term.specs.Term.{Term, variableC, operationC, datumC, ifC, lambdaC, applicationC, Terms, noneC, moreC}
-use Rattle.core_term.specs.Decimal.{decimal, integerText}
+use Rattle.core_term.specs.Decimal.{decimal, integerText, decimalText}
 
 -- single spaces between
 unfoldable pub spacedAfter : List ℕ → List (List ℕ) → List ℕ
@@ -34,9 +34,11 @@ unfoldable pub formalTexts : ℕ → ℕ → List (List ℕ)
 formalTexts first zero = []
 formalTexts first (suc n) = variableText first ∷ formalTexts (suc first) n
 
--- an integer's decimal, #t or #f
+-- an integer, a decimal with its places, #t or #f
 unfoldable pub constantText : Constant → List ℕ
-constantText a = cond (eqb (a .kind) 1) (integerText (a .first)) (cond (eqb (a .first) 0) (bytes "#f") (bytes "#t"))
+constantText a =
+    cond (eqb (a .kind) 1) (integerText (a .first)) (cond (eqb (a .kind) decimalKind) (decimalText (a .first) (a .second))
+    (cond (eqb (a .first) 0) (bytes "#f") (bytes "#t")))
 
 module _ (spell : ℕ → List ℕ) where
   -- inside quote: bare names and lists

@@ -8,16 +8,17 @@ use lib.Dec.{eqb, ltb, leb}
 use lib.ListN.{length, drop, length-append, length-take}
 use borrow.Author.Tests.{ltb-true, ltb-false, leb-true, eqb-true, lt-ltb}
 use Rattle.words.specs.ListLaws.{either}
-use Rattle.words.specs.TestLaws.{and-parts, and-both, within-most}
+use Rattle.words.specs.TestLaws.{and-parts, and-both, within-least, within-most}
 use Rattle.words.specs.Text.{bytes}
-use Rattle.datum.specs.Constant.{Constant, constantWords}
+use Rattle.datum.specs.Constant.{Constant, isConstant, integer, boolean, decimal}
+use Rattle.datum.specs.ConstantLaws.{constant-case, words-few}
 use Rattle.datum.specs.Datum.{Datum, constantD, nameD, listD, Data, noneD, moreD}
 use Rattle.datum.specs.NameTable.{lengthAt, nameAt, hasName}
 use Rattle.core_term.specs.Node.{Node, nodeWords, binds, isNode, variableN, operationN, constantN, nameN, listN, ifN, lambdaN, applicationN}
 use Rattle.core_term.specs.Term.{variableC, operationC, datumC, ifC, lambdaC, applicationC, noneC, moreC, Plain, Plains, variables, variablesAll}
 use Rattle.core_term.specs.Words.{datumWords, dataWords, encode, encodeAll}
-use Rattle.core_term.specs.Decimal.{decimal, signed, integerText}
-use Rattle.core_term.specs.DecimalLaws.{decimal-count, decimal-word, integer-plain}
+use Rattle.core_term.specs.Decimal as N
+use Rattle.core_term.specs.DecimalLaws.{decimal-count, integer-room, decimal-room}
 use Rattle.core_term.specs.Text.{spacedAfter, spaced, parenthesized, variableText, operationText, formalTexts, constantText, bare, bares, outermost, text, texts}
 use Rattle.core_term.specs.Every.{Asked, everyDatum, everyData, every, everyTerm, proper, wellFormed}
 use Rattle.core_term.specs.EveryLaws.{every-from}
@@ -36,7 +37,7 @@ textWordsMost = 1000000000
 abbrev pub limit : ℕ
 limit = 10000000000
 
-pub number-room : (n : ℕ) → n < limit → length (decimal n) ≤ 10
+pub number-room : (n : ℕ) → n < limit → length (N.decimal n) ≤ 10
 number-room n h = decimal-count 9 n h
 
 -- ---- texts in a list
@@ -67,18 +68,13 @@ unfolding formalTexts widths variableText
 formals-room first zero h = omega arith
 formals-room first (suc n) h = omega (arith, number-room first (omega arith), formals-room (suc first) n (omega arith))
 
-integer-room : (w : ℕ) → length (integerText w) ≤ 11
-unfolding integerText signed
-integer-room w =
-    either (ltb w 2147483648)
-    (λ e. let h = ltb-true w 2147483648 e in rw (integer-plain w h) (omega (arith, decimal-word w (omega arith))))
-    (λ e. let h = ltb-false w 2147483648 e in rw e (omega (arith, decimal-word (suc (4294967296 - suc w)) (omega arith))))
-
-constant-room : (a : Constant) → length (constantText a) ≤ 11
-unfolding constantText bytes
-constant-room a =
-    either (eqb (a .kind) 1) (λ e. rw e (integer-room (a .first)))
-    (λ e. either (eqb (a .first) 0) (λ f. rw (e, f) (omega arith)) (λ f. rw (e, f) (omega arith)))
+constant-room : (a : Constant) → isConstant a ≡ true → length (constantText a) ≤ 16
+unfolding constantText bytes integer boolean decimal
+constant-room =
+    constant-case (λ a. length (constantText a) ≤ 16)
+    (λ w. omega (arith, integer-room w))
+    (λ w l. either (eqb w 0) (λ f. rw f (omega arith)) (λ f. rw f (omega arith)))
+    (λ w p h. omega (arith, decimal-room w p (within-least 1 4 p h), within-most 1 4 p h))
 
 name-room : (names : List ℕ) (n : ℕ) → hasName names n ≡ true → length (nameAt names n) ≤ 63
 unfolding hasName nameAt
@@ -92,7 +88,7 @@ module _ (names : List ℕ) where
   unfoldable narrowNode : Node → Bool
   narrowNode (variableN n) = ltb n limit
   narrowNode (operationN n) = ltb n limit
-  narrowNode (constantN a) = true
+  narrowNode (constantN a) = isConstant a
   narrowNode (nameN n) = hasName names n
   narrowNode (listN n) = true
   narrowNode ifN = true
@@ -106,10 +102,10 @@ module _ (names : List ℕ) where
   spell = nameAt names
 
   mutual
-    unfolding bare bares datumWords dataWords nodeWords constantWords everyDatum everyData narrow narrowNode widths
+    unfolding bare bares datumWords dataWords nodeWords everyDatum everyData narrow narrowNode widths
 
     datum-room : (d : Datum) (b : ℕ) → everyDatum narrow tt b d ≡ true → suc (length (bare spell d)) ≤ textRate * length (datumWords d)
-    datum-room (constantD a) b h = omega (arith, constant-room a)
+    datum-room (constantD a) b h = omega (arith, constant-room a h, words-few a .0)
     datum-room (nameD n) b h = omega (arith, name-room names n h)
     datum-room (listD ds) b h = omega (arith, any-room (bares spell ds), data-room ds b h)
 
@@ -240,7 +236,7 @@ module _ (operations : ℕ) (names ws : List ℕ) (t : Plain) (a : Accepted oper
   unfolding asks asked narrowNode isNode variableInside firstNumber known
   node-narrow e f b (variableN n) r l h = lt-ltb n limit (omega (arith, low-enough, r n (h scope)))
   node-narrow e f b (operationN n) r l h = lt-ltb n limit (omega (arith, a .few, ltb-true n operations (h good)))
-  node-narrow e f b (constantN a) r l h = refl
+  node-narrow e f b (constantN a) r l h = h shape
   node-narrow e f b (nameN n) r l h = h good
   node-narrow e f b (listN n) r l h = refl
   node-narrow e f b ifN r l h = refl

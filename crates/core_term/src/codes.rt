@@ -16,3 +16,5 @@ pub const IF: u32 = 6;
 pub const LAMBDA: u32 = 7;
 
 pub const APPLICATION: u32 = 8;
+
+pub const DECIMAL: u32 = 9;

@@ -4,13 +4,14 @@ ghost use mathlib.Core.Bool.{Bool, false};
 ghost use mathlib.Core.List.{List};
 ghost use Prim.Native.Nat.{ℕ, _≤_, _<_};
 ghost use lib.ListN.{length, getD};
-ghost use Rattle.core_term.specs.Node.{listCode, lambdaCode, nodeAt};
+ghost use Rattle.core_term.specs.Node.{listCode, lambdaCode, decimalCode, nodeAt};
 ghost use Rattle.core_term.specs.Window.{goodName, window, headOf, leafHead};
 use crate::codes;
 use crate::flags::in_scope;
 use words::FORMALS;
 use words::NAME_LENGTH;
 use words::NAMES;
+use words::PLACES;
 use words::SLOT;
 
 // What a node asks for: its own words, the parts that follow, how many variables are bound behind it, and whether its
@@ -103,7 +104,25 @@ fn lambda_head(words: &[u32], bound: usize) -> Head
     Head::Node(3, 1, first + wide(count), false)
 }
 
-// A node with parts: codes 5 to 8.
+// A decimal: three words, the last of them 1 to 4.
+fn decimal_head(words: &[u32], bound: usize) -> Head
+    requires { ⌜ (1 ≤ length (now words)) × (getD (now words) 0 0 ≡ decimalCode) ⌝ }
+    ensures { λ r. ⌜ ((operations base : ℕ) (nameGood : ℕ → Bool) (flags : List ℕ) (quoted : Bool) → r ≡ headOf (window operations nameGood base) quoted flags bound (nodeAt (now (words .entry)))) ⌝ }
+{
+    if words.len() < 3 {
+        return Head::No;
+    }
+    let places = words[2];
+    if places < 1 {
+        return Head::No;
+    }
+    if places > PLACES {
+        return Head::No;
+    }
+    Head::Node(3, 0, bound, false)
+}
+
+// A node with parts, or a decimal: codes 5 to 9.
 fn branch(words: &[u32], bound: usize, quoted: bool) -> Head
     requires { ⌜ (1 ≤ length (now words)) × (listCode ≤ getD (now words) 0 0) ⌝ }
     ensures { λ r. ⌜ ((operations base : ℕ) (nameGood : ℕ → Bool) (flags : List ℕ) → r ≡ headOf (window operations nameGood base) quoted flags bound (nodeAt (now (words .entry)))) ⌝ }
@@ -114,6 +133,9 @@ fn branch(words: &[u32], bound: usize, quoted: bool) -> Head
             return Head::No;
         }
         return Head::Node(1, 3, bound, false);
+    }
+    if code == codes::DECIMAL {
+        return decimal_head(words, bound);
     }
     if words.len() < 2 {
         return Head::No;

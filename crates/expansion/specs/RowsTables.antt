@@ -32,26 +32,34 @@ ran r =
 unfoldable pub ifAsOperation : List ℕ
 ifAsOperation = 4 ∷ 1 ∷ 4 ∷ 4 ∷ 2 ∷ 3 ∷ 3 ∷ 1 ∷ 0 ∷ 0 ∷ 0 ∷ 0 ∷ 4 ∷ 5 ∷ 6 ∷ 1 ∷ 5 ∷ 0 ∷ 0 ∷ 0 ∷ 0 ∷ []
 
+-- `(f) (f 0.80)`
+unfoldable pub withDecimal : List ℕ
+withDecimal =
+    4 ∷ 1 ∷ 4 ∷ 4 ∷ 2 ∷ 3 ∷ 3 ∷ 8 ∷ 0 ∷ 0 ∷ 0 ∷ 0 ∷ 4 ∷ 5 ∷ 10 ∷ 4 ∷ 6 ∷ 7 ∷ 3 ∷ 8 ∷ 0 ∷ 4 ∷ 8 ∷ 9 ∷ 5 ∷ 80 ∷ 2 ∷ 0 ∷ 0 ∷ 0 ∷ 0 ∷ 0 ∷ 0 ∷ []
+
 unfoldable pub rows : List Row
-unfolding row X1 X2 X3 ifAsOperation
+unfolding row X1 X2 X3 ifAsOperation withDecimal
 rows =
     -- X1, X2, F4: accepted with the least tables, no fuel needed
-    row X1 0 120 10 accepted (2 ∷ 5 ∷ []) ∷
-    row X2 0 120 10 accepted (2 ∷ 5 ∷ []) ∷
+    row X1 0 120 15 accepted (2 ∷ 5 ∷ []) ∷
+    row X2 0 120 15 accepted (2 ∷ 5 ∷ []) ∷
     -- the most fuel, and larger tables
-    row X2 8192 200000 20000 accepted (2 ∷ 5 ∷ []) ∷
+    row X2 8192 200000 25000 accepted (2 ∷ 5 ∷ []) ∷
     -- F4: one work word too few, one core word too few
-    row X2 0 119 10 (refusedOn 9) [] ∷
-    row X2 0 120 9 (refusedOn 9) [] ∷
+    row X2 0 119 15 (refusedOn 9) [] ∷
+    row X2 0 120 14 (refusedOn 9) [] ∷
     -- fuel counts like items
-    row X2 1 143 12 (refusedOn 9) [] ∷
-    row X2 1 144 11 (refusedOn 9) [] ∷
-    row X2 1 144 12 accepted (2 ∷ 5 ∷ []) ∷
+    row X2 1 143 18 (refusedOn 9) [] ∷
+    row X2 1 144 17 (refusedOn 9) [] ∷
+    row X2 1 144 18 accepted (2 ∷ 5 ∷ []) ∷
+    -- F9: a decimal's three words, and one core word too few
+    row withDecimal 0 264 33 accepted (8 ∷ 1 ∷ 1 ∷ 0 ∷ 9 ∷ 80 ∷ 2 ∷ []) ∷
+    row withDecimal 0 264 32 (refusedOn 9) [] ∷
     -- F4: 7 before 8, 8 before 9, 9 before 10
     row X3 8193 0 0 (refusedOn 7) [] ∷
     row X2 8193 0 0 (refusedOn 8) [] ∷
-    row ifAsOperation 0 167 14 (refusedOn 9) [] ∷
-    row ifAsOperation 0 168 14 (refusedOn 10) [] ∷
+    row ifAsOperation 0 167 21 (refusedOn 9) [] ∷
+    row ifAsOperation 0 168 21 (refusedOn 10) [] ∷
     []
 
 pub rows-hold : map ran rows ≡ rows

@@ -10,8 +10,7 @@ use Rattle.words.specs.Limits.{itemsLeast, itemsMost}
 use Rattle.words.specs.Lists.{allOf}
 use Rattle.recipe.specs.Tree.{isList, isListOf, element}
 use Rattle.recipe.specs.Table.{items, references, isItem, isReferredOnce, treeOf, itemCount, isLayout}
-use Rattle.words.specs.TestLaws.{within-is}
-use Rattle.layout.specs.ItemTests.{outside-below, outside-above}
+use Rattle.words.specs.TestLaws.{within-is, outside-below, outside-above}
 use Rattle.layout.specs.Counts.{itemsGood}
 
 module _ (ws : List ℕ) where

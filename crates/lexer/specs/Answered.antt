@@ -7,13 +7,13 @@ use denote.Ref.{now}
 use mir.Syntax.{w32}
 use mir.Val.{ofZ}
 use Rattle.words.specs.Parts.{part}
-use Rattle.datum.specs.Constant.{integer, boolean}
+use Rattle.datum.specs.Constant.{boolean}
 use Rattle.lexer.specs.declared.token_reader.TokenReader.{TokenReader}
 use Rattle.lexer.specs.declared.token.Token as T
-use Rattle.lexer.specs.declared.token.Token.the-variants.{End, Open, Close, Boolean, Integer, Name, Refused}
+use Rattle.lexer.specs.declared.token.Token.the-variants.{End, Open, Close, Boolean, Number, Name, Refused}
 use Rattle.reading.specs.Token.{Token}
 use Rattle.reading.specs.Offset.{startAt, tokenAt, nextAt}
-use Rattle.reading.specs.Meaning.{Meaning, begins, ends, constant, name, refused, meaningOf}
+use Rattle.reading.specs.Meaning.{Meaning, begins, ends, constant, name, refused, number, meaningOf}
 
 -- what an answer means, and the offset past it; none at the end
 abbrev pub meant : List ℕ → T.Token → Option (Meaning × ℕ)
@@ -21,7 +21,7 @@ meant text End = none
 meant text (Open c) = some (begins, c .at)
 meant text (Close c) = some (ends, c .at)
 meant text (Boolean b c) = some (constant (boolean b), c .at)
-meant text (Integer z c) = some (constant (integer (ofZ w32 z)), c .at)
+meant text (Number z p c) = some (constant (number (ofZ w32 z) p), c .at)
 meant text (Name from c) = some (name (part from (c .at) text), c .at)
 meant text (Refused g c) = some (refused g, c .at)
 
@@ -31,7 +31,7 @@ pastOr at End = at
 pastOr at (Open c) = c .at
 pastOr at (Close c) = c .at
 pastOr at (Boolean b c) = c .at
-pastOr at (Integer z c) = c .at
+pastOr at (Number z p c) = c .at
 pastOr at (Name from c) = c .at
 pastOr at (Refused g c) = c .at
 
@@ -41,7 +41,7 @@ groundIn End = 0
 groundIn (Open c) = 0
 groundIn (Close c) = 0
 groundIn (Boolean b c) = 0
-groundIn (Integer z c) = 0
+groundIn (Number z p c) = 0
 groundIn (Name from c) = 0
 groundIn (Refused g c) = g
 
@@ -51,7 +51,7 @@ startOr start End = start
 startOr start (Open c) = start
 startOr start (Close c) = start
 startOr start (Boolean b c) = start
-startOr start (Integer z c) = start
+startOr start (Number z p c) = start
 startOr start (Name from c) = from
 startOr start (Refused g c) = start
 

@@ -9,7 +9,7 @@ use lib.ListN.{length, drop}
 use Rattle.words.specs.Limits.{nameLengthMost}
 use Rattle.lexer.specs.declared.token_reader.TokenReader.{TokenReader}
 use Rattle.lexer.specs.declared.token.Token as T
-use Rattle.lexer.specs.declared.token.Token.the-variants.{End, Open, Close, Boolean, Integer, Name, Refused}
+use Rattle.lexer.specs.declared.token.Token.the-variants.{End, Open, Close, Boolean, Number, Name, Refused}
 use Rattle.reading.specs.Token.{Token, nothing, tokensAfter, tokens}
 use Rattle.reading.specs.Offset.{startAt, tokenAt, nextAt, before}
 use Rattle.reading.specs.Meaning.{Meaning, name, meaningOf}
@@ -77,7 +77,7 @@ module _ (text : List ℕ) (at : ℕ) where
   told-answered (Open c) w = took-answered (Open c) _ (c .at) w refl refl
   told-answered (Close c) w = took-answered (Close c) _ (c .at) w refl refl
   told-answered (Boolean b c) w = took-answered (Boolean b c) _ (c .at) w refl refl
-  told-answered (Integer z c) w = took-answered (Integer z c) _ (c .at) w refl refl
+  told-answered (Number z p c) w = took-answered (Number z p c) _ (c .at) w refl refl
   told-answered (Name f c) w = took-answered (Name f c) _ (c .at) (w .3) refl (w .0)
   told-answered (Refused g c) w = took-answered (Refused g c) _ (c .at) w refl refl
 
@@ -107,7 +107,7 @@ module _ (text : List ℕ) (at : ℕ) where
     past-within (Open c) e h = answered-within _ (c .at) (ap (meant text) e) h
     past-within (Close c) e h = answered-within _ (c .at) (ap (meant text) e) h
     past-within (Boolean b c) e h = answered-within _ (c .at) (ap (meant text) e) h
-    past-within (Integer z c) e h = answered-within _ (c .at) (ap (meant text) e) h
+    past-within (Number z p c) e h = answered-within _ (c .at) (ap (meant text) e) h
     past-within (Name f c) e h = answered-within _ (c .at) (ap (meant text) e) h
     past-within (Refused g c) e h = answered-within _ (c .at) (ap (meant text) e) h
 
@@ -116,7 +116,7 @@ module _ (text : List ℕ) (at : ℕ) where
     past-later (Open c) e h = answered-later _ (c .at) (ap (meant text) e)
     past-later (Close c) e h = answered-later _ (c .at) (ap (meant text) e)
     past-later (Boolean b c) e h = answered-later _ (c .at) (ap (meant text) e)
-    past-later (Integer z c) e h = answered-later _ (c .at) (ap (meant text) e)
+    past-later (Number z p c) e h = answered-later _ (c .at) (ap (meant text) e)
     past-later (Name f c) e h = answered-later _ (c .at) (ap (meant text) e)
     past-later (Refused g c) e h = answered-later _ (c .at) (ap (meant text) e)
 
@@ -163,7 +163,7 @@ module _ (text : List ℕ) (at : ℕ) where
     answered-told h (Open c) e = answered-took h _ (c .at) (ap (meant text) e)
     answered-told h (Close c) e = answered-took h _ (c .at) (ap (meant text) e)
     answered-told h (Boolean b c) e = answered-took h _ (c .at) (ap (meant text) e)
-    answered-told h (Integer z c) e = answered-took h _ (c .at) (ap (meant text) e)
+    answered-told h (Number z p c) e = answered-took h _ (c .at) (ap (meant text) e)
     answered-told h (Name f c) e =
         let m = ap (meant text) e in
         let s : f ≡ startAt text at = ap (startOr (startAt text at)) (sym e) ∙ a .starts in

@@ -9,12 +9,12 @@ use mir.Val.{ofZ}
 use Rattle.words.specs.Limits.{nameLengthMost}
 use Rattle.words.specs.Lists.{allOf}
 use Rattle.words.specs.Parts.{part}
-use Rattle.datum.specs.Constant.{integer, boolean}
+use Rattle.datum.specs.Constant.{boolean}
 use Rattle.lexer.specs.declared.token.Token as T
-use Rattle.lexer.specs.declared.token.Token.the-variants.{End, Open, Close, Boolean, Integer, Name, Refused}
+use Rattle.lexer.specs.declared.token.Token.the-variants.{End, Open, Close, Boolean, Number, Name, Refused}
 use Rattle.reading.specs.Token.{nothing, hash, tokensAfter, isRunning, isSeparating, run}
 use Rattle.reading.specs.Offset.{startAt, nextAt}
-use Rattle.reading.specs.Meaning.{Meaning, begins, ends, constant, name, refused, meaningOf}
+use Rattle.reading.specs.Meaning.{Meaning, begins, ends, constant, name, refused, number, meaningOf}
 use Rattle.reading.specs.RecipeText.{EndsRun}
 
 -- the meanings of the tokens from a place on
@@ -49,14 +49,14 @@ Told text at End = meaningsFrom text at ≡ []
 Told text at (Open c) = Took text at begins (c .at)
 Told text at (Close c) = Took text at ends (c .at)
 Told text at (Boolean b c) = Took text at (constant (boolean b)) (c .at)
-Told text at (Integer z c) = Took text at (constant (integer (ofZ w32 z))) (c .at)
+Told text at (Number z p c) = Took text at (constant (number (ofZ w32 z) p)) (c .at)
 Told text at (Name from c) =
     (from ≡ startAt text at) × (from < c .at) × (length (part from (c .at) text) ≤ nameLengthMost) × Took text at (name (part from (c .at) text)) (c .at)
 Told text at (Refused g c) = Took text at (refused g) (c .at)
 
 -- the answer for a run
 abbrev pub RunTold : List ℕ → ℕ → ℕ → T.Token → Type 0
-RunTold text from to (Integer z c) = (c .at ≡ to) × (meaningOf (run (part from to text)) ≡ constant (integer (ofZ w32 z)))
+RunTold text from to (Number z p c) = (c .at ≡ to) × (meaningOf (run (part from to text)) ≡ constant (number (ofZ w32 z) p))
 RunTold text from to (Name f c) =
     (f ≡ from) × (c .at ≡ to) × (length (part from to text) ≤ nameLengthMost) × (meaningOf (run (part from to text)) ≡ name (part from to text))
 RunTold text from to (Refused g c) = (c .at ≡ to) × (meaningOf (run (part from to text)) ≡ refused g)
@@ -78,5 +78,5 @@ FlagTold text at (Refused g c) = FlagTook text at (refused g) (c .at)
 FlagTold text at End = ⊥
 FlagTold text at (Open c) = ⊥
 FlagTold text at (Close c) = ⊥
-FlagTold text at (Integer z c) = ⊥
+FlagTold text at (Number z p c) = ⊥
 FlagTold text at (Name f c) = ⊥

@@ -19,10 +19,11 @@ use Rattle.reading.specs.Token.{foreign, run, nothing, hash, isDigit, isRunning
 use Rattle.reading.specs.Meaning.{Meaning, begins, ends, constant, refused, meaningOf, isName}
 use Rattle.reading.specs.RecipeText.{EndsRun, atEnd, before}
 use Rattle.reading.specs.Offset.{leading, widthOf, firstWidth, startAt, nextAt}
+use Rattle.reading.specs.Laws.Offsets.{leading-append, leading-more, leading-stops, leading-ends}
 use Rattle.reading.specs.Laws.Tokens.{class-running, separator-skipped, run-taken}
 use Rattle.lexer.specs.Told.{meaningsFrom, Skipped, RunTo, Took, Told, RunTold, FlagTook, FlagTold}
 use Rattle.lexer.specs.declared.token.Token as T
-use Rattle.lexer.specs.declared.token.Token.the-variants.{End, Open, Close, Boolean, Integer, Name, Refused}
+use Rattle.lexer.specs.declared.token.Token.the-variants.{End, Open, Close, Boolean, Number, Name, Refused}
 
 -- ---- names
 
@@ -69,12 +70,12 @@ module _ (text : List ℕ) (at : ℕ) (h : at < length text) where
   separator-step s = ap (λ bs. map meaningOf (tokensAfter nothing bs)) here ∙ ap (map meaningOf) (separator-skipped _ _ s)
 
   pub separator-start : isSeparating (getD text at 0) ≡ true → startAt text at ≡ startAt text (at + 1)
-  unfolding startAt leading
-  separator-start s = rw (here, s) (omega arith)
+  unfolding startAt
+  separator-start s = leading-more isSeparating text at h s
 
   pub token-start : isSeparating (getD text at 0) ≡ false → startAt text at ≡ at
-  unfolding startAt leading
-  token-start s = rw (here, s) (omega arith)
+  unfolding startAt
+  token-start s = leading-stops isSeparating text at h s
 
   pub run-step : (from : ℕ) → from ≤ at → allOf isRunning (part from at text) ≡ true → isRunning (getD text at 0) ≡ true
       → allOf isRunning (part from (at + 1) text) ≡ true
@@ -132,8 +133,8 @@ module _ (text : List ℕ) (at : ℕ) (e : at ≡ length text) where
   end-taken = rw (e, drop-length)
 
   pub end-start : startAt text at ≡ at
-  unfolding startAt leading
-  end-start = rw (e, drop-length) (omega arith)
+  unfolding startAt
+  end-start = leading-ends isSeparating text at e
 
   pub end-flag : FlagTook text at (refused 3) at
   unfolding meaningsFrom tokensAfter ended meaningOf
@@ -149,12 +150,13 @@ run-from : (word bs : List ℕ) → 1 ≤ length word → allOf isRunning word �
 run-from [] bs h a e = absurd (omega arith)
 run-from (c ∷ cs) bs h a e = run-taken c cs bs a e
 
+end-leads : {bs : List ℕ} → EndsRun bs → leading isRunning bs ≡ 0
+unfolding leading
+end-leads atEnd = refl
+end-leads (before h) = rw h
+
 leading-run : (word bs : List ℕ) → allOf isRunning word ≡ true → EndsRun bs → leading isRunning (word ++ bs) ≡ length word
-unfolding leading allOf
-leading-run [] [] a atEnd = refl
-leading-run [] (b ∷ bs) a (before h) = rw h
-leading-run (c ∷ cs) bs a e =
-    rw (and-left (isRunning c) (allOf isRunning cs) a, leading-run cs bs (and-right (isRunning c) (allOf isRunning cs) a) e)
+leading-run word bs a e = leading-append isRunning word bs a ∙ rw (end-leads e) (omega arith)
 
 width-run : (word bs : List ℕ) → 1 ≤ length word → allOf isRunning word ≡ true → EndsRun bs → firstWidth (word ++ bs) ≡ length word
 unfolding firstWidth widthOf allOf
@@ -206,7 +208,7 @@ module _ (text : List ℕ) (from at : ℕ) (s : Skipped text from at) where
   run-told to r l (Open c) w = absurd w
   run-told to r l (Close c) w = absurd w
   run-told to r l (Boolean b c) w = absurd w
-  run-told to r l (Integer z c) w = rw (w .0) (run-took to r l _ (w .1))
+  run-told to r l (Number z p c) w = rw (w .0) (run-took to r l _ (w .1))
   run-told to r l (Name f c) w = rw (w .0, w .1) (sym (s .start), l, w .2, run-took to r l _ (w .3))
   run-told to r l (Refused g c) w = rw (w .0) (run-took to r l _ (w .1))
 
@@ -221,6 +223,6 @@ module _ (text : List ℕ) (from at : ℕ) (s : Skipped text from at) where
   flag-told h e (Open c) w = absurd w
   flag-told h e (Close c) w = absurd w
   flag-told h e (Boolean b c) w = flag-skipped h e _ (c .at) w
-  flag-told h e (Integer z c) w = absurd w
+  flag-told h e (Number z p c) w = absurd w
   flag-told h e (Name f c) w = absurd w
   flag-told h e (Refused g c) w = flag-skipped h e _ (c .at) w

@@ -1,17 +1,16 @@
-// Runs that are integers.
+// Runs that are numbers: an integer, or a decimal by its value without the dot and its places.
 ghost use mathlib.Core.Path.{_≡_};
 ghost use mathlib.Core.Bool.{true};
-ghost use Prim.Native.Nat.{_≤_, min};
+ghost use Prim.Native.Nat.{_+_, _*_, _-_, _≤_, min};
 ghost use lib.ListN.{length};
-ghost use Rattle.words.specs.Lists.{allOf};
 ghost use Rattle.reading.specs.Token.{isDigit};
-ghost use Rattle.reading.specs.Meaning.{isNumeral, valueFrom, signed, integerOf};
-ghost use Rattle.lexer.specs.Answers.{integerMeaning};
+ghost use Rattle.reading.specs.Meaning.{isNegative, unsigned, isNumeral, signed, numeralOf};
+ghost use Rattle.lexer.specs.Answers.{numeralMeaning, DigitsAfter, behindDot};
 use crate::bytes::is_digit;
 
 // What a run that starts as a number is.
-pub enum Integer {
-    Value(i32),
+pub enum Numeral {
+    Value(i32, u32),
     Malformed,
     OutOfRange,
 }
@@ -25,54 +24,59 @@ fn wide(b: u8) -> u64
     b as u64
 }
 
-// Each byte is a digit.
-pub fn are_digits(digits: &[u8]) -> bool
-    ensures { λ r. ⌜ r ≡ allOf isDigit (now (digits .entry)) ⌝ }
-{
-    let mut i = 0;
-    while i < digits.len() {
-        if !is_digit(digits[i]) {
-            return false;
-        }
-        i += 1;
-    }
-    true
+// The digits that a run begins with: how many, and the number that they spell after another, or the one beyond all.
+pub struct Digits {
+    pub count: usize,
+    pub value: u64,
 }
 
-// The number that digits spell, or the one beyond all.
-pub fn magnitude(digits: &[u8]) -> u64
-    requires { ⌜ allOf isDigit (now digits) ≡ true ⌝ }
-    ensures { λ r. ⌜ r ≡ min (valueFrom 0 (now (digits .entry))) 2147483649 ⌝ }
+// A digit more; the one beyond all stays.
+fn appended(value: u64, digit: u8) -> u64
+    requires { ⌜ value ≤ 2147483649 ⌝ }
+    requires { ⌜ isDigit digit ≡ true ⌝ }
+    ensures { λ r. ⌜ r ≡ min (10 * value + (digit - 48)) 2147483649 ⌝ }
 {
-    let mut value: u64 = 0;
+    let next = 10 * value + (wide(digit) - 48);
+    if BEYOND < next {
+        return BEYOND;
+    }
+    next
+}
+
+// The digits of a run from the left, up to the first byte that is none.
+pub fn digits_after(before: u64, run: &[u8]) -> Digits
+    requires { ⌜ before ≤ 2147483649 ⌝ }
+    ensures { λ r. ⌜ DigitsAfter before (now (run .entry)) r ⌝ }
+{
+    let mut value = before;
     let mut i = 0;
-    while i < digits.len() {
-        value = 10 * value + (wide(digits[i]) - 48);
-        if BEYOND <= value {
-            return BEYOND;
+    while i < run.len() {
+        if !is_digit(run[i]) {
+            return Digits { count: i, value };
         }
+        value = appended(value, run[i]);
         i += 1;
     }
-    value
+    Digits { count: i, value }
 }
 
 // A number with its sign; no sum passes the range.
-fn signed(negative: bool, size: u64) -> Integer
-    ensures { λ r. ⌜ integerMeaning r ≡ signed negative size ⌝ }
+fn signed(negative: bool, size: u64, places: u32) -> Numeral
+    ensures { λ r. ⌜ numeralMeaning r ≡ signed negative size places ⌝ }
 {
     if !negative {
         if 2147483647 < size {
-            return Integer::OutOfRange;
+            return Numeral::OutOfRange;
         }
-        return Integer::Value(size as i32);
+        return Numeral::Value(size as i32, places);
     }
     if 2147483648 < size {
-        return Integer::OutOfRange;
+        return Numeral::OutOfRange;
     }
     if size == 0 {
-        return Integer::Value(0);
+        return Numeral::Value(0, places);
     }
-    Integer::Value(-1 - (size - 1) as i32)
+    Numeral::Value(-1 - (size - 1) as i32, places)
 }
 
 // The run starts with a digit, or with a minus and a digit.
@@ -91,20 +95,46 @@ pub fn is_numeral(word: &[u8]) -> bool
     is_digit(word[1])
 }
 
-// The integer that a run starting as a number is.
-pub fn integer_of(word: &[u8]) -> Integer
+// What stands behind the dot of a number is its places: one to four digits.
+fn decimal_of(negative: bool, whole: u64, places: &[u8]) -> Numeral
+    requires { ⌜ whole ≤ 2147483649 ⌝ }
+    ensures { λ r. ⌜ numeralMeaning r ≡ behindDot negative whole (now (places .entry)) ⌝ }
+{
+    if places.len() == 0 {
+        return Numeral::Malformed;
+    }
+    if (words::PLACES as usize) < places.len() {
+        return Numeral::Malformed;
+    }
+    let digits = digits_after(whole, places);
+    if digits.count != places.len() {
+        return Numeral::Malformed;
+    }
+    signed(negative, digits.value, digits.count as u32)
+}
+
+// The number that a run past its minus is.
+fn unsigned_of(negative: bool, word: &[u8]) -> Numeral
+    ensures { λ r. ⌜ numeralMeaning r ≡ numeralOf negative (now (word .entry)) ⌝ }
+{
+    let whole = digits_after(0, word);
+    let dot = whole.count;
+    if dot == word.len() {
+        return signed(negative, whole.value, 0);
+    }
+    if word[dot] != b'.' {
+        return Numeral::Malformed;
+    }
+    decimal_of(negative, whole.value, &word[dot + 1..])
+}
+
+// The number that a run starting as one is.
+pub fn numeral_of(word: &[u8]) -> Numeral
     requires { ⌜ 1 ≤ length (now word) ⌝ }
-    ensures { λ r. ⌜ integerMeaning r ≡ integerOf (now (word .entry)) ⌝ }
+    ensures { λ r. ⌜ numeralMeaning r ≡ numeralOf (isNegative (now (word .entry))) (unsigned (now (word .entry))) ⌝ }
 {
     if word[0] == b'-' {
-        let digits = &word[1..];
-        if !are_digits(digits) {
-            return Integer::Malformed;
-        }
-        return signed(true, magnitude(digits));
+        return unsigned_of(true, &word[1..]);
     }
-    if !are_digits(word) {
-        return Integer::Malformed;
-    }
-    signed(false, magnitude(word))
+    unsigned_of(false, word)
 }

@@ -6,22 +6,23 @@ ghost use Rattle.reading.specs.Meaning.{isName};
 ghost use Rattle.lexer.specs.Told.{Skipped, RunTo, Told, RunTold, FlagTold};
 use crate::bytes::is_running;
 use crate::bytes::is_separating;
-use crate::number::Integer;
-use crate::number::integer_of;
+use crate::number::Numeral;
 use crate::number::is_numeral;
+use crate::number::numeral_of;
 
 // A place in the text.
 pub struct Cursor {
     pub at: usize,
 }
 
-// What stands at a cursor, with the cursor past it. A name starts at its first field; what is refused has its ground.
+// What stands at a cursor, with the cursor past it. A number has its value without the dot and its places, of which an integer has
+// none; a name starts at its first field; what is refused has its ground.
 pub enum Token {
     End,
     Open(Cursor),
     Close(Cursor),
     Boolean(u32, Cursor),
-    Integer(i32, Cursor),
+    Number(i32, u32, Cursor),
     Name(usize, Cursor),
     Refused(u32, Cursor),
 }
@@ -84,10 +85,10 @@ pub fn run_token(text: &[u8], from: usize, to: usize) -> Token
         }
         return Token::Refused(3, Cursor { at: to });
     }
-    match integer_of(word) {
-        Integer::Value(z) => Token::Integer(z, Cursor { at: to }),
-        Integer::Malformed => Token::Refused(3, Cursor { at: to }),
-        Integer::OutOfRange => Token::Refused(4, Cursor { at: to }),
+    match numeral_of(word) {
+        Numeral::Value(z, places) => Token::Number(z, places, Cursor { at: to }),
+        Numeral::Malformed => Token::Refused(3, Cursor { at: to }),
+        Numeral::OutOfRange => Token::Refused(4, Cursor { at: to }),
     }
 }
 

@@ -32,7 +32,7 @@ pub fn past(token: Token, at: usize) -> usize
         Token::Open(next) => next.at,
         Token::Close(next) => next.at,
         Token::Boolean(_, next) => next.at,
-        Token::Integer(_, next) => next.at,
+        Token::Number(_, _, next) => next.at,
         Token::Name(_, next) => next.at,
         Token::Refused(_, next) => next.at,
     }
@@ -47,7 +47,7 @@ pub fn ground(token: Token) -> u32
         Token::Open(_) => 0,
         Token::Close(_) => 0,
         Token::Boolean(_, _) => 0,
-        Token::Integer(_, _) => 0,
+        Token::Number(_, _, _) => 0,
         Token::Name(_, _) => 0,
         Token::Refused(ground, _) => ground,
     }

@@ -34,7 +34,7 @@ unfolding
     Read.read Read.itemWords Read.nameBytes
     computed
     Check.termOf
-    Decimal.leading Decimal.digitsBy Decimal.decimal Decimal.signed Decimal.integerText
+    Decimal.leading Decimal.digitsBy Decimal.decimal Decimal.padded Decimal.pointed Decimal.signed Decimal.integerText Decimal.decimalText
     Text.spacedAfter Text.spaced Text.parenthesized Text.variableText Text.operationText Text.formalTexts Text.constantText
     Text.bare Text.outermost Text.text
     line refusal header acceptance printed outputOf filed output

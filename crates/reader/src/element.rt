@@ -3,7 +3,7 @@ ghost use mathlib.Core.Path.{_≡_};
 ghost use Prim.Native.Nat.{_≤_};
 ghost use lib.ListN.{length};
 ghost use Rattle.words.specs.Limits.{itemsMost, nameLengthMost};
-ghost use Rattle.reader.specs.Code.Placed.{Sound, NamesSound, NamePut};
+ghost use Rattle.reader.specs.Code.Placed.{Sound, NamesSound, NamePut, NumberKind};
 ghost use Rattle.reader.specs.Code.Moved.{movedBy, finishOf, Advanced};
 use crate::names::bucket_of;
 use crate::names::enter;
@@ -43,13 +43,23 @@ pub fn put_name(
     let bucket = bucket_of(word);
     let number = find(names, index, place.known, word, bucket);
     if number < place.known {
-        return put_token(items, place, 3, number as u32, place.known);
+        return put_token(items, place, 3, number as u32, 0, place.known);
     }
     if number == words::NAMES {
         return Step::Refused(ground_at(place, number + 1, place.depth));
     }
     enter(names, index, number, word, bucket);
-    put_token(items, place, 3, number as u32, number + 1)
+    put_token(items, place, 3, number as u32, 0, number + 1)
+}
+
+// The kind of a number's item: an integer has no places.
+fn number_kind(places: u32) -> u32
+    ensures { λ r. ⌜ NumberKind places r ⌝ }
+{
+    if places == 0 {
+        return 1;
+    }
+    5
 }
 
 // A step, with the cursor past its token.
@@ -92,8 +102,14 @@ pub fn advance(
         Token::Refused(ground, _) => Move::Refused(ground),
         Token::Open(next) => moved(open_list(items, place), next),
         Token::Close(next) => moved(close_list(items, place), next),
-        Token::Boolean(b, next) => moved(put_token(items, place, 2, b, place.known), next),
-        Token::Integer(z, next) => moved(put_token(items, place, 1, to_word(z), place.known), next),
+        Token::Boolean(b, next) => moved(put_token(items, place, 2, b, 0, place.known), next),
+        Token::Number(z, places, next) => {
+            let kind = number_kind(places);
+            moved(
+                put_token(items, place, kind, to_word(z), places, place.known),
+                next,
+            )
+        }
         Token::Name(from, next) => {
             let to = next.at;
             moved(put_name(items, names, index, place, &text[from..to]), next)

@@ -35,12 +35,12 @@ fn put_item(items: &mut [u32], item: usize, kind: u32, first: u32, second: u32)
 }
 
 // A pair, and its head, which is one item.
-fn put_element(items: &mut [u32], item: usize, kind: u32, value: u32)
+fn put_element(items: &mut [u32], item: usize, kind: u32, first: u32, second: u32)
     requires { ⌜ (3 * item + 6 ≤ length (now items)) × (item ≤ itemsMost) ⌝ }
-    ensures { λ _. ⌜ now (items .exit) ≡ put3 (put3 (now (items .entry)) (3 * item) 4 (item + 1) (item + 2)) (3 * (item + 1)) kind value 0 ⌝ }
+    ensures { λ _. ⌜ now (items .exit) ≡ put3 (put3 (now (items .entry)) (3 * item) 4 (item + 1) (item + 2)) (3 * (item + 1)) kind first second ⌝ }
 {
     put_item(items, item, 4, (item + 1) as u32, (item + 2) as u32);
-    put_item(items, item + 1, kind, value, 0);
+    put_item(items, item + 1, kind, first, second);
 }
 
 // No list is open and no element is missing.
@@ -87,15 +87,22 @@ fn lacking(place: Place) -> usize
 }
 
 // An element that is one token.
-pub fn put_token(items: &mut [u32], place: Place, kind: u32, value: u32, known: usize) -> Step
+pub fn put_token(
+    items: &mut [u32],
+    place: Place,
+    kind: u32,
+    first: u32,
+    second: u32,
+    known: usize,
+) -> Step
     requires { ⌜ Sound place (length (now items)) ⌝ }
-    ensures { λ s. ⌜ TokenPut place kind value known (now (items .entry)) (now (items .exit)) s ⌝ }
+    ensures { λ s. ⌜ TokenPut place kind first second known (now (items .entry)) (now (items .exit)) s ⌝ }
 {
     let ground = ground_at(place, known, place.depth);
     if ground != 0 {
         return Step::Refused(ground);
     }
-    put_element(items, place.next, kind, value);
+    put_element(items, place.next, kind, first, second);
     Step::Went(Place {
         next: place.next + 2,
         pair: place.pair,

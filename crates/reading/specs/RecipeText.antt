@@ -8,12 +8,12 @@ use lib.IntN.{pos, negℤ}
 use lib.ListN.{length}
 use mir.Syntax.{w32}
 use mir.Val.{ofZ}
-use Rattle.words.specs.Limits.{textBytesMost, elementsMost, namesMost, nameLengthMost, openListsMost}
+use Rattle.words.specs.Limits.{textBytesMost, elementsMost, namesMost, nameLengthMost, openListsMost, placesMost}
 use Rattle.words.specs.Lists.{allOf}
-use Rattle.datum.specs.Constant.{Constant, integer, boolean}
+use Rattle.datum.specs.Constant.{Constant, boolean}
 use Rattle.datum.specs.Datum.{Datum, Data, constantD, nameD, listD, noneD, moreD}
 use Rattle.reading.specs.Token.{Token, open′, close′, flag, run, isDigit, isRunning, isSeparating}
-use Rattle.reading.specs.Meaning.{Meaning, begins, ends, constant, name, valueFrom}
+use Rattle.reading.specs.Meaning.{Meaning, begins, ends, constant, name, valueFrom, number}
 use Rattle.reading.specs.Numbering.{baseNames, numberOf, withName}
 use Rattle.reading.specs.Read.{Recipe}
 
@@ -42,15 +42,20 @@ pub data StartsNumber : List ℕ → Type 0 where
   digit : {c : ℕ} {cs : List ℕ} → isDigit c ≡ true → StartsNumber (c ∷ cs)
   minus : {c : ℕ} {cs : List ℕ} → isDigit c ≡ true → StartsNumber (45 ∷ c ∷ cs)
 
+-- what may stand behind a number's digits, and its places: nothing, or a dot, which is 46, and one to four digits
+pub data Fraction : List ℕ → List ℕ → Type 0 where
+  noDot : Fraction [] []
+  dot : {ps : List ℕ} → 1 ≤ length ps → length ps ≤ placesMost → allOf isDigit ps ≡ true → Fraction (46 ∷ ps) ps
+
 -- a token that is allowed has a meaning
 pub data Means : Token → Meaning → Type 0 where
   opens : Means open′ begins
   closes : Means close′ ends
   boolean′ : {b : ℕ} → Means (flag b) (constant (boolean b))
-  positive : {c : ℕ} {cs : List ℕ} → allOf isDigit (c ∷ cs) ≡ true → valueFrom 0 (c ∷ cs) ≤ 2147483647
-      → Means (run (c ∷ cs)) (constant (integer (valueFrom 0 (c ∷ cs))))
-  negative : {c : ℕ} {cs : List ℕ} → allOf isDigit (c ∷ cs) ≡ true → valueFrom 0 (c ∷ cs) ≤ 2147483648
-      → Means (run (45 ∷ c ∷ cs)) (constant (integer (ofZ w32 (negℤ (pos (valueFrom 0 (c ∷ cs)))))))
+  positive : {c : ℕ} (cs : List ℕ) {fs ps : List ℕ} → allOf isDigit (c ∷ cs) ≡ true → Fraction fs ps → valueFrom 0 (c ∷ cs ++ ps) ≤ 2147483647
+      → Means (run (c ∷ cs ++ fs)) (constant (number (valueFrom 0 (c ∷ cs ++ ps)) (length ps)))
+  negative : {c : ℕ} (cs : List ℕ) {fs ps : List ℕ} → allOf isDigit (c ∷ cs) ≡ true → Fraction fs ps → valueFrom 0 (c ∷ cs ++ ps) ≤ 2147483648
+      → Means (run (45 ∷ c ∷ cs ++ fs)) (constant (number (ofZ w32 (negℤ (pos (valueFrom 0 (c ∷ cs ++ ps))))) (length ps)))
   named : {cs : List ℕ} → (StartsNumber cs → ⊥) → 1 ≤ length cs → length cs ≤ nameLengthMost → (cs ≡ 46 ∷ [] → ⊥)
       → Means (run cs) (name cs)
 

@@ -45,12 +45,29 @@ rows =
     refusedOn (bytes "() .") 3 ∷
     accepted (bytes "() ..") 5 9 ∷
     accepted (bytes "() ...") 5 8 ∷
-    refusedOn (bytes "() 1.5") 3 ∷
+    accepted (bytes "() 1.5") 5 8 ∷
     accepted (bytes "() .5") 5 9 ∷
+    accepted (bytes "() -.5") 5 9 ∷
+    accepted (bytes "() +1.5") 5 9 ∷
+    refusedOn (bytes "() 1.") 3 ∷
+    refusedOn (bytes "() -1.") 3 ∷
+    accepted (bytes "() 1.2345") 5 8 ∷
+    refusedOn (bytes "() 1.23456") 3 ∷
+    refusedOn (bytes "() 1.2.3") 3 ∷
+    refusedOn (bytes "() 1.-2") 3 ∷
+    refusedOn (bytes "() 1.5x") 3 ∷
     refusedOn (bytes "() 2147483648") 4 ∷
     accepted (bytes "() -2147483648") 5 8 ∷
     refusedOn (bytes "() -2147483649") 4 ∷
     refusedOn (bytes "() 99999999999x") 3 ∷
+    accepted (bytes "() 214748.3647") 5 8 ∷
+    refusedOn (bytes "() 214748.3648") 4 ∷
+    refusedOn (bytes "() 214748364.8") 4 ∷
+    accepted (bytes "() -214748.3648") 5 8 ∷
+    refusedOn (bytes "() -214748.3649") 4 ∷
+    refusedOn (bytes "() 99999999999.0") 4 ∷
+    refusedOn (bytes "() 99999999999.") 3 ∷
+    refusedOn (bytes "() 99999999999.00000") 3 ∷
     refusedOn (bytes "() () a$") 5 ∷
     refusedOn (bytes "() () 99999999999") 4 ∷
     refusedOn (bytes "() ())") 5 ∷
@@ -66,6 +83,7 @@ rows =
     accepted (bytes "() " ++ replicate 63 97) 5 9 ∷
     refusedOn (bytes "() " ++ replicate 64 97) 3 ∷
     accepted (bytes "() " ++ replicate 70 48 ++ bytes "7") 5 8 ∷
+    accepted (bytes "() -" ++ replicate 70 48 ++ bytes "7.0000") 5 8 ∷
     accepted (bytes "()" ++ replicate 64 40 ++ replicate 64 41) 131 8 ∷
     refusedOn (bytes "()" ++ replicate 65 40) 6 ∷
     []
@@ -105,6 +123,13 @@ cleared-hold = refl
 pub words-hold : drop 9 (itemsAfter (recipeOf (bytes "() -2147483648")) (replicate 15 9)) ≡ 1 ∷ 2147483648 ∷ 0 ∷ 0 ∷ 0 ∷ 0 ∷ []
 unfolding recipeOf bytes itemsAfter
 words-hold = refl
+
+-- decimals as their words: the value without the dot, and the places
+pub decimals-hold : map (λ (bs : List ℕ). itemsAfter (recipeOf bs) (replicate 15 9)) (bytes "-214748.3648 00.80" ∷ bytes "-0.5 -0.0" ∷ [])
+    ≡ (4 ∷ 1 ∷ 2 ∷ 5 ∷ 2147483648 ∷ 4 ∷ 4 ∷ 3 ∷ 4 ∷ 5 ∷ 80 ∷ 2 ∷ 0 ∷ 0 ∷ 0 ∷ [])
+    ∷ (4 ∷ 1 ∷ 2 ∷ 5 ∷ 4294967291 ∷ 1 ∷ 4 ∷ 3 ∷ 4 ∷ 5 ∷ 0 ∷ 1 ∷ 0 ∷ 0 ∷ 0 ∷ []) ∷ []
+unfolding recipeOf bytes itemsAfter
+decimals-hold = refl
 
 -- the limits of e, of a call's tables and of its text
 pub limits-hold : map (λ a. readNumbers a .ground) (

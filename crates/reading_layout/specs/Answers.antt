@@ -13,8 +13,8 @@ use Rattle.words.specs.TestLaws.{and-left, within-most}
 use Rattle.words.specs.ListLaws.{either, all-append}
 use Rattle.datum.specs.Datum.{Datum, constantD}
 use Rattle.datum.specs.NameTableLaws.{isShort, length-slots}
-use Rattle.reading.specs.Token.{Token, open′, close′, bad, flag, run, isDigit, tokens}
-use Rattle.reading.specs.Meaning.{Meaning, begins, ends, constant, name, refused, unsigned, isNumeral, signed, integerOf, isName, nameOf, meaningOf}
+use Rattle.reading.specs.Token.{Token, open′, close′, bad, flag, run, tokens}
+use Rattle.reading.specs.Meaning.{Meaning, begins, ends, constant, name, refused, isNegative, unsigned, isNumeral, fraction, isFraction, signed, numeralOf, isName, nameOf, meaningOf}
 use Rattle.reading.specs.Numbering.{baseNames, numberOf, withName}
 use Rattle.reading.specs.Elements.{Answer, got, refusedFor, then, Reading, start, isComplete, counted, put, named, opened, closed, isWithin, begin, takes, takesAll}
 use Rattle.reading.specs.Read.{Recipe, finished, recipeOver, recipeOf, read, nameBytes}
@@ -39,14 +39,14 @@ ShortRecipe = ShortAnswer (λ r. r .names)
 
 -- ---- meanings
 
-signed-short : (t : Bool) (n : ℕ) → Short (signed t n)
+signed-short : (t : Bool) (n p : ℕ) → Short (signed t n p)
 unfolding signed
-signed-short true n = either (leb n 2147483648) (λ e. rw e (omega arith)) (λ e. rw e (omega arith))
-signed-short false n = either (leb n 2147483647) (λ e. rw e (omega arith)) (λ e. rw e (omega arith))
+signed-short true n p = either (leb n 2147483648) (λ e. rw e (omega arith)) (λ e. rw e (omega arith))
+signed-short false n p = either (leb n 2147483647) (λ e. rw e (omega arith)) (λ e. rw e (omega arith))
 
-integer-short : (cs : List ℕ) → Short (integerOf cs)
-unfolding integerOf
-integer-short cs = either (allOf isDigit (unsigned cs)) (λ e. rw e (signed-short _ _)) (λ e. rw e (omega arith))
+numeral-short : (t : Bool) (cs : List ℕ) → Short (numeralOf t cs)
+unfolding numeralOf
+numeral-short t cs = either (isFraction (fraction cs)) (λ e. rw e (signed-short _ _ _)) (λ e. rw e (omega arith))
 
 is-short : (cs : List ℕ) → isName cs ≡ true → isShort cs ≡ true
 unfolding isName isShort
@@ -62,7 +62,7 @@ meaning-short open′ = omega arith
 meaning-short close′ = omega arith
 meaning-short bad = omega arith
 meaning-short (flag b) = omega arith
-meaning-short (run cs) = either (isNumeral cs) (λ e. rw e (integer-short cs)) (λ e. rw e (name-short cs))
+meaning-short (run cs) = either (isNumeral cs) (λ e. rw e (numeral-short (isNegative cs) (unsigned cs))) (λ e. rw e (name-short cs))
 
 -- ---- elements
 

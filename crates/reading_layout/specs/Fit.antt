@@ -2,20 +2,21 @@
 use mathlib.Core.Path.{_≡_, refl, subst}
 use mathlib.Core.Bool.{Bool, true}
 use mathlib.Core.List.{List, [], _∷_}
-use Prim.Native.Nat.{ℕ, _≤_, _<_}
+use Prim.Native.Nat.{ℕ, zero, suc, _≤_, _<_}
 use native.Mathlib.Omega.{arith}
 use lib.Dec.{ltb}
 use lib.ListN.{length, length-append}
 use borrow.Author.Tests.{lt-ltb, ltb-true}
-use Rattle.words.specs.Limits.{namesMost}
+use Rattle.words.specs.Limits.{namesMost, placesMost}
 use Rattle.words.specs.Lists.{allOf}
 use Rattle.words.specs.ListLaws.{either}
-use Rattle.words.specs.TestLaws.{and-parts, and-both, all-append}
-use Rattle.datum.specs.Constant.{isConstant, integer, boolean}
+use Rattle.words.specs.TestLaws.{and-parts, and-both, all-append, within-is}
+use Rattle.datum.specs.Constant.{isConstant, integer, boolean, decimal}
 use Rattle.reading.specs.Token.{Token, open′, close′, bad, flag, run}
-use Rattle.reading.specs.Meaning.{Meaning, begins, ends, constant, name, refused}
+use Rattle.reading.specs.Meaning.{Meaning, begins, ends, constant, name, refused, number}
 use Rattle.reading.specs.Numbering.{baseNames, numberOf, withName}
 use Rattle.reading.specs.Laws.Elements.{names-grow-all}
+use Rattle.reading.specs.Laws.Meanings.{fraction-places}
 use Rattle.reading.specs.AcceptedLaws.{number-most}
 use Rattle.reading.specs.RecipeText as R
 use Rattle.reading.specs.RecipeText.{HasTokens, Means, Mean, Element, Elements, constantE, nameE, listE, noneE, moreE, spelled, spelledAll, namesOf, namesOfAll, numbered, numberedAll, both, RecipeText, recipe}
@@ -48,13 +49,19 @@ isMeant (constant a) = isConstant a
 isMeant (name cs) = true
 isMeant (refused g) = true
 
+-- a number of few places is a constant
+number-good : (w p : ℕ) → p ≤ placesMost → isConstant (number w p) ≡ true
+unfolding isConstant number integer decimal
+number-good w zero h = refl
+number-good w (suc p) h = within-is 1 placesMost (suc p) (omega arith) h
+
 means-good : {t : Token} {m : Meaning} → Means t m → isToken t ≡ true → isMeant m ≡ true
-unfolding isToken isMeant isConstant integer boolean
+unfolding isToken isMeant isConstant boolean
 means-good R.opens h = refl
 means-good R.closes h = refl
 means-good R.boolean′ h = and-both _ _ h refl
-means-good (R.positive a l) h = refl
-means-good (R.negative a l) h = refl
+means-good (R.positive cs a f l) h = number-good _ _ (fraction-places f)
+means-good (R.negative cs a f l) h = number-good _ _ (fraction-places f)
 means-good (R.named a b d e) h = refl
 
 mean-good : {ts : List Token} {ms : List Meaning} → Mean ts ms → allOf isToken ts ≡ true → allOf isMeant ms ≡ true

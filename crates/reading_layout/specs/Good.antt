@@ -1,6 +1,6 @@
 -- Each item of data whose words stand in a table has the words of its kind.
 use mathlib.Core.Path.{_≡_, refl, sym, ap, _∙_}
-use mathlib.Core.Bool.{true, false, _||_}
+use mathlib.Core.Bool.{true, _||_}
 use mathlib.Core.List.{List, [], _∷_, _++_, append-assoc}
 use Prim.Native.Nat.{ℕ, suc, _+_, _-_, _*_, _≤_, _<_}
 use native.Mathlib.Omega.{arith}
@@ -14,7 +14,7 @@ use Rattle.datum.specs.Constant.{isConstant}
 use Rattle.datum.specs.Datum.{Datum, Data, constantD, nameD, listD, noneD, moreD, datumItems, dataItems}
 use Rattle.recipe.specs.Table.{byKind, constantOf, kindAt, isPairItem, isItem}
 use Rattle.reading.specs.Numbering.{datumWords, dataWords}
-use Rattle.reading_layout.specs.Items.{fits, fitAll, by-kind, item, itemsOf, itemsOfAll, datum-length, datum-positive, data-positive}
+use Rattle.reading_layout.specs.Items.{fits, fitAll, no-empty, no-name, no-pair, item, itemsOf, itemsOfAll, datum-length, datum-positive, data-positive}
 
 module _ (ws : List ℕ) where
   -- ---- words from place i on
@@ -65,11 +65,7 @@ module _ (ws : List ℕ) where
 
     constant-good : (i k a b : ℕ) → isConstant (record { kind = k; first = a; second = b }) ≡ true → isItem ws n (item i k a b) ≡ true
     unfolding isItem byKind item constantOf
-    constant-good i k a b h =
-        let e : eqb k 0 ≡ false = by-kind (λ k. eqb k 0 ≡ false) k a b h refl refl in
-        let f : eqb k 3 ≡ false = by-kind (λ k. eqb k 3 ≡ false) k a b h refl refl in
-        let g : eqb k 4 ≡ false = by-kind (λ k. eqb k 4 ≡ false) k a b h refl refl in
-        rw (e, f, g) h
+    constant-good i k a b h = rw (no-empty k a b h, no-name k a b h, no-pair k a b h) h
 
     name-good : (i m : ℕ) → fits (nameD m) ≡ true → isItem ws n (item i 3 m 0) ≡ true
     unfolding isItem byKind item fits

@@ -1,11 +1,12 @@
 -- The items of data that reading numbers: three words each, and in the order of the words.
-use mathlib.Core.Path.{_≡_, refl, sym, ap, _∙_}
-use mathlib.Core.Bool.{Bool, true, _&&_}
+use mathlib.Core.Path.{_≡_, refl, sym, ap, subst, _∙_}
+use mathlib.Core.Bool.{Bool, true, false, _&&_}
 use mathlib.Core.List.{List, [], _∷_, _++_, append-assoc, append-nil}
-use Prim.Native.Nat.{ℕ, zero, suc, _+_, _*_, _≤_}
+use Prim.Native.Nat.{ℕ, suc, _+_, _*_, _≤_}
 use native.Mathlib.Omega.{arith}
-use lib.Dec.{ltb}
+use lib.Dec.{eqb, ltb}
 use lib.ListN.{length, length-append}
+use borrow.Author.Tests.{ne-eqb}
 use Rattle.words.specs.Limits.{namesMost}
 use Rattle.words.specs.ListLaws.{never}
 use Rattle.datum.specs.Constant.{isConstant}
@@ -25,13 +26,22 @@ unfoldable mutual
   fitAll noneD = true
   fitAll (moreD d ds) = fits d && fitAll ds
 
--- what holds of each constant's kind, for those that are ones
-pub by-kind : (P : ℕ → Type 0) (k a b : ℕ) → isConstant (record { kind = k; first = a; second = b }) ≡ true → P 1 → P 2 → P k
-unfolding isConstant
-by-kind P zero a b h p q = never h refl
-by-kind P (suc zero) a b h p q = p
-by-kind P (suc (suc zero)) a b h p q = q
-by-kind P (suc (suc (suc k))) a b h p q = never h refl
+-- a constant's kind is that of no other item
+module _ (k a b : ℕ) (h : isConstant (record { kind = k; first = a; second = b }) ≡ true) where
+  other-kind : (j : ℕ) → isConstant (record { kind = j; first = a; second = b }) ≡ false → eqb k j ≡ false
+  other-kind j n = ne-eqb k j (λ e. never (subst (λ i. isConstant (record { kind = i; first = a; second = b }) ≡ true) e h) n)
+
+  pub no-empty : eqb k 0 ≡ false
+  unfolding isConstant
+  no-empty = other-kind 0 refl
+
+  pub no-name : eqb k 3 ≡ false
+  unfolding isConstant
+  no-name = other-kind 3 refl
+
+  pub no-pair : eqb k 4 ≡ false
+  unfolding isConstant
+  no-pair = other-kind 4 refl
 
 -- ---- three words an item
 

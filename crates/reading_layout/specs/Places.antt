@@ -14,7 +14,7 @@ use Rattle.datum.specs.Datum.{Datum, Data, constantD, nameD, listD, noneD, more
 use Rattle.recipe.specs.Table.{Item, items, references, occurrences, isReferredOnce}
 use Rattle.recipe.specs.ItemLaws.{items-length}
 use Rattle.reading.specs.Numbering.{dataWords}
-use Rattle.reading_layout.specs.Items.{fits, fitAll, by-kind, item, itemsOf, itemsOfAll, items-are, data-length}
+use Rattle.reading_layout.specs.Items.{fits, fitAll, no-pair, item, itemsOf, itemsOfAll, items-are, data-length}
 
 -- ---- how often a number occurs
 
@@ -106,7 +106,7 @@ mutual
 
   datum-places : (p i : ℕ) (d : Datum) → fits d ≡ true → occurrences p (i ∷ references (itemsOf i d)) ≡ occurrences p (upFrom i (datumItems d))
   datum-places p i (constantD a) h =
-      one p i (a .kind) (a .first) (a .second) (by-kind (λ k. eqb k 4 ≡ false) (a .kind) (a .first) (a .second) h refl refl)
+      one p i (a .kind) (a .first) (a .second) (no-pair (a .kind) (a .first) (a .second) h)
   datum-places p i (nameD n) h = one p i 3 n 0 refl
   datum-places p i (listD ds) h = data-places p i ds h
 

@@ -1,5 +1,5 @@
 -- The tree of a table that holds two elements: a list of two, the first of them a list exactly when the first element is.
-use mathlib.Core.Path.{_≡_, refl, ap, _∙_}
+use mathlib.Core.Path.{_≡_, ap, _∙_}
 use mathlib.Core.Bool.{Bool, true, false, _||_}
 use mathlib.Core.List.{List, [], _++_}
 use Prim.Native.Nat.{ℕ, suc, _+_, _*_, _<_}
@@ -11,7 +11,7 @@ use Rattle.recipe.specs.Tree.{empty, pair, isList, isListOf, elements, element,
 use Rattle.recipe.specs.Table.{kindAt, treeOf}
 use Rattle.recipe.specs.TreeFrom.{treeFrom, headAt, tailAt, treeOf-from, from-empty, from-pair, from-isList}
 use Rattle.reading.specs.Numbering.{datumWords, dataWords}
-use Rattle.reading_layout.specs.Items.{fits, by-kind}
+use Rattle.reading_layout.specs.Items.{fits, no-empty, no-pair}
 use Rattle.reading_layout.specs.Good.{word-at, kind-at, head-words, tail-words}
 
 -- it is a list
@@ -33,7 +33,7 @@ module _ (ws : List ℕ) where
       → (eqb (kindAt ws i) 0 || eqb (kindAt ws i) 4) ≡ isListDatum d
   unfolding datumWords dataWords isListDatum fits
   datum-list i (constantD a) back h e =
-      rw (kind-at ws i _ e) (by-kind (λ k. (eqb k 0 || eqb k 4) ≡ false) (a .kind) (a .first) (a .second) h refl refl)
+      rw (kind-at ws i _ e) (rw (no-empty (a .kind) (a .first) (a .second) h, no-pair (a .kind) (a .first) (a .second) h))
   datum-list i (nameD n) back h e = rw (kind-at ws i _ e)
   datum-list i (listD noneD) back h e = rw (kind-at ws i _ e)
   datum-list i (listD (moreD d ds)) back h e = rw (kind-at ws i _ e)

@@ -70,14 +70,18 @@ layouts =
     (X2With 2 2 0, false) ∷ (X2With 2 1 0, true) ∷
     -- X6: name 1,024
     (X2With 3 1024 0, false) ∷ (X2With 3 1023 0, true) ∷
-    -- other kinds: an empty list with a word, a name with two, kind 5
-    (X2With 0 1 0, false) ∷ (X2With 3 8 1, false) ∷ (X2With 5 0 0, false) ∷
+    -- X11: decimals have one to four places
+    (X2With 5 8 0, false) ∷ (X2With 5 8 1, true) ∷ (X2With 5 2147483648 4, true) ∷ (X2With 5 8 5, false) ∷
+    -- other kinds: an empty list with a word, a name with two, kind 6
+    (X2With 0 1 0, false) ∷ (X2With 3 8 1, false) ∷ (X2With 6 0 0, false) ∷
     -- X7: head and tail the same item, and one item that nothing refers to
     (4 ∷ 1 ∷ 2 ∷ 0 ∷ 0 ∷ 0 ∷ 4 ∷ 4 ∷ 4 ∷ 1 ∷ 5 ∷ 0 ∷ 0 ∷ 0 ∷ 0 ∷ [], false) ∷
     -- a reference to an item that is not higher
     (4 ∷ 1 ∷ 2 ∷ 0 ∷ 0 ∷ 0 ∷ 4 ∷ 2 ∷ 4 ∷ 1 ∷ 5 ∷ 0 ∷ 0 ∷ 0 ∷ 0 ∷ [], false) ∷
     -- a tail that is an integer
     (4 ∷ 1 ∷ 2 ∷ 0 ∷ 0 ∷ 0 ∷ 4 ∷ 4 ∷ 3 ∷ 1 ∷ 5 ∷ 0 ∷ 0 ∷ 0 ∷ 0 ∷ [], false) ∷
+    -- X12: a tail that is a decimal
+    (4 ∷ 1 ∷ 2 ∷ 0 ∷ 0 ∷ 0 ∷ 4 ∷ 4 ∷ 3 ∷ 5 ∷ 5 ∷ 1 ∷ 0 ∷ 0 ∷ 0 ∷ [], false) ∷
     -- X8: the first element is an integer
     (4 ∷ 1 ∷ 2 ∷ 1 ∷ 5 ∷ 0 ∷ 4 ∷ 3 ∷ 4 ∷ 1 ∷ 5 ∷ 0 ∷ 0 ∷ 0 ∷ 0 ∷ [], false) ∷
     -- X9: three elements

@@ -28,6 +28,10 @@ nameLengthMost = 63
 abbrev pub slotSize : ℕ
 slotSize = 64
 
+-- digits behind a decimal's dot
+abbrev pub placesMost : ℕ
+placesMost = 4
+
 -- names 0 to 7 are fixed
 abbrev pub baseNameCount : ℕ
 baseNameCount = 8
@@ -47,7 +51,7 @@ abbrev pub workRate : ℕ
 workRate = 24
 
 abbrev pub coreRate : ℕ
-coreRate = 2
+coreRate = 3
 
 abbrev pub operationsMost : ℕ
 operationsMost = 256

@@ -3,10 +3,10 @@ use mathlib.Core.Path.{_≡_, refl, ap, sym, _∙_}
 use mathlib.Core.Bool.{Bool, true, false, _&&_, _||_, and-assoc, false≢true}
 use mathlib.Core.Logic.{_⊎_, inl, inr}
 use mathlib.Core.List.{List, [], _∷_, _++_}
-use Prim.Native.Nat.{ℕ, zero, suc, _≤_}
+use Prim.Native.Nat.{ℕ, zero, suc, _≤_, _<_}
 use lib.Dec.{leb}
 use lib.ListN.{drop}
-use borrow.Author.Tests.{leb-true, le-leb}
+use borrow.Author.Tests.{leb-true, le-leb, lt-leb}
 use Rattle.words.specs.Lists.{within, allOf, anyOf}
 
 -- ---- conjunctions
@@ -75,6 +75,14 @@ within-least a b n e = within-parts a b n e .0
 
 pub within-most : (a b n : ℕ) → within a b n ≡ true → n ≤ b
 within-most a b n e = within-parts a b n e .1
+
+pub outside-below : (a b n : ℕ) → n < a → within a b n ≡ false
+unfolding within
+outside-below a b n h = and-none-left (leb a n) (leb n b) (lt-leb a n h)
+
+pub outside-above : (a b n : ℕ) → b < n → within a b n ≡ false
+unfolding within
+outside-above a b n h = and-none-right (leb a n) (leb n b) (lt-leb n b h)
 
 -- ---- all
 

@@ -3,7 +3,8 @@ pub mod packed;
 pub mod signed;
 pub mod tables;
 
-// Reading: words and bytes to lend, bytes of a text, elements, names, names that are fixed, open lists, bytes of a name and of its slot.
+// Reading: words and bytes to lend, bytes of a text, elements, names, names that are fixed, open lists, bytes of a name and of its slot,
+// digits behind a decimal's dot.
 pub const ITEM_WORDS: usize = 12288;
 
 pub const NAME_BYTES: usize = 65536;
@@ -22,6 +23,8 @@ pub const NAME_LENGTH: usize = 63;
 
 pub const SLOT: usize = 64;
 
+pub const PLACES: u32 = 4;
+
 // Words of an item.
 pub const ITEM: usize = 3;
 
@@ -34,7 +37,7 @@ pub const FUEL: u32 = 8192;
 
 pub const WORK_RATE: usize = 24;
 
-pub const CORE_RATE: usize = 2;
+pub const CORE_RATE: usize = 3;
 
 pub const OPERATIONS: u32 = 256;
 

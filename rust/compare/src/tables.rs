@@ -43,12 +43,13 @@ fn permuted(random: &mut Random, words: &[u32]) -> Vec<u32> {
 
 fn damage(random: &mut Random, words: &mut Vec<u32>) {
     let at = random.below(words.len());
-    match random.below(8) {
+    match random.below(9) {
         0 => words.truncate(at),
         1 => words.truncate(at - at % 3),
         2 => words.extend([0, 0, 0]),
         3 => words[at] = [u32::MAX, 1_023, 1_024, 5, 6][random.below(5)],
-        4 if words[at] > 0 => words[at] -= 1,
+        4 => words[at - at % 3..][..3].copy_from_slice(&[5, random.below(100) as u32, random.below(7) as u32]),
+        5 if words[at] > 0 => words[at] -= 1,
         _ => words[at] = random.below(words.len() / 3 + 2) as u32,
     }
 }

@@ -147,14 +147,30 @@ fn of_the_requests() {
     }
 }
 
-/// Around each power of ten, both signs.
+/// The ends of the range, and around each power of ten, both signs.
+fn numbers() -> Vec<i32> {
+    let around = |power: i64| [power - 1, power, power + 1, 4 * power - 1, 4 * power, 9 * power, 1 - power, -power, -power - 1];
+    let near = (1..10).flat_map(|k| around(10i64.pow(k)));
+    near.filter_map(|n| i32::try_from(n).ok()).chain([0, 5, -5, i32::MIN, i32::MAX]).collect()
+}
+
 #[test]
 fn digits() {
-    for power in (1..10).map(|k| 10i64.pow(k)) {
-        for n in [power - 1, power, power + 1, 4 * power - 1, 4 * power, 9 * power, 1 - power, -power, -power - 1] {
-            if let Ok(n) = i32::try_from(n) {
-                assert_eq!(file(format!("() {n}").as_bytes(), 512), format!("accepted 0 0\n{n}\n"));
-            }
+    for n in numbers() {
+        assert_eq!(file(format!("() {n}").as_bytes(), 512), format!("accepted 0 0\n{n}\n"));
+    }
+}
+
+/// The same digits with a dot before the last of them.
+#[test]
+fn decimals() {
+    for n in numbers() {
+        for places in 1..=4 {
+            let digits = format!("{:0count$}", n.unsigned_abs(), count = places + 1);
+            let (whole, part) = digits.split_at(digits.len() - places);
+            let text = format!("{}{whole}.{part}", if n < 0 { "-" } else { "" });
+            assert_eq!(reference::file(format!("() {text}").as_bytes(), 512), format!("accepted 0 0\n{text}\n"));
+            assert_eq!(file(format!("() {text}").as_bytes(), 512), format!("accepted 0 0\n{text}\n"));
         }
     }
 }

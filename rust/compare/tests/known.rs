@@ -64,8 +64,8 @@ fn words() {
 /// The deepest terms that fit in the longest core table, applications and lambdas without operands and variables.
 #[test]
 fn deep_terms() {
-    for (opening, levels, bytes) in [(&[8, 0][..], 12_287, 24_575), (&[7, 0, 0], 8_191, 98_293)] {
+    for (opening, levels, bytes) in [(&[8, 0][..], 18_431, 36_863), (&[7, 0, 0], 12_287, 147_445)] {
         let words = [&opening.repeat(levels)[..], &[2, 5]].concat();
-        assert_eq!(told(write(&words, 1, &[], &mut vec![0; 131_072])), (0, bytes));
+        assert_eq!(told(write(&words, 1, &[], &mut vec![0; 262_144])), (0, bytes));
     }
 }

@@ -54,7 +54,8 @@ fn calls() {
     assert_eq!(ground(read(b"() 1", &mut [0; 12_288], &mut [0; 65_535])), 1);
     let items = [4, 1, 2, 0, 0, 0, 4, 3, 4, 1, 5, 0, 0, 0, 0];
     assert_eq!(ground(expand(&items, 8_193, &mut [], &mut [])), 8);
-    assert_eq!(ground(expand(&items, 0, &mut [0; 119], &mut [0; 10])), 9);
+    assert_eq!(ground(expand(&items, 0, &mut [0; 119], &mut [0; 15])), 9);
+    assert_eq!(ground(expand(&items, 0, &mut [0; 120], &mut [0; 14])), 9);
     assert_eq!(ground(write(&[8, 0], 256, &[], &mut [0; 10])), 19);
     assert_eq!(ground(write(&[2, 0], 256, &[], &mut [])), 20);
 }

@@ -20,9 +20,15 @@ fn large(random: &mut Random) -> String {
         0 => format!("() ({})", " 1".repeat(2_040 + n)),
         1 => format!("() ({})", (0..1_010 + n).map(|i| format!(" {}{i}{}", letter(random), letter(random))).collect::<String>()),
         2 => format!("() {}{}", "(".repeat(60 + n), ")".repeat(60 + n)),
-        _ => format!("() {}7", "0".repeat(65_527 + n)),
+        _ => format!("() {}{}7", "0".repeat(65_527 + n), random.pick(&["", ".", ".00"])),
     }
 }
+
+/// Numbers to put into a text: the last that are read and the first that are not, and such as are no numbers.
+const NUMBERS: &[&str] = &[
+    " -2147483648 ", "99999999999", " -214748.3648 ", " -214748.3649 ", " 21474836.47 ", " 21474836.48 ", " 99999999999.1 ",
+    " 99999999999.", " 1.", "0.12345", "1.2.3", "1.-2", " .5 ", "-0.0", " 00.80 ", ".1", ".12",
+];
 
 /// A recipe or a large text, often damaged: bytes changed, dropped, doubled or cut off.
 fn damaged(random: &mut Random) -> Vec<u8> {
@@ -33,8 +39,7 @@ fn damaged(random: &mut Random) -> Vec<u8> {
             0 => bytes.truncate(at),
             1 if at < bytes.len() => drop(bytes.remove(at)),
             2 if at < bytes.len() => bytes[at] = random.below(256) as u8,
-            3 => bytes.splice(at..at, *b" -2147483648 ").for_each(drop),
-            4 => bytes.splice(at..at, *b"99999999999").for_each(drop),
+            3 | 4 => bytes.splice(at..at, random.pick(NUMBERS).bytes()).for_each(drop),
             _ => bytes.splice(at..at, [b"()#tf.-1 \t"[random.below(10)]]).for_each(drop),
         }
     }

@@ -16,19 +16,26 @@ fn write(words: &[u32], operations: u32, names: &[u8], out: &mut [u8]) -> (u32, 
 fn words(random: &mut Random, recipe: &text::Recipe) -> Vec<u32> {
     let mut words = expand::run(&recipe.words(), 300, 1 << 20, 1 << 20).core;
     if words.is_empty() {
-        words = (0..random.below(12)).map(|_| random.below(10) as u32).collect();
+        words = (0..random.below(12)).map(|_| random.below(11) as u32).collect();
     }
     for _ in 0..random.below(3) {
         let at = random.below(words.len().max(1));
-        match random.below(5) {
+        match random.below(6) {
             0 => words.truncate(at),
             1 if at < words.len() => words[at] = random.below(10) as u32,
             2 if at < words.len() => words[at] = [u32::MAX, 1 << 31, 1_023, 1_024, 256][random.below(5)],
-            3 => words.insert(at.min(words.len()), random.below(9) as u32),
+            3 => words.insert(at.min(words.len()), random.below(10) as u32),
+            4 => drop(words.splice(at..at, decimal(random))),
             _ => {}
         }
     }
     words
+}
+
+/// The words of a decimal, now and then of no places or too many; any value, small ones more often.
+fn decimal(random: &mut Random) -> [u32; 3] {
+    let value = (random.below(1 << 32) as u32) >> random.below(32);
+    [9, if random.chance(50) { value } else { value.wrapping_neg() }, random.below(6) as u32]
 }
 
 #[test]

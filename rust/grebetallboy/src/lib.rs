@@ -18,7 +18,7 @@ pub const NAME_BYTES: usize = 65_536;
 /// Words of a work table and of a core table to lend for expanding `items` items with some fuel.
 pub fn table_words(items: usize, fuel: u32) -> (usize, usize) {
     let need = items + fuel as usize;
-    (24 * need, 2 * need)
+    (24 * need, 3 * need)
 }
 
 /// Bytes of output for each word of a core term that hold its text, whatever the term (of up to 10^9 words).

@@ -30,6 +30,10 @@ impl Table {
         self.put([1, word, 0]);
     }
 
+    pub fn decimal(&mut self, word: u32, places: u32) {
+        self.put([5, word, places]);
+    }
+
     pub fn empty(&mut self) {
         self.put([0, 0, 0]);
     }

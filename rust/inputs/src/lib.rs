@@ -57,6 +57,22 @@ const NAMES: &[&str] = &["t", "x", "y", "a", "b", "else", "m", "k", "if", "lambd
 const VARIABLES: &[&str] = &["t", "x", "y", "a", "b"];
 const MACROS: &[&str] = &["m", "k", "w", "t", "if"];
 
+/// Numbers, those of a row of one value.
+pub const NUMBERS: &[&[&str]] = &[
+    &["1", "1.0", "01", "1.0000"],
+    &["0", "0.0", "-0", "-0.00"],
+    &["0.8", "0.80", "00.800"],
+    &["-0.5", "-0.5000"],
+    &["-214748.3648"],
+    &["8", "8.00"],
+];
+
+/// A number that reading takes.
+pub fn number(random: &mut Random) -> &'static str {
+    let row = NUMBERS[random.below(NUMBERS.len())];
+    random.pick(row)
+}
+
 /// What may be meant at a place: names that stand for something, and macros with how many operands each takes.
 #[derive(Clone, Default)]
 struct Scope {
@@ -88,7 +104,7 @@ impl Recipes<'_> {
             0 | 1 => self.leaf(scope),
             2..=4 => self.lambda(depth, scope),
             5 => format!("(if {})", self.operands(3, depth, scope)),
-            6 if self.random.chance(30) => format!("(quote {})", self.random.pick(&["t", "(x t)", "1", "()"])),
+            6 if self.random.chance(30) => format!("(quote {})", self.random.pick(&["t", "(x t)", "1", "()", "0.80", "(-0.5 t 1.0)"])),
             7..=9 => self.macros(depth, scope),
             10 => format!("({} {})", self.leaf(scope), self.operands(1, depth, scope)),
             _ if scope.macros.is_empty() => self.private(depth, scope),
@@ -107,7 +123,7 @@ impl Recipes<'_> {
     fn leaf(&mut self, scope: &Scope) -> String {
         match self.random.below(20) {
             0 => self.random.pick(NAMES).to_string(),
-            1 => "1".to_string(),
+            1 => number(self.random).to_string(),
             _ if scope.variables.is_empty() => "#f".to_string(),
             _ => scope.variables[self.random.below(scope.variables.len())].to_string(),
         }
@@ -159,7 +175,7 @@ impl Recipes<'_> {
             let v = self.random.pick(VARIABLES);
             pattern.push(match self.random.below(12) {
                 0 => "else".to_string(),
-                1 => "1".to_string(),
+                1 => number(self.random).to_string(),
                 _ if variables.contains(&v) => "_".to_string(),
                 _ => {
                     variables.push(v);

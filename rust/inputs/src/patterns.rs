@@ -1,7 +1,7 @@
 //! Recipes about rules: patterns with nested ellipses and elements after them, ellipses of an author's choice, templates that repeat
 //! their variables, escapes, macros that make macros, uses that mostly fit.
 
-use crate::Random;
+use crate::{number, Random, NUMBERS};
 
 const VARIABLES: &[&str] = &["a", "b", "c", "d", "e", "t", "x", "y"];
 const LITERALS: &[&str] = &["else", "=>", "t"];
@@ -21,7 +21,8 @@ enum Pattern {
     Variable(&'static str),
     Literal(&'static str),
     Wildcard,
-    Integer(usize),
+    /// Out of a row of numbers of one value.
+    Number(&'static [&'static str], &'static str),
     /// Elements, and which of them is repeated.
     List(Vec<Pattern>, Option<usize>),
 }
@@ -92,7 +93,10 @@ impl Rules<'_> {
 
     fn pattern(&mut self, depth: usize, ellipses: usize) -> Pattern {
         match self.random.below(20) {
-            0 => Pattern::Integer(self.random.below(2)),
+            0 => {
+                let row = NUMBERS[self.random.below(NUMBERS.len())];
+                Pattern::Number(row, self.random.pick(row))
+            }
             1 => Pattern::Wildcard,
             2 if !self.literals.is_empty() => Pattern::Literal(self.literals[self.random.below(self.literals.len())]),
             3..=8 if depth > 0 => self.list(depth, ellipses),
@@ -184,7 +188,7 @@ impl Rules<'_> {
         match self.random.below(20) {
             0 => self.random.pick(VARIABLES).to_string(),
             1..=3 => self.random.pick(INSERTED).to_string(),
-            4 => self.random.below(2).to_string(),
+            4 => number(self.random).to_string(),
             _ if !driving.is_empty() => driving[self.random.below(driving.len())].to_string(),
             _ if !fitting.is_empty() => fitting[self.random.below(fitting.len())].to_string(),
             _ => self.random.pick(INSERTED).to_string(),
@@ -220,7 +224,8 @@ impl Rules<'_> {
 
     fn fits(&mut self, pattern: &Pattern) -> String {
         match pattern {
-            Pattern::Integer(n) => n.to_string(),
+            Pattern::Number(..) if self.random.chance(10) => number(self.random).to_string(),
+            Pattern::Number(row, _) => self.random.pick(row).to_string(),
             Pattern::Literal(x) => x.to_string(),
             Pattern::List(elements, repeated) => format!("({})", self.fitting(elements, *repeated)),
             Pattern::Variable(_) | Pattern::Wildcard => match self.random.below(8) {
@@ -243,9 +248,8 @@ fn after_space(chosen: &str) -> String {
 
 fn text_of(head: &str, dots: &str, pattern: &Pattern) -> String {
     match pattern {
-        Pattern::Variable(x) | Pattern::Literal(x) => x.to_string(),
+        Pattern::Variable(x) | Pattern::Literal(x) | Pattern::Number(_, x) => x.to_string(),
         Pattern::Wildcard => "_".to_string(),
-        Pattern::Integer(n) => n.to_string(),
         Pattern::List(elements, repeated) => {
             let mut texts: Vec<String> = elements.iter().map(|p| text_of("", dots, p)).collect();
             if let Some(i) = repeated {

@@ -1,13 +1,13 @@
 //! The core term: its words, ground 19, its text and ground 20.
 
-use crate::text::Datum;
+use crate::text::{Datum, Number};
 use crate::Ground;
 
 #[derive(Clone, Debug)]
 pub enum Term {
     Variable(u32),
     Operation(u32),
-    Integer(i32),
+    Number(Number),
     Boolean(bool),
     Quoted(Datum),
     If(Box<[Term; 3]>),
@@ -26,7 +26,7 @@ impl Term {
         match self {
             Term::Variable(n) => out.extend([0, *n]),
             Term::Operation(n) => out.extend([1, *n]),
-            Term::Integer(n) => out.extend([2, *n as u32]),
+            Term::Number(n) => put_number(*n, out),
             Term::Boolean(b) => out.extend([3, u32::from(*b)]),
             Term::Quoted(d) => put_datum(d, out),
             Term::If(parts) => {
@@ -48,7 +48,7 @@ impl Term {
 
 fn put_datum(d: &Datum, out: &mut Vec<u32>) {
     match d {
-        Datum::Integer(n) => out.extend([2, *n as u32]),
+        Datum::Number(n) => put_number(*n, out),
         Datum::Boolean(b) => out.extend([3, u32::from(*b)]),
         Datum::Name(n) => out.extend([4, *n]),
         Datum::List(list) => {
@@ -56,6 +56,20 @@ fn put_datum(d: &Datum, out: &mut Vec<u32>) {
             list.iter().for_each(|d| put_datum(d, out));
         }
     }
+}
+
+fn put_number(n: Number, out: &mut Vec<u32>) {
+    match n.places {
+        0 => out.extend([2, n.value as u32]),
+        places => out.extend([9, n.value as u32, places]),
+    }
+}
+
+/// Its digits, the last of them behind a dot, and at least one before it.
+fn decimal(n: Number) -> String {
+    let (sign, size) = (if n.value < 0 { "-" } else { "" }, n.value.unsigned_abs());
+    let (whole, part) = (size / 10u32.pow(n.places), size % 10u32.pow(n.places));
+    format!("{sign}{whole}.{part:0places$}", places = n.places as usize)
 }
 
 struct Writer<'a> {
@@ -90,7 +104,7 @@ impl Writer<'_> {
 
     fn term(&mut self) -> Option<()> {
         match self.words.first()? {
-            2 | 3 => return self.datum(),
+            2 | 3 | 9 => return self.datum(),
             4 | 5 => {
                 self.put("(quote ");
                 self.datum()?;
@@ -176,6 +190,11 @@ impl Writer<'_> {
                     self.datum()?;
                 }
                 self.put(")");
+            }
+            9 => {
+                let value = self.word()? as i32;
+                let places = self.word().filter(|places| (1..=4).contains(places))?;
+                self.put(&decimal(Number { value, places }));
             }
             _ => return None,
         }

@@ -56,7 +56,7 @@ fn require(test: bool, ground: Ground) -> Result<(), Ground> {
 /// Words of the shortest work and core tables that pass ground 9.
 pub fn table_words(items: usize, fuel: u32) -> (usize, usize) {
     let need = items + fuel as usize;
-    (24 * need, 2 * need)
+    (24 * need, 3 * need)
 }
 
 /// What the definition gives for one item table, fuel and lengths of lent tables.
@@ -119,7 +119,7 @@ impl Expander {
 
     fn expression(&mut self, t: Tree) -> Answer {
         match t {
-            Tree::Integer(n) => Ok(Term::Integer(n)),
+            Tree::Number(n) => Ok(Term::Number(n)),
             Tree::Boolean(b) => Ok(Term::Boolean(b)),
             Tree::Name(x) => match self.lookup(&x) {
                 Found::Bound(Binding::Variable(n)) => Ok(Term::Variable(n)),
@@ -159,7 +159,7 @@ impl Expander {
         let [_, d] = list else { return Err(13) };
         self.events.extend(d.names().into_iter().cloned().map(Event::Quoted));
         Ok(match datum(d) {
-            Datum::Integer(n) => Term::Integer(n),
+            Datum::Number(n) => Term::Number(n),
             Datum::Boolean(b) => Term::Boolean(b),
             d => Term::Quoted(d),
         })
@@ -248,7 +248,7 @@ fn distinct(names: &[Name]) -> Result<(), Ground> {
 
 fn datum(t: &Tree) -> Datum {
     match t {
-        Tree::Integer(n) => Datum::Integer(*n),
+        Tree::Number(n) => Datum::Number(*n),
         Tree::Boolean(b) => Datum::Boolean(*b),
         Tree::Name(x) => Datum::Name(x.number),
         Tree::List(list) => Datum::List(list.iter().map(datum).collect()),

@@ -1,5 +1,6 @@
 //! The item table and its layout (ground 7).
 
+use crate::text::Number;
 use crate::tree::{Name, Tree};
 
 fn item(words: &[u32], i: usize) -> [u32; 3] {
@@ -14,6 +15,7 @@ fn good(words: &[u32], n: usize, i: usize) -> bool {
         [2, a, b] => a < 2 && b == 0,
         [3, a, b] => a < 1_024 && b == 0,
         [4, a, b] => above(a) && above(b) && matches!(words[3 * b as usize], 0 | 4),
+        [5, _, b] => (1..=4).contains(&b),
         _ => false,
     }
 }
@@ -41,7 +43,7 @@ pub fn elements(words: &[u32]) -> Option<(Tree, Tree)> {
 
 fn tree(words: &[u32], mut i: usize) -> Tree {
     match item(words, i) {
-        [1, a, _] => return Tree::Integer(a as i32),
+        [1 | 5, a, b] => return Tree::Number(Number { value: a as i32, places: b }),
         [2, a, _] => return Tree::Boolean(a == 1),
         [3, a, _] => {
             return Tree::Name(Name { number: a, marks: Default::default(), binding: None, item: i as u32, produced: false })

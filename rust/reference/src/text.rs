@@ -2,9 +2,24 @@
 
 use crate::{Ground, BASE_NAMES};
 
+/// Its value without the dot, and its places: none for an integer, 1 to 4 for a decimal.
+#[derive(Clone, Copy, Debug, PartialEq)]
+pub struct Number {
+    pub value: i32,
+    pub places: u32,
+}
+
+impl Number {
+    /// By exact value, in ten-thousandths.
+    pub fn matches(self, other: Number) -> bool {
+        let exact = |n: Number| i64::from(n.value) * 10i64.pow(4 - n.places);
+        exact(self) == exact(other)
+    }
+}
+
 #[derive(Clone, Debug, PartialEq)]
 pub enum Datum {
-    Integer(i32),
+    Number(Number),
     Boolean(bool),
     Name(u32),
     List(Vec<Datum>),
@@ -20,7 +35,7 @@ enum Token {
     Open,
     Close,
     Boolean(bool),
-    Integer(i32),
+    Number(Number),
     Name(Vec<u8>),
 }
 
@@ -47,19 +62,30 @@ fn token(text: &[u8]) -> Result<(Token, usize), Ground> {
 }
 
 fn run(bytes: &[u8]) -> Result<Token, Ground> {
-    let digits = bytes.strip_prefix(b"-").unwrap_or(bytes);
-    if digits.first().is_some_and(u8::is_ascii_digit) {
-        if !digits.iter().all(u8::is_ascii_digit) {
-            return Err(3);
-        }
-        let size = digits.iter().fold(0u64, |n, d| (n * 10 + u64::from(d - b'0')).min(1 << 40));
-        let value = if digits.len() < bytes.len() { -(size as i64) } else { size as i64 };
-        return i32::try_from(value).map(Token::Integer).map_err(|_| 4);
+    let unsigned = bytes.strip_prefix(b"-").unwrap_or(bytes);
+    if unsigned.first().is_some_and(u8::is_ascii_digit) {
+        return number(unsigned, unsigned.len() < bytes.len()).map(Token::Number);
     }
     if bytes.len() > 63 || bytes == b"." {
         return Err(3);
     }
     Ok(Token::Name(bytes.to_vec()))
+}
+
+/// Digits, or digits, a dot and one to four digits; the range is that of the digits without the dot.
+fn number(unsigned: &[u8], minus: bool) -> Result<Number, Ground> {
+    let (whole, places) = match unsigned.iter().position(|&b| b == b'.') {
+        None => (unsigned, &[][..]),
+        Some(dot) => (&unsigned[..dot], &unsigned[dot + 1..]),
+    };
+    let dotted = whole.len() < unsigned.len();
+    if ![whole, places].concat().iter().all(u8::is_ascii_digit) || dotted && !(1..=4).contains(&places.len()) {
+        return Err(3);
+    }
+    let size = whole.iter().chain(places).fold(0u64, |n, d| (n * 10 + u64::from(d - b'0')).min(1 << 40));
+    let value = if minus { -(size as i64) } else { size as i64 };
+    let value = i32::try_from(value).map_err(|_| 4u32)?;
+    Ok(Number { value, places: places.len() as u32 })
 }
 
 /// Grounds 2 to 6.
@@ -100,7 +126,7 @@ pub fn read(text: &[u8]) -> Result<Recipe, Ground> {
                 continue;
             }
             Token::Boolean(b) => Datum::Boolean(b),
-            Token::Integer(n) => Datum::Integer(n),
+            Token::Number(n) => Datum::Number(n),
             Token::Name(bytes) => Datum::Name(match names.iter().position(|n| *n == bytes) {
                 Some(number) => number as u32,
                 None if names.len() == 1_024 => return Err(6),
@@ -153,7 +179,7 @@ fn place_list(list: &[Datum], items: &mut Vec<[u32; 3]>) -> u32 {
 fn place(datum: &Datum, items: &mut Vec<[u32; 3]>) -> u32 {
     match datum {
         Datum::List(list) => return place_list(list, items),
-        Datum::Integer(n) => items.push([1, *n as u32, 0]),
+        Datum::Number(n) => items.push([if n.places == 0 { 1 } else { 5 }, n.value as u32, n.places]),
         Datum::Boolean(b) => items.push([2, u32::from(*b), 0]),
         Datum::Name(n) => items.push([3, *n, 0]),
     }

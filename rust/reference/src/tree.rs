@@ -1,5 +1,6 @@
 //! Trees of names with marks and bindings, carried through at once.
 
+use crate::text::Number;
 use std::collections::BTreeSet;
 
 #[derive(Clone, Copy, Debug, PartialEq, Eq, PartialOrd, Ord, Hash)]
@@ -39,7 +40,7 @@ impl Name {
 
 #[derive(Clone, Debug)]
 pub enum Tree {
-    Integer(i32),
+    Number(Number),
     Boolean(bool),
     Name(Name),
     List(Vec<Tree>),

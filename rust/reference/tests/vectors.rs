@@ -17,7 +17,8 @@ fn layouts() {
         let run = in_stack(256 << 20, || expand::run(&row.items, row.fuel, row.work, row.core));
         assert_eq!(run.outcome.err().unwrap_or(0), row.ground, "{}", row.name);
     }
-    assert_eq!(expand::run(&known::layouts()[0].items, 0, 120, 10).core, [2, 5]);
+    assert_eq!(expand::run(&known::layouts()[0].items, 0, 120, 15).core, [2, 5]);
+    assert_eq!(expand::run(&known::decimal_operand(), 0, 264, 33).core, [8, 1, 1, 0, 9, 80, 2]);
 }
 
 #[test]

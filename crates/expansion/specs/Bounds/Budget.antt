@@ -1,5 +1,5 @@
 -- What a computation spends, of a tree of size k: gas of k and the fuel left is enough; every step is paid for; core words are at most
--- 2 × (k + the fuel spent), and new variables and macros together at most k + the fuel spent.
+-- 3 × (k + the fuel spent), and new variables and macros together at most k + the fuel spent.
 use mathlib.Core.Path.{_≡_, refl, _∙_}
 use mathlib.Core.Bool.{Bool, true, false, cond}
 use mathlib.Core.List.{List, [], _∷_}
@@ -8,9 +8,10 @@ use native.Mathlib.Omega.{arith}
 use lib.Dec.{eqb}
 use lib.ListN.{length, getD, length-append, length-map}
 use borrow.Author.Tests.{leb-true, eqb-true}
+use Rattle.words.specs.Limits.{coreRate}
 use Rattle.words.specs.TestLaws.{and-parts}
 use Rattle.words.specs.Each.{each-all, given-any}
-use Rattle.datum.specs.Constant.{constantWords}
+use Rattle.datum.specs.ConstantLaws.{words-few}
 use Rattle.datum.specs.Datum.{constantD}
 use Rattle.recipe.specs.Name.{Binding, variable, macro, Name}
 use Rattle.recipe.specs.Tree.{Tree, empty, constant, name, pair, size, strip, stripTail, onPair, isList, isListOf, elements, element, tail, mark, produce, bindAll}
@@ -64,17 +65,17 @@ macros-size : (limit : ℕ) (f : ℕ → Binding) (k : ℕ) (xs : List Name) (t 
 unfolding isMacros rulesForms
 macros-size limit f k xs t h = omega (arith, form-size f k xs t (and-parts (isListOf 3 t) _ h .0), elements-size (element 1 t), length-map (elements (element 1 t)) (element 1))
 
--- a quoted datum has at most two words an item; a list's elements leave room for its code and count
+-- a quoted datum has at most three words an item; a list's elements leave room for its code and count
 mutual
-  unfolding datumWords nodeWords constantWords strip size
+  unfolding datumWords nodeWords strip size
 
-  datum-words : (t : Tree) → length (datumWords (strip t)) ≤ 2 * size t
+  datum-words : (t : Tree) → length (datumWords (strip t)) ≤ coreRate * size t
   datum-words empty = omega arith
-  datum-words (constant a) = omega arith
+  datum-words (constant a) = omega (arith, words-few a .1)
   datum-words (name x) = omega arith
   datum-words (pair h t) = simp length-append (omega (arith, datum-words h, tail-words t))
 
-  tail-words : (t : Tree) → length (dataWords (stripTail t)) + 2 ≤ 2 * size t
+  tail-words : (t : Tree) → length (dataWords (stripTail t)) + 2 ≤ coreRate * size t
   tail-words empty = omega arith
   tail-words (constant a) = omega arith
   tail-words (name x) = omega arith
@@ -91,7 +92,7 @@ pub record Solvent (fuel : ℕ) (s : State) : Type 0 where
 pub record Spent (fuel k : ℕ) (s : State) (n : ℕ) (t : State) : Type 0 where
   pub grown : s .sum ≤ t .sum
   pub solvent : Solvent fuel t
-  pub words : n + 2 * s .sum ≤ 2 * k + 2 * t .sum
+  pub words : n + coreRate * s .sum ≤ coreRate * k + coreRate * t .sum
   pub bindings : t .variables + length (t .macros) + s .sum ≤ s .variables + length (s .macros) + k + t .sum
 
 -- of an outcome: it is not starved, a refusal is solvent, and what is done spends at most this
@@ -107,7 +108,7 @@ Thrifty fuel gas rec = (t : Tree) (s : State) → Solvent fuel s → size t + fu
 
 module _ (limit : ℕ) (operations : List ℕ) (fuel : ℕ) where
   -- no fuel
-  nothing-spent : (k : ℕ) (s : State) (n : ℕ) → Solvent fuel s → n ≤ 2 * k → Spent fuel k s n s
+  nothing-spent : (k : ℕ) (s : State) (n : ℕ) → Solvent fuel s → n ≤ coreRate * k → Spent fuel k s n s
   nothing-spent k s n low h = record { grown = omega arith; solvent = low; words = omega arith; bindings = omega arith }
 
   module _ (gas : ℕ) (rec : Tree → M (Term Name)) (good : Thrifty fuel gas rec) where
@@ -231,9 +232,9 @@ module _ (limit : ℕ) (operations : List ℕ) (fuel : ℕ) where
     pair-spends (pair a b) t s low g = application-spends (pair a b) t s low g
 
     tree-spends : Thrifty fuel (suc gas) (expandTree limit operations fuel rec)
-    unfolding expandTree size encode nodeWords datumWords constantWords
+    unfolding expandTree size encode nodeWords datumWords
     tree-spends empty s low g = refuse-holds 13 s low
-    tree-spends (constant a) s low g = give-holds (datumC (constantD a)) s (nothing-spent 1 s 2 low (omega arith))
+    tree-spends (constant a) s low g = give-holds (datumC (constantD a)) s (nothing-spent 1 s _ low (omega (arith, words-few a .1)))
     tree-spends (name x) s low g = show-holds _ _ s (name-spends (lookup operations x) s low)
     tree-spends (pair h t) s low g = pair-spends h t s low g
 

@@ -2,13 +2,13 @@
 use mathlib.Core.Path.{_≡_, refl, sym, ap, subst, _∙_}
 use mathlib.Core.Bool.{true, false}
 use mathlib.Core.List.{List, [], _∷_, _++_}
-use Prim.Native.Nat.{ℕ, _+_, _≤_}
+use Prim.Native.Nat.{ℕ, zero, suc, _+_, _≤_}
 use native.Mathlib.Omega.{arith}
 use lib.Dec.{eqb}
 use lib.ListN.{length, length-append}
 use Rattle.words.specs.TestLaws.{and-left}
 use Rattle.words.specs.ListLaws.{either, never}
-use Rattle.datum.specs.Constant.{Constant}
+use Rattle.datum.specs.Constant.{Constant, integer, decimal}
 use Rattle.datum.specs.Datum.{Datum, constantD, noneD, dataItems, datumItems}
 use Rattle.lexer.specs.declared.token.Cursor.{Cursor}
 use Rattle.reader.specs.declared.place.Place.{Place}
@@ -16,7 +16,7 @@ use Rattle.reader.specs.declared.place.Step as S
 use Rattle.reader.specs.declared.place.Step.the-variants as SV
 use Rattle.reader.specs.declared.element.Move.{Move}
 use Rattle.reader.specs.declared.element.Move.the-variants.{Refused}
-use Rattle.reading.specs.Meaning.{Meaning, begins, ends, constant, refused}
+use Rattle.reading.specs.Meaning.{Meaning, begins, ends, constant, refused, number}
 use Rattle.reading.specs.Numbering.{datumWords, dataWords}
 use Rattle.reading.specs.Elements.{Answer, got, refusedFor, then, Reading, onto, noneOpen, isComplete, counted, put, opened, closed, takes, takesAll}
 use Rattle.reading.specs.Laws.Elements.{got-only, never-got, begin-got}
@@ -24,7 +24,7 @@ use Rattle.reading.specs.Read.{finished, itemWords, nameBytes}
 use Rattle.words.specs.Tables.{filled}
 use Rattle.lexer.specs.Told.{meaningsFrom, Took}
 use Rattle.reader.specs.Code.Index.{Indexed}
-use Rattle.reader.specs.Code.Placed.{Holds, Stepped, IndexedAfter, withToken, TokenPut, itemsOf, wordsOf, itemsAround, wordsAround, nextItem, placed}
+use Rattle.reader.specs.Code.Placed.{Holds, Stepped, IndexedAfter, withToken, NumberKind, TokenPut, itemsOf, wordsOf, itemsAround, wordsAround, nextItem, placed}
 use Rattle.reader.specs.Code.PlacedLaws.{onto-items, onto-words, length-words, zeros, refill}
 use Rattle.reader.specs.Code.StepLaws.{complete-is}
 use Rattle.reader.specs.Code.Moved.{movedBy, finishOf, outcomeFrom, Whole, Moved}
@@ -70,11 +70,22 @@ module _ (r : Reading) (index : List ℕ) (i : Indexed (r .known) index) where
   ends-indexed q e = rw (closed-known (r .around) q e) i
 
 -- an element that is a constant
-pub constant-stepped : (r : Reading) (p : Place) (words words′ bytes : List ℕ) (a : Constant) (value : ℕ) (s : S.Step) → Holds r p words bytes
-    → a .second ≡ 0 → a .first ≡ value → TokenPut p (a .kind) value (p .known) words words′ s → Stepped (takes (constant a) r) words′ bytes s
+pub constant-stepped : (r : Reading) (p : Place) (words words′ bytes : List ℕ) (a : Constant) (kind first second : ℕ) (s : S.Step)
+    → Holds r p words bytes → a ≡ record { kind = kind; first = first; second = second }
+    → TokenPut p kind first second (p .known) words words′ s → Stepped (takes (constant a) r) words′ bytes s
 unfolding takes put counted withToken datumItems datumWords
-constant-stepped r p words words′ bytes a value s h e f t =
-    t r (constantD a) (r .known) bytes bytes h (record { one = refl; words = λ i. rw (e, f) }) (h .known) (h .short) (h .names) (h .enoughNames)
+constant-stepped r p words words′ bytes a kind first second s h e t =
+    t r (constantD a) (r .known) bytes bytes h (record { one = refl; words = λ i. rw e }) (h .known) (h .short) (h .names) (h .enoughNames)
+
+-- a number with places is a decimal
+pub some-places : (places : ℕ) → (places ≡ 0 → ⊥) → NumberKind places 5
+unfolding number decimal
+some-places zero h w = absurd (h refl)
+some-places (suc p) h w = refl
+
+pub no-places : (places : ℕ) → places ≡ 0 → NumberKind places 1
+unfolding number integer
+no-places places e w = rw e
 
 -- ---- a token that is refused
 

@@ -30,7 +30,7 @@ use Rattle.reader.specs.Code.PlacedLaws.{filled-same}
 use Rattle.reader.specs.Code.StepLaws.{token-refused}
 
 -- a name's one item
-name-token : (n : ℕ) → IsToken (nameD n) 3 n
+name-token : (n : ℕ) → IsToken (nameD n) 3 n 0
 unfolding datumItems datumWords
 name-token n = record { one = refl; words = λ i. refl }
 
@@ -74,7 +74,7 @@ module _ (r : Reading) (p : Place) (words bytes : List ℕ) (h : Holds r p words
     names-after q t = ap (λ (x : Reading). x .known) (begin-got r (named word (counted r)) q t .same)
 
     -- a name known before
-    pub name-known : (words′ : List ℕ) (s : Step) → number < p .known → TokenPut p 3 number (p .known) words words′ s
+    pub name-known : (words′ : List ℕ) (s : Step) → number < p .known → TokenPut p 3 number 0 (p .known) words words′ s
         → Stepped (takes (name word) r) words′ bytes s × IndexedAfter (name word) r index
     unfolding takes named counted withToken withName
     name-known words′ s l t =
@@ -90,7 +90,7 @@ module _ (r : Reading) (p : Place) (words bytes : List ℕ) (h : Holds r p words
       number-next = omega (arith, number-is, h .known, number-most word (r .known))
 
       -- a new one, entered
-      pub name-new : (words′ : List ℕ) (s : Step) → number < namesMost → TokenPut p 3 number (number + 1) words words′ s
+      pub name-new : (words′ : List ℕ) (s : Step) → number < namesMost → TokenPut p 3 number 0 (number + 1) words words′ s
           → Stepped (takes (name word) r) words′ (stored bytes number word) s × IndexedAfter (name word) r (linked index number (bucketOf word))
       unfolding takes named counted withToken withName
       name-new words′ s few t =
@@ -113,6 +113,6 @@ module _ (r : Reading) (p : Place) (words bytes : List ℕ) (h : Holds r p words
           let more = r .known ++ (word ∷ []) in
           let k : number + 1 ≡ length more = omega (arith, number-next, length-append (r .known) (word ∷ [])) in
           let z : namesMost < number + 1 = omega arith in
-          let u = token-refused r p words bytes h (nameD number) 3 number (name-token number) more (number + 1) k words′ bytes′ g e′ (λ y. names-full p (number + 1) (p .depth) z (sym e′ ∙ y)) in
+          let u = token-refused r p words bytes h (nameD number) 3 number 0 (name-token number) more (number + 1) k words′ bytes′ g e′ (λ y. names-full p (number + 1) (p .depth) z (sym e′ ∙ y)) in
           let s : Stepped (takes (name word) r) words′ bytes′ (Refused g) = rw (le-ltb _ _ new, ← number-is) u in
           (s, λ q t. absurd (subst (λ a. Stepped a words′ bytes′ (Refused g)) t s))

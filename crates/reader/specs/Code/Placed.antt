@@ -14,7 +14,7 @@ use Rattle.reader.specs.declared.place.Place.{Place}
 use Rattle.reader.specs.declared.place.Step.{Step}
 use Rattle.reader.specs.declared.place.Step.the-variants.{Went, Refused}
 use Rattle.reading.specs.Numbering.{datumWords}
-use Rattle.reading.specs.Meaning.{Meaning, begins, ends, name}
+use Rattle.reading.specs.Meaning.{Meaning, begins, ends, name, number}
 use Rattle.reading.specs.Elements.{Answer, got, refusedFor, Reading, noneOpen, begin, takes}
 use Rattle.reading.specs.Laws.Elements.{Within}
 use Rattle.words.specs.Tables.{filled}
@@ -112,10 +112,14 @@ groundAt p known depth =
 
 -- ---- what the code promises of a token, for every reading that it may hold
 
--- an element that is one item, with its kind and value
-pub record IsToken (d : Datum) (kind value : ℕ) : Type 0 where
+-- an element that is one item, with its three words
+pub record IsToken (d : Datum) (kind first second : ℕ) : Type 0 where
   pub one : datumItems d ≡ 1
-  pub words : (i : ℕ) → datumWords i d ≡ kind ∷ value ∷ 0 ∷ []
+  pub words : (i : ℕ) → datumWords i d ≡ kind ∷ first ∷ second ∷ []
+
+-- the kind of the item of a number with so many places
+abbrev pub NumberKind : ℕ → ℕ → Type 0
+NumberKind places kind = (w : ℕ) → number w places ≡ record { kind = kind; first = w; second = places }
 
 -- a reading with such an element more, and the names known then
 unfoldable pub withToken : Reading → Datum → List (List ℕ) → Reading
@@ -128,9 +132,9 @@ withToken r d names = record {
 }
 
 -- a token that is an element, whatever reading, element and names it is for
-abbrev pub TokenPut : Place → ℕ → ℕ → ℕ → List ℕ → List ℕ → Step → Type 0
-TokenPut p kind value known words words′ s =
-    (r : Reading) (d : Datum) (names : List (List ℕ)) (bytes table : List ℕ) → Holds r p words bytes → IsToken d kind value
+abbrev pub TokenPut : Place → ℕ → ℕ → ℕ → ℕ → List ℕ → List ℕ → Step → Type 0
+TokenPut p kind first second known words words′ s =
+    (r : Reading) (d : Datum) (names : List (List ℕ)) (bytes table : List ℕ) → Holds r p words bytes → IsToken d kind first second
     → known ≡ length names → allOf isShort names ≡ true → table ≡ filled (slots names) table → nameBytesLeast ≤ length table
     → Stepped (begin r (withToken r d names)) words′ table s
 

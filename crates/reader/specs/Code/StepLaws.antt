@@ -115,16 +115,16 @@ lacking-is : (r : Reading) (p : Place) (words bytes : List ℕ) → Holds r p wo
 lacking-is r p words bytes h = rw (none-open (r .around), h .depth, h .missing)
 
 -- one that is an element by itself, with the names that are known after it
-module _ (r : Reading) (p : Place) (words bytes : List ℕ) (h : Holds r p words bytes) (d : Datum) (kind v : ℕ)
-    (one : datumItems d ≡ 1) (three : datumWords (suc (nextItem r)) d ≡ kind ∷ v ∷ 0 ∷ []) where
+module _ (r : Reading) (p : Place) (words bytes : List ℕ) (h : Holds r p words bytes) (d : Datum) (kind first second : ℕ)
+    (one : datumItems d ≡ 1) (three : datumWords (suc (nextItem r)) d ≡ kind ∷ first ∷ second ∷ []) where
   -- the table with the pair and the element
   abbrev pub elementPut : List ℕ
-  elementPut = put3 (put3 words (3 * p .next) 4 (p .next + 1) (p .next + 2)) (3 * (p .next + 1)) kind v 0
+  elementPut = put3 (put3 words (3 * p .next) 4 (p .next + 1) (p .next + 2)) (3 * (p .next + 1)) kind first second
 
   put-same : length elementPut ≡ length words
   put-same =
       let t = put3 words (3 * p .next) 4 (p .next + 1) (p .next + 2) in
-      put-length t (3 * (p .next + 1)) kind v 0 ∙ put-length words (3 * p .next) 4 (p .next + 1) (p .next + 2)
+      put-length t (3 * (p .next + 1)) kind first second ∙ put-length words (3 * p .next) 4 (p .next + 1) (p .next + 2)
 
   module _ (known : List (List ℕ)) (m : ℕ) where
     -- the reading with that element
@@ -135,14 +135,14 @@ module _ (r : Reading) (p : Place) (words bytes : List ℕ) (h : Holds r p words
     unfolding nextItem itemsOf
     next-two = omega (arith, h .next, one)
 
-    placed-more : placed elementRead ≡ placed r ++ (4 ∷ (p .next + 1) ∷ (p .next + 2) ∷ []) ++ (kind ∷ v ∷ 0 ∷ [])
+    placed-more : placed elementRead ≡ placed r ++ (4 ∷ (p .next + 1) ∷ (p .next + 2) ∷ []) ++ (kind ∷ first ∷ second ∷ [])
     unfolding placed nextItem
     placed-more =
         let k = itemsAround (r .around) + itemsOf (r .here) in
         let e1 : suc k ≡ p .next + 1 = omega (arith, h .next) in
         let e2 : suc (suc k) ≡ p .next + 2 = omega (arith, h .next) in
         token-placed d (r .here) (r .around) one
-        ∙ rw (three, e2, e1) (sym (append-assoc (placed r) (4 ∷ (p .next + 1) ∷ (p .next + 2) ∷ []) (kind ∷ v ∷ 0 ∷ [])))
+        ∙ rw (three, e2, e1) (sym (append-assoc (placed r) (4 ∷ (p .next + 1) ∷ (p .next + 2) ∷ []) (kind ∷ first ∷ second ∷ [])))
 
     module _ (w : Within elementRead) where
       room : 3 * p .next + 6 ≤ length words
@@ -156,8 +156,8 @@ module _ (r : Reading) (p : Place) (words bytes : List ℕ) (h : Holds r p words
           let i : 3 * p .next ≡ length (placed r) = omega (arith, length-placed r, h .next) in
           let u : t ≡ filled (placed r ++ a) t = put-filled (placed r) words (3 * p .next) 4 (p .next + 1) (p .next + 2) i (h .items) (omega (arith, room)) ∙ filled-same _ _ _ (sym l) in
           let j : 3 * (p .next + 1) ≡ length (placed r ++ a) = omega (arith, length-append (placed r) a, i) in
-          put-filled (placed r ++ a) t (3 * (p .next + 1)) kind v 0 j u (omega (arith, room, l))
-          ∙ filled-same _ _ _ (sym (put-length t (3 * (p .next + 1)) kind v 0))
+          put-filled (placed r ++ a) t (3 * (p .next + 1)) kind first second j u (omega (arith, room, l))
+          ∙ filled-same _ _ _ (sym (put-length t (3 * (p .next + 1)) kind first second))
           ∙ ap (λ ws. filled ws elementPut) (sym placed-more)
 
       pub element-holds : (n missing : ℕ) (table : List ℕ) → n ≡ length known → allOf isShort known ≡ true → table ≡ filled (slots known) table
@@ -312,8 +312,8 @@ ground-room p known depth h =
     (λ t. either (eqb (p .depth) 0 && eqb (p .missing) 0) (λ u. absurd (omega (arith, rw u at h))) (λ u. absurd (omega (arith, rw (u, t) at h))))
 
 -- a token that is one element
-module _ (r : Reading) (p : Place) (words bytes : List ℕ) (h : Holds r p words bytes) (d : Datum) (kind value : ℕ) (t : IsToken d kind value)
-    (names : List (List ℕ)) (known : ℕ) (k : known ≡ length names) where
+module _ (r : Reading) (p : Place) (words bytes : List ℕ) (h : Holds r p words bytes) (d : Datum)
+    (kind first second : ℕ) (t : IsToken d kind first second) (names : List (List ℕ)) (known : ℕ) (k : known ≡ length names) where
   pub token-refused : (words′ table : List ℕ) (g : ℕ) → g ≡ groundAt p known (p .depth) → (g ≡ 0 → ⊥)
       → Stepped (begin r (withToken r d names)) words′ table (Refused g)
   unfolding withToken
@@ -323,7 +323,7 @@ module _ (r : Reading) (p : Place) (words bytes : List ℕ) (h : Holds r p words
 
   pub token-went : (words′ table : List ℕ) (missing : ℕ) → groundAt p known (p .depth) ≡ 0 → allOf isShort names ≡ true
       → table ≡ filled (slots names) table → nameBytesLeast ≤ length table
-      → words′ ≡ put3 (put3 words (3 * p .next) 4 (p .next + 1) (p .next + 2)) (3 * (p .next + 1)) kind value 0
+      → words′ ≡ put3 (put3 words (3 * p .next) 4 (p .next + 1) (p .next + 2)) (3 * (p .next + 1)) kind first second
       → missing ≡ cond (eqb (p .depth) 0) (p .missing - 1) (p .missing)
       → Stepped (begin r (withToken r d names)) words′ table
       (Went (record { next = p .next + 2; pair = p .pair; depth = p .depth; count = p .count + 1; missing = missing; known = known }))
@@ -332,7 +332,7 @@ module _ (r : Reading) (p : Place) (words bytes : List ℕ) (h : Holds r p words
       let w = ground-passed r p words bytes h (withToken r d names) known (p .depth) k (h .depth) refl z in
       let m : missing ≡ withToken r d names .missing = g ∙ lacking-is r p words bytes h in
       stepped-got _ words′ table (withToken r d names) _ (begin-is r (withToken r d names) (w .0) (w .1))
-      (rw e (element-holds r p words bytes h d kind value (t .one) (t .words (suc (nextItem r))) names (withToken r d names .missing) (w .1) known missing table k s f b m))
+      (rw e (element-holds r p words bytes h d kind first second (t .one) (t .words (suc (nextItem r))) names (withToken r d names .missing) (w .1) known missing table k s f b m))
 
 -- a list begins
 module _ (r : Reading) (p : Place) (words bytes : List ℕ) (h : Holds r p words bytes) where

@@ -7,10 +7,9 @@ use native.Mathlib.Omega.{arith}
 use lib.Dec.{ltb, leb}
 use lib.ListN.{length}
 use Rattle.words.specs.Limits.{itemWordsLeast, nameBytesLeast, textBytesMost}
-use Rattle.words.specs.Lists.{allOf}
 use Rattle.words.specs.ListLaws.{either}
 use Rattle.datum.specs.Datum.{Datum, constantD}
-use Rattle.reading.specs.Token.{Token, open′, close′, bad, flag, run, isDigit, tokens}
+use Rattle.reading.specs.Token.{Token, open′, close′, bad, flag, run, tokens}
 use Rattle.reading.specs.Meaning.{
   Meaning,
   begins,
@@ -18,10 +17,13 @@ use Rattle.reading.specs.Meaning.{
   constant,
   name,
   refused,
+  isNegative,
   unsigned,
   isNumeral,
+  fraction,
+  isFraction,
   signed,
-  integerOf,
+  numeralOf,
   isName,
   nameOf,
   meaningOf,
@@ -61,14 +63,14 @@ HighAnswer (refusedFor g) = 3 ≤ g
 
 -- ---- meanings
 
-signed-high : (t : Bool) (n : ℕ) → High (signed t n)
+signed-high : (t : Bool) (n p : ℕ) → High (signed t n p)
 unfolding signed
-signed-high true n = either (leb n 2147483648) (λ e. rw e (omega arith)) (λ e. rw e (omega arith))
-signed-high false n = either (leb n 2147483647) (λ e. rw e (omega arith)) (λ e. rw e (omega arith))
+signed-high true n p = either (leb n 2147483648) (λ e. rw e (omega arith)) (λ e. rw e (omega arith))
+signed-high false n p = either (leb n 2147483647) (λ e. rw e (omega arith)) (λ e. rw e (omega arith))
 
-integer-high : (cs : List ℕ) → High (integerOf cs)
-unfolding integerOf
-integer-high cs = either (allOf isDigit (unsigned cs)) (λ e. rw e (signed-high _ _)) (λ e. rw e (omega arith))
+numeral-high : (t : Bool) (cs : List ℕ) → High (numeralOf t cs)
+unfolding numeralOf
+numeral-high t cs = either (isFraction (fraction cs)) (λ e. rw e (signed-high _ _ _)) (λ e. rw e (omega arith))
 
 name-high : (cs : List ℕ) → High (nameOf cs)
 unfolding nameOf
@@ -80,7 +82,7 @@ meaning-high open′ = omega arith
 meaning-high close′ = omega arith
 meaning-high bad = omega arith
 meaning-high (flag b) = omega arith
-meaning-high (run cs) = either (isNumeral cs) (λ e. rw e (integer-high cs)) (λ e. rw e (name-high cs))
+meaning-high (run cs) = either (isNumeral cs) (λ e. rw e (numeral-high (isNegative cs) (unsigned cs))) (λ e. rw e (name-high cs))
 
 -- ---- elements
 

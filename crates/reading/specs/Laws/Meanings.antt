@@ -1,20 +1,20 @@
 -- Meanings: a token means what meaningOf gives, where that is no refusal, and nothing else.
-use mathlib.Core.Path.{_≡_, refl, sym, subst, _∙_}
+use mathlib.Core.Path.{_≡_, refl, sym, ap, ap₂, subst, _∙_}
 use mathlib.Core.Bool.{Bool, true, false, not}
-use mathlib.Core.List.{List, [], _∷_}
+use mathlib.Core.List.{List, [], _∷_, _++_}
 use Prim.Native.Nat.{ℕ, _≤_}
 use native.Mathlib.Omega.{arith}
 use lib.Dec.{eqb, leb}
 use lib.IntN.{pos, negℤ}
-use lib.ListN.{length}
+use lib.ListN.{length, take, drop, take-append-drop}
+use lib.Seq.{take-at, drop-at}
 use mir.Syntax.{w32}
 use mir.Val.{ofZ}
 use borrow.Author.Tests.{eqb-true, ne-eqb, leb-true, le-leb, not-true}
-use Rattle.words.specs.Limits.{nameLengthMost}
+use Rattle.words.specs.Limits.{nameLengthMost, placesMost}
 use Rattle.words.specs.Lists.{within, allOf, equal}
-use Rattle.words.specs.TestLaws.{and-left, and-right, within-least, within-most}
+use Rattle.words.specs.TestLaws.{and-left, and-right, and-parts, within-parts, within-is, within-least, within-most}
 use Rattle.words.specs.ListLaws.{either, never, equal-true, equal-refl}
-use Rattle.datum.specs.Constant.{integer}
 use Rattle.reading.specs.Token.{Token, open′, close′, bad, flag, run, isDigit}
 use Rattle.reading.specs.Meaning.{
   Meaning,
@@ -26,18 +26,28 @@ use Rattle.reading.specs.Meaning.{
   isNegative,
   unsigned,
   isNumeral,
+  whole,
+  fraction,
+  arePlaces,
+  isFraction,
+  places,
   valueFrom,
   size,
+  number,
   signed,
-  integerOf,
+  numeralOf,
   isName,
   nameOf,
   meaningOf,
 }
+use Rattle.reading.specs.Offset.{leading}
 use Rattle.reading.specs.RecipeText.{
   StartsNumber,
   digit,
   minus,
+  Fraction,
+  noDot,
+  dot,
   Means,
   opens,
   closes,
@@ -46,6 +56,7 @@ use Rattle.reading.specs.RecipeText.{
   negative,
   named,
 }
+use Rattle.reading.specs.Laws.Offsets.{leading-all, leading-append}
 
 -- ---- runs that are numbers
 
@@ -77,9 +88,71 @@ numeral-starts (c ∷ cs) h =
     (λ e. let k = eqb-true c 45 e in subst (λ n. StartsNumber (n ∷ cs)) (sym k) (minus-starts cs (subst (λ n. isNumeral (n ∷ cs) ≡ true) k h)))
     (λ e. digit (rw (unsigned-plain c cs e) at h))
 
+-- ---- digits, and what stands behind them
+
+-- behind them is no digit
+fraction-leading : {fs ps : List ℕ} → Fraction fs ps → leading isDigit fs ≡ 0
+unfolding leading isDigit within
+fraction-leading noDot = refl
+fraction-leading (dot l u d) = refl
+
+fraction-is : {fs ps : List ℕ} → Fraction fs ps → (isFraction fs ≡ true) × (drop 1 fs ≡ ps)
+unfolding isFraction arePlaces
+fraction-is noDot = (refl, refl)
+fraction-is (dot {ps} l u d) = (rw (within-is 1 placesMost (length ps) l u, d), refl)
+
+is-fraction : (fs : List ℕ) → isFraction fs ≡ true → Fraction fs (drop 1 fs)
+unfolding isFraction arePlaces
+is-fraction [] h = noDot
+is-fraction (c ∷ cs) h =
+    let p = and-parts (eqb c 46) (arePlaces cs) h in
+    let q = and-parts (within 1 placesMost (length cs)) (allOf isDigit cs) (p .1) in
+    let w = within-parts 1 placesMost (length cs) (q .0) in
+    subst (λ n. Fraction (n ∷ cs) cs) (sym (eqb-true c 46 (p .0))) (dot (w .0) (w .1) (q .1))
+
+pub fraction-places : {fs ps : List ℕ} → Fraction fs ps → length ps ≤ placesMost
+fraction-places noDot = omega arith
+fraction-places (dot l u d) = u
+
+-- digits before a fraction are told from it
+module _ (ds : List ℕ) (h : allOf isDigit ds ≡ true) {fs ps : List ℕ} (f : Fraction fs ps) where
+  digits-leading : leading isDigit (ds ++ fs) ≡ length ds
+  digits-leading = leading-append isDigit ds fs h ∙ rw (fraction-leading f) (omega arith)
+
+  whole-is : whole (ds ++ fs) ≡ ds
+  unfolding whole
+  whole-is = take-at ds fs _ (sym digits-leading)
+
+  fraction-behind : fraction (ds ++ fs) ≡ fs
+  unfolding fraction
+  fraction-behind = drop-at ds fs _ (sym digits-leading)
+
+  places-are : places (ds ++ fs) ≡ ps
+  unfolding places
+  places-are = ap (drop 1) fraction-behind ∙ fraction-is f .1
+
+  size-is : size (ds ++ fs) ≡ valueFrom 0 (ds ++ ps)
+  unfolding size
+  size-is = ap₂ (λ a b. valueFrom 0 (a ++ b)) whole-is places-are
+
+  digits-numeral : (t : Bool) → numeralOf t (ds ++ fs) ≡ signed t (valueFrom 0 (ds ++ ps)) (length ps)
+  unfolding numeralOf
+  digits-numeral t = rw (fraction-behind, fraction-is f .0, size-is, places-are)
+
+-- what holds of all digits before a fraction holds of a run that starts with a digit, where a fraction stands behind its digits
+digits-split : (P : List ℕ → ℕ → ℕ → Type 0) (c : ℕ) (cs : List ℕ) → isDigit c ≡ true → isFraction (fraction (c ∷ cs)) ≡ true
+    → ((ds fs ps : List ℕ) → allOf isDigit (c ∷ ds) ≡ true → Fraction fs ps → P (c ∷ ds ++ fs) (valueFrom 0 (c ∷ ds ++ ps)) (length ps))
+    → P (c ∷ cs) (size (c ∷ cs)) (length (places (c ∷ cs)))
+unfolding size places whole fraction leading allOf
+digits-split P c cs d h all =
+    let n = leading isDigit cs in
+    let fs = drop n cs in
+    let p = all (take n cs) fs (drop 1 fs) (rw (d, leading-all isDigit cs)) (is-fraction fs (rw d at h)) in
+    rw d (subst (λ l. P (c ∷ l) (valueFrom 0 (c ∷ take n cs ++ drop 1 fs)) (length (drop 1 fs))) (take-append-drop n cs) p)
+
 -- ---- what a run means
 
-pub numeral-means : (cs : List ℕ) → isNumeral cs ≡ true → meaningOf (run cs) ≡ integerOf cs
+pub numeral-means : (cs : List ℕ) → isNumeral cs ≡ true → meaningOf (run cs) ≡ numeralOf (isNegative cs) (unsigned cs)
 unfolding meaningOf
 numeral-means cs h = rw h
 
@@ -87,13 +160,13 @@ pub other-means : (cs : List ℕ) → isNumeral cs ≡ false → meaningOf (run 
 unfolding meaningOf
 other-means cs h = rw h
 
-pub integer-is : (cs : List ℕ) → allOf isDigit (unsigned cs) ≡ true → integerOf cs ≡ signed (isNegative cs) (size cs)
-unfolding integerOf
-integer-is cs h = rw h
+pub numeral-is : (t : Bool) (cs : List ℕ) → isFraction (fraction cs) ≡ true → numeralOf t cs ≡ signed t (size cs) (length (places cs))
+unfolding numeralOf
+numeral-is t cs h = rw h
 
-pub integer-malformed : (cs : List ℕ) → allOf isDigit (unsigned cs) ≡ false → integerOf cs ≡ refused 3
-unfolding integerOf
-integer-malformed cs h = rw h
+pub numeral-malformed : (t : Bool) (cs : List ℕ) → isFraction (fraction cs) ≡ false → numeralOf t cs ≡ refused 3
+unfolding numeralOf
+numeral-malformed t cs h = rw h
 
 pub name-is : (cs : List ℕ) → isName cs ≡ true → nameOf cs ≡ name cs
 unfolding nameOf
@@ -117,20 +190,20 @@ module _ (c : ℕ) (cs : List ℕ) (h : allOf isDigit (c ∷ cs) ≡ true) where
   plain : eqb c 45 ≡ false
   plain = digit-no-minus c first-digit
 
-  positive-is : valueFrom 0 (c ∷ cs) ≤ 2147483647 → meaningOf (run (c ∷ cs)) ≡ constant (integer (valueFrom 0 (c ∷ cs)))
-  unfolding size signed isNegative
-  positive-is k =
-      numeral-means (c ∷ cs) (starts-numeral (digit first-digit))
-      ∙ integer-is (c ∷ cs) (rw (unsigned-plain c cs plain) h)
-      ∙ rw (plain, unsigned-plain c cs plain, le-leb _ _ k)
+  module _ {fs ps : List ℕ} (f : Fraction fs ps) where
+    positive-is : valueFrom 0 (c ∷ cs ++ ps) ≤ 2147483647
+        → meaningOf (run (c ∷ cs ++ fs)) ≡ constant (number (valueFrom 0 (c ∷ cs ++ ps)) (length ps))
+    unfolding signed isNegative
+    positive-is k =
+        numeral-means (c ∷ cs ++ fs) (starts-numeral (digit first-digit))
+        ∙ rw (plain, unsigned-plain c (cs ++ fs) plain) (digits-numeral (c ∷ cs) h f false ∙ rw (le-leb _ _ k))
 
-  negative-is : valueFrom 0 (c ∷ cs) ≤ 2147483648
-      → meaningOf (run (45 ∷ c ∷ cs)) ≡ constant (integer (ofZ w32 (negℤ (pos (valueFrom 0 (c ∷ cs))))))
-  unfolding size signed isNegative unsigned
-  negative-is k =
-      numeral-means (45 ∷ c ∷ cs) (starts-numeral (minus first-digit))
-      ∙ integer-is (45 ∷ c ∷ cs) h
-      ∙ rw (le-leb _ _ k)
+    negative-is : valueFrom 0 (c ∷ cs ++ ps) ≤ 2147483648
+        → meaningOf (run (45 ∷ c ∷ cs ++ fs)) ≡ constant (number (ofZ w32 (negℤ (pos (valueFrom 0 (c ∷ cs ++ ps))))) (length ps))
+    unfolding signed isNegative unsigned
+    negative-is k =
+        numeral-means (45 ∷ c ∷ cs ++ fs) (starts-numeral (minus first-digit))
+        ∙ digits-numeral (c ∷ cs) h f true ∙ rw (le-leb _ _ k)
 
 named-is : (cs : List ℕ) → (StartsNumber cs → ⊥) → 1 ≤ length cs → length cs ≤ nameLengthMost → (cs ≡ 46 ∷ [] → ⊥)
     → meaningOf (run cs) ≡ name cs
@@ -146,8 +219,8 @@ unfolding meaningOf
 means-is opens = refl
 means-is closes = refl
 means-is boolean′ = refl
-means-is (positive {c} {cs} h k) = positive-is c cs h k
-means-is (negative {c} {cs} h k) = negative-is c cs h k
+means-is (positive {c} cs h f k) = positive-is c cs h f k
+means-is (negative {c} cs h f k) = negative-is c cs h f k
 means-is (named {cs} n l u d) = named-is cs n l u d
 
 -- ---- and what it gives, where it is no refusal, is what the token means
@@ -160,33 +233,35 @@ isRefused (name cs) = false
 isRefused (refused g) = true
 
 -- digits within the range, and not otherwise
-positive-means : (c : ℕ) (cs : List ℕ) → allOf isDigit (c ∷ cs) ≡ true → isRefused (signed false (valueFrom 0 (c ∷ cs))) ≡ false
-    → Means (run (c ∷ cs)) (signed false (valueFrom 0 (c ∷ cs)))
-unfolding signed isRefused
-positive-means c cs h k =
-    either (leb (valueFrom 0 (c ∷ cs)) 2147483647) (λ r. rw r (positive h (leb-true _ _ r))) (λ r. never refl (rw r at k))
+module _ (c : ℕ) (cs : List ℕ) (h : allOf isDigit (c ∷ cs) ≡ true) {fs ps : List ℕ} (f : Fraction fs ps) where
+  abbrev value : ℕ
+  value = valueFrom 0 (c ∷ cs ++ ps)
 
-negative-means : (c : ℕ) (cs : List ℕ) → allOf isDigit (c ∷ cs) ≡ true → isRefused (signed true (valueFrom 0 (c ∷ cs))) ≡ false
-    → Means (run (45 ∷ c ∷ cs)) (signed true (valueFrom 0 (c ∷ cs)))
-unfolding signed isRefused
-negative-means c cs h k =
-    either (leb (valueFrom 0 (c ∷ cs)) 2147483648) (λ r. rw r (negative h (leb-true _ _ r))) (λ r. never refl (rw r at k))
+  positive-means : isRefused (signed false value (length ps)) ≡ false → Means (run (c ∷ cs ++ fs)) (signed false value (length ps))
+  unfolding signed isRefused
+  positive-means k = either (leb value 2147483647) (λ r. rw r (positive cs h f (leb-true _ _ r))) (λ r. never refl (rw r at k))
 
-number-means : (cs : List ℕ) → StartsNumber cs → allOf isDigit (unsigned cs) ≡ true → isRefused (signed (isNegative cs) (size cs)) ≡ false
-    → Means (run cs) (signed (isNegative cs) (size cs))
-unfolding size isNegative unsigned
-number-means cs (digit {c} {cs = ds} d) h k =
-    let e = digit-no-minus c d in
-    rw e (positive-means c ds (rw e at h) (rw e at k))
-number-means cs (minus {c} {cs = ds} d) h k = negative-means c ds h k
+  negative-means : isRefused (signed true value (length ps)) ≡ false → Means (run (45 ∷ c ∷ cs ++ fs)) (signed true value (length ps))
+  unfolding signed isRefused
+  negative-means k = either (leb value 2147483648) (λ r. rw r (negative cs h f (leb-true _ _ r))) (λ r. never refl (rw r at k))
+
+number-means : (cs : List ℕ) → StartsNumber cs → isFraction (fraction (unsigned cs)) ≡ true
+    → (let ds = unsigned cs in let m = signed (isNegative cs) (size ds) (length (places ds)) in isRefused m ≡ false → Means (run cs) m)
+unfolding isNegative unsigned
+number-means cs (digit {c} {cs = ds} d) =
+    rw (digit-no-minus c d) (λ h. digits-split (λ r n p. isRefused (signed false n p) ≡ false → Means (run r) (signed false n p)) c ds d h
+    (λ ds fs ps a f. positive-means c ds a f))
+number-means cs (minus {c} {cs = ds} d) =
+    λ h. digits-split (λ r n p. isRefused (signed true n p) ≡ false → Means (run (45 ∷ r)) (signed true n p)) c ds d h
+    (λ ds fs ps a f. negative-means c ds a f)
 
 module _ (cs : List ℕ) where
-  integer-means : isNumeral cs ≡ true → isRefused (integerOf cs) ≡ false → Means (run cs) (integerOf cs)
+  numeral-meant : isNumeral cs ≡ true → (let m = numeralOf (isNegative cs) (unsigned cs) in isRefused m ≡ false → Means (run cs) m)
   unfolding isRefused
-  integer-means n h =
-      either (allOf isDigit (unsigned cs))
-      (λ d. let e = integer-is cs d in rw e (number-means cs (numeral-starts cs n) d (rw e at h)))
-      (λ d. never refl (rw (integer-malformed cs d) at h))
+  numeral-meant n h =
+      either (isFraction (fraction (unsigned cs)))
+      (λ d. let e = numeral-is (isNegative cs) (unsigned cs) d in rw e (number-means cs (numeral-starts cs n) d (rw e at h)))
+      (λ d. never refl (rw (numeral-malformed (isNegative cs) (unsigned cs) d) at h))
 
   name-means : isNumeral cs ≡ false → isRefused (nameOf cs) ≡ false → Means (run cs) (nameOf cs)
   unfolding isRefused isName
@@ -203,7 +278,7 @@ module _ (cs : List ℕ) where
   run-means : isRefused (meaningOf (run cs)) ≡ false → Means (run cs) (meaningOf (run cs))
   run-means h =
       either (isNumeral cs)
-      (λ n. let e = numeral-means cs n in rw e (integer-means n (rw e at h)))
+      (λ n. let e = numeral-means cs n in rw e (numeral-meant n (rw e at h)))
       (λ n. let e = other-means cs n in rw e (name-means n (rw e at h)))
 
 pub is-meant : (t : Token) → isRefused (meaningOf t) ≡ false → Means t (meaningOf t)

@@ -1,14 +1,16 @@
 -- Tokens taken one after another by their offsets are the tokens of the text.
 use mathlib.Core.Path.{_≡_, refl, sym, ap, _∙_}
 use mathlib.Core.Bool.{Bool, true, false}
-use mathlib.Core.List.{List, [], _∷_}
+use mathlib.Core.List.{List, [], _∷_, _++_}
 use mathlib.Core.Option.{Option, none, some, Option·none-ne-some}
 use Prim.Native.Nat.{ℕ, zero, suc, _+_, _≤_, _<_}
 use native.Mathlib.Omega.{arith}
+use native.Mathlib.Numerals.{add-one}
 use lib.ListN.{length, getD, take, drop, take-append-drop, length-take, length-drop, drop-of-length-le}
-use lib.Seq.{drop-drop, drop-length}
+use lib.Seq.{drop-drop, drop-length, drop-cons}
 use Rattle.words.specs.Lists.{allOf, anyOf}
 use Rattle.words.specs.ListLaws.{either, never}
+use Rattle.words.specs.TestLaws.{and-left, and-right}
 use Rattle.words.specs.Text.{bytes}
 use Rattle.reading.specs.Token.{
   Class,
@@ -50,6 +52,26 @@ pub leading-within : (f : ℕ → Bool) (bs : List ℕ) → leading f bs ≤ len
 unfolding leading
 leading-within f [] = omega arith
 leading-within f (b ∷ bs) = either (f b) (λ h. rw h (omega (arith, leading-within f bs))) (λ h. rw h (omega arith))
+
+pub leading-append : (f : ℕ → Bool) (a b : List ℕ) → allOf f a ≡ true → leading f (a ++ b) ≡ length a + leading f b
+unfolding leading allOf
+leading-append f [] b h = omega arith
+leading-append f (c ∷ cs) b h =
+    rw (and-left (f c) (allOf f cs) h) (omega (arith, leading-append f cs b (and-right (f c) (allOf f cs) h)))
+
+-- byte by byte: at a place where the byte passes, where it does not, and at the end
+module _ (f : ℕ → Bool) (bs : List ℕ) (i : ℕ) where
+  pub leading-more : i < length bs → f (getD bs i 0) ≡ true → i + leading f (drop i bs) ≡ (i + 1) + leading f (drop (i + 1) bs)
+  unfolding leading
+  leading-more h e = rw (drop-cons bs i 0 h, add-one, e) (omega arith)
+
+  pub leading-stops : i < length bs → f (getD bs i 0) ≡ false → i + leading f (drop i bs) ≡ i
+  unfolding leading
+  leading-stops h e = rw (drop-cons bs i 0 h, e) (omega arith)
+
+  pub leading-ends : i ≡ length bs → i + leading f (drop i bs) ≡ i
+  unfolding leading
+  leading-ends e = rw (e, drop-length) (omega arith)
 
 run-stops : (bs : List ℕ) → EndsRun (drop (leading isRunning bs) bs)
 unfolding leading

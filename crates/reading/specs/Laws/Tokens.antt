@@ -171,8 +171,8 @@ unfolding isBad
 means-good R.opens = refl
 means-good R.closes = refl
 means-good R.boolean′ = refl
-means-good (R.positive p q) = refl
-means-good (R.negative p q) = refl
+means-good (R.positive cs p q r) = refl
+means-good (R.negative cs p q r) = refl
 means-good (R.named p q r s) = refl
 
 -- bad means nothing

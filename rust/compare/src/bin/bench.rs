@@ -127,23 +127,27 @@ fn repeated(n: usize, each: impl Fn(usize) -> String) -> String {
     (0..n).map(each).collect::<Vec<_>>().join(" ")
 }
 
-/// The words of a list of integers with so many digits, as good as random, or all the least.
-fn integers(count: u32, digits: u32) -> Vec<u32> {
+/// The words of a list of numbers with so many digits, as good as random, or all the least, so many of their digits places.
+fn list_of(count: u32, digits: u32, places: u32) -> Vec<u32> {
     let number = |i: u32| match digits {
         0 => i32::MIN as u32,
         1 => i % 10,
         10 => 1_000_000_000 + i.wrapping_mul(2_654_435_761) % 1_147_483_648,
         _ => 10u32.pow(digits - 1) + i.wrapping_mul(2_654_435_761) % (9 * 10u32.pow(digits - 1)),
     };
-    [5, count].into_iter().chain((1..=count).flat_map(|i| [2, number(i)])).collect()
+    let words = |i: u32| if places == 0 { vec![2, number(i)] } else { vec![9, number(i), places] };
+    [5, count].into_iter().chain((1..=count).flat_map(words)).collect()
 }
 
-/// Writing alone: a thousand integers, over and over, and two hundred thousand, whose digits no branch can foretell.
+/// Writing alone: a thousand numbers, over and over, and two hundred thousand, whose digits no branch can foretell.
 fn numbers() {
-    println!("\n| integers of a term | ns for each of 1,000 | ns for each of 200,000 |\n|---|---|---|");
-    for (name, digits) in [("1 digit", 1), ("2 digits", 2), ("3 digits", 3), ("5 digits", 5), ("10 digits", 10), ("-2147483648", 0)] {
+    println!("\n| numbers of a term | ns for each of 1,000 | ns for each of 200,000 |\n|---|---|---|");
+    let integers = [("1 digit", 1), ("2 digits", 2), ("3 digits", 3), ("5 digits", 5), ("10 digits", 10), ("-2147483648", 0)];
+    let integers = integers.map(|(name, digits)| (name, digits, 0));
+    let decimals = [("0.8", 1, 1), ("0.80", 2, 2), ("3 digits, 2 places", 3, 2), ("10 digits, 4 places", 10, 4), ("-214748.3648", 0, 4)];
+    for (name, digits, places) in integers.into_iter().chain(decimals) {
         let each = |count: u32| {
-            let words = integers(count, digits);
+            let words = list_of(count, digits, places);
             let mut out = vec![0; grebetallboy::TEXT_RATE * words.len()];
             let us = time(|| {
                 std::hint::black_box(grebetallboy::write(&words, 256, &[], &mut out)).expect("a term");
@@ -216,6 +220,12 @@ fn main() {
         let literals = vec!["q"; n].join(" ");
         let rules = repeated(15, |_| format!("((_ ({literals} 2)) 1)"));
         format!("() (letrec-syntax ((m (syntax-rules (q) {rules} ((_ a) (m a))))) (m ({literals} 1)))")
+    });
+    growth("integers of a quoted list", &[250, 500, 1_000, 2_000], |n| {
+        format!("() (quote ({}))", repeated(n, |i| format!("{}{:02}", i % 9 + 1, i % 100)))
+    });
+    growth("decimals of a quoted list", &[250, 500, 1_000, 2_000], |n| {
+        format!("() (quote ({}))", repeated(n, |i| format!("{}.{:02}", i % 9 + 1, i % 100)))
     });
     growth("operands", &[250, 500, 1_000, 2_000], |n| format!("(f) (f {})", repeated(n, |i| (i % 10).to_string())));
     numbers();

@@ -1,7 +1,10 @@
--- Codes 5 to 8, by the laws of specs/HeadLaws.antt.
+-- Codes 5 to 9, by the laws of specs/HeadLaws.antt.
 use borrow.Author.Needs.{needs}
 use Rattle.core_term.proofs.head.branch.Statement.{statement}
 use Rattle.core_term.proofs.head.branch.Tie as tie
+use Rattle.core_term.proofs.head.decimal_head.Reads as decimal-head-reads
+use Rattle.core_term.proofs.head.lambda_head.Reads as lambda-head-reads
+use Rattle.core_term.proofs.head.wide.Reads as wide-reads
 use native.Mathlib.Omega.{arith}
 use mathlib.Core.Path.{_≡_}
 use lib.ListN.{getD}
@@ -10,7 +13,7 @@ use Rattle.core_term.specs.HeadLaws.{head-missing, at-past, short-missin
 
 returns : tie.Need-returns
 returns c =
-    λ o b g f. quoted-none o b g f _ _ (c .before .before .before .before .args .words .now) (c .if2 .taken) (λ l h. omega arith)
+    λ o b g f. quoted-none o b g f _ _ (c .before .before .before .before .args .words .now) (c .if2 .taken) (λ l h. omega arith) (λ e. omega arith)
 
 returns-2 : tie.Need-returns-2
 returns-2 c =
@@ -18,33 +21,37 @@ returns-2 c =
 
 returns-3 : tie.Need-returns-3
 returns-3 c =
-    λ o b g f. head-missing o b g f _ _ _ (short-missing (c .before .before .before .before .args .words .now) (c .before .if1 .left) (c .if3 .taken))
+    λ o b g f. c .decimal-head .ensures o b g f _
 
 returns-4 : tie.Need-returns-4
 returns-4 c =
-    λ o b g f. rw (c .before .wide .ensures) (list-found o b g f _ _ (c .before .before .before .before .before .before .before .args .words .now) (c .before .before .before .if3 .left) (c .if4 .taken))
+    λ o b g f. head-missing o b g f _ _ _ (short-missing (c .before .before .before .before .before .args .words .now) (c .before .before .if1 .left) (c .if4 .taken))
 
 returns-5 : tie.Need-returns-5
 returns-5 c =
-    let s = c .before .before .before .before .before .before .before .before in λ o b g f. quoted-none o b g f _ _ (s .args .words .now) (c .if5 .taken) (λ l h. omega (arith, s .pre .1, c .before .if4 .left))
+    λ o b g f. rw (c .before .wide .ensures) (list-found o b g f _ _ (c .before .before .before .before .before .before .before .before .args .words .now) (c .before .before .before .if4 .left) (c .if5 .taken))
 
 returns-6 : tie.Need-returns-6
 returns-6 c =
-    λ o b g f. rw (c .before .before .if5 .left) (c .lambda-head .ensures o b g f)
+    λ o b g f. quoted-none o b g f _ _ (c .before .before .before .before .before .before .before .before .before .args .words .now) (c .if6 .taken) (λ l h. omega (arith, c .before .before .before .before .before .before .before .before .before .pre .1, c .before .if5 .left)) (c .before .before .before .before .before .if3 .left)
 
 returns-7 : tie.Need-returns-7
 returns-7 c =
-    λ o b g f. head-missing o b g f _ _ _ (at-past (c .before .before .before .before .before .before .before .before .before .before .args .words .now) (c .if7 .taken))
+    λ o b g f. rw (c .before .before .if6 .left) (c .lambda-head .ensures o b g f)
+
+returns-8 : tie.Need-returns-8
+returns-8 c =
+    λ o b g f. head-missing o b g f _ _ _ (at-past (c .before .before .before .before .before .before .before .before .before .before .before .args .words .now) (omega (arith, c .if8 .taken, c .before .before .before .before .before .before .before .if3 .left)))
 
 add-t10 : tie.Need-add-t10
 add-t10 c =
     omega (arith, c .before .before .before .before .wide .ensures, c .before .before .before .before .before .shared-slice-known3 .given 1)
 
-returns-8 : tie.Need-returns-8
-returns-8 c =
-    let s = c .before .before .before .before .before .before .before .before .before .before in
-    let e : getD (s .args .words .now) 0 0 ≡ applicationCode = omega (arith, s .pre .1, c .before .before .before .before .before .before .before .if1 .left, c .before .before .before .if4 .left, c .before .if6 .left, c .if7 .left) in
-    λ o b g f. rw (c .before .before .before .before .wide .ensures) (application-found o b g f _ _ (s .args .words .now) (c .before .before .before .before .before .before .if3 .left) (c .before .before .if5 .left) e)
+returns-9 : tie.Need-returns-9
+returns-9 c =
+    let s = (c .before .before .before .before .before .before .before .before .before .before .before) in
+    let e : getD (s .args .words .now) 0 0 ≡ applicationCode = omega (arith, s .pre .1, c .before .before .before .before .before .before .before .before .if1 .left, c .before .before .before .if5 .left, c .before .if7 .left, c .if8 .left) in
+    λ o b g f. rw (c .before .before .before .before .wide .ensures) (application-found o b g f _ _ (s .args .words .now) (c .before .before .before .before .before .before .if4 .left) (c .before .before .if6 .left) e)
 
 pub branch-spec : {M : Type 1} → statement M
 branch-spec =
@@ -53,13 +60,15 @@ branch-spec =
     (λ c. search needs)  -- shared-slice-read-code
     returns
     returns-2
+    (λ c κs. search needs)  -- decimal-head-requires
     returns-3
+    returns-4
     (λ c. search needs)  -- shared-slice-read-wide
     (λ c κs. search needs)  -- wide-requires
-    returns-4
     returns-5
-    (λ c κs. search needs)  -- lambda-head-requires
     returns-6
+    (λ c κs. search needs)  -- lambda-head-requires
     returns-7
+    returns-8
     add-t10
-    returns-8)
+    returns-9)

@@ -12,7 +12,7 @@ use Rattle.core_term.specs.HeadLaws.{quoted-none, variable-leaf, operati
 returns : tie.Need-returns
 unfolding leafHead
 returns c =
-    quoted-none _ _ _ _ _ _ (c .before .before .before .before .before .before .before .args .words .now) (c .if2 .taken) (λ l h. omega arith)
+    quoted-none _ _ _ _ _ _ (c .before .before .before .before .before .before .before .args .words .now) (c .if2 .taken) (λ l h. omega arith) (λ e. omega arith)
 
 returns-2 : tie.Need-returns-2
 returns-2 c =

@@ -9,9 +9,8 @@ use Rattle.words.specs.ListLaws.{length-part}
 use mir.Syntax.{w32}
 use mir.Val.{ofZ}
 use mir.Facts.{toZ-ofZ}
-use Rattle.datum.specs.Constant.{integer}
-use Rattle.reading.specs.Meaning.{constant}
-use Rattle.lexer.specs.Answers.{integerMeaning}
+use Rattle.reading.specs.Meaning.{constant, number}
+use Rattle.lexer.specs.Answers.{numeralMeaning}
 use Rattle.reading.specs.Laws.Meanings.{numeral-means, other-means, name-is, name-malformed}
 use Rattle.lexer.specs.ToldLaws.{name-short}
 
@@ -40,8 +39,8 @@ returns-2 c =
           (sym (c .before .is-name .ensures) ∙ c .if2 .left),
     )
 
-integer-of-requires : tie.Need-integer-of-requires
-integer-of-requires c κs =
+numeral-of-requires : tie.Need-numeral-of-requires
+numeral-of-requires c κs =
     let args = c .before .before .before .before .args in
     omega (arith, length-part (args .from) (args .to) (args .text .now) (omega arith) (omega arith))
 
@@ -50,13 +49,13 @@ returns-3 c =
     let args = c .before .before .before .before .before .before .before .before .args in
     let is-numeral = c .before .before .before .before .before .is-numeral in
     let if1 = c .before .before .before .before .if1 in
-    let integer-of = c .before .before .before .integer-of in
+    let numeral-of = c .before .before .before .numeral-of in
     let z′ = c .before .z in
     let w = part (args .from) (args .to) (args .text .now) in (
       refl,
-      numeral-means w (sym (is-numeral .ensures) ∙ not-false (is-numeral .result) (if1 .left)) ∙ sym (integer-of .ensures) ∙ ap
-          integerMeaning (z′ .given .1)
-          ∙ ap (λ z. constant (integer (ofZ w32 z)))
+      numeral-means w (sym (is-numeral .ensures) ∙ not-false (is-numeral .result) (if1 .left)) ∙ sym (numeral-of .ensures) ∙ ap
+          numeralMeaning (z′ .given .1)
+          ∙ ap (λ z. constant (number (ofZ w32 z) (z′ .given .0 .1 .0)))
           (sym (toZ-ofZ {w = w32} {z = z′ .given .0 .0} (record { sfits = c .known-told .given .0 .1 }))),
     )
 
@@ -65,11 +64,11 @@ returns-4 c =
     let args = c .before .before .before .before .before .before .before .args in
     let is-numeral = c .before .before .before .before .is-numeral in
     let if1 = c .before .before .before .if1 in
-    let integer-of = c .before .before .integer-of in
+    let numeral-of = c .before .before .numeral-of in
     let w = part (args .from) (args .to) (args .text .now) in (
       refl,
-      numeral-means w (sym (is-numeral .ensures) ∙ not-false (is-numeral .result) (if1 .left)) ∙ sym (integer-of .ensures) ∙ ap
-          integerMeaning (c .enum-told .given .1),
+      numeral-means w (sym (is-numeral .ensures) ∙ not-false (is-numeral .result) (if1 .left)) ∙ sym (numeral-of .ensures) ∙ ap
+          numeralMeaning (c .enum-told .given .1),
     )
 
 returns-5 : tie.Need-returns-5
@@ -77,11 +76,11 @@ returns-5 c =
     let args = c .before .before .before .before .before .before .before .args in
     let is-numeral = c .before .before .before .before .is-numeral in
     let if1 = c .before .before .before .if1 in
-    let integer-of = c .before .before .integer-of in
+    let numeral-of = c .before .before .numeral-of in
     let w = part (args .from) (args .to) (args .text .now) in (
       refl,
-      numeral-means w (sym (is-numeral .ensures) ∙ not-false (is-numeral .result) (if1 .left)) ∙ sym (integer-of .ensures) ∙ ap
-          integerMeaning (c .enum-told2 .given .1),
+      numeral-means w (sym (is-numeral .ensures) ∙ not-false (is-numeral .result) (if1 .left)) ∙ sym (numeral-of .ensures) ∙ ap
+          numeralMeaning (c .enum-told2 .given .1),
     )
 
 pub run-token-spec : {M : Type 1} → statement M
@@ -95,7 +94,7 @@ run-token-spec =
     (λ c κs. search needs)  -- is-name-requires
     returns
     returns-2
-    integer-of-requires
+    numeral-of-requires
     (λ c. search needs)  -- enum-known-z
     (λ c. search needs)  -- enum-told
     (λ c. search needs)  -- enum-told-2

@@ -1,14 +1,14 @@
 use borrow.Author.Needs.{needs}
 use Rattle.reader.proofs.element.advance.Statement.{statement}
 use Rattle.reader.proofs.element.advance.Tie as tie
-use mathlib.Core.Path.{refl, sym, ap, _∙_}
+use mathlib.Core.Path.{_≡_, refl, ap, _∙_}
 use native.Mathlib.Omega.{arith}
 use mir.Syntax.{w32}
 use mir.Val.{ofZ}
 use mir.Facts.{toZ-ofZ}
 use Rattle.words.specs.Parts.{part}
-use Rattle.datum.specs.Constant.{integer, boolean}
-use Rattle.reading.specs.Meaning.{begins, ends, constant, name}
+use Rattle.datum.specs.Constant.{boolean}
+use Rattle.reading.specs.Meaning.{begins, ends, constant, name, number}
 use Rattle.lexer.specs.AnsweredLaws.{answered-told}
 use Rattle.reader.specs.Code.MovedLaws.{
   stepped-moved,
@@ -112,28 +112,30 @@ returns-5 c =
     (constant-indexed r (args .index .now) i (boolean (b .given .0 .0))) (put-token .result) (c .moved3 .result)
     (c .moved3 .ensures)
     (constant-stepped r (args .place) (args .items .now) (put-token .last .0) (args .names .now) (boolean (b .given .0 .0))
-    (b .given .0 .0) (put-token .result) h refl refl (put-token .ensures))
+    2 (b .given .0 .0) 0 (put-token .result) h refl (put-token .ensures))
 
 returns-6 : tie.Need-returns-6
-unfolding integer
 returns-6 c =
     λ r h i.
-    let start = c .before .before .before .before .before .before .before .before .before .before .before .before .before .before in
+    let start = c .before .before .before .before .before .before .before .before .before .before .before .before .before .before .before in
     let args = start .args in
     let put-token2 = c .before .before .before .put-token2 in
-    let z′ = c .before .before .before .before .before .before .before .z in
-    let token-from = c .before .before .before .before .before .before .before .before .before .token-from in
     let to-word = c .before .before .before .before .to-word in
-    let known-told5 = c .before .before .before .before .before .before .known-told5 in
+    let number-kind = c .before .before .before .before .before .before .number-kind in
+    let known-told5 = c .before .before .before .before .before .before .before .known-told5 in
+    let z′ = c .before .before .before .before .before .before .before .before .z in
+    let token-from = c .before .before .before .before .before .before .before .before .before .before .token-from in
+    let w = ofZ w32 (z′ .given .0 .0) in
+    let places = z′ .given .0 .1 .0 in
+    let same : to-word .result ≡ w =
+    to-word .ensures ∙ ap (ofZ w32) (toZ-ofZ {w = w32} {z = z′ .given .0 .0} (record { sfits = known-told5 .given .0 .1 })) in
     stepped-moved (args .text .now) (args .cursor .at) r (put-token2 .last .0) (args .names .now) (args .index .now)
-    (constant (integer (ofZ w32 (z′ .given .0 .0)))) (z′ .given .0 .1 .0)
+    (constant (number w places)) (z′ .given .0 .1 .1 .0)
     (answered-told (args .text .now) (args .cursor .at) _ (token-from .ensures) (start .pre .0) _ (z′ .given .1))
-    (constant-indexed r (args .index .now) i (integer (ofZ w32 (z′ .given .0 .0)))) (put-token2 .result)
+    (constant-indexed r (args .index .now) i (number w places)) (put-token2 .result)
     (c .moved4 .result) (c .moved4 .ensures)
-    (constant-stepped r (args .place) (args .items .now) (put-token2 .last .0) (args .names .now)
-    (integer (ofZ w32 (z′ .given .0 .0))) (to-word .result) (put-token2 .result) h refl
-    (sym (to-word .ensures ∙ ap (ofZ w32)
-    (toZ-ofZ {w = w32} {z = z′ .given .0 .0} (record { sfits = known-told5 .given .0 .1 })))) (put-token2 .ensures))
+    (constant-stepped r (args .place) (args .items .now) (put-token2 .last .0) (args .names .now) (number w places)
+    (number-kind .result) (to-word .result) places (put-token2 .result) h (rw same (number-kind .ensures w)) (put-token2 .ensures))
 
 returns-7 : tie.Need-returns-7
 returns-7 c =
@@ -167,6 +169,7 @@ advance-spec =
     (λ c κs. search needs)  -- put-token-requires
     (λ c κs. search needs)  -- moved-requires-3
     (λ c. search needs)  -- enum-known-z
+    (λ c κs. search needs)  -- number-kind-requires
     (λ c κs. search needs)  -- to-word-requires
     (λ c κs. search needs)  -- put-token-requires-2
     (λ c κs. search needs)  -- moved-requires-4

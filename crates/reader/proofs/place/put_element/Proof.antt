@@ -17,7 +17,7 @@ returns c =
     let put-item2 = c .before .before .put-item2 in
     let args = c .before .before .before .before .before .before .before .before .before .args in
     let put-item = c .before .before .before .before .before .before .put-item in
-    put-item2 .ensures ∙ ap (λ t. put3 t (3 * (args .item + 1)) (args .kind) (args .value) 0) (put-item .ensures)
+    put-item2 .ensures ∙ ap (λ t. put3 t (3 * (args .item + 1)) (args .kind) (args .first) (args .second)) (put-item .ensures)
 
 pub put-element-spec : {M : Type 1} → statement M
 put-element-spec =

@@ -10,7 +10,7 @@ returns c =
     λ r d names bytes table h t k s f b.
     let args = c .before .before .before .args in
     let ground-at = c .before .ground-at in
-    token-refused r (args .place) (args .items .now) bytes h d (args .kind) (args .value) t names (args .known) k _ table
+    token-refused r (args .place) (args .items .now) bytes h d (args .kind) (args .first) (args .second) t names (args .known) k _ table
     (ground-at .result) (ground-at .ensures) (c .if1 .taken)
 
 put-element-requires : tie.Need-put-element-requires
@@ -21,13 +21,13 @@ put-element-requires c κs =
     let l = ground-room (args .place) (args .known) (args .place .depth) (sym (ground-at .ensures) ∙ c .before .if1 .left) in
     (omega (arith, pre .even, pre .room, l), omega (arith, pre .even, l))
 
-add-t11 : tie.Need-add-t11
-add-t11 c =
+add-t12 : tie.Need-add-t12
+add-t12 c =
     let pre = c .before .before .before .before .before .before .before .before .pre in
     omega (arith, pre .even, pre .elements)
 
-add-t12 : tie.Need-add-t12
-add-t12 c =
+add-t13 : tie.Need-add-t13
+add-t13 c =
     let pre = c .before .before .before .before .before .before .before .before .before .pre in
     omega (arith, pre .elements)
 
@@ -38,7 +38,7 @@ returns-2 c =
     let ground-at = c .before .before .before .before .before .before .before .before .ground-at in
     let if1 = c .before .before .before .before .before .before .before .if1 in
     let put-element = c .before .before .before .before .before .put-element in
-    token-went r (args .place) (args .items .now) bytes h d (args .kind) (args .value) t names (args .known) k _ table
+    token-went r (args .place) (args .items .now) bytes h d (args .kind) (args .first) (args .second) t names (args .known) k _ table
     (c .lacking .result)
     (sym (ground-at .ensures) ∙ if1 .left) s f b (put-element .ensures) (c .lacking .ensures)
 
@@ -49,8 +49,8 @@ put-token-spec =
     (λ c κs. search needs)  -- ground-at-requires
     returns
     put-element-requires
-    add-t11
     add-t12
+    add-t13
     (λ c κs. search needs)  -- lacking-requires
     (λ c. search needs)  -- same-length
     returns-2)
