@@ -227,8 +227,8 @@ pub base-more : (n : ℕ) (word t u index index′ : List ℕ) (b : ℕ) → n <
     → (u ≡ stored t n word) × (index′ ≡ linked index n b) → NameTable (take n baseNames) t index → NameTable (take (n + 1) baseNames) u index′
 unfolding isFresh
 base-more n word t u index index′ b l w k s h =
-    let new : n ≤ numberOf (getD baseNames n []) (take n baseNames) = 
-      leb-true n (numberOf (getD baseNames n []) (take n baseNames)) (and-left (leb n (numberOf (getD baseNames n []) (take n baseNames))) (leb (length (getD baseNames n [])) 63) (sym (fresh n l))) in
+    let new : n ≤ numberOf (getD baseNames n []) (take n baseNames) =
+    leb-true n (numberOf (getD baseNames n []) (take n baseNames)) (and-left (leb n (numberOf (getD baseNames n []) (take n baseNames))) (leb (length (getD baseNames n [])) 63) (sym (fresh n l))) in
     let long : length (take n baseNames) ≡ n = length-take-le n baseNames (omega (arith, base-long)) in
     let short : length word ≤ 63 = subst (λ x. length x ≤ 63) (sym w) (base-short n l) in
     let later : length (take n baseNames) ≤ numberOf word (take n baseNames) = rw (long, w) new in
