@@ -27,324 +27,52 @@ abbrev bind-list-below : ℕ → In 2 bind-list-kinds.ps
 bind-list-below t =
     and 2 bind-list-kinds.ps (falls 2 bind-list-kinds.ps _<_ μ-bind-list t) bind-list.Pre
 
--- src/bind.rt:58:9
-bind-list-word-requires : (t : ℕ) → bind-list-lts.Need-word-requires (
-  word-reads.Asked,
-  word-reads.Learnt,
-  bind-variable-reads.Asked,
-  bind-variable-reads.Learnt,
-  reference-reads.Asked,
-  reference-reads.Learnt,
-  bind-list-below t,
-  bind-list.Post,
-  inner-second-reads.Asked,
-  inner-second-reads.Learnt,
-) (bind-list-at t) bind-list.Post
-bind-list-word-requires t c κs =
-    search needs
+abbrev bind-list-claims : ℕ → bind-list-lts.Claims
+bind-list-claims t = (word-reads.Asked, word-reads.Learnt, bind-variable-reads.Asked, bind-variable-reads.Learnt, reference-reads.Asked, reference-reads.Learnt, bind-list-below t, bind-list.Post, inner-second-reads.Asked, inner-second-reads.Learnt)
 
--- src/bind.rt:60:13
-bind-list-word-requires-2 : (t : ℕ) → bind-list-lts.Need-word-requires-2 (
-  word-reads.Asked,
-  word-reads.Learnt,
-  bind-variable-reads.Asked,
-  bind-variable-reads.Learnt,
-  reference-reads.Asked,
-  reference-reads.Learnt,
-  bind-list-below t,
-  bind-list.Post,
-  inner-second-reads.Asked,
-  inner-second-reads.Learnt,
-) (bind-list-at t) bind-list.Post
-bind-list-word-requires-2 t c κs =
-    search needs
-
--- src/bind.rt:61:9
-bind-list-bind-variable-requires : (t : ℕ) → bind-list-lts.Need-bind-variable-requires (
-  word-reads.Asked,
-  word-reads.Learnt,
-  bind-variable-reads.Asked,
-  bind-variable-reads.Learnt,
-  reference-reads.Asked,
-  reference-reads.Learnt,
-  bind-list-below t,
-  bind-list.Post,
-  inner-second-reads.Asked,
-  inner-second-reads.Learnt,
-) (bind-list-at t) bind-list.Post
-bind-list-bind-variable-requires t c κs =
-    search needs
-
--- src/bind.rt:62:9
-bind-list-returns : (t : ℕ) → bind-list-lts.Need-returns (
-  word-reads.Asked,
-  word-reads.Learnt,
-  bind-variable-reads.Asked,
-  bind-variable-reads.Learnt,
-  reference-reads.Asked,
-  reference-reads.Learnt,
-  bind-list-below t,
-  bind-list.Post,
-  inner-second-reads.Asked,
-  inner-second-reads.Learnt,
-) (bind-list-at t) bind-list.Post
+bind-list-returns : (t : ℕ) → bind-list-lts.Need-returns (bind-list-claims t) (bind-list-at t) bind-list.Post
 bind-list-returns t c =
     let a = c .before .before .before .before .before .before .args in list-variable (a .work .now) (a .p) _ (c .before .before .before .before .word .ensures) (a .env .now) (a .list) (a .first) (a .second) _ _ (c .before .before .before .if1 .taken) (c .before .before .word2 .ensures) (c .bind-variable .ensures)
 
--- src/bind.rt:65:9
-bind-list-returns-2 : (t : ℕ) → bind-list-lts.Need-returns-2 (
-  word-reads.Asked,
-  word-reads.Learnt,
-  bind-variable-reads.Asked,
-  bind-variable-reads.Learnt,
-  reference-reads.Asked,
-  reference-reads.Learnt,
-  bind-list-below t,
-  bind-list.Post,
-  inner-second-reads.Asked,
-  inner-second-reads.Learnt,
-) (bind-list-at t) bind-list.Post
+bind-list-returns-2 : (t : ℕ) → bind-list-lts.Need-returns-2 (bind-list-claims t) (bind-list-at t) bind-list.Post
 bind-list-returns-2 t c =
     let a = c .before .before .before .before .args in list-none (a .work .now) (a .p) _ (c .before .before .word .ensures) (a .env .now) (a .list) (a .first) (a .second) (c .before .if1 .left) (λ z. omega arith) (λ z. omega arith)
 
--- src/bind.rt:68:9
-bind-list-returns-3 : (t : ℕ) → bind-list-lts.Need-returns-3 (
-  word-reads.Asked,
-  word-reads.Learnt,
-  bind-variable-reads.Asked,
-  bind-variable-reads.Learnt,
-  reference-reads.Asked,
-  reference-reads.Learnt,
-  bind-list-below t,
-  bind-list.Post,
-  inner-second-reads.Asked,
-  inner-second-reads.Learnt,
-) (bind-list-at t) bind-list.Post
+bind-list-returns-3 : (t : ℕ) → bind-list-lts.Need-returns-3 (bind-list-claims t) (bind-list-at t) bind-list.Post
 bind-list-returns-3 t c =
     let a = c .before .before .before .before .before .args in list-none (a .work .now) (a .p) _ (c .before .before .before .word .ensures) (a .env .now) (a .list) (a .first) (a .second) (c .before .before .if1 .left) (λ z. omega arith) (λ z. omega arith)
 
--- src/bind.rt:70:9
-bind-list-reference-requires : (t : ℕ) → bind-list-lts.Need-reference-requires (
-  word-reads.Asked,
-  word-reads.Learnt,
-  bind-variable-reads.Asked,
-  bind-variable-reads.Learnt,
-  reference-reads.Asked,
-  reference-reads.Learnt,
-  bind-list-below t,
-  bind-list.Post,
-  inner-second-reads.Asked,
-  inner-second-reads.Learnt,
-) (bind-list-at t) bind-list.Post
-bind-list-reference-requires t c κs =
-    search needs
-
--- src/bind.rt:71:15
-bind-list-sub-bind-list : (t : ℕ) → bind-list-lts.Need-sub-bind-list (
-  word-reads.Asked,
-  word-reads.Learnt,
-  bind-variable-reads.Asked,
-  bind-variable-reads.Learnt,
-  reference-reads.Asked,
-  reference-reads.Learnt,
-  bind-list-below t,
-  bind-list.Post,
-  inner-second-reads.Asked,
-  inner-second-reads.Learnt,
-) (bind-list-at t) bind-list.Post
-bind-list-sub-bind-list t c =
-    search needs
-
--- src/bind.rt:71:15
-bind-list-part-bind-list-start : (t : ℕ) → bind-list-lts.Need-part-bind-list-start (
-  word-reads.Asked,
-  word-reads.Learnt,
-  bind-variable-reads.Asked,
-  bind-variable-reads.Learnt,
-  reference-reads.Asked,
-  reference-reads.Learnt,
-  bind-list-below t,
-  bind-list.Post,
-  inner-second-reads.Asked,
-  inner-second-reads.Learnt,
-) (bind-list-at t) bind-list.Post
-bind-list-part-bind-list-start t c =
-    search needs
-
--- src/bind.rt:71:15
-bind-list-part-bind-list-end : (t : ℕ) → bind-list-lts.Need-part-bind-list-end (
-  word-reads.Asked,
-  word-reads.Learnt,
-  bind-variable-reads.Asked,
-  bind-variable-reads.Learnt,
-  reference-reads.Asked,
-  reference-reads.Learnt,
-  bind-list-below t,
-  bind-list.Post,
-  inner-second-reads.Asked,
-  inner-second-reads.Learnt,
-) (bind-list-at t) bind-list.Post
-bind-list-part-bind-list-end t c =
-    search needs
-
--- src/bind.rt:71:5
-bind-list-bind-list-requires : (t : ℕ) → bind-list-lts.Need-bind-list-requires (
-  word-reads.Asked,
-  word-reads.Learnt,
-  bind-variable-reads.Asked,
-  bind-variable-reads.Learnt,
-  reference-reads.Asked,
-  reference-reads.Learnt,
-  bind-list-below t,
-  bind-list.Post,
-  inner-second-reads.Asked,
-  inner-second-reads.Learnt,
-) (bind-list-at t) bind-list.Post
+bind-list-bind-list-requires : (t : ℕ) → bind-list-lts.Need-bind-list-requires (bind-list-claims t) (bind-list-at t) bind-list.Post
 bind-list-bind-list-requires t c κs =
     let a = c .before .before .before .before .before .before .before .before .args in let l = tag-falls (a .work .now) (a .p) _ (c .before .before .before .before .before .before .word .ensures) 2 _ (λ z. omega arith) (c .before .before .reference .ensures) in omega (arith, l)
 
--- src/bind.rt:72:9
-bind-list-reference-requires-2 : (t : ℕ) → bind-list-lts.Need-reference-requires-2 (
-  word-reads.Asked,
-  word-reads.Learnt,
-  bind-variable-reads.Asked,
-  bind-variable-reads.Learnt,
-  reference-reads.Asked,
-  reference-reads.Learnt,
-  bind-list-below t,
-  bind-list.Post,
-  inner-second-reads.Asked,
-  inner-second-reads.Learnt,
-) (bind-list-at t) bind-list.Post
-bind-list-reference-requires-2 t c κs =
-    search needs
-
--- src/bind.rt:73:9
-bind-list-inner-second-requires : (t : ℕ) → bind-list-lts.Need-inner-second-requires (
-  word-reads.Asked,
-  word-reads.Learnt,
-  bind-variable-reads.Asked,
-  bind-variable-reads.Learnt,
-  reference-reads.Asked,
-  reference-reads.Learnt,
-  bind-list-below t,
-  bind-list.Post,
-  inner-second-reads.Asked,
-  inner-second-reads.Learnt,
-) (bind-list-at t) bind-list.Post
-bind-list-inner-second-requires t c κs =
-    search needs
-
--- src/bind.rt:74:15
-bind-list-sub-bind-list-2 : (t : ℕ) → bind-list-lts.Need-sub-bind-list-2 (
-  word-reads.Asked,
-  word-reads.Learnt,
-  bind-variable-reads.Asked,
-  bind-variable-reads.Learnt,
-  reference-reads.Asked,
-  reference-reads.Learnt,
-  bind-list-below t,
-  bind-list.Post,
-  inner-second-reads.Asked,
-  inner-second-reads.Learnt,
-) (bind-list-at t) bind-list.Post
-bind-list-sub-bind-list-2 t c =
-    search needs
-
--- src/bind.rt:74:15
-bind-list-part-bind-list-start-2 : (t : ℕ) → bind-list-lts.Need-part-bind-list-start-2 (
-  word-reads.Asked,
-  word-reads.Learnt,
-  bind-variable-reads.Asked,
-  bind-variable-reads.Learnt,
-  reference-reads.Asked,
-  reference-reads.Learnt,
-  bind-list-below t,
-  bind-list.Post,
-  inner-second-reads.Asked,
-  inner-second-reads.Learnt,
-) (bind-list-at t) bind-list.Post
-bind-list-part-bind-list-start-2 t c =
-    search needs
-
--- src/bind.rt:74:15
-bind-list-part-bind-list-end-2 : (t : ℕ) → bind-list-lts.Need-part-bind-list-end-2 (
-  word-reads.Asked,
-  word-reads.Learnt,
-  bind-variable-reads.Asked,
-  bind-variable-reads.Learnt,
-  reference-reads.Asked,
-  reference-reads.Learnt,
-  bind-list-below t,
-  bind-list.Post,
-  inner-second-reads.Asked,
-  inner-second-reads.Learnt,
-) (bind-list-at t) bind-list.Post
-bind-list-part-bind-list-end-2 t c =
-    search needs
-
--- src/bind.rt:74:5
-bind-list-bind-list-requires-2 : (t : ℕ) → bind-list-lts.Need-bind-list-requires-2 (
-  word-reads.Asked,
-  word-reads.Learnt,
-  bind-variable-reads.Asked,
-  bind-variable-reads.Learnt,
-  reference-reads.Asked,
-  reference-reads.Learnt,
-  bind-list-below t,
-  bind-list.Post,
-  inner-second-reads.Asked,
-  inner-second-reads.Learnt,
-) (bind-list-at t) bind-list.Post
+bind-list-bind-list-requires-2 : (t : ℕ) → bind-list-lts.Need-bind-list-requires-2 (bind-list-claims t) (bind-list-at t) bind-list.Post
 bind-list-bind-list-requires-2 t c κs =
     let a = c .before .before .before .before .before .before .before .before .before .before .before .before .before .args in let l = tag-falls (a .work .now) (a .p) _ (c .before .before .before .before .before .before .before .before .before .before .before .word .ensures) 3 _ (λ z. omega arith) (c .before .before .before .reference2 .ensures) in omega (arith, l)
 
--- src/bind.rt:48:1
-bind-list-returns-4 : (t : ℕ) → bind-list-lts.Need-returns-4 (
-  word-reads.Asked,
-  word-reads.Learnt,
-  bind-variable-reads.Asked,
-  bind-variable-reads.Learnt,
-  reference-reads.Asked,
-  reference-reads.Learnt,
-  bind-list-below t,
-  bind-list.Post,
-  inner-second-reads.Asked,
-  inner-second-reads.Learnt,
-) (bind-list-at t) bind-list.Post
+bind-list-returns-4 : (t : ℕ) → bind-list-lts.Need-returns-4 (bind-list-claims t) (bind-list-at t) bind-list.Post
 bind-list-returns-4 t c =
     let a = c .before .before .before .before .before .before .before .before .before .before .before .before .before .before .args in list-both (a .work .now) (a .p) _ (c .before .before .before .before .before .before .before .before .before .before .before .before .word .ensures) (a .env .now) _ _ (c .before .before .before .before .before .before .before .before .reference .ensures) (c .before .before .before .before .reference2 .ensures) _ _ (omega arith) (omega arith) (a .list) (a .first) (a .second) _ (c .before .before .before .inner-second .ensures) (whole-list (a .work .now) _ _ _ _ _ _ (c .before .before .before .before .before .bind-list .ensures)) (whole-list (a .work .now) _ _ _ _ _ _ (c .bind-list2 .ensures))
 
 pub +bind-list-spec : {M : Type 1} → statement M
-+bind-list-spec = close μ-bind-list λ t. bind-list-lts.spec (
-  word-reads.Asked,
-  word-reads.Learnt,
-  bind-variable-reads.Asked,
-  bind-variable-reads.Learnt,
-  reference-reads.Asked,
-  reference-reads.Learnt,
-  bind-list-below t,
-  bind-list.Post,
-  inner-second-reads.Asked,
-  inner-second-reads.Learnt,
-)
++bind-list-spec = close μ-bind-list λ t. bind-list-lts.spec (bind-list-claims t)
     (bind-list-at t)
     bind-list.Post
-    (bind-list-word-requires t)
-    (bind-list-word-requires-2 t)
-    (bind-list-bind-variable-requires t)
+    (λ c κs. search needs)  -- bind-list-word-requires
+    (λ c κs. search needs)  -- bind-list-word-requires-2
+    (λ c κs. search needs)  -- bind-list-bind-variable-requires
     (bind-list-returns t)
     (bind-list-returns-2 t)
     (bind-list-returns-3 t)
-    (bind-list-reference-requires t)
-    (bind-list-sub-bind-list t)
-    (bind-list-part-bind-list-start t)
-    (bind-list-part-bind-list-end t)
+    (λ c κs. search needs)  -- bind-list-reference-requires
+    (λ c. search needs)  -- bind-list-sub-bind-list
+    (λ c. search needs)  -- bind-list-part-bind-list-start
+    (λ c. search needs)  -- bind-list-part-bind-list-end
     (bind-list-bind-list-requires t)
-    (bind-list-reference-requires-2 t)
-    (bind-list-inner-second-requires t)
-    (bind-list-sub-bind-list-2 t)
-    (bind-list-part-bind-list-start-2 t)
-    (bind-list-part-bind-list-end-2 t)
+    (λ c κs. search needs)  -- bind-list-reference-requires-2
+    (λ c κs. search needs)  -- bind-list-inner-second-requires
+    (λ c. search needs)  -- bind-list-sub-bind-list-2
+    (λ c. search needs)  -- bind-list-part-bind-list-start-2
+    (λ c. search needs)  -- bind-list-part-bind-list-end-2
     (bind-list-bind-list-requires-2 t)
     (bind-list-returns-4 t)

@@ -8,17 +8,14 @@ use mathlib.Core.Path.{refl, sym, ap, _∙_}
 use native.Mathlib.Omega.{arith}
 use Rattle.environments.specs.BindLaws.{inner-plain, inner-known, inner-own}
 
--- src/bind.rt:39:9
 returns : tie.Need-returns
 returns c =
     let a = c .before .args in inner-plain (a .tag) (a .p) (a .second) (c .if1 .taken)
 
--- src/bind.rt:42:9
 returns-2 : tie.Need-returns-2
 returns-2 c =
     let a = c .before .before .args in inner-known (a .tag) (a .p) (a .second) (c .before .if1 .left) (c .if2 .taken)
 
--- src/bind.rt:35:1
 returns-3 : tie.Need-returns-3
 returns-3 c =
     let a = c .before .before .args in inner-own (a .tag) (a .p) (a .second) (c .before .if1 .left) (c .if2 .left)

@@ -10,57 +10,34 @@ use mathlib.Core.Path.{refl, sym, ap, _∙_}
 use native.Mathlib.Omega.{arith}
 use Rattle.environments.specs.EntryLaws.{next-most, copies-out, copies-in}
 
--- src/environment.rt:126:9
 returns : tie.Need-returns
 returns c =
     copies-out (c .before .before .before .args .work .now) (c .before .before .before .args .env .now) (c .before .before .before .args .k) (c .before .before .before .args .d) (c .before .table .given .0) (c .if1 .taken)
 
--- src/environment.rt:128:13
-mul-i : tie.Need-mul-i
-mul-i c =
-    search needs
-
--- src/environment.rt:128:36
-next-level-requires : tie.Need-next-level-requires
-next-level-requires c κs =
-    search needs
-
--- src/environment.rt:128:13
 add-i : tie.Need-add-i
 add-i c =
     omega (arith, c .next-level .ensures, next-most (c .before .before .before .before .args .d), c .before .before .table .given .0, c .before .if1 .left)
 
--- src/environment.rt:129:31
 add-share : tie.Need-add-share
 add-share c =
     omega (arith, c .next-level .ensures, next-most (c .before .before .before .before .args .d), c .before .before .table .given .0, c .before .if1 .left)
 
--- src/environment.rt:129:25
 mul-share : tie.Need-mul-share
 mul-share c =
     omega (arith, c .next-level .ensures, next-most (c .before .before .before .before .args .d), c .before .before .table .given .0, c .before .if1 .left)
 
--- src/environment.rt:129:25
 shared-slice-read-share : tie.Need-shared-slice-read-share
 shared-slice-read-share c =
     omega (arith, c .before .next-level .ensures, next-most (c .before .before .before .before .before .args .d), c .before .before .before .table .given .0, c .before .before .if1 .left)
 
--- src/environment.rt:129:39
 mul-share-2 : tie.Need-mul-share-2
 mul-share-2 c =
     omega (arith, c .before .next-level .ensures, next-most (c .before .before .before .before .before .args .d), c .before .before .before .table .given .0, c .before .before .if1 .left)
 
--- src/environment.rt:129:39
 shared-slice-read-share-2 : tie.Need-shared-slice-read-share-2
 shared-slice-read-share-2 c =
     omega (arith, c .before .before .next-level .ensures, next-most (c .before .before .before .before .before .before .args .d), c .before .before .before .before .table .given .0, c .before .before .before .if1 .left)
 
--- src/environment.rt:129:5
-share-requires : tie.Need-share-requires
-share-requires c κs =
-    search needs
-
--- src/environment.rt:121:1
 returns-2 : tie.Need-returns-2
 returns-2 c =
     copies-in (c .before .before .before .before .before .before .before .args .work .now) (c .before .before .before .before .before .before .before .args .env .now) (c .before .before .before .before .before .before .before .args .k) (c .before .before .before .before .before .before .before .args .d) _ _ (c .before .before .before .next-level .ensures) (c .share .ensures)
@@ -70,13 +47,13 @@ copies-spec =
     tie.close
     (tie.spec
     returns
-    mul-i
-    next-level-requires
+    (λ c. search needs)  -- mul-i
+    (λ c κs. search needs)  -- next-level-requires
     add-i
     add-share
     mul-share
     shared-slice-read-share
     mul-share-2
     shared-slice-read-share-2
-    share-requires
+    (λ c κs. search needs)  -- share-requires
     returns-2)

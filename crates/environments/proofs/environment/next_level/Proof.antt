@@ -8,12 +8,10 @@ use mathlib.Core.Path.{refl, sym, ap, _∙_}
 use native.Mathlib.Omega.{arith}
 use Rattle.environments.specs.EntryLaws.{level-first, level-second}
 
--- src/environment.rt:115:9
 returns : tie.Need-returns
 returns c =
     let a = c .before .args in level-first (a .d) (c .if1 .taken)
 
--- src/environment.rt:111:1
 returns-2 : tie.Need-returns-2
 returns-2 c =
     let a = c .before .args in level-second (a .d) (c .if1 .left)

@@ -9,27 +9,22 @@ use Rattle.arena.proofs.lists.first.Reads as first-reads
 use Rattle.environments.proofs.parts.part.Reads as part-reads
 use Rattle.environments.specs.EntryLaws.{within-flat, within-part}
 
--- src/environment.rt:173:9
 returns : tie.Need-returns
 returns c =
     let a = c .before .before .args in within-flat (a .work .now) (a .q) (a .k) (a .list) (a .before) (c .if1 .taken)
 
--- src/environment.rt:175:9
 reference-requires : tie.Need-reference-requires
 reference-requires c κs =
     search needs
 
--- src/environment.rt:176:9
 first-requires : tie.Need-first-requires
 first-requires c κs =
     search needs
 
--- src/environment.rt:177:5
 part-requires : tie.Need-part-requires
 part-requires c κs =
     search needs
 
--- src/environment.rt:169:1
 returns-2 : tie.Need-returns-2
 returns-2 c =
     let a = c .before .before .before .before .before .args in within-part (a .work .now) (a .q) (a .k) (a .list) (a .before) _ _ _ (c .before .before .before .if1 .left) (c .before .before .reference .ensures) (c .before .first .ensures) (c .part .ensures)

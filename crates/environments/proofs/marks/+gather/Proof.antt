@@ -24,182 +24,54 @@ gather-at t = and 3 gather-kinds.ps (is 3 gather-kinds.ps μ-gather t) gather.Pr
 abbrev gather-below : ℕ → In 3 gather-kinds.ps
 gather-below t = and 3 gather-kinds.ps (falls 3 gather-kinds.ps _<_ μ-gather t) gather.Pre
 
--- src/marks.rt:83:9
-gather-returns : (t : ℕ) → gather-lts.Need-returns (
-  place-reads.Asked,
-  place-reads.Learnt,
-  copies-reads.Asked,
-  copies-reads.Learnt,
-  also-reads.Asked,
-  also-reads.Learnt,
-  gather-below t,
-  gather.Post,
-) (gather-at t) gather.Post
+abbrev gather-claims : ℕ → gather-lts.Claims
+gather-claims t = (place-reads.Asked, place-reads.Learnt, copies-reads.Asked, copies-reads.Learnt, also-reads.Asked, also-reads.Learnt, gather-below t, gather.Post)
+
+gather-returns : (t : ℕ) → gather-lts.Need-returns (gather-claims t) (gather-at t) gather.Post
 gather-returns t c =
     let a = c .before .before .before .args in gather-none (a .work .now) (a .env .now) (a .marks .now) (a .level) (a .n) _ (c .if1 .taken)
 
--- src/marks.rt:85:13
-gather-sub-k : (t : ℕ) → gather-lts.Need-sub-k (
-  place-reads.Asked,
-  place-reads.Learnt,
-  copies-reads.Asked,
-  copies-reads.Learnt,
-  also-reads.Asked,
-  also-reads.Learnt,
-  gather-below t,
-  gather.Post,
-) (gather-at t) gather.Post
-gather-sub-k t c =
-    search needs
-
--- src/marks.rt:86:14
-gather-place-requires : (t : ℕ) → gather-lts.Need-place-requires (
-  place-reads.Asked,
-  place-reads.Learnt,
-  copies-reads.Asked,
-  copies-reads.Learnt,
-  also-reads.Asked,
-  also-reads.Learnt,
-  gather-below t,
-  gather.Post,
-) (gather-at t) gather.Post
+gather-place-requires : (t : ℕ) → gather-lts.Need-place-requires (gather-claims t) (gather-at t) gather.Post
 gather-place-requires t c κs =
     (omega (arith, c .before .before .before .pre .1 .2), c .before .before .before .pre .1 .1)
 
--- src/marks.rt:86:8
-gather-mul-if2 : (t : ℕ) → gather-lts.Need-mul-if2 (
-  place-reads.Asked,
-  place-reads.Learnt,
-  copies-reads.Asked,
-  copies-reads.Learnt,
-  also-reads.Asked,
-  also-reads.Learnt,
-  gather-below t,
-  gather.Post,
-) (gather-at t) gather.Post
+gather-mul-if2 : (t : ℕ) → gather-lts.Need-mul-if2 (gather-claims t) (gather-at t) gather.Post
 gather-mul-if2 t c =
     omega (arith, c .place .ensures, c .before .before .before .before .pre .1 .1, c .before .before .before .before .pre .1 .2)
 
--- src/marks.rt:86:8
-gather-shared-slice-read-if2 : (t : ℕ) → gather-lts.Need-shared-slice-read-if2 (
-  place-reads.Asked,
-  place-reads.Learnt,
-  copies-reads.Asked,
-  copies-reads.Learnt,
-  also-reads.Asked,
-  also-reads.Learnt,
-  gather-below t,
-  gather.Post,
-) (gather-at t) gather.Post
+gather-shared-slice-read-if2 : (t : ℕ) → gather-lts.Need-shared-slice-read-if2 (gather-claims t) (gather-at t) gather.Post
 gather-shared-slice-read-if2 t c =
     omega (arith, c .before .place .ensures, c .before .before .before .before .before .pre .1 .0, c .before .before .before .before .before .pre .1 .1, c .before .before .before .before .before .pre .1 .2)
 
--- src/marks.rt:87:42
-gather-copies-requires : (t : ℕ) → gather-lts.Need-copies-requires (
-  place-reads.Asked,
-  place-reads.Learnt,
-  copies-reads.Asked,
-  copies-reads.Learnt,
-  also-reads.Asked,
-  also-reads.Learnt,
-  gather-below t,
-  gather.Post,
-) (gather-at t) gather.Post
-gather-copies-requires t c κs =
-    search needs
-
--- src/marks.rt:87:13
-gather-also-requires : (t : ℕ) → gather-lts.Need-also-requires (
-  place-reads.Asked,
-  place-reads.Learnt,
-  copies-reads.Asked,
-  copies-reads.Learnt,
-  also-reads.Asked,
-  also-reads.Learnt,
-  gather-below t,
-  gather.Post,
-) (gather-at t) gather.Post
-gather-also-requires t c κs =
-    search needs
-
--- src/marks.rt:88:9
-gather-gather-requires : (t : ℕ) → gather-lts.Need-gather-requires (
-  place-reads.Asked,
-  place-reads.Learnt,
-  copies-reads.Asked,
-  copies-reads.Learnt,
-  also-reads.Asked,
-  also-reads.Learnt,
-  gather-below t,
-  gather.Post,
-) (gather-at t) gather.Post
+gather-gather-requires : (t : ℕ) → gather-lts.Need-gather-requires (gather-claims t) (gather-at t) gather.Post
 gather-gather-requires t c κs =
     (omega (arith, c .before .before .before .before .before .before .before .before .pre .0), (c .before .before .before .before .before .before .before .before .pre .1 .0, c .before .before .before .before .before .before .before .before .pre .1 .1, omega (arith, c .before .before .before .before .before .before .before .before .pre .1 .2)))
 
--- src/marks.rt:88:9
-gather-returns-2 : (t : ℕ) → gather-lts.Need-returns-2 (
-  place-reads.Asked,
-  place-reads.Learnt,
-  copies-reads.Asked,
-  copies-reads.Learnt,
-  also-reads.Asked,
-  also-reads.Learnt,
-  gather-below t,
-  gather.Post,
-) (gather-at t) gather.Post
+gather-returns-2 : (t : ℕ) → gather-lts.Need-returns-2 (gather-claims t) (gather-at t) gather.Post
 gather-returns-2 t c =
     let a = c .before .before .before .before .before .before .before .before .before .args in
     gather-marked (a .work .now) (a .env .now) (a .marks .now) (a .level) (a .n) (a .before) _ _ (omega arith) (c .before .before .before .before .before .place .ensures) _ _ _ (c .before .before .before .if2 .taken) (c .before .before .copies .ensures) (c .before .also .ensures) (c .gather .ensures)
 
--- src/marks.rt:90:5
-gather-gather-requires-2 : (t : ℕ) → gather-lts.Need-gather-requires-2 (
-  place-reads.Asked,
-  place-reads.Learnt,
-  copies-reads.Asked,
-  copies-reads.Learnt,
-  also-reads.Asked,
-  also-reads.Learnt,
-  gather-below t,
-  gather.Post,
-) (gather-at t) gather.Post
+gather-gather-requires-2 : (t : ℕ) → gather-lts.Need-gather-requires-2 (gather-claims t) (gather-at t) gather.Post
 gather-gather-requires-2 t c κs =
     (omega (arith, c .before .before .before .before .before .before .pre .0), (c .before .before .before .before .before .before .pre .1 .0, c .before .before .before .before .before .before .pre .1 .1, omega (arith, c .before .before .before .before .before .before .pre .1 .2)))
 
--- src/marks.rt:71:1
-gather-returns-3 : (t : ℕ) → gather-lts.Need-returns-3 (
-  place-reads.Asked,
-  place-reads.Learnt,
-  copies-reads.Asked,
-  copies-reads.Learnt,
-  also-reads.Asked,
-  also-reads.Learnt,
-  gather-below t,
-  gather.Post,
-) (gather-at t) gather.Post
+gather-returns-3 : (t : ℕ) → gather-lts.Need-returns-3 (gather-claims t) (gather-at t) gather.Post
 gather-returns-3 t c =
     let a = c .before .before .before .before .before .before .before .args in
     gather-unmarked (a .work .now) (a .env .now) (a .marks .now) (a .level) (a .n) (a .before) _ _ (omega arith) (c .before .before .before .place .ensures) _ (c .before .if2 .left) (c .gather2 .ensures)
 
 pub +gather-spec : {M : Type 1} → statement M
-+gather-spec = close μ-gather λ t. gather-lts.spec (
-  place-reads.Asked,
-  place-reads.Learnt,
-  copies-reads.Asked,
-  copies-reads.Learnt,
-  also-reads.Asked,
-  also-reads.Learnt,
-  gather-below t,
-  gather.Post,
-)
++gather-spec = close μ-gather λ t. gather-lts.spec (gather-claims t)
     (gather-at t)
     gather.Post
     (gather-returns t)
-    (gather-sub-k t)
+    (λ c. search needs)  -- gather-sub-k
     (gather-place-requires t)
     (gather-mul-if2 t)
     (gather-shared-slice-read-if2 t)
-    (gather-copies-requires t)
-    (gather-also-requires t)
+    (λ c κs. search needs)  -- gather-copies-requires
+    (λ c κs. search needs)  -- gather-also-requires
     (gather-gather-requires t)
     (gather-returns-2 t)
     (gather-gather-requires-2 t)

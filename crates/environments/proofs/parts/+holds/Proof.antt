@@ -23,157 +23,49 @@ holds-at t = and 1 holds-kinds.ps (is 1 holds-kinds.ps μ-holds t) holds.Pre
 abbrev holds-below : ℕ → In 1 holds-kinds.ps
 holds-below t = and 1 holds-kinds.ps (falls 1 holds-kinds.ps _<_ μ-holds t) holds.Pre
 
--- src/parts.rt:12:9
-holds-word-requires : (t : ℕ) → holds-lts.Need-word-requires (
-  word-reads.Asked,
-  word-reads.Learnt,
-  reference-reads.Asked,
-  reference-reads.Learnt,
-  holds-below t,
-  holds.Post,
-) (holds-at t) holds.Post
-holds-word-requires t c κs =
-    search needs
+abbrev holds-claims : ℕ → holds-lts.Claims
+holds-claims t = (word-reads.Asked, word-reads.Learnt, reference-reads.Asked, reference-reads.Learnt, holds-below t, holds.Post)
 
--- src/parts.rt:14:21
-holds-word-requires-2 : (t : ℕ) → holds-lts.Need-word-requires-2 (
-  word-reads.Asked,
-  word-reads.Learnt,
-  reference-reads.Asked,
-  reference-reads.Learnt,
-  holds-below t,
-  holds.Post,
-) (holds-at t) holds.Post
-holds-word-requires-2 t c κs =
-    search needs
-
--- src/parts.rt:14:9
-holds-returns : (t : ℕ) → holds-lts.Need-returns (
-  word-reads.Asked,
-  word-reads.Learnt,
-  reference-reads.Asked,
-  reference-reads.Learnt,
-  holds-below t,
-  holds.Post,
-) (holds-at t) holds.Post
+holds-returns : (t : ℕ) → holds-lts.Need-returns (holds-claims t) (holds-at t) holds.Post
 holds-returns t c =
     let a = c .before .before .before .before .args in holds-variable (a .work .now) (a .p) _ (c .before .before .word .ensures) (a .k) _ (c .before .if1 .taken) (c .word2 .ensures)
 
--- src/parts.rt:17:9
-holds-returns-2 : (t : ℕ) → holds-lts.Need-returns-2 (
-  word-reads.Asked,
-  word-reads.Learnt,
-  reference-reads.Asked,
-  reference-reads.Learnt,
-  holds-below t,
-  holds.Post,
-) (holds-at t) holds.Post
+holds-returns-2 : (t : ℕ) → holds-lts.Need-returns-2 (holds-claims t) (holds-at t) holds.Post
 holds-returns-2 t c =
     let a = c .before .before .before .before .args in holds-none (a .work .now) (a .p) _ (c .before .before .word .ensures) (a .k) (c .before .if1 .left) (λ z. omega arith) (λ z. omega arith)
 
--- src/parts.rt:20:9
-holds-returns-3 : (t : ℕ) → holds-lts.Need-returns-3 (
-  word-reads.Asked,
-  word-reads.Learnt,
-  reference-reads.Asked,
-  reference-reads.Learnt,
-  holds-below t,
-  holds.Post,
-) (holds-at t) holds.Post
+holds-returns-3 : (t : ℕ) → holds-lts.Need-returns-3 (holds-claims t) (holds-at t) holds.Post
 holds-returns-3 t c =
     let a = c .before .before .before .before .before .args in holds-none (a .work .now) (a .p) _ (c .before .before .before .word .ensures) (a .k) (c .before .before .if1 .left) (λ z. omega arith) (λ z. omega arith)
 
--- src/parts.rt:22:9
-holds-reference-requires : (t : ℕ) → holds-lts.Need-reference-requires (
-  word-reads.Asked,
-  word-reads.Learnt,
-  reference-reads.Asked,
-  reference-reads.Learnt,
-  holds-below t,
-  holds.Post,
-) (holds-at t) holds.Post
-holds-reference-requires t c κs =
-    search needs
-
--- src/parts.rt:23:8
-holds-holds-requires : (t : ℕ) → holds-lts.Need-holds-requires (
-  word-reads.Asked,
-  word-reads.Learnt,
-  reference-reads.Asked,
-  reference-reads.Learnt,
-  holds-below t,
-  holds.Post,
-) (holds-at t) holds.Post
+holds-holds-requires : (t : ℕ) → holds-lts.Need-holds-requires (holds-claims t) (holds-at t) holds.Post
 holds-holds-requires t c κs =
     let a = c .before .before .before .before .before .before .args in let l = tag-falls (a .work .now) (a .p) _ (c .before .before .before .before .word .ensures) 3 _ (λ z. omega arith) (c .reference .ensures) in omega (arith, l)
 
--- src/parts.rt:24:9
-holds-returns-4 : (t : ℕ) → holds-lts.Need-returns-4 (
-  word-reads.Asked,
-  word-reads.Learnt,
-  reference-reads.Asked,
-  reference-reads.Learnt,
-  holds-below t,
-  holds.Post,
-) (holds-at t) holds.Post
+holds-returns-4 : (t : ℕ) → holds-lts.Need-returns-4 (holds-claims t) (holds-at t) holds.Post
 holds-returns-4 t c =
     let a = c .before .before .before .before .before .before .before .before .args in holds-head (a .work .now) (a .p) _ (c .before .before .before .before .before .before .word .ensures) (a .k) _ _ (omega arith) (omega arith) (c .before .before .reference .ensures) (c .before .holds .ensures) (c .if4 .taken)
 
--- src/parts.rt:26:9
-holds-reference-requires-2 : (t : ℕ) → holds-lts.Need-reference-requires-2 (
-  word-reads.Asked,
-  word-reads.Learnt,
-  reference-reads.Asked,
-  reference-reads.Learnt,
-  holds-below t,
-  holds.Post,
-) (holds-at t) holds.Post
-holds-reference-requires-2 t c κs =
-    search needs
-
--- src/parts.rt:27:5
-holds-holds-requires-2 : (t : ℕ) → holds-lts.Need-holds-requires-2 (
-  word-reads.Asked,
-  word-reads.Learnt,
-  reference-reads.Asked,
-  reference-reads.Learnt,
-  holds-below t,
-  holds.Post,
-) (holds-at t) holds.Post
+holds-holds-requires-2 : (t : ℕ) → holds-lts.Need-holds-requires-2 (holds-claims t) (holds-at t) holds.Post
 holds-holds-requires-2 t c κs =
     let a = c .before .before .before .before .before .before .before .before .before .args in let l = tag-falls (a .work .now) (a .p) _ (c .before .before .before .before .before .before .before .word .ensures) 2 _ (λ z. omega arith) (c .reference2 .ensures) in omega (arith, l)
 
--- src/parts.rt:9:1
-holds-returns-5 : (t : ℕ) → holds-lts.Need-returns-5 (
-  word-reads.Asked,
-  word-reads.Learnt,
-  reference-reads.Asked,
-  reference-reads.Learnt,
-  holds-below t,
-  holds.Post,
-) (holds-at t) holds.Post
+holds-returns-5 : (t : ℕ) → holds-lts.Need-returns-5 (holds-claims t) (holds-at t) holds.Post
 holds-returns-5 t c =
     let a = c .before .before .before .before .before .before .before .before .before .before .args in holds-tail (a .work .now) (a .p) _ (c .before .before .before .before .before .before .before .before .word .ensures) (a .k) _ _ (omega arith) (omega arith) (c .before .before .before .before .reference .ensures) (c .before .before .before .holds .ensures) _ _ (c .before .before .if4 .left) (c .before .reference2 .ensures) (c .holds2 .ensures)
 
 pub +holds-spec : {M : Type 1} → statement M
-+holds-spec = close μ-holds λ t. holds-lts.spec (
-  word-reads.Asked,
-  word-reads.Learnt,
-  reference-reads.Asked,
-  reference-reads.Learnt,
-  holds-below t,
-  holds.Post,
-)
++holds-spec = close μ-holds λ t. holds-lts.spec (holds-claims t)
     (holds-at t)
     holds.Post
-    (holds-word-requires t)
-    (holds-word-requires-2 t)
+    (λ c κs. search needs)  -- holds-word-requires
+    (λ c κs. search needs)  -- holds-word-requires-2
     (holds-returns t)
     (holds-returns-2 t)
     (holds-returns-3 t)
-    (holds-reference-requires t)
+    (λ c κs. search needs)  -- holds-reference-requires
     (holds-holds-requires t)
     (holds-returns-4 t)
-    (holds-reference-requires-2 t)
+    (λ c κs. search needs)  -- holds-reference-requires-2
     (holds-holds-requires-2 t)
     (holds-returns-5 t)

@@ -10,27 +10,22 @@ use mathlib.Core.Path.{refl, sym, ap, _∙_}
 use native.Mathlib.Omega.{arith}
 use Rattle.environments.specs.PartLaws.{share-none, share-some}
 
--- src/shares.rt:11:9
 word-requires : tie.Need-word-requires
 word-requires c κs =
     search needs
 
--- src/shares.rt:12:9
 count-requires : tie.Need-count-requires
 count-requires c κs =
     search needs
 
--- src/shares.rt:14:9
 returns : tie.Need-returns
 returns c =
     let a = c .before .before .before .before .args in share-none (a .work .now) (a .p) (a .list) _ _ (c .before .before .word .ensures) (c .before .count .ensures) (c .if1 .taken)
 
--- src/shares.rt:16:5
 sub-result : tie.Need-sub-result
 sub-result c =
     search needs
 
--- src/shares.rt:8:1
 returns-2 : tie.Need-returns-2
 returns-2 c =
     let a = c .before .before .before .before .args in share-some (a .work .now) (a .p) (a .list) _ _ (c .before .before .word .ensures) (c .before .count .ensures)

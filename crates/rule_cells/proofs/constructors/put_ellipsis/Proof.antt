@@ -7,17 +7,14 @@ use Rattle.rule_cells.proofs.constructors.put_ellipsis.Lts as lts
 use Rattle.rule_cells.proofs.constructors.put.Reads as put-reads
 use Rattle.rule_cells.specs.MadeLaws.{made-ellipsis}
 
--- src/constructors.rt:74:5
 put-requires : tie.Need-put-requires
 put-requires c κs =
     search needs
 
--- src/constructors.rt:70:1
 same-length : tie.Need-same-length
 same-length c =
     search needs
 
--- src/constructors.rt:70:1
 returns : tie.Need-returns
 returns c =
     let a = c .before .before .before .before .before .args in made-ellipsis (a .work .now) _ (a .top) _ (a .element) (a .n) (a .rest) (c .before .before .before .before .before .pre .1) (c .before .before .before .before .before .pre .2) (c .before .before .put .ensures)

@@ -22,52 +22,27 @@ abbrev μ-loop : tie.MeasureT-loop
 μ-loop work dots list w node₀ node =
     node
 
--- src/dots.rt:58:5
 loop-holds : tie.Need-loop-holds Inv-loop μ-loop
 loop-holds c =
     λ b h. h
 
--- src/dots.rt:58:11
-word-requires : tie.Need-word-requires Inv-loop μ-loop
-word-requires c κs =
-    search needs
-
--- src/dots.rt:59:13
-reference-requires : tie.Need-reference-requires Inv-loop μ-loop
-reference-requires c κs =
-    search needs
-
--- src/dots.rt:60:12
-is-dots-requires : tie.Need-is-dots-requires Inv-loop μ-loop
-is-dots-requires c κs =
-    search needs
-
--- src/dots.rt:61:13
 returns : tie.Need-returns Inv-loop μ-loop
 returns c =
     let a = c .before .before .before .before .before .before .before .args in
     let l = c .before .before .before .before .before .loop in
     l .inv true (among-here (a .work .now) (a .dots) (a .w) (l .node) _ (sym (c .before .before .before .before .word .ensures) ∙ c .before .before .before .if1 .taken) (c .before .before .reference .ensures) (sym (c .if2 .taken) ∙ c .before .is-dots .ensures))
 
--- src/dots.rt:63:9
-reference-requires-2 : tie.Need-reference-requires-2 Inv-loop μ-loop
-reference-requires-2 c κs =
-    search needs
-
--- src/dots.rt:58:5
 loop-less : tie.Need-loop-less Inv-loop μ-loop
 loop-less c =
     let l = c .before .before .before .before .before .before .loop in
     omega (arith, c .reference2 .ensures, pair-falls (c .before .before .before .before .before .before .before .before .args .work .now) (l .node) 1 (sym (c .before .before .before .before .before .word .ensures) ∙ c .before .before .before .before .if1 .taken))
 
--- src/dots.rt:58:5
 loop-again : tie.Need-loop-again Inv-loop μ-loop
 loop-again c =
     let a = c .before .before .before .before .before .before .before .before .args in
     let l = c .before .before .before .before .before .before .loop in
     λ b h. l .inv b (among-more (a .work .now) (a .dots) (a .w) (l .node) _ (sym (c .before .before .before .before .before .word .ensures) ∙ c .before .before .before .before .if1 .taken) (c .before .before .before .reference .ensures) _ b (c .reference2 .ensures) (sym (c .before .if2 .left) ∙ c .before .before .is-dots .ensures) h)
 
--- src/dots.rt:54:1
 returns-2 : tie.Need-returns-2 Inv-loop μ-loop
 returns-2 c =
     let a = c .before .before .before .before .args in
@@ -81,11 +56,11 @@ among-spec =
     Inv-loop
     μ-loop
     loop-holds
-    word-requires
-    reference-requires
-    is-dots-requires
+    (λ c κs. search needs)  -- word-requires
+    (λ c κs. search needs)  -- reference-requires
+    (λ c κs. search needs)  -- is-dots-requires
     returns
-    reference-requires-2
+    (λ c κs. search needs)  -- reference-requires-2
     loop-less
     loop-again
     returns-2)

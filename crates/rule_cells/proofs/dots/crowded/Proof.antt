@@ -9,22 +9,18 @@ use Rattle.rule_cells.proofs.dots.among.Reads as among-reads
 use mathlib.Core.Path.{refl, sym, ap, _∙_}
 use Rattle.rule_cells.specs.Dots.{crowded-no, crowded-by}
 
--- src/dots.rt:73:13
 rest-requires : tie.Need-rest-requires
 rest-requires c κs =
     search needs
 
--- src/dots.rt:74:9
 among-requires : tie.Need-among-requires
 among-requires c κs =
     search needs
 
--- src/dots.rt:74:9
 returns : tie.Need-returns
 returns c =
     let a = c .before .before .before .before .args in crowded-by (a .work .now) (a .dots) (a .w) (a .rest) _ (a .followed) _ (c .before .before .if1 .taken) (c .before .rest .ensures) (c .among .ensures)
 
--- src/dots.rt:69:1
 returns-2 : tie.Need-returns-2
 returns-2 c =
     let a = c .before .before .args in crowded-no (a .work .now) (a .dots) (a .w) (a .rest) (a .followed) (c .if1 .left)

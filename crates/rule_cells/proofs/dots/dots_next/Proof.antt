@@ -10,27 +10,22 @@ use Rattle.rule_cells.proofs.dots.is_dots.Reads as is-dots-reads
 use mathlib.Core.Path.{refl, sym, ap, _∙_}
 use Rattle.rule_cells.specs.Dots.{next-pair, next-other}
 
--- src/dots.rt:46:8
 word-requires : tie.Need-word-requires
 word-requires c κs =
     search needs
 
--- src/dots.rt:47:9
 returns : tie.Need-returns
 returns c =
     let a = c .before .before .before .args in next-other (a .work .now) (a .dots) (a .w) (a .node) (λ z. c .if1 .taken (c .before .word .ensures ∙ z))
 
--- src/dots.rt:49:9
 reference-requires : tie.Need-reference-requires
 reference-requires c κs =
     search needs
 
--- src/dots.rt:50:5
 is-dots-requires : tie.Need-is-dots-requires
 is-dots-requires c κs =
     search needs
 
--- src/dots.rt:43:1
 returns-2 : tie.Need-returns-2
 returns-2 c =
     let a = c .before .before .before .before .before .args in next-pair (a .work .now) (a .dots) (a .w) (a .node) _ _ (sym (c .before .before .before .word .ensures) ∙ c .before .before .if1 .left) (c .before .reference .ensures) (c .is-dots .ensures)

@@ -9,22 +9,18 @@ use Rattle.rule_cells.proofs.dots.is_ellipsis.Reads as is-ellipsis-read
 use mathlib.Core.Path.{refl, sym, ap, _∙_}
 use Rattle.rule_cells.specs.Dots.{dots-name, dots-other}
 
--- src/dots.rt:36:8
 word-requires : tie.Need-word-requires
 word-requires c κs =
     search needs
 
--- src/dots.rt:37:9
 returns : tie.Need-returns
 returns c =
     let a = c .before .before .before .args in dots-other (a .work .now) (a .dots) (a .w) (a .node) (λ z. c .if1 .taken (c .before .word .ensures ∙ z))
 
--- src/dots.rt:39:5
 is-ellipsis-requires : tie.Need-is-ellipsis-requires
 is-ellipsis-requires c κs =
     search needs
 
--- src/dots.rt:33:1
 returns-2 : tie.Need-returns-2
 returns-2 c =
     let a = c .before .before .before .before .args in dots-name (a .work .now) (a .dots) (a .w) (a .node) _ (sym (c .before .before .word .ensures) ∙ c .before .if1 .left) (c .is-ellipsis .ensures)

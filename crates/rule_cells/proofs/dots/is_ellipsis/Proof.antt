@@ -10,27 +10,22 @@ use mathlib.Core.Path.{refl, sym, ap, _∙_}
 use Rattle.arena.specs.Arena.{wordAt, nameAt, treeAt}
 use Rattle.rule_cells.specs.Dots.{dots-by-number, dots-never, dots-chosen}
 
--- src/dots.rt:24:16
 number-of-requires : tie.Need-number-of-requires
 number-of-requires c κs =
     search needs
 
--- src/dots.rt:24:9
 returns : tie.Need-returns
 returns c =
     let a = c .before .before .before .args in dots-by-number (a .work .now) (a .dots) (a .w) (a .node) _ (c .before .if1 .taken) (c .number-of .ensures)
 
--- src/dots.rt:27:9
 returns-2 : tie.Need-returns-2
 returns-2 c =
     let a = c .before .before .before .args in sym (dots-never (a .work .now) (a .dots) (a .w) (nameAt (a .work .now) (a .node) (a .w)) (c .if2 .taken))
 
--- src/dots.rt:29:5
 same-names-requires : tie.Need-same-names-requires
 same-names-requires c κs =
     search needs
 
--- src/dots.rt:20:1
 returns-3 : tie.Need-returns-3
 returns-3 c =
     let a = c .before .before .before .before .args in c .same-names .ensures ∙ sym (dots-chosen (a .work .now) (a .dots) (a .w) (nameAt (a .work .now) (a .node) (a .w)) (c .before .before .if1 .left) (c .before .if2 .left))

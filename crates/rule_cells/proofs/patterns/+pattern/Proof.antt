@@ -35,161 +35,22 @@ pattern-at t = and 1 pattern-kinds.ps (is 1 pattern-kinds.ps μ-pattern t) patte
 abbrev pattern-below : ℕ → In 1 pattern-kinds.ps
 pattern-below t = and 1 pattern-kinds.ps (falls 1 pattern-kinds.ps _<_ μ-pattern t) pattern.Pre
 
--- src/patterns.rt:120:8
-pattern-word-requires : (t : ℕ) → pattern-lts.Need-word-requires (
-  word-reads.Asked,
-  word-reads.Learnt,
-  pattern-leaf-reads.Asked,
-  pattern-leaf-reads.Learnt,
-  reference-reads.Asked,
-  reference-reads.Learnt,
-  pattern-below t,
-  pattern.Post,
-  dots-next-reads.Asked,
-  dots-next-reads.Learnt,
-  crowded-reads.Asked,
-  crowded-reads.Learnt,
-  following-reads.Asked,
-  following-reads.Learnt,
-  put-list-reads.Asked,
-  put-list-reads.Learnt,
-) (pattern-at t) pattern.Post
-pattern-word-requires t c κs =
-    search needs
+abbrev pattern-claims : ℕ → pattern-lts.Claims
+pattern-claims t = (word-reads.Asked, word-reads.Learnt, pattern-leaf-reads.Asked, pattern-leaf-reads.Learnt, reference-reads.Asked, reference-reads.Learnt, pattern-below t, pattern.Post, dots-next-reads.Asked, dots-next-reads.Learnt, crowded-reads.Asked, crowded-reads.Learnt, following-reads.Asked, following-reads.Learnt, put-list-reads.Asked, put-list-reads.Learnt)
 
--- src/patterns.rt:121:9
-pattern-pattern-leaf-requires : (t : ℕ) → pattern-lts.Need-pattern-leaf-requires (
-  word-reads.Asked,
-  word-reads.Learnt,
-  pattern-leaf-reads.Asked,
-  pattern-leaf-reads.Learnt,
-  reference-reads.Asked,
-  reference-reads.Learnt,
-  pattern-below t,
-  pattern.Post,
-  dots-next-reads.Asked,
-  dots-next-reads.Learnt,
-  crowded-reads.Asked,
-  crowded-reads.Learnt,
-  following-reads.Asked,
-  following-reads.Learnt,
-  put-list-reads.Asked,
-  put-list-reads.Learnt,
-) (pattern-at t) pattern.Post
+pattern-pattern-leaf-requires : (t : ℕ) → pattern-lts.Need-pattern-leaf-requires (pattern-claims t) (pattern-at t) pattern.Post
 pattern-pattern-leaf-requires t c κs =
     let a = c .before .before .before .before .before .args in
     let p = c .before .before .before .before .before .pre in
     (p .1 .0, omega (arith, p .1 .3, size-positive (treeAt (a .work .now) (a .node) (a .w))), λ z. c .before .if1 .taken (c .before .before .word .ensures ∙ z))
 
--- src/patterns.rt:121:9
-pattern-same-length : (t : ℕ) → pattern-lts.Need-same-length (
-  word-reads.Asked,
-  word-reads.Learnt,
-  pattern-leaf-reads.Asked,
-  pattern-leaf-reads.Learnt,
-  reference-reads.Asked,
-  reference-reads.Learnt,
-  pattern-below t,
-  pattern.Post,
-  dots-next-reads.Asked,
-  dots-next-reads.Learnt,
-  crowded-reads.Asked,
-  crowded-reads.Learnt,
-  following-reads.Asked,
-  following-reads.Learnt,
-  put-list-reads.Asked,
-  put-list-reads.Learnt,
-) (pattern-at t) pattern.Post
-pattern-same-length t c =
-    search needs
-
--- src/patterns.rt:121:9
-pattern-returns : (t : ℕ) → pattern-lts.Need-returns (
-  word-reads.Asked,
-  word-reads.Learnt,
-  pattern-leaf-reads.Asked,
-  pattern-leaf-reads.Learnt,
-  reference-reads.Asked,
-  reference-reads.Learnt,
-  pattern-below t,
-  pattern.Post,
-  dots-next-reads.Asked,
-  dots-next-reads.Learnt,
-  crowded-reads.Asked,
-  crowded-reads.Learnt,
-  following-reads.Asked,
-  following-reads.Learnt,
-  put-list-reads.Asked,
-  put-list-reads.Learnt,
-) (pattern-at t) pattern.Post
+pattern-returns : (t : ℕ) → pattern-lts.Need-returns (pattern-claims t) (pattern-at t) pattern.Post
 pattern-returns t c =
     let a = c .before .before .before .before .before .before .before .before .args in
     let l = c .before .before .pattern-leaf in
     left-leaf (dotsAt (a .work .now) (a .dots) (a .w)) (names (treeAt (a .work .now) (a .literals) (a .w))) (a .k) (a .taken) (a .work .now) (a .node) (a .w) (a .top) (l .last .0) (l .result) (λ z. c .before .before .before .before .if1 .taken (c .before .before .before .before .before .word .ensures ∙ z)) (l .ensures)
 
--- src/patterns.rt:123:9
-pattern-reference-requires : (t : ℕ) → pattern-lts.Need-reference-requires (
-  word-reads.Asked,
-  word-reads.Learnt,
-  pattern-leaf-reads.Asked,
-  pattern-leaf-reads.Learnt,
-  reference-reads.Asked,
-  reference-reads.Learnt,
-  pattern-below t,
-  pattern.Post,
-  dots-next-reads.Asked,
-  dots-next-reads.Learnt,
-  crowded-reads.Asked,
-  crowded-reads.Learnt,
-  following-reads.Asked,
-  following-reads.Learnt,
-  put-list-reads.Asked,
-  put-list-reads.Learnt,
-) (pattern-at t) pattern.Post
-pattern-reference-requires t c κs =
-    search needs
-
--- src/patterns.rt:124:9
-pattern-reference-requires-2 : (t : ℕ) → pattern-lts.Need-reference-requires-2 (
-  word-reads.Asked,
-  word-reads.Learnt,
-  pattern-leaf-reads.Asked,
-  pattern-leaf-reads.Learnt,
-  reference-reads.Asked,
-  reference-reads.Learnt,
-  pattern-below t,
-  pattern.Post,
-  dots-next-reads.Asked,
-  dots-next-reads.Learnt,
-  crowded-reads.Asked,
-  crowded-reads.Learnt,
-  following-reads.Asked,
-  following-reads.Learnt,
-  put-list-reads.Asked,
-  put-list-reads.Learnt,
-) (pattern-at t) pattern.Post
-pattern-reference-requires-2 t c κs =
-    search needs
-
--- src/patterns.rt:126:9
-pattern-pattern-requires : (t : ℕ) → pattern-lts.Need-pattern-requires (
-  word-reads.Asked,
-  word-reads.Learnt,
-  pattern-leaf-reads.Asked,
-  pattern-leaf-reads.Learnt,
-  reference-reads.Asked,
-  reference-reads.Learnt,
-  pattern-below t,
-  pattern.Post,
-  dots-next-reads.Asked,
-  dots-next-reads.Learnt,
-  crowded-reads.Asked,
-  crowded-reads.Learnt,
-  following-reads.Asked,
-  following-reads.Learnt,
-  put-list-reads.Asked,
-  put-list-reads.Learnt,
-) (pattern-at t) pattern.Post
+pattern-pattern-requires : (t : ℕ) → pattern-lts.Need-pattern-requires (pattern-claims t) (pattern-at t) pattern.Post
 pattern-pattern-requires t c κs =
     let a = c .before .before .before .before .before .before .before .before .before .before .args in
     let p = c .before .before .before .before .before .before .before .before .before .before .pre in
@@ -199,47 +60,7 @@ pattern-pattern-requires t c κs =
     let rest-is = c .before .before .reference2 .ensures in
     (omega (arith, p .0, rest-below (a .work .now) (a .node) (a .w) (a .top) asks _ _ is-pair head-is rest-is), (asks-tail (a .work .now) (a .node) (a .w) (a .top) asks _ _ is-pair head-is rest-is, p .1 .1, p .1 .2, small-tail (a .work .now) (a .dots) (a .literals) (a .node) (a .w) (a .k) (a .top) asks (p .1 .1) (p .1 .2) _ _ is-pair head-is rest-is (p .1 .3), λ z. absurd (false≢true z)))
 
--- src/patterns.rt:126:9
-pattern-same-length-2 : (t : ℕ) → pattern-lts.Need-same-length-2 (
-  word-reads.Asked,
-  word-reads.Learnt,
-  pattern-leaf-reads.Asked,
-  pattern-leaf-reads.Learnt,
-  reference-reads.Asked,
-  reference-reads.Learnt,
-  pattern-below t,
-  pattern.Post,
-  dots-next-reads.Asked,
-  dots-next-reads.Learnt,
-  crowded-reads.Asked,
-  crowded-reads.Learnt,
-  following-reads.Asked,
-  following-reads.Learnt,
-  put-list-reads.Asked,
-  put-list-reads.Learnt,
-) (pattern-at t) pattern.Post
-pattern-same-length-2 t c =
-    search needs
-
--- src/patterns.rt:126:9
-pattern-returns-2 : (t : ℕ) → pattern-lts.Need-returns-2 (
-  word-reads.Asked,
-  word-reads.Learnt,
-  pattern-leaf-reads.Asked,
-  pattern-leaf-reads.Learnt,
-  reference-reads.Asked,
-  reference-reads.Learnt,
-  pattern-below t,
-  pattern.Post,
-  dots-next-reads.Asked,
-  dots-next-reads.Learnt,
-  crowded-reads.Asked,
-  crowded-reads.Learnt,
-  following-reads.Asked,
-  following-reads.Learnt,
-  put-list-reads.Asked,
-  put-list-reads.Learnt,
-) (pattern-at t) pattern.Post
+pattern-returns-2 : (t : ℕ) → pattern-lts.Need-returns-2 (pattern-claims t) (pattern-at t) pattern.Post
 pattern-returns-2 t c =
     let a = c .before .before .before .before .before .before .before .before .before .before .before .before .before .args in
     let p = c .before .before .before .before .before .before .before .before .before .before .before .before .before .pre in
@@ -250,91 +71,7 @@ pattern-returns-2 t c =
     let l = c .before .before .pattern in
     left-taken (a .work .now) (a .dots) (a .literals) (a .node) (a .w) (a .k) (a .top) asks (p .1 .1) (p .1 .2) _ _ is-pair head-is rest-is (a .taken) (l .last .0) (l .result) (c .before .before .before .before .if2 .taken) (p .1 .4) (l .ensures)
 
--- src/patterns.rt:128:9
-pattern-dots-next-requires : (t : ℕ) → pattern-lts.Need-dots-next-requires (
-  word-reads.Asked,
-  word-reads.Learnt,
-  pattern-leaf-reads.Asked,
-  pattern-leaf-reads.Learnt,
-  reference-reads.Asked,
-  reference-reads.Learnt,
-  pattern-below t,
-  pattern.Post,
-  dots-next-reads.Asked,
-  dots-next-reads.Learnt,
-  crowded-reads.Asked,
-  crowded-reads.Learnt,
-  following-reads.Asked,
-  following-reads.Learnt,
-  put-list-reads.Asked,
-  put-list-reads.Learnt,
-) (pattern-at t) pattern.Post
-pattern-dots-next-requires t c κs =
-    search needs
-
--- src/patterns.rt:129:8
-pattern-crowded-requires : (t : ℕ) → pattern-lts.Need-crowded-requires (
-  word-reads.Asked,
-  word-reads.Learnt,
-  pattern-leaf-reads.Asked,
-  pattern-leaf-reads.Learnt,
-  reference-reads.Asked,
-  reference-reads.Learnt,
-  pattern-below t,
-  pattern.Post,
-  dots-next-reads.Asked,
-  dots-next-reads.Learnt,
-  crowded-reads.Asked,
-  crowded-reads.Learnt,
-  following-reads.Asked,
-  following-reads.Learnt,
-  put-list-reads.Asked,
-  put-list-reads.Learnt,
-) (pattern-at t) pattern.Post
-pattern-crowded-requires t c κs =
-    search needs
-
--- src/patterns.rt:130:9
-pattern-same-length-3 : (t : ℕ) → pattern-lts.Need-same-length-3 (
-  word-reads.Asked,
-  word-reads.Learnt,
-  pattern-leaf-reads.Asked,
-  pattern-leaf-reads.Learnt,
-  reference-reads.Asked,
-  reference-reads.Learnt,
-  pattern-below t,
-  pattern.Post,
-  dots-next-reads.Asked,
-  dots-next-reads.Learnt,
-  crowded-reads.Asked,
-  crowded-reads.Learnt,
-  following-reads.Asked,
-  following-reads.Learnt,
-  put-list-reads.Asked,
-  put-list-reads.Learnt,
-) (pattern-at t) pattern.Post
-pattern-same-length-3 t c =
-    search needs
-
--- src/patterns.rt:130:9
-pattern-returns-3 : (t : ℕ) → pattern-lts.Need-returns-3 (
-  word-reads.Asked,
-  word-reads.Learnt,
-  pattern-leaf-reads.Asked,
-  pattern-leaf-reads.Learnt,
-  reference-reads.Asked,
-  reference-reads.Learnt,
-  pattern-below t,
-  pattern.Post,
-  dots-next-reads.Asked,
-  dots-next-reads.Learnt,
-  crowded-reads.Asked,
-  crowded-reads.Learnt,
-  following-reads.Asked,
-  following-reads.Learnt,
-  put-list-reads.Asked,
-  put-list-reads.Learnt,
-) (pattern-at t) pattern.Post
+pattern-returns-3 : (t : ℕ) → pattern-lts.Need-returns-3 (pattern-claims t) (pattern-at t) pattern.Post
 pattern-returns-3 t c =
     let a = c .before .before .before .before .before .before .before .before .before .before .before .before .before .before .args in
     let p = c .before .before .before .before .before .before .before .before .before .before .before .before .before .before .pre in
@@ -344,47 +81,7 @@ pattern-returns-3 t c =
     let rest-is = c .before .before .before .before .before .before .reference2 .ensures in
     left-crowded (a .work .now) (a .dots) (a .literals) (a .node) (a .w) (a .k) (a .top) asks (p .1 .1) (p .1 .2) _ _ is-pair head-is rest-is (a .taken) _ (c .before .before .before .before .before .if2 .left) (c .before .before .before .dots-next .ensures) (sym (c .if3 .taken) ∙ c .before .crowded .ensures)
 
--- src/patterns.rt:132:9
-pattern-following-requires : (t : ℕ) → pattern-lts.Need-following-requires (
-  word-reads.Asked,
-  word-reads.Learnt,
-  pattern-leaf-reads.Asked,
-  pattern-leaf-reads.Learnt,
-  reference-reads.Asked,
-  reference-reads.Learnt,
-  pattern-below t,
-  pattern.Post,
-  dots-next-reads.Asked,
-  dots-next-reads.Learnt,
-  crowded-reads.Asked,
-  crowded-reads.Learnt,
-  following-reads.Asked,
-  following-reads.Learnt,
-  put-list-reads.Asked,
-  put-list-reads.Learnt,
-) (pattern-at t) pattern.Post
-pattern-following-requires t c κs =
-    search needs
-
--- src/patterns.rt:133:33
-pattern-pattern-requires-2 : (t : ℕ) → pattern-lts.Need-pattern-requires-2 (
-  word-reads.Asked,
-  word-reads.Learnt,
-  pattern-leaf-reads.Asked,
-  pattern-leaf-reads.Learnt,
-  reference-reads.Asked,
-  reference-reads.Learnt,
-  pattern-below t,
-  pattern.Post,
-  dots-next-reads.Asked,
-  dots-next-reads.Learnt,
-  crowded-reads.Asked,
-  crowded-reads.Learnt,
-  following-reads.Asked,
-  following-reads.Learnt,
-  put-list-reads.Asked,
-  put-list-reads.Learnt,
-) (pattern-at t) pattern.Post
+pattern-pattern-requires-2 : (t : ℕ) → pattern-lts.Need-pattern-requires-2 (pattern-claims t) (pattern-at t) pattern.Post
 pattern-pattern-requires-2 t c κs =
     let a = c .before .before .before .before .before .before .before .before .before .before .before .before .before .before .before .before .before .args in
     let p = c .before .before .before .before .before .before .before .before .before .before .before .before .before .before .before .before .before .pre in
@@ -394,91 +91,7 @@ pattern-pattern-requires-2 t c κs =
     let rest-is = c .before .before .before .before .before .before .before .before .before .reference2 .ensures in
     (omega (arith, p .0, head-below (a .work .now) (a .node) (a .w) (a .top) asks _ _ is-pair head-is rest-is), (asks-head (a .work .now) (a .node) (a .w) (a .top) asks _ _ is-pair head-is rest-is, p .1 .1, p .1 .2, small-head (a .work .now) (a .dots) (a .literals) (a .node) (a .w) (a .k) (a .top) asks (p .1 .1) (p .1 .2) _ _ is-pair head-is rest-is (p .1 .3), λ z. absurd (false≢true z)))
 
--- src/patterns.rt:133:22
-pattern-enum-known-a : (t : ℕ) → pattern-lts.Need-enum-known-a (
-  word-reads.Asked,
-  word-reads.Learnt,
-  pattern-leaf-reads.Asked,
-  pattern-leaf-reads.Learnt,
-  reference-reads.Asked,
-  reference-reads.Learnt,
-  pattern-below t,
-  pattern.Post,
-  dots-next-reads.Asked,
-  dots-next-reads.Learnt,
-  crowded-reads.Asked,
-  crowded-reads.Learnt,
-  following-reads.Asked,
-  following-reads.Learnt,
-  put-list-reads.Asked,
-  put-list-reads.Learnt,
-) (pattern-at t) pattern.Post
-pattern-enum-known-a t c =
-    search needs
-
--- src/patterns.rt:134:9
-pattern-enum-told : (t : ℕ) → pattern-lts.Need-enum-told (
-  word-reads.Asked,
-  word-reads.Learnt,
-  pattern-leaf-reads.Asked,
-  pattern-leaf-reads.Learnt,
-  reference-reads.Asked,
-  reference-reads.Learnt,
-  pattern-below t,
-  pattern.Post,
-  dots-next-reads.Asked,
-  dots-next-reads.Learnt,
-  crowded-reads.Asked,
-  crowded-reads.Learnt,
-  following-reads.Asked,
-  following-reads.Learnt,
-  put-list-reads.Asked,
-  put-list-reads.Learnt,
-) (pattern-at t) pattern.Post
-pattern-enum-told t c =
-    search needs
-
--- src/patterns.rt:134:9
-pattern-same-length-4 : (t : ℕ) → pattern-lts.Need-same-length-4 (
-  word-reads.Asked,
-  word-reads.Learnt,
-  pattern-leaf-reads.Asked,
-  pattern-leaf-reads.Learnt,
-  reference-reads.Asked,
-  reference-reads.Learnt,
-  pattern-below t,
-  pattern.Post,
-  dots-next-reads.Asked,
-  dots-next-reads.Learnt,
-  crowded-reads.Asked,
-  crowded-reads.Learnt,
-  following-reads.Asked,
-  following-reads.Learnt,
-  put-list-reads.Asked,
-  put-list-reads.Learnt,
-) (pattern-at t) pattern.Post
-pattern-same-length-4 t c =
-    search needs
-
--- src/patterns.rt:134:9
-pattern-returns-4 : (t : ℕ) → pattern-lts.Need-returns-4 (
-  word-reads.Asked,
-  word-reads.Learnt,
-  pattern-leaf-reads.Asked,
-  pattern-leaf-reads.Learnt,
-  reference-reads.Asked,
-  reference-reads.Learnt,
-  pattern-below t,
-  pattern.Post,
-  dots-next-reads.Asked,
-  dots-next-reads.Learnt,
-  crowded-reads.Asked,
-  crowded-reads.Learnt,
-  following-reads.Asked,
-  following-reads.Learnt,
-  put-list-reads.Asked,
-  put-list-reads.Learnt,
-) (pattern-at t) pattern.Post
+pattern-returns-4 : (t : ℕ) → pattern-lts.Need-returns-4 (pattern-claims t) (pattern-at t) pattern.Post
 pattern-returns-4 t c =
     let a = c .before .before .before .before .before .before .before .before .before .before .before .before .before .before .before .before .before .before .before .before .before .before .args in
     let p = c .before .before .before .before .before .before .before .before .before .before .before .before .before .before .before .before .before .before .before .before .before .before .pre in
@@ -489,25 +102,7 @@ pattern-returns-4 t c =
     let first = c .before .before .before .before .pattern2 in
     left-bad (a .work .now) (a .dots) (a .literals) (a .node) (a .w) (a .k) (a .top) asks (p .1 .1) (p .1 .2) _ _ is-pair head-is rest-is (a .taken) _ (c .before .before .before .before .before .before .before .before .before .before .before .before .before .if2 .left) (c .before .before .before .before .before .before .before .before .before .before .before .dots-next .ensures) (first .last .0) _ (c .enum-told .given .1) (first .ensures)
 
--- src/patterns.rt:136:33
-pattern-pattern-requires-3 : (t : ℕ) → pattern-lts.Need-pattern-requires-3 (
-  word-reads.Asked,
-  word-reads.Learnt,
-  pattern-leaf-reads.Asked,
-  pattern-leaf-reads.Learnt,
-  reference-reads.Asked,
-  reference-reads.Learnt,
-  pattern-below t,
-  pattern.Post,
-  dots-next-reads.Asked,
-  dots-next-reads.Learnt,
-  crowded-reads.Asked,
-  crowded-reads.Learnt,
-  following-reads.Asked,
-  following-reads.Learnt,
-  put-list-reads.Asked,
-  put-list-reads.Learnt,
-) (pattern-at t) pattern.Post
+pattern-pattern-requires-3 : (t : ℕ) → pattern-lts.Need-pattern-requires-3 (pattern-claims t) (pattern-at t) pattern.Post
 pattern-pattern-requires-3 t c κs =
     let a = c .before .before .before .before .before .before .before .before .before .before .before .before .before .before .before .before .before .before .before .before .before .before .before .before .args in
     let p = c .before .before .before .before .before .before .before .before .before .before .before .before .before .before .before .before .before .before .before .before .before .before .before .before .pre in
@@ -519,91 +114,7 @@ pattern-pattern-requires-3 t c κs =
     let head = made-head (a .work .now) (a .dots) (a .literals) (a .node) (a .w) (a .k) (a .top) asks (p .1 .1) (p .1 .2) _ _ is-pair head-is rest-is (a .taken) _ (c .before .before .before .before .before .before .before .before .before .before .before .before .before .before .before .if2 .left) (c .before .before .before .before .before .before .before .before .before .before .before .before .before .dots-next .ensures) (first .last .0) _ _ _ _ (c .before .before .a .given .1) (first .ensures) in
     (omega (arith, p .0, rest-below (a .work .now) (a .node) (a .w) (a .top) asks _ _ is-pair head-is rest-is), (asks-rest (a .work .now) (a .node) (a .w) (a .top) asks _ _ is-pair head-is rest-is _ _ _ (first .kept .0) (head .grows), dots-still (a .work .now) (a .dots) (a .literals) (a .node) (a .w) (a .k) (a .top) asks (p .1 .1) (p .1 .2) _ _ is-pair head-is rest-is (a .taken) _ (c .before .before .before .before .before .before .before .before .before .before .before .before .before .before .before .if2 .left) (c .before .before .before .before .before .before .before .before .before .before .before .before .before .dots-next .ensures) (first .last .0) _ _ _ (first .kept .0) head, literals-still (a .work .now) (a .dots) (a .literals) (a .node) (a .w) (a .k) (a .top) asks (p .1 .1) (p .1 .2) _ _ is-pair head-is rest-is (a .taken) _ (c .before .before .before .before .before .before .before .before .before .before .before .before .before .before .before .if2 .left) (c .before .before .before .before .before .before .before .before .before .before .before .before .before .dots-next .ensures) (first .last .0) _ _ _ (first .kept .0) head, small-rest (a .work .now) (a .dots) (a .literals) (a .node) (a .w) (a .k) (a .top) asks (p .1 .1) (p .1 .2) _ _ is-pair head-is rest-is (a .taken) _ (c .before .before .before .before .before .before .before .before .before .before .before .before .before .before .before .if2 .left) (c .before .before .before .before .before .before .before .before .before .before .before .before .before .dots-next .ensures) (first .last .0) _ _ _ (first .kept .0) head (p .1 .3), begins-still (a .work .now) (a .dots) (a .literals) (a .node) (a .w) (a .k) (a .top) asks (p .1 .1) (p .1 .2) _ _ is-pair head-is rest-is (a .taken) _ (c .before .before .before .before .before .before .before .before .before .before .before .before .before .before .before .if2 .left) (c .before .before .before .before .before .before .before .before .before .before .before .before .before .dots-next .ensures) (first .last .0) _ _ _ (first .kept .0) head))
 
--- src/patterns.rt:136:22
-pattern-enum-known-b : (t : ℕ) → pattern-lts.Need-enum-known-b (
-  word-reads.Asked,
-  word-reads.Learnt,
-  pattern-leaf-reads.Asked,
-  pattern-leaf-reads.Learnt,
-  reference-reads.Asked,
-  reference-reads.Learnt,
-  pattern-below t,
-  pattern.Post,
-  dots-next-reads.Asked,
-  dots-next-reads.Learnt,
-  crowded-reads.Asked,
-  crowded-reads.Learnt,
-  following-reads.Asked,
-  following-reads.Learnt,
-  put-list-reads.Asked,
-  put-list-reads.Learnt,
-) (pattern-at t) pattern.Post
-pattern-enum-known-b t c =
-    search needs
-
--- src/patterns.rt:137:9
-pattern-enum-told-2 : (t : ℕ) → pattern-lts.Need-enum-told-2 (
-  word-reads.Asked,
-  word-reads.Learnt,
-  pattern-leaf-reads.Asked,
-  pattern-leaf-reads.Learnt,
-  reference-reads.Asked,
-  reference-reads.Learnt,
-  pattern-below t,
-  pattern.Post,
-  dots-next-reads.Asked,
-  dots-next-reads.Learnt,
-  crowded-reads.Asked,
-  crowded-reads.Learnt,
-  following-reads.Asked,
-  following-reads.Learnt,
-  put-list-reads.Asked,
-  put-list-reads.Learnt,
-) (pattern-at t) pattern.Post
-pattern-enum-told-2 t c =
-    search needs
-
--- src/patterns.rt:137:9
-pattern-same-length-5 : (t : ℕ) → pattern-lts.Need-same-length-5 (
-  word-reads.Asked,
-  word-reads.Learnt,
-  pattern-leaf-reads.Asked,
-  pattern-leaf-reads.Learnt,
-  reference-reads.Asked,
-  reference-reads.Learnt,
-  pattern-below t,
-  pattern.Post,
-  dots-next-reads.Asked,
-  dots-next-reads.Learnt,
-  crowded-reads.Asked,
-  crowded-reads.Learnt,
-  following-reads.Asked,
-  following-reads.Learnt,
-  put-list-reads.Asked,
-  put-list-reads.Learnt,
-) (pattern-at t) pattern.Post
-pattern-same-length-5 t c =
-    search needs
-
--- src/patterns.rt:137:9
-pattern-returns-5 : (t : ℕ) → pattern-lts.Need-returns-5 (
-  word-reads.Asked,
-  word-reads.Learnt,
-  pattern-leaf-reads.Asked,
-  pattern-leaf-reads.Learnt,
-  reference-reads.Asked,
-  reference-reads.Learnt,
-  pattern-below t,
-  pattern.Post,
-  dots-next-reads.Asked,
-  dots-next-reads.Learnt,
-  crowded-reads.Asked,
-  crowded-reads.Learnt,
-  following-reads.Asked,
-  following-reads.Learnt,
-  put-list-reads.Asked,
-  put-list-reads.Learnt,
-) (pattern-at t) pattern.Post
+pattern-returns-5 : (t : ℕ) → pattern-lts.Need-returns-5 (pattern-claims t) (pattern-at t) pattern.Post
 pattern-returns-5 t c =
     let a = c .before .before .before .before .before .before .before .before .before .before .before .before .before .before .before .before .before .before .before .before .before .before .before .before .before .before .before .before .before .args in
     let p = c .before .before .before .before .before .before .before .before .before .before .before .before .before .before .before .before .before .before .before .before .before .before .before .before .before .before .before .before .before .pre in
@@ -616,25 +127,7 @@ pattern-returns-5 t c =
     let second = c .before .before .before .before .pattern3 in
     left-bad-rest (a .work .now) (a .dots) (a .literals) (a .node) (a .w) (a .k) (a .top) asks (p .1 .1) (p .1 .2) _ _ is-pair head-is rest-is (a .taken) _ (c .before .before .before .before .before .before .before .before .before .before .before .before .before .before .before .before .before .before .before .before .if2 .left) (c .before .before .before .before .before .before .before .before .before .before .before .before .before .before .before .before .before .before .dots-next .ensures) (first .last .0) _ _ _ (first .kept .0) head (second .last .0) _ (c .enum-told2 .given .1) (second .ensures)
 
--- src/patterns.rt:139:9
-pattern-put-list-requires : (t : ℕ) → pattern-lts.Need-put-list-requires (
-  word-reads.Asked,
-  word-reads.Learnt,
-  pattern-leaf-reads.Asked,
-  pattern-leaf-reads.Learnt,
-  reference-reads.Asked,
-  reference-reads.Learnt,
-  pattern-below t,
-  pattern.Post,
-  dots-next-reads.Asked,
-  dots-next-reads.Learnt,
-  crowded-reads.Asked,
-  crowded-reads.Learnt,
-  following-reads.Asked,
-  following-reads.Learnt,
-  put-list-reads.Asked,
-  put-list-reads.Learnt,
-) (pattern-at t) pattern.Post
+pattern-put-list-requires : (t : ℕ) → pattern-lts.Need-put-list-requires (pattern-claims t) (pattern-at t) pattern.Post
 pattern-put-list-requires t c κs =
     let a = c .before .before .before .before .before .before .before .before .before .before .before .before .before .before .before .before .before .before .before .before .before .before .before .before .before .before .before .before .before .before .before .args in
     let p = c .before .before .before .before .before .before .before .before .before .before .before .before .before .before .before .before .before .before .before .before .before .before .before .before .before .before .before .before .before .before .before .pre in
@@ -648,47 +141,7 @@ pattern-put-list-requires t c κs =
     let later = made-rest (a .work .now) (a .dots) (a .literals) (a .node) (a .w) (a .k) (a .top) asks (p .1 .1) (p .1 .2) _ _ is-pair head-is rest-is (a .taken) _ (c .before .before .before .before .before .before .before .before .before .before .before .before .before .before .before .before .before .before .before .before .before .before .if2 .left) (c .before .before .before .before .before .before .before .before .before .before .before .before .before .before .before .before .before .before .before .before .dots-next .ensures) (first .last .0) _ _ _ (first .kept .0) head (second .last .0) _ _ _ _ (c .before .before .b .given .1) (second .ensures) in
     (room-pair (a .work .now) (a .node) (a .w) (a .top) asks _ _ is-pair head-is rest-is _ _ _ (first .kept .0) (head .grows) _ _ _ (second .kept .0) (later .grows), omega (arith, head .grows .at-most, later .grows .up), later .grows .at-most)
 
--- src/patterns.rt:107:1
-pattern-same-length-6 : (t : ℕ) → pattern-lts.Need-same-length-6 (
-  word-reads.Asked,
-  word-reads.Learnt,
-  pattern-leaf-reads.Asked,
-  pattern-leaf-reads.Learnt,
-  reference-reads.Asked,
-  reference-reads.Learnt,
-  pattern-below t,
-  pattern.Post,
-  dots-next-reads.Asked,
-  dots-next-reads.Learnt,
-  crowded-reads.Asked,
-  crowded-reads.Learnt,
-  following-reads.Asked,
-  following-reads.Learnt,
-  put-list-reads.Asked,
-  put-list-reads.Learnt,
-) (pattern-at t) pattern.Post
-pattern-same-length-6 t c =
-    search needs
-
--- src/patterns.rt:107:1
-pattern-returns-6 : (t : ℕ) → pattern-lts.Need-returns-6 (
-  word-reads.Asked,
-  word-reads.Learnt,
-  pattern-leaf-reads.Asked,
-  pattern-leaf-reads.Learnt,
-  reference-reads.Asked,
-  reference-reads.Learnt,
-  pattern-below t,
-  pattern.Post,
-  dots-next-reads.Asked,
-  dots-next-reads.Learnt,
-  crowded-reads.Asked,
-  crowded-reads.Learnt,
-  following-reads.Asked,
-  following-reads.Learnt,
-  put-list-reads.Asked,
-  put-list-reads.Learnt,
-) (pattern-at t) pattern.Post
+pattern-returns-6 : (t : ℕ) → pattern-lts.Need-returns-6 (pattern-claims t) (pattern-at t) pattern.Post
 pattern-returns-6 t c =
     let a = c .before .before .before .before .before .before .before .before .before .before .before .before .before .before .before .before .before .before .before .before .before .before .before .before .before .before .before .before .before .before .before .before .before .before .args in
     let p = c .before .before .before .before .before .before .before .before .before .before .before .before .before .before .before .before .before .before .before .before .before .before .before .before .before .before .before .before .before .before .before .before .before .before .pre in
@@ -703,50 +156,33 @@ pattern-returns-6 t c =
     left-list (a .work .now) (a .dots) (a .literals) (a .node) (a .w) (a .k) (a .top) asks (p .1 .1) (p .1 .2) _ _ is-pair head-is rest-is (a .taken) _ (c .before .before .before .before .before .before .before .before .before .before .before .before .before .before .before .before .before .before .before .before .before .before .before .before .before .if2 .left) (c .before .before .before .before .before .before .before .before .before .before .before .before .before .before .before .before .before .before .before .before .before .before .before .dots-next .ensures) (first .last .0) _ _ _ (first .kept .0) head _ _ _ _ _ _ _ (sym (c .before .before .before .before .before .before .before .before .before .before .before .before .before .before .before .before .before .before .before .before .if3 .left) ∙ c .before .before .before .before .before .before .before .before .before .before .before .before .before .before .before .before .before .before .before .before .before .crowded .ensures) (c .before .before .before .before .before .before .before .before .before .before .before .before .before .before .before .before .before .before .following .ensures (a .w)) later (c .before .before .put-list .ensures)
 
 pub +pattern-spec : {M : Type 1} → statement M
-+pattern-spec = close μ-pattern λ t. pattern-lts.spec (
-  word-reads.Asked,
-  word-reads.Learnt,
-  pattern-leaf-reads.Asked,
-  pattern-leaf-reads.Learnt,
-  reference-reads.Asked,
-  reference-reads.Learnt,
-  pattern-below t,
-  pattern.Post,
-  dots-next-reads.Asked,
-  dots-next-reads.Learnt,
-  crowded-reads.Asked,
-  crowded-reads.Learnt,
-  following-reads.Asked,
-  following-reads.Learnt,
-  put-list-reads.Asked,
-  put-list-reads.Learnt,
-)
++pattern-spec = close μ-pattern λ t. pattern-lts.spec (pattern-claims t)
     (pattern-at t)
     pattern.Post
-    (pattern-word-requires t)
+    (λ c κs. search needs)  -- pattern-word-requires
     (pattern-pattern-leaf-requires t)
-    (pattern-same-length t)
+    (λ c. search needs)  -- pattern-same-length
     (pattern-returns t)
-    (pattern-reference-requires t)
-    (pattern-reference-requires-2 t)
+    (λ c κs. search needs)  -- pattern-reference-requires
+    (λ c κs. search needs)  -- pattern-reference-requires-2
     (pattern-pattern-requires t)
-    (pattern-same-length-2 t)
+    (λ c. search needs)  -- pattern-same-length-2
     (pattern-returns-2 t)
-    (pattern-dots-next-requires t)
-    (pattern-crowded-requires t)
-    (pattern-same-length-3 t)
+    (λ c κs. search needs)  -- pattern-dots-next-requires
+    (λ c κs. search needs)  -- pattern-crowded-requires
+    (λ c. search needs)  -- pattern-same-length-3
     (pattern-returns-3 t)
-    (pattern-following-requires t)
+    (λ c κs. search needs)  -- pattern-following-requires
     (pattern-pattern-requires-2 t)
-    (pattern-enum-known-a t)
-    (pattern-enum-told t)
-    (pattern-same-length-4 t)
+    (λ c. search needs)  -- pattern-enum-known-a
+    (λ c. search needs)  -- pattern-enum-told
+    (λ c. search needs)  -- pattern-same-length-4
     (pattern-returns-4 t)
     (pattern-pattern-requires-3 t)
-    (pattern-enum-known-b t)
-    (pattern-enum-told-2 t)
-    (pattern-same-length-5 t)
+    (λ c. search needs)  -- pattern-enum-known-b
+    (λ c. search needs)  -- pattern-enum-told-2
+    (λ c. search needs)  -- pattern-same-length-5
     (pattern-returns-5 t)
     (pattern-put-list-requires t)
-    (pattern-same-length-6 t)
+    (λ c. search needs)  -- pattern-same-length-6
     (pattern-returns-6 t)

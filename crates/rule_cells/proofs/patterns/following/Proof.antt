@@ -9,22 +9,18 @@ use Rattle.arena.proofs.lists.rest.Reads as rest-reads
 use mathlib.Core.Path.{refl, sym, ap, _∙_}
 use Rattle.rule_cells.specs.PatternLaws.{behind-count, behind-none}
 
--- src/patterns.rt:88:13
 rest-requires : tie.Need-rest-requires
 rest-requires c κs =
     search needs
 
--- src/patterns.rt:89:9
 count-requires : tie.Need-count-requires
 count-requires c κs =
     search needs
 
--- src/patterns.rt:89:9
 returns : tie.Need-returns
 returns c =
     let a = c .before .before .before .before .args in behind-count (a .work .now) (a .rest) _ _ (a .followed) (c .before .rest .ensures) (c .count .ensures)
 
--- src/patterns.rt:84:1
 returns-2 : tie.Need-returns-2
 returns-2 c =
     let a = c .before .before .args in behind-none (a .work .now) (a .rest) (a .followed) (c .if1 .left)

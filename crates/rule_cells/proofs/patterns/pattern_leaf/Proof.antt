@@ -14,57 +14,22 @@ use Rattle.arena.specs.Arena.{treeAt}
 use mathlib.Core.Path.{sym, _∙_}
 use Rattle.rule_cells.specs.Dots.{dotsAt}
 
--- src/patterns.rt:70:9
-word-requires : tie.Need-word-requires
-word-requires c κs =
-    search needs
-
--- src/patterns.rt:72:9
 pattern-name-requires : tie.Need-pattern-name-requires
 pattern-name-requires c κs =
     let a = c .before .before .before .before .before .args in ((room-leaf (a .work .now) (a .node) (a .w) (a .top) (c .before .before .before .before .before .pre .0)), c .before .before .before .before .before .pre .0 .node-below, c .before .before .before .before .before .pre .0 .wrap-below, c .before .before .before .before .before .pre .1)
 
--- src/patterns.rt:72:9
-same-length : tie.Need-same-length
-same-length c =
-    search needs
-
--- src/patterns.rt:72:9
 returns : tie.Need-returns
 returns c =
     let a = c .before .before .before .before .before .before .before .before .args in left-name (dotsAt (a .work .now) (a .dots) (a .w)) (names (treeAt (a .work .now) (a .literals) (a .w))) (a .k) (a .work .now) (a .node) (a .w) (a .top) (c .before .before .pattern-name .last .0) (c .before .before .pattern-name .result) (sym (c .before .before .before .before .before .word .ensures) ∙ c .before .before .before .before .if1 .taken) (c .before .before .pattern-name .ensures)
 
--- src/patterns.rt:75:9
-same-length-2 : tie.Need-same-length-2
-same-length-2 c =
-    search needs
-
--- src/patterns.rt:75:9
 returns-2 : tie.Need-returns-2
 returns-2 c =
     let a = c .before .before .before .before .before .args in left-empty (dotsAt (a .work .now) (a .dots) (a .w)) (names (treeAt (a .work .now) (a .literals) (a .w))) (a .k) (a .work .now) (a .node) (a .w) (a .top) (sym (c .before .before .word .ensures) ∙ c .if2 .taken)
 
--- src/patterns.rt:77:9
-word-requires-2 : tie.Need-word-requires-2
-word-requires-2 c κs =
-    search needs
-
--- src/patterns.rt:78:9
-word-requires-3 : tie.Need-word-requires-3
-word-requires-3 c κs =
-    search needs
-
--- src/patterns.rt:79:9
 put-constant-requires : tie.Need-put-constant-requires
 put-constant-requires c κs =
     let a = c .before .before .before .before .before .before .before .before .before .before .args in (room-leaf (a .work .now) (a .node) (a .w) (a .top) (c .before .before .before .before .before .before .before .before .before .before .pre .0))
 
--- src/patterns.rt:58:1
-same-length-3 : tie.Need-same-length-3
-same-length-3 c =
-    search needs
-
--- src/patterns.rt:58:1
 returns-3 : tie.Need-returns-3
 returns-3 c =
     let a = c .before .before .before .before .before .before .before .before .before .before .before .before .before .args in left-constant (dotsAt (a .work .now) (a .dots) (a .w)) (names (treeAt (a .work .now) (a .literals) (a .w))) (a .k) (a .work .now) (a .node) (a .w) (a .top) _ _ _ _ _ (c .before .before .before .before .before .before .before .before .before .before .word .ensures) (c .before .before .before .before .before .before .word2 .ensures) (c .before .before .before .before .word3 .ensures) (λ z. c .before .before .before .before .before .before .before .before .if2 .left (c .before .before .before .before .before .before .before .before .before .before .word .ensures ∙ z)) (λ z. c .before .before .before .before .before .before .before .before .before .if1 .left (c .before .before .before .before .before .before .before .before .before .before .word .ensures ∙ z)) (c .before .before .before .before .before .before .before .before .before .before .before .before .before .pre .2) (c .before .before .put-constant .ensures)
@@ -73,14 +38,14 @@ pub pattern-leaf-spec : {M : Type 1} → statement M
 pattern-leaf-spec =
     tie.close
     (tie.spec
-    word-requires
+    (λ c κs. search needs)  -- word-requires
     pattern-name-requires
-    same-length
+    (λ c. search needs)  -- same-length
     returns
-    same-length-2
+    (λ c. search needs)  -- same-length-2
     returns-2
-    word-requires-2
-    word-requires-3
+    (λ c κs. search needs)  -- word-requires-2
+    (λ c κs. search needs)  -- word-requires-3
     put-constant-requires
-    same-length-3
+    (λ c. search needs)  -- same-length-3
     returns-3)

@@ -18,84 +18,20 @@ use Rattle.rule_cells.specs.PatternLaws.{left-dots, left-wildcard, left-
 use Rattle.recipe.specs.Tree.{names}
 use Rattle.arena.specs.NodeLaws.{nameAt-number}
 
--- src/patterns.rt:40:8
-is-ellipsis-requires : tie.Need-is-ellipsis-requires
-is-ellipsis-requires c κs =
-    search needs
-
--- src/patterns.rt:41:9
-same-length : tie.Need-same-length
-same-length c =
-    search needs
-
--- src/patterns.rt:41:9
 returns : tie.Need-returns
 returns c =
     let a = c .before .before .before .before .args in left-dots (dotsAt (a .work .now) (a .dots) (a .w)) (names (treeAt (a .work .now) (a .literals) (a .w))) (a .k) (nameAt (a .work .now) (a .node) (a .w)) (a .work .now) (a .top) (sym (c .before .is-ellipsis .ensures) ∙ c .if1 .taken)
 
--- src/patterns.rt:43:9
-number-of-requires : tie.Need-number-of-requires
-number-of-requires c κs =
-    search needs
-
--- src/patterns.rt:44:8
-is-variable-requires : tie.Need-is-variable-requires
-is-variable-requires c κs =
-    search needs
-
--- src/patterns.rt:45:13
-put-variable-requires : tie.Need-put-variable-requires
-put-variable-requires c κs =
-    search needs
-
--- src/patterns.rt:46:35
-add-t23 : tie.Need-add-t23
-add-t23 c =
-    search needs
-
--- src/patterns.rt:46:9
-same-length-2 : tie.Need-same-length-2
-same-length-2 c =
-    search needs
-
--- src/patterns.rt:46:9
 returns-2 : tie.Need-returns-2
 returns-2 c =
     let a = c .before .before .before .before .before .before .before .before .before .before .before .before .before .args in left-variable (dotsAt (a .work .now) (a .dots) (a .w)) (names (treeAt (a .work .now) (a .literals) (a .w))) (a .k) (nameAt (a .work .now) (a .node) (a .w)) (a .work .now) (a .top) _ _ (sym (c .before .before .before .before .before .before .before .before .before .before .is-ellipsis .ensures) ∙ c .before .before .before .before .before .before .before .before .before .if1 .left) (sym (c .before .before .before .before .before .is-variable .ensures) ∙ c .before .before .before .before .if2 .taken) (c .before .before .put-variable .ensures)
 
--- src/patterns.rt:49:13
-put-wildcard-requires : tie.Need-put-wildcard-requires
-put-wildcard-requires c κs =
-    search needs
-
--- src/patterns.rt:50:9
-same-length-3 : tie.Need-same-length-3
-same-length-3 c =
-    search needs
-
--- src/patterns.rt:50:9
 returns-3 : tie.Need-returns-3
 returns-3 c =
     let a = c .before .before .before .before .before .before .before .before .before .before .before .before .before .before .args in
     let number-is = nameAt-number (a .work .now) (a .node) (a .w) ∙ sym (c .before .before .before .before .before .before .before .before .number-of .ensures) in
     left-wildcard (dotsAt (a .work .now) (a .dots) (a .w)) (names (treeAt (a .work .now) (a .literals) (a .w))) (a .k) (nameAt (a .work .now) (a .node) (a .w)) (a .work .now) (a .top) _ _ (sym (c .before .before .before .before .before .before .before .before .before .before .before .is-ellipsis .ensures) ∙ c .before .before .before .before .before .before .before .before .before .before .if1 .left) (number-is ∙ c .before .before .before .before .if3 .taken) (sym (c .before .before .before .before .before .before .is-variable .ensures) ∙ c .before .before .before .before .before .if2 .left) (c .before .before .put-wildcard .ensures)
 
--- src/patterns.rt:52:9
-binding-of-requires : tie.Need-binding-of-requires
-binding-of-requires c κs =
-    search needs
-
--- src/patterns.rt:53:9
-put-literal-requires : tie.Need-put-literal-requires
-put-literal-requires c κs =
-    search needs
-
--- src/patterns.rt:28:1
-same-length-4 : tie.Need-same-length-4
-same-length-4 c =
-    search needs
-
--- src/patterns.rt:28:1
 returns-4 : tie.Need-returns-4
 returns-4 c =
     let a = c .before .before .before .before .before .before .before .before .before .before .before .before .before .before .before .before .args in
@@ -106,19 +42,19 @@ pub pattern-name-spec : {M : Type 1} → statement M
 pattern-name-spec =
     tie.close
     (tie.spec
-    is-ellipsis-requires
-    same-length
+    (λ c κs. search needs)  -- is-ellipsis-requires
+    (λ c. search needs)  -- same-length
     returns
-    number-of-requires
-    is-variable-requires
-    put-variable-requires
-    add-t23
-    same-length-2
+    (λ c κs. search needs)  -- number-of-requires
+    (λ c κs. search needs)  -- is-variable-requires
+    (λ c κs. search needs)  -- put-variable-requires
+    (λ c. search needs)  -- add-t23
+    (λ c. search needs)  -- same-length-2
     returns-2
-    put-wildcard-requires
-    same-length-3
+    (λ c κs. search needs)  -- put-wildcard-requires
+    (λ c. search needs)  -- same-length-3
     returns-3
-    binding-of-requires
-    put-literal-requires
-    same-length-4
+    (λ c κs. search needs)  -- binding-of-requires
+    (λ c κs. search needs)  -- put-literal-requires
+    (λ c. search needs)  -- same-length-4
     returns-4)

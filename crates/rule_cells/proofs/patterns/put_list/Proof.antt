@@ -9,32 +9,26 @@ use Rattle.rule_cells.proofs.constructors.put_pair.Reads as put-pair-re
 use mathlib.Core.Path.{refl, sym, ap, _∙_}
 use Rattle.rule_cells.specs.PatternLaws.{list-ellipsis, list-pair}
 
--- src/patterns.rt:100:9
 put-ellipsis-requires : tie.Need-put-ellipsis-requires
 put-ellipsis-requires c κs =
     search needs
 
--- src/patterns.rt:100:9
 same-length : tie.Need-same-length
 same-length c =
     search needs
 
--- src/patterns.rt:100:9
 returns : tie.Need-returns
 returns c =
     let a = c .before .before .before .before .before .before .args in list-ellipsis (a .work .now) _ (a .followed) (a .element) (a .n) (a .rest) (a .top) _ (c .before .before .before .before .if1 .taken) (c .before .before .put-ellipsis .ensures)
 
--- src/patterns.rt:102:5
 put-pair-requires : tie.Need-put-pair-requires
 put-pair-requires c κs =
     search needs
 
--- src/patterns.rt:95:1
 same-length-2 : tie.Need-same-length-2
 same-length-2 c =
     search needs
 
--- src/patterns.rt:95:1
 returns-2 : tie.Need-returns-2
 returns-2 c =
     let a = c .before .before .before .before .before .before .args in list-pair (a .work .now) _ (a .followed) (a .element) (a .n) (a .rest) (a .top) _ (c .before .before .before .before .if1 .left) (c .before .before .put-pair .ensures)

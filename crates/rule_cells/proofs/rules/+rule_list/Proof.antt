@@ -31,132 +31,17 @@ abbrev rule-list-below : ℕ → In 1 rule-list-kinds.ps
 rule-list-below t =
     and 1 rule-list-kinds.ps (falls 1 rule-list-kinds.ps _<_ μ-rule-list t) rule-list.Pre
 
--- src/rules.rt:101:8
-rule-list-word-requires : (t : ℕ) → rule-list-lts.Need-word-requires (
-  word-reads.Asked,
-  word-reads.Learnt,
-  pair-reads.Asked,
-  pair-reads.Learnt,
-  reference-reads.Asked,
-  reference-reads.Learnt,
-  rule-list-below t,
-  rule-list.Post,
-  parts-reads.Asked,
-  parts-reads.Learnt,
-  rule-reads.Asked,
-  rule-reads.Learnt,
-) (rule-list-at t) rule-list.Post
-rule-list-word-requires t c κs =
-    search needs
+abbrev rule-list-claims : ℕ → rule-list-lts.Claims
+rule-list-claims t = (word-reads.Asked, word-reads.Learnt, pair-reads.Asked, pair-reads.Learnt, reference-reads.Asked, reference-reads.Learnt, rule-list-below t, rule-list.Post, parts-reads.Asked, parts-reads.Learnt, rule-reads.Asked, rule-reads.Learnt)
 
--- src/rules.rt:102:9
-rule-list-pair-requires : (t : ℕ) → rule-list-lts.Need-pair-requires (
-  word-reads.Asked,
-  word-reads.Learnt,
-  pair-reads.Asked,
-  pair-reads.Learnt,
-  reference-reads.Asked,
-  reference-reads.Learnt,
-  rule-list-below t,
-  rule-list.Post,
-  parts-reads.Asked,
-  parts-reads.Learnt,
-  rule-reads.Asked,
-  rule-reads.Learnt,
-) (rule-list-at t) rule-list.Post
-rule-list-pair-requires t c κs =
-    search needs
-
--- src/rules.rt:102:9
-rule-list-same-length : (t : ℕ) → rule-list-lts.Need-same-length (
-  word-reads.Asked,
-  word-reads.Learnt,
-  pair-reads.Asked,
-  pair-reads.Learnt,
-  reference-reads.Asked,
-  reference-reads.Learnt,
-  rule-list-below t,
-  rule-list.Post,
-  parts-reads.Asked,
-  parts-reads.Learnt,
-  rule-reads.Asked,
-  rule-reads.Learnt,
-) (rule-list-at t) rule-list.Post
-rule-list-same-length t c =
-    search needs
-
--- src/rules.rt:102:9
-rule-list-returns : (t : ℕ) → rule-list-lts.Need-returns (
-  word-reads.Asked,
-  word-reads.Learnt,
-  pair-reads.Asked,
-  pair-reads.Learnt,
-  reference-reads.Asked,
-  reference-reads.Learnt,
-  rule-list-below t,
-  rule-list.Post,
-  parts-reads.Asked,
-  parts-reads.Learnt,
-  rule-reads.Asked,
-  rule-reads.Learnt,
-) (rule-list-at t) rule-list.Post
+rule-list-returns : (t : ℕ) → rule-list-lts.Need-returns (rule-list-claims t) (rule-list-at t) rule-list.Post
 rule-list-returns t c =
     let a = c .before .before .before .before .before .args in
     let p = c .before .before .before .before .before .pre in
     let left = left-end (a .work .now) (a .dots) (a .literals) (a .node) (a .w) (a .top) (p .1 .0) (p .1 .1) (p .1 .2) (λ z. c .before .if1 .taken (c .before .before .word .ensures ∙ z)) in
     packs-at (RulesLeft _ _ _ _ _) _ _ _ _ (packs (a .work .now) (a .node) (a .w) (a .top) (p .1 .0)) (c .pair .ensures) (left .words) left
 
--- src/rules.rt:104:9
-rule-list-reference-requires : (t : ℕ) → rule-list-lts.Need-reference-requires (
-  word-reads.Asked,
-  word-reads.Learnt,
-  pair-reads.Asked,
-  pair-reads.Learnt,
-  reference-reads.Asked,
-  reference-reads.Learnt,
-  rule-list-below t,
-  rule-list.Post,
-  parts-reads.Asked,
-  parts-reads.Learnt,
-  rule-reads.Asked,
-  rule-reads.Learnt,
-) (rule-list-at t) rule-list.Post
-rule-list-reference-requires t c κs =
-    search needs
-
--- src/rules.rt:105:9
-rule-list-reference-requires-2 : (t : ℕ) → rule-list-lts.Need-reference-requires-2 (
-  word-reads.Asked,
-  word-reads.Learnt,
-  pair-reads.Asked,
-  pair-reads.Learnt,
-  reference-reads.Asked,
-  reference-reads.Learnt,
-  rule-list-below t,
-  rule-list.Post,
-  parts-reads.Asked,
-  parts-reads.Learnt,
-  rule-reads.Asked,
-  rule-reads.Learnt,
-) (rule-list-at t) rule-list.Post
-rule-list-reference-requires-2 t c κs =
-    search needs
-
--- src/rules.rt:106:9
-rule-list-rule-list-requires : (t : ℕ) → rule-list-lts.Need-rule-list-requires (
-  word-reads.Asked,
-  word-reads.Learnt,
-  pair-reads.Asked,
-  pair-reads.Learnt,
-  reference-reads.Asked,
-  reference-reads.Learnt,
-  rule-list-below t,
-  rule-list.Post,
-  parts-reads.Asked,
-  parts-reads.Learnt,
-  rule-reads.Asked,
-  rule-reads.Learnt,
-) (rule-list-at t) rule-list.Post
+rule-list-rule-list-requires : (t : ℕ) → rule-list-lts.Need-rule-list-requires (rule-list-claims t) (rule-list-at t) rule-list.Post
 rule-list-rule-list-requires t c κs =
     let a = c .before .before .before .before .before .before .before .before .before .args in
     let p = c .before .before .before .before .before .before .before .before .before .pre in
@@ -166,93 +51,7 @@ rule-list-rule-list-requires t c κs =
     let rest-is = c .before .reference2 .ensures in
     (omega (arith, p .0, rest-below (a .work .now) (a .node) (a .w) (a .top) asks _ _ is-pair head-is rest-is), (asks-tail (a .work .now) (a .node) (a .w) (a .top) asks _ _ is-pair head-is rest-is, p .1 .1, p .1 .2))
 
--- src/rules.rt:107:34
-rule-list-parts-requires : (t : ℕ) → rule-list-lts.Need-parts-requires (
-  word-reads.Asked,
-  word-reads.Learnt,
-  pair-reads.Asked,
-  pair-reads.Learnt,
-  reference-reads.Asked,
-  reference-reads.Learnt,
-  rule-list-below t,
-  rule-list.Post,
-  parts-reads.Asked,
-  parts-reads.Learnt,
-  rule-reads.Asked,
-  rule-reads.Learnt,
-) (rule-list-at t) rule-list.Post
-rule-list-parts-requires t c κs =
-    search needs
-
--- src/rules.rt:107:19
-rule-list-enum-known-next : (t : ℕ) → rule-list-lts.Need-enum-known-next (
-  word-reads.Asked,
-  word-reads.Learnt,
-  pair-reads.Asked,
-  pair-reads.Learnt,
-  reference-reads.Asked,
-  reference-reads.Learnt,
-  rule-list-below t,
-  rule-list.Post,
-  parts-reads.Asked,
-  parts-reads.Learnt,
-  rule-reads.Asked,
-  rule-reads.Learnt,
-) (rule-list-at t) rule-list.Post
-rule-list-enum-known-next t c =
-    search needs
-
--- src/rules.rt:108:9
-rule-list-enum-told : (t : ℕ) → rule-list-lts.Need-enum-told (
-  word-reads.Asked,
-  word-reads.Learnt,
-  pair-reads.Asked,
-  pair-reads.Learnt,
-  reference-reads.Asked,
-  reference-reads.Learnt,
-  rule-list-below t,
-  rule-list.Post,
-  parts-reads.Asked,
-  parts-reads.Learnt,
-  rule-reads.Asked,
-  rule-reads.Learnt,
-) (rule-list-at t) rule-list.Post
-rule-list-enum-told t c =
-    search needs
-
--- src/rules.rt:108:9
-rule-list-same-length-2 : (t : ℕ) → rule-list-lts.Need-same-length-2 (
-  word-reads.Asked,
-  word-reads.Learnt,
-  pair-reads.Asked,
-  pair-reads.Learnt,
-  reference-reads.Asked,
-  reference-reads.Learnt,
-  rule-list-below t,
-  rule-list.Post,
-  parts-reads.Asked,
-  parts-reads.Learnt,
-  rule-reads.Asked,
-  rule-reads.Learnt,
-) (rule-list-at t) rule-list.Post
-rule-list-same-length-2 t c =
-    search needs
-
--- src/rules.rt:108:9
-rule-list-returns-2 : (t : ℕ) → rule-list-lts.Need-returns-2 (
-  word-reads.Asked,
-  word-reads.Learnt,
-  pair-reads.Asked,
-  pair-reads.Learnt,
-  reference-reads.Asked,
-  reference-reads.Learnt,
-  rule-list-below t,
-  rule-list.Post,
-  parts-reads.Asked,
-  parts-reads.Learnt,
-  rule-reads.Asked,
-  rule-reads.Learnt,
-) (rule-list-at t) rule-list.Post
+rule-list-returns-2 : (t : ℕ) → rule-list-lts.Need-returns-2 (rule-list-claims t) (rule-list-at t) rule-list.Post
 unfolding builtOf
 rule-list-returns-2 t c =
     let a = c .before .before .before .before .before .before .before .before .before .before .before .before .before .before .before .args in
@@ -264,21 +63,7 @@ rule-list-returns-2 t c =
     let l = c .before .before .before .before .before .rule-list in
     left-later (a .work .now) (a .dots) (a .literals) (a .node) (a .w) (a .top) asks (p .1 .1) (p .1 .2) _ _ is-pair head-is rest-is (l .last .0) (builtOf (l .result)) (sym (c .before .before .parts .ensures) ∙ c .enum-told .given .1) (l .ensures)
 
--- src/rules.rt:110:5
-rule-list-rule-requires : (t : ℕ) → rule-list-lts.Need-rule-requires (
-  word-reads.Asked,
-  word-reads.Learnt,
-  pair-reads.Asked,
-  pair-reads.Learnt,
-  reference-reads.Asked,
-  reference-reads.Learnt,
-  rule-list-below t,
-  rule-list.Post,
-  parts-reads.Asked,
-  parts-reads.Learnt,
-  rule-reads.Asked,
-  rule-reads.Learnt,
-) (rule-list-at t) rule-list.Post
+rule-list-rule-requires : (t : ℕ) → rule-list-lts.Need-rule-requires (rule-list-claims t) (rule-list-at t) rule-list.Post
 rule-list-rule-requires t c κs =
     let a = c .before .before .before .before .before .before .before .before .before .before .before .before .before .before .before .before .before .args in
     let p = c .before .before .before .before .before .before .before .before .before .before .before .before .before .before .before .before .before .pre in
@@ -290,39 +75,7 @@ rule-list-rule-requires t c κs =
     let later = made-later (a .work .now) (a .dots) (a .literals) (a .node) (a .w) (a .top) asks (p .1 .1) (p .1 .2) _ _ is-pair head-is rest-is (l .last .0) (builtOf (l .result)) _ _ (sym (c .before .before .before .before .parts .ensures) ∙ c .before .before .next .given .1) (l .ensures) in
     (asks-first (a .work .now) (a .dots) (a .literals) (a .node) (a .w) (a .top) asks (p .1 .1) (p .1 .2) _ _ is-pair head-is rest-is (l .last .0) _ _ (l .kept .0) later, dots-still (a .work .now) (a .dots) (a .literals) (a .node) (a .w) (a .top) asks (p .1 .1) (p .1 .2) _ _ is-pair head-is rest-is (l .last .0) _ _ (l .kept .0) later, literals-still (a .work .now) (a .dots) (a .literals) (a .node) (a .w) (a .top) asks (p .1 .1) (p .1 .2) _ _ is-pair head-is rest-is (l .last .0) _ _ (l .kept .0) later, later .at-most)
 
--- src/rules.rt:97:1
-rule-list-same-length-3 : (t : ℕ) → rule-list-lts.Need-same-length-3 (
-  word-reads.Asked,
-  word-reads.Learnt,
-  pair-reads.Asked,
-  pair-reads.Learnt,
-  reference-reads.Asked,
-  reference-reads.Learnt,
-  rule-list-below t,
-  rule-list.Post,
-  parts-reads.Asked,
-  parts-reads.Learnt,
-  rule-reads.Asked,
-  rule-reads.Learnt,
-) (rule-list-at t) rule-list.Post
-rule-list-same-length-3 t c =
-    search needs
-
--- src/rules.rt:97:1
-rule-list-returns-3 : (t : ℕ) → rule-list-lts.Need-returns-3 (
-  word-reads.Asked,
-  word-reads.Learnt,
-  pair-reads.Asked,
-  pair-reads.Learnt,
-  reference-reads.Asked,
-  reference-reads.Learnt,
-  rule-list-below t,
-  rule-list.Post,
-  parts-reads.Asked,
-  parts-reads.Learnt,
-  rule-reads.Asked,
-  rule-reads.Learnt,
-) (rule-list-at t) rule-list.Post
+rule-list-returns-3 : (t : ℕ) → rule-list-lts.Need-returns-3 (rule-list-claims t) (rule-list-at t) rule-list.Post
 rule-list-returns-3 t c =
     let a = c .before .before .before .before .before .before .before .before .before .before .before .before .before .before .before .before .before .before .before .before .args in
     let p = c .before .before .before .before .before .before .before .before .before .before .before .before .before .before .before .before .before .before .before .before .pre in
@@ -335,34 +88,21 @@ rule-list-returns-3 t c =
     left-both (a .work .now) (a .dots) (a .literals) (a .node) (a .w) (a .top) asks (p .1 .1) (p .1 .2) _ _ is-pair head-is rest-is (l .last .0) _ _ (l .kept .0) later (c .before .before .rule .last .0) (builtOf (c .before .before .rule .result)) (c .before .before .rule .ensures)
 
 pub +rule-list-spec : {M : Type 1} → statement M
-+rule-list-spec = close μ-rule-list λ t. rule-list-lts.spec (
-  word-reads.Asked,
-  word-reads.Learnt,
-  pair-reads.Asked,
-  pair-reads.Learnt,
-  reference-reads.Asked,
-  reference-reads.Learnt,
-  rule-list-below t,
-  rule-list.Post,
-  parts-reads.Asked,
-  parts-reads.Learnt,
-  rule-reads.Asked,
-  rule-reads.Learnt,
-)
++rule-list-spec = close μ-rule-list λ t. rule-list-lts.spec (rule-list-claims t)
     (rule-list-at t)
     rule-list.Post
-    (rule-list-word-requires t)
-    (rule-list-pair-requires t)
-    (rule-list-same-length t)
+    (λ c κs. search needs)  -- rule-list-word-requires
+    (λ c κs. search needs)  -- rule-list-pair-requires
+    (λ c. search needs)  -- rule-list-same-length
     (rule-list-returns t)
-    (rule-list-reference-requires t)
-    (rule-list-reference-requires-2 t)
+    (λ c κs. search needs)  -- rule-list-reference-requires
+    (λ c κs. search needs)  -- rule-list-reference-requires-2
     (rule-list-rule-list-requires t)
-    (rule-list-parts-requires t)
-    (rule-list-enum-known-next t)
-    (rule-list-enum-told t)
-    (rule-list-same-length-2 t)
+    (λ c κs. search needs)  -- rule-list-parts-requires
+    (λ c. search needs)  -- rule-list-enum-known-next
+    (λ c. search needs)  -- rule-list-enum-told
+    (λ c. search needs)  -- rule-list-same-length-2
     (rule-list-returns-2 t)
     (rule-list-rule-requires t)
-    (rule-list-same-length-3 t)
+    (λ c. search needs)  -- rule-list-same-length-3
     (rule-list-returns-3 t)

@@ -12,52 +12,14 @@ use Rattle.words.specs.Packed.{builtOf}
 use Rattle.rule_cells.specs.RuleListLaws.{left-shape, parts-ask, left-parts}
 use mathlib.Core.Path.{sym, _∙_}
 
--- src/rules.rt:86:8
-rule-shape-requires : tie.Need-rule-shape-requires
-rule-shape-requires c κs =
-    search needs
-
--- src/rules.rt:87:13
-first-requires : tie.Need-first-requires
-first-requires c κs =
-    search needs
-
--- src/rules.rt:88:13
-rest-requires : tie.Need-rest-requires
-rest-requires c κs =
-    search needs
-
--- src/rules.rt:89:13
-rest-requires-2 : tie.Need-rest-requires-2
-rest-requires-2 c κs =
-    search needs
-
--- src/rules.rt:90:13
-first-requires-2 : tie.Need-first-requires-2
-first-requires-2 c κs =
-    search needs
-
--- src/rules.rt:91:9
 rule-parts-requires : tie.Need-rule-parts-requires
 rule-parts-requires c κs =
     let a = c .before .before .before .before .before .before .before .before .before .before .before .before .before .args in parts-ask (a .work .now) (a .dots) (a .literals) (a .node) (a .w) (a .next) (a .top) (c .before .before .before .before .before .before .before .before .before .before .before .before .before .pre .0) (c .before .before .before .before .before .before .before .before .before .before .before .before .before .pre .1) (c .before .before .before .before .before .before .before .before .before .before .before .before .before .pre .2) (c .before .before .before .before .before .before .before .before .before .before .before .before .before .pre .3) _ _ _ _ (sym (c .before .before .before .before .before .before .before .before .before .if1 .taken) ∙ c .before .before .before .before .before .before .before .before .before .before .rule-shape .ensures) (c .before .before .before .before .before .before .before .first .ensures) (c .before .before .before .before .before .rest .ensures) (c .before .before .before .rest2 .ensures) (c .before .first2 .ensures)
 
--- src/rules.rt:91:9
-same-length : tie.Need-same-length
-same-length c =
-    search needs
-
--- src/rules.rt:91:9
 returns : tie.Need-returns
 returns c =
     let a = c .before .before .before .before .before .before .before .before .before .before .before .before .before .before .before .before .args in left-parts (a .work .now) (a .dots) (a .literals) (a .node) (a .w) (a .next) (a .top) (c .before .before .before .before .before .before .before .before .before .before .before .before .before .before .before .before .pre .0) (c .before .before .before .before .before .before .before .before .before .before .before .before .before .before .before .before .pre .1) (c .before .before .before .before .before .before .before .before .before .before .before .before .before .before .before .before .pre .2) (c .before .before .before .before .before .before .before .before .before .before .before .before .before .before .before .before .pre .3) _ _ _ _ (sym (c .before .before .before .before .before .before .before .before .before .before .before .before .if1 .taken) ∙ c .before .before .before .before .before .before .before .before .before .before .before .before .before .rule-shape .ensures) (c .before .before .before .before .before .before .before .before .before .before .first .ensures) (c .before .before .before .before .before .before .before .before .rest .ensures) (c .before .before .before .before .before .before .rest2 .ensures) (c .before .before .before .before .first2 .ensures) (c .before .before .rule-parts .last .0) (builtOf (c .before .before .rule-parts .result)) (c .before .before .rule-parts .ensures)
 
--- src/rules.rt:74:1
-same-length-2 : tie.Need-same-length-2
-same-length-2 c =
-    search needs
-
--- src/rules.rt:74:1
 returns-2 : tie.Need-returns-2
 unfolding builtOf
 returns-2 c =
@@ -67,13 +29,13 @@ pub rule-spec : {M : Type 1} → statement M
 rule-spec =
     tie.close
     (tie.spec
-    rule-shape-requires
-    first-requires
-    rest-requires
-    rest-requires-2
-    first-requires-2
+    (λ c κs. search needs)  -- rule-shape-requires
+    (λ c κs. search needs)  -- first-requires
+    (λ c κs. search needs)  -- rest-requires
+    (λ c κs. search needs)  -- rest-requires-2
+    (λ c κs. search needs)  -- first-requires-2
     rule-parts-requires
-    same-length
+    (λ c. search needs)  -- same-length
     returns
-    same-length-2
+    (λ c. search needs)  -- same-length-2
     returns-2)

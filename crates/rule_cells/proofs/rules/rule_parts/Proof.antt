@@ -20,24 +20,12 @@ use mathlib.Core.Path.{sym, _∙_}
 use native.Mathlib.Omega.{arith}
 use mathlib.Core.Bool.{false≢true}
 
--- src/rules.rt:43:37
-slice-aggregate-gather : tie.Need-slice-aggregate-gather
-slice-aggregate-gather c =
-    search needs
-
--- src/rules.rt:43:9
 gather-requires : tie.Need-gather-requires
 gather-requires c κs =
     let a = c .before .before .before .args in
     let ask = c .before .before .before .pre in
     (omega arith, held-none (a .work .now) (a .w) _, small-p (a .work .now) (a .dots) (a .literals) (a .p) (a .q) (a .w) (a .next) (a .top) ask)
 
--- src/rules.rt:45:9
-same-length : tie.Need-same-length
-same-length c =
-    search needs
-
--- src/rules.rt:45:9
 returns : tie.Need-returns
 unfolding builtOf
 returns c =
@@ -46,29 +34,12 @@ returns c =
     let g = c .before .before .gather in
     left-variables (a .work .now) (a .dots) (a .literals) (a .p) (a .q) (a .w) (a .next) (a .top) ask _ (g .last .1 .0) (keptOf (g .result)) (kept-bad (g .result) (c .if1 .taken)) (g .ensures)
 
--- src/rules.rt:47:33
 pattern-requires : tie.Need-pattern-requires
 pattern-requires c κs =
     let a = c .before .before .before .before .before .before .before .args in
     let ask = c .before .before .before .before .before .before .before .pre in
     (asks-p (a .work .now) (a .dots) (a .literals) (a .p) (a .q) (a .w) (a .next) (a .top) ask, ask .dots-below, ask .literals-below, small-size (a .work .now) (a .dots) (a .literals) (a .p) (a .q) (a .w) (a .next) (a .top) ask, λ z. absurd (false≢true z))
 
--- src/rules.rt:47:22
-enum-known-a : tie.Need-enum-known-a
-enum-known-a c =
-    search needs
-
--- src/rules.rt:48:9
-enum-told : tie.Need-enum-told
-enum-told c =
-    search needs
-
--- src/rules.rt:48:9
-same-length-2 : tie.Need-same-length-2
-same-length-2 c =
-    search needs
-
--- src/rules.rt:48:9
 returns-2 : tie.Need-returns-2
 unfolding builtOf
 returns-2 c =
@@ -76,12 +47,6 @@ returns-2 c =
     let ask = c .before .before .before .before .before .before .before .before .before .before .before .before .pre in
     left-pattern (a .work .now) (a .dots) (a .literals) (a .p) (a .q) (a .w) (a .next) (a .top) ask (c .before .before .before .before .pattern .last .0) _ (c .enum-told .given .1) (c .before .before .before .before .pattern .ensures)
 
--- src/rules.rt:50:42
-slice-aggregate-template : tie.Need-slice-aggregate-template
-slice-aggregate-template c =
-    search needs
-
--- src/rules.rt:50:9
 template-requires : tie.Need-template-requires
 template-requires c κs =
     let a = c .before .before .before .before .before .before .before .before .before .before .before .before .before .before .before .args in
@@ -92,27 +57,6 @@ template-requires c κs =
     let pattern = made-pattern (a .work .now) (a .dots) (a .literals) (a .p) (a .q) (a .w) (a .next) (a .top) ask (p .last .0) _ _ _ _ (c .before .before .before .a .given .1) (p .ensures) in
     (asks-q (a .work .now) (a .dots) (a .literals) (a .p) (a .q) (a .w) (a .next) (a .top) ask _ (g .last .1 .0) _ stored (p .last .0) _ _ _ (p .kept .0) pattern, stored .held .most, omega (arith, g .kept .1 .0), under-top (a .work .now) (a .dots) (a .literals) (a .p) (a .q) (a .w) (a .next) (a .top) ask _ (g .last .1 .0) _ stored (p .last .0) _ _ _ (p .kept .0) pattern, dots-still (a .work .now) (a .dots) (a .literals) (a .p) (a .q) (a .w) (a .next) (a .top) ask _ (g .last .1 .0) _ stored (p .last .0) _ _ _ (p .kept .0) pattern, small-q (a .work .now) (a .dots) (a .literals) (a .p) (a .q) (a .w) (a .next) (a .top) ask _ (g .last .1 .0) _ stored (p .last .0) _ _ _ (p .kept .0) pattern)
 
--- src/rules.rt:51:27
-parts-requires : tie.Need-parts-requires
-parts-requires c κs =
-    search needs
-
--- src/rules.rt:51:19
-enum-known-b : tie.Need-enum-known-b
-enum-known-b c =
-    search needs
-
--- src/rules.rt:52:9
-enum-told-2 : tie.Need-enum-told-2
-enum-told-2 c =
-    search needs
-
--- src/rules.rt:52:9
-same-length-3 : tie.Need-same-length-3
-same-length-3 c =
-    search needs
-
--- src/rules.rt:52:9
 returns-3 : tie.Need-returns-3
 unfolding builtOf
 returns-3 c =
@@ -125,7 +69,6 @@ returns-3 c =
     let q = c .before .before .before .before .before .template in
     left-template (a .work .now) (a .dots) (a .literals) (a .p) (a .q) (a .w) (a .next) (a .top) ask _ (g .last .1 .0) _ stored (p .last .0) _ _ _ (p .kept .0) pattern (q .last .0) (builtOf (q .result)) (sym (c .before .before .parts .ensures) ∙ c .enum-told2 .given .1) (q .ensures)
 
--- src/rules.rt:54:9
 put-rule-requires : tie.Need-put-rule-requires
 put-rule-requires c κs =
     let a = c .before .before .before .before .before .before .before .before .before .before .before .before .before .before .before .before .before .before .before .before .before .before .before .args in
@@ -138,17 +81,6 @@ put-rule-requires c κs =
     let template = made-template (a .work .now) (a .dots) (a .literals) (a .p) (a .q) (a .w) (a .next) (a .top) ask _ (g .last .1 .0) _ stored (p .last .0) _ _ _ (p .kept .0) pattern (q .last .0) (builtOf (q .result)) _ _ (sym (c .before .before .before .before .parts .ensures) ∙ c .before .before .b .given .1) (q .ensures) in
     rule-asks (a .work .now) (a .dots) (a .literals) (a .p) (a .q) (a .w) (a .next) (a .top) ask _ (g .last .1 .0) _ stored (p .last .0) _ _ _ (p .kept .0) pattern (q .last .0) _ _ (q .kept .0) template
 
--- src/rules.rt:55:5
-pair-requires : tie.Need-pair-requires
-pair-requires c κs =
-    search needs
-
--- src/rules.rt:29:1
-same-length-4 : tie.Need-same-length-4
-same-length-4 c =
-    search needs
-
--- src/rules.rt:29:1
 returns-4 : tie.Need-returns-4
 returns-4 c =
     let a = c .before .before .before .before .before .before .before .before .before .before .before .before .before .before .before .before .before .before .before .before .before .before .before .before .before .before .before .args in
@@ -166,23 +98,23 @@ pub rule-parts-spec : {M : Type 1} → statement M
 rule-parts-spec =
     tie.close
     (tie.spec
-    slice-aggregate-gather
+    (λ c. search needs)  -- slice-aggregate-gather
     gather-requires
-    same-length
+    (λ c. search needs)  -- same-length
     returns
     pattern-requires
-    enum-known-a
-    enum-told
-    same-length-2
+    (λ c. search needs)  -- enum-known-a
+    (λ c. search needs)  -- enum-told
+    (λ c. search needs)  -- same-length-2
     returns-2
-    slice-aggregate-template
+    (λ c. search needs)  -- slice-aggregate-template
     template-requires
-    parts-requires
-    enum-known-b
-    enum-told-2
-    same-length-3
+    (λ c κs. search needs)  -- parts-requires
+    (λ c. search needs)  -- enum-known-b
+    (λ c. search needs)  -- enum-told-2
+    (λ c. search needs)  -- same-length-3
     returns-3
     put-rule-requires
-    pair-requires
-    same-length-4
+    (λ c κs. search needs)  -- pair-requires
+    (λ c. search needs)  -- same-length-4
     returns-4)

@@ -11,42 +11,14 @@ use Rattle.rule_cells.proofs.dots.is_ellipsis.Reads as is-ellipsis-read
 use mathlib.Core.Path.{refl, sym, ap, _∙_}
 use Rattle.rule_cells.specs.RuleListLaws.{shape-no, shape-other, shape-by}
 
--- src/rules.rt:62:8
-is-list-of-requires : tie.Need-is-list-of-requires
-is-list-of-requires c κs =
-    search needs
-
--- src/rules.rt:63:13
-first-requires : tie.Need-first-requires
-first-requires c κs =
-    search needs
-
--- src/rules.rt:64:13
-first-requires-2 : tie.Need-first-requires-2
-first-requires-2 c κs =
-    search needs
-
--- src/rules.rt:65:12
-word-requires : tie.Need-word-requires
-word-requires c κs =
-    search needs
-
--- src/rules.rt:66:13
 returns : tie.Need-returns
 returns c =
     let a = c .before .before .before .before .before .before .before .args in shape-other (a .work .now) (a .dots) (a .node) (a .w) _ _ (sym (c .before .before .before .before .if1 .taken) ∙ c .before .before .before .before .before .is-list-of .ensures (a .w)) (c .before .before .before .first .ensures) (c .before .before .first2 .ensures) (λ z. c .if2 .taken (c .before .word .ensures ∙ z))
 
--- src/rules.rt:68:17
-is-ellipsis-requires : tie.Need-is-ellipsis-requires
-is-ellipsis-requires c κs =
-    search needs
-
--- src/rules.rt:68:9
 returns-2 : tie.Need-returns-2
 returns-2 c =
     let a = c .before .before .before .before .before .before .before .before .args in shape-by (a .work .now) (a .dots) (a .node) (a .w) _ _ (sym (c .before .before .before .before .before .if1 .taken) ∙ c .before .before .before .before .before .before .is-list-of .ensures (a .w)) (c .before .before .before .before .first .ensures) (c .before .before .before .first2 .ensures) _ (sym (c .before .before .word .ensures) ∙ c .before .if2 .left) (c .is-ellipsis .ensures)
 
--- src/rules.rt:59:1
 returns-3 : tie.Need-returns-3
 returns-3 c =
     let a = c .before .before .before .args in shape-no (a .work .now) (a .dots) (a .node) (a .w) (sym (c .if1 .left) ∙ c .before .is-list-of .ensures (a .w))
@@ -55,11 +27,11 @@ pub rule-shape-spec : {M : Type 1} → statement M
 rule-shape-spec =
     tie.close
     (tie.spec
-    is-list-of-requires
-    first-requires
-    first-requires-2
-    word-requires
+    (λ c κs. search needs)  -- is-list-of-requires
+    (λ c κs. search needs)  -- first-requires
+    (λ c κs. search needs)  -- first-requires-2
+    (λ c κs. search needs)  -- word-requires
     returns
-    is-ellipsis-requires
+    (λ c κs. search needs)  -- is-ellipsis-requires
     returns-2
     returns-3)

@@ -14,52 +14,14 @@ use Rattle.words.specs.Packed.{builtOf}
 use Rattle.rule_cells.specs.RuleListLaws.{dots-under, left-no-form, asks-list, literals-under, left-form}
 use mathlib.Core.Path.{sym, _∙_}
 
--- src/rules.rt:118:8
-is-rules-form-requires : tie.Need-is-rules-form-requires
-is-rules-form-requires c κs =
-    search needs
-
--- src/rules.rt:119:13
-ellipsis-requires : tie.Need-ellipsis-requires
-ellipsis-requires c κs =
-    search needs
-
--- src/rules.rt:120:13
-after-chosen-requires : tie.Need-after-chosen-requires
-after-chosen-requires c κs =
-    search needs
-
--- src/rules.rt:121:13
-first-requires : tie.Need-first-requires
-first-requires c κs =
-    search needs
-
--- src/rules.rt:122:13
-rest-requires : tie.Need-rest-requires
-rest-requires c κs =
-    search needs
-
--- src/rules.rt:123:9
 rule-list-requires : tie.Need-rule-list-requires
 rule-list-requires c κs =
     let a = c .before .before .before .before .before .before .before .before .before .before .before .before .before .args in (asks-list (a .work .now) (a .node) (a .w) (a .top) (c .before .before .before .before .before .before .before .before .before .before .before .before .before .pre) _ _ _ _ (c .before .before .before .before .before .before .before .ellipsis .ensures) (c .before .before .before .before .before .after-chosen .ensures) (c .before .before .before .first .ensures) (c .before .rest .ensures), dots-under (a .work .now) (a .node) (a .w) (a .top) (c .before .before .before .before .before .before .before .before .before .before .before .before .before .pre) _ _ _ _ (c .before .before .before .before .before .before .before .ellipsis .ensures) (c .before .before .before .before .before .after-chosen .ensures) (c .before .before .before .first .ensures) (c .before .rest .ensures), literals-under (a .work .now) (a .node) (a .w) (a .top) (c .before .before .before .before .before .before .before .before .before .before .before .before .before .pre) _ _ _ _ (c .before .before .before .before .before .before .before .ellipsis .ensures) (c .before .before .before .before .before .after-chosen .ensures) (c .before .before .before .first .ensures) (c .before .rest .ensures))
 
--- src/rules.rt:123:9
-same-length : tie.Need-same-length
-same-length c =
-    search needs
-
--- src/rules.rt:123:9
 returns : tie.Need-returns
 returns c =
     let a = c .before .before .before .before .before .before .before .before .before .before .before .before .before .before .before .before .args in left-form (a .work .now) (a .node) (a .w) (a .top) (c .before .before .before .before .before .before .before .before .before .before .before .before .before .before .before .before .pre) _ _ _ _ (c .before .before .before .before .before .before .before .before .before .before .ellipsis .ensures) (c .before .before .before .before .before .before .before .before .after-chosen .ensures) (c .before .before .before .before .before .before .first .ensures) (c .before .before .before .before .rest .ensures) (c .before .before .rule-list .last .0) (builtOf (c .before .before .rule-list .result)) (sym (c .before .before .before .before .before .before .before .before .before .before .before .before .if1 .taken) ∙ c .before .before .before .before .before .before .before .before .before .before .before .before .before .is-rules-form .ensures) (c .before .before .rule-list .ensures)
 
--- src/rules.rt:114:1
-same-length-2 : tie.Need-same-length-2
-same-length-2 c =
-    search needs
-
--- src/rules.rt:114:1
 returns-2 : tie.Need-returns-2
 unfolding builtOf
 returns-2 c =
@@ -69,13 +31,13 @@ pub rules-spec : {M : Type 1} → statement M
 rules-spec =
     tie.close
     (tie.spec
-    is-rules-form-requires
-    ellipsis-requires
-    after-chosen-requires
-    first-requires
-    rest-requires
+    (λ c κs. search needs)  -- is-rules-form-requires
+    (λ c κs. search needs)  -- ellipsis-requires
+    (λ c κs. search needs)  -- after-chosen-requires
+    (λ c κs. search needs)  -- first-requires
+    (λ c κs. search needs)  -- rest-requires
     rule-list-requires
-    same-length
+    (λ c. search needs)  -- same-length
     returns
-    same-length-2
+    (λ c. search needs)  -- same-length-2
     returns-2)

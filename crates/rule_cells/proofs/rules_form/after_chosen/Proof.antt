@@ -10,32 +10,26 @@ use Rattle.arena.proofs.lists.rest.Reads as rest-reads
 use mathlib.Core.Path.{refl, sym, ap, _∙_}
 use Rattle.rule_cells.specs.Forms.{after-chosen, after-plain}
 
--- src/rules_form.rt:100:9
 rest-requires : tie.Need-rest-requires
 rest-requires c κs =
     search needs
 
--- src/rules_form.rt:101:9
 first-requires : tie.Need-first-requires
 first-requires c κs =
     search needs
 
--- src/rules_form.rt:102:8
 word-requires : tie.Need-word-requires
 word-requires c κs =
     search needs
 
--- src/rules_form.rt:103:9
 rest-requires-2 : tie.Need-rest-requires-2
 rest-requires-2 c κs =
     search needs
 
--- src/rules_form.rt:103:9
 returns : tie.Need-returns
 returns c =
     let a = c .before .before .before .before .before .before .args in after-chosen (a .work .now) (a .node) _ _ (c .before .before .before .before .rest .ensures) (c .before .before .before .first .ensures) _ (sym (c .before .before .word .ensures) ∙ c .before .if1 .taken) (c .rest2 .ensures)
 
--- src/rules_form.rt:97:1
 returns-2 : tie.Need-returns-2
 returns-2 c =
     let a = c .before .before .before .before .before .args in after-plain (a .work .now) (a .node) _ _ (c .before .before .before .rest .ensures) (c .before .before .first .ensures) (λ z. c .if1 .left (c .before .word .ensures ∙ z))

@@ -23,52 +23,27 @@ abbrev μ-loop : tie.MeasureT-loop
 μ-loop work dots node w at₀ at =
     at
 
--- src/rules_form.rt:38:5
 loop-holds : tie.Need-loop-holds Inv-loop μ-loop
 loop-holds c =
     λ r h. h
 
--- src/rules_form.rt:38:11
-word-requires : tie.Need-word-requires Inv-loop μ-loop
-word-requires c κs =
-    search needs
-
--- src/rules_form.rt:39:13
-reference-requires : tie.Need-reference-requires Inv-loop μ-loop
-reference-requires c κs =
-    search needs
-
--- src/rules_form.rt:40:12
-may-be-listed-requires : tie.Need-may-be-listed-requires Inv-loop μ-loop
-may-be-listed-requires c κs =
-    search needs
-
--- src/rules_form.rt:41:13
-reference-requires-2 : tie.Need-reference-requires-2 Inv-loop μ-loop
-reference-requires-2 c κs =
-    search needs
-
--- src/rules_form.rt:38:5
 loop-less : tie.Need-loop-less Inv-loop μ-loop
 loop-less c =
     let l = c .before .before .before .before .before .before .loop in
     omega (arith, c .reference2 .ensures, pair-falls (c .before .before .before .before .before .before .before .before .args .work .now) (l .at) 1 (sym (c .before .before .before .before .before .word .ensures) ∙ c .before .before .before .before .if1 .taken))
 
--- src/rules_form.rt:38:5
 loop-again : tie.Need-loop-again Inv-loop μ-loop
 loop-again c =
     let a = c .before .before .before .before .before .before .before .before .args in
     let l = c .before .before .before .before .before .before .loop in
     λ r h. l .inv r (all-more (a .work .now) (a .dots) (a .w) (l .at) _ (sym (c .before .before .before .before .before .word .ensures) ∙ c .before .before .before .before .if1 .taken) (c .before .before .before .reference .ensures) _ r (c .reference2 .ensures) (sym (c .before .if2 .taken) ∙ c .before .before .may-be-listed .ensures) h)
 
--- src/rules_form.rt:43:13
 returns : tie.Need-returns Inv-loop μ-loop
 returns c =
     let a = c .before .before .before .before .before .before .before .args in
     let l = c .before .before .before .before .before .loop in
     l .inv false (all-no (a .work .now) (a .dots) (a .w) (l .at) _ (sym (c .before .before .before .before .word .ensures) ∙ c .before .before .before .if1 .taken) (c .before .before .reference .ensures) (sym (c .if2 .left) ∙ c .before .may-be-listed .ensures))
 
--- src/rules_form.rt:34:1
 returns-2 : tie.Need-returns-2 Inv-loop μ-loop
 returns-2 c =
     let a = c .before .before .before .before .args in
@@ -82,10 +57,10 @@ all-listed-spec =
     Inv-loop
     μ-loop
     loop-holds
-    word-requires
-    reference-requires
-    may-be-listed-requires
-    reference-requires-2
+    (λ c κs. search needs)  -- word-requires
+    (λ c κs. search needs)  -- reference-requires
+    (λ c κs. search needs)  -- may-be-listed-requires
+    (λ c κs. search needs)  -- reference-requires-2
     loop-less
     loop-again
     returns

@@ -9,22 +9,18 @@ use Rattle.resolution.proofs.names.is_ordinary.Reads as is-ordinary-reads
 use mathlib.Core.Path.{refl, sym, ap, _∙_}
 use Rattle.rule_cells.specs.Forms.{chosen-other, chosen-name}
 
--- src/rules_form.rt:79:8
 word-requires : tie.Need-word-requires
 word-requires c κs =
     search needs
 
--- src/rules_form.rt:80:9
 returns : tie.Need-returns
 returns c =
     let a = c .before .before .before .args in chosen-other (a .work .now) (a .second) (λ z. c .if1 .taken (c .before .word .ensures ∙ z))
 
--- src/rules_form.rt:82:5
 is-ordinary-requires : tie.Need-is-ordinary-requires
 is-ordinary-requires c κs =
     search needs
 
--- src/rules_form.rt:76:1
 returns-2 : tie.Need-returns-2
 returns-2 c =
     let a = c .before .before .before .before .args in chosen-name (a .work .now) (a .second) _ (sym (c .before .before .word .ensures) ∙ c .before .if1 .left) (c .is-ordinary .ensures)

@@ -9,22 +9,18 @@ use Rattle.arena.proofs.lists.element.Reads as element-reads
 use mathlib.Core.Path.{refl, sym, ap, _∙_}
 use Rattle.rule_cells.specs.Forms.{ellipsis-chosen, ellipsis-default}
 
--- src/rules_form.rt:89:9
 element-requires : tie.Need-element-requires
 element-requires c κs =
     search needs
 
--- src/rules_form.rt:90:8
 word-requires : tie.Need-word-requires
 word-requires c κs =
     search needs
 
--- src/rules_form.rt:91:9
 returns : tie.Need-returns
 returns c =
     let a = c .before .before .before .before .args in ellipsis-chosen (a .work .now) (a .node) _ (c .before .before .element .ensures) (sym (c .before .word .ensures) ∙ c .if1 .taken)
 
--- src/rules_form.rt:86:1
 returns-2 : tie.Need-returns-2
 returns-2 c =
     let a = c .before .before .before .before .args in ellipsis-default (a .work .now) (a .node) _ (c .before .before .element .ensures) (λ z. c .if1 .left (c .before .word .ensures ∙ z))

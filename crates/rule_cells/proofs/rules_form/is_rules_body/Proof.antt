@@ -13,47 +13,14 @@ use Rattle.rule_cells.proofs.rules_form.literals_good.Reads as literals
 use mathlib.Core.Path.{refl, sym, ap, _∙_}
 use Rattle.rule_cells.specs.Forms.{body-literals, body-none, body-some}
 
--- src/rules_form.rt:112:9
-ellipsis-requires : tie.Need-ellipsis-requires
-ellipsis-requires c κs =
-    search needs
-
--- src/rules_form.rt:113:9
-after-chosen-requires : tie.Need-after-chosen-requires
-after-chosen-requires c κs =
-    search needs
-
--- src/rules_form.rt:114:9
-first-requires : tie.Need-first-requires
-first-requires c κs =
-    search needs
-
--- src/rules_form.rt:115:8
-literals-good-requires : tie.Need-literals-good-requires
-literals-good-requires c κs =
-    search needs
-
--- src/rules_form.rt:116:13
-rest-requires : tie.Need-rest-requires
-rest-requires c κs =
-    search needs
-
--- src/rules_form.rt:117:13
-count-requires : tie.Need-count-requires
-count-requires c κs =
-    search needs
-
--- src/rules_form.rt:119:13
 returns : tie.Need-returns
 returns c =
     let a = c .before .before .before .before .before .before .before .before .before .args in body-none (a .work .now) (a .node) (a .w) _ _ _ (c .before .before .before .before .before .before .before .ellipsis .ensures) (c .before .before .before .before .before .before .after-chosen .ensures) (c .before .before .before .before .before .first .ensures) (sym (c .before .before .before .if1 .taken) ∙ c .before .before .before .before .literals-good .ensures) _ _ (c .before .before .rest .ensures) (c .before .count .ensures) (c .if2 .taken)
 
--- src/rules_form.rt:121:9
 returns-2 : tie.Need-returns-2
 returns-2 c =
     let a = c .before .before .before .before .before .before .before .before .before .args in body-some (a .work .now) (a .node) (a .w) _ _ _ (c .before .before .before .before .before .before .before .ellipsis .ensures) (c .before .before .before .before .before .before .after-chosen .ensures) (c .before .before .before .before .before .first .ensures) (sym (c .before .before .before .if1 .taken) ∙ c .before .before .before .before .literals-good .ensures) _ _ (c .before .before .rest .ensures) (c .before .count .ensures) (c .if2 .left)
 
--- src/rules_form.rt:109:1
 returns-3 : tie.Need-returns-3
 returns-3 c =
     let a = c .before .before .before .before .before .before .args in body-literals (a .work .now) (a .node) (a .w) _ _ _ (c .before .before .before .before .ellipsis .ensures) (c .before .before .before .after-chosen .ensures) (c .before .before .first .ensures) (sym (c .if1 .left) ∙ c .before .literals-good .ensures)
@@ -62,12 +29,12 @@ pub is-rules-body-spec : {M : Type 1} → statement M
 is-rules-body-spec =
     tie.close
     (tie.spec
-    ellipsis-requires
-    after-chosen-requires
-    first-requires
-    literals-good-requires
-    rest-requires
-    count-requires
+    (λ c κs. search needs)  -- ellipsis-requires
+    (λ c κs. search needs)  -- after-chosen-requires
+    (λ c κs. search needs)  -- first-requires
+    (λ c κs. search needs)  -- literals-good-requires
+    (λ c κs. search needs)  -- rest-requires
+    (λ c κs. search needs)  -- count-requires
     returns
     returns-2
     returns-3)

@@ -10,32 +10,26 @@ use Rattle.rule_cells.proofs.rules_form.all_listed.Reads as all-listed-
 use mathlib.Core.Path.{refl, sym, ap, _∙_}
 use Rattle.rule_cells.specs.Forms.{literals-no, literals-other, literals-most}
 
--- src/rules_form.rt:53:8
 is-list-requires : tie.Need-is-list-requires
 is-list-requires c κs =
     search needs
 
--- src/rules_form.rt:54:12
 all-listed-requires : tie.Need-all-listed-requires
 all-listed-requires c κs =
     search needs
 
--- src/rules_form.rt:55:20
 count-requires : tie.Need-count-requires
 count-requires c κs =
     search needs
 
--- src/rules_form.rt:55:13
 returns : tie.Need-returns
 returns c =
     let a = c .before .before .before .before .before .before .args in literals-most (a .work .now) (a .dots) (a .w) (a .node) (sym (c .before .before .before .if1 .taken) ∙ c .before .before .before .before .is-list .ensures (a .w)) _ (sym (c .before .if2 .taken) ∙ c .before .before .all-listed .ensures) (c .count .ensures)
 
--- src/rules_form.rt:57:9
 returns-2 : tie.Need-returns-2
 returns-2 c =
     let a = c .before .before .before .before .before .args in literals-other (a .work .now) (a .dots) (a .w) (a .node) (sym (c .before .before .if1 .taken) ∙ c .before .before .before .is-list .ensures (a .w)) (sym (c .if2 .left) ∙ c .before .all-listed .ensures)
 
--- src/rules_form.rt:50:1
 returns-3 : tie.Need-returns-3
 returns-3 c =
     let a = c .before .before .before .args in literals-no (a .work .now) (a .dots) (a .w) (a .node) (sym (c .if1 .left) ∙ c .before .is-list .ensures (a .w))

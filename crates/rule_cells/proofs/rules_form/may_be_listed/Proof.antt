@@ -10,32 +10,26 @@ use Rattle.rule_cells.proofs.dots.is_ellipsis.Reads as is-ellipsis-read
 use mathlib.Core.Path.{refl, sym, ap, _∙_}
 use Rattle.rule_cells.specs.Forms.{listed-no, listed-dots, listed-by}
 
--- src/rules_form.rt:24:8
 word-requires : tie.Need-word-requires
 word-requires c κs =
     search needs
 
--- src/rules_form.rt:25:9
 returns : tie.Need-returns
 returns c =
     let a = c .before .before .before .args in listed-no (a .work .now) (a .dots) (a .w) (a .node) (λ z. c .if1 .taken (c .before .word .ensures ∙ z))
 
--- src/rules_form.rt:27:8
 is-ellipsis-requires : tie.Need-is-ellipsis-requires
 is-ellipsis-requires c κs =
     search needs
 
--- src/rules_form.rt:28:9
 returns-2 : tie.Need-returns-2
 returns-2 c =
     let a = c .before .before .before .before .before .args in listed-dots (a .work .now) (a .dots) (a .w) (a .node) (sym (c .before .before .before .word .ensures) ∙ c .before .before .if1 .left) (sym (c .if2 .taken) ∙ c .before .is-ellipsis .ensures)
 
--- src/rules_form.rt:30:5
 number-of-requires : tie.Need-number-of-requires
 number-of-requires c κs =
     search needs
 
--- src/rules_form.rt:21:1
 returns-3 : tie.Need-returns-3
 returns-3 c =
     let a = c .before .before .before .before .before .before .args in listed-by (a .work .now) (a .dots) (a .w) (a .node) (sym (c .before .before .before .before .word .ensures) ∙ c .before .before .before .if1 .left) _ (sym (c .before .if2 .left) ∙ c .before .before .is-ellipsis .ensures) (c .number-of .ensures)

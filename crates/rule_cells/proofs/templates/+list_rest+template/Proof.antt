@@ -56,202 +56,24 @@ abbrev template-below : ℕ → In 2 template-kinds.ps
 template-below t =
     and 2 template-kinds.ps (falls 2 template-kinds.ps _<_ μ-template t) template.Pre
 
--- src/templates.rt:155:8
-list-rest-word-requires : (t : ℕ) → list-rest-lts.Need-word-requires (
-  word-reads.Asked,
-  word-reads.Learnt,
-  template-leaf-reads.Asked,
-  template-leaf-reads.Learnt,
-  reference-reads.Asked,
-  reference-reads.Learnt,
-  list-rest-below t,
-  list-rest.Post,
-  dots-next-reads.Asked,
-  dots-next-reads.Learnt,
-  element-depth-reads.Asked,
-  element-depth-reads.Learnt,
-  template-below t,
-  template.Post,
-  parts-reads.Asked,
-  parts-reads.Learnt,
-  accepted-reads.Asked,
-  accepted-reads.Learnt,
-  put-list-reads.Asked,
-  put-list-reads.Learnt,
-  pair-reads.Asked,
-  pair-reads.Learnt,
-) (list-rest-at t) list-rest.Post
-list-rest-word-requires t c κs =
-    search needs
+abbrev list-rest-claims : ℕ → list-rest-lts.Claims
+list-rest-claims t = (word-reads.Asked, word-reads.Learnt, template-leaf-reads.Asked, template-leaf-reads.Learnt, reference-reads.Asked, reference-reads.Learnt, list-rest-below t, list-rest.Post, dots-next-reads.Asked, dots-next-reads.Learnt, element-depth-reads.Asked, element-depth-reads.Learnt, template-below t, template.Post, parts-reads.Asked, parts-reads.Learnt, accepted-reads.Asked, accepted-reads.Learnt, put-list-reads.Asked, put-list-reads.Learnt, pair-reads.Asked, pair-reads.Learnt)
 
--- src/templates.rt:156:9
-list-rest-template-leaf-requires : (t : ℕ) → list-rest-lts.Need-template-leaf-requires (
-  word-reads.Asked,
-  word-reads.Learnt,
-  template-leaf-reads.Asked,
-  template-leaf-reads.Learnt,
-  reference-reads.Asked,
-  reference-reads.Learnt,
-  list-rest-below t,
-  list-rest.Post,
-  dots-next-reads.Asked,
-  dots-next-reads.Learnt,
-  element-depth-reads.Asked,
-  element-depth-reads.Learnt,
-  template-below t,
-  template.Post,
-  parts-reads.Asked,
-  parts-reads.Learnt,
-  accepted-reads.Asked,
-  accepted-reads.Learnt,
-  put-list-reads.Asked,
-  put-list-reads.Learnt,
-  pair-reads.Asked,
-  pair-reads.Learnt,
-) (list-rest-at t) list-rest.Post
+abbrev template-claims : ℕ → template-lts.Claims
+template-claims t = (word-reads.Asked, word-reads.Learnt, template-leaf-reads.Asked, template-leaf-reads.Learnt, dots-next-reads.Asked, dots-next-reads.Learnt, reference-reads.Asked, reference-reads.Learnt, is-list-of-reads.Asked, is-list-of-reads.Learnt, first-reads.Asked, first-reads.Learnt, template-below t, template.Post, list-rest-below t, list-rest.Post)
+
+list-rest-template-leaf-requires : (t : ℕ) → list-rest-lts.Need-template-leaf-requires (list-rest-claims t) (list-rest-at t) list-rest.Post
 list-rest-template-leaf-requires t c κs =
     let p = c .before .before .before .before .before .before .pre in
     (p .1 .0, p .1 .1, p .1 .2, λ z. c .before .if1 .taken (c .before .before .word .ensures ∙ z))
 
--- src/templates.rt:156:9
-list-rest-same-length : (t : ℕ) → list-rest-lts.Need-same-length (
-  word-reads.Asked,
-  word-reads.Learnt,
-  template-leaf-reads.Asked,
-  template-leaf-reads.Learnt,
-  reference-reads.Asked,
-  reference-reads.Learnt,
-  list-rest-below t,
-  list-rest.Post,
-  dots-next-reads.Asked,
-  dots-next-reads.Learnt,
-  element-depth-reads.Asked,
-  element-depth-reads.Learnt,
-  template-below t,
-  template.Post,
-  parts-reads.Asked,
-  parts-reads.Learnt,
-  accepted-reads.Asked,
-  accepted-reads.Learnt,
-  put-list-reads.Asked,
-  put-list-reads.Learnt,
-  pair-reads.Asked,
-  pair-reads.Learnt,
-) (list-rest-at t) list-rest.Post
-list-rest-same-length t c =
-    search needs
-
--- src/templates.rt:156:9
-list-rest-returns : (t : ℕ) → list-rest-lts.Need-returns (
-  word-reads.Asked,
-  word-reads.Learnt,
-  template-leaf-reads.Asked,
-  template-leaf-reads.Learnt,
-  reference-reads.Asked,
-  reference-reads.Learnt,
-  list-rest-below t,
-  list-rest.Post,
-  dots-next-reads.Asked,
-  dots-next-reads.Learnt,
-  element-depth-reads.Asked,
-  element-depth-reads.Learnt,
-  template-below t,
-  template.Post,
-  parts-reads.Asked,
-  parts-reads.Learnt,
-  accepted-reads.Asked,
-  accepted-reads.Learnt,
-  put-list-reads.Asked,
-  put-list-reads.Learnt,
-  pair-reads.Asked,
-  pair-reads.Learnt,
-) (list-rest-at t) list-rest.Post
+list-rest-returns : (t : ℕ) → list-rest-lts.Need-returns (list-rest-claims t) (list-rest-at t) list-rest.Post
 list-rest-returns t c =
     let a = c .before .before .before .before .before .before .before .before .before .args in
     let l = c .before .before .template-leaf in
     left-leaf (dotsAt (a .work .now) (a .dots) (a .w)) (variablesFrom (a .work .now) (a .w) (a .vars .now) 0 (a .count)) (a .d) (restPlace (a .taken)) (a .work .now) (a .node) (a .w) (a .top) (l .last .0) (builtOf (l .result)) (λ z. c .before .before .before .before .if1 .taken (c .before .before .before .before .before .word .ensures ∙ z)) (l .ensures)
 
--- src/templates.rt:158:9
-list-rest-reference-requires : (t : ℕ) → list-rest-lts.Need-reference-requires (
-  word-reads.Asked,
-  word-reads.Learnt,
-  template-leaf-reads.Asked,
-  template-leaf-reads.Learnt,
-  reference-reads.Asked,
-  reference-reads.Learnt,
-  list-rest-below t,
-  list-rest.Post,
-  dots-next-reads.Asked,
-  dots-next-reads.Learnt,
-  element-depth-reads.Asked,
-  element-depth-reads.Learnt,
-  template-below t,
-  template.Post,
-  parts-reads.Asked,
-  parts-reads.Learnt,
-  accepted-reads.Asked,
-  accepted-reads.Learnt,
-  put-list-reads.Asked,
-  put-list-reads.Learnt,
-  pair-reads.Asked,
-  pair-reads.Learnt,
-) (list-rest-at t) list-rest.Post
-list-rest-reference-requires t c κs =
-    search needs
-
--- src/templates.rt:159:9
-list-rest-reference-requires-2 : (t : ℕ) → list-rest-lts.Need-reference-requires-2 (
-  word-reads.Asked,
-  word-reads.Learnt,
-  template-leaf-reads.Asked,
-  template-leaf-reads.Learnt,
-  reference-reads.Asked,
-  reference-reads.Learnt,
-  list-rest-below t,
-  list-rest.Post,
-  dots-next-reads.Asked,
-  dots-next-reads.Learnt,
-  element-depth-reads.Asked,
-  element-depth-reads.Learnt,
-  template-below t,
-  template.Post,
-  parts-reads.Asked,
-  parts-reads.Learnt,
-  accepted-reads.Asked,
-  accepted-reads.Learnt,
-  put-list-reads.Asked,
-  put-list-reads.Learnt,
-  pair-reads.Asked,
-  pair-reads.Learnt,
-) (list-rest-at t) list-rest.Post
-list-rest-reference-requires-2 t c κs =
-    search needs
-
--- src/templates.rt:161:9
-list-rest-list-rest-requires : (t : ℕ) → list-rest-lts.Need-list-rest-requires (
-  word-reads.Asked,
-  word-reads.Learnt,
-  template-leaf-reads.Asked,
-  template-leaf-reads.Learnt,
-  reference-reads.Asked,
-  reference-reads.Learnt,
-  list-rest-below t,
-  list-rest.Post,
-  dots-next-reads.Asked,
-  dots-next-reads.Learnt,
-  element-depth-reads.Asked,
-  element-depth-reads.Learnt,
-  template-below t,
-  template.Post,
-  parts-reads.Asked,
-  parts-reads.Learnt,
-  accepted-reads.Asked,
-  accepted-reads.Learnt,
-  put-list-reads.Asked,
-  put-list-reads.Learnt,
-  pair-reads.Asked,
-  pair-reads.Learnt,
-) (list-rest-at t) list-rest.Post
+list-rest-list-rest-requires : (t : ℕ) → list-rest-lts.Need-list-rest-requires (list-rest-claims t) (list-rest-at t) list-rest.Post
 list-rest-list-rest-requires t c κs =
     let a = c .before .before .before .before .before .before .before .before .before .before .before .args in
     let p = c .before .before .before .before .before .before .before .before .before .before .before .pre in
@@ -262,59 +84,7 @@ list-rest-list-rest-requires t c κs =
     let below = rest-below (a .work .now) (a .node) (a .w) (a .top) asks _ _ is-pair head-is rest-is in
     (omega (arith, p .0, below), (asks-tail (a .work .now) (a .node) (a .w) (a .top) asks _ _ is-pair head-is rest-is, p .1 .1, p .1 .2, p .1 .3, p .1 .4, omega (arith, p .1 .5, below)))
 
--- src/templates.rt:161:9
-list-rest-same-length-2 : (t : ℕ) → list-rest-lts.Need-same-length-2 (
-  word-reads.Asked,
-  word-reads.Learnt,
-  template-leaf-reads.Asked,
-  template-leaf-reads.Learnt,
-  reference-reads.Asked,
-  reference-reads.Learnt,
-  list-rest-below t,
-  list-rest.Post,
-  dots-next-reads.Asked,
-  dots-next-reads.Learnt,
-  element-depth-reads.Asked,
-  element-depth-reads.Learnt,
-  template-below t,
-  template.Post,
-  parts-reads.Asked,
-  parts-reads.Learnt,
-  accepted-reads.Asked,
-  accepted-reads.Learnt,
-  put-list-reads.Asked,
-  put-list-reads.Learnt,
-  pair-reads.Asked,
-  pair-reads.Learnt,
-) (list-rest-at t) list-rest.Post
-list-rest-same-length-2 t c =
-    search needs
-
--- src/templates.rt:161:9
-list-rest-returns-2 : (t : ℕ) → list-rest-lts.Need-returns-2 (
-  word-reads.Asked,
-  word-reads.Learnt,
-  template-leaf-reads.Asked,
-  template-leaf-reads.Learnt,
-  reference-reads.Asked,
-  reference-reads.Learnt,
-  list-rest-below t,
-  list-rest.Post,
-  dots-next-reads.Asked,
-  dots-next-reads.Learnt,
-  element-depth-reads.Asked,
-  element-depth-reads.Learnt,
-  template-below t,
-  template.Post,
-  parts-reads.Asked,
-  parts-reads.Learnt,
-  accepted-reads.Asked,
-  accepted-reads.Learnt,
-  put-list-reads.Asked,
-  put-list-reads.Learnt,
-  pair-reads.Asked,
-  pair-reads.Learnt,
-) (list-rest-at t) list-rest.Post
+list-rest-returns-2 : (t : ℕ) → list-rest-lts.Need-returns-2 (list-rest-claims t) (list-rest-at t) list-rest.Post
 list-rest-returns-2 t c =
     let a = c .before .before .before .before .before .before .before .before .before .before .before .before .before .before .args in
     let p = c .before .before .before .before .before .before .before .before .before .before .before .before .before .before .pre in
@@ -325,59 +95,7 @@ list-rest-returns-2 t c =
     let l = c .before .before .list-rest in
     left-taken (a .work .now) (a .vars .now) (a .count) (a .dots) (a .node) (a .w) (a .d) (a .top) asks (p .1 .3) (p .1 .4) _ _ is-pair head-is rest-is (a .taken) (l .last .0) (builtOf (l .result)) (c .before .before .before .before .if2 .taken) (l .ensures)
 
--- src/templates.rt:163:9
-list-rest-dots-next-requires : (t : ℕ) → list-rest-lts.Need-dots-next-requires (
-  word-reads.Asked,
-  word-reads.Learnt,
-  template-leaf-reads.Asked,
-  template-leaf-reads.Learnt,
-  reference-reads.Asked,
-  reference-reads.Learnt,
-  list-rest-below t,
-  list-rest.Post,
-  dots-next-reads.Asked,
-  dots-next-reads.Learnt,
-  element-depth-reads.Asked,
-  element-depth-reads.Learnt,
-  template-below t,
-  template.Post,
-  parts-reads.Asked,
-  parts-reads.Learnt,
-  accepted-reads.Asked,
-  accepted-reads.Learnt,
-  put-list-reads.Asked,
-  put-list-reads.Learnt,
-  pair-reads.Asked,
-  pair-reads.Learnt,
-) (list-rest-at t) list-rest.Post
-list-rest-dots-next-requires t c κs =
-    search needs
-
--- src/templates.rt:164:9
-list-rest-element-depth-requires : (t : ℕ) → list-rest-lts.Need-element-depth-requires (
-  word-reads.Asked,
-  word-reads.Learnt,
-  template-leaf-reads.Asked,
-  template-leaf-reads.Learnt,
-  reference-reads.Asked,
-  reference-reads.Learnt,
-  list-rest-below t,
-  list-rest.Post,
-  dots-next-reads.Asked,
-  dots-next-reads.Learnt,
-  element-depth-reads.Asked,
-  element-depth-reads.Learnt,
-  template-below t,
-  template.Post,
-  parts-reads.Asked,
-  parts-reads.Learnt,
-  accepted-reads.Asked,
-  accepted-reads.Learnt,
-  put-list-reads.Asked,
-  put-list-reads.Learnt,
-  pair-reads.Asked,
-  pair-reads.Learnt,
-) (list-rest-at t) list-rest.Post
+list-rest-element-depth-requires : (t : ℕ) → list-rest-lts.Need-element-depth-requires (list-rest-claims t) (list-rest-at t) list-rest.Post
 list-rest-element-depth-requires t c κs =
     let a = c .before .before .before .before .before .before .before .before .before .before .before .before .args in
     let p = c .before .before .before .before .before .before .before .before .before .before .before .before .pre in
@@ -387,31 +105,7 @@ list-rest-element-depth-requires t c κs =
     let rest-is = c .before .before .before .reference2 .ensures in
     omega (arith, p .1 .5, head-below (a .work .now) (a .node) (a .w) (a .top) asks _ _ is-pair head-is rest-is)
 
--- src/templates.rt:165:9
-list-rest-template-requires : (t : ℕ) → list-rest-lts.Need-template-requires (
-  word-reads.Asked,
-  word-reads.Learnt,
-  template-leaf-reads.Asked,
-  template-leaf-reads.Learnt,
-  reference-reads.Asked,
-  reference-reads.Learnt,
-  list-rest-below t,
-  list-rest.Post,
-  dots-next-reads.Asked,
-  dots-next-reads.Learnt,
-  element-depth-reads.Asked,
-  element-depth-reads.Learnt,
-  template-below t,
-  template.Post,
-  parts-reads.Asked,
-  parts-reads.Learnt,
-  accepted-reads.Asked,
-  accepted-reads.Learnt,
-  put-list-reads.Asked,
-  put-list-reads.Learnt,
-  pair-reads.Asked,
-  pair-reads.Learnt,
-) (list-rest-at t) list-rest.Post
+list-rest-template-requires : (t : ℕ) → list-rest-lts.Need-template-requires (list-rest-claims t) (list-rest-at t) list-rest.Post
 list-rest-template-requires t c κs =
     let a = c .before .before .before .before .before .before .before .before .before .before .before .before .before .before .args in
     let p = c .before .before .before .before .before .before .before .before .before .before .before .before .before .before .pre in
@@ -423,143 +117,7 @@ list-rest-template-requires t c κs =
     let deeper = deeper-by (dotsAt (a .work .now) (a .dots) (a .w)) (treeAt (a .work .now) _ (a .w)) (a .d) _ _ (c .before .element-depth .ensures) (c .before .before .dots-next .ensures) in
     (omega (arith, p .0, below), (asks-head (a .work .now) (a .node) (a .w) (a .top) asks _ _ is-pair head-is rest-is, p .1 .1, p .1 .2, p .1 .3, p .1 .4, omega (arith, p .1 .5, below, deeper-most _ _ _ _ deeper)))
 
--- src/templates.rt:166:27
-list-rest-parts-requires : (t : ℕ) → list-rest-lts.Need-parts-requires (
-  word-reads.Asked,
-  word-reads.Learnt,
-  template-leaf-reads.Asked,
-  template-leaf-reads.Learnt,
-  reference-reads.Asked,
-  reference-reads.Learnt,
-  list-rest-below t,
-  list-rest.Post,
-  dots-next-reads.Asked,
-  dots-next-reads.Learnt,
-  element-depth-reads.Asked,
-  element-depth-reads.Learnt,
-  template-below t,
-  template.Post,
-  parts-reads.Asked,
-  parts-reads.Learnt,
-  accepted-reads.Asked,
-  accepted-reads.Learnt,
-  put-list-reads.Asked,
-  put-list-reads.Learnt,
-  pair-reads.Asked,
-  pair-reads.Learnt,
-) (list-rest-at t) list-rest.Post
-list-rest-parts-requires t c κs =
-    search needs
-
--- src/templates.rt:166:19
-list-rest-enum-known-a : (t : ℕ) → list-rest-lts.Need-enum-known-a (
-  word-reads.Asked,
-  word-reads.Learnt,
-  template-leaf-reads.Asked,
-  template-leaf-reads.Learnt,
-  reference-reads.Asked,
-  reference-reads.Learnt,
-  list-rest-below t,
-  list-rest.Post,
-  dots-next-reads.Asked,
-  dots-next-reads.Learnt,
-  element-depth-reads.Asked,
-  element-depth-reads.Learnt,
-  template-below t,
-  template.Post,
-  parts-reads.Asked,
-  parts-reads.Learnt,
-  accepted-reads.Asked,
-  accepted-reads.Learnt,
-  put-list-reads.Asked,
-  put-list-reads.Learnt,
-  pair-reads.Asked,
-  pair-reads.Learnt,
-) (list-rest-at t) list-rest.Post
-list-rest-enum-known-a t c =
-    search needs
-
--- src/templates.rt:167:9
-list-rest-enum-told : (t : ℕ) → list-rest-lts.Need-enum-told (
-  word-reads.Asked,
-  word-reads.Learnt,
-  template-leaf-reads.Asked,
-  template-leaf-reads.Learnt,
-  reference-reads.Asked,
-  reference-reads.Learnt,
-  list-rest-below t,
-  list-rest.Post,
-  dots-next-reads.Asked,
-  dots-next-reads.Learnt,
-  element-depth-reads.Asked,
-  element-depth-reads.Learnt,
-  template-below t,
-  template.Post,
-  parts-reads.Asked,
-  parts-reads.Learnt,
-  accepted-reads.Asked,
-  accepted-reads.Learnt,
-  put-list-reads.Asked,
-  put-list-reads.Learnt,
-  pair-reads.Asked,
-  pair-reads.Learnt,
-) (list-rest-at t) list-rest.Post
-list-rest-enum-told t c =
-    search needs
-
--- src/templates.rt:167:9
-list-rest-same-length-3 : (t : ℕ) → list-rest-lts.Need-same-length-3 (
-  word-reads.Asked,
-  word-reads.Learnt,
-  template-leaf-reads.Asked,
-  template-leaf-reads.Learnt,
-  reference-reads.Asked,
-  reference-reads.Learnt,
-  list-rest-below t,
-  list-rest.Post,
-  dots-next-reads.Asked,
-  dots-next-reads.Learnt,
-  element-depth-reads.Asked,
-  element-depth-reads.Learnt,
-  template-below t,
-  template.Post,
-  parts-reads.Asked,
-  parts-reads.Learnt,
-  accepted-reads.Asked,
-  accepted-reads.Learnt,
-  put-list-reads.Asked,
-  put-list-reads.Learnt,
-  pair-reads.Asked,
-  pair-reads.Learnt,
-) (list-rest-at t) list-rest.Post
-list-rest-same-length-3 t c =
-    search needs
-
--- src/templates.rt:167:9
-list-rest-returns-3 : (t : ℕ) → list-rest-lts.Need-returns-3 (
-  word-reads.Asked,
-  word-reads.Learnt,
-  template-leaf-reads.Asked,
-  template-leaf-reads.Learnt,
-  reference-reads.Asked,
-  reference-reads.Learnt,
-  list-rest-below t,
-  list-rest.Post,
-  dots-next-reads.Asked,
-  dots-next-reads.Learnt,
-  element-depth-reads.Asked,
-  element-depth-reads.Learnt,
-  template-below t,
-  template.Post,
-  parts-reads.Asked,
-  parts-reads.Learnt,
-  accepted-reads.Asked,
-  accepted-reads.Learnt,
-  put-list-reads.Asked,
-  put-list-reads.Learnt,
-  pair-reads.Asked,
-  pair-reads.Learnt,
-) (list-rest-at t) list-rest.Post
+list-rest-returns-3 : (t : ℕ) → list-rest-lts.Need-returns-3 (list-rest-claims t) (list-rest-at t) list-rest.Post
 unfolding builtOf
 list-rest-returns-3 t c =
     let a = c .before .before .before .before .before .before .before .before .before .before .before .before .before .before .before .before .before .before .before .before .args in
@@ -574,59 +132,7 @@ list-rest-returns-3 t c =
     let first = c .before .before .before .before .before .template in
     left-bad (a .work .now) (a .vars .now) (a .count) (a .dots) (a .node) (a .w) (a .d) (a .top) asks (p .1 .3) (p .1 .4) _ _ is-pair head-is rest-is (a .taken) _ _ untaken next deeper (first .last .0) (builtOf (first .result)) (sym (c .before .before .parts .ensures) ∙ c .enum-told .given .1) (first .ensures)
 
--- src/templates.rt:169:8
-list-rest-accepted-requires : (t : ℕ) → list-rest-lts.Need-accepted-requires (
-  word-reads.Asked,
-  word-reads.Learnt,
-  template-leaf-reads.Asked,
-  template-leaf-reads.Learnt,
-  reference-reads.Asked,
-  reference-reads.Learnt,
-  list-rest-below t,
-  list-rest.Post,
-  dots-next-reads.Asked,
-  dots-next-reads.Learnt,
-  element-depth-reads.Asked,
-  element-depth-reads.Learnt,
-  template-below t,
-  template.Post,
-  parts-reads.Asked,
-  parts-reads.Learnt,
-  accepted-reads.Asked,
-  accepted-reads.Learnt,
-  put-list-reads.Asked,
-  put-list-reads.Learnt,
-  pair-reads.Asked,
-  pair-reads.Learnt,
-) (list-rest-at t) list-rest.Post
-list-rest-accepted-requires t c κs =
-    search needs
-
--- src/templates.rt:170:13
-list-rest-list-rest-requires-2 : (t : ℕ) → list-rest-lts.Need-list-rest-requires-2 (
-  word-reads.Asked,
-  word-reads.Learnt,
-  template-leaf-reads.Asked,
-  template-leaf-reads.Learnt,
-  reference-reads.Asked,
-  reference-reads.Learnt,
-  list-rest-below t,
-  list-rest.Post,
-  dots-next-reads.Asked,
-  dots-next-reads.Learnt,
-  element-depth-reads.Asked,
-  element-depth-reads.Learnt,
-  template-below t,
-  template.Post,
-  parts-reads.Asked,
-  parts-reads.Learnt,
-  accepted-reads.Asked,
-  accepted-reads.Learnt,
-  put-list-reads.Asked,
-  put-list-reads.Learnt,
-  pair-reads.Asked,
-  pair-reads.Learnt,
-) (list-rest-at t) list-rest.Post
+list-rest-list-rest-requires-2 : (t : ℕ) → list-rest-lts.Need-list-rest-requires-2 (list-rest-claims t) (list-rest-at t) list-rest.Post
 list-rest-list-rest-requires-2 t c κs =
     let a = c .before .before .before .before .before .before .before .before .before .before .before .before .before .before .before .before .before .before .before .before .before .before .before .before .before .args in
     let p = c .before .before .before .before .before .before .before .before .before .before .before .before .before .before .before .before .before .before .before .before .before .before .before .before .before .pre in
@@ -642,143 +148,7 @@ list-rest-list-rest-requires-2 t c κs =
     let below = rest-below (a .work .now) (a .node) (a .w) (a .top) asks _ _ is-pair head-is rest-is in
     (omega (arith, p .0, below), (asks-rest (a .work .now) (a .node) (a .w) (a .top) asks _ _ is-pair head-is rest-is _ _ _ (first .kept .0) (head .grows), p .1 .1, p .1 .2, under-still (a .work .now) (a .vars .now) (a .count) (a .dots) (a .node) (a .w) (a .d) (a .top) asks (p .1 .3) (p .1 .4) _ _ is-pair head-is rest-is (a .taken) _ _ untaken next deeper (first .last .0) _ _ (first .kept .0) head, dots-still (a .work .now) (a .vars .now) (a .count) (a .dots) (a .node) (a .w) (a .d) (a .top) asks (p .1 .3) (p .1 .4) _ _ is-pair head-is rest-is (a .taken) _ _ untaken next deeper (first .last .0) _ _ (first .kept .0) head, omega (arith, p .1 .5, below)))
 
--- src/templates.rt:171:31
-list-rest-parts-requires-2 : (t : ℕ) → list-rest-lts.Need-parts-requires-2 (
-  word-reads.Asked,
-  word-reads.Learnt,
-  template-leaf-reads.Asked,
-  template-leaf-reads.Learnt,
-  reference-reads.Asked,
-  reference-reads.Learnt,
-  list-rest-below t,
-  list-rest.Post,
-  dots-next-reads.Asked,
-  dots-next-reads.Learnt,
-  element-depth-reads.Asked,
-  element-depth-reads.Learnt,
-  template-below t,
-  template.Post,
-  parts-reads.Asked,
-  parts-reads.Learnt,
-  accepted-reads.Asked,
-  accepted-reads.Learnt,
-  put-list-reads.Asked,
-  put-list-reads.Learnt,
-  pair-reads.Asked,
-  pair-reads.Learnt,
-) (list-rest-at t) list-rest.Post
-list-rest-parts-requires-2 t c κs =
-    search needs
-
--- src/templates.rt:171:23
-list-rest-enum-known-b : (t : ℕ) → list-rest-lts.Need-enum-known-b (
-  word-reads.Asked,
-  word-reads.Learnt,
-  template-leaf-reads.Asked,
-  template-leaf-reads.Learnt,
-  reference-reads.Asked,
-  reference-reads.Learnt,
-  list-rest-below t,
-  list-rest.Post,
-  dots-next-reads.Asked,
-  dots-next-reads.Learnt,
-  element-depth-reads.Asked,
-  element-depth-reads.Learnt,
-  template-below t,
-  template.Post,
-  parts-reads.Asked,
-  parts-reads.Learnt,
-  accepted-reads.Asked,
-  accepted-reads.Learnt,
-  put-list-reads.Asked,
-  put-list-reads.Learnt,
-  pair-reads.Asked,
-  pair-reads.Learnt,
-) (list-rest-at t) list-rest.Post
-list-rest-enum-known-b t c =
-    search needs
-
--- src/templates.rt:172:13
-list-rest-enum-told-2 : (t : ℕ) → list-rest-lts.Need-enum-told-2 (
-  word-reads.Asked,
-  word-reads.Learnt,
-  template-leaf-reads.Asked,
-  template-leaf-reads.Learnt,
-  reference-reads.Asked,
-  reference-reads.Learnt,
-  list-rest-below t,
-  list-rest.Post,
-  dots-next-reads.Asked,
-  dots-next-reads.Learnt,
-  element-depth-reads.Asked,
-  element-depth-reads.Learnt,
-  template-below t,
-  template.Post,
-  parts-reads.Asked,
-  parts-reads.Learnt,
-  accepted-reads.Asked,
-  accepted-reads.Learnt,
-  put-list-reads.Asked,
-  put-list-reads.Learnt,
-  pair-reads.Asked,
-  pair-reads.Learnt,
-) (list-rest-at t) list-rest.Post
-list-rest-enum-told-2 t c =
-    search needs
-
--- src/templates.rt:172:13
-list-rest-same-length-4 : (t : ℕ) → list-rest-lts.Need-same-length-4 (
-  word-reads.Asked,
-  word-reads.Learnt,
-  template-leaf-reads.Asked,
-  template-leaf-reads.Learnt,
-  reference-reads.Asked,
-  reference-reads.Learnt,
-  list-rest-below t,
-  list-rest.Post,
-  dots-next-reads.Asked,
-  dots-next-reads.Learnt,
-  element-depth-reads.Asked,
-  element-depth-reads.Learnt,
-  template-below t,
-  template.Post,
-  parts-reads.Asked,
-  parts-reads.Learnt,
-  accepted-reads.Asked,
-  accepted-reads.Learnt,
-  put-list-reads.Asked,
-  put-list-reads.Learnt,
-  pair-reads.Asked,
-  pair-reads.Learnt,
-) (list-rest-at t) list-rest.Post
-list-rest-same-length-4 t c =
-    search needs
-
--- src/templates.rt:172:13
-list-rest-returns-4 : (t : ℕ) → list-rest-lts.Need-returns-4 (
-  word-reads.Asked,
-  word-reads.Learnt,
-  template-leaf-reads.Asked,
-  template-leaf-reads.Learnt,
-  reference-reads.Asked,
-  reference-reads.Learnt,
-  list-rest-below t,
-  list-rest.Post,
-  dots-next-reads.Asked,
-  dots-next-reads.Learnt,
-  element-depth-reads.Asked,
-  element-depth-reads.Learnt,
-  template-below t,
-  template.Post,
-  parts-reads.Asked,
-  parts-reads.Learnt,
-  accepted-reads.Asked,
-  accepted-reads.Learnt,
-  put-list-reads.Asked,
-  put-list-reads.Learnt,
-  pair-reads.Asked,
-  pair-reads.Learnt,
-) (list-rest-at t) list-rest.Post
+list-rest-returns-4 : (t : ℕ) → list-rest-lts.Need-returns-4 (list-rest-claims t) (list-rest-at t) list-rest.Post
 unfolding builtOf
 list-rest-returns-4 t c =
     let a = c .before .before .before .before .before .before .before .before .before .before .before .before .before .before .before .before .before .before .before .before .before .before .before .before .before .before .before .before .before .before .before .args in
@@ -795,31 +165,7 @@ list-rest-returns-4 t c =
     let second = c .before .before .before .before .before .list-rest2 in
     left-bad-rest (a .work .now) (a .vars .now) (a .count) (a .dots) (a .node) (a .w) (a .d) (a .top) asks (p .1 .3) (p .1 .4) _ _ is-pair head-is rest-is (a .taken) _ _ untaken next deeper (first .last .0) _ _ (first .kept .0) head (second .last .0) (builtOf (second .result)) (sym (c .before .before .parts2 .ensures) ∙ c .enum-told2 .given .1) (second .ensures)
 
--- src/templates.rt:174:13
-list-rest-put-list-requires : (t : ℕ) → list-rest-lts.Need-put-list-requires (
-  word-reads.Asked,
-  word-reads.Learnt,
-  template-leaf-reads.Asked,
-  template-leaf-reads.Learnt,
-  reference-reads.Asked,
-  reference-reads.Learnt,
-  list-rest-below t,
-  list-rest.Post,
-  dots-next-reads.Asked,
-  dots-next-reads.Learnt,
-  element-depth-reads.Asked,
-  element-depth-reads.Learnt,
-  template-below t,
-  template.Post,
-  parts-reads.Asked,
-  parts-reads.Learnt,
-  accepted-reads.Asked,
-  accepted-reads.Learnt,
-  put-list-reads.Asked,
-  put-list-reads.Learnt,
-  pair-reads.Asked,
-  pair-reads.Learnt,
-) (list-rest-at t) list-rest.Post
+list-rest-put-list-requires : (t : ℕ) → list-rest-lts.Need-put-list-requires (list-rest-claims t) (list-rest-at t) list-rest.Post
 list-rest-put-list-requires t c κs =
     let a = c .before .before .before .before .before .before .before .before .before .before .before .before .before .before .before .before .before .before .before .before .before .before .before .before .before .before .before .before .before .before .before .before .before .args in
     let p = c .before .before .before .before .before .before .before .before .before .before .before .before .before .before .before .before .before .before .before .before .before .before .before .before .before .before .before .before .before .before .before .before .before .pre in
@@ -836,87 +182,7 @@ list-rest-put-list-requires t c κs =
     let later = made-rest (a .work .now) (a .vars .now) (a .count) (a .dots) (a .node) (a .w) (a .d) (a .top) asks (p .1 .3) (p .1 .4) _ _ is-pair head-is rest-is (a .taken) _ _ untaken next deeper (first .last .0) _ _ (first .kept .0) head (second .last .0) (builtOf (second .result)) _ _ (sym (c .before .before .before .before .parts2 .ensures) ∙ c .before .before .b .given .1) (second .ensures) in
     (room-pair (a .work .now) (a .node) (a .w) (a .top) asks _ _ is-pair head-is rest-is _ _ _ (first .kept .0) (head .grows) _ _ _ (second .kept .0) (later .grows), omega (arith, head .grows .at-most, later .grows .up), later .grows .at-most)
 
--- src/templates.rt:175:9
-list-rest-pair-requires : (t : ℕ) → list-rest-lts.Need-pair-requires (
-  word-reads.Asked,
-  word-reads.Learnt,
-  template-leaf-reads.Asked,
-  template-leaf-reads.Learnt,
-  reference-reads.Asked,
-  reference-reads.Learnt,
-  list-rest-below t,
-  list-rest.Post,
-  dots-next-reads.Asked,
-  dots-next-reads.Learnt,
-  element-depth-reads.Asked,
-  element-depth-reads.Learnt,
-  template-below t,
-  template.Post,
-  parts-reads.Asked,
-  parts-reads.Learnt,
-  accepted-reads.Asked,
-  accepted-reads.Learnt,
-  put-list-reads.Asked,
-  put-list-reads.Learnt,
-  pair-reads.Asked,
-  pair-reads.Learnt,
-) (list-rest-at t) list-rest.Post
-list-rest-pair-requires t c κs =
-    search needs
-
--- src/templates.rt:175:9
-list-rest-same-length-5 : (t : ℕ) → list-rest-lts.Need-same-length-5 (
-  word-reads.Asked,
-  word-reads.Learnt,
-  template-leaf-reads.Asked,
-  template-leaf-reads.Learnt,
-  reference-reads.Asked,
-  reference-reads.Learnt,
-  list-rest-below t,
-  list-rest.Post,
-  dots-next-reads.Asked,
-  dots-next-reads.Learnt,
-  element-depth-reads.Asked,
-  element-depth-reads.Learnt,
-  template-below t,
-  template.Post,
-  parts-reads.Asked,
-  parts-reads.Learnt,
-  accepted-reads.Asked,
-  accepted-reads.Learnt,
-  put-list-reads.Asked,
-  put-list-reads.Learnt,
-  pair-reads.Asked,
-  pair-reads.Learnt,
-) (list-rest-at t) list-rest.Post
-list-rest-same-length-5 t c =
-    search needs
-
--- src/templates.rt:175:9
-list-rest-returns-5 : (t : ℕ) → list-rest-lts.Need-returns-5 (
-  word-reads.Asked,
-  word-reads.Learnt,
-  template-leaf-reads.Asked,
-  template-leaf-reads.Learnt,
-  reference-reads.Asked,
-  reference-reads.Learnt,
-  list-rest-below t,
-  list-rest.Post,
-  dots-next-reads.Asked,
-  dots-next-reads.Learnt,
-  element-depth-reads.Asked,
-  element-depth-reads.Learnt,
-  template-below t,
-  template.Post,
-  parts-reads.Asked,
-  parts-reads.Learnt,
-  accepted-reads.Asked,
-  accepted-reads.Learnt,
-  put-list-reads.Asked,
-  put-list-reads.Learnt,
-  pair-reads.Asked,
-  pair-reads.Learnt,
-) (list-rest-at t) list-rest.Post
+list-rest-returns-5 : (t : ℕ) → list-rest-lts.Need-returns-5 (list-rest-claims t) (list-rest-at t) list-rest.Post
 list-rest-returns-5 t c =
     let a = c .before .before .before .before .before .before .before .before .before .before .before .before .before .before .before .before .before .before .before .before .before .before .before .before .before .before .before .before .before .before .before .before .before .before .before .before .before .args in
     let p = c .before .before .before .before .before .before .before .before .before .before .before .before .before .before .before .before .before .before .before .before .before .before .before .before .before .before .before .before .before .before .before .before .before .before .before .before .before .pre in
@@ -934,59 +200,7 @@ list-rest-returns-5 t c =
     let left = left-list (a .work .now) (a .vars .now) (a .count) (a .dots) (a .node) (a .w) (a .d) (a .top) asks (p .1 .3) (p .1 .4) _ _ is-pair head-is rest-is (a .taken) _ _ untaken next deeper (first .last .0) _ _ (first .kept .0) head _ _ _ _ _ (sym (c .before .before .before .before .before .before .before .before .before .before .before .before .before .if3 .taken) ∙ c .before .before .before .before .before .before .before .before .before .before .before .before .before .before .accepted .ensures) later (c .before .before .before .put-list .ensures) in
     packs-at (TemplateLeft _ _ _ _ _ _ _ _) _ _ _ _ (packs (a .work .now) (a .node) (a .w) (a .top) asks) (c .pair .ensures) (left .grows .words) left
 
--- src/templates.rt:141:1
-list-rest-same-length-6 : (t : ℕ) → list-rest-lts.Need-same-length-6 (
-  word-reads.Asked,
-  word-reads.Learnt,
-  template-leaf-reads.Asked,
-  template-leaf-reads.Learnt,
-  reference-reads.Asked,
-  reference-reads.Learnt,
-  list-rest-below t,
-  list-rest.Post,
-  dots-next-reads.Asked,
-  dots-next-reads.Learnt,
-  element-depth-reads.Asked,
-  element-depth-reads.Learnt,
-  template-below t,
-  template.Post,
-  parts-reads.Asked,
-  parts-reads.Learnt,
-  accepted-reads.Asked,
-  accepted-reads.Learnt,
-  put-list-reads.Asked,
-  put-list-reads.Learnt,
-  pair-reads.Asked,
-  pair-reads.Learnt,
-) (list-rest-at t) list-rest.Post
-list-rest-same-length-6 t c =
-    search needs
-
--- src/templates.rt:141:1
-list-rest-returns-6 : (t : ℕ) → list-rest-lts.Need-returns-6 (
-  word-reads.Asked,
-  word-reads.Learnt,
-  template-leaf-reads.Asked,
-  template-leaf-reads.Learnt,
-  reference-reads.Asked,
-  reference-reads.Learnt,
-  list-rest-below t,
-  list-rest.Post,
-  dots-next-reads.Asked,
-  dots-next-reads.Learnt,
-  element-depth-reads.Asked,
-  element-depth-reads.Learnt,
-  template-below t,
-  template.Post,
-  parts-reads.Asked,
-  parts-reads.Learnt,
-  accepted-reads.Asked,
-  accepted-reads.Learnt,
-  put-list-reads.Asked,
-  put-list-reads.Learnt,
-  pair-reads.Asked,
-  pair-reads.Learnt,
-) (list-rest-at t) list-rest.Post
+list-rest-returns-6 : (t : ℕ) → list-rest-lts.Need-returns-6 (list-rest-claims t) (list-rest-at t) list-rest.Post
 unfolding builtOf
 list-rest-returns-6 t c =
     let a = c .before .before .before .before .before .before .before .before .before .before .before .before .before .before .before .before .before .before .before .before .before .before .before .before .args in
@@ -1002,202 +216,16 @@ list-rest-returns-6 t c =
     let head = made-head (a .work .now) (a .vars .now) (a .count) (a .dots) (a .node) (a .w) (a .d) (a .top) asks (p .1 .3) (p .1 .4) _ _ is-pair head-is rest-is (a .taken) _ _ untaken next deeper (first .last .0) (builtOf (first .result)) _ _ (sym (c .before .before .before .before .before .before .parts .ensures) ∙ c .before .before .before .before .a .given .1) (first .ensures) in
     left-undriven (a .work .now) (a .vars .now) (a .count) (a .dots) (a .node) (a .w) (a .d) (a .top) asks (p .1 .3) (p .1 .4) _ _ is-pair head-is rest-is (a .taken) _ _ untaken next deeper (first .last .0) _ _ (first .kept .0) head (sym (c .if3 .left) ∙ c .before .accepted .ensures)
 
--- src/templates.rt:195:8
-template-word-requires : (t : ℕ) → template-lts.Need-word-requires (
-  word-reads.Asked,
-  word-reads.Learnt,
-  template-leaf-reads.Asked,
-  template-leaf-reads.Learnt,
-  dots-next-reads.Asked,
-  dots-next-reads.Learnt,
-  reference-reads.Asked,
-  reference-reads.Learnt,
-  is-list-of-reads.Asked,
-  is-list-of-reads.Learnt,
-  first-reads.Asked,
-  first-reads.Learnt,
-  template-below t,
-  template.Post,
-  list-rest-below t,
-  list-rest.Post,
-) (template-at t) template.Post
-template-word-requires t c κs =
-    search needs
-
--- src/templates.rt:196:9
-template-template-leaf-requires : (t : ℕ) → template-lts.Need-template-leaf-requires (
-  word-reads.Asked,
-  word-reads.Learnt,
-  template-leaf-reads.Asked,
-  template-leaf-reads.Learnt,
-  dots-next-reads.Asked,
-  dots-next-reads.Learnt,
-  reference-reads.Asked,
-  reference-reads.Learnt,
-  is-list-of-reads.Asked,
-  is-list-of-reads.Learnt,
-  first-reads.Asked,
-  first-reads.Learnt,
-  template-below t,
-  template.Post,
-  list-rest-below t,
-  list-rest.Post,
-) (template-at t) template.Post
+template-template-leaf-requires : (t : ℕ) → template-lts.Need-template-leaf-requires (template-claims t) (template-at t) template.Post
 template-template-leaf-requires t c κs =
     let p = c .before .before .before .before .before .before .pre in
     (p .1 .0, p .1 .1, p .1 .2, λ z. c .before .if1 .taken (c .before .before .word .ensures ∙ z))
 
--- src/templates.rt:196:9
-template-same-length : (t : ℕ) → template-lts.Need-same-length (
-  word-reads.Asked,
-  word-reads.Learnt,
-  template-leaf-reads.Asked,
-  template-leaf-reads.Learnt,
-  dots-next-reads.Asked,
-  dots-next-reads.Learnt,
-  reference-reads.Asked,
-  reference-reads.Learnt,
-  is-list-of-reads.Asked,
-  is-list-of-reads.Learnt,
-  first-reads.Asked,
-  first-reads.Learnt,
-  template-below t,
-  template.Post,
-  list-rest-below t,
-  list-rest.Post,
-) (template-at t) template.Post
-template-same-length t c =
-    search needs
-
--- src/templates.rt:196:9
-template-returns : (t : ℕ) → template-lts.Need-returns (
-  word-reads.Asked,
-  word-reads.Learnt,
-  template-leaf-reads.Asked,
-  template-leaf-reads.Learnt,
-  dots-next-reads.Asked,
-  dots-next-reads.Learnt,
-  reference-reads.Asked,
-  reference-reads.Learnt,
-  is-list-of-reads.Asked,
-  is-list-of-reads.Learnt,
-  first-reads.Asked,
-  first-reads.Learnt,
-  template-below t,
-  template.Post,
-  list-rest-below t,
-  list-rest.Post,
-) (template-at t) template.Post
+template-returns : (t : ℕ) → template-lts.Need-returns (template-claims t) (template-at t) template.Post
 template-returns t c =
     c .before .before .template-leaf .ensures
 
--- src/templates.rt:198:8
-template-dots-next-requires : (t : ℕ) → template-lts.Need-dots-next-requires (
-  word-reads.Asked,
-  word-reads.Learnt,
-  template-leaf-reads.Asked,
-  template-leaf-reads.Learnt,
-  dots-next-reads.Asked,
-  dots-next-reads.Learnt,
-  reference-reads.Asked,
-  reference-reads.Learnt,
-  is-list-of-reads.Asked,
-  is-list-of-reads.Learnt,
-  first-reads.Asked,
-  first-reads.Learnt,
-  template-below t,
-  template.Post,
-  list-rest-below t,
-  list-rest.Post,
-) (template-at t) template.Post
-template-dots-next-requires t c κs =
-    search needs
-
--- src/templates.rt:199:13
-template-reference-requires : (t : ℕ) → template-lts.Need-reference-requires (
-  word-reads.Asked,
-  word-reads.Learnt,
-  template-leaf-reads.Asked,
-  template-leaf-reads.Learnt,
-  dots-next-reads.Asked,
-  dots-next-reads.Learnt,
-  reference-reads.Asked,
-  reference-reads.Learnt,
-  is-list-of-reads.Asked,
-  is-list-of-reads.Learnt,
-  first-reads.Asked,
-  first-reads.Learnt,
-  template-below t,
-  template.Post,
-  list-rest-below t,
-  list-rest.Post,
-) (template-at t) template.Post
-template-reference-requires t c κs =
-    search needs
-
--- src/templates.rt:200:12
-template-is-list-of-requires : (t : ℕ) → template-lts.Need-is-list-of-requires (
-  word-reads.Asked,
-  word-reads.Learnt,
-  template-leaf-reads.Asked,
-  template-leaf-reads.Learnt,
-  dots-next-reads.Asked,
-  dots-next-reads.Learnt,
-  reference-reads.Asked,
-  reference-reads.Learnt,
-  is-list-of-reads.Asked,
-  is-list-of-reads.Learnt,
-  first-reads.Asked,
-  first-reads.Learnt,
-  template-below t,
-  template.Post,
-  list-rest-below t,
-  list-rest.Post,
-) (template-at t) template.Post
-template-is-list-of-requires t c κs =
-    search needs
-
--- src/templates.rt:201:17
-template-first-requires : (t : ℕ) → template-lts.Need-first-requires (
-  word-reads.Asked,
-  word-reads.Learnt,
-  template-leaf-reads.Asked,
-  template-leaf-reads.Learnt,
-  dots-next-reads.Asked,
-  dots-next-reads.Learnt,
-  reference-reads.Asked,
-  reference-reads.Learnt,
-  is-list-of-reads.Asked,
-  is-list-of-reads.Learnt,
-  first-reads.Asked,
-  first-reads.Learnt,
-  template-below t,
-  template.Post,
-  list-rest-below t,
-  list-rest.Post,
-) (template-at t) template.Post
-template-first-requires t c κs =
-    search needs
-
--- src/templates.rt:202:13
-template-template-requires : (t : ℕ) → template-lts.Need-template-requires (
-  word-reads.Asked,
-  word-reads.Learnt,
-  template-leaf-reads.Asked,
-  template-leaf-reads.Learnt,
-  dots-next-reads.Asked,
-  dots-next-reads.Learnt,
-  reference-reads.Asked,
-  reference-reads.Learnt,
-  is-list-of-reads.Asked,
-  is-list-of-reads.Learnt,
-  first-reads.Asked,
-  first-reads.Learnt,
-  template-below t,
-  template.Post,
-  list-rest-below t,
-  list-rest.Post,
-) (template-at t) template.Post
+template-template-requires : (t : ℕ) → template-lts.Need-template-requires (template-claims t) (template-at t) template.Post
 template-template-requires t c κs =
     let a = c .before .before .before .before .before .before .before .before .before .before .before .before .before .before .before .before .args in
     let p = c .before .before .before .before .before .before .before .before .before .before .before .before .before .before .before .before .pre in
@@ -1206,47 +234,7 @@ template-template-requires t c κs =
     let below = inside-below (a .work .now) (a .vars .now) (a .count) (a .dots) (a .node) (a .w) (a .d) (a .top) asks (p .1 .3) (p .1 .4) _ _ is-pair refl (c .before .before .before .before .before .before .reference .ensures) _ (c .before .first .ensures) in
     (omega (arith, p .0, below), (asks-inside (a .work .now) (a .vars .now) (a .count) (a .dots) (a .node) (a .w) (a .d) (a .top) asks (p .1 .3) (p .1 .4) _ _ is-pair refl (c .before .before .before .before .before .before .reference .ensures) _ (c .before .first .ensures), p .1 .1, p .1 .2, p .1 .3, some-top (a .work .now) (a .vars .now) (a .count) (a .dots) (a .node) (a .w) (a .d) (a .top) asks (p .1 .3) (p .1 .4) _ _ is-pair refl (c .before .before .before .before .before .before .reference .ensures) _ (c .before .first .ensures), omega (arith, p .1 .5, below)))
 
--- src/templates.rt:202:13
-template-same-length-2 : (t : ℕ) → template-lts.Need-same-length-2 (
-  word-reads.Asked,
-  word-reads.Learnt,
-  template-leaf-reads.Asked,
-  template-leaf-reads.Learnt,
-  dots-next-reads.Asked,
-  dots-next-reads.Learnt,
-  reference-reads.Asked,
-  reference-reads.Learnt,
-  is-list-of-reads.Asked,
-  is-list-of-reads.Learnt,
-  first-reads.Asked,
-  first-reads.Learnt,
-  template-below t,
-  template.Post,
-  list-rest-below t,
-  list-rest.Post,
-) (template-at t) template.Post
-template-same-length-2 t c =
-    search needs
-
--- src/templates.rt:202:13
-template-returns-2 : (t : ℕ) → template-lts.Need-returns-2 (
-  word-reads.Asked,
-  word-reads.Learnt,
-  template-leaf-reads.Asked,
-  template-leaf-reads.Learnt,
-  dots-next-reads.Asked,
-  dots-next-reads.Learnt,
-  reference-reads.Asked,
-  reference-reads.Learnt,
-  is-list-of-reads.Asked,
-  is-list-of-reads.Learnt,
-  first-reads.Asked,
-  first-reads.Learnt,
-  template-below t,
-  template.Post,
-  list-rest-below t,
-  list-rest.Post,
-) (template-at t) template.Post
+template-returns-2 : (t : ℕ) → template-lts.Need-returns-2 (template-claims t) (template-at t) template.Post
 template-returns-2 t c =
     let a = c .before .before .before .before .before .before .before .before .before .before .before .before .before .before .before .before .before .before .before .args in
     let p = c .before .before .before .before .before .before .before .before .before .before .before .before .before .before .before .before .before .before .before .pre in
@@ -1255,47 +243,7 @@ template-returns-2 t c =
     let l = c .before .before .template in
     left-escape (a .work .now) (a .vars .now) (a .count) (a .dots) (a .node) (a .w) (a .d) (a .top) asks (p .1 .3) (p .1 .4) _ _ is-pair refl (c .before .before .before .before .before .before .before .before .before .reference .ensures) _ (c .before .before .before .before .first .ensures) (l .last .0) (builtOf (l .result)) (sym (c .before .before .before .before .before .before .before .before .before .before .before .if2 .taken) ∙ c .before .before .before .before .before .before .before .before .before .before .before .before .dots-next .ensures) (sym (c .before .before .before .before .before .before .if3 .taken) ∙ c .before .before .before .before .before .before .before .is-list-of .ensures (a .w)) (l .ensures)
 
--- src/templates.rt:204:9
-template-same-length-3 : (t : ℕ) → template-lts.Need-same-length-3 (
-  word-reads.Asked,
-  word-reads.Learnt,
-  template-leaf-reads.Asked,
-  template-leaf-reads.Learnt,
-  dots-next-reads.Asked,
-  dots-next-reads.Learnt,
-  reference-reads.Asked,
-  reference-reads.Learnt,
-  is-list-of-reads.Asked,
-  is-list-of-reads.Learnt,
-  first-reads.Asked,
-  first-reads.Learnt,
-  template-below t,
-  template.Post,
-  list-rest-below t,
-  list-rest.Post,
-) (template-at t) template.Post
-template-same-length-3 t c =
-    search needs
-
--- src/templates.rt:204:9
-template-returns-3 : (t : ℕ) → template-lts.Need-returns-3 (
-  word-reads.Asked,
-  word-reads.Learnt,
-  template-leaf-reads.Asked,
-  template-leaf-reads.Learnt,
-  dots-next-reads.Asked,
-  dots-next-reads.Learnt,
-  reference-reads.Asked,
-  reference-reads.Learnt,
-  is-list-of-reads.Asked,
-  is-list-of-reads.Learnt,
-  first-reads.Asked,
-  first-reads.Learnt,
-  template-below t,
-  template.Post,
-  list-rest-below t,
-  list-rest.Post,
-) (template-at t) template.Post
+template-returns-3 : (t : ℕ) → template-lts.Need-returns-3 (template-claims t) (template-at t) template.Post
 unfolding builtOf
 template-returns-3 t c =
     let a = c .before .before .before .before .before .before .before .before .before .before .before .before .before .args in
@@ -1304,70 +252,12 @@ template-returns-3 t c =
     let is-pair = sym (c .before .before .before .before .before .before .before .before .before .word .ensures) ∙ c .before .before .before .before .before .before .before .before .if1 .left in
     left-unescaped (a .work .now) (a .vars .now) (a .count) (a .dots) (a .node) (a .w) (a .d) (a .top) asks (p .1 .3) (p .1 .4) _ _ is-pair refl (c .before .before .before .reference .ensures) (sym (c .before .before .before .before .before .if2 .taken) ∙ c .before .before .before .before .before .before .dots-next .ensures) (sym (c .if3 .left) ∙ c .before .is-list-of .ensures (a .w))
 
--- src/templates.rt:206:5
-template-list-rest-requires : (t : ℕ) → template-lts.Need-list-rest-requires (
-  word-reads.Asked,
-  word-reads.Learnt,
-  template-leaf-reads.Asked,
-  template-leaf-reads.Learnt,
-  dots-next-reads.Asked,
-  dots-next-reads.Learnt,
-  reference-reads.Asked,
-  reference-reads.Learnt,
-  is-list-of-reads.Asked,
-  is-list-of-reads.Learnt,
-  first-reads.Asked,
-  first-reads.Learnt,
-  template-below t,
-  template.Post,
-  list-rest-below t,
-  list-rest.Post,
-) (template-at t) template.Post
+template-list-rest-requires : (t : ℕ) → template-lts.Need-list-rest-requires (template-claims t) (template-at t) template.Post
 template-list-rest-requires t c κs =
     let p = c .before .before .before .before .before .before .before .before .before .pre in
     (omega (arith, p .0), p .1)
 
--- src/templates.rt:182:1
-template-same-length-4 : (t : ℕ) → template-lts.Need-same-length-4 (
-  word-reads.Asked,
-  word-reads.Learnt,
-  template-leaf-reads.Asked,
-  template-leaf-reads.Learnt,
-  dots-next-reads.Asked,
-  dots-next-reads.Learnt,
-  reference-reads.Asked,
-  reference-reads.Learnt,
-  is-list-of-reads.Asked,
-  is-list-of-reads.Learnt,
-  first-reads.Asked,
-  first-reads.Learnt,
-  template-below t,
-  template.Post,
-  list-rest-below t,
-  list-rest.Post,
-) (template-at t) template.Post
-template-same-length-4 t c =
-    search needs
-
--- src/templates.rt:182:1
-template-returns-4 : (t : ℕ) → template-lts.Need-returns-4 (
-  word-reads.Asked,
-  word-reads.Learnt,
-  template-leaf-reads.Asked,
-  template-leaf-reads.Learnt,
-  dots-next-reads.Asked,
-  dots-next-reads.Learnt,
-  reference-reads.Asked,
-  reference-reads.Learnt,
-  is-list-of-reads.Asked,
-  is-list-of-reads.Learnt,
-  first-reads.Asked,
-  first-reads.Learnt,
-  template-below t,
-  template.Post,
-  list-rest-below t,
-  list-rest.Post,
-) (template-at t) template.Post
+template-returns-4 : (t : ℕ) → template-lts.Need-returns-4 (template-claims t) (template-at t) template.Post
 unfolding restPlace
 template-returns-4 t c =
     let a = c .before .before .before .before .before .before .before .before .before .before .before .before .args in
@@ -1378,95 +268,55 @@ template-returns-4 t c =
     left-plain (a .work .now) (a .vars .now) (a .count) (a .dots) (a .node) (a .w) (a .d) (a .top) asks (p .1 .3) (p .1 .4) _ _ is-pair refl refl (l .last .0) (builtOf (l .result)) (sym (c .before .before .before .before .if2 .left) ∙ c .before .before .before .before .before .dots-next .ensures) (l .ensures)
 
 pub +list-rest+template-spec : {M : Type 1} → statement M
-+list-rest+template-spec = close μ-list-rest μ-template (λ t. list-rest-lts.spec (
-  word-reads.Asked,
-  word-reads.Learnt,
-  template-leaf-reads.Asked,
-  template-leaf-reads.Learnt,
-  reference-reads.Asked,
-  reference-reads.Learnt,
-  list-rest-below t,
-  list-rest.Post,
-  dots-next-reads.Asked,
-  dots-next-reads.Learnt,
-  element-depth-reads.Asked,
-  element-depth-reads.Learnt,
-  template-below t,
-  template.Post,
-  parts-reads.Asked,
-  parts-reads.Learnt,
-  accepted-reads.Asked,
-  accepted-reads.Learnt,
-  put-list-reads.Asked,
-  put-list-reads.Learnt,
-  pair-reads.Asked,
-  pair-reads.Learnt,
-)
++list-rest+template-spec = close μ-list-rest μ-template (λ t. list-rest-lts.spec (list-rest-claims t)
     (list-rest-at t)
     list-rest.Post
-    (list-rest-word-requires t)
+    (λ c κs. search needs)  -- list-rest-word-requires
     (list-rest-template-leaf-requires t)
-    (list-rest-same-length t)
+    (λ c. search needs)  -- list-rest-same-length
     (list-rest-returns t)
-    (list-rest-reference-requires t)
-    (list-rest-reference-requires-2 t)
+    (λ c κs. search needs)  -- list-rest-reference-requires
+    (λ c κs. search needs)  -- list-rest-reference-requires-2
     (list-rest-list-rest-requires t)
-    (list-rest-same-length-2 t)
+    (λ c. search needs)  -- list-rest-same-length-2
     (list-rest-returns-2 t)
-    (list-rest-dots-next-requires t)
+    (λ c κs. search needs)  -- list-rest-dots-next-requires
     (list-rest-element-depth-requires t)
     (list-rest-template-requires t)
-    (list-rest-parts-requires t)
-    (list-rest-enum-known-a t)
-    (list-rest-enum-told t)
-    (list-rest-same-length-3 t)
+    (λ c κs. search needs)  -- list-rest-parts-requires
+    (λ c. search needs)  -- list-rest-enum-known-a
+    (λ c. search needs)  -- list-rest-enum-told
+    (λ c. search needs)  -- list-rest-same-length-3
     (list-rest-returns-3 t)
-    (list-rest-accepted-requires t)
+    (λ c κs. search needs)  -- list-rest-accepted-requires
     (list-rest-list-rest-requires-2 t)
-    (list-rest-parts-requires-2 t)
-    (list-rest-enum-known-b t)
-    (list-rest-enum-told-2 t)
-    (list-rest-same-length-4 t)
+    (λ c κs. search needs)  -- list-rest-parts-requires-2
+    (λ c. search needs)  -- list-rest-enum-known-b
+    (λ c. search needs)  -- list-rest-enum-told-2
+    (λ c. search needs)  -- list-rest-same-length-4
     (list-rest-returns-4 t)
     (list-rest-put-list-requires t)
-    (list-rest-pair-requires t)
-    (list-rest-same-length-5 t)
+    (λ c κs. search needs)  -- list-rest-pair-requires
+    (λ c. search needs)  -- list-rest-same-length-5
     (list-rest-returns-5 t)
-    (list-rest-same-length-6 t)
+    (λ c. search needs)  -- list-rest-same-length-6
     (list-rest-returns-6 t))
-    λ t. template-lts.spec (
-      word-reads.Asked,
-      word-reads.Learnt,
-      template-leaf-reads.Asked,
-      template-leaf-reads.Learnt,
-      dots-next-reads.Asked,
-      dots-next-reads.Learnt,
-      reference-reads.Asked,
-      reference-reads.Learnt,
-      is-list-of-reads.Asked,
-      is-list-of-reads.Learnt,
-      first-reads.Asked,
-      first-reads.Learnt,
-      template-below t,
-      template.Post,
-      list-rest-below t,
-      list-rest.Post,
-    )
+    λ t. template-lts.spec (template-claims t)
     (template-at t)
     template.Post
-    (template-word-requires t)
+    (λ c κs. search needs)  -- template-word-requires
     (template-template-leaf-requires t)
-    (template-same-length t)
+    (λ c. search needs)  -- template-same-length
     (template-returns t)
-    (template-dots-next-requires t)
-    (template-reference-requires t)
-    (template-is-list-of-requires t)
-    (template-first-requires t)
+    (λ c κs. search needs)  -- template-dots-next-requires
+    (λ c κs. search needs)  -- template-reference-requires
+    (λ c κs. search needs)  -- template-is-list-of-requires
+    (λ c κs. search needs)  -- template-first-requires
     (template-template-requires t)
-    (template-same-length-2 t)
+    (λ c. search needs)  -- template-same-length-2
     (template-returns-2 t)
-    (template-same-length-3 t)
+    (λ c. search needs)  -- template-same-length-3
     (template-returns-3 t)
     (template-list-rest-requires t)
-    (template-same-length-4 t)
+    (λ c. search needs)  -- template-same-length-4
     (template-returns-4 t)

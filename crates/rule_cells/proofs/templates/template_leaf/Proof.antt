@@ -16,71 +16,26 @@ use Rattle.rule_cells.specs.TemplateLaws.{left-name, left-empty, left-co
 use mathlib.Core.Path.{sym, _∙_}
 use Rattle.rule_cells.specs.Dots.{dotsAt}
 
--- src/templates.rt:127:9
-word-requires : tie.Need-word-requires
-word-requires c κs =
-    search needs
-
--- src/templates.rt:129:9
 template-name-requires : tie.Need-template-name-requires
 template-name-requires c κs =
     let a = c .before .before .before .before .before .before .args in
     (room-leaf (a .work .now) (a .node) (a .w) (a .top) (c .before .before .before .before .before .before .pre .0), leaf-packs (a .work .now) (a .node) (a .w) (a .top) (c .before .before .before .before .before .before .pre .0), c .before .before .before .before .before .before .pre .0 .node-below, c .before .before .before .before .before .before .pre .0 .wrap-below, c .before .before .before .before .before .before .pre .1, c .before .before .before .before .before .before .pre .2)
 
--- src/templates.rt:129:9
-same-length : tie.Need-same-length
-same-length c =
-    search needs
-
--- src/templates.rt:129:9
 returns : tie.Need-returns
 returns c =
     let a = c .before .before .before .before .before .before .before .before .before .args in
     left-name (dotsAt (a .work .now) (a .dots) (a .w)) (variablesFrom (a .work .now) (a .w) (a .vars .now) 0 (a .count)) (a .d) (a .work .now) (a .node) (a .w) (a .top) (c .before .before .template-name .last .0) (builtOf (c .before .before .template-name .result)) (sym (c .before .before .before .before .before .word .ensures) ∙ c .before .before .before .before .if1 .taken) (c .before .before .template-name .ensures)
 
--- src/templates.rt:132:9
-pair-requires : tie.Need-pair-requires
-pair-requires c κs =
-    search needs
-
--- src/templates.rt:132:9
-same-length-2 : tie.Need-same-length-2
-same-length-2 c =
-    search needs
-
--- src/templates.rt:132:9
 returns-2 : tie.Need-returns-2
 returns-2 c =
     let a = c .before .before .before .before .before .before .before .args in
     let left = left-empty (dotsAt (a .work .now) (a .dots) (a .w)) (variablesFrom (a .work .now) (a .w) (a .vars .now) 0 (a .count)) (a .d) (a .work .now) (a .node) (a .w) (a .top) (sym (c .before .before .before .word .ensures) ∙ c .before .if2 .taken) in
     packs-at (TemplateLeft _ _ _ _ _ _ _ _) _ _ _ _ (packs (a .work .now) (a .node) (a .w) (a .top) (c .before .before .before .before .before .before .before .pre .0)) (c .pair .ensures) (left .grows .words) left
 
--- src/templates.rt:134:9
-word-requires-2 : tie.Need-word-requires-2
-word-requires-2 c κs =
-    search needs
-
--- src/templates.rt:135:9
-word-requires-3 : tie.Need-word-requires-3
-word-requires-3 c κs =
-    search needs
-
--- src/templates.rt:136:9
 put-constant-template-requires : tie.Need-put-constant-template-requires
 put-constant-template-requires c κs =
     let a = c .before .before .before .before .before .before .before .before .before .before .before .args in room-leaf (a .work .now) (a .node) (a .w) (a .top) (c .before .before .before .before .before .before .before .before .before .before .before .pre .0)
 
--- src/templates.rt:137:5
-pair-requires-2 : tie.Need-pair-requires-2
-pair-requires-2 c κs =
-    search needs
-
--- src/templates.rt:114:1
-same-length-3 : tie.Need-same-length-3
-same-length-3 c =
-    search needs
-
--- src/templates.rt:114:1
 returns-3 : tie.Need-returns-3
 returns-3 c =
     let a = c .before .before .before .before .before .before .before .before .before .before .before .before .before .before .before .args in
@@ -91,16 +46,16 @@ pub template-leaf-spec : {M : Type 1} → statement M
 template-leaf-spec =
     tie.close
     (tie.spec
-    word-requires
+    (λ c κs. search needs)  -- word-requires
     template-name-requires
-    same-length
+    (λ c. search needs)  -- same-length
     returns
-    pair-requires
-    same-length-2
+    (λ c κs. search needs)  -- pair-requires
+    (λ c. search needs)  -- same-length-2
     returns-2
-    word-requires-2
-    word-requires-3
+    (λ c κs. search needs)  -- word-requires-2
+    (λ c κs. search needs)  -- word-requires-3
     put-constant-template-requires
-    pair-requires-2
-    same-length-3
+    (λ c κs. search needs)  -- pair-requires-2
+    (λ c. search needs)  -- same-length-3
     returns-3)

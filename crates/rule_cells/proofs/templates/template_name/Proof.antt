@@ -22,54 +22,12 @@ use Rattle.arena.specs.Arena.{nameAt}
 use mathlib.Core.Path.{refl, sym, _∙_}
 use Rattle.rule_cells.specs.Dots.{dotsAt}
 
--- src/templates.rt:96:8
-is-ellipsis-requires : tie.Need-is-ellipsis-requires
-is-ellipsis-requires c κs =
-    search needs
-
--- src/templates.rt:97:9
-same-length : tie.Need-same-length
-same-length c =
-    search needs
-
--- src/templates.rt:97:9
 returns : tie.Need-returns
 unfolding builtOf
 returns c =
     let a = c .before .before .before .before .before .args in
     left-dots (dotsAt (a .work .now) (a .dots) (a .w)) (variablesFrom (a .work .now) (a .w) (a .vars .now) 0 (a .count)) (a .d) (nameAt (a .work .now) (a .node) (a .w)) (a .work .now) (a .top) (sym (c .before .is-ellipsis .ensures) ∙ c .if1 .taken)
 
--- src/templates.rt:99:11
-find-requires : tie.Need-find-requires
-find-requires c κs =
-    search needs
-
--- src/templates.rt:100:19
-enum-known-k : tie.Need-enum-known-k
-enum-known-k c =
-    search needs
-
--- src/templates.rt:101:16
-depth-fits-requires : tie.Need-depth-fits-requires
-depth-fits-requires c κs =
-    search needs
-
--- src/templates.rt:102:21
-put-variable-template-requires : tie.Need-put-variable-template-requires
-put-variable-template-requires c κs =
-    search needs
-
--- src/templates.rt:103:17
-pair-requires : tie.Need-pair-requires
-pair-requires c κs =
-    search needs
-
--- src/templates.rt:103:17
-same-length-2 : tie.Need-same-length-2
-same-length-2 c =
-    search needs
-
--- src/templates.rt:103:17
 returns-2 : tie.Need-returns-2
 unfolding size
 returns-2 c =
@@ -77,38 +35,12 @@ returns-2 c =
     let left = left-variable (dotsAt (a .work .now) (a .dots) (a .w)) (variablesFrom (a .work .now) (a .w) (a .vars .now) 0 (a .count)) (a .d) (nameAt (a .work .now) (a .node) (a .w)) (a .work .now) (a .top) _ _ _ _ (sym (c .before .before .before .before .before .before .before .before .before .before .before .before .before .is-ellipsis .ensures) ∙ c .before .before .before .before .before .before .before .before .before .before .before .before .if1 .left) (found-at _ _ _ _ (c .before .before .before .before .before .before .before .before .k .given .1) (c .before .before .before .before .before .before .before .before .before .before .find .ensures)) (sym (c .before .before .before .before .before .if2 .taken) ∙ c .before .before .before .before .before .before .depth-fits .ensures) (c .before .before .before .put-variable-template .ensures) in
     packs-at (TemplateLeft _ _ _ _ _ _ _ _) _ _ _ _ (c .before .before .before .before .before .before .before .before .before .before .before .before .before .before .before .before .before .pre .1) (c .pair .ensures) (left .grows .words) left
 
--- src/templates.rt:105:13
-same-length-3 : tie.Need-same-length-3
-same-length-3 c =
-    search needs
-
--- src/templates.rt:105:13
 returns-3 : tie.Need-returns-3
 unfolding builtOf
 returns-3 c =
     let a = c .before .before .before .before .before .before .before .before .before .before .before .before .args in
     left-depth (dotsAt (a .work .now) (a .dots) (a .w)) (variablesFrom (a .work .now) (a .w) (a .vars .now) 0 (a .count)) (a .d) (nameAt (a .work .now) (a .node) (a .w)) (a .work .now) (a .top) _ _ (sym (c .before .before .before .before .before .before .before .before .is-ellipsis .ensures) ∙ c .before .before .before .before .before .before .before .if1 .left) (found-at _ _ _ _ (c .before .before .before .k .given .1) (c .before .before .before .before .before .find .ensures)) (sym (c .if2 .left) ∙ c .before .depth-fits .ensures)
 
-enum-told : tie.Need-enum-told
-enum-told c =
-    search needs
-
--- src/templates.rt:109:9
-put-insert-requires : tie.Need-put-insert-requires
-put-insert-requires c κs =
-    search needs
-
--- src/templates.rt:110:5
-pair-requires-2 : tie.Need-pair-requires-2
-pair-requires-2 c κs =
-    search needs
-
--- src/templates.rt:83:1
-same-length-4 : tie.Need-same-length-4
-same-length-4 c =
-    search needs
-
--- src/templates.rt:83:1
 returns-4 : tie.Need-returns-4
 unfolding size
 returns-4 c =
@@ -120,20 +52,20 @@ pub template-name-spec : {M : Type 1} → statement M
 template-name-spec =
     tie.close
     (tie.spec
-    is-ellipsis-requires
-    same-length
+    (λ c κs. search needs)  -- is-ellipsis-requires
+    (λ c. search needs)  -- same-length
     returns
-    find-requires
-    enum-known-k
-    depth-fits-requires
-    put-variable-template-requires
-    pair-requires
-    same-length-2
+    (λ c κs. search needs)  -- find-requires
+    (λ c. search needs)  -- enum-known-k
+    (λ c κs. search needs)  -- depth-fits-requires
+    (λ c κs. search needs)  -- put-variable-template-requires
+    (λ c κs. search needs)  -- pair-requires
+    (λ c. search needs)  -- same-length-2
     returns-2
-    same-length-3
+    (λ c. search needs)  -- same-length-3
     returns-3
-    enum-told
-    put-insert-requires
-    pair-requires-2
-    same-length-4
+    (λ c. search needs)  -- enum-told
+    (λ c κs. search needs)  -- put-insert-requires
+    (λ c κs. search needs)  -- pair-requires-2
+    (λ c. search needs)  -- same-length-4
     returns-4)

@@ -32,6 +32,9 @@ gather-at t = and 2 gather-kinds.ps (is 2 gather-kinds.ps μ-gather t) gather.Pr
 abbrev gather-below : ℕ → In 2 gather-kinds.ps
 gather-below t = and 2 gather-kinds.ps (falls 2 gather-kinds.ps _<_ μ-gather t) gather.Pre
 
+abbrev gather-claims : ℕ → gather-lts.Claims
+gather-claims t = (word-reads.Asked, word-reads.Learnt, reference-reads.Asked, reference-reads.Learnt, depth-before-reads.Asked, depth-before-reads.Learnt, gather-below t, gather.Post, gather-name-reads.Asked, gather-name-reads.Learnt)
+
 abbrev gather-Inv-loop : gather-lts.InvT-loop
 gather-Inv-loop work vars₀ dots literals node w d n at₀ m₀ vars at m =
     (length vars ≡ length vars₀) × Gathering (dotsAt work dots w) (names (treeAt work literals w)) d work w node n vars₀ at m vars
@@ -40,101 +43,17 @@ abbrev gather-μ-loop : gather-lts.MeasureT-loop
 gather-μ-loop work vars₀ dots literals node w d n at₀ m₀ vars at m =
     at
 
--- src/variables.rt:164:5
-gather-loop-holds : (t : ℕ) → gather-lts.Need-loop-holds (
-  word-reads.Asked,
-  word-reads.Learnt,
-  reference-reads.Asked,
-  reference-reads.Learnt,
-  depth-before-reads.Asked,
-  depth-before-reads.Learnt,
-  gather-below t,
-  gather.Post,
-  gather-name-reads.Asked,
-  gather-name-reads.Learnt,
-) (gather-at t) gather.Post gather-Inv-loop gather-μ-loop
+gather-loop-holds : (t : ℕ) → gather-lts.Need-loop-holds (gather-claims t) (gather-at t) gather.Post gather-Inv-loop gather-μ-loop
 gather-loop-holds t c =
     let a = c .before .before .args in
     (refl, gathering-begins (a .work .now) (a .w) (a .node) (a .n) (a .vars .now) (dotsAt (a .work .now) (a .dots) (a .w)) (names (treeAt (a .work .now) (a .literals) (a .w))) (a .d) (c .before .before .pre .1 .1))
 
--- src/variables.rt:164:11
-gather-word-requires : (t : ℕ) → gather-lts.Need-word-requires (
-  word-reads.Asked,
-  word-reads.Learnt,
-  reference-reads.Asked,
-  reference-reads.Learnt,
-  depth-before-reads.Asked,
-  depth-before-reads.Learnt,
-  gather-below t,
-  gather.Post,
-  gather-name-reads.Asked,
-  gather-name-reads.Learnt,
-) (gather-at t) gather.Post gather-Inv-loop gather-μ-loop
-gather-word-requires t c κs =
-    search needs
-
--- src/variables.rt:165:13
-gather-reference-requires : (t : ℕ) → gather-lts.Need-reference-requires (
-  word-reads.Asked,
-  word-reads.Learnt,
-  reference-reads.Asked,
-  reference-reads.Learnt,
-  depth-before-reads.Asked,
-  depth-before-reads.Learnt,
-  gather-below t,
-  gather.Post,
-  gather-name-reads.Asked,
-  gather-name-reads.Learnt,
-) (gather-at t) gather.Post gather-Inv-loop gather-μ-loop
-gather-reference-requires t c κs =
-    search needs
-
--- src/variables.rt:166:13
-gather-reference-requires-2 : (t : ℕ) → gather-lts.Need-reference-requires-2 (
-  word-reads.Asked,
-  word-reads.Learnt,
-  reference-reads.Asked,
-  reference-reads.Learnt,
-  depth-before-reads.Asked,
-  depth-before-reads.Learnt,
-  gather-below t,
-  gather.Post,
-  gather-name-reads.Asked,
-  gather-name-reads.Learnt,
-) (gather-at t) gather.Post gather-Inv-loop gather-μ-loop
-gather-reference-requires-2 t c κs =
-    search needs
-
--- src/variables.rt:167:13
-gather-depth-before-requires : (t : ℕ) → gather-lts.Need-depth-before-requires (
-  word-reads.Asked,
-  word-reads.Learnt,
-  reference-reads.Asked,
-  reference-reads.Learnt,
-  depth-before-reads.Asked,
-  depth-before-reads.Learnt,
-  gather-below t,
-  gather.Post,
-  gather-name-reads.Asked,
-  gather-name-reads.Learnt,
-) (gather-at t) gather.Post gather-Inv-loop gather-μ-loop
+gather-depth-before-requires : (t : ℕ) → gather-lts.Need-depth-before-requires (gather-claims t) (gather-at t) gather.Post gather-Inv-loop gather-μ-loop
 gather-depth-before-requires t c κs =
     let l = c .before .before .before .before .loop in
     omega (arith, c .before .before .before .before .before .before .before .pre .1 .2, l .inv .1 .low, pair-falls (c .before .before .before .before .before .before .before .args .work .now) (l .at) 1 (sym (c .before .before .before .word .ensures) ∙ c .before .before .if1 .taken), c .reference2 .ensures)
 
--- src/variables.rt:168:13
-gather-gather-requires : (t : ℕ) → gather-lts.Need-gather-requires (
-  word-reads.Asked,
-  word-reads.Learnt,
-  reference-reads.Asked,
-  reference-reads.Learnt,
-  depth-before-reads.Asked,
-  depth-before-reads.Learnt,
-  gather-below t,
-  gather.Post,
-  gather-name-reads.Asked,
-  gather-name-reads.Learnt,
-) (gather-at t) gather.Post gather-Inv-loop gather-μ-loop
+gather-gather-requires : (t : ℕ) → gather-lts.Need-gather-requires (gather-claims t) (gather-at t) gather.Post gather-Inv-loop gather-μ-loop
 gather-gather-requires t c κs =
     let p = c .before .before .before .before .before .before .before .before .before .pre in
     let l = c .before .before .before .before .before .before .loop in
@@ -147,35 +66,7 @@ gather-gather-requires t c κs =
       ),
     )
 
--- src/variables.rt:170:13
-gather-same-length : (t : ℕ) → gather-lts.Need-same-length (
-  word-reads.Asked,
-  word-reads.Learnt,
-  reference-reads.Asked,
-  reference-reads.Learnt,
-  depth-before-reads.Asked,
-  depth-before-reads.Learnt,
-  gather-below t,
-  gather.Post,
-  gather-name-reads.Asked,
-  gather-name-reads.Learnt,
-) (gather-at t) gather.Post gather-Inv-loop gather-μ-loop
-gather-same-length t c =
-    search needs
-
--- src/variables.rt:170:13
-gather-returns : (t : ℕ) → gather-lts.Need-returns (
-  word-reads.Asked,
-  word-reads.Learnt,
-  reference-reads.Asked,
-  reference-reads.Learnt,
-  depth-before-reads.Asked,
-  depth-before-reads.Learnt,
-  gather-below t,
-  gather.Post,
-  gather-name-reads.Asked,
-  gather-name-reads.Learnt,
-) (gather-at t) gather.Post gather-Inv-loop gather-μ-loop
+gather-returns : (t : ℕ) → gather-lts.Need-returns (gather-claims t) (gather-at t) gather.Post gather-Inv-loop gather-μ-loop
 unfolding keptOf
 gather-returns t c =
     let a = c .before .before .before .before .before .before .before .before .before .before .before .before .before .args in
@@ -184,35 +75,11 @@ gather-returns t c =
     l .inv .1 .all (g .last .1 .0) Bad
     (gathered-bad (a .work .now) (a .w) (l .at) (l .m) (l .vars) (dotsAt (a .work .now) (a .dots) (a .w)) (names (treeAt (a .work .now) (a .literals) (a .w))) (a .d) _ _ _ (sym (c .before .before .before .before .before .before .before .before .before .word .ensures) ∙ c .before .before .before .before .before .before .before .before .if1 .taken) (c .before .before .before .before .before .before .before .reference .ensures) (c .before .before .before .before .before .before .reference2 .ensures) (c .before .before .before .before .before .depth-before .ensures) _ (keptOf (g .result)) (kept-bad (g .result) (c .if2 .taken)) (g .ensures))
 
--- src/variables.rt:164:5
-gather-loop-less : (t : ℕ) → gather-lts.Need-loop-less (
-  word-reads.Asked,
-  word-reads.Learnt,
-  reference-reads.Asked,
-  reference-reads.Learnt,
-  depth-before-reads.Asked,
-  depth-before-reads.Learnt,
-  gather-below t,
-  gather.Post,
-  gather-name-reads.Asked,
-  gather-name-reads.Learnt,
-) (gather-at t) gather.Post gather-Inv-loop gather-μ-loop
+gather-loop-less : (t : ℕ) → gather-lts.Need-loop-less (gather-claims t) (gather-at t) gather.Post gather-Inv-loop gather-μ-loop
 gather-loop-less t c =
     omega (arith, pair-falls (c .before .before .before .before .before .before .before .before .before .before .before .before .before .args .work .now) (c .before .before .before .before .before .before .before .before .before .before .loop .at) 1 (sym (c .before .before .before .before .before .before .before .before .before .word .ensures) ∙ c .before .before .before .before .before .before .before .before .if1 .taken), c .before .before .before .before .before .before .reference2 .ensures)
 
--- src/variables.rt:164:5
-gather-loop-again : (t : ℕ) → gather-lts.Need-loop-again (
-  word-reads.Asked,
-  word-reads.Learnt,
-  reference-reads.Asked,
-  reference-reads.Learnt,
-  depth-before-reads.Asked,
-  depth-before-reads.Learnt,
-  gather-below t,
-  gather.Post,
-  gather-name-reads.Asked,
-  gather-name-reads.Learnt,
-) (gather-at t) gather.Post gather-Inv-loop gather-μ-loop
+gather-loop-again : (t : ℕ) → gather-lts.Need-loop-again (gather-claims t) (gather-at t) gather.Post gather-Inv-loop gather-μ-loop
 gather-loop-again t c =
     let a = c .before .before .before .before .before .before .before .before .before .before .before .before .before .args in
     let l = c .before .before .before .before .before .before .before .before .before .before .loop in
@@ -223,69 +90,13 @@ gather-loop-again t c =
           (l .inv .1),
     )
 
--- src/variables.rt:175:8
-gather-word-requires-2 : (t : ℕ) → gather-lts.Need-word-requires-2 (
-  word-reads.Asked,
-  word-reads.Learnt,
-  reference-reads.Asked,
-  reference-reads.Learnt,
-  depth-before-reads.Asked,
-  depth-before-reads.Learnt,
-  gather-below t,
-  gather.Post,
-  gather-name-reads.Asked,
-  gather-name-reads.Learnt,
-) (gather-at t) gather.Post gather-Inv-loop gather-μ-loop
-gather-word-requires-2 t c κs =
-    search needs
-
--- src/variables.rt:176:9
-gather-gather-name-requires : (t : ℕ) → gather-lts.Need-gather-name-requires (
-  word-reads.Asked,
-  word-reads.Learnt,
-  reference-reads.Asked,
-  reference-reads.Learnt,
-  depth-before-reads.Asked,
-  depth-before-reads.Learnt,
-  gather-below t,
-  gather.Post,
-  gather-name-reads.Asked,
-  gather-name-reads.Learnt,
-) (gather-at t) gather.Post gather-Inv-loop gather-μ-loop
+gather-gather-name-requires : (t : ℕ) → gather-lts.Need-gather-name-requires (gather-claims t) (gather-at t) gather.Post gather-Inv-loop gather-μ-loop
 gather-gather-name-requires t c κs =
     let p = c .before .before .before .before .before .before .before .before .pre in
     let l = c .before .before .before .before .before .loop in
     (omega (arith, p .1 .0, l .inv .0), l .inv .1 .held)
 
--- src/variables.rt:176:9
-gather-same-length-2 : (t : ℕ) → gather-lts.Need-same-length-2 (
-  word-reads.Asked,
-  word-reads.Learnt,
-  reference-reads.Asked,
-  reference-reads.Learnt,
-  depth-before-reads.Asked,
-  depth-before-reads.Learnt,
-  gather-below t,
-  gather.Post,
-  gather-name-reads.Asked,
-  gather-name-reads.Learnt,
-) (gather-at t) gather.Post gather-Inv-loop gather-μ-loop
-gather-same-length-2 t c =
-    search needs
-
--- src/variables.rt:176:9
-gather-returns-2 : (t : ℕ) → gather-lts.Need-returns-2 (
-  word-reads.Asked,
-  word-reads.Learnt,
-  reference-reads.Asked,
-  reference-reads.Learnt,
-  depth-before-reads.Asked,
-  depth-before-reads.Learnt,
-  gather-below t,
-  gather.Post,
-  gather-name-reads.Asked,
-  gather-name-reads.Learnt,
-) (gather-at t) gather.Post gather-Inv-loop gather-μ-loop
+gather-returns-2 : (t : ℕ) → gather-lts.Need-returns-2 (gather-claims t) (gather-at t) gather.Post gather-Inv-loop gather-μ-loop
 gather-returns-2 t c =
     let a = c .before .before .before .before .before .before .before .before .before .before .before .args in
     let l = c .before .before .before .before .before .before .before .before .loop in
@@ -293,35 +104,7 @@ gather-returns-2 t c =
     l .inv .1 .all (g .last .1 .0) (keptOf (g .result))
     (gathered-name (a .work .now) (a .w) (l .at) (l .m) (l .vars) (dotsAt (a .work .now) (a .dots) (a .w)) (names (treeAt (a .work .now) (a .literals) (a .w))) (a .d) (g .last .1 .0) (keptOf (g .result)) (sym (c .before .before .before .before .before .word2 .ensures) ∙ c .before .before .before .before .if3 .taken) (g .ensures))
 
--- src/variables.rt:149:1
-gather-same-length-3 : (t : ℕ) → gather-lts.Need-same-length-3 (
-  word-reads.Asked,
-  word-reads.Learnt,
-  reference-reads.Asked,
-  reference-reads.Learnt,
-  depth-before-reads.Asked,
-  depth-before-reads.Learnt,
-  gather-below t,
-  gather.Post,
-  gather-name-reads.Asked,
-  gather-name-reads.Learnt,
-) (gather-at t) gather.Post gather-Inv-loop gather-μ-loop
-gather-same-length-3 t c =
-    search needs
-
--- src/variables.rt:149:1
-gather-returns-3 : (t : ℕ) → gather-lts.Need-returns-3 (
-  word-reads.Asked,
-  word-reads.Learnt,
-  reference-reads.Asked,
-  reference-reads.Learnt,
-  depth-before-reads.Asked,
-  depth-before-reads.Learnt,
-  gather-below t,
-  gather.Post,
-  gather-name-reads.Asked,
-  gather-name-reads.Learnt,
-) (gather-at t) gather.Post gather-Inv-loop gather-μ-loop
+gather-returns-3 : (t : ℕ) → gather-lts.Need-returns-3 (gather-claims t) (gather-at t) gather.Post gather-Inv-loop gather-μ-loop
 gather-returns-3 t c =
     let a = c .before .before .before .before .before .before .before .args in
     let l = c .before .before .before .before .loop in
@@ -330,35 +113,24 @@ gather-returns-3 t c =
     (gathered-other (a .work .now) (a .w) (l .at) (l .m) (l .vars) (dotsAt (a .work .now) (a .dots) (a .w)) (names (treeAt (a .work .now) (a .literals) (a .w))) (a .d) (λ z. c .if3 .left (c .before .word2 .ensures ∙ z)) (λ z. c .before .before .if1 .left (c .before .before .before .word .ensures ∙ z)) (l .inv .1 .held)))
 
 pub +gather-spec : {M : Type 1} → statement M
-+gather-spec = close μ-gather λ t. gather-lts.spec (
-  word-reads.Asked,
-  word-reads.Learnt,
-  reference-reads.Asked,
-  reference-reads.Learnt,
-  depth-before-reads.Asked,
-  depth-before-reads.Learnt,
-  gather-below t,
-  gather.Post,
-  gather-name-reads.Asked,
-  gather-name-reads.Learnt,
-)
++gather-spec = close μ-gather λ t. gather-lts.spec (gather-claims t)
     (gather-at t)
     gather.Post
     gather-Inv-loop
     gather-μ-loop
     (gather-loop-holds t)
-    (gather-word-requires t)
-    (gather-reference-requires t)
-    (gather-reference-requires-2 t)
+    (λ c κs. search needs)  -- gather-word-requires
+    (λ c κs. search needs)  -- gather-reference-requires
+    (λ c κs. search needs)  -- gather-reference-requires-2
     (gather-depth-before-requires t)
     (gather-gather-requires t)
-    (gather-same-length t)
+    (λ c. search needs)  -- gather-same-length
     (gather-returns t)
     (gather-loop-less t)
     (gather-loop-again t)
-    (gather-word-requires-2 t)
+    (λ c κs. search needs)  -- gather-word-requires-2
     (gather-gather-name-requires t)
-    (gather-same-length-2 t)
+    (λ c. search needs)  -- gather-same-length-2
     (gather-returns-2 t)
-    (gather-same-length-3 t)
+    (λ c. search needs)  -- gather-same-length-3
     (gather-returns-3 t)

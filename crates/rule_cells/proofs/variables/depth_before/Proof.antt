@@ -11,17 +11,14 @@ use Rattle.arena.specs.Arena.{wordAt, nameAt, treeAt}
 use Rattle.rule_cells.specs.Dots.{dotsAt}
 use Rattle.rule_cells.specs.VariableLaws.{deeper-by}
 
--- src/variables.rt:101:19
 dots-next-requires : tie.Need-dots-next-requires
 dots-next-requires c κs =
     search needs
 
--- src/variables.rt:101:5
 element-depth-requires : tie.Need-element-depth-requires
 element-depth-requires c κs =
     search needs
 
--- src/variables.rt:97:1
 returns : tie.Need-returns
 returns c =
     let a = c .before .before .before .args in deeper-by (dotsAt (a .work .now) (a .dots) (a .w)) (treeAt (a .work .now) (a .rest) (a .w)) (a .d) _ _ (c .element-depth .ensures) (c .before .dots-next .ensures)

@@ -14,29 +14,24 @@ use borrow.Author.Tests.{not-true, not-false}
 use mathlib.Core.Path.{sym, _∙_}
 use Rattle.rule_cells.specs.Dots.{dotsAt}
 
--- src/variables.rt:141:9
 is-variable-requires : tie.Need-is-variable-requires
 is-variable-requires c κs =
     search needs
 
--- src/variables.rt:142:9
 returns : tie.Need-returns
 returns c =
     let a = c .before .before .before .before .args in
     let no = sym (c .before .is-variable .ensures) ∙ not-true _ (c .if1 .taken) in
     gathered-count _ _ _ _ _ _ _ _ (gathered-no (a .work .now) (a .w) (a .node) (a .n) (a .vars .now) (dotsAt (a .work .now) (a .dots) (a .w)) (names (treeAt (a .work .now) (a .literals) (a .w))) (a .d) (nameAt (a .work .now) (a .node) (a .w)) no (c .before .before .before .before .pre .1))
 
--- src/variables.rt:144:5
 add-requires : tie.Need-add-requires
 add-requires c κs =
     (c .before .before .before .before .before .pre .0, c .before .before .before .before .before .pre .1)
 
--- src/variables.rt:128:1
 same-length : tie.Need-same-length
 same-length c =
     search needs
 
--- src/variables.rt:128:1
 returns-2 : tie.Need-returns-2
 returns-2 c =
     let a = c .before .before .before .before .before .before .before .before .args in

@@ -14,41 +14,22 @@ use Rattle.rule_cells.specs.GatherLaws.{dots-no-variable, wildcard-no-va
 use Rattle.recipe.specs.Tree.{names}
 use Rattle.arena.specs.NodeLaws.{nameAt-number}
 
--- src/variables.rt:53:8
-is-ellipsis-requires : tie.Need-is-ellipsis-requires
-is-ellipsis-requires c κs =
-    search needs
-
--- src/variables.rt:54:9
 returns : tie.Need-returns
 returns c =
     let a = c .before .before .before .args in sym (dots-no-variable (dotsAt (a .work .now) (a .dots) (a .w)) (names (treeAt (a .work .now) (a .literals) (a .w))) (nameAt (a .work .now) (a .node) (a .w)) (sym (c .before .is-ellipsis .ensures) ∙ c .if1 .taken))
 
--- src/variables.rt:56:8
-number-of-requires : tie.Need-number-of-requires
-number-of-requires c κs =
-    search needs
-
--- src/variables.rt:57:9
 returns-2 : tie.Need-returns-2
 returns-2 c =
     let a = c .before .before .before .before .before .args in
     let number-is = nameAt-number (a .work .now) (a .node) (a .w) ∙ sym (c .before .number-of .ensures) in
     sym (wildcard-no-variable (dotsAt (a .work .now) (a .dots) (a .w)) (names (treeAt (a .work .now) (a .literals) (a .w))) (nameAt (a .work .now) (a .node) (a .w)) (sym (c .before .before .before .is-ellipsis .ensures) ∙ c .before .before .if1 .left) (number-is ∙ c .if2 .taken))
 
--- src/variables.rt:59:8
-is-literal-requires : tie.Need-is-literal-requires
-is-literal-requires c κs =
-    search needs
-
--- src/variables.rt:60:9
 returns-3 : tie.Need-returns-3
 returns-3 c =
     let a = c .before .before .before .before .before .before .before .args in
     let number-is = nameAt-number (a .work .now) (a .node) (a .w) ∙ sym (c .before .before .before .number-of .ensures) in
     sym (literal-no-variable (dotsAt (a .work .now) (a .dots) (a .w)) (names (treeAt (a .work .now) (a .literals) (a .w))) (nameAt (a .work .now) (a .node) (a .w)) (sym (c .before .before .before .before .before .is-ellipsis .ensures) ∙ c .before .before .before .before .if1 .left) (λ z. c .before .before .if2 .left (sym number-is ∙ z)) (sym (c .if3 .taken) ∙ c .before .is-literal .ensures))
 
--- src/variables.rt:50:1
 returns-4 : tie.Need-returns-4
 returns-4 c =
     let a = c .before .before .before .before .before .before .before .args in
@@ -59,10 +40,10 @@ pub is-variable-spec : {M : Type 1} → statement M
 is-variable-spec =
     tie.close
     (tie.spec
-    is-ellipsis-requires
+    (λ c κs. search needs)  -- is-ellipsis-requires
     returns
-    number-of-requires
+    (λ c κs. search needs)  -- number-of-requires
     returns-2
-    is-literal-requires
+    (λ c κs. search needs)  -- is-literal-requires
     returns-3
     returns-4)

@@ -72,6 +72,18 @@ abbrev part-fits-below : ℕ → In 1 part-fits-kinds.ps
 part-fits-below t =
     and 1 part-fits-kinds.ps (falls 1 part-fits-kinds.ps _<_ μ-part-fits t) part-fits.Pre
 
+abbrev each-fits-claims : ℕ → each-fits-lts.Claims
+each-fits-claims t = (reference-reads.Asked, reference-reads.Learnt, share-reads.Asked, share-reads.Learnt, word-reads.Asked, word-reads.Learnt, part-fits-below t, part-fits.Post, fits-below t, fits.Post)
+
+abbrev end-fits-claims : ℕ → end-fits-lts.Claims
+end-fits-claims t = (word-reads.Asked, word-reads.Learnt, literal-fits-reads.Asked, literal-fits-reads.Learnt, constant-fits-reads.Asked, constant-fits-reads.Learnt, each-fits-below t, each-fits.Post)
+
+abbrev fits-claims : ℕ → fits-lts.Claims
+fits-claims t = (word-reads.Asked, word-reads.Learnt, reference-reads.Asked, reference-reads.Learnt, part-fits-below t, part-fits.Post, end-fits-below t, end-fits.Post)
+
+abbrev part-fits-claims : ℕ → part-fits-lts.Claims
+part-fits-claims t = (word-reads.Asked, word-reads.Learnt, fits-below t, fits.Post)
+
 abbrev each-fits-Inv-loop : each-fits-lts.InvT-loop
 each-fits-Inv-loop work p list w element node₀ left₀ node left =
     Matched work p list w node left
@@ -80,314 +92,54 @@ abbrev each-fits-μ-loop : each-fits-lts.MeasureT-loop
 each-fits-μ-loop work p list w element node₀ left₀ node left =
     left
 
--- src/fits.rt:105:9
-each-fits-reference-requires : (t : ℕ) → each-fits-lts.Need-reference-requires (
-  reference-reads.Asked,
-  reference-reads.Learnt,
-  share-reads.Asked,
-  share-reads.Learnt,
-  word-reads.Asked,
-  word-reads.Learnt,
-  part-fits-below t,
-  part-fits.Post,
-  fits-below t,
-  fits.Post,
-) (each-fits-at t) each-fits.Post each-fits-Inv-loop each-fits-μ-loop
-each-fits-reference-requires t c κs =
-    search needs
-
--- src/fits.rt:107:9
-each-fits-share-requires : (t : ℕ) → each-fits-lts.Need-share-requires (
-  reference-reads.Asked,
-  reference-reads.Learnt,
-  share-reads.Asked,
-  share-reads.Learnt,
-  word-reads.Asked,
-  word-reads.Learnt,
-  part-fits-below t,
-  part-fits.Post,
-  fits-below t,
-  fits.Post,
-) (each-fits-at t) each-fits.Post each-fits-Inv-loop each-fits-μ-loop
-each-fits-share-requires t c κs =
-    search needs
-
--- src/fits.rt:108:5
-each-fits-loop-holds : (t : ℕ) → each-fits-lts.Need-loop-holds (
-  reference-reads.Asked,
-  reference-reads.Learnt,
-  share-reads.Asked,
-  share-reads.Learnt,
-  word-reads.Asked,
-  word-reads.Learnt,
-  part-fits-below t,
-  part-fits.Post,
-  fits-below t,
-  fits.Post,
-) (each-fits-at t) each-fits.Post each-fits-Inv-loop each-fits-μ-loop
+each-fits-loop-holds : (t : ℕ) → each-fits-lts.Need-loop-holds (each-fits-claims t) (each-fits-at t) each-fits.Post each-fits-Inv-loop each-fits-μ-loop
 each-fits-loop-holds t c =
     let a = c .before .before .before .args in
     each-begins (a .work .now) (a .p) (a .list) (a .w) _ (c .before .before .before .pre .1) (c .share .ensures)
 
--- src/fits.rt:109:12
-each-fits-word-requires : (t : ℕ) → each-fits-lts.Need-word-requires (
-  reference-reads.Asked,
-  reference-reads.Learnt,
-  share-reads.Asked,
-  share-reads.Learnt,
-  word-reads.Asked,
-  word-reads.Learnt,
-  part-fits-below t,
-  part-fits.Post,
-  fits-below t,
-  fits.Post,
-) (each-fits-at t) each-fits.Post each-fits-Inv-loop each-fits-μ-loop
-each-fits-word-requires t c κs =
-    search needs
-
--- src/fits.rt:110:13
-each-fits-returns : (t : ℕ) → each-fits-lts.Need-returns (
-  reference-reads.Asked,
-  reference-reads.Learnt,
-  share-reads.Asked,
-  share-reads.Learnt,
-  word-reads.Asked,
-  word-reads.Learnt,
-  part-fits-below t,
-  part-fits.Post,
-  fits-below t,
-  fits.Post,
-) (each-fits-at t) each-fits.Post each-fits-Inv-loop each-fits-μ-loop
+each-fits-returns : (t : ℕ) → each-fits-lts.Need-returns (each-fits-claims t) (each-fits-at t) each-fits.Post each-fits-Inv-loop each-fits-μ-loop
 each-fits-returns t c =
     let a = c .before .before .before .before .before .before .before .args in
     let loop = c .before .before .before .loop in
     each-short (a .work .now) (a .p) (a .list) (a .w) (loop .node) (loop .left) (loop .inv) _ _ (fewer (loop .left) (c .before .before .loop-test .taken)) (c .before .word .ensures) (c .if1 .taken)
 
--- src/fits.rt:112:13
-each-fits-reference-requires-2 : (t : ℕ) → each-fits-lts.Need-reference-requires-2 (
-  reference-reads.Asked,
-  reference-reads.Learnt,
-  share-reads.Asked,
-  share-reads.Learnt,
-  word-reads.Asked,
-  word-reads.Learnt,
-  part-fits-below t,
-  part-fits.Post,
-  fits-below t,
-  fits.Post,
-) (each-fits-at t) each-fits.Post each-fits-Inv-loop each-fits-μ-loop
-each-fits-reference-requires-2 t c κs =
-    search needs
-
--- src/fits.rt:113:13
-each-fits-part-fits-requires : (t : ℕ) → each-fits-lts.Need-part-fits-requires (
-  reference-reads.Asked,
-  reference-reads.Learnt,
-  share-reads.Asked,
-  share-reads.Learnt,
-  word-reads.Asked,
-  word-reads.Learnt,
-  part-fits-below t,
-  part-fits.Post,
-  fits-below t,
-  fits.Post,
-) (each-fits-at t) each-fits.Post each-fits-Inv-loop each-fits-μ-loop
+each-fits-part-fits-requires : (t : ℕ) → each-fits-lts.Need-part-fits-requires (each-fits-claims t) (each-fits-at t) each-fits.Post each-fits-Inv-loop each-fits-μ-loop
 each-fits-part-fits-requires t c κs =
     let a = c .before .before .before .before .before .before .before .before .args in
     let l = tag-falls (a .work .now) (a .p) 7 (sym (c .before .before .before .before .before .before .before .before .pre .1)) 3 _ (λ z. omega arith) (c .before .before .before .before .before .before .reference .ensures) in
     omega (arith, l, c .before .before .before .before .before .before .before .before .pre .0)
 
--- src/fits.rt:114:13
-each-fits-returns-2 : (t : ℕ) → each-fits-lts.Need-returns-2 (
-  reference-reads.Asked,
-  reference-reads.Learnt,
-  share-reads.Asked,
-  share-reads.Learnt,
-  word-reads.Asked,
-  word-reads.Learnt,
-  part-fits-below t,
-  part-fits.Post,
-  fits-below t,
-  fits.Post,
-) (each-fits-at t) each-fits.Post each-fits-Inv-loop each-fits-μ-loop
+each-fits-returns-2 : (t : ℕ) → each-fits-lts.Need-returns-2 (each-fits-claims t) (each-fits-at t) each-fits.Post each-fits-Inv-loop each-fits-μ-loop
 each-fits-returns-2 t c =
     let a = c .before .before .before .before .before .before .before .before .before .before .args in
     let loop = c .before .before .before .before .before .before .loop in
     each-no (a .work .now) (a .p) (a .list) (a .w) (loop .node) (loop .left) (loop .inv) _ _ (fewer (loop .left) (c .before .before .before .before .before .loop-test .taken)) (c .before .before .before .before .word .ensures) _ _ _ (c .before .before .before .if1 .left) (c .before .before .before .before .before .before .before .before .reference .ensures) (c .before .before .reference2 .ensures) (c .before .part-fits .ensures) (not-true _ (c .if2 .taken))
 
--- src/fits.rt:116:9
-each-fits-reference-requires-3 : (t : ℕ) → each-fits-lts.Need-reference-requires-3 (
-  reference-reads.Asked,
-  reference-reads.Learnt,
-  share-reads.Asked,
-  share-reads.Learnt,
-  word-reads.Asked,
-  word-reads.Learnt,
-  part-fits-below t,
-  part-fits.Post,
-  fits-below t,
-  fits.Post,
-) (each-fits-at t) each-fits.Post each-fits-Inv-loop each-fits-μ-loop
-each-fits-reference-requires-3 t c κs =
-    search needs
-
--- src/fits.rt:117:9
-each-fits-sub-left : (t : ℕ) → each-fits-lts.Need-sub-left (
-  reference-reads.Asked,
-  reference-reads.Learnt,
-  share-reads.Asked,
-  share-reads.Learnt,
-  word-reads.Asked,
-  word-reads.Learnt,
-  part-fits-below t,
-  part-fits.Post,
-  fits-below t,
-  fits.Post,
-) (each-fits-at t) each-fits.Post each-fits-Inv-loop each-fits-μ-loop
-each-fits-sub-left t c =
-    search needs
-
--- src/fits.rt:108:5
-each-fits-loop-less : (t : ℕ) → each-fits-lts.Need-loop-less (
-  reference-reads.Asked,
-  reference-reads.Learnt,
-  share-reads.Asked,
-  share-reads.Learnt,
-  word-reads.Asked,
-  word-reads.Learnt,
-  part-fits-below t,
-  part-fits.Post,
-  fits-below t,
-  fits.Post,
-) (each-fits-at t) each-fits.Post each-fits-Inv-loop each-fits-μ-loop
-each-fits-loop-less t c =
-    search needs
-
--- src/fits.rt:108:5
-each-fits-loop-again : (t : ℕ) → each-fits-lts.Need-loop-again (
-  reference-reads.Asked,
-  reference-reads.Learnt,
-  share-reads.Asked,
-  share-reads.Learnt,
-  word-reads.Asked,
-  word-reads.Learnt,
-  part-fits-below t,
-  part-fits.Post,
-  fits-below t,
-  fits.Post,
-) (each-fits-at t) each-fits.Post each-fits-Inv-loop each-fits-μ-loop
+each-fits-loop-again : (t : ℕ) → each-fits-lts.Need-loop-again (each-fits-claims t) (each-fits-at t) each-fits.Post each-fits-Inv-loop each-fits-μ-loop
 each-fits-loop-again t c =
     let a = c .before .before .before .before .before .before .before .before .before .before .before .args in
     let loop = c .before .before .before .before .before .before .before .loop in
     each-more (a .work .now) (a .p) (a .list) (a .w) (loop .node) (loop .left) (loop .inv) _ _ (fewer (loop .left) (c .before .before .before .before .before .before .loop-test .taken)) (c .before .before .before .before .before .word .ensures) _ _ _ (c .before .before .before .before .if1 .left) (c .before .before .before .before .before .before .before .before .before .reference .ensures) (c .before .before .before .reference2 .ensures) (c .before .before .part-fits .ensures) _ (not-false _ (c .before .if2 .left)) (c .reference3 .ensures)
 
--- src/fits.rt:119:9
-each-fits-reference-requires-4 : (t : ℕ) → each-fits-lts.Need-reference-requires-4 (
-  reference-reads.Asked,
-  reference-reads.Learnt,
-  share-reads.Asked,
-  share-reads.Learnt,
-  word-reads.Asked,
-  word-reads.Learnt,
-  part-fits-below t,
-  part-fits.Post,
-  fits-below t,
-  fits.Post,
-) (each-fits-at t) each-fits.Post each-fits-Inv-loop each-fits-μ-loop
-each-fits-reference-requires-4 t c κs =
-    search needs
-
--- src/fits.rt:120:5
-each-fits-fits-requires : (t : ℕ) → each-fits-lts.Need-fits-requires (
-  reference-reads.Asked,
-  reference-reads.Learnt,
-  share-reads.Asked,
-  share-reads.Learnt,
-  word-reads.Asked,
-  word-reads.Learnt,
-  part-fits-below t,
-  part-fits.Post,
-  fits-below t,
-  fits.Post,
-) (each-fits-at t) each-fits.Post each-fits-Inv-loop each-fits-μ-loop
+each-fits-fits-requires : (t : ℕ) → each-fits-lts.Need-fits-requires (each-fits-claims t) (each-fits-at t) each-fits.Post each-fits-Inv-loop each-fits-μ-loop
 each-fits-fits-requires t c κs =
     let a = c .before .before .before .before .before .before .args in
     let l = tag-falls (a .work .now) (a .p) 7 (sym (c .before .before .before .before .before .before .pre .1)) 2 _ (λ z. omega arith) (c .reference4 .ensures) in
     (omega (arith, l, c .before .before .before .before .before .before .pre .0), tt)
 
--- src/fits.rt:101:1
-each-fits-returns-3 : (t : ℕ) → each-fits-lts.Need-returns-3 (
-  reference-reads.Asked,
-  reference-reads.Learnt,
-  share-reads.Asked,
-  share-reads.Learnt,
-  word-reads.Asked,
-  word-reads.Learnt,
-  part-fits-below t,
-  part-fits.Post,
-  fits-below t,
-  fits.Post,
-) (each-fits-at t) each-fits.Post each-fits-Inv-loop each-fits-μ-loop
+each-fits-returns-3 : (t : ℕ) → each-fits-lts.Need-returns-3 (each-fits-claims t) (each-fits-at t) each-fits.Post each-fits-Inv-loop each-fits-μ-loop
 each-fits-returns-3 t c =
     let a = c .before .before .before .before .before .before .before .args in
     let loop = c .before .before .before .loop in
     each-ends (a .work .now) (a .p) (a .list) (a .w) (loop .node) (loop .left) (loop .inv) _ _ (c .before .before .loop-test .left) (c .before .reference4 .ensures) (c .fits2 .ensures)
 
--- src/fits.rt:50:9
-end-fits-word-requires : (t : ℕ) → end-fits-lts.Need-word-requires (
-  word-reads.Asked,
-  word-reads.Learnt,
-  literal-fits-reads.Asked,
-  literal-fits-reads.Learnt,
-  constant-fits-reads.Asked,
-  constant-fits-reads.Learnt,
-  each-fits-below t,
-  each-fits.Post,
-) (end-fits-at t) end-fits.Post
-end-fits-word-requires t c κs =
-    search needs
-
--- src/fits.rt:52:9
-end-fits-returns : (t : ℕ) → end-fits-lts.Need-returns (
-  word-reads.Asked,
-  word-reads.Learnt,
-  literal-fits-reads.Asked,
-  literal-fits-reads.Learnt,
-  constant-fits-reads.Asked,
-  constant-fits-reads.Learnt,
-  each-fits-below t,
-  each-fits.Post,
-) (end-fits-at t) end-fits.Post
+end-fits-returns : (t : ℕ) → end-fits-lts.Need-returns (end-fits-claims t) (end-fits-at t) end-fits.Post
 end-fits-returns t c =
     let a = c .before .before .before .args in
     let word = c .before .word in
     fits-variable (a .work .now) (a .p) _ (word .ensures) (a .u) (a .w) (c .if1 .taken)
 
--- src/fits.rt:55:9
-end-fits-literal-fits-requires : (t : ℕ) → end-fits-lts.Need-literal-fits-requires (
-  word-reads.Asked,
-  word-reads.Learnt,
-  literal-fits-reads.Asked,
-  literal-fits-reads.Learnt,
-  constant-fits-reads.Asked,
-  constant-fits-reads.Learnt,
-  each-fits-below t,
-  each-fits.Post,
-) (end-fits-at t) end-fits.Post
-end-fits-literal-fits-requires t c κs =
-    search needs
-
--- src/fits.rt:55:9
-end-fits-returns-2 : (t : ℕ) → end-fits-lts.Need-returns-2 (
-  word-reads.Asked,
-  word-reads.Learnt,
-  literal-fits-reads.Asked,
-  literal-fits-reads.Learnt,
-  constant-fits-reads.Asked,
-  constant-fits-reads.Learnt,
-  each-fits-below t,
-  each-fits.Post,
-) (end-fits-at t) end-fits.Post
+end-fits-returns-2 : (t : ℕ) → end-fits-lts.Need-returns-2 (end-fits-claims t) (end-fits-at t) end-fits.Post
 end-fits-returns-2 t c =
     let a = c .before .before .before .before .before .args in
     let word = c .before .before .before .word in
@@ -395,106 +147,28 @@ end-fits-returns-2 t c =
     let literal-fits = c .literal-fits in
     fits-literal (a .work .now) (a .p) _ (word .ensures) (a .u) (a .w) _ (if2 .taken) (literal-fits .ensures)
 
--- src/fits.rt:58:9
-end-fits-returns-3 : (t : ℕ) → end-fits-lts.Need-returns-3 (
-  word-reads.Asked,
-  word-reads.Learnt,
-  literal-fits-reads.Asked,
-  literal-fits-reads.Learnt,
-  constant-fits-reads.Asked,
-  constant-fits-reads.Learnt,
-  each-fits-below t,
-  each-fits.Post,
-) (end-fits-at t) end-fits.Post
+end-fits-returns-3 : (t : ℕ) → end-fits-lts.Need-returns-3 (end-fits-claims t) (end-fits-at t) end-fits.Post
 end-fits-returns-3 t c =
     let a = c .before .before .before .before .before .args in
     let word = c .before .before .before .word in
     fits-wildcard (a .work .now) (a .p) _ (word .ensures) (a .u) (a .w) (c .if3 .taken)
 
--- src/fits.rt:61:9
-end-fits-constant-fits-requires : (t : ℕ) → end-fits-lts.Need-constant-fits-requires (
-  word-reads.Asked,
-  word-reads.Learnt,
-  literal-fits-reads.Asked,
-  literal-fits-reads.Learnt,
-  constant-fits-reads.Asked,
-  constant-fits-reads.Learnt,
-  each-fits-below t,
-  each-fits.Post,
-) (end-fits-at t) end-fits.Post
-end-fits-constant-fits-requires t c κs =
-    search needs
-
--- src/fits.rt:61:9
-end-fits-returns-4 : (t : ℕ) → end-fits-lts.Need-returns-4 (
-  word-reads.Asked,
-  word-reads.Learnt,
-  literal-fits-reads.Asked,
-  literal-fits-reads.Learnt,
-  constant-fits-reads.Asked,
-  constant-fits-reads.Learnt,
-  each-fits-below t,
-  each-fits.Post,
-) (end-fits-at t) end-fits.Post
+end-fits-returns-4 : (t : ℕ) → end-fits-lts.Need-returns-4 (end-fits-claims t) (end-fits-at t) end-fits.Post
 end-fits-returns-4 t c =
     let a = c .before .before .before .before .before .before .before .args in
     let word = c .before .before .before .before .before .word in
     let if4 = c .before .if4 in
     fits-constant (a .work .now) (a .p) _ (word .ensures) (a .u) (a .w) _ (if4 .taken) (c .constant-fits .ensures)
 
--- src/fits.rt:64:9
-end-fits-each-fits-requires : (t : ℕ) → end-fits-lts.Need-each-fits-requires (
-  word-reads.Asked,
-  word-reads.Learnt,
-  literal-fits-reads.Asked,
-  literal-fits-reads.Learnt,
-  constant-fits-reads.Asked,
-  constant-fits-reads.Learnt,
-  each-fits-below t,
-  each-fits.Post,
-) (end-fits-at t) end-fits.Post
+end-fits-each-fits-requires : (t : ℕ) → end-fits-lts.Need-each-fits-requires (end-fits-claims t) (end-fits-at t) end-fits.Post
 end-fits-each-fits-requires t c κs =
     (omega (arith, c .before .before .before .before .before .before .before .pre .0), sym (c .before .before .before .before .before .word .ensures) ∙ c .if5 .taken)
 
--- src/fits.rt:64:9
-end-fits-returns-5 : (t : ℕ) → end-fits-lts.Need-returns-5 (
-  word-reads.Asked,
-  word-reads.Learnt,
-  literal-fits-reads.Asked,
-  literal-fits-reads.Learnt,
-  constant-fits-reads.Asked,
-  constant-fits-reads.Learnt,
-  each-fits-below t,
-  each-fits.Post,
-) (end-fits-at t) end-fits.Post
+end-fits-returns-5 : (t : ℕ) → end-fits-lts.Need-returns-5 (end-fits-claims t) (end-fits-at t) end-fits.Post
 end-fits-returns-5 t c =
     c .each-fits .ensures
 
--- src/fits.rt:66:5
-end-fits-word-requires-2 : (t : ℕ) → end-fits-lts.Need-word-requires-2 (
-  word-reads.Asked,
-  word-reads.Learnt,
-  literal-fits-reads.Asked,
-  literal-fits-reads.Learnt,
-  constant-fits-reads.Asked,
-  constant-fits-reads.Learnt,
-  each-fits-below t,
-  each-fits.Post,
-) (end-fits-at t) end-fits.Post
-end-fits-word-requires-2 t c κs =
-    search needs
-
--- src/fits.rt:46:1
-end-fits-returns-6 : (t : ℕ) → end-fits-lts.Need-returns-6 (
-  word-reads.Asked,
-  word-reads.Learnt,
-  literal-fits-reads.Asked,
-  literal-fits-reads.Learnt,
-  constant-fits-reads.Asked,
-  constant-fits-reads.Learnt,
-  each-fits-below t,
-  each-fits.Post,
-) (end-fits-at t) end-fits.Post
+end-fits-returns-6 : (t : ℕ) → end-fits-lts.Need-returns-6 (end-fits-claims t) (end-fits-at t) end-fits.Post
 end-fits-returns-6 t c =
     let a = c .before .before .before .before .before .before .before .before .args in
     let pre = c .before .before .before .before .before .before .before .before .pre in
@@ -514,60 +188,12 @@ abbrev fits-μ-loop : fits-lts.MeasureT-loop
 fits-μ-loop work p u w at₀ node₀ at node =
     at
 
--- src/fits.rt:85:5
-fits-loop-holds : (t : ℕ) → fits-lts.Need-loop-holds (
-  word-reads.Asked,
-  word-reads.Learnt,
-  reference-reads.Asked,
-  reference-reads.Learnt,
-  part-fits-below t,
-  part-fits.Post,
-  end-fits-below t,
-  end-fits.Post,
-) (fits-at t) fits.Post fits-Inv-loop fits-μ-loop
+fits-loop-holds : (t : ℕ) → fits-lts.Need-loop-holds (fits-claims t) (fits-at t) fits.Post fits-Inv-loop fits-μ-loop
 fits-loop-holds t c =
     let a = c .before .args in
     along-begins (a .work .now) (a .p) (a .u) (a .w)
 
--- src/fits.rt:85:11
-fits-word-requires : (t : ℕ) → fits-lts.Need-word-requires (
-  word-reads.Asked,
-  word-reads.Learnt,
-  reference-reads.Asked,
-  reference-reads.Learnt,
-  part-fits-below t,
-  part-fits.Post,
-  end-fits-below t,
-  end-fits.Post,
-) (fits-at t) fits.Post fits-Inv-loop fits-μ-loop
-fits-word-requires t c κs =
-    search needs
-
--- src/fits.rt:86:12
-fits-word-requires-2 : (t : ℕ) → fits-lts.Need-word-requires-2 (
-  word-reads.Asked,
-  word-reads.Learnt,
-  reference-reads.Asked,
-  reference-reads.Learnt,
-  part-fits-below t,
-  part-fits.Post,
-  end-fits-below t,
-  end-fits.Post,
-) (fits-at t) fits.Post fits-Inv-loop fits-μ-loop
-fits-word-requires-2 t c κs =
-    search needs
-
--- src/fits.rt:87:13
-fits-returns : (t : ℕ) → fits-lts.Need-returns (
-  word-reads.Asked,
-  word-reads.Learnt,
-  reference-reads.Asked,
-  reference-reads.Learnt,
-  part-fits-below t,
-  part-fits.Post,
-  end-fits-below t,
-  end-fits.Post,
-) (fits-at t) fits.Post fits-Inv-loop fits-μ-loop
+fits-returns : (t : ℕ) → fits-lts.Need-returns (fits-claims t) (fits-at t) fits.Post fits-Inv-loop fits-μ-loop
 fits-returns t c =
     let a = c .before .before .before .before .before .before .args in
     let loop = c .before .before .before .before .loop in
@@ -576,45 +202,7 @@ fits-returns t c =
     let word2 = c .before .word2 in
     along-ends (a .work .now) (a .p) (a .u) (a .w) (loop .at) (loop .node) (loop .inv) _ (fits-no-pair (a .work .now) (loop .at) _ (word .ensures) (loop .node) (a .w) _ (word2 .ensures) (if1 .taken) (c .if2 .taken))
 
--- src/fits.rt:89:13
-fits-reference-requires : (t : ℕ) → fits-lts.Need-reference-requires (
-  word-reads.Asked,
-  word-reads.Learnt,
-  reference-reads.Asked,
-  reference-reads.Learnt,
-  part-fits-below t,
-  part-fits.Post,
-  end-fits-below t,
-  end-fits.Post,
-) (fits-at t) fits.Post fits-Inv-loop fits-μ-loop
-fits-reference-requires t c κs =
-    search needs
-
--- src/fits.rt:90:13
-fits-reference-requires-2 : (t : ℕ) → fits-lts.Need-reference-requires-2 (
-  word-reads.Asked,
-  word-reads.Learnt,
-  reference-reads.Asked,
-  reference-reads.Learnt,
-  part-fits-below t,
-  part-fits.Post,
-  end-fits-below t,
-  end-fits.Post,
-) (fits-at t) fits.Post fits-Inv-loop fits-μ-loop
-fits-reference-requires-2 t c κs =
-    search needs
-
--- src/fits.rt:91:13
-fits-part-fits-requires : (t : ℕ) → fits-lts.Need-part-fits-requires (
-  word-reads.Asked,
-  word-reads.Learnt,
-  reference-reads.Asked,
-  reference-reads.Learnt,
-  part-fits-below t,
-  part-fits.Post,
-  end-fits-below t,
-  end-fits.Post,
-) (fits-at t) fits.Post fits-Inv-loop fits-μ-loop
+fits-part-fits-requires : (t : ℕ) → fits-lts.Need-part-fits-requires (fits-claims t) (fits-at t) fits.Post fits-Inv-loop fits-μ-loop
 fits-part-fits-requires t c κs =
     let a = c .before .before .before .before .before .before .before .before .args in
     let loop = c .before .before .before .before .before .before .loop in
@@ -622,17 +210,7 @@ fits-part-fits-requires t c κs =
     let reference = c .before .reference in
     omega (arith, loop .inv .low, tag-falls (a .work .now) (loop .at) _ (word .ensures) 3 _ (λ z. omega arith) (reference .ensures))
 
--- src/fits.rt:92:13
-fits-returns-2 : (t : ℕ) → fits-lts.Need-returns-2 (
-  word-reads.Asked,
-  word-reads.Learnt,
-  reference-reads.Asked,
-  reference-reads.Learnt,
-  part-fits-below t,
-  part-fits.Post,
-  end-fits-below t,
-  end-fits.Post,
-) (fits-at t) fits.Post fits-Inv-loop fits-μ-loop
+fits-returns-2 : (t : ℕ) → fits-lts.Need-returns-2 (fits-claims t) (fits-at t) fits.Post fits-Inv-loop fits-μ-loop
 fits-returns-2 t c =
     let a = c .before .before .before .before .before .before .before .before .before .before .args in
     let loop = c .before .before .before .before .before .before .before .before .loop in
@@ -645,45 +223,7 @@ fits-returns-2 t c =
     let part-fits = c .before .part-fits in
     along-ends (a .work .now) (a .p) (a .u) (a .w) (loop .at) (loop .node) (loop .inv) _ (fits-head-no (a .work .now) (loop .at) _ (word .ensures) (loop .node) (a .w) _ (word2 .ensures) _ _ _ (if1 .taken) (if2 .left) (reference .ensures) (reference2 .ensures) (part-fits .ensures) (not-true _ (c .if3 .taken)))
 
--- src/fits.rt:94:9
-fits-reference-requires-3 : (t : ℕ) → fits-lts.Need-reference-requires-3 (
-  word-reads.Asked,
-  word-reads.Learnt,
-  reference-reads.Asked,
-  reference-reads.Learnt,
-  part-fits-below t,
-  part-fits.Post,
-  end-fits-below t,
-  end-fits.Post,
-) (fits-at t) fits.Post fits-Inv-loop fits-μ-loop
-fits-reference-requires-3 t c κs =
-    search needs
-
--- src/fits.rt:95:9
-fits-reference-requires-4 : (t : ℕ) → fits-lts.Need-reference-requires-4 (
-  word-reads.Asked,
-  word-reads.Learnt,
-  reference-reads.Asked,
-  reference-reads.Learnt,
-  part-fits-below t,
-  part-fits.Post,
-  end-fits-below t,
-  end-fits.Post,
-) (fits-at t) fits.Post fits-Inv-loop fits-μ-loop
-fits-reference-requires-4 t c κs =
-    search needs
-
--- src/fits.rt:85:5
-fits-loop-less : (t : ℕ) → fits-lts.Need-loop-less (
-  word-reads.Asked,
-  word-reads.Learnt,
-  reference-reads.Asked,
-  reference-reads.Learnt,
-  part-fits-below t,
-  part-fits.Post,
-  end-fits-below t,
-  end-fits.Post,
-) (fits-at t) fits.Post fits-Inv-loop fits-μ-loop
+fits-loop-less : (t : ℕ) → fits-lts.Need-loop-less (fits-claims t) (fits-at t) fits.Post fits-Inv-loop fits-μ-loop
 fits-loop-less t c =
     let a = c .before .before .before .before .before .before .before .before .before .before .before .before .args in
     let loop = c .before .before .before .before .before .before .before .before .before .before .loop in
@@ -691,17 +231,7 @@ fits-loop-less t c =
     let reference3 = c .before .reference3 in
     tag-falls (a .work .now) (loop .at) _ (word .ensures) 2 _ (λ z. omega arith) (reference3 .ensures)
 
--- src/fits.rt:85:5
-fits-loop-again : (t : ℕ) → fits-lts.Need-loop-again (
-  word-reads.Asked,
-  word-reads.Learnt,
-  reference-reads.Asked,
-  reference-reads.Learnt,
-  part-fits-below t,
-  part-fits.Post,
-  end-fits-below t,
-  end-fits.Post,
-) (fits-at t) fits.Post fits-Inv-loop fits-μ-loop
+fits-loop-again : (t : ℕ) → fits-lts.Need-loop-again (fits-claims t) (fits-at t) fits.Post fits-Inv-loop fits-μ-loop
 fits-loop-again t c =
     let a = c .before .before .before .before .before .before .before .before .before .before .before .before .args in
     let loop = c .before .before .before .before .before .before .before .before .before .before .loop in
@@ -716,173 +246,96 @@ fits-loop-again t c =
     let reference3 = c .before .reference3 in
     along-more (a .work .now) (a .p) (a .u) (a .w) (loop .at) (loop .node) (loop .inv) _ _ (reference3 .ensures) (fits-tail (a .work .now) (loop .at) _ (word .ensures) (loop .node) (a .w) _ (word2 .ensures) _ _ _ (if1 .taken) (if2 .left) (reference .ensures) (reference2 .ensures) (part-fits .ensures) _ _ (not-false _ (if3 .left)) (reference3 .ensures) (c .reference4 .ensures))
 
--- src/fits.rt:97:5
-fits-end-fits-requires : (t : ℕ) → fits-lts.Need-end-fits-requires (
-  word-reads.Asked,
-  word-reads.Learnt,
-  reference-reads.Asked,
-  reference-reads.Learnt,
-  part-fits-below t,
-  part-fits.Post,
-  end-fits-below t,
-  end-fits.Post,
-) (fits-at t) fits.Post fits-Inv-loop fits-μ-loop
+fits-end-fits-requires : (t : ℕ) → fits-lts.Need-end-fits-requires (fits-claims t) (fits-at t) fits.Post fits-Inv-loop fits-μ-loop
 fits-end-fits-requires t c κs =
     let loop = c .before .before .loop in
     let word = c .before .word in
     let if1 = c .if1 in
     (omega (arith, loop .inv .low), λ z. if1 .left (word .ensures ∙ z))
 
--- src/fits.rt:80:1
-fits-returns-3 : (t : ℕ) → fits-lts.Need-returns-3 (
-  word-reads.Asked,
-  word-reads.Learnt,
-  reference-reads.Asked,
-  reference-reads.Learnt,
-  part-fits-below t,
-  part-fits.Post,
-  end-fits-below t,
-  end-fits.Post,
-) (fits-at t) fits.Post fits-Inv-loop fits-μ-loop
+fits-returns-3 : (t : ℕ) → fits-lts.Need-returns-3 (fits-claims t) (fits-at t) fits.Post fits-Inv-loop fits-μ-loop
 fits-returns-3 t c =
     let a = c .before .before .before .before .before .args in
     let loop = c .before .before .before .loop in
     let end-fits = c .end-fits in
     along-ends (a .work .now) (a .p) (a .u) (a .w) (loop .at) (loop .node) (loop .inv) _ (end-fits .ensures)
 
--- src/fits.rt:73:8
-part-fits-word-requires : (t : ℕ) → part-fits-lts.Need-word-requires (
-  word-reads.Asked,
-  word-reads.Learnt,
-  fits-below t,
-  fits.Post,
-) (part-fits-at t) part-fits.Post
-part-fits-word-requires t c κs =
-    search needs
-
--- src/fits.rt:74:9
-part-fits-returns : (t : ℕ) → part-fits-lts.Need-returns (
-  word-reads.Asked,
-  word-reads.Learnt,
-  fits-below t,
-  fits.Post,
-) (part-fits-at t) part-fits.Post
+part-fits-returns : (t : ℕ) → part-fits-lts.Need-returns (part-fits-claims t) (part-fits-at t) part-fits.Post
 part-fits-returns t c =
     let a = c .before .before .before .args in
     let word = c .before .word in
     fits-variable (a .work .now) (a .p) _ (word .ensures) (a .u) (a .w) (c .if1 .taken)
 
--- src/fits.rt:76:5
-part-fits-fits-requires : (t : ℕ) → part-fits-lts.Need-fits-requires (
-  word-reads.Asked,
-  word-reads.Learnt,
-  fits-below t,
-  fits.Post,
-) (part-fits-at t) part-fits.Post
+part-fits-fits-requires : (t : ℕ) → part-fits-lts.Need-fits-requires (part-fits-claims t) (part-fits-at t) part-fits.Post
 part-fits-fits-requires t c κs =
     let pre = c .before .before .before .pre in
     (omega arith, pre .1)
 
--- src/fits.rt:70:1
-part-fits-returns-2 : (t : ℕ) → part-fits-lts.Need-returns-2 (
-  word-reads.Asked,
-  word-reads.Learnt,
-  fits-below t,
-  fits.Post,
-) (part-fits-at t) part-fits.Post
+part-fits-returns-2 : (t : ℕ) → part-fits-lts.Need-returns-2 (part-fits-claims t) (part-fits-at t) part-fits.Post
 part-fits-returns-2 t c =
     let fits2 = c .fits2 in
     fits2 .ensures
 
 pub +each-fits+end-fits+fits+part-fits-spec : {M : Type 1} → statement M
 +each-fits+end-fits+fits+part-fits-spec =
-    close μ-each-fits μ-end-fits μ-fits μ-part-fits (λ t. each-fits-lts.spec (
-      reference-reads.Asked,
-      reference-reads.Learnt,
-      share-reads.Asked,
-      share-reads.Learnt,
-      word-reads.Asked,
-      word-reads.Learnt,
-      part-fits-below t,
-      part-fits.Post,
-      fits-below t,
-      fits.Post,
-    )
+    close μ-each-fits μ-end-fits μ-fits μ-part-fits (λ t. each-fits-lts.spec (each-fits-claims t)
     (each-fits-at t)
     each-fits.Post
     each-fits-Inv-loop
     each-fits-μ-loop
-    (each-fits-reference-requires t)
-    (each-fits-share-requires t)
+    (λ c κs. search needs)  -- each-fits-reference-requires
+    (λ c κs. search needs)  -- each-fits-share-requires
     (each-fits-loop-holds t)
-    (each-fits-word-requires t)
+    (λ c κs. search needs)  -- each-fits-word-requires
     (each-fits-returns t)
-    (each-fits-reference-requires-2 t)
+    (λ c κs. search needs)  -- each-fits-reference-requires-2
     (each-fits-part-fits-requires t)
     (each-fits-returns-2 t)
-    (each-fits-reference-requires-3 t)
-    (each-fits-sub-left t)
-    (each-fits-loop-less t)
+    (λ c κs. search needs)  -- each-fits-reference-requires-3
+    (λ c. search needs)  -- each-fits-sub-left
+    (λ c. search needs)  -- each-fits-loop-less
     (each-fits-loop-again t)
-    (each-fits-reference-requires-4 t)
+    (λ c κs. search needs)  -- each-fits-reference-requires-4
     (each-fits-fits-requires t)
     (each-fits-returns-3 t))
-    (λ t. end-fits-lts.spec (
-      word-reads.Asked,
-      word-reads.Learnt,
-      literal-fits-reads.Asked,
-      literal-fits-reads.Learnt,
-      constant-fits-reads.Asked,
-      constant-fits-reads.Learnt,
-      each-fits-below t,
-      each-fits.Post,
-    )
+    (λ t. end-fits-lts.spec (end-fits-claims t)
     (end-fits-at t)
     end-fits.Post
-    (end-fits-word-requires t)
+    (λ c κs. search needs)  -- end-fits-word-requires
     (end-fits-returns t)
-    (end-fits-literal-fits-requires t)
+    (λ c κs. search needs)  -- end-fits-literal-fits-requires
     (end-fits-returns-2 t)
     (end-fits-returns-3 t)
-    (end-fits-constant-fits-requires t)
+    (λ c κs. search needs)  -- end-fits-constant-fits-requires
     (end-fits-returns-4 t)
     (end-fits-each-fits-requires t)
     (end-fits-returns-5 t)
-    (end-fits-word-requires-2 t)
+    (λ c κs. search needs)  -- end-fits-word-requires-2
     (end-fits-returns-6 t))
-    (λ t. fits-lts.spec (
-      word-reads.Asked,
-      word-reads.Learnt,
-      reference-reads.Asked,
-      reference-reads.Learnt,
-      part-fits-below t,
-      part-fits.Post,
-      end-fits-below t,
-      end-fits.Post,
-    )
+    (λ t. fits-lts.spec (fits-claims t)
     (fits-at t)
     fits.Post
     fits-Inv-loop
     fits-μ-loop
     (fits-loop-holds t)
-    (fits-word-requires t)
-    (fits-word-requires-2 t)
+    (λ c κs. search needs)  -- fits-word-requires
+    (λ c κs. search needs)  -- fits-word-requires-2
     (fits-returns t)
-    (fits-reference-requires t)
-    (fits-reference-requires-2 t)
+    (λ c κs. search needs)  -- fits-reference-requires
+    (λ c κs. search needs)  -- fits-reference-requires-2
     (fits-part-fits-requires t)
     (fits-returns-2 t)
-    (fits-reference-requires-3 t)
-    (fits-reference-requires-4 t)
+    (λ c κs. search needs)  -- fits-reference-requires-3
+    (λ c κs. search needs)  -- fits-reference-requires-4
     (fits-loop-less t)
     (fits-loop-again t)
     (fits-end-fits-requires t)
     (fits-returns-3 t))
     λ t. part-fits-lts.spec
-    (word-reads.Asked, word-reads.Learnt, fits-below t, fits.Post)
+    (part-fits-claims t)
     (part-fits-at t)
     part-fits.Post
-    (part-fits-word-requires t)
+    (λ c κs. search needs)  -- part-fits-word-requires
     (part-fits-returns t)
     (part-fits-fits-requires t)
     (part-fits-returns-2 t)
