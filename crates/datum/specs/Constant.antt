@@ -1,13 +1,9 @@
 -- Constants: integers, booleans and decimals. All that depends on which kinds there are stands here.
-use mathlib.Core.Bool.{Bool, false, cond, _&&_, _||_, Bool·beq}
+use mathlib.Core.Bool.{Bool, false, cond, _&&_}
 use mathlib.Core.List.{List, [], _∷_}
-use Prim.Native.Nat.{ℕ, suc, _-_, _*_, _^_}
+use Prim.Native.Nat.{ℕ, suc}
 use lib.Dec.{eqb, ltb}
-use lib.IntN.{pos, natAbs}
 use lib.ListN.{getD}
-use lib.Signed.{ltZ}
-use mir.Syntax.{w32}
-use mir.Val.{toZ}
 use Rattle.words.specs.Limits.{placesMost}
 use Rattle.words.specs.Lists.{within}
 
@@ -26,26 +22,9 @@ unfoldable pub isConstant : Constant → Bool
 isConstant a =
     getD (false ∷ eqb (a .second) 0 ∷ (ltb (a .first) 2 && eqb (a .second) 0) ∷ false ∷ false ∷ within 1 placesMost (a .second) ∷ []) (a .kind) false
 
--- ---- exact values
-
--- integers and decimals are numbers; an integer has no places
-unfoldable pub isNumber : Constant → Bool
-isNumber a = eqb (a .kind) 1 || eqb (a .kind) decimalKind
-
--- a number's value is below 0, and its size in ten-thousandths
-unfoldable pub isBelowZero : Constant → Bool
-isBelowZero a = ltZ (toZ w32 (a .first)) (pos 0)
-
-unfoldable pub tenThousandths : Constant → ℕ
-tenThousandths a = natAbs (toZ w32 (a .first)) * 10 ^ (placesMost - a .second)
-
-unfoldable pub sameValue : Constant → Constant → Bool
-sameValue a b = Bool·beq (isBelowZero a) (isBelowZero b) && eqb (tenThousandths a) (tenThousandths b)
-
--- a pattern's number matches any number of its exact value, a boolean that boolean
+-- a pattern's constant matches one of the same kind, value and places: integers and booleans have no places
 unfoldable pub matches : Constant → Constant → Bool
-unfolding isNumber isBelowZero tenThousandths sameValue
-matches a b = cond (isNumber a && isNumber b) (sameValue a b) (eqb (a .kind) (b .kind) && eqb (a .first) (b .first))
+matches a b = eqb (a .kind) (b .kind) && (eqb (a .first) (b .first) && eqb (a .second) (b .second))
 
 -- ---- words
 

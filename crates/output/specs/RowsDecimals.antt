@@ -1,4 +1,4 @@
--- Decimals from the text to the whole output (request L1).
+-- Decimals from the text to the whole output (requests L1 and L13).
 use mathlib.Core.Path.{_≡_, refl}
 use mathlib.Core.List.{List, [], _∷_, map}
 use Rattle.words.specs.Text.{bytes}
@@ -21,9 +21,11 @@ decimals =
     "refused 4 0 0\n" ∷
     row "() 0.12345"
     "refused 3 0 0\n" ∷
-    -- patterns match by exact value
+    -- patterns match by value and places: 0.8 is not 0.80, nor 1.0 the integer 1
     row "(list) (let-syntax ((m (syntax-rules () ((_ 0.8) 1) ((_ 1) 2) ((_ 2.50) 3) ((_ x) 4)))) (list (m 0.80) (m 0.8000) (m 1.0) (m 1) (m 2.5) (m 0.08) (m 8)))"
-    "accepted 7 7\n(o0 1 1 2 2 3 4 4)\n" ∷
+    "accepted 7 7\n(o0 4 4 4 2 4 4 4)\n" ∷
+    row "(list) (let-syntax ((m (syntax-rules () ((_ -0.0) 1) ((_ 0.8) 2) ((_ 0.80) 3) ((_ x) 4)))) (list (m 0.0) (m 00.8) (m 0.80) (m 0.800)))"
+    "accepted 4 4\n(o0 1 2 3 4)\n" ∷
     row "(list) (let-syntax ((m (syntax-rules () ((_ -214748.3648) 1) ((_ x) 2)))) (list (m -214748.3648) (m -214748.3647)))"
     "accepted 2 2\n(o0 1 2)\n" ∷
     []

@@ -225,7 +225,8 @@ impl Rules<'_> {
     fn fits(&mut self, pattern: &Pattern) -> String {
         match pattern {
             Pattern::Number(..) if self.random.chance(10) => number(self.random).to_string(),
-            Pattern::Number(row, _) => self.random.pick(row).to_string(),
+            Pattern::Number(row, _) if self.random.chance(30) => self.random.pick(row).to_string(),
+            Pattern::Number(_, text) => text.to_string(),
             Pattern::Literal(x) => x.to_string(),
             Pattern::List(elements, repeated) => format!("({})", self.fitting(elements, *repeated)),
             Pattern::Variable(_) | Pattern::Wildcard => match self.random.below(8) {

@@ -195,7 +195,7 @@ impl Rule {
                 taken.push(Taken::One(t.clone()));
                 true
             }
-            (Tree::Number(a), Tree::Number(b)) => a.matches(*b),
+            (Tree::Number(a), Tree::Number(b)) => a == b,
             (Tree::Boolean(a), Tree::Boolean(b)) => a == b,
             (Tree::List(list), Tree::List(used)) => self.match_list(list, used, agree, taken),
             _ => false,

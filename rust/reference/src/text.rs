@@ -2,19 +2,11 @@
 
 use crate::{Ground, BASE_NAMES};
 
-/// Its value without the dot, and its places: none for an integer, 1 to 4 for a decimal.
+/// Its value without the dot, and its places: none for an integer, 1 to 4 for a decimal. A pattern's number matches an equal one.
 #[derive(Clone, Copy, Debug, PartialEq)]
 pub struct Number {
     pub value: i32,
     pub places: u32,
-}
-
-impl Number {
-    /// By exact value, in ten-thousandths.
-    pub fn matches(self, other: Number) -> bool {
-        let exact = |n: Number| i64::from(n.value) * 10i64.pow(4 - n.places);
-        exact(self) == exact(other)
-    }
 }
 
 #[derive(Clone, Debug, PartialEq)]
