@@ -2,6 +2,7 @@
 pub mod Node
 pub mod NodeLaws
 pub mod Term
+pub mod TermLaws
 pub mod Words
 pub mod Decode
 pub mod Every
@@ -20,7 +21,6 @@ pub mod ShapeLaws
 pub mod Walk
 pub mod Windows
 pub mod CheckLaws
-pub mod ForgetLaws
 pub mod Decimal
 pub mod DecimalLaws
 pub mod Text
