@@ -2,8 +2,8 @@
 pub mod Node
 pub mod NodeLaws
 pub mod Term
-pub mod TermLaws
 pub mod Words
+pub mod TermLaws
 pub mod Decode
 pub mod Every
 pub mod EveryLaws

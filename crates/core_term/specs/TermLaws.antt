@@ -1,10 +1,12 @@
--- Laws of terms: what is said of variables changes neither counts nor shape.
+-- Laws of terms: what is said of variables changes neither counts nor the number of words.
 use mathlib.Core.Path.{_≡_, refl, ap, _∙_}
 use mathlib.Core.List.{List, [], _∷_, _++_, map}
 use Prim.Native.Nat.{ℕ, suc, _+_}
 use native.Mathlib.Omega.{arith}
 use lib.ListN.{length, length-map, length-append}
-use Rattle.core_term.specs.Term.{Term, variableC, operationC, datumC, ifC, lambdaC, applicationC, Terms, noneC, moreC, count, variables, variablesAll, formalsOf, formalsAll, onFormals, onFormalsAll, forget}
+use Rattle.core_term.specs.Term.{Term, variableC, operationC, datumC, ifC, lambdaC, applicationC, Terms, noneC, moreC, count, variables, variablesAll, formalsOf, formalsAll, onFormals, onFormalsAll}
+use Rattle.core_term.specs.Node.{nodeWords}
+use Rattle.core_term.specs.Words.{encode, encodeAll}
 
 module _ {F : Type 0} where
   mutual
@@ -44,3 +46,20 @@ module _ {F G : Type 0} (say : F → G) where
     all-variables : (ts : Terms F) → variablesAll (onFormalsAll say ts) ≡ variablesAll ts
     all-variables noneC = refl
     all-variables (moreC t ts) = rw (onFormals-variables t, all-variables ts)
+
+-- as many words, whatever is said
+module _ {F : Type 0} (f g : F → ℕ) where
+  mutual
+    unfolding onFormals encode nodeWords
+
+    pub onFormals-words : (t : Term F) → length (encode (onFormals f t)) ≡ length (encode (onFormals g t))
+    onFormals-words (variableC n) = refl
+    onFormals-words (operationC n) = refl
+    onFormals-words (datumC d) = refl
+    onFormals-words (ifC x y z) = simp length-append (omega (arith, onFormals-words x, onFormals-words y, onFormals-words z))
+    onFormals-words (lambdaC first formals body) = simp length-append (omega (arith, length-map formals f, length-map formals g, onFormals-words body))
+    onFormals-words (applicationC h ts) = simp length-append (omega (arith, onFormals-words h, all-words ts))
+
+    all-words : (ts : Terms F) → length (encodeAll (onFormalsAll f ts)) ≡ length (encodeAll (onFormalsAll g ts))
+    all-words noneC = refl
+    all-words (moreC t ts) = simp length-append (omega (arith, onFormals-words t, all-words ts))
