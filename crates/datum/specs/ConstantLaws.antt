@@ -10,7 +10,7 @@ use borrow.Author.Tests.{eqb-true, ltb-true, ne-eqb}
 use Rattle.words.specs.Limits.{placesMost}
 use Rattle.words.specs.Lists.{within}
 use Rattle.words.specs.ListLaws.{either}
-use Rattle.words.specs.TestLaws.{and-parts}
+use Rattle.words.specs.TestLaws.{and-parts, and-none-right}
 use Rattle.datum.specs.Constant.{Constant, decimalKind, isConstant, isNumber, sameValue, matches, constantWords, integer, boolean, decimal}
 
 -- a constant of its three words
@@ -40,6 +40,35 @@ module _ (P : Constant → Type 0) (int : (w : ℕ) → P (integer w)) (bool : (
 pub kind-most : (a : Constant) → isConstant a ≡ true → a .kind ≤ decimalKind
 unfolding integer boolean decimal
 kind-most = constant-case (λ a. a .kind ≤ decimalKind) (λ w. omega arith) (λ w h. omega arith) (λ w p h. omega arith)
+
+-- ---- words of no constant
+
+-- one that is no decimal has no third word
+unused-words : (k w v : ℕ) → (k ≡ decimalKind → ⊥) → (v ≡ 0 → ⊥) → isConstant (made k w v) ≡ false
+unfolding isConstant
+unused-words zero w v d h = refl
+unused-words (suc zero) w v d h = ne-eqb v 0 h
+unused-words (suc (suc zero)) w v d h = and-none-right (ltb w 2) (eqb v 0) (ne-eqb v 0 h)
+unused-words (suc (suc (suc zero))) w v d h = refl
+unused-words (suc (suc (suc (suc zero)))) w v d h = refl
+unused-words (suc (suc (suc (suc (suc zero))))) w v d h = absurd (d refl)
+unused-words (suc (suc (suc (suc (suc (suc k)))))) w v d h = refl
+
+pub unused-no : (a : Constant) → (a .kind ≡ decimalKind → ⊥) → (a .second ≡ 0 → ⊥) → isConstant a ≡ false
+unused-no a d h = unused-words (a .kind) (a .first) (a .second) d h
+
+kind-words : (k w v : ℕ) → 2 < k → (k ≡ decimalKind → ⊥) → isConstant (made k w v) ≡ false
+unfolding isConstant
+kind-words zero w v l d = refl
+kind-words (suc zero) w v l d = absurd (omega arith)
+kind-words (suc (suc zero)) w v l d = absurd (omega arith)
+kind-words (suc (suc (suc zero))) w v l d = refl
+kind-words (suc (suc (suc (suc zero)))) w v l d = refl
+kind-words (suc (suc (suc (suc (suc zero))))) w v l d = absurd (d refl)
+kind-words (suc (suc (suc (suc (suc (suc k)))))) w v l d = refl
+
+pub kind-no : (a : Constant) → 2 < a .kind → (a .kind ≡ decimalKind → ⊥) → isConstant a ≡ false
+kind-no a l d = kind-words (a .kind) (a .first) (a .second) l d
 
 -- ---- words
 

@@ -7,11 +7,12 @@ use native.Mathlib.Omega.{arith}
 use native.Mathlib.Numerals.{add-one}
 use lib.Dec.{eqb, ltb, leb}
 use lib.ListN.{length, drop, drop-of-length-le}
-use borrow.Author.Tests.{ne-eqb, lt-leb}
-use Rattle.words.specs.Limits.{namesMost}
+use borrow.Author.Tests.{ne-eqb}
+use Rattle.words.specs.Limits.{placesMost, namesMost}
 use Rattle.words.specs.Lists.{within, allOf}
 use Rattle.words.specs.TestLaws.{and-none-left, and-none-right, within-is, outside-below, outside-above}
-use Rattle.datum.specs.Constant.{isConstant}
+use Rattle.datum.specs.Constant.{decimalKind, isConstant}
+use Rattle.datum.specs.ConstantLaws.{unused-no, kind-no}
 use Rattle.recipe.specs.Table.{Item, items, byKind, constantOf, kindAt, isPairItem, isItem}
 use Rattle.recipe.specs.ItemLaws.{itemAt, items-length, items-drop}
 use Rattle.recipe.specs.TreeFrom.{headAt, tailAt}
@@ -43,34 +44,24 @@ module _ (ws : List ℕ) (n i : ℕ) where
 
 -- ---- an item by its kind
 
-constant-unused : (k a b : ℕ) → (b ≡ 0 → ⊥) → isConstant (record { kind = k; first = a; second = b }) ≡ false
-unfolding isConstant
-constant-unused zero a b h = refl
-constant-unused (suc zero) a b h = ne-eqb b 0 h
-constant-unused (suc (suc zero)) a b h = and-none-right (ltb a 2) (eqb b 0) (ne-eqb b 0 h)
-constant-unused (suc (suc (suc k))) a b h = refl
-
-constant-high : (k a b : ℕ) → 2 < k → isConstant (record { kind = k; first = a; second = b }) ≡ false
-unfolding isConstant
-constant-high zero a b h = refl
-constant-high (suc zero) a b h = absurd (omega arith)
-constant-high (suc (suc zero)) a b h = absurd (omega arith)
-constant-high (suc (suc (suc k))) a b h = refl
-
 module _ (ws : List ℕ) (n i : ℕ) where
   pub item-pair : kindAt ws i ≡ 4 → isItem ws n (itemAt ws i) ≡ isPairItem ws n (itemAt ws i)
   unfolding isItem itemAt kindAt byKind
   item-pair k = rw k
 
+  pub item-decimal : kindAt ws i ≡ decimalKind → isItem ws n (itemAt ws i) ≡ within 1 placesMost (tailAt ws i)
+  unfolding isItem itemAt kindAt tailAt byKind constantOf isConstant
+  item-decimal k = rw k
+
   -- unused words are 0
-  pub item-unused : (kindAt ws i ≡ 4 → ⊥) → (tailAt ws i ≡ 0 → ⊥) → isItem ws n (itemAt ws i) ≡ false
+  pub item-unused : (kindAt ws i ≡ 4 → ⊥) → (kindAt ws i ≡ decimalKind → ⊥) → (tailAt ws i ≡ 0 → ⊥) → isItem ws n (itemAt ws i) ≡ false
   unfolding isItem itemAt kindAt headAt tailAt byKind constantOf
-  item-unused k t = by (eqb (kindAt ws i) 0) refl (eqb (kindAt ws i) 3) refl
+  item-unused k d t = by (eqb (kindAt ws i) 0) refl (eqb (kindAt ws i) 3) refl
     where
       by : (a : Bool) → eqb (kindAt ws i) 0 ≡ a → (b : Bool) → eqb (kindAt ws i) 3 ≡ b → isItem ws n (itemAt ws i) ≡ false
       by true p b q = rw (p, ne-eqb (tailAt ws i) 0 t) (and-false (eqb (headAt ws i) 0))
       by false p true q = rw (p, q, ne-eqb (tailAt ws i) 0 t) (and-false (ltb (headAt ws i) namesMost))
-      by false p false q = rw (p, q, ne-eqb (kindAt ws i) 4 k) (constant-unused (kindAt ws i) (headAt ws i) (tailAt ws i) t)
+      by false p false q = rw (p, q, ne-eqb (kindAt ws i) 4 k) (unused-no (constantOf (itemAt ws i)) d t)
 
   module _ (t : tailAt ws i ≡ 0) where
     pub item-empty : kindAt ws i ≡ 0 → isItem ws n (itemAt ws i) ≡ eqb (headAt ws i) 0
@@ -89,14 +80,13 @@ module _ (ws : List ℕ) (n i : ℕ) where
     unfolding isItem itemAt kindAt headAt tailAt byKind
     item-name k = rw (k, t) (and-true _)
 
-  pub item-other : 4 < kindAt ws i → isItem ws n (itemAt ws i) ≡ false
+  pub item-other : 4 < kindAt ws i → (kindAt ws i ≡ decimalKind → ⊥) → isItem ws n (itemAt ws i) ≡ false
   unfolding isItem itemAt kindAt headAt tailAt byKind constantOf
-  item-other k =
+  item-other k d =
       let a : kindAt ws i ≡ 0 → ⊥ = λ e. omega arith in
       let b : kindAt ws i ≡ 3 → ⊥ = λ e. omega arith in
       let c : kindAt ws i ≡ 4 → ⊥ = λ e. omega arith in
-      let h : 2 < kindAt ws i = omega arith in
-      rw (ne-eqb (kindAt ws i) 0 a, ne-eqb (kindAt ws i) 3 b, ne-eqb (kindAt ws i) 4 c) (constant-high (kindAt ws i) (headAt ws i) (tailAt ws i) h)
+      rw (ne-eqb (kindAt ws i) 0 a, ne-eqb (kindAt ws i) 3 b, ne-eqb (kindAt ws i) 4 c) (kind-no (constantOf (itemAt ws i)) (omega arith) d)
 
 -- ---- a test of all items, as a loop makes it
 

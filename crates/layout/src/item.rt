@@ -2,6 +2,8 @@
 ghost use mathlib.Core.Path.{_≡_};
 ghost use Prim.Native.Nat.{ℕ, _+_, _*_, _<_};
 ghost use lib.ListN.{length, getD};
+ghost use Rattle.words.specs.Limits.{placesMost};
+ghost use Rattle.words.specs.Lists.{within};
 ghost use Rattle.recipe.specs.Table.{kindAt, isPairItem, isItem};
 ghost use Rattle.recipe.specs.ItemLaws.{itemAt};
 ghost use Rattle.recipe.specs.TreeFrom.{headAt, tailAt};
@@ -18,7 +20,9 @@ pub const NAME: u32 = 3;
 
 pub const PAIR: u32 = 4;
 
-// Item i's three words: its kind; a constant's word, a name's number or a pair's head item; a pair's tail item.
+pub const DECIMAL: u32 = 5;
+
+// Item i's three words: its kind; a constant's word, a name's number or a pair's head item; a decimal's places or a pair's tail item.
 pub fn kind(table: &[u32], i: usize) -> u32
     requires { ⌜ 3 * i + 2 < length (now table) ⌝ }
     ensures { λ r. ⌜ r ≡ kindAt (now (table .entry)) i ⌝ }
@@ -80,15 +84,29 @@ pub fn is_pair(table: &[u32], n: usize, i: usize) -> bool
     is_list_kind(kind(table, t))
 }
 
+// A decimal has 1 to 4 places.
+fn are_places(n: usize) -> bool
+    ensures { λ r. ⌜ r ≡ within 1 placesMost n ⌝ }
+{
+    if n < 1 {
+        return false;
+    }
+    n <= words::PLACES as usize
+}
+
 // Item i, which is no pair, has the words of its kind, unused ones 0.
 pub fn is_leaf(table: &[u32], i: usize) -> bool
     requires { ⌜ (3 * i + 2 < length (now table)) × (kindAt (now table) i ≡ 4 → ⊥) ⌝ }
     ensures { λ r. ⌜ ((n : ℕ) → r ≡ isItem (now (table .entry)) n (itemAt (now (table .entry)) i)) ⌝ }
 {
-    if tail(table, i) != 0 {
+    let k = kind(table, i);
+    let last = tail(table, i);
+    if k == DECIMAL {
+        return are_places(last);
+    }
+    if last != 0 {
         return false;
     }
-    let k = kind(table, i);
     let word = head(table, i);
     if k == EMPTY {
         return word == 0;

@@ -1,6 +1,6 @@
--- Digits from a power of ten down.
+-- Digits from a power of ten down, by subtracting; what they are is padded of core_term/specs/Decimal.antt.
 use mathlib.Core.List.{List, [], _∷_}
-use Prim.Native.Nat.{ℕ, zero, suc, _+_, _/_, _%_, _^_}
+use Prim.Native.Nat.{ℕ, _/_, _%_}
 
 -- the powers of ten up to the tenth. POWERS of src/numbers.rt has the same numbers
 abbrev pub tens : List ℕ
@@ -12,8 +12,3 @@ quotient n p = n / p
 
 abbrev pub remainder : ℕ → ℕ → ℕ
 remainder n p = n % p
-
--- k + 1 digits of a number below 10 to the k + 1, zeros that lead among them
-unfoldable pub padded : ℕ → ℕ → List ℕ
-padded zero n = (48 + n) ∷ []
-padded (suc k) n = (48 + n / 10 ^ suc k) ∷ padded k (n % 10 ^ suc k)

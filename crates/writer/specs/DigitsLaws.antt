@@ -10,12 +10,12 @@ use lib.Arith.{digits-div, digits-mod, mod-mul}
 use lib.Dec.{T, eqb, eqb→eq}
 use lib.ListN.{length, getD, set}
 use lib.Pow.{pow-add}
-use Rattle.core_term.specs.Decimal.{decimal}
-use Rattle.core_term.specs.DecimalLaws.{decimal-one, decimal-more}
+use Rattle.core_term.specs.Decimal.{decimal, padded}
+use Rattle.core_term.specs.DecimalLaws.{decimal-one, decimal-more, padded-length}
 use Rattle.writer.specs.Put.{noPlace, putOf}
 use Rattle.writer.specs.Laid.{laid, Left, done, full}
 use Rattle.writer.specs.LaidLaws.{laid-dry, laid-byte, laid-append, place-holds, full-holds}
-use Rattle.writer.specs.Digits.{tens, padded}
+use Rattle.writer.specs.Digits.{tens}
 
 -- ---- a rule of a table: a test that is computed at each entry and its place
 
@@ -139,11 +139,6 @@ split-is n p {A} {a} {B} {b} {C} {c} {D} {d} h e1 l1 e2 l2 e3 l3 e4 l4 =
     (e4 ∙ omega (arith, binary (n / p), s1, s2, s3, s4), d-is)
 
 -- ---- the digits are decimal's
-
-pub padded-length : (k n : ℕ) → length (padded k n) ≡ suc k
-unfolding padded
-padded-length zero n = refl
-padded-length (suc k) n = ap suc (padded-length k (n % 10 ^ suc k))
 
 -- the last digit by itself
 padded-last : (k n : ℕ) → padded (suc k) n ≡ padded k (n / 10) ++ ((48 + n % 10) ∷ [])

@@ -4,6 +4,7 @@ pub mod Laid
 pub mod LaidLaws
 pub mod Digits
 pub mod DigitsLaws
+pub mod PointLaws
 pub mod Pieces
 pub mod PiecesLaws
 pub mod Opened

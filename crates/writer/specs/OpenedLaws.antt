@@ -9,14 +9,17 @@ use lib.Dec.{leb, ltb}
 use lib.ListN.{length, getD, take, drop}
 use borrow.Author.Tests.{leb-true, ltb-true, ne-eqb}
 use Rattle.words.specs.Lists.{within}
+use Rattle.words.specs.TestLaws.{within-parts}
 use Rattle.datum.specs.NameTable.{lengthAt, nameAt, hasName}
 use Rattle.datum.specs.Constant.{isConstant, constantWords, integer, boolean}
-use Rattle.core_term.specs.Node.{variableCode, operationCode, integerCode, booleanCode, nameCode, listCode, ifCode, lambdaCode, applicationCode, Node, nodeWords, got, missing, nodeAt, sound, isNode, variableN, operationN, constantN, nameN, listN, ifN, lambdaN, applicationN}
+use Rattle.datum.specs.Constant as K
+use Rattle.datum.specs.ConstantLaws.{constant-case}
+use Rattle.core_term.specs.Node.{variableCode, operationCode, integerCode, booleanCode, nameCode, listCode, ifCode, lambdaCode, applicationCode, decimalCode, Node, nodeWords, got, missing, nodeAt, sound, isNode, variableN, operationN, constantN, nameN, listN, ifN, lambdaN, applicationN}
 use Rattle.core_term.specs.NodeLaws.{both, node-read}
 use Rattle.core_term.specs.WindowLaws.{case}
-use Rattle.core_term.specs.HeadLaws.{at-none, at-past, short-missing, lambda-short, variable-at, operation-at, integer-at, boolean-at, name-at, list-at, if-at, lambda-at, application-at}
+use Rattle.core_term.specs.HeadLaws.{at-none, at-past, short-missing, lambda-short, decimal-short, variable-at, operation-at, integer-at, boolean-at, name-at, list-at, if-at, lambda-at, application-at, decimal-at}
 use Rattle.words.specs.Text.{bytes}
-use Rattle.core_term.specs.Decimal.{decimal, integerText}
+use Rattle.core_term.specs.Decimal.{decimal, integerText, decimalText}
 use Rattle.core_term.specs.Text.{variableText, operationText, constantText}
 use Rattle.writer.specs.Pieces.{formalsText, opening, closing}
 use Rattle.writer.specs.PiecesLaws.{list-inner, list-quoted}
@@ -70,8 +73,11 @@ module _ (ws : List ℕ) (x : Node) (r : List ℕ) (is : nodeAt ws ≡ got x r) 
   pub three-words : getD ws 0 0 ≡ lambdaCode → 3 ≤ length ws
   three-words e = case (length ws) 3 (λ l. no-got x r (sym (lambda-short ws e l) ∙ is)) (λ l. l)
 
-  pub code-most : getD ws 0 0 ≤ applicationCode
-  code-most = case (getD ws 0 0) 9 (λ l. omega arith) (λ l. no-got x r (sym (at-past ws l) ∙ is))
+  pub decimal-words : getD ws 0 0 ≡ decimalCode → 3 ≤ length ws
+  decimal-words e = case (length ws) 3 (λ l. no-got x r (sym (decimal-short ws e l) ∙ is)) (λ l. l)
+
+  pub code-most : getD ws 0 0 ≤ decimalCode
+  code-most = case (getD ws 0 0) 10 (λ l. omega arith) (λ l. no-got x r (sym (at-past ws l) ∙ is))
 
   pub is-variable : getD ws 0 0 ≡ variableCode → x ≡ variableN (getD ws 1 0)
   is-variable e = let k = sym is ∙ variable-at ws (two-words (λ h. omega arith)) e in cc
@@ -99,6 +105,13 @@ module _ (ws : List ℕ) (x : Node) (r : List ℕ) (is : nodeAt ws ≡ got x r) 
 
   pub is-application : getD ws 0 0 ≡ applicationCode → x ≡ applicationN (getD ws 1 0)
   is-application e = let k = sym is ∙ application-at ws (two-words (λ h. omega arith)) e in cc
+
+  pub is-decimal : getD ws 0 0 ≡ decimalCode → x ≡ constantN (K.decimal (getD ws 1 0) (getD ws 2 0))
+  is-decimal e = sound-is _ _ x r (sym (decimal-at ws (decimal-words e) e) ∙ is) .0
+
+  pub decimal-places : getD ws 0 0 ≡ decimalCode → (1 ≤ getD ws 2 0) × (getD ws 2 0 ≤ 4)
+  unfolding isNode isConstant K.decimal
+  decimal-places e = within-parts 1 4 (getD ws 2 0) (sound-is _ _ x r (sym (decimal-at ws (decimal-words e) e) ∙ is) .1)
 
   -- ---- what opens and closes it
 
@@ -144,6 +157,14 @@ module _ (ws : List ℕ) (x : Node) (r : List ℕ) (is : nodeAt ws ≡ got x r) 
     unfolding opening bytes
     opens-application e = rw (is-application e)
 
+    pub opens-decimal : getD ws 0 0 ≡ decimalCode → decimalText (getD ws 1 0) (getD ws 2 0) ≡ opening spell inner x
+    unfolding opening constantText K.decimal
+    opens-decimal e = rw (is-decimal e)
+
+  pub closes-decimal : (inner : Bool) → getD ws 0 0 ≡ decimalCode → [] ≡ closing inner x
+  unfolding closing
+  closes-decimal inner e = rw (is-decimal e)
+
   pub closes-list : (inner : Bool) → getD ws 0 0 ≡ listCode → inner ≡ false → 41 ∷ 41 ∷ [] ≡ closing inner x
   unfolding closing bytes
   closes-list inner e h = rw (is-list e, h)
@@ -164,29 +185,32 @@ leaf-closes inner ifN r h = absurd (omega arith)
 leaf-closes inner (lambdaN first n) r h = absurd (omega arith)
 leaf-closes inner (applicationN n) r h = absurd (omega arith)
 
-constant-code : (k : ℕ) (p q : Bool) → getD (false ∷ p ∷ q ∷ []) k false ≡ true → suc k ≤ 3
-constant-code zero p q h = omega arith
-constant-code (suc zero) p q h = omega arith
-constant-code (suc (suc zero)) p q h = omega arith
-constant-code (suc (suc (suc k))) p q h = absurd (false≢true h)
+-- a constant has none of these codes
+constant-code : (a : K.Constant) (r : List ℕ) → isConstant a ≡ true → listCode ≤ getD (constantWords a ++ r) 0 0 → (getD (constantWords a ++ r) 0 0 ≡ decimalCode → ⊥) → ⊥
+unfolding constantWords integer boolean K.decimal
+constant-code a r =
+    constant-case (λ b. listCode ≤ getD (constantWords b ++ r) 0 0 → (getD (constantWords b ++ r) 0 0 ≡ decimalCode → ⊥) → ⊥)
+    (λ w h n. omega arith) (λ w l h n. omega arith) (λ w p l h n. n refl) a
 
-rest-closes : (inner : Bool) (x : Node) (r : List ℕ) → isNode x ≡ true → listCode ≤ getD (nodeWords x ++ r) 0 0 → (getD (nodeWords x ++ r) 0 0 ≡ listCode → inner ≡ true) → 41 ∷ [] ≡ closing inner x
-unfolding closing nodeWords bytes isNode isConstant constantWords
-rest-closes inner (variableN n) r p h k = absurd (omega arith)
-rest-closes inner (operationN n) r p h k = absurd (omega arith)
-rest-closes inner (constantN a) r p h k = absurd (omega (arith, constant-code (a .kind) _ _ p))
-rest-closes inner (nameN n) r p h k = absurd (omega arith)
-rest-closes inner (listN n) r p h k = rw (k refl)
-rest-closes inner ifN r p h k = refl
-rest-closes inner (lambdaN first n) r p h k = refl
-rest-closes inner (applicationN n) r p h k = refl
+rest-closes : (inner : Bool) (x : Node) (r : List ℕ) → isNode x ≡ true → listCode ≤ getD (nodeWords x ++ r) 0 0 → (getD (nodeWords x ++ r) 0 0 ≡ decimalCode → ⊥) → (getD (nodeWords x ++ r) 0 0 ≡ listCode → inner ≡ true) → 41 ∷ [] ≡ closing inner x
+unfolding closing nodeWords bytes isNode
+rest-closes inner (variableN n) r p h d k = absurd (omega arith)
+rest-closes inner (operationN n) r p h d k = absurd (omega arith)
+rest-closes inner (constantN a) r p h d k = absurd (constant-code a r p h d)
+rest-closes inner (nameN n) r p h d k = absurd (omega arith)
+rest-closes inner (listN n) r p h d k = rw (k refl)
+rest-closes inner ifN r p h d k = refl
+rest-closes inner (lambdaN first n) r p h d k = refl
+rest-closes inner (applicationN n) r p h d k = refl
 
 module _ (ws : List ℕ) (x : Node) (r : List ℕ) (is : nodeAt ws ≡ got x r) (inner : Bool) where
   pub closes-leaf : getD ws 0 0 < listCode → [] ≡ closing inner x
   closes-leaf h = leaf-closes inner x r (omega (arith, code-is ws x r is))
 
-  pub closes-one : listCode ≤ getD ws 0 0 → (getD ws 0 0 ≡ listCode → inner ≡ true) → 41 ∷ [] ≡ closing inner x
-  closes-one h k = rest-closes inner x r (node-read ws x r is .proper) (omega (arith, code-is ws x r is)) (λ e. k (code-is ws x r is ∙ e))
+  pub closes-one : listCode ≤ getD ws 0 0 → (getD ws 0 0 ≡ decimalCode → ⊥) → (getD ws 0 0 ≡ listCode → inner ≡ true) → 41 ∷ [] ≡ closing inner x
+  closes-one h d k =
+      let e = code-is ws x r is in
+      rest-closes inner x r (node-read ws x r is .proper) (omega (arith, e)) (λ f. d (e ∙ f)) (λ f. k (e ∙ f))
 
 -- a name that stands there has a slot
 pub name-spelled : (names ws : List ℕ) (o : Opened names ws) → getD ws 0 0 ≡ nameCode → hasName names (getD ws 1 0) ≡ true

@@ -7,8 +7,9 @@ use native.Mathlib.Omega.{arith}
 use native.Mathlib.Numerals.{add-one}
 use lib.ListN.{length, getD, take, drop, length-append, length-drop}
 use lib.Seq.{drop-append-seam, drop-at, drop-drop}
-use Rattle.datum.specs.Constant.{constantWords}
-use Rattle.core_term.specs.Node.{listCode, ifCode, lambdaCode, applicationCode, Node, got, nodeAt, nodeWords, parts, binds, isNode, isListNode, variableN, operationN, constantN, nameN, listN, ifN, lambdaN, applicationN}
+use Rattle.datum.specs.Constant.{decimalKind, constantWords, decimal}
+use Rattle.datum.specs.ConstantLaws.{words-decimal, words-other}
+use Rattle.core_term.specs.Node.{listCode, ifCode, lambdaCode, applicationCode, decimalCode, Node, got, nodeAt, nodeWords, parts, binds, isNode, isListNode, variableN, operationN, constantN, nameN, listN, ifN, lambdaN, applicationN}
 use Rattle.datum.specs.NameTable.{nameAt}
 use Rattle.core_term.specs.NodeLaws.{both, node-round, node-some, node-read}
 use Rattle.core_term.specs.Term.{noneC, moreC, Plain, Plains, count, variables}
@@ -29,7 +30,7 @@ use Rattle.writer.specs.LaidLaws.{left-done, left-full, left-then, left-
 use Rattle.writer.specs.Pieces.{gapText, gapFirst, opening, closing, textIn, partsText}
 use Rattle.writer.specs.PiecesLaws.{pieces}
 use Rattle.writer.specs.Opened.{named, Opened}
-use Rattle.writer.specs.OpenedLaws.{code-is, closes-leaf, is-list, is-if, is-lambda, is-application}
+use Rattle.writer.specs.OpenedLaws.{code-is, closes-leaf, is-list, is-if, is-lambda, is-application, is-decimal}
 use Rattle.writer.specs.Walk.{Shaped, spelling, Fits, Begins, Walked, walked, stopped}
 
 -- ---- shapes
@@ -38,10 +39,12 @@ unfoldable pub shape : ℕ → ℕ → Bool → Bool → Shape
 shape own n wanted inner = record { own = own; parts = n; wanted = wanted; quoted = inner }
 
 leaf-shape : (x : Node) (r : List ℕ) → getD (nodeWords x ++ r) 0 0 < listCode → Shaped x (shape 2 0 false false)
-unfolding shape nodeWords constantWords parts gapFirst isListNode
+unfolding shape nodeWords parts gapFirst isListNode
 leaf-shape (variableN n) r h = record { own = refl; rest = refl; gap = refl; inner = refl }
 leaf-shape (operationN n) r h = record { own = refl; rest = refl; gap = refl; inner = refl }
-leaf-shape (constantN a) r h = record { own = refl; rest = refl; gap = refl; inner = refl }
+leaf-shape (constantN a) r h =
+    let n : a .kind ≡ decimalKind → ⊥ = λ e. omega (arith, ap (λ (l : List ℕ). getD (l ++ r) 0 0) (words-decimal a e)) in
+    record { own = ap length (sym (words-other a n)); rest = refl; gap = refl; inner = refl }
 leaf-shape (nameN n) r h = record { own = refl; rest = refl; gap = refl; inner = refl }
 leaf-shape (listN n) r h = absurd (omega arith)
 leaf-shape ifN r h = absurd (omega arith)
@@ -67,6 +70,10 @@ module _ (ws : List ℕ) (x : Node) (r : List ℕ) (is : nodeAt ws ≡ got x r) 
   pub shaped-application : (n : ℕ) → n ≡ getD ws 1 0 → getD ws 0 0 ≡ applicationCode → Shaped x (shape 2 (n + 1) false false)
   unfolding shape nodeWords parts gapFirst isListNode
   shaped-application n h e = rw (is-application ws x r is e) (record { own = refl; rest = add-one n ∙ ap suc h; gap = refl; inner = refl })
+
+  pub shaped-decimal : getD ws 0 0 ≡ decimalCode → Shaped x (shape 3 0 false false)
+  unfolding shape nodeWords parts gapFirst isListNode constantWords decimal
+  shaped-decimal e = rw (is-decimal ws x r is e) (record { own = refl; rest = refl; gap = refl; inner = refl })
 
 -- ---- answers and rows of terms
 

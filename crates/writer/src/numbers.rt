@@ -1,16 +1,17 @@
-// Numbers as text.
+// Numbers as text: integers, and decimals.
 ghost use mathlib.Core.Path.{_≡_};
-ghost use mathlib.Core.List.{_∷_};
+ghost use mathlib.Core.List.{_∷_, _++_};
 ghost use mathlib.Core.Bool.{true};
-ghost use Prim.Native.Nat.{_+_, _*_, _^_, _≤_, _<_};
-ghost use lib.ListN.{length};
-ghost use Rattle.core_term.specs.Decimal.{decimal, integerText};
+ghost use Prim.Native.Nat.{_+_, _-_, _*_, _^_, _≤_, _<_};
+ghost use lib.ListN.{length, take, drop};
+ghost use Rattle.core_term.specs.Decimal.{decimal, padded, pointed, integerText, decimalText};
 ghost use Rattle.writer.specs.Put.{putOf};
 ghost use Rattle.writer.specs.Laid.{laid, Left};
-ghost use Rattle.writer.specs.Digits.{tens, quotient, remainder, padded};
+ghost use Rattle.writer.specs.Digits.{tens, quotient, remainder};
 ghost use Rattle.writer.specs.Pieces.{gapText, formalsText};
 use crate::bytes::FULL;
 use crate::bytes::byte;
+use crate::bytes::copy;
 use std::num::wrapping_sub_usize;
 use words::signed::of_word;
 use words::signed::size;
@@ -164,6 +165,66 @@ pub fn integer(w: u32, out: &mut [u8], at: usize, ink: bool) -> usize
         return numbered(b'-', n, out, at, ink);
     }
     digits(n, out, at, ink)
+}
+
+// How many digits of n come after its first, a zero before the places counting as one.
+fn places_least(powers: &[usize], n: usize, least: usize) -> usize
+    requires { ⌜ (now powers ≡ tens) × (n < 4294967296) × (least ≤ 4) ⌝ }
+    ensures { λ r. ⌜ (least ≤ r) × (r < 10) × (n < 10 ^ (r + 1)) × (least < r → 10 ^ r ≤ n) ⌝ }
+{
+    if n < 10 {
+        return least;
+    }
+    let k = places(powers, n);
+    if k < least {
+        return least;
+    }
+    k
+}
+
+// The first digits up to the dot, the dot, and those from there to the end.
+fn dotted(digits: &[u8], dot: usize, end: usize, out: &mut [u8], at: usize, ink: bool) -> usize
+    requires { ⌜ (at ≤ length (now out)) × (dot ≤ end) × (end ≤ length (now digits)) ⌝ }
+    ensures { λ r. ⌜ Left ink (take dot (now (digits .entry)) ++ (46 ∷ take (end - dot) (drop dot (now (digits .entry))))) at (now (out .entry)) (now (out .exit)) (putOf r) ⌝ }
+{
+    let a = copy(&digits[..dot], out, at, ink);
+    if a == FULL {
+        return FULL;
+    }
+    let b = byte(b'.', out, a, ink);
+    if b == FULL {
+        return FULL;
+    }
+    copy(&digits[dot..end], out, b, ink)
+}
+
+// The digits of n, a dot before the last of them: as many come behind it as there are places.
+fn point(n: usize, count: usize, out: &mut [u8], at: usize, ink: bool) -> usize
+    requires { ⌜ (at ≤ length (now out)) × (n < 4294967296) × (1 ≤ count) × (count ≤ 4) ⌝ }
+    ensures { λ r. ⌜ Left ink (pointed count n) at (now (out .entry)) (now (out .exit)) (putOf r) ⌝ }
+{
+    let powers = POWERS;
+    let k = places_least(&powers, n, count);
+    let mut digits = [b'0'; 10];
+    lay(&powers, n, k, &mut digits, 0);
+    dotted(&digits, k + 1 - count, k + 1, out, at, ink)
+}
+
+// The decimal whose value without the dot has the bits w, a minus before it below 0, though its whole part be 0.
+pub fn decimal(w: u32, count: u32, out: &mut [u8], at: usize, ink: bool) -> usize
+    requires { ⌜ (at ≤ length (now out)) × (1 ≤ count) × (count ≤ 4) ⌝ }
+    ensures { λ r. ⌜ Left ink (decimalText w count) at (now (out .entry)) (now (out .exit)) (putOf r) ⌝ }
+{
+    let z = of_word(w);
+    let n = wide(size(z));
+    if z < 0 {
+        let to = byte(b'-', out, at, ink);
+        if to == FULL {
+            return FULL;
+        }
+        return point(n, wide(count), out, to, ink);
+    }
+    point(n, wide(count), out, at, ink)
 }
 
 // A space, where one is wanted.

@@ -14,6 +14,7 @@ ghost use Rattle.writer.specs.Opened.{Opened};
 use crate::bytes::FULL;
 use crate::bytes::byte;
 use crate::bytes::copy;
+use crate::numbers::decimal;
 use crate::numbers::formals;
 use crate::numbers::integer;
 use crate::numbers::numbered;
@@ -150,6 +151,9 @@ pub fn begin(
     if code == codes::LAMBDA {
         return lambda_opening(a, wide(words[2]), out, at, ink);
     }
+    if code == codes::DECIMAL {
+        return decimal(words[1], words[2], out, at, ink);
+    }
     byte(b'(', out, at, ink)
 }
 
@@ -160,6 +164,9 @@ pub fn finish(words: &[u32], out: &mut [u8], at: usize, inner: bool, ink: bool) 
 {
     let code = words[0];
     if code < codes::LIST {
+        return at;
+    }
+    if code == codes::DECIMAL {
         return at;
     }
     if code > codes::LIST {

@@ -70,6 +70,14 @@ fn parts_of(words: &[u32], names: &[u8]) -> Shape
             quoted: true,
         };
     }
+    if code == codes::DECIMAL {
+        return Shape {
+            own: 3,
+            parts: 0,
+            wanted: false,
+            quoted: false,
+        };
+    }
     Shape {
         own: 2,
         parts: count + 1,

@@ -11,7 +11,7 @@ use mathlib.Core.Path.{_≡_, refl, ap, subst, _∙_}
 use Prim.Native.Nat.{ℕ, suc, _+_, _-_, _^_, _≤_, _<_}
 use lib.ListN.{length, length-set}
 use Rattle.writer.specs.Laid.{laid}
-use Rattle.writer.specs.Digits.{padded}
+use Rattle.core_term.specs.Decimal.{padded}
 use Rattle.writer.specs.DigitsLaws.{power-more, power-low, lay-left, lay-next, lay-one, lay-last}
 
 abbrev Inv-loop : tie.InvT-loop

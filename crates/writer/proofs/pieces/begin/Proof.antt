@@ -2,10 +2,9 @@
 use borrow.Author.Needs.{needs}
 use Rattle.writer.proofs.pieces.begin.Statement.{statement}
 use Rattle.writer.proofs.pieces.begin.Tie as tie
-use Rattle.writer.proofs.pieces.begin.Reads as reads
-use Rattle.writer.proofs.pieces.begin.Lts as lts
 use Rattle.writer.proofs.bytes.byte.Reads as byte-reads
 use Rattle.writer.proofs.bytes.copy.Reads as copy-reads
+use Rattle.writer.proofs.numbers.decimal.Reads as decimal-reads
 use Rattle.writer.proofs.numbers.numbered.Reads as numbered-reads
 use Rattle.writer.proofs.numbers.wide.Reads as wide-reads
 use Rattle.writer.proofs.pieces.datum_opening.Reads as datum-opening-reads
@@ -17,7 +16,7 @@ use Prim.Native.Nat.{ℕ}
 use Rattle.writer.specs.LaidLaws.{left-is}
 use lib.ListN.{getD}
 use Rattle.core_term.specs.Decimal.{decimal}
-use Rattle.writer.specs.OpenedLaws.{some-words, two-words, three-words, code-most, opens-if, opens-variable, opens-operation, opens-lambda, lambda-same, opens-application}
+use Rattle.writer.specs.OpenedLaws.{some-words, two-words, three-words, decimal-words, decimal-places, code-most, opens-if, opens-variable, opens-operation, opens-lambda, lambda-same, opens-application, opens-decimal}
 
 shared-slice-read-code : tie.Need-shared-slice-read-code
 shared-slice-read-code c =
@@ -91,17 +90,37 @@ returns-5 : tie.Need-returns-5
 returns-5 c =
     λ x l h. left-is (lambda-same _ _ _ _ (c .before .before .before .before .before .before .before .before .before .before .wide .ensures) (c .before .before .before .before .wide2 .ensures) ∙ opens-lambda (c .before .before .before .before .before .before .before .before .before .before .before .before .before .before .before .before .before .args .words .now) x l h _ _ (c .before .before .before .before .before .before .if5 .taken)) (c .before .before .lambda-opening .ensures)
 
-byte-requires : tie.Need-byte-requires
-byte-requires c κs =
-    c .before .before .before .before .before .before .before .before .before .before .before .before .pre .0
+shared-slice-read-decimal : tie.Need-shared-slice-read-decimal
+shared-slice-read-decimal c =
+    let o = c .before .before .before .before .before .before .before .before .before .before .before .before .before .pre .1 in omega (arith, two-words (c .before .before .before .before .before .before .before .before .before .before .before .before .before .args .words .now) (o .it) (o .left) (o .is) (c .before .before .before .before .before .before .before .before .if1 .left))
+
+shared-slice-read-decimal-2 : tie.Need-shared-slice-read-decimal-2
+shared-slice-read-decimal-2 c =
+    let o = c .before .before .before .before .before .before .before .before .before .before .before .before .before .before .pre .1 in omega (arith, decimal-words (c .before .before .before .before .before .before .before .before .before .before .before .before .before .before .args .words .now) (o .it) (o .left) (o .is) (c .before .before .if6 .taken))
+
+decimal-requires : tie.Need-decimal-requires
+decimal-requires c κs =
+    let o = c .before .before .before .before .before .before .before .before .before .before .before .before .before .before .before .pre .1 in let k = decimal-places (c .before .before .before .before .before .before .before .before .before .before .before .before .before .before .before .args .words .now) (o .it) (o .left) (o .is) (c .before .before .before .if6 .taken) in (c .before .before .before .before .before .before .before .before .before .before .before .before .before .before .before .pre .0, k .0, k .1)
 
 same-length-6 : tie.Need-same-length-6
 same-length-6 c =
-    c .before .before .byte .kept .1 .0
+    c .before .before .decimal .kept .1 .1 .0
 
 returns-6 : tie.Need-returns-6
 returns-6 c =
-    λ x l h. let o = c .before .before .before .before .before .before .before .before .before .before .before .before .before .before .before .pre .1 in let e : getD (c .before .before .before .before .before .before .before .before .before .before .before .before .before .before .before .args .words .now) 0 0 ≡ 8 = omega (arith, code-most (c .before .before .before .before .before .before .before .before .before .before .before .before .before .before .before .args .words .now) x l h, c .before .before .before .before .before .before .before .before .before .before .if1 .left, c .before .before .before .before .before .if4 .left, c .before .before .before .before .if5 .left) in left-is (opens-application (c .before .before .before .before .before .before .before .before .before .before .before .before .before .before .before .args .words .now) x l h _ _ e) (c .before .before .byte .ensures)
+    λ x l h. left-is (opens-decimal (c .before .before .before .before .before .before .before .before .before .before .before .before .before .before .before .before .before .before .args .words .now) x l h _ _ (c .before .before .before .before .before .before .if6 .taken)) (c .before .before .decimal .ensures)
+
+byte-requires : tie.Need-byte-requires
+byte-requires c κs =
+    c .before .before .before .before .before .before .before .before .before .before .before .before .before .pre .0
+
+same-length-7 : tie.Need-same-length-7
+same-length-7 c =
+    c .before .before .byte .kept .1 .0
+
+returns-7 : tie.Need-returns-7
+returns-7 c =
+    λ x l h. let o = c .before .before .before .before .before .before .before .before .before .before .before .before .before .before .before .before .pre .1 in let e : getD (c .before .before .before .before .before .before .before .before .before .before .before .before .before .before .before .before .args .words .now) 0 0 ≡ 8 = omega (arith, code-most (c .before .before .before .before .before .before .before .before .before .before .before .before .before .before .before .before .args .words .now) x l h, c .before .before .before .before .before .before .before .before .before .before .before .if1 .left, c .before .before .before .before .before .before .if4 .left, c .before .before .before .before .before .if5 .left, c .before .before .before .before .if6 .left) in left-is (opens-application (c .before .before .before .before .before .before .before .before .before .before .before .before .before .before .before .before .args .words .now) x l h _ _ e) (c .before .before .byte .ensures)
 
 pub begin-spec : {M : Type 1} → statement M
 begin-spec =
@@ -128,6 +147,11 @@ begin-spec =
     lambda-opening-requires
     same-length-5
     returns-5
-    byte-requires
+    shared-slice-read-decimal
+    shared-slice-read-decimal-2
+    decimal-requires
     same-length-6
-    returns-6)
+    returns-6
+    byte-requires
+    same-length-7
+    returns-7)

@@ -2,14 +2,12 @@
 use borrow.Author.Needs.{needs}
 use Rattle.writer.proofs.term.parts_of.Statement.{statement}
 use Rattle.writer.proofs.term.parts_of.Tie as tie
-use Rattle.writer.proofs.term.parts_of.Reads as reads
-use Rattle.writer.proofs.term.parts_of.Lts as lts
 use Rattle.writer.proofs.numbers.wide.Reads as wide-reads
 use native.Mathlib.Omega.{arith}
 use mathlib.Core.Path.{_≡_}
 use lib.ListN.{getD}
 use Rattle.writer.specs.OpenedLaws.{some-words, two-words, code-most}
-use Rattle.writer.specs.WalkLaws.{shape, shaped-if, shaped-lambda, shaped-leaf, shaped-list, shaped-application}
+use Rattle.writer.specs.WalkLaws.{shape, shaped-if, shaped-lambda, shaped-leaf, shaped-list, shaped-decimal, shaped-application}
 
 shared-slice-read-code : tie.Need-shared-slice-read-code
 shared-slice-read-code c =
@@ -39,14 +37,19 @@ unfolding shape
 returns-4 c =
     λ x l h. shaped-list (c .before .before .before .before .before .before .before .before .before .args .words .now) x l h _ (c .before .wide .ensures) (c .if4 .taken)
 
-add-t9 : tie.Need-add-t9
-add-t9 c =
-    omega (arith, c .before .wide .ensures, c .before .before .shared-slice-known4 .given 1)
-
 returns-5 : tie.Need-returns-5
 unfolding shape
 returns-5 c =
-    λ x l h. let e : getD (c .before .before .before .before .before .before .before .before .before .args .words .now) 0 0 ≡ 8 = omega (arith, code-most (c .before .before .before .before .before .before .before .before .before .args .words .now) x l h, c .before .before .before .before .before .if1 .left, c .before .before .before .before .if2 .left, c .before .before .before .if3 .left, c .if4 .left) in shaped-application (c .before .before .before .before .before .before .before .before .before .args .words .now) x l h _ (c .before .wide .ensures) e
+    λ x l h. shaped-decimal (c .before .before .before .before .before .before .before .before .before .before .args .words .now) x l h (c .if5 .taken)
+
+add-t9 : tie.Need-add-t9
+add-t9 c =
+    omega (arith, c .before .before .wide .ensures, c .before .before .before .shared-slice-known4 .given 1)
+
+returns-6 : tie.Need-returns-6
+unfolding shape
+returns-6 c =
+    λ x l h. let e : getD (c .before .before .before .before .before .before .before .before .before .before .args .words .now) 0 0 ≡ 8 = omega (arith, code-most (c .before .before .before .before .before .before .before .before .before .before .args .words .now) x l h, c .before .before .before .before .before .before .if1 .left, c .before .before .before .before .before .if2 .left, c .before .before .before .before .if3 .left, c .before .if4 .left, c .if5 .left) in shaped-application (c .before .before .before .before .before .before .before .before .before .before .args .words .now) x l h _ (c .before .before .wide .ensures) e
 
 pub parts-of-spec : {M : Type 1} → statement M
 parts-of-spec =
@@ -59,5 +62,6 @@ parts-of-spec =
     shared-slice-read-wide
     (λ c κs. search needs)  -- wide-requires
     returns-4
+    returns-5
     add-t9
-    returns-5)
+    returns-6)
