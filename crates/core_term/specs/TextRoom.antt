@@ -82,8 +82,8 @@ name-room names n h =
     omega (arith, length-take (lengthAt names n) (drop (suc (64 * n)) names))
 
 -- ---- what is asked of a node: numbers of variables that have names, names that have slots, eight variables
-module _ (names called : List ℕ) (few : length called < limit) (good : (k : ℕ) → k < length called → hasName names (getD called k 0) ≡ true) where
-  unfoldable narrowNode : Node → Bool
+module _ (names called : List ℕ) where
+  unfoldable pub narrowNode : Node → Bool
   narrowNode (variableN n) = ltb n (length called)
   narrowNode (operationN n) = ltb n limit
   narrowNode (constantN a) = isConstant a
@@ -93,8 +93,12 @@ module _ (names called : List ℕ) (few : length called < limit) (good : (k : �
   narrowNode (lambdaN first ns) = leb (length ns) 8 && leb (first + length ns) (length called)
   narrowNode (applicationN n) = true
 
-  unfoldable narrow : Asked (Unit {0})
+  unfoldable pub narrow : Asked (Unit {0})
   narrow = record { test = λ e b x. narrowNode x; enter = λ e b x. e }
+
+module _ (names called : List ℕ) (few : length called < limit) (good : (k : ℕ) → k < length called → hasName names (getD called k 0) ≡ true) where
+  abbrev narrows : Asked (Unit {0})
+  narrows = narrow names called
 
   abbrev spell : ℕ → List ℕ
   spell = nameAt names
@@ -112,18 +116,18 @@ module _ (names called : List ℕ) (few : length called < limit) (good : (k : �
   mutual
     unfolding bare bares datumWords dataWords nodeWords everyDatum everyData narrow narrowNode widths
 
-    datum-room : (d : Datum) (b : ℕ) → everyDatum narrow tt b d ≡ true → suc (length (bare spell d)) ≤ textRate * length (datumWords d)
+    datum-room : (d : Datum) (b : ℕ) → everyDatum narrows tt b d ≡ true → suc (length (bare spell d)) ≤ textRate * length (datumWords d)
     datum-room (constantD a) b h = omega (arith, constant-room a h, words-few a .0)
     datum-room (nameD n) b h = omega (arith, name-room names n h)
     datum-room (listD ds) b h = omega (arith, any-room (bares spell ds), data-room ds b h)
 
-    data-room : (ds : Data) (b : ℕ) → everyData narrow tt b ds ≡ true → widths (bares spell ds) ≤ textRate * length (dataWords ds)
+    data-room : (ds : Data) (b : ℕ) → everyData narrows tt b ds ≡ true → widths (bares spell ds) ≤ textRate * length (dataWords ds)
     data-room noneD b h = omega arith
     data-room (moreD d ds) b h =
-        let p = and-parts (everyDatum narrow tt b d) _ h in
+        let p = and-parts (everyDatum narrows tt b d) _ h in
         omega (arith, datum-room d b (p .0), data-room ds b (p .1), length-append (datumWords d) (dataWords ds))
 
-  quoted-room : (d : Datum) (b : ℕ) → everyDatum narrow tt b d ≡ true → suc (length (outermost spell d)) ≤ textRate * length (datumWords d)
+  quoted-room : (d : Datum) (b : ℕ) → everyDatum narrows tt b d ≡ true → suc (length (outermost spell d)) ≤ textRate * length (datumWords d)
   unfolding outermost bare datumWords nodeWords everyDatum narrow narrowNode widths bytes
   quoted-room (constantD a) b h = datum-room (constantD a) b h
   quoted-room (nameD n) b h = omega (arith, list-room (bytes "quote") (nameAt names n ∷ []), name-room names n h)
@@ -136,13 +140,13 @@ module _ (names called : List ℕ) (few : length called < limit) (good : (k : �
   mutual
     unfolding textIn textsIn encode encodeAll nodeWords every everyTerm narrow narrowNode widths operationText bytes
 
-    term-room : (t : Plain) (b : ℕ) → every narrow tt b t ≡ true → suc (length (textOf t)) ≤ textRate * length (encode t)
+    term-room : (t : Plain) (b : ℕ) → every narrows tt b t ≡ true → suc (length (textOf t)) ≤ textRate * length (encode t)
     term-room (variableC n) b h = omega (arith, variable-room n (ltb-true n (length called) h))
     term-room (operationC n) b h = omega (arith, number-room n (ltb-true n limit h))
     term-room (datumC d) b h = quoted-room d b h
     term-room (ifC x y z) b h =
-        let p = and-parts (every narrow tt b x) _ h in
-        let q = and-parts (every narrow tt (b + variables x) y) _ (p .1) in
+        let p = and-parts (every narrows tt b x) _ h in
+        let q = and-parts (every narrows tt (b + variables x) y) _ (p .1) in
         omega (
           arith,
           list-room (bytes "if") (textOf x ∷ textOf y ∷ textOf z ∷ []),
@@ -167,7 +171,7 @@ module _ (names called : List ℕ) (few : length called < limit) (good : (k : �
           length-append ns (encode body),
         )
     term-room (applicationC g ts) b h =
-        let p = and-parts (every narrow tt b g) _ h in
+        let p = and-parts (every narrows tt b g) _ h in
         omega (
           arith,
           list-room (textOf g) (textsIn spell called ts),
@@ -176,10 +180,10 @@ module _ (names called : List ℕ) (few : length called < limit) (good : (k : �
           length-append (encode g) (encodeAll ts),
         )
 
-    terms-room : (ts : Plains) (b : ℕ) → everyTerm narrow tt b ts ≡ true → widths (textsIn spell called ts) ≤ textRate * length (encodeAll ts)
+    terms-room : (ts : Plains) (b : ℕ) → everyTerm narrows tt b ts ≡ true → widths (textsIn spell called ts) ≤ textRate * length (encodeAll ts)
     terms-room noneC b h = omega arith
     terms-room (moreC t ts) b h =
-        let p = and-parts (every narrow tt b t) _ h in
+        let p = and-parts (every narrows tt b t) _ h in
         omega (arith, term-room t b (p .0), terms-room ts (b + variables t) (p .1), length-append (encode t) (encodeAll ts))
 
 -- ---- a term that passes ground 19
@@ -238,7 +242,7 @@ all-at f xs k e h = all-head f (getD xs k 0) (drop (suc k) xs) (sym (ap (allOf f
 data Tested : Type 0 where
   shape scope number good : Tested
 
-module _ (operations : ℕ) (names ws : List ℕ) (t : Plain) (a : Accepted operations (hasName names) ws t) (few : length ws ≤ textWordsMost) where
+module _ (operations : ℕ) (names ws : List ℕ) (t : Plain) (a : Accepted operations (hasName names) ws t) where
   asks : Tested → Asked Scope
   asks shape = asked (λ s b x. isNode x)
   asks scope = asked variableInside
@@ -259,17 +263,14 @@ module _ (operations : ℕ) (names ws : List ℕ) (t : Plain) (a : Accepted oper
   Before e f b = (k : ℕ) → e scope k ≡ true → k < b
 
   -- the names of all variables
-  abbrev all-called : List ℕ
+  abbrev pub all-called : List ℕ
   all-called = formalsOf t
-
-  called-few : length all-called < limit
-  called-few = omega (arith, formals-count t, variables-few t, ap length (a .words))
 
   pub called-good : (k : ℕ) → k < length all-called → hasName names (getD all-called k 0) ≡ true
   unfolding allKnown
   called-good k h = all-at (hasName names) all-called k (formals-known operations (hasName names) t outside 0 (a .known′)) h
 
-  node-narrow : (e : Tested → Scope) (f : Unit {0}) (b : ℕ) (x : Node) → Before e f b → b + binds x ≤ variables t → ((i : Tested) → asks i .test (e i) b x ≡ true) → narrowNode names all-called called-few called-good x ≡ true
+  node-narrow : (e : Tested → Scope) (f : Unit {0}) (b : ℕ) (x : Node) → Before e f b → b + binds x ≤ variables t → ((i : Tested) → asks i .test (e i) b x ≡ true) → narrowNode names all-called x ≡ true
   unfolding asks asked narrowNode isNode variableInside firstNumber known binds
   node-narrow e f b (variableN n) r l h = lt-ltb n (length all-called) (omega (arith, formals-count t, r n (h scope)))
   node-narrow e f b (operationN n) r l h = lt-ltb n limit (omega (arith, a .few, ltb-true n operations (h good)))
@@ -298,12 +299,14 @@ module _ (operations : ℕ) (names ws : List ℕ) (t : Plain) (a : Accepted oper
       own k false d m q = omega (arith, r k q)
   entered e f b (applicationN n) r h = λ k q. omega (arith, r k q)
 
-  all-narrow : every (narrow names all-called called-few called-good) tt 0 t ≡ true
+  pub all-narrow : every (narrow names all-called) tt 0 t ≡ true
   unfolding narrow outside
   all-narrow =
-      every-from asks (narrow names all-called called-few called-good) (variables t) Before node-narrow entered (λ e f b n r k q. omega (arith, r k q)) t
+      every-from asks (narrow names all-called) (variables t) Before node-narrow entered (λ e f b n r k q. omega (arith, r k q)) t
       (λ i. outside) tt 0 (λ k q. absurd (false≢true q)) (omega arith) all-pass
 
-  pub text-room : length (text (nameAt names) t) < textRate * length ws
+  pub text-room : length ws ≤ textWordsMost → length (text (nameAt names) t) < textRate * length ws
   unfolding text
-  text-room = omega (arith, term-room names all-called called-few called-good t 0 all-narrow, ap length (a .words))
+  text-room few =
+      let short : length all-called < limit = omega (arith, formals-count t, variables-few t, ap length (a .words)) in
+      omega (arith, term-room names all-called short called-good t 0 all-narrow, ap length (a .words))
