@@ -207,13 +207,13 @@ mutual
 
 -- and all these names are good
 module _ (operations : ℕ) (nameGood : ℕ → Bool) where
-  abbrev Knows : Asked Scope
+  abbrev pub Knows : Asked Scope
   Knows = asked (known operations nameGood)
 
   mutual
     unfolding asked known every everyTerm formalsOf formalsAll allOf
 
-    formals-known : (t : Plain) (s : Scope) (b : ℕ) → every Knows s b t ≡ true → allOf nameGood (formalsOf t) ≡ true
+    pub formals-known : (t : Plain) (s : Scope) (b : ℕ) → every Knows s b t ≡ true → allOf nameGood (formalsOf t) ≡ true
     formals-known (variableC n) s b h = refl
     formals-known (operationC n) s b h = refl
     formals-known (datumC d) s b h = refl
@@ -235,7 +235,7 @@ module _ (operations : ℕ) (nameGood : ℕ → Bool) where
         let p = and-parts (every Knows s b t) _ h in
         all-append nameGood (formalsOf t) (formalsAll ts) (formals-known t s b (p .0)) (formals-known-all ts s (b + variables t) (p .1))
 
-all-at : (f : ℕ → Bool) (xs : List ℕ) (k : ℕ) → allOf f xs ≡ true → k < length xs → f (getD xs k 0) ≡ true
+pub all-at : (f : ℕ → Bool) (xs : List ℕ) (k : ℕ) → allOf f xs ≡ true → k < length xs → f (getD xs k 0) ≡ true
 all-at f xs k e h = all-head f (getD xs k 0) (drop (suc k) xs) (sym (ap (allOf f) (drop-cons xs k 0 h)) ∙ all-drop f k xs e)
 
 -- the tests of ground 19
