@@ -24,7 +24,7 @@ extern "C" {
 
 /* What to lend for expanding so many items with so much fuel (at most 8,192): words of the work table and of the core table. */
 #define GREBETALLBOY_WORK_WORDS(items, fuel) (24 * ((size_t)(items) + (size_t)(fuel)))
-#define GREBETALLBOY_CORE_WORDS(items, fuel) (2 * ((size_t)(items) + (size_t)(fuel)))
+#define GREBETALLBOY_CORE_WORDS(items, fuel) (3 * ((size_t)(items) + (size_t)(fuel)))
 
 /* What to lend for writing so many words (at most 10^9) so that the text of any term fits: bytes of output. */
 #define GREBETALLBOY_TEXT_BYTES(words) (36 * (size_t)(words))
@@ -35,11 +35,14 @@ extern "C" {
 #define GREBETALLBOY_EXPAND_STACK(items, fuel) (262144 + 512 * ((size_t)(items) + (size_t)(fuel)))
 #define GREBETALLBOY_WRITE_STACK(words) (16384 + 256 * (size_t)(words))
 
-/* Reads a recipe text of at most 65,535 bytes. Accepted: counts has the items (three words each) and the names, then 0. */
+/* Reads a recipe text of at most 65,535 bytes. Accepted: counts has the items (three words each) and the names, then 0.
+ * An item's first word is its kind: 0 empty list, 1 integer, 2 boolean, 3 name, 4 pair, 5 decimal (its value without the dot, and
+ * its places, 1 to 4). */
 uint32_t grebetallboy_read(const uint8_t *text, size_t text_count, uint32_t *items, size_t items_count, uint8_t *names,
                            size_t names_count, uint64_t *counts, size_t counts_count);
 
 /* Expands an item table. Accepted: counts has the steps, the sum of items and the words of the term, which begin the core table.
+ * A decimal in it has three words: 9, its value without the dot, and its places.
  * Refused by 11 to 18: the steps and the sum so far, then 0.
  * Where neither 8, 9 nor 18 is answered, the sum is the least fuel that gives this answer, and every fuel from it to 8,192
  * gives it too, in tables for that fuel. */

@@ -1,11 +1,16 @@
 -- Laws of constants: the kinds there are, how many words each has in the core term, and what matches.
-use mathlib.Core.Path.{_≡_, refl, sym, ap, subst}
-use mathlib.Core.Bool.{Bool, true, false, _&&_, cond, false≢true}
+use mathlib.Core.Path.{_≡_, refl, sym, ap, subst, _∙_}
+use mathlib.Core.Bool.{Bool, true, false, _&&_, _||_, cond, false≢true}
 use mathlib.Core.List.{List, [], _∷_}
-use Prim.Native.Nat.{ℕ, zero, suc, _+_, _≤_, _<_}
+use Prim.Native.Nat.{ℕ, zero, suc, _+_, _-_, _*_, _^_, _≤_, _<_}
 use native.Mathlib.Omega.{arith}
 use lib.Dec.{eqb, ltb, leb}
+use native.Mathlib.Nat.{mul-le-mul-left, pow-le-pow-right}
+use lib.IntN.{ℤ}
 use lib.ListN.{length}
+use mir.Syntax.{w32}
+use mir.Val.{Fits, toZ, ofZ}
+use mir.Facts.{toZ-ofZ, sfits-toZ}
 use borrow.Author.Tests.{eqb-true, ltb-true, ne-eqb}
 use Rattle.words.specs.Limits.{placesMost}
 use Rattle.words.specs.Lists.{within}
@@ -88,10 +93,29 @@ module _ (a : Constant) where
 
 -- ---- matching
 
+-- the number of a word, as its bits come back
+pub word-back : (w : ℕ) → Fits w32 w → (z : ℤ) → z ≡ toZ w32 w → toZ w32 (ofZ w32 z) ≡ toZ w32 w
+word-back w f z e = ap (λ y. toZ w32 (ofZ w32 y)) e ∙ toZ-ofZ (sfits-toZ f)
+
+-- a word's size in ten-thousandths fits 64 bits
+pub value-fits : (n places f : ℕ) → n < 4294967296 → f ≡ 10 ^ (placesMost - places) → n * f < 18446744073709551616
+value-fits n places f l e =
+    let k : f ≤ 10000 = rw e (pow-le-pow-right {n = 10} (omega arith) {i = 4 - places} {j = 4} (omega arith)) in
+    omega (arith, mul-le-mul-left n k)
+
 module _ (a b : Constant) where
   pub matches-numbers : isNumber a ≡ true → isNumber b ≡ true → matches a b ≡ sameValue a b
   unfolding matches
   matches-numbers p q = rw (p, q)
+
+  -- a number matches no boolean
+  pub matches-mixed : isNumber a ≡ true → isNumber b ≡ false → matches a b ≡ false
+  unfolding matches isNumber
+  matches-mixed p q =
+      either (eqb (a .kind) (b .kind))
+      (λ e. let k : a .kind ≡ b .kind = eqb-true (a .kind) (b .kind) e in
+      absurd (false≢true (sym q ∙ ap (λ (n : ℕ). eqb n 1 || eqb n decimalKind) (sym k) ∙ p)))
+      (λ e. rw (p, q, e))
 
   -- one is a boolean
   pub matches-words : (isNumber a && isNumber b) ≡ false → matches a b ≡ (eqb (a .kind) (b .kind) && eqb (a .first) (b .first))

@@ -1,1 +1,2 @@
-// Definitions only: constants, data and the name table stand in specs/.
+// Constants, data and the name table stand in specs/; code has the matching of constants.
+pub mod constants;

@@ -2,6 +2,8 @@
 use mathlib.Core.Path.{_≡_, refl}
 use mathlib.Core.List.{List}
 use Prim.Native.Nat.{ℕ, _≤_}
+use Rattle.words.specs.Limits.{coreRate}
+use Rattle.datum.specs.Constant.{decimalKind}
 use Rattle.recipe.specs.Tree.{Tree, size}
 use Rattle.expansion.specs.Lookup.{lookup}
 use Rattle.arena.specs.Arena.{wordAt, referenceAt, nameAt, treeAt}
@@ -11,7 +13,7 @@ use Rattle.turns.specs.declared.answers.Ended.{Ended}
 use Rattle.turns.specs.Memory.{tables, CoreRoom, Ready, Placed}
 use Rattle.turns.specs.Turns.{Ends, Expands}
 use Rattle.turns.specs.Leaves.{Refuses, Leaf, nameEnd, ConstantLeft}
-use Rattle.turns.specs.DispatchLaws.{empty-over, name-over, constant-over, constant-kind, leaf-room}
+use Rattle.turns.specs.DispatchLaws.{empty-over, name-over, constant-over, constant-kind, leaf-room, constant-room}
 use Rattle.expander.specs.CycleLaws.{going-start, going-over}
 
 module _ (work core macros : List ℕ) (fuel node w : ℕ) (r : Reached) (placed : Placed work (r .top) node w)
@@ -38,12 +40,12 @@ module _ (work core macros : List ℕ) (fuel node w : ℕ) (r : Reached) (placed
     pub empty-expands : (operations : List ℕ) → kind ≡ 0 → (e : Ended) → Refuses 13 r e → Expands operations fuel here r (tables work core macros) (tables work core macros) e
     empty-expands operations is e l = over-expands operations core e (empty-over operations work core macros fuel node w r ready (opens-empty work node kind kind-is is) e l)
 
-    module _ (some : kind ≡ 0 → ⊥) (no-name : kind ≡ 3 → ⊥) (no-pair : kind ≡ 4 → ⊥) (first : ℕ) (first-is : first ≡ wordAt work node 2) where
-      constant-opens : OpensConstant work node kind first (wordAt work node 1)
-      constant-opens = opens-constant work node kind kind-is first (wordAt work node 1) some no-name no-pair first-is refl
+    module _ (some : kind ≡ 0 → ⊥) (no-name : kind ≡ 3 → ⊥) (no-pair : kind ≡ 4 → ⊥) (first second : ℕ) (first-is : first ≡ wordAt work node 2) (second-is : second ≡ wordAt work node 1) where
+      constant-opens : OpensConstant work node kind first second
+      constant-opens = opens-constant work node kind kind-is first second some no-name no-pair first-is second-is
 
-      pub constant-asks : CoreRoom core (r .at) 2 × (kind ≤ 2)
-      constant-asks = (operand-room, constant-kind work (r .top) node w kind first (wordAt work node 1) constant-opens placed)
+      pub constant-asks : CoreRoom core (r .at) coreRate × (kind ≤ decimalKind)
+      constant-asks = (constant-room work core macros fuel node w r ready placed, constant-kind work (r .top) node w kind first second constant-opens placed)
 
-      pub constant-expands : (operations core′ : List ℕ) (e : Ended) → ConstantLeft kind first r core core′ e → Expands operations fuel here r (tables work core macros) (tables work core′ macros) e
-      constant-expands operations core′ e l = over-expands operations core′ e (constant-over operations work core macros fuel node w r ready core′ kind first (wordAt work node 1) constant-opens e l)
+      pub constant-expands : (operations core′ : List ℕ) (e : Ended) → ConstantLeft kind first second r core core′ e → Expands operations fuel here r (tables work core macros) (tables work core′ macros) e
+      constant-expands operations core′ e l = over-expands operations core′ e (constant-over operations work core macros fuel node w r ready core′ kind first second constant-opens e l)

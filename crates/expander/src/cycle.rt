@@ -70,7 +70,9 @@ fn operand(
     if kind == cells::EMPTY {
         return leaf::refuse(13, from);
     }
-    leaf::constant(core, kind, cells::word(work, node, cells::FIRST), from)
+    let first = cells::word(work, node, cells::FIRST);
+    let second = cells::word(work, node, cells::SECOND);
+    leaf::constant(core, kind, first, second, from)
 }
 
 fn operands(

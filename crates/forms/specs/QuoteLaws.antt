@@ -8,8 +8,9 @@ use native.Mathlib.Numerals.{add-one}
 use lib.Dec.{eqb, ltb}
 use lib.ListN.{length, getD, take, drop, set, length-append, take-append-drop}
 use lib.Seq.{take-at, drop-at, drop-drop, length-take-le, sets-eq}
-use Rattle.words.specs.ListLaws.{never}
-use Rattle.datum.specs.Constant.{Constant, isConstant, constantWords}
+use Rattle.words.specs.Limits.{coreRate}
+use Rattle.datum.specs.Constant.{Constant, decimalKind, constantWords}
+use Rattle.datum.specs.ConstantLaws.{made, kind-most, words-decimal, words-other, words-few}
 use Rattle.datum.specs.Datum as D
 use Rattle.recipe.specs.Name.{Name}
 use Rattle.recipe.specs.Tree.{Tree, empty, constant, name, pair, size, isList, elements, strip, stripTail, onNames}
@@ -56,6 +57,23 @@ written-then at d c b e g n r l p q =
 pub written-two : (d : List ℕ) (at a b : ℕ) → at + 2 ≤ length d → Written (a ∷ b ∷ []) d (set (set d at a) (at + 1) b) at (at + 2)
 written-two d at a b h = record { end = refl; words = rw (add-one at) (sets-eq (a ∷ b ∷ []) d at h) }
 
+-- a constant's words, with its places where it is a decimal
+module _ (d : List ℕ) (at kind first second : ℕ) (h : at + length (constantWords (made kind first second)) ≤ length d) where
+  pub decimal-room : kind ≡ decimalKind → at + 3 ≤ length d
+  decimal-room e = omega (arith, ap length (words-decimal (made kind first second) e))
+
+  pub other-room : (kind ≡ decimalKind → ⊥) → at + 2 ≤ length d
+  other-room n = omega (arith, ap length (words-other (made kind first second) n))
+
+  pub written-decimal : kind ≡ decimalKind → Written (constantWords (made kind first second)) d (set (set (set d at 9) (at + 1) first) (at + 2) second) at (at + 3)
+  written-decimal e =
+      let w = words-decimal (made kind first second) e in
+      let two : at + 2 ≡ suc (suc at) = omega arith in
+      rw w (record { end = refl; words = rw (add-one at, two) (sets-eq (9 ∷ first ∷ second ∷ []) d at (decimal-room e)) })
+
+  pub written-other : (kind ≡ decimalKind → ⊥) → (e : List ℕ) (r : ℕ) → Written ((kind + 1) ∷ first ∷ []) d e at r → Written (constantWords (made kind first second)) d e at r
+  written-other n e r w = rw (words-other (made kind first second) n) (subst (λ (k : ℕ). Written (k ∷ first ∷ []) d e at r) (add-one kind) w)
+
 pub written-as : (ws vs d e : List ℕ) (at r : ℕ) → ws ≡ vs → Written ws d e at r → Written vs d e at r
 written-as ws vs d e at r h w = subst (λ (l : List ℕ). Written l d e at r) h w
 
@@ -99,15 +117,8 @@ quotable-onNames f (pair h t) q =
 pub quotable-any : (work : List ℕ) (node w : ℕ) → Quotable (treeAt work node w) → Quotable (treeAt work node 0)
 quotable-any work node w q = quotable-onNames (wrapAt work w) (treeAt work node 0) (subst Quotable (treeAt-wrap work node w) q)
 
-kind-most : (k : ℕ) (a b : Bool) → getD (false ∷ a ∷ b ∷ []) k false ≡ true → k ≤ 2
-kind-most zero a b h = omega arith
-kind-most (suc zero) a b h = omega arith
-kind-most (suc (suc zero)) a b h = omega arith
-kind-most (suc (suc (suc k))) a b h = never h refl
-
-constant-kind : {a : Constant} → Quotable (constant a) → a .kind ≤ 2
-unfolding isConstant
-constant-kind {a} (tidyConstant c) = kind-most (a .kind) (eqb (a .second) 0) (ltb (a .first) 2 && eqb (a .second) 0) c
+constant-kind : {a : Constant} → Quotable (constant a) → a .kind ≤ decimalKind
+constant-kind {a} (tidyConstant c) = kind-most a c
 
 -- ---- a node's words
 
@@ -131,11 +142,11 @@ module _ (work : List ℕ) (node kind : ℕ) (kind-is : kind ≡ wordAt work nod
     constant-is : treeAt work node 0 ≡ constant (constantAt work node)
     constant-is = treeAt-constant work node 0 (λ z. not-empty (kind-is ∙ z)) (λ z. not-name (kind-is ∙ z)) (λ z. not-pair (kind-is ∙ z))
 
-    pub quoted-constant : (first : ℕ) → first ≡ wordAt work node 2 → (kind + 1) ∷ first ∷ [] ≡ quotedAt work node
-    unfolding quotedAt strip datumWords nodeWords constantWords constantAt
-    quoted-constant first e = rw (constant-is, kind-is, e, add-one (wordAt work node 3))
+    pub quoted-constant : (first second : ℕ) → first ≡ wordAt work node 2 → second ≡ wordAt work node 1 → constantWords (made kind first second) ≡ quotedAt work node
+    unfolding quotedAt strip datumWords nodeWords constantAt
+    quoted-constant first second e f = rw (constant-is, kind-is, e, f)
 
-    pub constant-small : Quotable (treeAt work node 0) → kind ≤ 2
+    pub constant-small : Quotable (treeAt work node 0) → kind ≤ decimalKind
     unfolding constantAt
     constant-small q = rw kind-is (constant-kind (subst Quotable constant-is q))
 
@@ -222,18 +233,18 @@ module _ (work : List ℕ) (list at : ℕ) (d : List ℕ) (rest n : ℕ) (e : Li
           same = l ∙ walked .same;
         }
 
--- ---- room: two words an item
+-- ---- room: three words an item
 
 mutual
-  unfolding strip datumWords nodeWords constantWords size
+  unfolding strip datumWords nodeWords size
 
-  pub quoted-size : (t : Tree) → length (datumWords (strip t)) ≤ 2 * size t
+  pub quoted-size : (t : Tree) → length (datumWords (strip t)) ≤ coreRate * size t
   quoted-size empty = omega arith
-  quoted-size (constant a) = omega arith
+  quoted-size (constant a) = omega (arith, words-few a .1)
   quoted-size (name x) = omega arith
   quoted-size (pair h t) = simp length-append (omega (arith, quoted-size h, elements-size t))
 
-  elements-size : (t : Tree) → length (dataWords (stripTail t)) + 2 ≤ 2 * size t
+  elements-size : (t : Tree) → length (dataWords (stripTail t)) + 2 ≤ coreRate * size t
   elements-size empty = omega arith
   elements-size (constant a) = omega arith
   elements-size (name x) = omega arith

@@ -3,11 +3,14 @@
 ghost use mathlib.Core.List.{[], _∷_};
 ghost use Prim.Native.Nat.{_+_, _≤_};
 ghost use lib.ListN.{length};
+ghost use Rattle.datum.specs.Constant.{decimalKind, constantWords};
+ghost use Rattle.datum.specs.ConstantLaws.{made};
 ghost use Rattle.arena.specs.Arena.{treeAt};
 ghost use Rattle.forms.specs.Quotes.{quotedAt, elementsAt, Quotable, Written};
 use arena::cells;
 use arena::lists;
 use core_term::codes;
+use datum::constants;
 use resolution::names;
 
 // Two words at `at`; answers where the next stand.
@@ -18,6 +21,20 @@ fn put_two(core: &mut [u32], at: usize, a: u32, b: u32) -> usize
     core[at] = a;
     core[at + 1] = b;
     at + 2
+}
+
+// The words of a constant: its code and its value, and a decimal's places.
+pub fn put_constant(core: &mut [u32], at: usize, kind: u32, first: u32, second: u32) -> usize
+    requires { ⌜ (at + length (constantWords (made kind first second)) ≤ length (now core)) × (kind ≤ decimalKind) ⌝ }
+    ensures { λ r. ⌜ Written (constantWords (made kind first second)) (now (core .entry)) (now (core .exit)) at r ⌝ }
+{
+    if kind != constants::DECIMAL {
+        return put_two(core, at, kind + 1, first);
+    }
+    core[at] = codes::DECIMAL;
+    core[at + 1] = first;
+    core[at + 2] = second;
+    at + 3
 }
 
 // The words of a node, from `at`; answers where the next stand.
@@ -39,7 +56,8 @@ pub fn quote(work: &[u32], node: u32, core: &mut [u32], at: usize) -> usize
         return put_two(core, at, codes::LIST, 0);
     }
     let first = cells::word(work, node, cells::FIRST);
-    put_two(core, at, kind + 1, first)
+    let second = cells::word(work, node, cells::SECOND);
+    put_constant(core, at, kind, first, second)
 }
 
 // The words of a list's elements.

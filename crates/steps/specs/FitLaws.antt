@@ -9,6 +9,7 @@ use native.Mathlib.Omega.{arith}
 use lib.Dec.{eqb}
 use borrow.Author.Tests.{eq-eqb, ne-eqb}
 use Rattle.datum.specs.Constant.{matches}
+use Rattle.datum.specs.ConstantLaws.{made}
 use Rattle.recipe.specs.Name.{Name}
 use Rattle.recipe.specs.Tree.{Tree, onEmpty, onConstant, onName, onPair}
 use Rattle.expansion.specs.Rules.{Pattern, Rule, literalP, constantP, emptyP, pairP}
@@ -87,27 +88,22 @@ module _ (work : List ℕ) (u w kind : ℕ) (kind-is : kind ≡ wordAt work u 3)
     unfolding fit onConstant misfit
     constant-pair e = rw (treeAt-pair work u w (sym kind-is ∙ e)) refl
 
-    pub constant-constant : (kind ≡ 0 → ⊥) → (kind ≡ 3 → ⊥) → (kind ≡ 4 → ⊥) → fit (constantP (constantBefore work p)) (treeAt work u w) .1 ≡ (eqb (wordAt work p 4) kind && (eqb (wordAt work p 3) (wordAt work u 2) && eqb (wordAt work p 2) (wordAt work u 1)))
-    unfolding fit onConstant matches constantBefore constantAt
-    constant-constant a b c = rw (treeAt-constant work u w (λ z. a (kind-is ∙ z)) (λ z. b (kind-is ∙ z)) (λ z. c (kind-is ∙ z)), kind-is) refl
+    pub constant-constant : (kind ≡ 0 → ⊥) → (kind ≡ 3 → ⊥) → (kind ≡ 4 → ⊥) → fit (constantP (constantBefore work p)) (treeAt work u w) .1 ≡ matches (constantBefore work p) (constantAt work u)
+    unfolding fit onConstant
+    constant-constant a b c = rw (treeAt-constant work u w (λ z. a (kind-is ∙ z)) (λ z. b (kind-is ∙ z)) (λ z. c (kind-is ∙ z)))
 
--- one of the three words differs, or none before the last
 module _ (work : List ℕ) (p u kind : ℕ) (kind-is : kind ≡ wordAt work u 3) where
   pub constant-no : (kind ≡ 0) ⊎ ((kind ≡ 3) ⊎ (kind ≡ 4)) → ConstantFits work p u false
   constant-no (inl e) w = constant-empty work u w kind kind-is p e
   constant-no (inr (inl e)) w = constant-name work u w kind kind-is p e
   constant-no (inr (inr e)) w = constant-pair work u w kind kind-is p e
 
-  module _ (a : kind ≡ 0 → ⊥) (b : kind ≡ 3 → ⊥) (c : kind ≡ 4 → ⊥) (k : ℕ) (k-is : k ≡ wordAt work p 4) where
-    pub constant-kinds : (k ≡ kind → ⊥) → ConstantFits work p u false
-    constant-kinds n w = sym (constant-constant work u w kind kind-is p a b c ∙ rw (← k-is, ne-eqb k kind n))
-
-    module _ (same : k ≡ kind) (x y : ℕ) (x-is : x ≡ wordAt work p 3) (y-is : y ≡ wordAt work u 2) where
-      pub constant-firsts : (x ≡ y → ⊥) → ConstantFits work p u false
-      constant-firsts n w = sym (constant-constant work u w kind kind-is p a b c ∙ rw (← k-is, eq-eqb k kind same, ← x-is, ← y-is, ne-eqb x y n))
-
-      pub constant-seconds : x ≡ y → (v z : ℕ) → v ≡ wordAt work p 2 → z ≡ wordAt work u 1 → ConstantFits work p u (eqb v z)
-      constant-seconds e v z v-is z-is w = sym (constant-constant work u w kind kind-is p a b c ∙ rw (← k-is, eq-eqb k kind same, ← x-is, ← y-is, eq-eqb x y e, ← v-is, ← z-is) refl)
+  -- by the words of both
+  pub constant-matches : (kind ≡ 0 → ⊥) → (kind ≡ 3 → ⊥) → (kind ≡ 4 → ⊥) → (k x y v z : ℕ) → k ≡ wordAt work p 4 → x ≡ wordAt work p 3 → y ≡ wordAt work p 2
+      → v ≡ wordAt work u 2 → z ≡ wordAt work u 1 → (r : Bool) → r ≡ matches (made k x y) (made kind v z) → ConstantFits work p u r
+  unfolding constantBefore constantAt
+  constant-matches a b c k x y v z k-is x-is y-is v-is z-is r e w =
+      e ∙ rw (k-is, x-is, y-is, v-is, z-is, kind-is) (sym (constant-constant work u w kind kind-is p a b c))
 
 -- ---- patterns
 

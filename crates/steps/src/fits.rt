@@ -4,6 +4,7 @@ ghost use mathlib.Core.Path.{_≡_};
 ghost use Rattle.arena.specs.Arena.{wordAt};
 ghost use Rattle.steps.specs.Fits.{Fits, EachFits, LiteralFits, ConstantFits, FirstFit};
 use arena::cells;
+use datum::constants;
 use resolution::names;
 
 // A literal fits a name whose lookup finds what its own has found.
@@ -18,7 +19,7 @@ fn literal_fits(work: &[u32], p: u32, u: u32, w: u32) -> bool
     names::agrees(work, number, binding, u, w)
 }
 
-// A constant is matched by value.
+// A constant is matched with a constant alone.
 fn constant_fits(work: &[u32], p: u32, u: u32) -> bool
     ensures { λ r. ⌜ ConstantFits (now (work .entry)) p u r ⌝ }
 {
@@ -32,13 +33,14 @@ fn constant_fits(work: &[u32], p: u32, u: u32) -> bool
     if kind == cells::PAIR {
         return false;
     }
-    if cells::word(work, p, rule_cells::cells::KIND) != kind {
-        return false;
-    }
-    if cells::word(work, p, rule_cells::cells::FIRST) != cells::word(work, u, cells::FIRST) {
-        return false;
-    }
-    cells::word(work, p, rule_cells::cells::SECOND) == cells::word(work, u, cells::SECOND)
+    constants::matches(
+        cells::word(work, p, rule_cells::cells::KIND),
+        cells::word(work, p, rule_cells::cells::FIRST),
+        cells::word(work, p, rule_cells::cells::SECOND),
+        kind,
+        cells::word(work, u, cells::FIRST),
+        cells::word(work, u, cells::SECOND),
+    )
 }
 
 // Whether a pattern that is no pair fits a use.

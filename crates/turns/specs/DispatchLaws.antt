@@ -6,8 +6,9 @@ use Prim.Native.Nat.{ℕ, zero, suc, _*_, _≤_}
 use native.Mathlib.Omega.{arith}
 use lib.ListN.{length}
 use borrow.Author.Tests.{eqb-true}
-use Rattle.words.specs.Limits.{macrosMost}
-use Rattle.datum.specs.Constant.{Constant}
+use Rattle.words.specs.Limits.{macrosMost, coreRate}
+use Rattle.datum.specs.Constant.{Constant, decimalKind}
+use Rattle.datum.specs.ConstantLaws.{kind-most}
 use Rattle.recipe.specs.Name.{Name}
 use Rattle.recipe.specs.Tree.{Tree, constant, name, pair, size, isName, onName, isListOf, tail, onPair}
 use Rattle.recipe.specs.TreeLaws.{size-positive}
@@ -39,7 +40,7 @@ use Rattle.turns.specs.EndLaws.{if-end}
 use Rattle.turns.specs.Memory.{tables, macrosAt, CoreRoom, Moved, HeaderMoved, Proper, Ready, Placed}
 use Rattle.turns.specs.Turns.{turnOf, Ends, Spreads, Turned}
 use Rattle.turns.specs.Leaves.{Refuses, Leaf, nameEnd, constantEnd, ConstantLeft}
-use Rattle.turns.specs.LeafLaws.{constant-small, form-found, leaf-ends, headed, refused-ends}
+use Rattle.turns.specs.LeafLaws.{form-found, leaf-ends, headed, refused-ends}
 use Rattle.turns.specs.SpreadLaws.{spread-named, spread-other, spread-if}
 use Rattle.turns.specs.Scopes.{quoteEnd, QuoteLeft, IfLeft, LambdaLeft}
 use Rattle.turns.specs.LambdaLaws.{lambda-follows, lambda-refused}
@@ -61,8 +62,8 @@ leaf-more : (E : State → End (Term Name)) (m n : ℕ) (r : Reached) (core core
 leaf-more E m n r core core′ (Done q) h l = record { term = l .term; is = l .is; short = omega (arith, l .short); moves = l .moves }
 leaf-more E m n r core core′ (Refused g k s) h l = l
 
-two-words : (t : Tree) → 2 ≤ 2 * size t
-two-words t = omega (arith, size-positive t)
+two-words : (t : Tree) → (2 ≤ coreRate * size t) × (coreRate ≤ coreRate * size t)
+two-words t = (omega (arith, size-positive t), omega (arith, size-positive t))
 
 module _ (operations : List ℕ) (work core macros : List ℕ) (fuel node w : ℕ) (r : Reached) (ready : Ready fuel (size (treeAt work node w)) r (tables work core macros)) where
   pub empty-over : Opens work node Empty → (a : Ended) → Refuses 13 r a → Ends operations fuel (treeAt work node w) r (tables work core macros) (tables work core macros) a
@@ -73,21 +74,21 @@ module _ (operations : List ℕ) (work core macros : List ℕ) (fuel node w : �
   name-over core′ item own o a l =
       leaf-ends operations fuel (treeAt work node w) r work core core′ macros (nameEnd (lookup operations (nameAt work node w)))
       (λ expand s. rw (o .tree w) (name-turn operations fuel expand s (nameAt work node w))) ready a
-      (leaf-more (nameEnd (lookup operations (nameAt work node w))) 2 (2 * size (treeAt work node w)) r core core′ a (two-words (treeAt work node w)) l)
+      (leaf-more (nameEnd (lookup operations (nameAt work node w))) 2 (coreRate * size (treeAt work node w)) r core core′ a (two-words (treeAt work node w) .0) l)
 
-  pub constant-over : (core′ : List ℕ) (kind first second : ℕ) → OpensConstant work node kind first second → (a : Ended) → ConstantLeft kind first r core core′ a
+  pub constant-over : (core′ : List ℕ) (kind first second : ℕ) → OpensConstant work node kind first second → (a : Ended) → ConstantLeft kind first second r core core′ a
       → Ends operations fuel (treeAt work node w) r (tables work core macros) (tables work core′ macros) a
   unfolding constantEnd
   constant-over core′ kind first second o a l =
       let c : Constant = record { kind = kind; first = first; second = second } in
       leaf-ends operations fuel (treeAt work node w) r work core core′ macros (constantEnd c) (λ expand s. rw (o .tree w) (constant-turn operations fuel expand s c)) ready a
-      (leaf-more (constantEnd c) 2 (2 * size (treeAt work node w)) r core core′ a (two-words (treeAt work node w)) (l second))
+      (leaf-more (constantEnd c) coreRate (coreRate * size (treeAt work node w)) r core core′ a (two-words (treeAt work node w) .1) l)
 
-pub constant-kind : (work : List ℕ) (top node w kind first second : ℕ) → OpensConstant work node kind first second → Placed work top node w → kind ≤ 2
+pub constant-kind : (work : List ℕ) (top node w kind first second : ℕ) → OpensConstant work node kind first second → Placed work top node w → kind ≤ decimalKind
 constant-kind work top node w kind first second o placed = go (subst Proper (o .tree w) (placed .proper))
   where
-    go : {a : Constant} → Proper (constant a) → a .kind ≤ 2
-    go {a} (tidyConstant c) = constant-small a c
+    go : {a : Constant} → Proper (constant a) → a .kind ≤ decimalKind
+    go {a} (tidyConstant c) = kind-most a c
 
 -- ---- a list's head
 
@@ -107,7 +108,10 @@ module _ (work : List ℕ) (head : ℕ) (b : Bool) (test : Tests isName work hea
 
 module _ (work core macros : List ℕ) (fuel node w : ℕ) (r : Reached) (ready : Ready fuel (size (treeAt work node w)) r (tables work core macros)) (placed : Placed work (r .top) node w) where
   pub leaf-room : CoreRoom core (r .at) 2
-  leaf-room = ready-core work core macros fuel node w r ready placed 2 (two-words (treeAt work node w))
+  leaf-room = ready-core work core macros fuel node w r ready placed 2 (two-words (treeAt work node w) .0)
+
+  pub constant-room : CoreRoom core (r .at) coreRate
+  constant-room = ready-core work core macros fuel node w r ready placed coreRate (two-words (treeAt work node w) .1)
 
   pub application-room : (tail : ℕ) (x : Name) → Headed work node tail w x → CoreRoom core (r .at) 4
   unfolding size

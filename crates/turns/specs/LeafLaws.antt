@@ -1,15 +1,16 @@
 -- Laws of expressions that are done at once, one for each way through the code.
 use mathlib.Core.Path.{_≡_, refl, ap, sym, subst, _∙_}
 use mathlib.Core.List.{List, [], _∷_}
-use Prim.Native.Nat.{ℕ, zero, suc, _+_, _*_, _≤_}
+use Prim.Native.Nat.{ℕ, zero, suc, _+_, _*_, _^_, _≤_, _<_}
 use native.Mathlib.Omega.{arith}
 use mathlib.Core.Bool.{Bool, true, false, cond, false≢true}
 use mathlib.Core.Option.{Option, none, some}
 use lib.Dec.{eqb, ltb}
-use lib.ListN.{getD}
-use Rattle.words.specs.Limits.{baseNameCount, macrosMost}
+use lib.ListN.{length, getD}
+use Rattle.words.specs.Limits.{baseNameCount, macrosMost, coreRate}
 use Rattle.words.specs.ListLaws.{either}
-use Rattle.datum.specs.Constant.{Constant, isConstant, constantWords}
+use Rattle.datum.specs.Constant.{constantWords}
+use Rattle.datum.specs.ConstantLaws.{made, words-few}
 use Rattle.datum.specs.Datum.{constantD}
 use Rattle.recipe.specs.Name.{Binding, variable, macro, Name}
 use Rattle.recipe.specs.Tree.{Tree, name, pair, size}
@@ -25,13 +26,15 @@ use Rattle.resolution.specs.declared.names.Meaning.{Meaning}
 use Rattle.resolution.specs.declared.names.Meaning.the-variants.{Variable, Macro, Form, Operation}
 use Rattle.resolution.specs.declared.names.Looked.{Looked}
 use Rattle.resolution.specs.declared.names.Looked.the-variants.{Finds, Nothing}
+use Rattle.forms.specs.Quotes.{Written}
 use Rattle.turns.specs.declared.answers.Reached.{Reached}
 use Rattle.turns.specs.declared.answers.Ended.{Ended}
 use Rattle.turns.specs.declared.answers.Ended.the-variants.{Done, Refused}
 use Rattle.turns.specs.Ends.{End, refusedEnd, endOf}
 use Rattle.turns.specs.EndLaws.{list-end}
-use Rattle.turns.specs.Memory.{Tables, tables, stateAt, Moved, Ready}
-use Rattle.turns.specs.MemoryLaws.{kept-moved, state-moved}
+use Rattle.turns.specs.Memory.{Tables, tables, stateAt, CoreRoom, Moved, Ready}
+use Rattle.turns.specs.MemoryLaws.{moved-by, kept-moved, state-moved}
+use Rattle.turns.specs.Numbers.{moved}
 use Rattle.turns.specs.Turns.{Lent, Left, turnOf, Ends}
 use Rattle.turns.specs.Leaves.{Refuses, Makes, Stops, Leaf, nameEnd, constantEnd, ConstantLeft}
 
@@ -110,32 +113,28 @@ expandName-end limit operations fuel expand nothing s = refl
 
 -- ---- constants
 
-pub constant-made : (kind first : ℕ) (r : Reached) (core core′ : List ℕ) (q : Reached) → Moved ((kind + 1) ∷ first ∷ []) r core core′ q → ConstantLeft kind first r core core′ (Done q)
-unfolding constantEnd encode datumWords nodeWords constantWords
-constant-made kind first r core core′ q m second =
-    let e : kind + 1 ≡ suc kind = omega arith in
-    record {
-      term = datumC (constantD (record { kind = kind; first = first; second = second }));
-      is = λ s. refl;
-      short = omega arith;
-      moves = subst (λ (k : ℕ). Moved (k ∷ first ∷ []) r core core′ q) e m;
-    }
+module _ (kind first second : ℕ) (r : Reached) (core : List ℕ) (room : CoreRoom core (r .at) coreRate) where
+  pub constant-fits : r .at + length (constantWords (made kind first second)) ≤ length core
+  constant-fits = omega (arith, room .fits, words-few (made kind first second) .1)
 
--- a constant's kind is 1 or 2
-pub constant-small : (a : Constant) → isConstant a ≡ true → a .kind ≤ 2
-unfolding isConstant
-constant-small a e = go (a .kind) _ _ e
-  where
-    go : (k : ℕ) (x y : Bool) → getD (false ∷ x ∷ y ∷ []) k false ≡ true → k ≤ 2
-    go zero x y e = omega arith
-    go (suc zero) x y e = omega arith
-    go (suc (suc zero)) x y e = omega arith
-    go (suc (suc (suc k))) x y e = absurd (false≢true e)
+  pub constant-below : (at : ℕ) → at ≡ r .at + length (constantWords (made kind first second)) → at < 2 ^ 32
+  constant-below at e = omega (arith, room .small, words-few (made kind first second) .1)
+
+pub constant-made : (kind first second : ℕ) (r : Reached) (core core′ : List ℕ) (at : ℕ) (q : Reached) → q ≡ moved at r → Written (constantWords (made kind first second)) core core′ (r .at) at
+    → ConstantLeft kind first second r core core′ (Done q)
+unfolding constantEnd encode datumWords nodeWords
+constant-made kind first second r core core′ at q e p =
+    record {
+      term = datumC (constantD (made kind first second));
+      is = λ s. refl;
+      short = words-few (made kind first second) .1;
+      moves = moved-by _ r q core core′ at e p;
+    }
 
 -- ---- a leaf ends the expression
 
 module _ (operations : List ℕ) (fuel : ℕ) (tree : Tree) (r : Reached) (work core core′ macros : List ℕ) (E : State → End (Term Name)) (is : (expand : Tree → M (Term Name)) (s : State) → turnOf operations fuel expand tree s ≡ E s) (ready : Ready fuel (size tree) r (tables work core macros)) where
-  made-ends : (q : Reached) → Makes E (2 * size tree) r core core′ q → Ends operations fuel tree r (tables work core macros) (tables work core′ macros) (Done q)
+  made-ends : (q : Reached) → Makes E (coreRate * size tree) r core core′ q → Ends operations fuel tree r (tables work core macros) (tables work core′ macros) (Done q)
   made-ends q m =
       record {
         kept = kept-moved fuel (size tree) 0 r q work core core′ macros (encode (m .term)) ready (m .moves) (omega arith) (omega (arith, m .short));
@@ -156,7 +155,7 @@ module _ (operations : List ℕ) (fuel : ℕ) (tree : Tree) (r : Reached) (work 
             (refl, sym (m .steps-are), sym (m .sum-is));
       }
 
-  pub leaf-ends : (a : Ended) → Leaf E (2 * size tree) r core core′ a → Ends operations fuel tree r (tables work core macros) (tables work core′ macros) a
+  pub leaf-ends : (a : Ended) → Leaf E (coreRate * size tree) r core core′ a → Ends operations fuel tree r (tables work core macros) (tables work core′ macros) a
   leaf-ends (Done q) m = made-ends q m
   leaf-ends (Refused g n k) m = stopped-ends g n k m
 

@@ -3,7 +3,9 @@ use mathlib.Core.Path.{_≡_}
 use mathlib.Core.List.{List}
 use Prim.Native.Nat.{ℕ, _≤_}
 use lib.ListN.{length}
+use Rattle.words.specs.Limits.{coreRate}
 use Rattle.datum.specs.Constant.{Constant}
+use Rattle.datum.specs.ConstantLaws.{made}
 use Rattle.datum.specs.Datum.{constantD}
 use Rattle.recipe.specs.Name.{variable, macro, Name}
 use Rattle.core_term.specs.Term.{Term, variableC, operationC, datumC}
@@ -48,5 +50,5 @@ nameEnd nothing s = refusedEnd 11 s
 unfoldable pub constantEnd : Constant → State → End (Term Name)
 constantEnd a s = finished (datumC (constantD a)) s
 
-abbrev pub ConstantLeft : (kind first : ℕ) (r : Reached) (core core′ : List ℕ) → Ended → Type 0
-ConstantLeft kind first r core core′ a = (second : ℕ) → Leaf (constantEnd (record { kind = kind; first = first; second = second })) 2 r core core′ a
+abbrev pub ConstantLeft : (kind first second : ℕ) (r : Reached) (core core′ : List ℕ) → Ended → Type 0
+ConstantLeft kind first second r core core′ a = Leaf (constantEnd (made kind first second)) coreRate r core core′ a

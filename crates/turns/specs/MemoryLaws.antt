@@ -8,6 +8,7 @@ use lib.Dec.{ltb}
 use borrow.Author.Tests.{ltb-true, ltb-false}
 use lib.ListN.{List·getD-append, length, getD, take, drop, set, length-append, length-drop}
 use lib.Seq.{getD-take, length-take-le, set-split, append-snoc, getD-append-seam}
+use Rattle.words.specs.Limits.{coreRate}
 use Rattle.core_term.specs.Node.{applicationCode}
 use Rattle.expansion.specs.Rules.{Rule}
 use Rattle.rule_cells.specs.Cells.{rulesAt}
@@ -106,7 +107,7 @@ module _ (r q : Reached) (work core core′ macros words : List ℕ) (m : Moved 
   unfolding stateAt moved
   state-moved = ap (stateAt (tables work core′ macros)) (sym (m .is))
 
-pub kept-moved : (fuel n l : ℕ) (r q : Reached) (work core core′ macros words : List ℕ) → Ready fuel n r (tables work core macros) → Moved words r core core′ q → l ≤ n → length words + 2 * l ≤ 2 * n
+pub kept-moved : (fuel n l : ℕ) (r q : Reached) (work core core′ macros words : List ℕ) → Ready fuel n r (tables work core macros) → Moved words r core core′ q → l ≤ n → length words + coreRate * l ≤ coreRate * n
     → Kept fuel n l r q (tables work core macros) (tables work core′ macros)
 unfolding workNeed coreNeed variableNeed macroNeed moved
 kept-moved fuel n l r q work core core′ macros words x m less few =

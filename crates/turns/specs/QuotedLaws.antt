@@ -5,6 +5,7 @@ use mathlib.Core.List.{List}
 use Prim.Native.Nat.{ℕ, _+_, _*_, _^_, _≤_, _<_}
 use native.Mathlib.Omega.{arith}
 use lib.ListN.{length}
+use Rattle.words.specs.Limits.{coreRate}
 use Rattle.recipe.specs.Tree.{Tree, size, strip, isListOf, element}
 use Rattle.recipe.specs.TreeLaws.{element-size}
 use Rattle.recipe.specs.Tidy.{tidy-element}
@@ -28,10 +29,10 @@ use Rattle.turns.specs.Scopes.{QuoteRoom, quoteEnd, QuoteLeft}
 module _ (work core : List ℕ) (node : ℕ) (r : Reached) where
   pub quote-refused : (a : Ended) → ((w : ℕ) → isListOf 2 (treeAt work node w) ≡ false) → Refuses 13 r a → QuoteLeft work node r core core a
   unfolding quoteEnd needs
-  quote-refused a shape e w = refused-leaf (quoteEnd (treeAt work node w)) (2 * size (treeAt work node w)) 13 r core a (λ s. rw (shape w)) e
+  quote-refused a shape e w = refused-leaf (quoteEnd (treeAt work node w)) (coreRate * size (treeAt work node w)) 13 r core a (λ s. rw (shape w)) e
 
   module _ (datum : ℕ) (datum-is : Means work node datum (element 1)) where
-    words-most : (w : ℕ) → length (quotedAt work datum) ≤ 2 * size (treeAt work node w)
+    words-most : (w : ℕ) → length (quotedAt work datum) ≤ coreRate * size (treeAt work node w)
     words-most w =
         let e : datumWords (strip (treeAt work datum w)) ≡ quotedAt work datum = quoted-any work datum w in
         let s : size (treeAt work datum w) ≤ size (treeAt work node w) = rw (datum-is .is w) (element-size 1 (treeAt work node w)) in
@@ -51,6 +52,6 @@ module _ (work core : List ℕ) (node : ℕ) (r : Reached) where
         record {
           term = datumC (strip (element 1 (treeAt work node w)));
           is = λ s. rw (shape w);
-          short = subst (λ (l : List ℕ). length l ≤ 2 * size (treeAt work node w)) e (words-most w);
+          short = subst (λ (l : List ℕ). length l ≤ coreRate * size (treeAt work node w)) e (words-most w);
           moves = moved-by _ r q core core′ at q-is (rw (sym e) x);
         }

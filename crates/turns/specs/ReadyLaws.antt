@@ -3,6 +3,7 @@ use mathlib.Core.Path.{_≡_, ap, _∙_}
 use mathlib.Core.List.{List}
 use Prim.Native.Nat.{ℕ, _*_, _≤_}
 use native.Mathlib.Omega.{arith}
+use Rattle.words.specs.Limits.{coreRate}
 use Rattle.recipe.specs.Tree.{size}
 use Rattle.recipe.specs.TreeLaws.{size-positive, onNames-size}
 use Rattle.arena.specs.Arena.{treeAt, wrapAt}
@@ -16,7 +17,7 @@ use Rattle.turns.specs.MacroTurns.{MacroRoom}
 
 module _ (work core macros : List ℕ) (fuel node w : ℕ) (r : Reached)
     (ready : Ready fuel (size (treeAt work node w)) r (tables work core macros)) (placed : Placed work (r .top) node w) where
-  pub ready-core : (k : ℕ) → k ≤ 2 * size (treeAt work node w) → CoreRoom core (r .at) k
+  pub ready-core : (k : ℕ) → k ≤ coreRate * size (treeAt work node w) → CoreRoom core (r .at) k
   unfolding coreNeed
   ready-core k h = record { fits = omega (arith, ready .core-room); small = omega (arith, ready .core-small) }
 

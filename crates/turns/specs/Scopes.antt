@@ -43,7 +43,7 @@ unfoldable pub quoteEnd : Tree → State → End (Term Name)
 quoteEnd t s = needs 13 (isListOf 2 t) s (finished (datumC (strip (element 1 t))) s)
 
 abbrev pub QuoteLeft : (work : List ℕ) (node : ℕ) (r : Reached) (core core′ : List ℕ) → Ended → Type 0
-QuoteLeft work node r core core′ a = (w : ℕ) → Leaf (quoteEnd (treeAt work node w)) (2 * size (treeAt work node w)) r core core′ a
+QuoteLeft work node r core core′ a = (w : ℕ) → Leaf (quoteEnd (treeAt work node w)) (coreRate * size (treeAt work node w)) r core core′ a
 
 -- ---- if
 

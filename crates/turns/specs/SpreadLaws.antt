@@ -7,7 +7,7 @@ use native.Mathlib.Omega.{arith}
 use lib.Dec.{eqb}
 use lib.ListN.{length}
 use borrow.Author.Tests.{eqb-true}
-use Rattle.words.specs.Limits.{macrosMost}
+use Rattle.words.specs.Limits.{macrosMost, coreRate}
 use Rattle.words.specs.TestLaws.{and-parts}
 use Rattle.recipe.specs.Name.{Name}
 use Rattle.recipe.specs.Tree.{Tree, empty, constant, name, pair, size, isList, isListOf, elements, element}
@@ -83,7 +83,7 @@ module _ (operations : List ℕ) (fuel : ℕ) (expand : Tree → M (Term Name)) 
 
 module _ (operations : List ℕ) (fuel : ℕ) (tree : Tree) (r q : Reached) (work core core′ macros header : List ℕ) (list w : ℕ)
     (ready : Ready fuel (size tree) r (tables work core macros)) (m : Moved header r core core′ q) (placed : Placed work (r .top) list w) where
-  pub spread-by : (g : Terms Name → Term Name) → size (treeAt work list w) ≤ size tree → length header + 2 * (size (treeAt work list w) - 1) ≤ 2 * size tree
+  pub spread-by : (g : Terms Name → Term Name) → size (treeAt work list w) ≤ size tree → length header + coreRate * (size (treeAt work list w) - 1) ≤ coreRate * size tree
       → ((expand : Tree → M (Term Name)) (s : State) → turnOf operations fuel expand tree s ≡ then (λ v u. finished (g v) u) (operandsOf operations fuel expand (treeAt work list w) s))
       → ((expand : Tree → M (Term Name)) (s : State) → Prefixed encodeAll encode g header (operandsOf operations fuel expand (treeAt work list w) s))
       → Spreads operations fuel tree r (tables work core macros) (tables work core′ macros) list w q

@@ -185,6 +185,7 @@ pub fn turn(
             core,
             kind,
             first,
+            second,
             reached,
         )),
     }

@@ -1,6 +1,8 @@
 // Expressions that are done at once: constants and bare names.
 
 ghost use Prim.Native.Nat.{_≤_};
+ghost use Rattle.words.specs.Limits.{coreRate};
+ghost use Rattle.datum.specs.Constant.{decimalKind};
 ghost use Rattle.arena.specs.Arena.{nameAt};
 ghost use Rattle.resolution.specs.Names.{lookupIn};
 ghost use Rattle.turns.specs.Memory.{CoreRoom};
@@ -9,6 +11,7 @@ use crate::answers::Ended;
 use crate::answers::Reached;
 use crate::output;
 use core_term::codes;
+use forms::quotes;
 use resolution::names;
 use resolution::names::Looked;
 use resolution::names::Meaning;
@@ -24,12 +27,13 @@ pub fn refuse(ground: u32, reached: Reached) -> Ended
     }
 }
 
-// An integer or a boolean stands for itself.
-pub fn constant(core: &mut [u32], kind: u32, first: u32, reached: Reached) -> Ended
-    requires { ⌜ (CoreRoom (now core) (reached .at) 2) × (kind ≤ 2) ⌝ }
-    ensures { λ r. ⌜ ConstantLeft kind first reached (now (core .entry)) (now (core .exit)) r ⌝ }
+// A constant stands for itself.
+pub fn constant(core: &mut [u32], kind: u32, first: u32, second: u32, reached: Reached) -> Ended
+    requires { ⌜ (CoreRoom (now core) (reached .at) coreRate) × (kind ≤ decimalKind) ⌝ }
+    ensures { λ r. ⌜ ConstantLeft kind first second reached (now (core .entry)) (now (core .exit)) r ⌝ }
 {
-    Ended::Done(output::put_node(core, reached, kind + 1, first))
+    let at = quotes::put_constant(core, reached.at as usize, kind, first, second);
+    Ended::Done(reached.moved(at as u32))
 }
 
 // A bare name is a variable or an operation (grounds 11 and 12).

@@ -12,6 +12,7 @@ use Rattle.arena.proofs.cells.reference.Reads as reference-reads
 use Rattle.arena.proofs.cells.word.Reads as word-reads
 use Rattle.resolution.proofs.names.number_of.Reads as number-of-reads
 use Rattle.arena.proofs.lists.count.Reads as count-reads
+use Rattle.forms.proofs.quotes.put_constant.Reads as put-constant-reads
 use Rattle.forms.proofs.quotes.put_two.Reads as put-two-reads
 use Rattle.forms.proofs.quotes.+quote+quote_all.{statement}
 use Rattle.forms.proofs.quotes.+quote+quote_all.Tie.{close}
@@ -45,7 +46,7 @@ quote-all-below t =
 
 abbrev quote-claims : ℕ → quote-lts.Claims
 quote-claims t =
-    (word-reads.Asked, word-reads.Learnt, count-reads.Asked, count-reads.Learnt, put-two-reads.Asked, put-two-reads.Learnt, quote-all-below t, quote-all.Post, number-of-reads.Asked, number-of-reads.Learnt)
+    (word-reads.Asked, word-reads.Learnt, count-reads.Asked, count-reads.Learnt, put-two-reads.Asked, put-two-reads.Learnt, quote-all-below t, quote-all.Post, number-of-reads.Asked, number-of-reads.Learnt, put-constant-reads.Asked, put-constant-reads.Learnt)
 
 abbrev quote-all-claims : ℕ → quote-all-lts.Claims
 quote-all-claims t =
@@ -98,24 +99,24 @@ quote-returns-3 t c =
     let a = c .before .before .before .before .before .before .before .before .before .before .args in
     written-as _ _ (a .core .now) _ (a .at) _ (quoted-empty (a .work .now) (a .node) _ (c .before .before .before .before .before .before .before .word .ensures) (c .before .before .before .before .if3 .taken)) (c .before .before .put-two3 .ensures)
 
-quote-add-put-two : (t : ℕ) → quote-lts.Need-add-put-two (quote-claims t) (quote-at t) quote.Post
-quote-add-put-two t c =
-    let a = c .before .before .before .before .before .before .before .before .args in
-    omega (arith, constant-small (a .work .now) (a .node) _ (c .before .before .before .before .before .word .ensures) (c .before .before .if3 .left) (c .before .before .before .if2 .left) (c .before .before .before .before .if1 .left) (c .before .before .before .before .before .before .before .before .pre .1 .1))
-
-quote-put-two-requires-4 : (t : ℕ) → quote-lts.Need-put-two-requires-4 (quote-claims t) (quote-at t) quote.Post
-quote-put-two-requires-4 t c κs =
-    let a = c .before .before .before .before .before .before .before .before .args in
-    omega (arith, c .before .before .before .before .before .before .before .before .pre .1 .0, ap length (quoted-constant (a .work .now) (a .node) _ (c .before .before .before .before .before .word .ensures) (c .before .before .if3 .left) (c .before .before .before .if2 .left) (c .before .before .before .before .if1 .left) _ (c .before .word2 .ensures)))
+quote-put-constant-requires : (t : ℕ) → quote-lts.Need-put-constant-requires (quote-claims t) (quote-at t) quote.Post
+quote-put-constant-requires t c κs =
+    let s = c .before .before .before .before .before .before .before .before .before in
+    let a = s .args in
+    let w = c .before .before .before .before .before .before .word .ensures in
+    let x = c .before .before .before .if3 .left in
+    let y = c .before .before .before .before .if2 .left in
+    let z = c .before .before .before .before .before .if1 .left in
+    (omega (arith, s .pre .1 .0, ap length (quoted-constant (a .work .now) (a .node) _ w x y z _ _ (c .before .before .word2 .ensures) (c .before .word3 .ensures))), constant-small (a .work .now) (a .node) _ w x y z (s .pre .1 .1))
 
 quote-same-length-4 : (t : ℕ) → quote-lts.Need-same-length-4 (quote-claims t) (quote-at t) quote.Post
 quote-same-length-4 t c =
-    c .before .before .put-two4 .kept .0
+    c .before .before .put-constant .kept .0
 
 quote-returns-4 : (t : ℕ) → quote-lts.Need-returns-4 (quote-claims t) (quote-at t) quote.Post
 quote-returns-4 t c =
-    let a = c .before .before .before .before .before .before .before .before .before .before .before .args in
-    written-as _ _ (a .core .now) _ (a .at) _ (quoted-constant (a .work .now) (a .node) _ (c .before .before .before .before .before .before .before .before .word .ensures) (c .before .before .before .before .before .if3 .left) (c .before .before .before .before .before .before .if2 .left) (c .before .before .before .before .before .before .before .if1 .left) _ (c .before .before .before .before .word2 .ensures)) (c .before .before .put-two4 .ensures)
+    let a = c .before .before .before .before .before .before .before .before .before .before .before .before .args in
+    written-as _ _ (a .core .now) _ (a .at) _ (quoted-constant (a .work .now) (a .node) _ (c .before .before .before .before .before .before .before .before .before .word .ensures) (c .before .before .before .before .before .before .if3 .left) (c .before .before .before .before .before .before .before .if2 .left) (c .before .before .before .before .before .before .before .before .if1 .left) _ _ (c .before .before .before .before .before .word2 .ensures) (c .before .before .before .before .word3 .ensures)) (c .before .before .put-constant .ensures)
 
 abbrev quote-all-Inv-loop : quote-all-lts.InvT-loop
 quote-all-Inv-loop work list core₀ at rest₀ n₀ core rest n =
@@ -171,8 +172,8 @@ pub +quote+quote-all-spec : {M : Type 1} → statement M
     (quote-same-length-3 t)
     (quote-returns-3 t)
     (λ c κs. search needs)  -- quote-word-requires-2
-    (quote-add-put-two t)
-    (quote-put-two-requires-4 t)
+    (λ c κs. search needs)  -- quote-word-requires-3
+    (quote-put-constant-requires t)
     (quote-same-length-4 t)
     (quote-returns-4 t))
     λ t. quote-all-lts.spec (quote-all-claims t) (quote-all-at t)

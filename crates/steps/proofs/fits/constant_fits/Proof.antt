@@ -1,8 +1,10 @@
--- `fits::constant_fits`: the three words are compared where the node is a constant.
+-- `fits::constant_fits`: the words of both are compared where the node is a constant.
 use borrow.Author.Needs.{needs}
 use Rattle.steps.proofs.fits.constant_fits.Statement.{statement}
 use Rattle.steps.proofs.fits.constant_fits.Tie as tie
-use Rattle.steps.specs.FitLaws.{constant-no, constant-kinds, constant-firsts, constant-seconds}
+use Rattle.arena.proofs.cells.word.Reads as word-reads
+use Rattle.datum.proofs.constants.matches.Reads as matches-reads
+use Rattle.steps.specs.FitLaws.{constant-no, constant-matches}
 use mathlib.Core.Logic.{inl, inr}
 
 returns : tie.Need-returns
@@ -19,15 +21,7 @@ returns-3 c =
 
 returns-4 : tie.Need-returns-4
 returns-4 c =
-    let a = c .before .before .before .before .before .before .before .args in constant-kinds (a .work .now) (a .p) (a .u) _ (c .before .before .before .before .before .word .ensures) (c .before .before .before .before .if1 .left) (c .before .before .before .if2 .left) (c .before .before .if3 .left) _ (c .before .word2 .ensures) (c .if4 .taken)
-
-returns-5 : tie.Need-returns-5
-returns-5 c =
-    let a = c .before .before .before .before .before .before .before .before .before .before .args in constant-firsts (a .work .now) (a .p) (a .u) _ (c .before .before .before .before .before .before .before .before .word .ensures) (c .before .before .before .before .before .before .before .if1 .left) (c .before .before .before .before .before .before .if2 .left) (c .before .before .before .before .before .if3 .left) _ (c .before .before .before .before .word2 .ensures) (c .before .before .before .if4 .left) _ _ (c .before .before .word3 .ensures) (c .before .word4 .ensures) (c .if5 .taken)
-
-returns-6 : tie.Need-returns-6
-returns-6 c =
-    let a = c .before .before .before .before .before .before .before .before .before .before .before .before .args in constant-seconds (a .work .now) (a .p) (a .u) _ (c .before .before .before .before .before .before .before .before .before .before .word .ensures) (c .before .before .before .before .before .before .before .before .before .if1 .left) (c .before .before .before .before .before .before .before .before .if2 .left) (c .before .before .before .before .before .before .before .if3 .left) _ (c .before .before .before .before .before .before .word2 .ensures) (c .before .before .before .before .before .if4 .left) _ _ (c .before .before .before .before .word3 .ensures) (c .before .before .before .word4 .ensures) (c .before .before .if5 .left) _ _ (c .before .word5 .ensures) (c .word6 .ensures)
+    let a = c .before .before .before .before .before .before .before .before .before .before .before .args in constant-matches (a .work .now) (a .p) (a .u) _ (c .before .before .before .before .before .before .before .before .before .word .ensures) (c .before .before .before .before .before .before .before .before .if1 .left) (c .before .before .before .before .before .before .before .if2 .left) (c .before .before .before .before .before .before .if3 .left) _ _ _ _ _ (c .before .before .before .before .before .word2 .ensures) (c .before .before .before .before .word3 .ensures) (c .before .before .before .word4 .ensures) (c .before .before .word5 .ensures) (c .before .word6 .ensures) _ (c .matches .ensures)
 
 pub constant-fits-spec : {M : Type 1} → statement M
 constant-fits-spec =
@@ -38,10 +32,9 @@ constant-fits-spec =
     returns-2
     returns-3
     (λ c κs. search needs)  -- word-requires-2
-    returns-4
     (λ c κs. search needs)  -- word-requires-3
     (λ c κs. search needs)  -- word-requires-4
-    returns-5
     (λ c κs. search needs)  -- word-requires-5
     (λ c κs. search needs)  -- word-requires-6
-    returns-6)
+    (λ c κs. search needs)  -- matches-requires
+    returns-4)

@@ -5,7 +5,7 @@ use Rattle.turns.proofs.dispatch.turn.Tie as tie
 use Rattle.arena.specs.Arena.{nameAt}
 use Rattle.turns.specs.Leaves.{Leaf, nameEnd}
 use Rattle.turns.specs.LeafLaws.{found-in}
-use Rattle.turns.specs.DispatchLaws.{opened-as, empty-over, name-over, constant-over, constant-kind, leaf-room}
+use Rattle.turns.specs.DispatchLaws.{opened-as, empty-over, name-over, constant-over, constant-kind, leaf-room, constant-room}
 
 bare-name-requires : tie.Need-bare-name-requires
 bare-name-requires c κs =
@@ -17,7 +17,7 @@ list-requires c κs =
 
 constant-requires : tie.Need-constant-requires
 constant-requires c κs =
-    let a = c .before .before .before .before .before .before .before .before .before .before .args in (leaf-room (a .work .now) (a .core .now) (a .known .now) (a .fuel) (a .node) (a .wrap) (a .reached) (c .before .before .before .before .before .before .before .before .before .before .pre .1) (c .before .before .before .before .before .before .before .before .before .before .pre .0), constant-kind (a .work .now) (a .reached .top) (a .node) (a .wrap) _ _ _ (opened-as (a .work .now) (a .node) _ _ (c .before .before .kind .given .1) (c .before .before .before .before .opened .ensures)) (c .before .before .before .before .before .before .before .before .before .before .pre .0))
+    let a = c .before .before .before .before .before .before .before .before .before .before .args in (constant-room (a .work .now) (a .core .now) (a .known .now) (a .fuel) (a .node) (a .wrap) (a .reached) (c .before .before .before .before .before .before .before .before .before .before .pre .1) (c .before .before .before .before .before .before .before .before .before .before .pre .0), constant-kind (a .work .now) (a .reached .top) (a .node) (a .wrap) _ _ _ (opened-as (a .work .now) (a .node) _ _ (c .before .before .kind .given .1) (c .before .before .before .before .opened .ensures)) (c .before .before .before .before .before .before .before .before .before .before .pre .0))
 
 returns : tie.Need-returns
 returns c =

@@ -2,27 +2,29 @@
 use borrow.Author.Needs.{needs}
 use Rattle.turns.proofs.leaf.constant.Statement.{statement}
 use Rattle.turns.proofs.leaf.constant.Tie as tie
-use Rattle.turns.specs.LeafLaws.{constant-made}
+use Rattle.forms.proofs.quotes.put_constant.Reads as put-constant-reads
+use Rattle.turns.proofs.answers.Reached.moved.Reads as moved-reads
+use Rattle.turns.specs.LeafLaws.{constant-fits, constant-below, constant-made}
 
--- src/leaf.rt:66:49
-add-put-node : tie.Need-add-put-node
-add-put-node c =
-    search needs
+put-constant-requires : tie.Need-put-constant-requires
+put-constant-requires c κs =
+    let a = c .before .before .before .args in (constant-fits (a .kind) (a .first) (a .second) (a .reached) (a .core .now) (c .before .before .before .pre .0), c .before .before .before .pre .1)
 
--- src/leaf.rt:66:17
-put-node-requires : tie.Need-put-node-requires
-put-node-requires c κs =
-    search needs
+cast-moved : tie.Need-cast-moved
+cast-moved c =
+    let a = c .before .before .before .before .before .before .args in record { fits = constant-below (a .kind) (a .first) (a .second) (a .reached) (a .core .now) (c .before .before .before .before .before .before .pre .0) _ (c .before .before .put-constant .ensures .end) }
 
--- src/leaf.rt:62:1
-same-length : tie.Need-same-length
-same-length c =
-    search needs
-
--- src/leaf.rt:62:1
 returns : tie.Need-returns
 returns c =
-    constant-made (c .before .before .before .before .before .args .kind) (c .before .before .before .before .before .args .first) (c .before .before .before .before .before .args .reached) (c .before .before .before .before .before .args .core .now) _ _ (c .before .before .put-node .ensures)
+    let a = c .before .before .before .before .before .before .before .args in constant-made (a .kind) (a .first) (a .second) (a .reached) (a .core .now) _ _ _ (c .moved .ensures) (c .before .before .before .put-constant .ensures)
 
 pub constant-spec : {M : Type 1} → statement M
-constant-spec = tie.close (tie.spec add-put-node put-node-requires same-length returns)
+constant-spec =
+    tie.close
+    (tie.spec
+    (λ c. search needs)  -- cast-put-constant
+    put-constant-requires
+    cast-moved
+    (λ c κs. search needs)  -- moved-requires
+    (λ c. search needs)  -- same-length
+    returns)
