@@ -44,7 +44,7 @@ unfoldable row : List ℕ → S.String → Row
 unfolding rowWith names
 row = rowWith 1 names
 
--- W1 to W24, with one operation where no count is given; the last ones are about the names of variables
+-- W1 to W25, with one operation where no count is given; the last ones are about the names of variables
 unfoldable rows : List Row
 unfolding row two
 rows =

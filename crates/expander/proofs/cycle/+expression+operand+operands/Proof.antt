@@ -231,16 +231,16 @@ operand-returns-3 t c =
 
 operand-constant-requires : (t : ℕ) → operand-lts.Need-constant-requires (operand-claims t) (operand-at t) operand.Post
 operand-constant-requires t c κs =
-    let entry = c .before .before .before .before .before .before .before .before .before .before .before .before in
+    let entry = c .before .before .before .before .before .before .before .before .before .before .before .before .before .before in
     let a = entry .args in
-    constant-asks (a .work .now) (a .core .now) (a .known .now) (a .fuel) (a .node) (a .wrap) (a .from) (entry .pre .1 .1) (entry .pre .1 .2) _ (c .before .before .before .before .before .before .word .ensures) (c .before .before .before .if3 .left) (c .before .before .before .before .before .if1 .left) (c .before .before .before .before .if2 .left) _ (c .word2 .ensures)
+    constant-asks (a .work .now) (a .core .now) (a .known .now) (a .fuel) (a .node) (a .wrap) (a .from) (entry .pre .1 .1) (entry .pre .1 .2) _ (c .before .before .before .before .before .before .before .before .word .ensures) (c .before .before .before .before .before .if3 .left) (c .before .before .before .before .before .before .before .if1 .left) (c .before .before .before .before .before .before .if2 .left) _ _ (c .before .before .before .word2 .ensures) (c .before .word3 .ensures)
 
 operand-returns-4 : (t : ℕ) → operand-lts.Need-returns-4 (operand-claims t) (operand-at t) operand.Post
 operand-returns-4 t c =
-    let entry = c .before .before .before .before .before .before .before .before .before .before .before .before .before .before .before in
+    let entry = c .before .before .before .before .before .before .before .before .before .before .before .before .before .before .before .before .before in
     let a = entry .args in
     let constant = c .before .before .constant in
-    λ o lent. constant-expands (a .work .now) (a .core .now) (a .known .now) (a .fuel) (a .node) (a .wrap) (a .from) (entry .pre .1 .1) (entry .pre .1 .2) _ (c .before .before .before .before .before .before .before .before .before .word .ensures) (c .before .before .before .before .before .before .if3 .left) (c .before .before .before .before .before .before .before .before .if1 .left) (c .before .before .before .before .before .before .before .if2 .left) _ (c .before .before .before .word2 .ensures) o _ (constant .result) (constant .ensures)
+    λ o lent. constant-expands (a .work .now) (a .core .now) (a .known .now) (a .fuel) (a .node) (a .wrap) (a .from) (entry .pre .1 .1) (entry .pre .1 .2) _ (c .before .before .before .before .before .before .before .before .before .before .before .word .ensures) (c .before .before .before .before .before .before .before .before .if3 .left) (c .before .before .before .before .before .before .before .before .before .before .if1 .left) (c .before .before .before .before .before .before .before .before .before .if2 .left) _ _ (c .before .before .before .before .before .before .word2 .ensures) (c .before .before .before .before .word3 .ensures) o _ (constant .result) (constant .ensures)
 
 operands-loop-holds : (t : ℕ) → operands-lts.Need-loop-holds (operands-claims t) (operands-at t) operands.Post operands-Inv-loop operands-μ-loop
 operands-loop-holds t c =
@@ -393,6 +393,7 @@ pub +expression+operand+operands-spec : {M : Type 1} → statement M
     (λ c. search needs)  -- operand-same-length-6
     (operand-returns-3 t)
     (λ c κs. search needs)  -- operand-word-requires-2
+    (λ c κs. search needs)  -- operand-word-requires-3
     (operand-constant-requires t)
     (λ c. search needs)  -- operand-same-length-7
     (λ c. search needs)  -- operand-same-length-8
