@@ -206,7 +206,7 @@ holding =
     -- beside an ellipsis of the author's choice
     (
       trial "() (let-syntax ((m (syntax-rules e () ((_ a e) (lambda (t) (t a e)))))) (m 1 2))" 4 0 0 11,
-      equal 1 (gives 1 15 (7 ∷ 0 ∷ 1 ∷ 8 ∷ 2 ∷ 0 ∷ 0 ∷ 2 ∷ 1 ∷ 2 ∷ 2 ∷ [])),
+      renames 1 1 15 (7 ∷ 0 ∷ 1 ∷ 11 ∷ 8 ∷ 2 ∷ 0 ∷ 0 ∷ 2 ∷ 1 ∷ 2 ∷ 2 ∷ []) (7 ∷ 0 ∷ 1 ∷ 1000 ∷ 8 ∷ 2 ∷ 0 ∷ 0 ∷ 2 ∷ 1 ∷ 2 ∷ 2 ∷ []),
     ) ∷
     -- E94: the ellipsis of rules that the template makes
     (
@@ -216,7 +216,7 @@ holding =
     -- in an escaped template
     (
       trial "() (let-syntax ((m (syntax-rules () ((_ a) (... (lambda (t) (t a))))))) (m 1))" 4 0 0 10,
-      equal 1 (gives 1 13 (7 ∷ 0 ∷ 1 ∷ 8 ∷ 1 ∷ 0 ∷ 0 ∷ 2 ∷ 1 ∷ [])),
+      renames 1 1 13 (7 ∷ 0 ∷ 1 ∷ 10 ∷ 8 ∷ 1 ∷ 0 ∷ 0 ∷ 2 ∷ 1 ∷ []) (7 ∷ 0 ∷ 1 ∷ 1000 ∷ 8 ∷ 1 ∷ 0 ∷ 0 ∷ 2 ∷ 1 ∷ []),
     ) ∷
     -- a macro without end that the template makes
     (
