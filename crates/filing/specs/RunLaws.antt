@@ -85,11 +85,11 @@ module _ (items : List ℕ) (fuel : ℕ) (work work′ core core′ : List ℕ) 
   expanded-by e x = record { output = wrote-is e x; work-after = s .work-after; core-after = s .core-after }
 
   module _ (n m l : ℕ) (h : r ≡ Accepted n m l) (to : ℕ) (w : to ≡ l) where
-    told : numbersOf (Accepted n m l) ≡ runNumbers ran
-    told = told-as (Accepted n m l) h
+    counts : numbersOf (Accepted n m l) ≡ runNumbers ran
+    counts = told-as (Accepted n m l) h
 
     ran-accepted : ran .outcome ≡ accepted
-    ran-accepted = is-accepted items fuel (length work) (length core) n m l told
+    ran-accepted = is-accepted items fuel (length work) (length core) n m l counts
 
     -- the core table begins with the term
     pub term-front : (to ≤ length core′) × (take to core′ ≡ coreOf ran)
@@ -97,19 +97,19 @@ module _ (items : List ℕ) (fuel : ℕ) (work work′ core core′ : List ℕ) 
     term-front =
         front (coreOf ran) (replicate (length core - length (coreOf ran)) 0) core′ to
         (s .core-after ∙ ap (λ (o : Outcome). leftBy o (coreOf ran) core) ran-accepted)
-        (w ∙ ap (λ (k : Numbers). k .length) told)
+        (w ∙ ap (λ (k : Numbers). k .length) counts)
 
     pub expanded-accepted : {names out out′ : List ℕ} {q : Writing} → Wrote (some (acceptance names n m (termOf operationsMost (hasName names) (take to core′)))) out out′ q
         → Expanded items fuel names work work′ core core′ out out′ q
     unfolding numbersOf runNumbers printedRun printed
-    expanded-accepted = expanded-by (rw (ran-accepted, ap (λ (k : Numbers). k .steps) told, ap (λ (k : Numbers). k .sum) told, term-front .1))
+    expanded-accepted = expanded-by (rw (ran-accepted, ap (λ (k : Numbers). k .steps) counts, ap (λ (k : Numbers). k .sum) counts, term-front .1))
 
   pub expanded-refused : (g n m : ℕ) → r ≡ Refused g n m → {names out out′ : List ℕ} {q : Writing} → Wrote (some (refusal g n m)) out out′ q
       → Expanded items fuel names work work′ core core′ out out′ q
   unfolding numbersOf runNumbers printedRun printed
   expanded-refused g n m h =
-      let told = told-as (Refused g n m) h in
-      expanded-by (rw (is-refused items fuel (length work) (length core) g n m told, ap (λ (k : Numbers). k .steps) told, ap (λ (k : Numbers). k .sum) told))
+      let counts = told-as (Refused g n m) h in
+      expanded-by (rw (is-refused items fuel (length work) (length core) g n m counts, ap (λ (k : Numbers). k .steps) counts, ap (λ (k : Numbers). k .sum) counts))
 
 -- ---- reading
 
