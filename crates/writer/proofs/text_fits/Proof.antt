@@ -10,52 +10,18 @@ use mathlib.Core.Path.{sym, _∙_}
 use Rattle.writer.specs.WroteLaws.{room-measured, walk-short, walk-fits}
 use native.Mathlib.Omega.{arith}
 
--- src/lib.rt:57:8
-has-room-requires : tie.Need-has-room-requires
-has-room-requires c κs =
-    search needs
-
--- src/lib.rt:58:9
-same-length : tie.Need-same-length
-same-length c =
-    search needs
-
--- src/lib.rt:58:9
 returns : tie.Need-returns
 returns c =
     λ operations t k. room-measured _ operations _ t k _ (sym (c .before .has-room .ensures) ∙ c .if1 .taken)
 
--- src/lib.rt:60:36
 term-requires : tie.Need-term-requires
 term-requires c κs =
     (omega arith, c .before .before .before .before .before .before .before .before .pre .0, c .before .before .before .before .before .before .before .before .pre .1)
 
--- src/lib.rt:60:20
-enum-known-used : tie.Need-enum-known-used
-enum-known-used c =
-    search needs
-
--- src/lib.rt:61:9
-enum-told : tie.Need-enum-told
-enum-told c =
-    search needs
-
--- src/lib.rt:61:9
-same-length-2 : tie.Need-same-length-2
-same-length-2 c =
-    search needs
-
--- src/lib.rt:61:9
 returns-2 : tie.Need-returns-2
 returns-2 c =
     λ operations. walk-short _ operations _ _ (c .before .before .before .before .before .before .before .before .before .before .before .before .before .pre .2) (c .before .before .before .before .term .ensures) (c .enum-told .given .1)
 
--- src/lib.rt:53:1
-same-length-3 : tie.Need-same-length-3
-same-length-3 c =
-    search needs
-
--- src/lib.rt:53:1
 returns-3 : tie.Need-returns-3
 returns-3 c =
     λ operations. walk-fits _ operations _ _ (c .before .before .before .before .before .before .before .before .before .before .before .before .before .before .pre .2) (c .before .before .before .before .before .term .ensures) _ _ (c .before .used .given .1)
@@ -64,13 +30,13 @@ pub text-fits-spec : {M : Type 1} → statement M
 text-fits-spec =
     tie.close
     (tie.spec
-    has-room-requires
-    same-length
+    (λ c κs. search needs)  -- has-room-requires
+    (λ c. search needs)  -- same-length
     returns
     term-requires
-    enum-known-used
-    enum-told
-    same-length-2
+    (λ c. search needs)  -- enum-known-used
+    (λ c. search needs)  -- enum-told
+    (λ c. search needs)  -- same-length-2
     returns-2
-    same-length-3
+    (λ c. search needs)  -- same-length-3
     returns-3)

@@ -11,52 +11,30 @@ use mathlib.Core.Path.{sym, _∙_}
 use borrow.Author.Tests.{not-true, not-false}
 use Rattle.writer.specs.WroteLaws.{no-term}
 
--- src/lib.rt:114:9
-is-term-requires : tie.Need-is-term-requires
-is-term-requires c κs =
-    search needs
-
--- src/lib.rt:115:9
 returns : tie.Need-returns
 returns c =
     no-term (c .before .before .before .before .before .args .words .now) _ _ _ (sym (c .before .is-term .ensures) ∙ not-true (c .before .is-term .result) (c .if1 .taken))
 
--- src/lib.rt:119:60
-slice-aggregate-write-noting : tie.Need-slice-aggregate-write-noting
-slice-aggregate-write-noting c =
-    search needs
-
--- src/lib.rt:119:9
 write-noting-requires : tie.Need-write-noting-requires
 write-noting-requires c κs =
     sym (c .before .before .before .before .is-term .ensures) ∙ not-false (c .before .before .before .before .is-term .result) (c .before .before .before .if1 .left)
 
--- src/lib.rt:119:9
 same-length : tie.Need-same-length
 same-length c =
     c .before .before .before .write-noting .kept .1 .1 .1 .0
 
--- src/lib.rt:119:9
 returns-2 : tie.Need-returns-2
 returns-2 c =
     c .before .before .before .write-noting .ensures
 
--- src/lib.rt:122:49
-slice-aggregate-write-noting-2 : tie.Need-slice-aggregate-write-noting-2
-slice-aggregate-write-noting-2 c =
-    search needs
-
--- src/lib.rt:122:5
 write-noting-requires-2 : tie.Need-write-noting-requires-2
 write-noting-requires-2 c κs =
     sym (c .before .before .before .before .is-term .ensures) ∙ not-false (c .before .before .before .before .is-term .result) (c .before .before .before .if1 .left)
 
--- src/lib.rt:111:1
 same-length-2 : tie.Need-same-length-2
 same-length-2 c =
     c .before .before .before .write-noting2 .kept .1 .1 .1 .0
 
--- src/lib.rt:111:1
 returns-3 : tie.Need-returns-3
 returns-3 c =
     c .before .before .before .write-noting2 .ensures
@@ -65,13 +43,13 @@ pub write-spec : {M : Type 1} → statement M
 write-spec =
     tie.close
     (tie.spec
-    is-term-requires
+    (λ c κs. search needs)  -- is-term-requires
     returns
-    slice-aggregate-write-noting
+    (λ c. search needs)  -- slice-aggregate-write-noting
     write-noting-requires
     same-length
     returns-2
-    slice-aggregate-write-noting-2
+    (λ c. search needs)  -- slice-aggregate-write-noting-2
     write-noting-requires-2
     same-length-2
     returns-3)

@@ -11,52 +11,30 @@ use mathlib.Core.Path.{sym, _∙_}
 use borrow.Author.Tests.{not-true, not-false}
 use Rattle.writer.specs.WroteLaws.{term-begins, no-room, no-second, wrote-text}
 
--- src/lib.rt:78:9
 text-fits-requires : tie.Need-text-fits-requires
 text-fits-requires c κs =
     (term-begins (c .before .before .before .before .before .args .words .now) _ _ (c .before .before .before .before .before .pre .0) _ (c .before .before .before .before .before .pre .2), c .before .before .before .before .before .pre .1, c .before .before .before .before .before .pre .2)
 
--- src/lib.rt:79:9
-same-length : tie.Need-same-length
-same-length c =
-    search needs
-
--- src/lib.rt:79:9
 returns : tie.Need-returns
 returns c =
     no-room (c .before .before .before .before .before .before .before .before .before .args .words .now) _ _ (c .before .before .before .before .before .before .before .before .before .pre .0) (c .before .before .before .text-fits .ensures) (not-true (c .before .before .before .text-fits .result) (c .if1 .taken))
 
--- src/lib.rt:81:33
 term-requires : tie.Need-term-requires
 term-requires c κs =
     (omega arith, term-begins (c .before .before .before .before .before .before .before .before .before .before .args .words .now) _ _ (c .before .before .before .before .before .before .before .before .before .before .pre .0) _ (c .before .before .before .before .before .before .before .before .before .before .pre .2), c .before .before .before .before .before .before .before .before .before .before .pre .1)
 
--- src/lib.rt:81:20
-enum-known-used : tie.Need-enum-known-used
-enum-known-used c =
-    search needs
-
--- src/lib.rt:82:9
-enum-told : tie.Need-enum-told
-enum-told c =
-    search needs
-
--- src/lib.rt:82:9
 same-length-2 : tie.Need-same-length-2
 same-length-2 c =
     c .before .before .before .before .term .kept .1 .1 .0 ∙ c .before .before .before .before .before .before .before .before .before .text-fits .kept .1 .1 .0
 
--- src/lib.rt:82:9
 returns-2 : tie.Need-returns-2
 returns-2 c =
     no-second (c .before .before .before .before .before .before .before .before .before .before .before .before .before .before .before .args .words .now) _ _ (c .before .before .before .before .before .before .before .before .before .before .before .before .before .before .before .pre .0) (c .before .before .before .before .before .before .before .before .before .text-fits .ensures) (not-false (c .before .before .before .before .before .before .before .before .before .text-fits .result) (c .before .before .before .before .before .before .if1 .left)) _ (c .before .before .before .before .before .before .before .before .before .before .before .before .before .before .before .pre .2) (c .before .before .before .before .term .ensures) (c .enum-told .given .1)
 
--- src/lib.rt:67:1
 same-length-3 : tie.Need-same-length-3
 same-length-3 c =
     c .before .before .before .before .before .term .kept .1 .1 .0 ∙ c .before .before .before .before .before .before .before .before .before .before .text-fits .kept .1 .1 .0
 
--- src/lib.rt:67:1
 returns-3 : tie.Need-returns-3
 returns-3 c =
     wrote-text (c .before .before .before .before .before .before .before .before .before .before .before .before .before .before .before .before .args .words .now) _ _ (c .before .before .before .before .before .before .before .before .before .before .before .before .before .before .before .before .pre .0) (c .before .before .before .before .before .before .before .before .before .before .text-fits .ensures) (not-false (c .before .before .before .before .before .before .before .before .before .before .text-fits .result) (c .before .before .before .before .before .before .before .if1 .left)) _ (c .before .before .before .before .before .before .before .before .before .before .before .before .before .before .before .before .pre .2) (c .before .before .before .before .before .term .ensures) _ _ (c .before .used .given .1)
@@ -66,11 +44,11 @@ write-called-spec =
     tie.close
     (tie.spec
     text-fits-requires
-    same-length
+    (λ c. search needs)  -- same-length
     returns
     term-requires
-    enum-known-used
-    enum-told
+    (λ c. search needs)  -- enum-known-used
+    (λ c. search needs)  -- enum-told
     same-length-2
     returns-2
     same-length-3

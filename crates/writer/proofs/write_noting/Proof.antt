@@ -14,67 +14,46 @@ use Rattle.writer.specs.Called.{NotedIn, calledIn}
 use Rattle.writer.specs.CalledLaws.{called-table, called-words}
 use Rattle.writer.specs.WroteLaws.{is-told}
 
--- src/lib.rt:98:29
 note-requires : tie.Need-note-requires
 note-requires c κs =
     is-told (c .before .before .before .before .before .args .words .now) (c .before .before .before .before .before .args .operations) (c .before .before .before .before .before .args .names .now) (c .before .before .before .before .before .pre)
 
--- src/lib.rt:98:20
-enum-known-count : tie.Need-enum-known-count
-enum-known-count c =
-    search needs
-
--- src/lib.rt:99:55
-enum-told : tie.Need-enum-told
-enum-told c =
-    search needs
-
--- src/lib.rt:99:9
 write-called-requires : tie.Need-write-called-requires
 write-called-requires c κs =
     ((c .before .before .before .before .before .before .before .before .before .before .before .pre), λ e. is-told (c .before .before .before .before .before .before .before .before .before .before .before .args .words .now) (c .before .before .before .before .before .before .before .before .before .before .before .args .operations) (c .before .before .before .before .before .before .before .before .before .before .before .args .names .now) (c .before .before .before .before .before .before .before .before .before .before .before .pre), called-words false (c .before .before .before .before .before .before .before .before .before .before .before .args .words .now) refl)
 
--- src/lib.rt:99:9
 same-length : tie.Need-same-length
 same-length c =
     c .before .before .write-called .kept .1 .1 .1 .0
 
--- src/lib.rt:99:9
 same-length-2 : tie.Need-same-length-2
 same-length-2 c =
     c .before .before .before .before .before .before .before .before .note .kept .1 .0
 
--- src/lib.rt:99:9
 returns : tie.Need-returns
 returns c =
     c .before .before .write-called .ensures
 
--- src/lib.rt:101:49
 slice-reshare-prefix-write-called : tie.Need-slice-reshare-prefix-write-called
 slice-reshare-prefix-write-called c =
     subst (λ (r : Noted). NotedIn (calledIn (c .before .before .before .before .before .before .before .before .before .before .before .before .args .words .now)) (c .before .before .before .before .before .before .note .last .1 .0) r) (c .before .before .count .given .1) (c .before .before .before .before .before .before .note .ensures) .0
 
--- src/lib.rt:101:49
 slice-aggregate-write-called : tie.Need-slice-aggregate-write-called
 slice-aggregate-write-called c =
     sym (length-take-le _ _ (subst (λ (r : Noted). NotedIn (calledIn (c .before .before .before .before .before .before .before .before .before .before .before .before .before .args .words .now)) (c .before .before .before .before .before .before .before .note .last .1 .0) r) (c .before .before .before .count .given .1) (c .before .before .before .before .before .before .before .note .ensures) .0))
 
--- src/lib.rt:101:5
 write-called-requires-2 : tie.Need-write-called-requires-2
 write-called-requires-2 c κs =
     ((c .before .before .before .before .before .before .before .before .before .before .before .before .before .pre), λ e. absurd (true≢false e), called-table true _ refl ∙ subst (λ (r : Noted). NotedIn (calledIn (c .before .before .before .before .before .before .before .before .before .before .before .before .before .args .words .now)) (c .before .before .before .before .before .before .before .note .last .1 .0) r) (c .before .before .before .count .given .1) (c .before .before .before .before .before .before .before .note .ensures) .1)
 
--- src/lib.rt:88:1
 same-length-3 : tie.Need-same-length-3
 same-length-3 c =
     c .before .before .write-called2 .kept .1 .1 .1 .0
 
--- src/lib.rt:88:1
 same-length-4 : tie.Need-same-length-4
 same-length-4 c =
     c .before .before .before .before .before .before .before .before .before .before .note .kept .1 .0
 
--- src/lib.rt:88:1
 returns-2 : tie.Need-returns-2
 returns-2 c =
     c .before .before .write-called2 .ensures
@@ -84,8 +63,8 @@ write-noting-spec =
     tie.close
     (tie.spec
     note-requires
-    enum-known-count
-    enum-told
+    (λ c. search needs)  -- enum-known-count
+    (λ c. search needs)  -- enum-told
     write-called-requires
     same-length
     same-length-2

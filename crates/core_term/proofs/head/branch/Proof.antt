@@ -13,77 +13,62 @@ use lib.ListN.{getD}
 use Rattle.core_term.specs.Node.{applicationCode}
 use Rattle.core_term.specs.HeadLaws.{head-missing, at-past, short-missing, list-found, if-found, application-found, quoted-none}
 
--- src/head.rt:152:16
 shared-slice-read-code : tie.Need-shared-slice-read-code
 shared-slice-read-code c =
     search needs
 
--- src/head.rt:155:13
 returns : tie.Need-returns
 returns c =
     λ o b f. quoted-none o b _ f _ _ (c .before .before .before .before .before .args .words .now) (c .if2 .taken) (λ l h. omega arith) (λ e. omega arith)
 
--- src/head.rt:157:9
 returns-2 : tie.Need-returns-2
 returns-2 c =
     λ o b f. if-found o b _ f _ _ (c .before .before .before .before .before .args .words .now) (c .before .before .before .before .before .pre .0) (c .if2 .left) (c .before .if1 .taken)
 
--- src/head.rt:160:9
 decimal-head-requires : tie.Need-decimal-head-requires
 decimal-head-requires c κs =
     search needs
 
--- src/head.rt:160:9
 returns-3 : tie.Need-returns-3
 returns-3 c =
     λ o b f. c .decimal-head .ensures o b _ f _
 
--- src/head.rt:163:9
 returns-4 : tie.Need-returns-4
 returns-4 c =
     λ o b f. head-missing o b _ f _ _ _ (short-missing (c .before .before .before .before .before .before .args .words .now) (c .before .before .if1 .left) (c .if4 .taken))
 
--- src/head.rt:165:18
 shared-slice-read-wide : tie.Need-shared-slice-read-wide
 shared-slice-read-wide c =
     search needs
 
--- src/head.rt:165:9
 wide-requires : tie.Need-wide-requires
 wide-requires c κs =
     search needs
 
--- src/head.rt:167:9
 returns-5 : tie.Need-returns-5
 returns-5 c =
     λ o b f. rw (c .before .wide .ensures) (list-found o b _ f _ _ (c .before .before .before .before .before .before .before .before .before .args .words .now) (c .before .before .before .if4 .left) (c .if5 .taken))
 
--- src/head.rt:170:9
 returns-6 : tie.Need-returns-6
 returns-6 c =
     λ o b f. quoted-none o b _ f _ _ (c .before .before .before .before .before .before .before .before .before .before .args .words .now) (c .if6 .taken) (λ l h. omega (arith, c .before .before .before .before .before .before .before .before .before .before .pre .1, c .before .if5 .left)) (c .before .before .before .before .before .if3 .left)
 
--- src/head.rt:173:9
 lambda-head-requires : tie.Need-lambda-head-requires
 lambda-head-requires c κs =
     search needs
 
--- src/head.rt:173:9
 returns-7 : tie.Need-returns-7
 returns-7 c =
     λ o b f. rw (c .before .before .if6 .left) (c .lambda-head .ensures o b f)
 
--- src/head.rt:176:9
 returns-8 : tie.Need-returns-8
 returns-8 c =
     λ o b f. head-missing o b _ f _ _ _ (at-past (c .before .before .before .before .before .before .before .before .before .before .before .before .args .words .now) (omega (arith, c .if8 .taken, c .before .before .before .before .before .before .before .if3 .left)))
 
--- src/head.rt:178:19
 add-t12 : tie.Need-add-t12
 add-t12 c =
     omega (arith, c .before .before .before .before .wide .ensures, c .before .before .before .before .before .before .before .before .before .shared-slice-known3 .given 1)
 
--- src/head.rt:148:1
 returns-9 : tie.Need-returns-9
 returns-9 c =
     let s = (c .before .before .before .before .before .before .before .before .before .before .before .before) in

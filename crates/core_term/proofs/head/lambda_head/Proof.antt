@@ -15,72 +15,58 @@ use lib.ListN.{getD}
 use Rattle.words.specs.Lists.{allOf}
 use Rattle.core_term.specs.HeadLaws.{head-missing, lambda-short, lambda-cut, lambda-found, lambda-many, lambda-other, lambda-unnamed, names-part}
 
--- src/head.rt:109:9
 returns : tie.Need-returns
 returns c =
     λ o b f. head-missing o b _ f _ false _ (lambda-short (c .before .before .before .args .words .now) (c .before .before .before .pre .1) (c .if1 .taken))
 
--- src/head.rt:111:22
 shared-slice-read-wide : tie.Need-shared-slice-read-wide
 shared-slice-read-wide c =
     search needs
 
--- src/head.rt:111:9
 wide-requires : tie.Need-wide-requires
 wide-requires c κs =
     search needs
 
--- src/head.rt:112:17
 shared-slice-read-count : tie.Need-shared-slice-read-count
 shared-slice-read-count c =
     search needs
 
--- src/head.rt:113:19
 wide-requires-2 : tie.Need-wide-requires-2
 wide-requires-2 c κs =
     search needs
 
--- src/head.rt:113:15
 add-end : tie.Need-add-end
 add-end c =
     omega (arith, c .wide2 .ensures, c .before .shared-slice-known4 .given 2)
 
--- src/head.rt:115:9
 returns-2 : tie.Need-returns-2
 returns-2 c =
     λ o b f. head-missing o b _ f _ false _ (lambda-cut (c .before .before .before .before .before .before .before .before .args .words .now) (c .before .before .before .before .before .before .before .before .pre .1) (c .before .before .before .before .before .if1 .left) (omega (arith, c .if2 .taken, c .before .wide2 .ensures)))
 
--- src/head.rt:118:9
 returns-3 : tie.Need-returns-3
 returns-3 c =
     λ o b f. lambda-many o b _ f _ false (c .before .before .before .before .before .before .before .before .before .args .words .now) (omega (arith, c .before .if2 .left, c .before .before .wide2 .ensures)) refl (c .before .before .before .before .before .before .before .before .before .pre .1) (c .if3 .taken)
 
--- src/head.rt:121:9
 returns-4 : tie.Need-returns-4
 returns-4 c =
     λ o b f. lambda-other o b _ f _ false (c .before .before .before .before .before .before .before .before .before .before .args .words .now) (omega (arith, c .before .before .if2 .left, c .before .before .before .wide2 .ensures)) refl (c .before .before .before .before .before .before .before .before .before .before .pre .1) (c .before .if3 .left) (λ e. c .if4 .taken (c .before .before .before .before .before .wide .ensures ∙ e))
 
--- src/head.rt:123:20
 sub-names-good : tie.Need-sub-names-good
 sub-names-good c =
     search needs
 
--- src/head.rt:123:20
 part-names-good-start : tie.Need-part-names-good-start
 part-names-good-start c =
     search needs
 
--- src/head.rt:123:20
 part-names-good-end : tie.Need-part-names-good-end
 part-names-good-end c =
     search needs
 
--- src/head.rt:123:9
 names-good-requires : tie.Need-names-good-requires
 names-good-requires c κs =
     search needs
 
--- src/head.rt:124:9
 returns-5 : tie.Need-returns-5
 returns-5 c =
     let ws = c .before .before .before .before .before .before .before .before .before .before .before .before .before .args .words .now in
@@ -88,17 +74,14 @@ returns-5 c =
     λ o b f. lambda-unnamed o b _ f _ false ws (omega (arith, c .before .before .before .before .before .if2 .left, c .before .before .before .before .before .before .wide2 .ensures)) refl (c .before .before .before .before .before .before .before .before .before .before .before .before .before .pre .1) (c .before .before .before .before .if3 .left)
     (sym (ap (allOf _) (names-part ws _ e)) ∙ sym (c .before .names-good .ensures) ∙ not-true _ (c .if5 .taken))
 
--- src/head.rt:126:32
 wide-requires-3 : tie.Need-wide-requires-3
 wide-requires-3 c κs =
     search needs
 
--- src/head.rt:126:24
 add-t17 : tie.Need-add-t17
 add-t17 c =
     omega (arith, c .before .before .before .before .before .before .before .before .before .wide .ensures, c .wide3 .ensures, c .before .before .before .before .before .before .before .before .before .before .shared-slice-known3 .given 1, c .before .before .before .before .before .if3 .left)
 
--- src/head.rt:104:1
 returns-6 : tie.Need-returns-6
 returns-6 c =
     let ws = c .before .before .before .before .before .before .before .before .before .before .before .before .before .before .args .words .now in

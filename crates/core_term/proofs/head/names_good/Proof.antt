@@ -23,52 +23,42 @@ abbrev μ-loop : tie.MeasureT-loop
 μ-loop formals names tabled i₀ i =
     length (formals) - i
 
--- src/head.rt:94:5
 loop-holds : tie.Need-loop-holds Inv-loop μ-loop
 loop-holds c =
     (omega arith, refl)
 
--- src/head.rt:95:28
 mul-wide : tie.Need-mul-wide Inv-loop μ-loop
 mul-wide c =
     search needs
 
--- src/head.rt:95:28
 shared-slice-read-wide : tie.Need-shared-slice-read-wide Inv-loop μ-loop
 shared-slice-read-wide c =
     search needs
 
--- src/head.rt:95:23
 wide-requires : tie.Need-wide-requires Inv-loop μ-loop
 wide-requires c κs =
     search needs
 
--- src/head.rt:95:13
 name-good-requires : tie.Need-name-good-requires Inv-loop μ-loop
 name-good-requires c κs =
     search needs
 
--- src/head.rt:96:13
 returns : tie.Need-returns Inv-loop μ-loop
 returns c =
     names-bad _ (c .before .before .before .before .before .before .before .before .args .formals .now) _ (c .before .before .before .before .before .loop .inv .1) (c .before .before .before .before .loop-test .taken) (sym (ap (goodName _ _) (c .before .before .wide .ensures)) ∙ sym (c .before .name-good .ensures) ∙ not-true _ (c .if1 .taken))
 
--- src/head.rt:98:13
 add-i : tie.Need-add-i Inv-loop μ-loop
 add-i c =
     search needs
 
--- src/head.rt:94:5
 loop-less : tie.Need-loop-less Inv-loop μ-loop
 loop-less c =
     search needs
 
--- src/head.rt:94:5
 loop-again : tie.Need-loop-again Inv-loop μ-loop
 loop-again c =
     (omega (arith, c .before .before .before .before .loop-test .taken), names-next _ (c .before .before .before .before .before .before .before .before .args .formals .now) _ (c .before .before .before .before .before .loop .inv .1) (c .before .before .before .before .loop-test .taken) (sym (ap (goodName _ _) (c .before .before .wide .ensures)) ∙ sym (c .before .name-good .ensures) ∙ not-false _ (c .if1 .left)))
 
--- src/head.rt:90:1
 returns-2 : tie.Need-returns-2 Inv-loop μ-loop
 returns-2 c =
     names-end _ (c .before .before .before .before .args .formals .now) (c .before .loop .i) (c .before .loop .inv .1) (omega (arith, c .before .loop .inv .0, c .loop-test .left))

@@ -23,67 +23,54 @@ abbrev μ-loop : tie.MeasureT-loop
 μ-loop work list core₀ at node₀ n₀ core node n =
     node
 
--- src/binders.rt:149:5
 loop-holds : tie.Need-loop-holds Inv-loop μ-loop
 loop-holds c =
     (c .before .before .pre .0, putting-begins (c .before .before .args .work .now) (c .before .before .args .list) (c .before .before .pre .0) (c .before .before .args .at) (c .before .before .args .core .now) (c .before .before .pre .1) (c .before .before .pre .2))
 
--- src/binders.rt:149:11
 word-requires : tie.Need-word-requires Inv-loop μ-loop
 word-requires c κs =
     search needs
 
--- src/binders.rt:150:13
 reference-requires : tie.Need-reference-requires Inv-loop μ-loop
 reference-requires c κs =
     search needs
 
--- src/binders.rt:151:13
 own-name-requires : tie.Need-own-name-requires Inv-loop μ-loop
 own-name-requires c κs =
     search needs
 
--- src/binders.rt:152:19
 number-of-requires : tie.Need-number-of-requires Inv-loop μ-loop
 number-of-requires c κs =
     search needs
 
--- src/binders.rt:152:9
 mul-core : tie.Need-mul-core Inv-loop μ-loop
 mul-core c =
     omega (arith, putting-room (c .before .before .before .before .before .before .before .before .args .work .now) (c .before .before .before .before .before .before .before .before .args .list) (c .before .before .before .before .before .loop .inv .0) (c .before .before .before .before .before .before .before .before .args .at) (c .before .before .before .before .before .before .before .before .args .core .now) (c .before .before .before .before .before .loop .node) (c .before .before .before .before .before .loop .n) (c .before .before .before .before .before .loop .core) (c .before .before .before .before .before .loop .inv .1) _ (c .before .before .before .before .word .ensures) (c .before .before .before .if1 .taken) _ _ (referenceAt (c .before .before .before .before .before .before .before .before .args .work .now) (c .before .before .before .before .before .loop .node) 1) _ (c .before .before .reference .ensures) (c .before .own-name .ensures) refl (c .number-of .ensures), c .before .before .before .before .before .loop .inv .1 .same, c .before .before .before .before .before .before .before .before .good .1 .1 .0 .1)
 
--- src/binders.rt:152:9
 slice-write-core : tie.Need-slice-write-core Inv-loop μ-loop
 slice-write-core c =
     putting-room (c .before .before .before .before .before .before .before .before .args .work .now) (c .before .before .before .before .before .before .before .before .args .list) (c .before .before .before .before .before .loop .inv .0) (c .before .before .before .before .before .before .before .before .args .at) (c .before .before .before .before .before .before .before .before .args .core .now) (c .before .before .before .before .before .loop .node) (c .before .before .before .before .before .loop .n) (c .before .before .before .before .before .loop .core) (c .before .before .before .before .before .loop .inv .1) _ (c .before .before .before .before .word .ensures) (c .before .before .before .if1 .taken) _ _ (referenceAt (c .before .before .before .before .before .before .before .before .args .work .now) (c .before .before .before .before .before .loop .node) 1) _ (c .before .before .reference .ensures) (c .before .own-name .ensures) refl (c .number-of .ensures)
 
--- src/binders.rt:153:9
 reference-requires-2 : tie.Need-reference-requires-2 Inv-loop μ-loop
 reference-requires-2 c κs =
     search needs
 
--- src/binders.rt:154:9
 add-n : tie.Need-add-n Inv-loop μ-loop
 add-n c =
     omega (arith, putting-room (c .before .before .before .before .before .before .before .before .before .args .work .now) (c .before .before .before .before .before .before .before .before .before .args .list) (c .before .before .before .before .before .before .loop .inv .0) (c .before .before .before .before .before .before .before .before .before .args .at) (c .before .before .before .before .before .before .before .before .before .args .core .now) (c .before .before .before .before .before .before .loop .node) (c .before .before .before .before .before .before .loop .n) (c .before .before .before .before .before .before .loop .core) (c .before .before .before .before .before .before .loop .inv .1) _ (c .before .before .before .before .before .word .ensures) (c .before .before .before .before .if1 .taken) _ _ _ _ (c .before .before .before .reference .ensures) (c .before .before .own-name .ensures) (c .reference2 .ensures) (c .before .number-of .ensures), c .before .before .before .before .before .before .loop .inv .1 .same, c .before .before .before .before .before .before .before .before .before .good .1 .1 .0 .1)
 
--- src/binders.rt:149:5
 loop-less : tie.Need-loop-less Inv-loop μ-loop
 loop-less c =
     putting-falls (c .before .before .before .before .before .before .before .before .before .args .work .now) (c .before .before .before .before .before .before .before .before .before .args .list) (c .before .before .before .before .before .before .loop .inv .0) (c .before .before .before .before .before .before .before .before .before .args .at) (c .before .before .before .before .before .before .before .before .before .args .core .now) (c .before .before .before .before .before .before .loop .node) (c .before .before .before .before .before .before .loop .n) (c .before .before .before .before .before .before .loop .core) (c .before .before .before .before .before .before .loop .inv .1) _ (c .before .before .before .before .before .word .ensures) (c .before .before .before .before .if1 .taken) _ _ _ _ (c .before .before .before .reference .ensures) (c .before .before .own-name .ensures) (c .reference2 .ensures) (c .before .number-of .ensures)
 
--- src/binders.rt:149:5
 loop-again : tie.Need-loop-again Inv-loop μ-loop
 loop-again c =
     (c .before .before .before .before .before .before .loop .inv .0, putting-more (c .before .before .before .before .before .before .before .before .before .args .work .now) (c .before .before .before .before .before .before .before .before .before .args .list) (c .before .before .before .before .before .before .loop .inv .0) (c .before .before .before .before .before .before .before .before .before .args .at) (c .before .before .before .before .before .before .before .before .before .args .core .now) (c .before .before .before .before .before .before .loop .node) (c .before .before .before .before .before .before .loop .n) (c .before .before .before .before .before .before .loop .core) (c .before .before .before .before .before .before .loop .inv .1) _ (c .before .before .before .before .before .word .ensures) (c .before .before .before .before .if1 .taken) _ _ _ _ (c .before .before .before .reference .ensures) (c .before .before .own-name .ensures) (c .reference2 .ensures) (c .before .number-of .ensures))
 
--- src/binders.rt:143:1
 same-length : tie.Need-same-length Inv-loop μ-loop
 same-length c =
     c .before .before .loop .inv .1 .same
 
--- src/binders.rt:143:1
 returns : tie.Need-returns Inv-loop μ-loop
 returns c =
     λ w h. putting-ends (c .before .before .before .before .before .args .work .now) (c .before .before .before .before .before .args .list) (c .before .before .loop .inv .0) (c .before .before .before .before .before .args .at) (c .before .before .before .before .before .args .core .now) (c .before .before .loop .node) (c .before .before .loop .n) (c .before .before .loop .core) (c .before .before .loop .inv .1) _ (c .before .word .ensures) (c .if1 .left) w h

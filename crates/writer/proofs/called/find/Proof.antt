@@ -20,98 +20,59 @@ abbrev μ-loop : tie.MeasureT-loop
 μ-loop words n at₀ seen₀ at seen =
     length words - at
 
--- src/called.rt:55:5
 loop-holds : tie.Need-loop-holds Inv-loop μ-loop
 loop-holds c =
     (scan-start (c .before .args .words .now) (c .before .pre .0), omega arith)
 
--- src/called.rt:56:24
-mul-own : tie.Need-mul-own Inv-loop μ-loop
-mul-own c =
-    search needs
-
--- src/called.rt:56:24
-sub-own : tie.Need-sub-own Inv-loop μ-loop
-sub-own c =
-    search needs
-
--- src/called.rt:56:24
-part-own-start : tie.Need-part-own-start Inv-loop μ-loop
-part-own-start c =
-    search needs
-
--- src/called.rt:56:24
-part-own-end : tie.Need-part-own-end Inv-loop μ-loop
-part-own-end c =
-    search needs
-
--- src/called.rt:56:13
 own-requires : tie.Need-own-requires Inv-loop μ-loop
 own-requires c κs =
     scan-here (c .before .before .before .before .args .words .now) _ _ (c .before .before .loop .inv .0) (c .before .loop-test .taken)
 
--- src/called.rt:57:19
 add-end : tie.Need-add-end Inv-loop μ-loop
 add-end c =
     let z = scan-sizes (c .before .before .before .before .before .before .args .words .now) _ _ (c .before .before .before .before .loop .inv .0) (c .before .before .before .loop-test .taken) (c .before .own .result .size) (c .before .own .result .names) (c .before .own .ensures) in omega (arith, z .2, c .before .before .before .before .before .before .good .1)
 
--- src/called.rt:58:12
 sub-if1 : tie.Need-sub-if1 Inv-loop μ-loop
 sub-if1 c =
     c .before .before .before .before .loop .inv .1
 
--- src/called.rt:59:31
 sub-wide : tie.Need-sub-wide Inv-loop μ-loop
 sub-wide c =
     let z = scan-sizes (c .before .before .before .before .before .before .before .before .before .args .words .now) _ _ (c .before .before .before .before .before .before .before .loop .inv .0) (c .before .before .before .before .before .before .loop-test .taken) (c .before .before .before .before .own .result .size) (c .before .before .before .before .own .result .names) (c .before .before .before .before .own .ensures) in omega (arith, z .1)
 
--- src/called.rt:59:51
 sub-wide-2 : tie.Need-sub-wide-2 Inv-loop μ-loop
 sub-wide-2 c =
     c .before .before .before .before .before .before .before .loop .inv .1
 
--- src/called.rt:59:31
 add-wide : tie.Need-add-wide Inv-loop μ-loop
 add-wide c =
     let z = scan-sizes (c .before .before .before .before .before .before .before .before .before .args .words .now) _ _ (c .before .before .before .before .before .before .before .loop .inv .0) (c .before .before .before .before .before .before .loop-test .taken) (c .before .before .before .before .own .result .size) (c .before .before .before .before .own .result .names) (c .before .before .before .before .own .ensures) in omega (arith, z .1, z .2, c .before .if1 .taken, c .before .before .before .before .before .before .before .before .before .good .1)
 
--- src/called.rt:59:25
 mul-wide : tie.Need-mul-wide Inv-loop μ-loop
 mul-wide c =
     let z = scan-sizes (c .before .before .before .before .before .before .before .before .before .args .words .now) _ _ (c .before .before .before .before .before .before .before .loop .inv .0) (c .before .before .before .before .before .before .loop-test .taken) (c .before .before .before .before .own .result .size) (c .before .before .before .before .own .result .names) (c .before .before .before .before .own .ensures) in omega (arith, z .1, z .2, c .before .if1 .taken, c .before .before .before .before .before .before .before .before .before .good .1)
 
--- src/called.rt:59:25
 shared-slice-read-wide : tie.Need-shared-slice-read-wide Inv-loop μ-loop
 shared-slice-read-wide c =
     let z = scan-sizes (c .before .before .before .before .before .before .before .before .before .before .args .words .now) _ _ (c .before .before .before .before .before .before .before .before .loop .inv .0) (c .before .before .before .before .before .before .before .loop-test .taken) (c .before .before .before .before .before .own .result .size) (c .before .before .before .before .before .own .result .names) (c .before .before .before .before .before .own .ensures) in omega (arith, z .1, z .2, c .before .before .if1 .taken, c .before .before .before .before .before .before .before .before .loop .inv .1)
 
--- src/called.rt:59:13
-wide-requires : tie.Need-wide-requires Inv-loop μ-loop
-wide-requires c κs =
-    search needs
-
--- src/called.rt:59:13
 returns : tie.Need-returns Inv-loop μ-loop
 returns c =
     let z = scan-sizes (c .before .before .before .before .before .before .before .before .before .before .before .args .words .now) _ _ (c .before .before .before .before .before .before .before .before .before .loop .inv .0) (c .before .before .before .before .before .before .before .before .loop-test .taken) (c .before .before .before .before .before .before .own .result .size) (c .before .before .before .before .before .before .own .result .names) (c .before .before .before .before .before .before .own .ensures) in
     c .wide .ensures ∙ name-here (c .before .before .before .before .before .before .before .before .before .before .before .args .words .now) (c .before .before .before .before .before .before .before .before .before .loop .at) (c .before .before .before .before .before .before .before .before .before .loop .seen) (c .before .before .before .before .before .before .own .result .size) (c .before .before .before .before .before .before .own .result .names) (c .before .before .before .before .before .before .before .before .before .before .before .args .n) (scan-names (c .before .before .before .before .before .before .before .before .before .before .before .args .words .now) _ _ (c .before .before .before .before .before .before .before .before .before .loop .inv .0) (c .before .before .before .before .before .before .before .before .loop-test .taken) (c .before .before .before .before .before .before .own .result .size) (c .before .before .before .before .before .before .own .result .names) (c .before .before .before .before .before .before .own .ensures)) (c .before .before .before .before .before .before .before .before .before .loop .inv .1) (c .before .before .before .if1 .taken) (z .1)
 
--- src/called.rt:61:16
 add-seen : tie.Need-add-seen Inv-loop μ-loop
 add-seen c =
     omega (arith, c .before .if1 .left, c .before .before .before .before .before .before .before .loop .inv .1)
 
--- src/called.rt:55:5
 loop-less : tie.Need-loop-less Inv-loop μ-loop
 loop-less c =
     let z = scan-sizes (c .before .before .before .before .before .before .before .before .before .args .words .now) _ _ (c .before .before .before .before .before .before .before .loop .inv .0) (c .before .before .before .before .before .before .loop-test .taken) (c .before .before .before .before .own .result .size) (c .before .before .before .before .own .result .names) (c .before .before .before .before .own .ensures) in omega (arith, z .0, z .2)
 
--- src/called.rt:55:5
 loop-again : tie.Need-loop-again Inv-loop μ-loop
 loop-again c =
     (scan-next (c .before .before .before .before .before .before .before .before .before .args .words .now) _ _ (c .before .before .before .before .before .before .before .loop .inv .0) (c .before .before .before .before .before .before .loop-test .taken) (c .before .before .before .before .own .result .size) (c .before .before .before .before .own .result .names) (c .before .before .before .before .own .ensures), omega (arith, c .before .if1 .left, c .before .before .before .before .before .before .before .loop .inv .1))
 
--- src/called.rt:49:1
 returns-2 : tie.Need-returns-2 Inv-loop μ-loop
 returns-2 c =
     let e : c .before .loop .at ≡ length (c .before .before .before .args .words .now) = omega (arith, c .before .loop .inv .0 .inside, c .loop-test .left) in absurd (omega (arith, scan-end (c .before .before .before .args .words .now) _ _ (c .before .loop .inv .0) e, c .before .before .before .pre .1, c .before .loop .inv .1))
@@ -123,10 +84,10 @@ find-spec =
     Inv-loop
     μ-loop
     loop-holds
-    mul-own
-    sub-own
-    part-own-start
-    part-own-end
+    (λ c. search needs)  -- mul-own
+    (λ c. search needs)  -- sub-own
+    (λ c. search needs)  -- part-own-start
+    (λ c. search needs)  -- part-own-end
     own-requires
     add-end
     sub-if1
@@ -135,7 +96,7 @@ find-spec =
     add-wide
     mul-wide
     shared-slice-read-wide
-    wide-requires
+    (λ c κs. search needs)  -- wide-requires
     returns
     add-seen
     loop-less

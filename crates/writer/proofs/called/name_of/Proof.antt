@@ -13,32 +13,26 @@ use Prim.Native.Nat.{ℕ, _<_}
 use lib.ListN.{length, getD}
 use Rattle.writer.specs.CalledLaws.{called-table, called-words}
 
--- src/called.rt:73:21
 mul-wide : tie.Need-mul-wide
 mul-wide c =
     omega (arith, c .before .before .pre .0, ap length (called-table (c .before .before .args .direct) (c .before .before .args .called .now) (c .if1 .taken)), c .before .before .good .1 .0 .1)
 
--- src/called.rt:73:21
 shared-slice-read-wide : tie.Need-shared-slice-read-wide
 shared-slice-read-wide c =
     omega (arith, c .before .before .before .pre .0, ap length (called-table (c .before .before .before .args .direct) (c .before .before .before .args .called .now) (c .before .if1 .taken)))
 
--- src/called.rt:73:9
 wide-requires : tie.Need-wide-requires
 wide-requires c κs =
     search needs
 
--- src/called.rt:73:9
 returns : tie.Need-returns
 returns c =
     c .wide .ensures ∙ ap (λ (l : List ℕ). getD l (c .before .before .before .before .args .n) 0) (sym (called-table (c .before .before .before .before .args .direct) (c .before .before .before .before .args .called .now) (c .before .before .if1 .taken)))
 
--- src/called.rt:75:5
 find-requires : tie.Need-find-requires
 find-requires c κs =
     (c .before .before .pre .1 (c .if1 .left), subst (λ (l : List ℕ). c .before .before .args .n < length l) (called-words (c .before .before .args .direct) (c .before .before .args .called .now) (c .if1 .left)) (c .before .before .pre .0))
 
--- src/called.rt:68:1
 returns-2 : tie.Need-returns-2
 returns-2 c =
     c .find .ensures ∙ ap (λ (l : List ℕ). getD l (c .before .before .before .args .n) 0) (sym (called-words (c .before .before .before .args .direct) (c .before .before .before .args .called .now) (c .before .if1 .left)))

@@ -20,108 +20,67 @@ abbrev μ-loop : tie.MeasureT-loop
 μ-loop words table₀ at₀ seen₀ table at seen =
     length words - at
 
--- src/called.rt:35:5
 loop-holds : tie.Need-loop-holds Inv-loop μ-loop
 loop-holds c =
     (scan-start (c .before .before .args .words .now) (c .before .before .pre .0, c .before .before .pre .1), refl, omega arith, refl)
 
--- src/called.rt:36:24
-mul-own : tie.Need-mul-own Inv-loop μ-loop
-mul-own c =
-    search needs
-
--- src/called.rt:36:24
-sub-own : tie.Need-sub-own Inv-loop μ-loop
-sub-own c =
-    search needs
-
--- src/called.rt:36:24
-part-own-start : tie.Need-part-own-start Inv-loop μ-loop
-part-own-start c =
-    search needs
-
--- src/called.rt:36:24
-part-own-end : tie.Need-part-own-end Inv-loop μ-loop
-part-own-end c =
-    search needs
-
--- src/called.rt:36:13
 own-requires : tie.Need-own-requires Inv-loop μ-loop
 own-requires c κs =
     scan-here (c .before .before .before .before .before .args .words .now) _ _ (c .before .before .loop .inv .0) (c .before .loop-test .taken)
 
--- src/called.rt:37:12
 sub-if1 : tie.Need-sub-if1 Inv-loop μ-loop
 sub-if1 c =
     omega (arith, c .before .before .before .loop .inv .1, c .before .before .before .loop .inv .2)
 
--- src/called.rt:38:13
 same-length : tie.Need-same-length Inv-loop μ-loop
 same-length c =
     c .before .before .before .before .before .loop .inv .1
 
--- src/called.rt:38:13
 returns : tie.Need-returns Inv-loop μ-loop
 returns c =
     tt
 
--- src/called.rt:40:19
 add-end : tie.Need-add-end Inv-loop μ-loop
 add-end c =
     let z = scan-sizes (c .before .before .before .before .before .before .before .before .before .args .words .now) _ _ (c .before .before .before .before .before .before .loop .inv .0) (c .before .before .before .before .before .loop-test .taken) (c .before .before .before .own .result .size) (c .before .before .before .own .result .names) (c .before .before .before .own .ensures) in omega (arith, z .2, c .before .before .before .before .before .before .before .before .before .good .0)
 
--- src/called.rt:41:20
 sub-put : tie.Need-sub-put Inv-loop μ-loop
 sub-put c =
     let z = scan-sizes (c .before .before .before .before .before .before .before .before .before .before .args .words .now) _ _ (c .before .before .before .before .before .before .before .loop .inv .0) (c .before .before .before .before .before .before .loop-test .taken) (c .before .before .before .before .own .result .size) (c .before .before .before .before .own .result .names) (c .before .before .before .before .own .ensures) in omega (arith, z .1)
 
--- src/called.rt:41:13
 mul-put : tie.Need-mul-put Inv-loop μ-loop
 mul-put c =
     let z = scan-sizes (c .before .before .before .before .before .before .before .before .before .before .args .words .now) _ _ (c .before .before .before .before .before .before .before .loop .inv .0) (c .before .before .before .before .before .before .loop-test .taken) (c .before .before .before .before .own .result .size) (c .before .before .before .before .own .result .names) (c .before .before .before .before .own .ensures) in omega (arith, z .1, z .2, c .before .before .before .before .before .before .before .before .before .before .good .0)
 
--- src/called.rt:41:13
-sub-put-2 : tie.Need-sub-put-2 Inv-loop μ-loop
-sub-put-2 c =
-    search needs
-
--- src/called.rt:41:13
 part-put-start : tie.Need-part-put-start Inv-loop μ-loop
 part-put-start c =
     let z = scan-sizes (c .before .before .before .before .before .before .before .before .before .before .args .words .now) _ _ (c .before .before .before .before .before .before .before .loop .inv .0) (c .before .before .before .before .before .before .loop-test .taken) (c .before .before .before .before .own .result .size) (c .before .before .before .before .own .result .names) (c .before .before .before .before .own .ensures) in omega (arith, z .1)
 
--- src/called.rt:41:13
 part-put-end : tie.Need-part-put-end Inv-loop μ-loop
 part-put-end c =
     let z = scan-sizes (c .before .before .before .before .before .before .before .before .before .before .args .words .now) _ _ (c .before .before .before .before .before .before .before .loop .inv .0) (c .before .before .before .before .before .before .loop-test .taken) (c .before .before .before .before .own .result .size) (c .before .before .before .before .own .result .names) (c .before .before .before .before .own .ensures) in omega (arith, z .2)
 
--- src/called.rt:41:9
 put-requires : tie.Need-put-requires Inv-loop μ-loop
 put-requires c κs =
     let z = scan-sizes (c .before .before .before .before .before .before .before .before .before .before .before .before .args .words .now) _ _ (c .before .before .before .before .before .before .before .before .before .loop .inv .0) (c .before .before .before .before .before .before .before .before .loop-test .taken) (c .before .before .before .before .before .before .own .result .size) (c .before .before .before .before .before .before .own .result .names) (c .before .before .before .before .before .before .own .ensures) in omega (arith, scan-count (c .before .before .before .before .before .before .before .before .before .before .before .before .args .words .now) _ _ (c .before .before .before .before .before .before .before .before .before .loop .inv .0) (c .before .before .before .before .before .before .before .before .loop-test .taken) (c .before .before .before .before .before .before .own .result .size) (c .before .before .before .before .before .before .own .result .names) (c .before .before .before .before .before .before .own .ensures), c .before .before .before .before .if1 .left, c .before .before .before .before .before .before .before .before .before .loop .inv .1, c .before .before .before .before .before .before .before .before .before .loop .inv .2)
 
--- src/called.rt:42:16
 add-seen : tie.Need-add-seen Inv-loop μ-loop
 add-seen c =
     omega (arith, c .before .before .before .before .before .before .before .before .if1 .left, c .before .before .before .before .before .before .before .before .before .before .before .before .before .loop .inv .1, c .before .before .before .before .before .before .before .before .before .before .before .before .before .loop .inv .2, c .before .before .before .before .before .before .before .before .before .before .before .before .before .before .before .before .good .1)
 
--- src/called.rt:35:5
 loop-less : tie.Need-loop-less Inv-loop μ-loop
 loop-less c =
     let z = scan-sizes (c .before .before .before .before .before .before .before .before .before .before .before .before .before .before .before .before .args .words .now) _ _ (c .before .before .before .before .before .before .before .before .before .before .before .before .before .loop .inv .0) (c .before .before .before .before .before .before .before .before .before .before .before .before .loop-test .taken) (c .before .before .before .before .before .before .before .before .before .before .own .result .size) (c .before .before .before .before .before .before .before .before .before .before .own .result .names) (c .before .before .before .before .before .before .before .before .before .before .own .ensures) in omega (arith, z .0, z .2)
 
--- src/called.rt:35:5
 loop-again : tie.Need-loop-again Inv-loop μ-loop
 loop-again c =
     let z = scan-sizes (c .before .before .before .before .before .before .before .before .before .before .before .before .before .before .before .before .args .words .now) _ _ (c .before .before .before .before .before .before .before .before .before .before .before .before .before .loop .inv .0) (c .before .before .before .before .before .before .before .before .before .before .before .before .loop-test .taken) (c .before .before .before .before .before .before .before .before .before .before .own .result .size) (c .before .before .before .before .before .before .before .before .before .before .own .result .names) (c .before .before .before .before .before .before .before .before .before .before .own .ensures) in
     (scan-next (c .before .before .before .before .before .before .before .before .before .before .before .before .before .before .before .before .args .words .now) _ _ (c .before .before .before .before .before .before .before .before .before .before .before .before .before .loop .inv .0) (c .before .before .before .before .before .before .before .before .before .before .before .before .loop-test .taken) (c .before .before .before .before .before .before .before .before .before .before .own .result .size) (c .before .before .before .before .before .before .before .before .before .before .own .result .names) (c .before .before .before .before .before .before .before .before .before .before .own .ensures), c .before .before .before .put .kept .1 .0 ∙ c .before .before .before .before .before .before .before .before .before .before .before .before .before .loop .inv .1, omega (arith, c .before .before .before .before .before .before .before .before .if1 .left, c .before .before .before .before .before .before .before .before .before .before .before .before .before .loop .inv .1, c .before .before .before .before .before .before .before .before .before .before .before .before .before .loop .inv .2), ap (take (c .before .before .before .before .before .before .before .before .before .before .before .before .before .loop .seen + c .before .before .before .before .before .before .before .before .before .before .own .result .names)) (c .before .before .before .put .ensures) ∙ notes-more (c .before .before .before .before .before .before .before .before .before .before .before .before .before .before .before .before .args .words .now) (c .before .before .before .before .before .before .before .before .before .before .before .before .before .loop .table) (take (c .before .before .before .before .before .before .before .before .before .before .before .before .before .loop .at + c .before .before .before .before .before .before .before .before .before .before .own .result .size - (c .before .before .before .before .before .before .before .before .before .before .before .before .before .loop .at + c .before .before .before .before .before .before .before .before .before .before .own .result .size - c .before .before .before .before .before .before .before .before .before .before .own .result .names)) (drop (c .before .before .before .before .before .before .before .before .before .before .before .before .before .loop .at + c .before .before .before .before .before .before .before .before .before .before .own .result .size - c .before .before .before .before .before .before .before .before .before .before .own .result .names) (c .before .before .before .before .before .before .before .before .before .before .before .before .before .before .before .before .args .words .now))) (c .before .before .before .before .before .before .before .before .before .before .before .before .before .loop .seen) (c .before .before .before .before .before .before .before .before .before .before .own .result .names) (c .before .before .before .before .before .before .before .before .before .before .before .before .before .loop .inv .3) (omega (arith, c .before .before .before .before .before .before .before .before .if1 .left, c .before .before .before .before .before .before .before .before .before .before .before .before .before .loop .inv .1, c .before .before .before .before .before .before .before .before .before .before .before .before .before .loop .inv .2)) (z .3) (scan-count (c .before .before .before .before .before .before .before .before .before .before .before .before .before .before .before .before .args .words .now) _ _ (c .before .before .before .before .before .before .before .before .before .before .before .before .before .loop .inv .0) (c .before .before .before .before .before .before .before .before .before .before .before .before .loop-test .taken) (c .before .before .before .before .before .before .before .before .before .before .own .result .size) (c .before .before .before .before .before .before .before .before .before .before .own .result .names) (c .before .before .before .before .before .before .before .before .before .before .own .ensures)) (scan-names (c .before .before .before .before .before .before .before .before .before .before .before .before .before .before .before .before .args .words .now) _ _ (c .before .before .before .before .before .before .before .before .before .before .before .before .before .loop .inv .0) (c .before .before .before .before .before .before .before .before .before .before .before .before .loop-test .taken) (c .before .before .before .before .before .before .before .before .before .before .own .result .size) (c .before .before .before .before .before .before .before .before .before .before .own .result .names) (c .before .before .before .before .before .before .before .before .before .before .own .ensures)))
 
--- src/called.rt:29:1
 same-length-2 : tie.Need-same-length-2 Inv-loop μ-loop
 same-length-2 c =
     c .before .loop .inv .1
 
--- src/called.rt:29:1
 returns-2 : tie.Need-returns-2 Inv-loop μ-loop
 returns-2 c =
     let e : c .before .loop .at ≡ length (c .before .before .before .before .args .words .now) = omega (arith, c .before .loop .inv .0 .inside, c .loop-test .left) in (omega (arith, c .before .loop .inv .1, c .before .loop .inv .2), notes-all (c .before .before .before .before .args .words .now) (c .before .loop .table) (c .before .loop .seen) (c .before .loop .inv .3) (scan-end (c .before .before .before .before .args .words .now) _ _ (c .before .loop .inv .0) e))
@@ -133,10 +92,10 @@ note-spec =
     Inv-loop
     μ-loop
     loop-holds
-    mul-own
-    sub-own
-    part-own-start
-    part-own-end
+    (λ c. search needs)  -- mul-own
+    (λ c. search needs)  -- sub-own
+    (λ c. search needs)  -- part-own-start
+    (λ c. search needs)  -- part-own-end
     own-requires
     sub-if1
     same-length
@@ -144,7 +103,7 @@ note-spec =
     add-end
     sub-put
     mul-put
-    sub-put-2
+    (λ c. search needs)  -- sub-put-2
     part-put-start
     part-put-end
     put-requires

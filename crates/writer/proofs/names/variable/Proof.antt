@@ -17,52 +17,42 @@ use Rattle.writer.specs.Called.{saidBy}
 use Rattle.writer.specs.PiecesLaws.{variable-text}
 use Rattle.writer.specs.OpenedLaws.{naming-slot}
 
--- src/names.rt:51:9
 numbered-requires : tie.Need-numbered-requires
 numbered-requires c κs =
     c .before .before .before .before .pre .0
 
--- src/names.rt:53:9
 same-length : tie.Need-same-length
 same-length c =
     c .before .before .before .numbered .kept .1 .1 .0
 
--- src/names.rt:53:9
 returns : tie.Need-returns
 returns c =
     left-is (sym (variable-text (saidBy (c .before .before .before .before .before .before .before .before .args .names .now) (c .before .before .before .before .before .before .before .before .args .direct) (c .before .before .before .before .before .before .before .before .args .called .now)) _)) (place-full (c .before .before .before .numbered .ensures) _ (c .if1 .taken))
 
--- src/names.rt:55:9
 byte-requires : tie.Need-byte-requires
 byte-requires c κs =
     place-room (c .before .before .before .before .numbered .ensures) (c .before .if1 .left)
 
--- src/names.rt:57:9
 same-length-2 : tie.Need-same-length-2
 same-length-2 c =
     c .before .before .before .byte .kept .1 .0 ∙ c .before .before .before .before .before .before .before .before .numbered .kept .1 .1 .0
 
--- src/names.rt:57:9
 returns-2 : tie.Need-returns-2
 returns-2 c =
     left-is (sym (variable-text (saidBy (c .before .before .before .before .before .before .before .before .before .before .before .before .before .args .names .now) (c .before .before .before .before .before .before .before .before .before .before .before .before .before .args .direct) (c .before .before .before .before .before .before .before .before .before .before .before .before .before .args .called .now)) _)) (place-then (c .before .before .before .before .before .before .before .before .numbered .ensures) (c .before .before .before .before .before .if1 .left) (place-full (c .before .before .before .byte .ensures) _ (c .if2 .taken)))
 
--- src/names.rt:59:10
 name-of-requires : tie.Need-name-of-requires
 name-of-requires c κs =
     (c .before .before .before .before .before .before .before .before .before .before .before .before .before .pre .1 .many, c .before .before .before .before .before .before .before .before .before .before .before .before .before .pre .2)
 
--- src/names.rt:59:5
 name-requires : tie.Need-name-requires
 name-requires c κs =
     (place-room (c .before .before .before .before .before .byte .ensures) (c .before .before .if2 .left), ap (hasName (c .before .before .before .before .before .before .before .before .before .before .before .before .before .before .before .args .names .now)) (c .before .name-of .ensures) ∙ naming-slot (saidBy (c .before .before .before .before .before .before .before .before .before .before .before .before .before .before .before .args .names .now) (c .before .before .before .before .before .before .before .before .before .before .before .before .before .before .before .args .direct) (c .before .before .before .before .before .before .before .before .before .before .before .before .before .before .before .args .called .now)) _ _ (c .before .before .before .before .before .before .before .before .before .before .before .before .before .before .before .pre .1) (omega arith))
 
--- src/names.rt:39:1
 same-length-3 : tie.Need-same-length-3
 same-length-3 c =
     c .before .before .name .kept .1 .1 .0 ∙ c .before .before .before .before .before .before .before .before .byte .kept .1 .0 ∙ c .before .before .before .before .before .before .before .before .before .before .before .before .before .numbered .kept .1 .1 .0
 
--- src/names.rt:39:1
 returns-3 : tie.Need-returns-3
 returns-3 c =
     left-is (sym (variable-text (saidBy (c .before .before .before .before .before .before .before .before .before .before .before .before .before .before .before .before .before .before .args .names .now) (c .before .before .before .before .before .before .before .before .before .before .before .before .before .before .before .before .before .before .args .direct) (c .before .before .before .before .before .before .before .before .before .before .before .before .before .before .before .before .before .before .args .called .now)) _)) (place-then (c .before .before .before .before .before .before .before .before .before .before .before .before .before .numbered .ensures) (c .before .before .before .before .before .before .before .before .before .before .if1 .left) (place-then (c .before .before .before .before .before .before .before .before .byte .ensures) (c .before .before .before .before .before .if2 .left) (left-is (ap (nameAt (c .before .before .before .before .before .before .before .before .before .before .before .before .before .before .before .before .before .before .args .names .now)) (c .before .before .before .before .name-of .ensures)) (c .before .before .name .ensures))))

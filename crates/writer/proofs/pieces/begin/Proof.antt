@@ -24,147 +24,106 @@ use Rattle.datum.specs.NameTable.{nameAt}
 use Rattle.core_term.specs.Text.{variableText}
 use Rattle.writer.specs.Called.{calledBy, saidBy}
 
--- src/pieces.rt:143:16
 shared-slice-read-code : tie.Need-shared-slice-read-code
 shared-slice-read-code c =
     let o = c .before .before .before .before .before .pre .1 in omega (arith, some-words (c .before .before .before .before .before .args .words .now) (o .it) (o .left) (o .is))
 
--- src/pieces.rt:145:21
-slice-aggregate-copy : tie.Need-slice-aggregate-copy
-slice-aggregate-copy c =
-    search needs
-
--- src/pieces.rt:145:9
 copy-requires : tie.Need-copy-requires
 copy-requires c κs =
     c .before .before .before .before .before .before .before .before .pre .0
 
--- src/pieces.rt:145:9
 same-length : tie.Need-same-length
 same-length c =
     c .before .before .copy .kept .1 .0
 
--- src/pieces.rt:145:9
 returns : tie.Need-returns
 returns c =
     λ x l h. left-is (opens-if (c .before .before .before .before .before .before .before .before .before .before .before .args .words .now) x l h _ _ (c .before .before .before .before .before .if1 .taken)) (c .before .before .copy .ensures)
 
--- src/pieces.rt:147:18
 shared-slice-read-wide : tie.Need-shared-slice-read-wide
 shared-slice-read-wide c =
     let o = c .before .before .before .before .before .before .before .pre .1 in omega (arith, two-words (c .before .before .before .before .before .before .before .args .words .now) (o .it) (o .left) (o .is) (c .before .if1 .left))
 
--- src/pieces.rt:147:9
-wide-requires : tie.Need-wide-requires
-wide-requires c κs =
-    search needs
-
--- src/pieces.rt:149:9
 variable-requires : tie.Need-variable-requires
 variable-requires c κs =
     (c .before .before .before .before .before .before .before .before .before .before .pre .0, subst (λ (n : ℕ). Naming (saidBy (c .before .before .before .before .before .before .before .before .before .before .args .names .now) (c .before .before .before .before .before .before .before .before .before .before .args .direct) (c .before .before .before .before .before .before .before .before .before .before .args .called .now)) (suc n)) (sym (c .before .before .wide .ensures)) (variable-named _ (c .before .before .before .before .before .before .before .before .before .before .args .words .now) (c .before .before .before .before .before .before .before .before .before .before .pre .1) (c .before .if2 .taken)), c .before .before .before .before .before .before .before .before .before .before .pre .2)
 
--- src/pieces.rt:149:9
 same-length-2 : tie.Need-same-length-2
 same-length-2 c =
     c .before .before .variable .kept .1 .1 .0
 
--- src/pieces.rt:149:9
 returns-2 : tie.Need-returns-2
 returns-2 c =
     λ x l h. left-is (ap (variableText (nameAt (c .before .before .before .before .before .before .before .before .before .before .before .before .before .args .names .now)) (calledBy (c .before .before .before .before .before .before .before .before .before .before .before .before .before .args .direct) (c .before .before .before .before .before .before .before .before .before .before .before .before .before .args .called .now))) (c .before .before .before .before .before .wide .ensures) ∙ opens-variable (c .before .before .before .before .before .before .before .before .before .before .before .before .before .args .words .now) x l h (saidBy (c .before .before .before .before .before .before .before .before .before .before .before .before .before .args .names .now) (c .before .before .before .before .before .before .before .before .before .before .before .before .before .args .direct) (c .before .before .before .before .before .before .before .before .before .before .before .before .before .args .called .now)) _ (c .before .before .before .before .if2 .taken)) (c .before .before .variable .ensures)
 
--- src/pieces.rt:152:9
 numbered-requires : tie.Need-numbered-requires
 numbered-requires c κs =
     c .before .before .before .before .before .before .before .before .before .before .before .pre .0
 
--- src/pieces.rt:152:9
 same-length-3 : tie.Need-same-length-3
 same-length-3 c =
     c .before .before .numbered .kept .1 .1 .0
 
--- src/pieces.rt:152:9
 returns-3 : tie.Need-returns-3
 returns-3 c =
     λ x l h. left-is (ap (λ (n : ℕ). 111 ∷ decimal n) (c .before .before .before .before .before .before .wide .ensures) ∙ opens-operation (c .before .before .before .before .before .before .before .before .before .before .before .before .before .before .args .words .now) x l h _ _ (c .before .before .before .before .if3 .taken)) (c .before .before .numbered .ensures)
 
--- src/pieces.rt:155:9
 datum-opening-requires : tie.Need-datum-opening-requires
 datum-opening-requires c κs =
     (c .before .before .before .before .before .before .before .before .before .before .before .before .pre .0, (calledBy (c .before .before .before .before .before .before .before .before .before .before .before .before .args .direct) (c .before .before .before .before .before .before .before .before .before .before .before .before .args .called .now), c .before .before .before .before .before .before .before .before .before .before .before .before .pre .1), omega (arith, c .before .before .before .if2 .left, c .before .before .if3 .left), c .before .if4 .taken)
 
--- src/pieces.rt:155:9
 same-length-4 : tie.Need-same-length-4
 same-length-4 c =
     c .before .before .datum-opening .kept .1 .1 .0
 
--- src/pieces.rt:155:9
 returns-4 : tie.Need-returns-4
 returns-4 c =
     λ x l h. c .before .before .datum-opening .ensures _ x l h
 
--- src/pieces.rt:158:39
 shared-slice-read-wide-2 : tie.Need-shared-slice-read-wide-2
 shared-slice-read-wide-2 c =
     let o = c .before .before .before .before .before .before .before .before .before .before .before .before .before .pre .1 in omega (arith, three-words (c .before .before .before .before .before .before .before .before .before .before .before .before .before .args .words .now) (o .it) (o .left) (o .is) (c .before .if5 .taken))
 
--- src/pieces.rt:158:34
-wide-requires-2 : tie.Need-wide-requires-2
-wide-requires-2 c κs =
-    search needs
-
--- src/pieces.rt:158:9
 lambda-opening-requires : tie.Need-lambda-opening-requires
 lambda-opening-requires c κs =
     (c .before .before .before .before .before .before .before .before .before .before .before .before .before .before .before .pre .0, omega (arith, c .before .before .before .before .before .before .before .wide .ensures, c .before .wide2 .ensures, c .before .before .shared-slice-known6 .given 1, c .before .before .shared-slice-known6 .given 2), (let g = lambda-named _ (c .before .before .before .before .before .before .before .before .before .before .before .before .before .before .before .args .words .now) (c .before .before .before .before .before .before .before .before .before .before .before .before .before .before .before .pre .1) (c .before .before .before .if5 .taken) in record { many = omega (arith, g .many, c .before .before .before .before .before .before .before .wide .ensures, c .before .wide2 .ensures); slots = g .slots }), c .before .before .before .before .before .before .before .before .before .before .before .before .before .before .before .pre .2)
 
--- src/pieces.rt:158:9
 same-length-5 : tie.Need-same-length-5
 same-length-5 c =
     c .before .before .lambda-opening .kept .1 .1 .1 .0
 
--- src/pieces.rt:158:9
 returns-5 : tie.Need-returns-5
 returns-5 c =
     λ x l h. left-is (lambda-same _ _ _ _ _ (c .before .before .before .before .before .before .before .before .before .before .wide .ensures) (c .before .before .before .before .wide2 .ensures) ∙ opens-lambda (c .before .before .before .before .before .before .before .before .before .before .before .before .before .before .before .before .before .before .args .words .now) x l h _ _ (c .before .before .before .before .before .before .if5 .taken)) (c .before .before .lambda-opening .ensures)
 
--- src/pieces.rt:161:24
 shared-slice-read-decimal : tie.Need-shared-slice-read-decimal
 shared-slice-read-decimal c =
     let o = c .before .before .before .before .before .before .before .before .before .before .before .before .before .before .pre .1 in omega (arith, two-words (c .before .before .before .before .before .before .before .before .before .before .before .before .before .before .args .words .now) (o .it) (o .left) (o .is) (c .before .before .before .before .before .before .before .before .if1 .left))
 
--- src/pieces.rt:161:34
 shared-slice-read-decimal-2 : tie.Need-shared-slice-read-decimal-2
 shared-slice-read-decimal-2 c =
     let o = c .before .before .before .before .before .before .before .before .before .before .before .before .before .before .before .pre .1 in omega (arith, decimal-words (c .before .before .before .before .before .before .before .before .before .before .before .before .before .before .before .args .words .now) (o .it) (o .left) (o .is) (c .before .before .if6 .taken))
 
--- src/pieces.rt:161:9
 decimal-requires : tie.Need-decimal-requires
 decimal-requires c κs =
     let o = c .before .before .before .before .before .before .before .before .before .before .before .before .before .before .before .before .pre .1 in let k = decimal-places (c .before .before .before .before .before .before .before .before .before .before .before .before .before .before .before .before .args .words .now) (o .it) (o .left) (o .is) (c .before .before .before .if6 .taken) in (c .before .before .before .before .before .before .before .before .before .before .before .before .before .before .before .before .pre .0, k .0, k .1)
 
--- src/pieces.rt:161:9
 same-length-6 : tie.Need-same-length-6
 same-length-6 c =
     c .before .before .decimal .kept .1 .1 .0
 
--- src/pieces.rt:161:9
 returns-6 : tie.Need-returns-6
 returns-6 c =
     λ x l h. left-is (opens-decimal (c .before .before .before .before .before .before .before .before .before .before .before .before .before .before .before .before .before .before .before .args .words .now) x l h _ _ (c .before .before .before .before .before .before .if6 .taken)) (c .before .before .decimal .ensures)
 
--- src/pieces.rt:163:5
 byte-requires : tie.Need-byte-requires
 byte-requires c κs =
     c .before .before .before .before .before .before .before .before .before .before .before .before .before .before .pre .0
 
--- src/pieces.rt:130:1
 same-length-7 : tie.Need-same-length-7
 same-length-7 c =
     c .before .before .byte .kept .1 .0
 
--- src/pieces.rt:130:1
 returns-7 : tie.Need-returns-7
 returns-7 c =
     λ x l h. let o = c .before .before .before .before .before .before .before .before .before .before .before .before .before .before .before .before .before .pre .1 in let e : getD (c .before .before .before .before .before .before .before .before .before .before .before .before .before .before .before .before .before .args .words .now) 0 0 ≡ 8 = omega (arith, code-most (c .before .before .before .before .before .before .before .before .before .before .before .before .before .before .before .before .before .args .words .now) x l h, c .before .before .before .before .before .before .before .before .before .before .before .if1 .left, c .before .before .before .before .before .before .if4 .left, c .before .before .before .before .before .if5 .left, c .before .before .before .before .if6 .left) in left-is (opens-application (c .before .before .before .before .before .before .before .before .before .before .before .before .before .before .before .before .before .args .words .now) x l h _ _ e) (c .before .before .byte .ensures)
@@ -174,12 +133,12 @@ begin-spec =
     tie.close
     (tie.spec
     shared-slice-read-code
-    slice-aggregate-copy
+    (λ c. search needs)  -- slice-aggregate-copy
     copy-requires
     same-length
     returns
     shared-slice-read-wide
-    wide-requires
+    (λ c κs. search needs)  -- wide-requires
     variable-requires
     same-length-2
     returns-2
@@ -190,7 +149,7 @@ begin-spec =
     same-length-4
     returns-4
     shared-slice-read-wide-2
-    wide-requires-2
+    (λ c κs. search needs)  -- wide-requires-2
     lambda-opening-requires
     same-length-5
     returns-5

@@ -20,122 +20,82 @@ use lib.ListN.{getD}
 use Rattle.writer.specs.OpenedLaws.{some-words, two-words, opens-integer, opens-false, opens-true, opens-name, opens-inner, opens-quoted, name-spelled}
 use Rattle.writer.specs.Called.{said}
 
--- src/pieces.rt:84:16
 shared-slice-read-code : tie.Need-shared-slice-read-code
 shared-slice-read-code c =
     let o = c .before .before .before .before .pre .1 .1 in omega (arith, some-words (c .before .before .before .before .args .words .now) (o .it) (o .left) (o .is))
 
--- src/pieces.rt:85:13
 shared-slice-read-a : tie.Need-shared-slice-read-a
 shared-slice-read-a c =
     let o = c .before .before .before .before .before .pre .1 .1 in omega (arith, two-words (c .before .before .before .before .before .args .words .now) (o .it) (o .left) (o .is) (λ e. omega (arith, c .before .before .before .before .before .pre .3)))
 
--- src/pieces.rt:87:9
 integer-requires : tie.Need-integer-requires
 integer-requires c κs =
     c .before .before .before .before .before .before .before .pre .0
 
--- src/pieces.rt:87:9
 same-length : tie.Need-same-length
 same-length c =
     c .before .before .integer .kept .1 .0
 
--- src/pieces.rt:87:9
 returns : tie.Need-returns
 returns c =
     λ v x l h. left-is (opens-integer (c .before .before .before .before .before .before .before .before .before .before .args .words .now) x l h (said _ v) _ (c .before .before .before .before .if1 .taken)) (c .before .before .integer .ensures)
 
--- src/pieces.rt:91:25
-slice-aggregate-copy : tie.Need-slice-aggregate-copy
-slice-aggregate-copy c =
-    search needs
-
--- src/pieces.rt:91:13
 copy-requires : tie.Need-copy-requires
 copy-requires c κs =
     c .before .before .before .before .before .before .before .before .before .before .pre .0
 
--- src/pieces.rt:91:13
 same-length-2 : tie.Need-same-length-2
 same-length-2 c =
     c .before .before .copy .kept .1 .0
 
--- src/pieces.rt:91:13
 returns-2 : tie.Need-returns-2
 returns-2 c =
     λ v x l h. left-is (opens-false (c .before .before .before .before .before .before .before .before .before .before .before .before .before .args .words .now) x l h (said _ v) _ (c .before .before .before .before .before .before .if2 .taken) (c .before .before .before .before .before .if3 .taken)) (c .before .before .copy .ensures)
 
--- src/pieces.rt:93:21
-slice-aggregate-copy-2 : tie.Need-slice-aggregate-copy-2
-slice-aggregate-copy-2 c =
-    search needs
-
--- src/pieces.rt:93:9
 copy-requires-2 : tie.Need-copy-requires-2
 copy-requires-2 c κs =
     c .before .before .before .before .before .before .before .before .before .before .pre .0
 
--- src/pieces.rt:93:9
 same-length-3 : tie.Need-same-length-3
 same-length-3 c =
     c .before .before .copy2 .kept .1 .0
 
--- src/pieces.rt:93:9
 returns-3 : tie.Need-returns-3
 returns-3 c =
     λ v x l h. left-is (opens-true (c .before .before .before .before .before .before .before .before .before .before .before .before .before .args .words .now) x l h (said _ v) _ (c .before .before .before .before .before .before .if2 .taken) (c .before .before .before .before .before .if3 .left)) (c .before .before .copy2 .ensures)
 
--- src/pieces.rt:96:29
-wide-requires : tie.Need-wide-requires
-wide-requires c κs =
-    search needs
-
--- src/pieces.rt:96:9
 name-opening-requires : tie.Need-name-opening-requires
 name-opening-requires c κs =
     (c .before .before .before .before .before .before .before .before .before .before .pre .0, ap (hasName (c .before .before .before .before .before .before .before .before .before .before .args .names .now)) (c .before .wide .ensures) ∙ name-spelled (said (c .before .before .before .before .before .before .before .before .before .before .args .names .now) (c .before .before .before .before .before .before .before .before .before .before .pre .1 .0)) (c .before .before .before .before .before .before .before .before .before .before .args .words .now) (c .before .before .before .before .before .before .before .before .before .before .pre .1 .1) (c .before .before .if4 .taken))
 
--- src/pieces.rt:96:9
 same-length-4 : tie.Need-same-length-4
 same-length-4 c =
     c .before .before .name-opening .kept .1 .1 .0
 
--- src/pieces.rt:96:9
 returns-4 : tie.Need-returns-4
 returns-4 c =
     λ v x l h. left-is (ap (λ (n : ℕ). opening (said (c .before .before .before .before .before .before .before .before .before .before .before .before .before .args .names .now) v) (c .before .before .before .before .before .before .before .before .before .before .before .before .before .args .inner) (nameN n)) (c .before .before .before .before .wide .ensures) ∙ opens-name (c .before .before .before .before .before .before .before .before .before .before .before .before .before .args .words .now) x l h (said _ v) _ (c .before .before .before .before .before .if4 .taken)) (c .before .before .name-opening .ensures v)
 
--- src/pieces.rt:99:9
 byte-requires : tie.Need-byte-requires
 byte-requires c κs =
     c .before .before .before .before .before .before .before .before .before .before .pre .0
 
--- src/pieces.rt:99:9
 same-length-5 : tie.Need-same-length-5
 same-length-5 c =
     c .before .before .byte .kept .1 .0
 
--- src/pieces.rt:99:9
 returns-5 : tie.Need-returns-5
 returns-5 c =
     λ v x l h. let e : getD (c .before .before .before .before .before .before .before .before .before .before .before .before .before .args .words .now) 0 0 ≡ 5 = omega (arith, c .before .before .before .before .before .before .before .before .before .before .before .before .before .pre .2, c .before .before .before .before .before .before .before .before .before .before .before .before .before .pre .3, c .before .before .before .before .before .before .before .if1 .left, c .before .before .before .before .before .before .if2 .left, c .before .before .before .before .before .if4 .left) in left-is (opens-inner (c .before .before .before .before .before .before .before .before .before .before .before .before .before .args .words .now) x l h (said _ v) _ e (c .before .before .before .before .if5 .taken)) (c .before .before .byte .ensures)
 
--- src/pieces.rt:101:10
-slice-aggregate-copy-3 : tie.Need-slice-aggregate-copy-3
-slice-aggregate-copy-3 c =
-    search needs
-
--- src/pieces.rt:101:5
 copy-requires-3 : tie.Need-copy-requires-3
 copy-requires-3 c κs =
     c .before .before .before .before .before .before .before .before .before .before .before .pre .0
 
--- src/pieces.rt:73:1
 same-length-6 : tie.Need-same-length-6
 same-length-6 c =
     c .before .before .copy3 .kept .1 .0
 
--- src/pieces.rt:73:1
 returns-6 : tie.Need-returns-6
 returns-6 c =
     λ v x l h. let e : getD (c .before .before .before .before .before .before .before .before .before .before .before .before .before .before .args .words .now) 0 0 ≡ 5 = omega (arith, c .before .before .before .before .before .before .before .before .before .before .before .before .before .before .pre .2, c .before .before .before .before .before .before .before .before .before .before .before .before .before .before .pre .3, c .before .before .before .before .before .before .before .before .if1 .left, c .before .before .before .before .before .before .before .if2 .left, c .before .before .before .before .before .before .if4 .left) in left-is (opens-quoted (c .before .before .before .before .before .before .before .before .before .before .before .before .before .before .args .words .now) x l h (said _ v) _ e (c .before .before .before .before .before .if5 .left)) (c .before .before .copy3 .ensures)
@@ -149,22 +109,22 @@ datum-opening-spec =
     integer-requires
     same-length
     returns
-    slice-aggregate-copy
+    (λ c. search needs)  -- slice-aggregate-copy
     copy-requires
     same-length-2
     returns-2
-    slice-aggregate-copy-2
+    (λ c. search needs)  -- slice-aggregate-copy-2
     copy-requires-2
     same-length-3
     returns-3
-    wide-requires
+    (λ c κs. search needs)  -- wide-requires
     name-opening-requires
     same-length-4
     returns-4
     byte-requires
     same-length-5
     returns-5
-    slice-aggregate-copy-3
+    (λ c. search needs)  -- slice-aggregate-copy-3
     copy-requires-3
     same-length-6
     returns-6)

@@ -11,52 +11,38 @@ use mathlib.Core.Path.{sym, _∙_}
 use Rattle.writer.specs.LaidLaws.{place-room, place-full, place-then, left-is}
 use Rattle.writer.specs.PiecesLaws.{lambda-bytes}
 
--- src/pieces.rt:61:18
-slice-aggregate-copy : tie.Need-slice-aggregate-copy
-slice-aggregate-copy c =
-    search needs
-
--- src/pieces.rt:61:9
 copy-requires : tie.Need-copy-requires
 copy-requires c κs =
     c .before .before .before .before .before .pre .0
 
--- src/pieces.rt:63:9
 same-length : tie.Need-same-length
 same-length c =
     c .before .before .before .copy .kept .1 .0
 
--- src/pieces.rt:63:9
 returns : tie.Need-returns
 returns c =
     left-is (sym (lambda-bytes _ _ _)) (place-full (c .before .before .before .copy .ensures) _ (c .if1 .taken))
 
--- src/pieces.rt:65:9
 formals-requires : tie.Need-formals-requires
 formals-requires c κs =
     (place-room (c .before .before .before .before .copy .ensures) (c .before .if1 .left), c .before .before .before .before .before .before .before .before .before .before .pre .1, c .before .before .before .before .before .before .before .before .before .before .pre .2, c .before .before .before .before .before .before .before .before .before .before .pre .3)
 
--- src/pieces.rt:67:9
 same-length-2 : tie.Need-same-length-2
 same-length-2 c =
     c .before .before .before .formals .kept .1 .1 .1 .1 .0 ∙ c .before .before .before .before .before .before .before .before .copy .kept .1 .0
 
--- src/pieces.rt:67:9
 returns-2 : tie.Need-returns-2
 returns-2 c =
     left-is (sym (lambda-bytes _ _ _)) (place-then (c .before .before .before .before .before .before .before .before .copy .ensures) (c .before .before .before .before .before .if1 .left) (place-full (c .before .before .before .formals .ensures) _ (c .if2 .taken)))
 
--- src/pieces.rt:69:5
 byte-requires : tie.Need-byte-requires
 byte-requires c κs =
     place-room (c .before .before .before .before .formals .ensures) (c .before .if2 .left)
 
--- src/pieces.rt:48:1
 same-length-3 : tie.Need-same-length-3
 same-length-3 c =
     c .before .before .byte .kept .1 .0 ∙ c .before .before .before .before .before .before .before .formals .kept .1 .1 .1 .1 .0 ∙ c .before .before .before .before .before .before .before .before .before .before .before .before .copy .kept .1 .0
 
--- src/pieces.rt:48:1
 returns-3 : tie.Need-returns-3
 returns-3 c =
     left-is (sym (lambda-bytes _ _ _)) (place-then (c .before .before .before .before .before .before .before .before .before .before .before .before .copy .ensures) (c .before .before .before .before .before .before .before .before .before .if1 .left) (place-then (c .before .before .before .before .before .before .before .formals .ensures) (c .before .before .before .before .if2 .left) (c .before .before .byte .ensures)))
@@ -65,7 +51,7 @@ pub lambda-opening-spec : {M : Type 1} → statement M
 lambda-opening-spec =
     tie.close
     (tie.spec
-    slice-aggregate-copy
+    (λ c. search needs)  -- slice-aggregate-copy
     copy-requires
     same-length
     returns

@@ -19,62 +19,46 @@ use Rattle.datum.specs.NameTable.{nameAt}
 use Rattle.core_term.specs.Text.{variableText}
 use Rattle.writer.specs.Called.{calledBy, saidBy}
 
--- src/pieces.rt:118:16
 shared-slice-read-code : tie.Need-shared-slice-read-code
 shared-slice-read-code c =
     let s = (c .before .before .before .before .before) in let o = s .pre .1 in omega (arith, some-words (s .args .words .now) (o .it) (o .left) (o .is))
 
--- src/pieces.rt:119:18
 shared-slice-read-wide : tie.Need-shared-slice-read-wide
 shared-slice-read-wide c =
     let s = (c .before .before .before .before .before .before) in let o = s .pre .1 in omega (arith, two-words (s .args .words .now) (o .it) (o .left) (o .is) (λ e. omega (arith, s .pre .2)))
 
--- src/pieces.rt:119:9
-wide-requires : tie.Need-wide-requires
-wide-requires c κs =
-    search needs
-
--- src/pieces.rt:121:9
 variable-requires : tie.Need-variable-requires
 variable-requires c κs =
     (c .before .before .before .before .before .before .before .before .before .pre .0, subst (λ (n : ℕ). Naming (saidBy (c .before .before .before .before .before .before .before .before .before .args .names .now) (c .before .before .before .before .before .before .before .before .before .args .direct) (c .before .before .before .before .before .before .before .before .before .args .called .now)) (suc n)) (sym (c .before .before .wide .ensures)) (variable-named _ (c .before .before .before .before .before .before .before .before .before .args .words .now) (c .before .before .before .before .before .before .before .before .before .pre .1) (c .before .if1 .taken)), c .before .before .before .before .before .before .before .before .before .pre .3)
 
--- src/pieces.rt:121:9
 same-length : tie.Need-same-length
 same-length c =
     c .before .before .variable .kept .1 .1 .0
 
--- src/pieces.rt:121:9
 returns : tie.Need-returns
 returns c =
     λ x l h. left-is (ap (variableText (nameAt (c .before .before .before .before .before .before .before .before .before .before .before .before .args .names .now)) (calledBy (c .before .before .before .before .before .before .before .before .before .before .before .before .args .direct) (c .before .before .before .before .before .before .before .before .before .before .before .before .args .called .now))) (c .before .before .before .before .before .wide .ensures) ∙ opens-variable (c .before .before .before .before .before .before .before .before .before .before .before .before .args .words .now) x l h (saidBy (c .before .before .before .before .before .before .before .before .before .before .before .before .args .names .now) (c .before .before .before .before .before .before .before .before .before .before .before .before .args .direct) (c .before .before .before .before .before .before .before .before .before .before .before .before .args .called .now)) _ (c .before .before .before .before .if1 .taken)) (c .before .before .variable .ensures)
 
--- src/pieces.rt:124:9
 numbered-requires : tie.Need-numbered-requires
 numbered-requires c κs =
     c .before .before .before .before .before .before .before .before .before .before .pre .0
 
--- src/pieces.rt:124:9
 same-length-2 : tie.Need-same-length-2
 same-length-2 c =
     c .before .before .numbered .kept .1 .1 .0
 
--- src/pieces.rt:124:9
 returns-2 : tie.Need-returns-2
 returns-2 c =
     λ x l h. left-is (ap (λ (n : ℕ). 111 ∷ decimal n) (c .before .before .before .before .before .before .wide .ensures) ∙ opens-operation (c .before .before .before .before .before .before .before .before .before .before .before .before .before .args .words .now) x l h _ _ (c .before .before .before .before .if2 .taken)) (c .before .before .numbered .ensures)
 
--- src/pieces.rt:126:5
 datum-opening-requires : tie.Need-datum-opening-requires
 datum-opening-requires c κs =
     let s = (c .before .before .before .before .before .before .before .before .before .before) in (s .pre .0, (calledBy (s .args .direct) (s .args .called .now), s .pre .1), omega (arith, c .before .before .if1 .left, c .before .if2 .left), omega (arith, s .pre .2))
 
--- src/pieces.rt:105:1
 same-length-3 : tie.Need-same-length-3
 same-length-3 c =
     c .before .before .datum-opening .kept .1 .1 .0
 
--- src/pieces.rt:105:1
 returns-3 : tie.Need-returns-3
 returns-3 c =
     λ x l h. c .before .before .datum-opening .ensures _ x l h
@@ -85,7 +69,7 @@ leaf-spec =
     (tie.spec
     shared-slice-read-code
     shared-slice-read-wide
-    wide-requires
+    (λ c κs. search needs)  -- wide-requires
     variable-requires
     same-length
     returns

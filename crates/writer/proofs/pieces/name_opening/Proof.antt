@@ -12,67 +12,50 @@ use Rattle.writer.specs.LaidLaws.{place-room, place-full, place-then, le
 use Rattle.writer.specs.PiecesLaws.{name-inner, name-quoted}
 use Rattle.writer.specs.Called.{said}
 
--- src/pieces.rt:34:9
 name-requires : tie.Need-name-requires
 name-requires c κs =
     (c .before .before .before .before .pre .0, c .before .before .before .before .pre .1)
 
--- src/pieces.rt:34:9
 same-length : tie.Need-same-length
 same-length c =
     c .before .before .name .kept .1 .1 .0
 
--- src/pieces.rt:34:9
 returns : tie.Need-returns
 returns c =
     λ v. left-is (sym (name-inner (said _ v) _ _ (c .before .before .before .before .if1 .taken))) (c .before .before .name .ensures)
 
--- src/pieces.rt:36:18
-slice-aggregate-copy : tie.Need-slice-aggregate-copy
-slice-aggregate-copy c =
-    search needs
-
--- src/pieces.rt:36:9
 copy-requires : tie.Need-copy-requires
 copy-requires c κs =
     c .before .before .before .before .before .pre .0
 
--- src/pieces.rt:38:9
 same-length-2 : tie.Need-same-length-2
 same-length-2 c =
     c .before .before .before .copy .kept .1 .0
 
--- src/pieces.rt:38:9
 returns-2 : tie.Need-returns-2
 returns-2 c =
     λ v. left-is (sym (name-quoted (said _ v) _ _ (c .before .before .before .before .before .before .if1 .left))) (place-full (c .before .before .before .copy .ensures) _ (c .if2 .taken))
 
--- src/pieces.rt:40:9
 name-requires-2 : tie.Need-name-requires-2
 name-requires-2 c κs =
     (place-room (c .before .before .before .before .copy .ensures) (c .before .if2 .left), c .before .before .before .before .before .before .before .before .before .before .pre .1)
 
--- src/pieces.rt:42:9
 same-length-3 : tie.Need-same-length-3
 same-length-3 c =
     c .before .before .before .name2 .kept .1 .1 .0 ∙ c .before .before .before .before .before .before .before .before .copy .kept .1 .0
 
--- src/pieces.rt:42:9
 returns-3 : tie.Need-returns-3
 returns-3 c =
     λ v. left-is (sym (name-quoted (said _ v) _ _ (c .before .before .before .before .before .before .before .before .before .before .before .if1 .left))) (place-then (c .before .before .before .before .before .before .before .before .copy .ensures) (c .before .before .before .before .before .if2 .left) (place-full (c .before .before .before .name2 .ensures) _ (c .if3 .taken)))
 
--- src/pieces.rt:44:5
 byte-requires : tie.Need-byte-requires
 byte-requires c κs =
     place-room (c .before .before .before .before .name2 .ensures) (c .before .if3 .left)
 
--- src/pieces.rt:29:1
 same-length-4 : tie.Need-same-length-4
 same-length-4 c =
     c .before .before .byte .kept .1 .0 ∙ c .before .before .before .before .before .before .before .name2 .kept .1 .1 .0 ∙ c .before .before .before .before .before .before .before .before .before .before .before .before .copy .kept .1 .0
 
--- src/pieces.rt:29:1
 returns-4 : tie.Need-returns-4
 returns-4 c =
     λ v. left-is (sym (name-quoted (said _ v) _ _ (c .before .before .before .before .before .before .before .before .before .before .before .before .before .before .before .if1 .left))) (place-then (c .before .before .before .before .before .before .before .before .before .before .before .before .copy .ensures) (c .before .before .before .before .before .before .before .before .before .if2 .left) (place-then (c .before .before .before .before .before .before .before .name2 .ensures) (c .before .before .before .before .if3 .left) (c .before .before .byte .ensures)))
@@ -84,7 +67,7 @@ name-opening-spec =
     name-requires
     same-length
     returns
-    slice-aggregate-copy
+    (λ c. search needs)  -- slice-aggregate-copy
     copy-requires
     same-length-2
     returns-2

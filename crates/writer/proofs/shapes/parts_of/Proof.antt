@@ -11,72 +11,51 @@ use lib.ListN.{getD}
 use Rattle.writer.specs.OpenedLaws.{some-words, two-words, three-words, code-most}
 use Rattle.writer.specs.WalkLaws.{shape, shaped-if, shaped-lambda, shaped-leaf, shaped-list, shaped-decimal, shaped-application}
 
--- src/shapes.rt:60:16
 shared-slice-read-code : tie.Need-shared-slice-read-code
 shared-slice-read-code c =
     let o = c .before .before .pre in omega (arith, some-words (c .before .before .args .words .now) (o .it) (o .left) (o .is))
 
--- src/shapes.rt:62:9
 returns : tie.Need-returns
 unfolding shape
 returns c =
     λ x l h. shaped-if (c .before .before .before .args .words .now) x l h (c .if1 .taken)
 
--- src/shapes.rt:70:9
 returns-2 : tie.Need-returns-2
 unfolding shape
 returns-2 c =
     λ x l h. shaped-leaf (c .before .before .before .before .args .words .now) x l h (c .if2 .taken)
 
--- src/shapes.rt:77:22
 shared-slice-read-wide : tie.Need-shared-slice-read-wide
 shared-slice-read-wide c =
     let o = c .before .before .before .before .before .pre in omega (arith, two-words (c .before .before .before .before .before .args .words .now) (o .it) (o .left) (o .is) (c .before .before .if1 .left))
 
--- src/shapes.rt:77:9
-wide-requires : tie.Need-wide-requires
-wide-requires c κs =
-    search needs
-
--- src/shapes.rt:79:9
 returns-3 : tie.Need-returns-3
 unfolding shape
 returns-3 c =
     λ x l h. shaped-list (c .before .before .before .before .before .before .before .args .words .now) x l h _ (c .before .wide .ensures) (c .if3 .taken)
 
--- src/shapes.rt:87:9
 returns-4 : tie.Need-returns-4
 unfolding shape
 returns-4 c =
     λ x l h. shaped-decimal (c .before .before .before .before .before .before .before .before .args .words .now) x l h (c .if4 .taken)
 
--- src/shapes.rt:96:27
 shared-slice-read-wide-2 : tie.Need-shared-slice-read-wide-2
 shared-slice-read-wide-2 c =
     let o = c .before .before .before .before .before .before .before .before .before .before .pre in omega (arith, three-words (c .before .before .before .before .before .before .before .before .before .before .args .words .now) (o .it) (o .left) (o .is) (c .before .if5 .taken))
 
--- src/shapes.rt:96:22
-wide-requires-2 : tie.Need-wide-requires-2
-wide-requires-2 c κs =
-    search needs
-
--- src/shapes.rt:96:18
 add-t11 : tie.Need-add-t11
 add-t11 c =
     omega (arith, c .wide2 .ensures, c .before .shared-slice-known4 .given 2)
 
--- src/shapes.rt:95:9
 returns-5 : tie.Need-returns-5
 unfolding shape
 returns-5 c =
     λ x l h. shaped-lambda (c .before .before .before .before .before .before .before .before .before .before .before .args .words .now) x l h _ (c .wide2 .ensures) (c .before .before .if5 .taken)
 
--- src/shapes.rt:104:16
 add-t12 : tie.Need-add-t12
 add-t12 c =
     omega (arith, c .before .before .before .wide .ensures, c .before .before .before .before .shared-slice-known3 .given 1)
 
--- src/shapes.rt:56:1
 returns-6 : tie.Need-returns-6
 unfolding shape
 returns-6 c =
@@ -91,11 +70,11 @@ parts-of-spec =
     returns
     returns-2
     shared-slice-read-wide
-    wide-requires
+    (λ c κs. search needs)  -- wide-requires
     returns-3
     returns-4
     shared-slice-read-wide-2
-    wide-requires-2
+    (λ c κs. search needs)  -- wide-requires-2
     add-t11
     returns-5
     add-t12

@@ -45,95 +45,44 @@ term-at t = and 4 term-kinds.ps (is 4 term-kinds.ps μ-term t) term.Pre
 abbrev term-below : ℕ → In 4 term-kinds.ps
 term-below t = and 4 term-kinds.ps (falls 4 term-kinds.ps _<_ μ-term t) term.Pre
 
--- src/term.rt:92:8
-part-shared-slice-read-if1 : (t : ℕ) → part-lts.Need-shared-slice-read-if1 (
-  leaf-reads.Asked,
-  leaf-reads.Learnt,
-  term-below t,
-  term.Post,
-) (part-at t) part.Post
+-- what the callees promise
+abbrev P : ℕ → part-lts.Claims
+P t = (leaf-reads.Asked, leaf-reads.Learnt, term-below t, term.Post)
+
+abbrev E : ℕ → term-lts.Claims
+E t = (begin-reads.Asked, begin-reads.Learnt, parts-of-reads.Asked, parts-of-reads.Learnt, gap-reads.Asked, gap-reads.Learnt, part-below t, part.Post, finish-reads.Asked, finish-reads.Learnt)
+
+part-shared-slice-read-if1 : (t : ℕ) → part-lts.Need-shared-slice-read-if1 (P t) (part-at t) part.Post
 part-shared-slice-read-if1 t c =
     let s = (c .before .before .before .before .before) in let o = begins-opened _ _ _ (s .pre .1 .1) in omega (arith, some-words (s .args .words .now) (o .it) (o .left) (o .is))
 
--- src/term.rt:93:13
-part-leaf-requires : (t : ℕ) → part-lts.Need-leaf-requires (
-  leaf-reads.Asked,
-  leaf-reads.Learnt,
-  term-below t,
-  term.Post,
-) (part-at t) part.Post
+part-leaf-requires : (t : ℕ) → part-lts.Need-leaf-requires (P t) (part-at t) part.Post
 part-leaf-requires t c κs =
     let s = (c .before .before .before .before .before .before .before) in (s .pre .1 .0, begins-opened _ _ _ (s .pre .1 .1), c .before .if1 .taken, s .pre .1 .2)
 
--- src/term.rt:95:13
-part-same-length : (t : ℕ) → part-lts.Need-same-length (
-  leaf-reads.Asked,
-  leaf-reads.Learnt,
-  term-below t,
-  term.Post,
-) (part-at t) part.Post
+part-same-length : (t : ℕ) → part-lts.Need-same-length (P t) (part-at t) part.Post
 part-same-length t c =
     c .before .before .before .leaf .kept .1 .1 .0
 
--- src/term.rt:95:13
-part-returns : (t : ℕ) → part-lts.Need-returns (
-  leaf-reads.Asked,
-  leaf-reads.Learnt,
-  term-below t,
-  term.Post,
-) (part-at t) part.Post
+part-returns : (t : ℕ) → part-lts.Need-returns (P t) (part-at t) part.Post
 part-returns t c =
     let s = (c .before .before .before .before .before .before .before .before .before .before .before) in let w = s .args .words .now in
     for-any _ _ _ w (s .pre .1 .1) _ _ _ _ (open-stops _ _ _ w (s .pre .1 .1) _ _ _ _ (c .before .before .before .leaf .ensures) (put-full _ (c .if2 .taken)))
 
--- src/term.rt:97:9
-part-same-length-2 : (t : ℕ) → part-lts.Need-same-length-2 (
-  leaf-reads.Asked,
-  leaf-reads.Learnt,
-  term-below t,
-  term.Post,
-) (part-at t) part.Post
+part-same-length-2 : (t : ℕ) → part-lts.Need-same-length-2 (P t) (part-at t) part.Post
 part-same-length-2 t c =
     c .before .before .before .leaf .kept .1 .1 .0
 
--- src/term.rt:97:9
-part-returns-2 : (t : ℕ) → part-lts.Need-returns-2 (
-  leaf-reads.Asked,
-  leaf-reads.Learnt,
-  term-below t,
-  term.Post,
-) (part-at t) part.Post
+part-returns-2 : (t : ℕ) → part-lts.Need-returns-2 (P t) (part-at t) part.Post
 part-returns-2 t c =
     let s = (c .before .before .before .before .before .before .before .before .before .before .before) in let w = s .args .words .now in
     for-any _ _ _ w (s .pre .1 .1) _ _ _ _ (leaf-walked _ _ _ w (s .pre .1 .1) _ _ _ _ (c .before .before .before .leaf .ensures) (c .before .before .before .before .before .if1 .taken) _ (put-done _ (c .if2 .left)))
 
--- src/term.rt:99:5
-part-term-requires : (t : ℕ) → part-lts.Need-term-requires (
-  leaf-reads.Asked,
-  leaf-reads.Learnt,
-  term-below t,
-  term.Post,
-) (part-at t) part.Post
-part-term-requires t c κs =
-    search needs
-
--- src/term.rt:79:1
-part-same-length-3 : (t : ℕ) → part-lts.Need-same-length-3 (
-  leaf-reads.Asked,
-  leaf-reads.Learnt,
-  term-below t,
-  term.Post,
-) (part-at t) part.Post
+part-same-length-3 : (t : ℕ) → part-lts.Need-same-length-3 (P t) (part-at t) part.Post
 part-same-length-3 t c =
     c .before .before .term .kept .1 .1 .0
 
--- src/term.rt:79:1
-part-returns-3 : (t : ℕ) → part-lts.Need-returns-3 (
-  leaf-reads.Asked,
-  leaf-reads.Learnt,
-  term-below t,
-  term.Post,
-) (part-at t) part.Post
+part-returns-3 : (t : ℕ) → part-lts.Need-returns-3 (P t) (part-at t) part.Post
 part-returns-3 t c =
     c .before .before .term .ensures
 
@@ -145,429 +94,92 @@ abbrev term-μ-loop : term-lts.MeasureT-loop
 term-μ-loop words names out₀ at inner ink called direct opened quoted from₀ left₀ wanted₀ to₀ out from left wanted to =
     left
 
--- src/term.rt:39:9
-term-begin-requires : (t : ℕ) → term-lts.Need-begin-requires (
-  begin-reads.Asked,
-  begin-reads.Learnt,
-  parts-of-reads.Asked,
-  parts-of-reads.Learnt,
-  gap-reads.Asked,
-  gap-reads.Learnt,
-  part-below t,
-  part.Post,
-  finish-reads.Asked,
-  finish-reads.Learnt,
-) (term-at t) term.Post term-Inv-loop term-μ-loop
+term-begin-requires : (t : ℕ) → term-lts.Need-begin-requires (E t) (term-at t) term.Post term-Inv-loop term-μ-loop
 term-begin-requires t c κs =
     (c .before .before .before .before .before .pre .1 .0, begins-opened _ _ _ (c .before .before .before .before .before .pre .1 .1), c .before .before .before .before .before .pre .1 .2)
 
--- src/term.rt:41:9
-term-same-length : (t : ℕ) → term-lts.Need-same-length (
-  begin-reads.Asked,
-  begin-reads.Learnt,
-  parts-of-reads.Asked,
-  parts-of-reads.Learnt,
-  gap-reads.Asked,
-  gap-reads.Learnt,
-  part-below t,
-  part.Post,
-  finish-reads.Asked,
-  finish-reads.Learnt,
-) (term-at t) term.Post term-Inv-loop term-μ-loop
+term-same-length : (t : ℕ) → term-lts.Need-same-length (E t) (term-at t) term.Post term-Inv-loop term-μ-loop
 term-same-length t c =
     c .before .before .before .begin .kept .1 .1 .0
 
--- src/term.rt:41:9
-term-returns : (t : ℕ) → term-lts.Need-returns (
-  begin-reads.Asked,
-  begin-reads.Learnt,
-  parts-of-reads.Asked,
-  parts-of-reads.Learnt,
-  gap-reads.Asked,
-  gap-reads.Learnt,
-  part-below t,
-  part.Post,
-  finish-reads.Asked,
-  finish-reads.Learnt,
-) (term-at t) term.Post term-Inv-loop term-μ-loop
+term-returns : (t : ℕ) → term-lts.Need-returns (E t) (term-at t) term.Post term-Inv-loop term-μ-loop
 term-returns t c =
     for-any _ _ _ (c .before .before .before .before .before .before .before .before .before .args .words .now) (c .before .before .before .before .before .before .before .before .before .pre .1 .1) _ _ _ _ (open-stops _ _ _ (c .before .before .before .before .before .before .before .before .before .args .words .now) (c .before .before .before .before .before .before .before .before .before .pre .1 .1) _ _ _ _ (c .before .before .before .begin .ensures) (put-full _ (c .if1 .taken)))
 
--- src/term.rt:43:9
-term-parts-of-requires : (t : ℕ) → term-lts.Need-parts-of-requires (
-  begin-reads.Asked,
-  begin-reads.Learnt,
-  parts-of-reads.Asked,
-  parts-of-reads.Learnt,
-  gap-reads.Asked,
-  gap-reads.Learnt,
-  part-below t,
-  part.Post,
-  finish-reads.Asked,
-  finish-reads.Learnt,
-) (term-at t) term.Post term-Inv-loop term-μ-loop
+term-parts-of-requires : (t : ℕ) → term-lts.Need-parts-of-requires (E t) (term-at t) term.Post term-Inv-loop term-μ-loop
 term-parts-of-requires t c κs =
     begins-here _ _ _ (c .before .before .before .before .before .before .before .before .before .pre .1 .1)
 
--- src/term.rt:49:5
-term-loop-holds : (t : ℕ) → term-lts.Need-loop-holds (
-  begin-reads.Asked,
-  begin-reads.Learnt,
-  parts-of-reads.Asked,
-  parts-of-reads.Learnt,
-  gap-reads.Asked,
-  gap-reads.Learnt,
-  part-below t,
-  part.Post,
-  finish-reads.Asked,
-  finish-reads.Learnt,
-) (term-at t) term.Post term-Inv-loop term-μ-loop
+term-loop-holds : (t : ℕ) → term-lts.Need-loop-holds (E t) (term-at t) term.Post term-Inv-loop term-μ-loop
 term-loop-holds t c =
     going-start _ _ _ _ (c .before .before .before .before .before .before .before .before .before .before .args .words .now) _ _ (c .before .before .before .before .before .before .before .before .before .before .pre .1 .1) (c .parts-of .result) refl (c .parts-of .ensures _ _ (begins-node _ _ (c .before .before .before .before .before .before .before .before .before .before .args .words .now) (c .before .before .before .before .before .before .before .before .before .before .pre .1 .1))) (place-room (c .before .before .before .before .begin .ensures _ _ (begins-node _ _ (c .before .before .before .before .before .before .before .before .before .before .args .words .now) (c .before .before .before .before .before .before .before .before .before .before .pre .1 .1))) (c .before .if1 .left))
 
--- src/term.rt:50:13
-term-gap-requires : (t : ℕ) → term-lts.Need-gap-requires (
-  begin-reads.Asked,
-  begin-reads.Learnt,
-  parts-of-reads.Asked,
-  parts-of-reads.Learnt,
-  gap-reads.Asked,
-  gap-reads.Learnt,
-  part-below t,
-  part.Post,
-  finish-reads.Asked,
-  finish-reads.Learnt,
-) (term-at t) term.Post term-Inv-loop term-μ-loop
+term-gap-requires : (t : ℕ) → term-lts.Need-gap-requires (E t) (term-at t) term.Post term-Inv-loop term-μ-loop
 term-gap-requires t c κs =
     left-room (c .before .before .loop .inv .laid) _ refl
 
--- src/term.rt:52:13
-term-same-length-2 : (t : ℕ) → term-lts.Need-same-length-2 (
-  begin-reads.Asked,
-  begin-reads.Learnt,
-  parts-of-reads.Asked,
-  parts-of-reads.Learnt,
-  gap-reads.Asked,
-  gap-reads.Learnt,
-  part-below t,
-  part.Post,
-  finish-reads.Asked,
-  finish-reads.Learnt,
-) (term-at t) term.Post term-Inv-loop term-μ-loop
+term-same-length-2 : (t : ℕ) → term-lts.Need-same-length-2 (E t) (term-at t) term.Post term-Inv-loop term-μ-loop
 term-same-length-2 t c =
     c .before .before .before .gap .kept .1 .0 ∙ left-length (c .before .before .before .before .before .before .loop .inv .laid) _ refl ∙ c .before .before .before .before .before .before .before .before .before .before .before .begin .kept .1 .1 .0
 
--- src/term.rt:52:13
-term-returns-2 : (t : ℕ) → term-lts.Need-returns-2 (
-  begin-reads.Asked,
-  begin-reads.Learnt,
-  parts-of-reads.Asked,
-  parts-of-reads.Learnt,
-  gap-reads.Asked,
-  gap-reads.Learnt,
-  part-below t,
-  part.Post,
-  finish-reads.Asked,
-  finish-reads.Learnt,
-) (term-at t) term.Post term-Inv-loop term-μ-loop
+term-returns-2 : (t : ℕ) → term-lts.Need-returns-2 (E t) (term-at t) term.Post term-Inv-loop term-μ-loop
 term-returns-2 t c =
     let g = c .before .before .before .before .before .before .loop .inv in for-any _ _ _ (c .before .before .before .before .before .before .before .before .before .before .before .before .before .before .before .before .before .args .words .now) (g .whole) _ _ _ _ (parts-stop _ _ _ (c .before .before .before .before .before .before .before .before .before .before .before .before .before .before .before .before .before .args .words .now) (g .whole) _ _ _ _ (c .before .before .before .before .before .before .before .before .before .before .before .begin .ensures) _ (put-done _ (c .before .before .before .before .before .before .before .before .if1 .left)) _ (g .inner′) _ (gap-full _ _ _ _ (c .before .before .before .before .before .before .before .before .before .before .before .before .before .before .before .before .before .args .words .now) _ _ _ _ _ _ _ g (omega arith) _ _ (c .before .before .before .gap .ensures) (put-full _ (c .if2 .taken))))
 
--- src/term.rt:55:13
-term-mul-part : (t : ℕ) → term-lts.Need-mul-part (
-  begin-reads.Asked,
-  begin-reads.Learnt,
-  parts-of-reads.Asked,
-  parts-of-reads.Learnt,
-  gap-reads.Asked,
-  gap-reads.Learnt,
-  part-below t,
-  part.Post,
-  finish-reads.Asked,
-  finish-reads.Learnt,
-) (term-at t) term.Post term-Inv-loop term-μ-loop
+term-mul-part : (t : ℕ) → term-lts.Need-mul-part (E t) (term-at t) term.Post term-Inv-loop term-μ-loop
 term-mul-part t c =
     let l = going-inside _ _ _ _ (c .before .before .before .before .before .before .before .before .before .before .before .before .before .before .before .before .before .args .words .now) _ _ _ _ _ _ _ (c .before .before .before .before .before .before .loop .inv) in omega (arith, c .before .before .before .before .before .before .before .before .before .before .before .before .before .before .before .before .before .good .0 .1)
 
--- src/term.rt:55:13
-term-sub-part : (t : ℕ) → term-lts.Need-sub-part (
-  begin-reads.Asked,
-  begin-reads.Learnt,
-  parts-of-reads.Asked,
-  parts-of-reads.Learnt,
-  gap-reads.Asked,
-  gap-reads.Learnt,
-  part-below t,
-  part.Post,
-  finish-reads.Asked,
-  finish-reads.Learnt,
-) (term-at t) term.Post term-Inv-loop term-μ-loop
+term-sub-part : (t : ℕ) → term-lts.Need-sub-part (E t) (term-at t) term.Post term-Inv-loop term-μ-loop
 term-sub-part t c =
     let l = going-inside _ _ _ _ (c .before .before .before .before .before .before .before .before .before .before .before .before .before .before .before .before .before .args .words .now) _ _ _ _ _ _ _ (c .before .before .before .before .before .before .loop .inv) in omega arith
 
--- src/term.rt:55:13
-term-part-part-start : (t : ℕ) → term-lts.Need-part-part-start (
-  begin-reads.Asked,
-  begin-reads.Learnt,
-  parts-of-reads.Asked,
-  parts-of-reads.Learnt,
-  gap-reads.Asked,
-  gap-reads.Learnt,
-  part-below t,
-  part.Post,
-  finish-reads.Asked,
-  finish-reads.Learnt,
-) (term-at t) term.Post term-Inv-loop term-μ-loop
+term-part-part-start : (t : ℕ) → term-lts.Need-part-part-start (E t) (term-at t) term.Post term-Inv-loop term-μ-loop
 term-part-part-start t c =
     let l = going-inside _ _ _ _ (c .before .before .before .before .before .before .before .before .before .before .before .before .before .before .before .before .before .args .words .now) _ _ _ _ _ _ _ (c .before .before .before .before .before .before .loop .inv) in omega arith
 
--- src/term.rt:55:13
-term-part-part-end : (t : ℕ) → term-lts.Need-part-part-end (
-  begin-reads.Asked,
-  begin-reads.Learnt,
-  parts-of-reads.Asked,
-  parts-of-reads.Learnt,
-  gap-reads.Asked,
-  gap-reads.Learnt,
-  part-below t,
-  part.Post,
-  finish-reads.Asked,
-  finish-reads.Learnt,
-) (term-at t) term.Post term-Inv-loop term-μ-loop
-term-part-part-end t c =
-    search needs
-
--- src/term.rt:54:40
-term-part-requires : (t : ℕ) → term-lts.Need-part-requires (
-  begin-reads.Asked,
-  begin-reads.Learnt,
-  parts-of-reads.Asked,
-  parts-of-reads.Learnt,
-  gap-reads.Asked,
-  gap-reads.Learnt,
-  part-below t,
-  part.Post,
-  finish-reads.Asked,
-  finish-reads.Learnt,
-) (term-at t) term.Post term-Inv-loop term-μ-loop
+term-part-requires : (t : ℕ) → term-lts.Need-part-requires (E t) (term-at t) term.Post term-Inv-loop term-μ-loop
 term-part-requires t c κs =
     let g = c .before .before .before .before .before .before .before .before .loop .inv in (omega (arith, going-shorter _ _ _ _ (c .before .before .before .before .before .before .before .before .before .before .before .before .before .before .before .before .before .before .before .args .words .now) _ _ _ _ _ _ _ g, c .before .before .before .before .before .before .before .before .before .before .before .before .before .before .before .before .before .before .before .pre .0), (place-room (c .before .before .before .before .before .gap .ensures) (c .before .before .if2 .left), going-next _ _ _ _ (c .before .before .before .before .before .before .before .before .before .before .before .before .before .before .before .before .before .before .before .args .words .now) _ _ _ _ _ _ _ g (omega arith), c .before .before .before .before .before .before .before .before .before .before .before .before .before .before .before .before .before .before .before .pre .1 .2))
 
--- src/term.rt:54:24
-term-enum-known-used : (t : ℕ) → term-lts.Need-enum-known-used (
-  begin-reads.Asked,
-  begin-reads.Learnt,
-  parts-of-reads.Asked,
-  parts-of-reads.Learnt,
-  gap-reads.Asked,
-  gap-reads.Learnt,
-  part-below t,
-  part.Post,
-  finish-reads.Asked,
-  finish-reads.Learnt,
-) (term-at t) term.Post term-Inv-loop term-μ-loop
-term-enum-known-used t c =
-    search needs
-
--- src/term.rt:64:13
-term-enum-told : (t : ℕ) → term-lts.Need-enum-told (
-  begin-reads.Asked,
-  begin-reads.Learnt,
-  parts-of-reads.Asked,
-  parts-of-reads.Learnt,
-  gap-reads.Asked,
-  gap-reads.Learnt,
-  part-below t,
-  part.Post,
-  finish-reads.Asked,
-  finish-reads.Learnt,
-) (term-at t) term.Post term-Inv-loop term-μ-loop
-term-enum-told t c =
-    search needs
-
--- src/term.rt:64:13
-term-same-length-3 : (t : ℕ) → term-lts.Need-same-length-3 (
-  begin-reads.Asked,
-  begin-reads.Learnt,
-  parts-of-reads.Asked,
-  parts-of-reads.Learnt,
-  gap-reads.Asked,
-  gap-reads.Learnt,
-  part-below t,
-  part.Post,
-  finish-reads.Asked,
-  finish-reads.Learnt,
-) (term-at t) term.Post term-Inv-loop term-μ-loop
+term-same-length-3 : (t : ℕ) → term-lts.Need-same-length-3 (E t) (term-at t) term.Post term-Inv-loop term-μ-loop
 term-same-length-3 t c =
     c .before .before .before .before .part .kept .1 .1 .0 ∙ c .before .before .before .before .before .before .before .before .before .before .gap .kept .1 .0 ∙ left-length (c .before .before .before .before .before .before .before .before .before .before .before .before .before .loop .inv .laid) _ refl ∙ c .before .before .before .before .before .before .before .before .before .before .before .before .before .before .before .before .before .before .begin .kept .1 .1 .0
 
--- src/term.rt:64:13
-term-returns-3 : (t : ℕ) → term-lts.Need-returns-3 (
-  begin-reads.Asked,
-  begin-reads.Learnt,
-  parts-of-reads.Asked,
-  parts-of-reads.Learnt,
-  gap-reads.Asked,
-  gap-reads.Learnt,
-  part-below t,
-  part.Post,
-  finish-reads.Asked,
-  finish-reads.Learnt,
-) (term-at t) term.Post term-Inv-loop term-μ-loop
+term-returns-3 : (t : ℕ) → term-lts.Need-returns-3 (E t) (term-at t) term.Post term-Inv-loop term-μ-loop
 term-returns-3 t c =
     let g = c .before .before .before .before .before .before .before .before .before .before .before .before .before .loop .inv in for-any _ _ _ (c .before .before .before .before .before .before .before .before .before .before .before .before .before .before .before .before .before .before .before .before .before .before .before .before .args .words .now) (g .whole) _ _ _ _ (parts-stop _ _ _ (c .before .before .before .before .before .before .before .before .before .before .before .before .before .before .before .before .before .before .before .before .before .before .before .before .args .words .now) (g .whole) _ _ _ _ (c .before .before .before .before .before .before .before .before .before .before .before .before .before .before .before .before .before .before .begin .ensures) _ (put-done _ (c .before .before .before .before .before .before .before .before .before .before .before .before .before .before .before .if1 .left)) _ (g .inner′) _ (part-full _ _ _ _ (c .before .before .before .before .before .before .before .before .before .before .before .before .before .before .before .before .before .before .before .before .before .before .before .before .args .words .now) _ _ _ _ _ _ _ g (omega arith) _ _ (c .before .before .before .before .before .before .before .before .before .before .gap .ensures) _ (put-done _ (c .before .before .before .before .before .before .before .if2 .left)) _ _ (c .before .before .before .before .part .ensures) (c .enum-told .given .1)))
 
--- src/term.rt:66:16
-term-add-from : (t : ℕ) → term-lts.Need-add-from (
-  begin-reads.Asked,
-  begin-reads.Learnt,
-  parts-of-reads.Asked,
-  parts-of-reads.Learnt,
-  gap-reads.Asked,
-  gap-reads.Learnt,
-  part-below t,
-  part.Post,
-  finish-reads.Asked,
-  finish-reads.Learnt,
-) (term-at t) term.Post term-Inv-loop term-μ-loop
+term-add-from : (t : ℕ) → term-lts.Need-add-from (E t) (term-at t) term.Post term-Inv-loop term-μ-loop
 term-add-from t c =
     let g = c .before .before .before .before .before .before .before .before .before .before .before .before .before .before .loop .inv in omega (arith, c .before .before .before .before .before .before .before .before .before .before .before .before .before .before .before .before .before .before .before .before .before .before .before .before .before .good .0 .1, part-inside _ _ _ _ (c .before .before .before .before .before .before .before .before .before .before .before .before .before .before .before .before .before .before .before .before .before .before .before .before .before .args .words .now) _ _ _ _ _ _ _ g (omega arith) _ _ (c .before .before .before .before .before .before .before .before .before .before .before .gap .ensures) _ (put-done _ (c .before .before .before .before .before .before .before .before .if2 .left)) _ _ (c .before .before .before .before .before .part .ensures) _ _ (c .before .used .given .1))
 
--- src/term.rt:69:16
-term-sub-left : (t : ℕ) → term-lts.Need-sub-left (
-  begin-reads.Asked,
-  begin-reads.Learnt,
-  parts-of-reads.Asked,
-  parts-of-reads.Learnt,
-  gap-reads.Asked,
-  gap-reads.Learnt,
-  part-below t,
-  part.Post,
-  finish-reads.Asked,
-  finish-reads.Learnt,
-) (term-at t) term.Post term-Inv-loop term-μ-loop
-term-sub-left t c =
-    search needs
-
--- src/term.rt:49:5
-term-loop-less : (t : ℕ) → term-lts.Need-loop-less (
-  begin-reads.Asked,
-  begin-reads.Learnt,
-  parts-of-reads.Asked,
-  parts-of-reads.Learnt,
-  gap-reads.Asked,
-  gap-reads.Learnt,
-  part-below t,
-  part.Post,
-  finish-reads.Asked,
-  finish-reads.Learnt,
-) (term-at t) term.Post term-Inv-loop term-μ-loop
-term-loop-less t c =
-    search needs
-
--- src/term.rt:49:5
-term-loop-again : (t : ℕ) → term-lts.Need-loop-again (
-  begin-reads.Asked,
-  begin-reads.Learnt,
-  parts-of-reads.Asked,
-  parts-of-reads.Learnt,
-  gap-reads.Asked,
-  gap-reads.Learnt,
-  part-below t,
-  part.Post,
-  finish-reads.Asked,
-  finish-reads.Learnt,
-) (term-at t) term.Post term-Inv-loop term-μ-loop
+term-loop-again : (t : ℕ) → term-lts.Need-loop-again (E t) (term-at t) term.Post term-Inv-loop term-μ-loop
 term-loop-again t c =
     let g = c .before .before .before .before .before .before .before .before .before .before .before .before .before .before .loop .inv in going-on _ _ _ _ (c .before .before .before .before .before .before .before .before .before .before .before .before .before .before .before .before .before .before .before .before .before .before .before .before .before .args .words .now) _ _ _ _ _ _ _ g (omega arith) _ _ (c .before .before .before .before .before .before .before .before .before .before .before .gap .ensures) _ (put-done _ (c .before .before .before .before .before .before .before .before .if2 .left)) _ _ (c .before .before .before .before .before .part .ensures) _ _ (c .before .used .given .1)
 
--- src/term.rt:71:9
-term-finish-requires : (t : ℕ) → term-lts.Need-finish-requires (
-  begin-reads.Asked,
-  begin-reads.Learnt,
-  parts-of-reads.Asked,
-  parts-of-reads.Learnt,
-  gap-reads.Asked,
-  gap-reads.Learnt,
-  part-below t,
-  part.Post,
-  finish-reads.Asked,
-  finish-reads.Learnt,
-) (term-at t) term.Post term-Inv-loop term-μ-loop
+term-finish-requires : (t : ℕ) → term-lts.Need-finish-requires (E t) (term-at t) term.Post term-Inv-loop term-μ-loop
 term-finish-requires t c κs =
     let g = c .before .before .loop .inv in (left-room (g .laid) _ refl, some-words (c .before .before .before .before .before .before .before .before .before .before .before .before .before .args .words .now) _ _ (begins-node _ _ (c .before .before .before .before .before .before .before .before .before .before .before .before .before .args .words .now) (g .whole)))
 
--- src/term.rt:73:9
-term-same-length-4 : (t : ℕ) → term-lts.Need-same-length-4 (
-  begin-reads.Asked,
-  begin-reads.Learnt,
-  parts-of-reads.Asked,
-  parts-of-reads.Learnt,
-  gap-reads.Asked,
-  gap-reads.Learnt,
-  part-below t,
-  part.Post,
-  finish-reads.Asked,
-  finish-reads.Learnt,
-) (term-at t) term.Post term-Inv-loop term-μ-loop
+term-same-length-4 : (t : ℕ) → term-lts.Need-same-length-4 (E t) (term-at t) term.Post term-Inv-loop term-μ-loop
 term-same-length-4 t c =
     c .before .before .before .finish .kept .1 .0 ∙ left-length (c .before .before .before .before .before .before .loop .inv .laid) _ refl ∙ c .before .before .before .before .before .before .before .before .before .before .before .begin .kept .1 .1 .0
 
--- src/term.rt:73:9
-term-returns-4 : (t : ℕ) → term-lts.Need-returns-4 (
-  begin-reads.Asked,
-  begin-reads.Learnt,
-  parts-of-reads.Asked,
-  parts-of-reads.Learnt,
-  gap-reads.Asked,
-  gap-reads.Learnt,
-  part-below t,
-  part.Post,
-  finish-reads.Asked,
-  finish-reads.Learnt,
-) (term-at t) term.Post term-Inv-loop term-μ-loop
+term-returns-4 : (t : ℕ) → term-lts.Need-returns-4 (E t) (term-at t) term.Post term-Inv-loop term-μ-loop
 term-returns-4 t c =
     let g = c .before .before .before .before .before .before .loop .inv in for-any _ _ _ (c .before .before .before .before .before .before .before .before .before .before .before .before .before .before .before .before .before .args .words .now) (g .whole) _ _ _ _ (close-stops _ _ _ (c .before .before .before .before .before .before .before .before .before .before .before .before .before .before .before .before .before .args .words .now) (g .whole) _ _ _ _ (c .before .before .before .before .before .before .before .before .before .before .before .begin .ensures) _ (put-done _ (c .before .before .before .before .before .before .before .before .if1 .left)) _ (g .inner′) _ _ (going-end _ _ _ _ (c .before .before .before .before .before .before .before .before .before .before .before .before .before .before .before .before .before .args .words .now) _ _ _ _ _ _ _ g (omega arith) .1) _ _ (c .before .before .before .finish .ensures) (put-full _ (c .if3 .taken)))
 
--- src/term.rt:26:1
-term-same-length-5 : (t : ℕ) → term-lts.Need-same-length-5 (
-  begin-reads.Asked,
-  begin-reads.Learnt,
-  parts-of-reads.Asked,
-  parts-of-reads.Learnt,
-  gap-reads.Asked,
-  gap-reads.Learnt,
-  part-below t,
-  part.Post,
-  finish-reads.Asked,
-  finish-reads.Learnt,
-) (term-at t) term.Post term-Inv-loop term-μ-loop
+term-same-length-5 : (t : ℕ) → term-lts.Need-same-length-5 (E t) (term-at t) term.Post term-Inv-loop term-μ-loop
 term-same-length-5 t c =
     c .before .before .before .finish .kept .1 .0 ∙ left-length (c .before .before .before .before .before .before .loop .inv .laid) _ refl ∙ c .before .before .before .before .before .before .before .before .before .before .before .begin .kept .1 .1 .0
 
--- src/term.rt:26:1
-term-returns-5 : (t : ℕ) → term-lts.Need-returns-5 (
-  begin-reads.Asked,
-  begin-reads.Learnt,
-  parts-of-reads.Asked,
-  parts-of-reads.Learnt,
-  gap-reads.Asked,
-  gap-reads.Learnt,
-  part-below t,
-  part.Post,
-  finish-reads.Asked,
-  finish-reads.Learnt,
-) (term-at t) term.Post term-Inv-loop term-μ-loop
+term-returns-5 : (t : ℕ) → term-lts.Need-returns-5 (E t) (term-at t) term.Post term-Inv-loop term-μ-loop
 term-returns-5 t c =
     let g = c .before .before .before .before .before .before .loop .inv in let z = going-end _ _ _ _ (c .before .before .before .before .before .before .before .before .before .before .before .before .before .before .before .before .before .args .words .now) _ _ _ _ _ _ _ g (omega arith) in for-any _ _ _ (c .before .before .before .before .before .before .before .before .before .before .before .before .before .before .before .before .before .args .words .now) (g .whole) _ _ _ _ (all-walked _ _ _ (c .before .before .before .before .before .before .before .before .before .before .before .before .before .before .before .before .before .args .words .now) (g .whole) _ _ _ _ (c .before .before .before .before .before .before .before .before .before .before .before .begin .ensures) _ (put-done _ (c .before .before .before .before .before .before .before .before .if1 .left)) _ (g .inner′) _ _ (z .1) _ _ (c .before .before .before .finish .ensures) _ _ (z .0) (put-done _ (c .if3 .left)))
 
 pub +part+term-spec : {M : Type 1} → statement M
-+part+term-spec = close μ-part μ-term (λ t. part-lts.spec (
-  leaf-reads.Asked,
-  leaf-reads.Learnt,
-  term-below t,
-  term.Post,
-)
++part+term-spec = close μ-part μ-term (λ t. part-lts.spec (P t)
     (part-at t)
     part.Post
     (part-shared-slice-read-if1 t)
@@ -576,21 +188,10 @@ pub +part+term-spec : {M : Type 1} → statement M
     (part-returns t)
     (part-same-length-2 t)
     (part-returns-2 t)
-    (part-term-requires t)
+    (λ c κs. search needs)  -- part-term-requires
     (part-same-length-3 t)
     (part-returns-3 t))
-    λ t. term-lts.spec (
-      begin-reads.Asked,
-      begin-reads.Learnt,
-      parts-of-reads.Asked,
-      parts-of-reads.Learnt,
-      gap-reads.Asked,
-      gap-reads.Learnt,
-      part-below t,
-      part.Post,
-      finish-reads.Asked,
-      finish-reads.Learnt,
-    )
+    λ t. term-lts.spec (E t)
     (term-at t)
     term.Post
     term-Inv-loop
@@ -606,15 +207,15 @@ pub +part+term-spec : {M : Type 1} → statement M
     (term-mul-part t)
     (term-sub-part t)
     (term-part-part-start t)
-    (term-part-part-end t)
+    (λ c. search needs)  -- term-part-part-end
     (term-part-requires t)
-    (term-enum-known-used t)
-    (term-enum-told t)
+    (λ c. search needs)  -- term-enum-known-used
+    (λ c. search needs)  -- term-enum-told
     (term-same-length-3 t)
     (term-returns-3 t)
     (term-add-from t)
-    (term-sub-left t)
-    (term-loop-less t)
+    (λ c. search needs)  -- term-sub-left
+    (λ c. search needs)  -- term-loop-less
     (term-loop-again t)
     (term-finish-requires t)
     (term-same-length-4 t)
