@@ -27,13 +27,13 @@ extern "C" {
 #define GREBETALLBOY_CORE_WORDS(items, fuel) (3 * ((size_t)(items) + (size_t)(fuel)))
 
 /* What to lend for writing so many words (at most 10^9) so that the text of any term fits: bytes of output. */
-#define GREBETALLBOY_TEXT_BYTES(words) (36 * (size_t)(words))
+#define GREBETALLBOY_TEXT_BYTES(words) (57 * (size_t)(words))
 
 /* Bytes of stack that a call takes at most: reading; expanding so many items (at most 4,096) with so much fuel (at most 8,192);
  * writing so many words. */
 #define GREBETALLBOY_READ_STACK ((size_t)16384)
 #define GREBETALLBOY_EXPAND_STACK(items, fuel) (262144 + 512 * ((size_t)(items) + (size_t)(fuel)))
-#define GREBETALLBOY_WRITE_STACK(words) (16384 + 256 * (size_t)(words))
+#define GREBETALLBOY_WRITE_STACK(words) (49152 + 256 * (size_t)(words))
 
 /* Reads a recipe text of at most 65,535 bytes. Accepted: counts has the items (three words each) and the names, then 0.
  * An item's first word is its kind: 0 empty list, 1 integer, 2 boolean, 3 name, 4 pair, 5 decimal (its value without the dot, and
@@ -42,14 +42,16 @@ uint32_t grebetallboy_read(const uint8_t *text, size_t text_count, uint32_t *ite
                            size_t names_count, uint64_t *counts, size_t counts_count);
 
 /* Expands an item table. Accepted: counts has the steps, the sum of items and the words of the term, which begin the core table.
- * A decimal in it has three words: 9, its value without the dot, and its places.
+ * A decimal in it has three words: 9, its value without the dot, and its places. A lambda has 7, its first variable's number, their
+ * count, and for each the number of its name, before the words of its body.
  * Refused by 11 to 18: the steps and the sum so far, then 0.
  * Where neither 8, 9 nor 18 is answered, the sum is the least fuel that gives this answer, and every fuel from it to 8,192
  * gives it too, in tables for that fuel. */
 uint32_t grebetallboy_expand(const uint32_t *items, size_t items_count, uint32_t fuel, uint32_t *work, size_t work_count,
                              uint32_t *core, size_t core_count, uint64_t *counts, size_t counts_count);
 
-/* Writes the text of a core term, with so many operations (256 where none is known). Accepted: counts has its length, then 0, 0. */
+/* Writes the text of a core term, with so many operations (256 where none is known). A variable is written with its name, as v0.t;
+ * where a term has more than 6,144 variables, each of its names is looked for in the words, and the time is no longer linear. Accepted: counts has its length, then 0, 0. */
 uint32_t grebetallboy_write(const uint32_t *words, size_t words_count, uint32_t operations, const uint8_t *names,
                             size_t names_count, uint8_t *out, size_t out_count, uint64_t *counts, size_t counts_count);
 

@@ -5,10 +5,12 @@ use mathlib.Core.List.{List}
 use mathlib.Core.Option.{Option, none, some}
 use Prim.Native.Nat.{ℕ, _+_}
 use lib.Dec.{eqb, ltb, leb}
+use lib.ListN.{length}
 use Rattle.words.specs.Limits.{operationsMost, namesMost}
+use Rattle.words.specs.Lists.{allOf}
 use Rattle.datum.specs.Datum as D
 use Rattle.core_term.specs.Node.{Node, variableN, operationN, constantN, nameN, listN, ifN, lambdaN, applicationN}
-use Rattle.core_term.specs.Term.{Term, Plain, count, variables}
+use Rattle.core_term.specs.Term.{Plain, count, variables}
 use Rattle.core_term.specs.Every.{Asked, every, everyDatum}
 use Rattle.core_term.specs.Decode.{decode}
 
@@ -29,7 +31,7 @@ inside s b (constantN a) = s
 inside s b (nameN n) = s
 inside s b (listN n) = s
 inside s b ifN = s
-inside s b (lambdaN first n) = λ k. (leb first k && ltb k (first + n)) || s k
+inside s b (lambdaN first names) = λ k. (leb first k && ltb k (first + length names)) || s k
 inside s b (applicationN n) = s
 
 -- each variable inside its lambda
@@ -40,7 +42,7 @@ variableInside s b (constantN a) = true
 variableInside s b (nameN n) = true
 variableInside s b (listN n) = true
 variableInside s b ifN = true
-variableInside s b (lambdaN first n) = true
+variableInside s b (lambdaN first names) = true
 variableInside s b (applicationN n) = true
 
 -- each lambda's first number the count of variables before it
@@ -51,10 +53,10 @@ firstNumber s b (constantN a) = true
 firstNumber s b (nameN n) = true
 firstNumber s b (listN n) = true
 firstNumber s b ifN = true
-firstNumber s b (lambdaN first n) = eqb first b
+firstNumber s b (lambdaN first names) = eqb first b
 firstNumber s b (applicationN n) = true
 
--- operations below the count, and good names
+-- operations below the count, and good names: quoted ones, and those of a lambda's variables, used or not
 unfoldable pub known : ℕ → (ℕ → Bool) → Scope → ℕ → Node → Bool
 known operations nameGood s b (variableN n) = true
 known operations nameGood s b (operationN n) = ltb n operations
@@ -62,7 +64,7 @@ known operations nameGood s b (constantN a) = true
 known operations nameGood s b (nameN n) = nameGood n
 known operations nameGood s b (listN n) = true
 known operations nameGood s b ifN = true
-known operations nameGood s b (lambdaN first n) = true
+known operations nameGood s b (lambdaN first names) = allOf nameGood names
 known operations nameGood s b (applicationN n) = true
 
 -- ---- asked of a whole term
@@ -70,18 +72,17 @@ known operations nameGood s b (applicationN n) = true
 unfoldable pub asked : (Scope → ℕ → Node → Bool) → Asked Scope
 asked test = record { test = test; enter = inside }
 
-module _ {F : Type 0} where
-  unfoldable pub scoped : Term F → Bool
-  scoped = every (asked variableInside) outside 0
+unfoldable pub scoped : Plain → Bool
+scoped = every (asked variableInside) outside 0
 
-  unfoldable pub numbered : Term F → Bool
-  numbered = every (asked firstNumber) outside 0
+unfoldable pub numbered : Plain → Bool
+numbered = every (asked firstNumber) outside 0
 
-  unfoldable pub allKnown : ℕ → (ℕ → Bool) → Term F → Bool
-  allKnown operations nameGood = every (asked (known operations nameGood)) outside 0
+unfoldable pub allKnown : ℕ → (ℕ → Bool) → Plain → Bool
+allKnown operations nameGood = every (asked (known operations nameGood)) outside 0
 
-  unfoldable pub passes : ℕ → (ℕ → Bool) → Term F → Bool
-  passes operations nameGood t = scoped t && (numbered t && allKnown operations nameGood t)
+unfoldable pub passes : ℕ → (ℕ → Bool) → Plain → Bool
+passes operations nameGood t = scoped t && (numbered t && allKnown operations nameGood t)
 
 -- ---- ground 19 of words
 
@@ -99,7 +100,7 @@ isSome (some t) = true
 
 -- the term, or none where it is ground 19
 unfoldable pub termOf : ℕ → (ℕ → Bool) → List ℕ → Option Plain
-unfolding everyDatum every D.count count variables outside inside variableInside firstNumber known asked scoped numbered allKnown passes passing decode
+unfolding allOf everyDatum every D.count count variables outside inside variableInside firstNumber known asked scoped numbered allKnown passes passing decode
 termOf operations nameGood ws = passing operations nameGood (decode ws)
 
 unfoldable pub isTerm : ℕ → (ℕ → Bool) → List ℕ → Bool

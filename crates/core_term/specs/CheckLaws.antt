@@ -13,7 +13,7 @@ use Rattle.core_term.specs.Term.{Plain, variables}
 use Rattle.core_term.specs.Words.{encode}
 use Rattle.core_term.specs.Decode.{decode}
 use Rattle.core_term.specs.NodeLaws.{both}
-use Rattle.core_term.specs.DecodeLaws.{forget-plain, decode-encode, encode-decode, encode-unique}
+use Rattle.core_term.specs.DecodeLaws.{decode-encode, encode-decode, encode-unique}
 use Rattle.core_term.specs.Every.{every, wellFormed}
 use Rattle.core_term.specs.Check.{scoped, numbered, allKnown, passes, passing, termOf, isSome, isTerm}
 use Rattle.core_term.specs.Window.{window}
@@ -54,8 +54,16 @@ module _ (operations : ℕ) (nameGood : ℕ → Bool) where
   pub termOf-is : (ws : List ℕ) (t : Plain) → Accepted ws t → termOf operations nameGood ws ≡ some t
   unfolding termOf passing passes
   termOf-is ws t a =
-      let d : decode ws ≡ some t = ap decode (sym (a .words)) ∙ decode-encode t (a .formed) ∙ ap some (forget-plain t) in
+      let d : decode ws ≡ some t = ap decode (sym (a .words)) ∙ decode-encode t (a .formed) in
       rw (d, le-leb operations 256 (a .few), a .closed, a .counted, a .known′)
+
+  -- a term that passes is what its words are
+  pub termOf-encode : (t : Plain) → operations ≤ 256 → wellFormed t ≡ true → passes operations nameGood t ≡ true → termOf operations nameGood (encode t) ≡ some t
+  unfolding passes
+  termOf-encode t few w p =
+      let q = both (scoped t) (numbered t && allKnown operations nameGood t) p in
+      let k = both (numbered t) (allKnown operations nameGood t) (q .1) in
+      termOf-is (encode t) t (record { words = refl; formed = w; few = few; closed = q .0; counted = k .0; known′ = k .1 })
 
   -- ---- whether there is one
 

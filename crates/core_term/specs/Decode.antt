@@ -3,11 +3,11 @@
 use mathlib.Core.List.{List, [], _∷_}
 use mathlib.Core.Option.{Option, none, some}
 use Prim.Native.Nat.{ℕ, zero, suc}
-use lib.ListN.{length, replicate}
+use lib.ListN.{length}
 use Rattle.words.specs.Lists.{within}
 use Rattle.datum.specs.Constant.{integer, boolean, decimal, isConstant}
 use Rattle.datum.specs.Datum.{Datum, constantD, nameD, listD, Data, noneD, moreD}
-use Rattle.core_term.specs.Node.{Node, Got, got, missing, Read, nothing, withWord, withTwo, alone, codes, ofCode, isNode, sound, nodeAt, variableN, operationN, constantN, nameN, listN, ifN, lambdaN, applicationN}
+use Rattle.core_term.specs.Node.{Node, Got, got, missing, Read, nothing, withWord, withTwo, withNames, alone, codes, ofCode, isNode, sound, nodeAt, variableN, operationN, constantN, nameN, listN, ifN, lambdaN, applicationN}
 use Rattle.core_term.specs.Term.{variableC, operationC, datumC, ifC, lambdaC, applicationC, noneC, moreC, Plain, Plains}
 
 -- ---- reading one thing after another
@@ -45,7 +45,7 @@ datumFrom one (listN n) = do
   ds ← dataBy one n
   pure (listD ds)
 datumFrom one ifN = nothing
-datumFrom one (lambdaN first n) = nothing
+datumFrom one (lambdaN first names) = nothing
 datumFrom one (applicationN n) = nothing
 
 unfoldable pub datumAt : ℕ → Read Datum
@@ -78,9 +78,9 @@ termFrom datum one ifN = do
   y ← one
   z ← one
   pure (ifC x y z)
-termFrom datum one (lambdaN first n) = do
+termFrom datum one (lambdaN first names) = do
   body ← one
-  pure (lambdaC first (replicate n tt) body)
+  pure (lambdaC first names body)
 termFrom datum one (applicationN n) = do
   h ← one
   ts ← termsBy one n
@@ -100,5 +100,5 @@ whole (got t []) = some t
 whole (got t (w ∷ ws)) = none
 
 unfoldable pub decode : List ℕ → Option Plain
-unfolding codes withWord withTwo alone integer boolean decimal within isConstant nothing ofCode isNode sound nodeAt pure after _>>=_ dataBy datumFrom datumAt termsBy termFrom termAt whole
+unfolding codes withWord withTwo withNames alone integer boolean decimal within isConstant nothing ofCode isNode sound nodeAt pure after _>>=_ dataBy datumFrom datumAt termsBy termFrom termAt whole
 decode ws = whole (termAt (length ws) ws)

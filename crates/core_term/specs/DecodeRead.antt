@@ -4,7 +4,7 @@ use mathlib.Core.Bool.{true}
 use mathlib.Core.List.{List, _++_, append-assoc}
 use Prim.Native.Nat.{ℕ, zero, suc, _+_}
 use native.Mathlib.Omega.{arith}
-use lib.ListN.{length, replicate, length-replicate}
+use lib.ListN.{length}
 use Rattle.datum.specs.Datum.{Datum, constantD, nameD, listD, Data, noneD, moreD}
 use Rattle.datum.specs.Datum as D
 use Rattle.core_term.specs.Node.{Node, Got, got, missing, Read, nothing, isNode, nodeWords, nodeAt, variableN, operationN, constantN, nameN, listN, ifN, lambdaN, applicationN}
@@ -94,7 +94,7 @@ module _ (one : Read Datum) (sound : (ws : List ℕ) (d : Datum) (r : List ℕ) 
       let k = data-read n left (s .it) (s .left) (s .first) in
       pure-read (DatumRead ws) (listD (s .it)) (s .left) d r (list-read n ws left (s .it) (s .left) x k) (s .then)
   datum-from ifN ws left d r x h = no-got d r h
-  datum-from (lambdaN first n) ws left d r x h = no-got d r h
+  datum-from (lambdaN first names) ws left d r x h = no-got d r h
   datum-from (applicationN n) ws left d r x h = no-got d r h
 
 datum-read : (gas : ℕ) (ws : List ℕ) (d : Datum) (r : List ℕ) → datumAt gas ws ≡ got d r → DatumRead ws d r
@@ -113,13 +113,12 @@ if-read ws l m n x y z r k a b c =
       fine = λ v. rw (k .proper, a .fine v, b .fine (v + variables x), c .fine (v + variables x + variables y));
     }
 
-lambda-read : (first n : ℕ) (ws l : List ℕ) (body : Plain) (r : List ℕ) → NodeRead ws (lambdaN first n) l → TermRead l body r → TermRead ws (lambdaC first (replicate n tt) body) r
+lambda-read : (first : ℕ) (names ws l : List ℕ) (body : Plain) (r : List ℕ) → NodeRead ws (lambdaN first names) l → TermRead l body r → TermRead ws (lambdaC first names body) r
 unfolding encode every proper
-lambda-read first n ws l body r k a =
-    let e : length (replicate n (tt {0})) ≡ n = length-replicate n (tt {0}) in
+lambda-read first names ws l body r k a =
     record {
-      words = rw e (k .words ∙ rw (a .words) (sym (append-assoc (nodeWords (lambdaN first n)) (encode body) r)));
-      fine = λ b. rw (e, k .proper, a .fine (b + n));
+      words = k .words ∙ rw (a .words) (sym (append-assoc (nodeWords (lambdaN first names)) (encode body) r));
+      fine = λ b. rw (k .proper, a .fine (b + length names));
     }
 
 application-read : (n : ℕ) (ws l m : List ℕ) (f : Plain) (ts : Plains) (r : List ℕ) → NodeRead ws (applicationN n) l → TermRead l f m → TermsRead n m ts r → TermRead ws (applicationC f ts) r
@@ -168,11 +167,11 @@ module _ (one : Read Plain) (sound : (ws : List ℕ) (t : Plain) (r : List ℕ) 
         pure-read (TermRead ws) (ifC (s .it) (u .it) (v .it)) (v .left) t r
         (if-read ws left (s .left) (u .left) (s .it) (u .it) (v .it) (v .left) x a b c)
         (v .then)
-    term-from (lambdaN first n) ws left t r x h =
+    term-from (lambdaN first names) ws left t r x h =
         let s = steps one _ left t r h in
         let a = sound left (s .it) (s .left) (s .first) in
-        pure-read (TermRead ws) (lambdaC first (replicate n tt) (s .it)) (s .left) t r
-        (lambda-read first n ws left (s .it) (s .left) x a)
+        pure-read (TermRead ws) (lambdaC first names (s .it)) (s .left) t r
+        (lambda-read first names ws left (s .it) (s .left) x a)
         (s .then)
     term-from (applicationN n) ws left t r x h =
         let s = steps one _ left t r h in

@@ -6,7 +6,7 @@ use lib.ListN.{length}
 use Rattle.datum.specs.Datum.{Datum, constantD, nameD, listD, Data, noneD, moreD}
 use Rattle.datum.specs.Datum as D
 use Rattle.core_term.specs.Node.{Node, isNode, variableN, operationN, constantN, nameN, listN, ifN, lambdaN, applicationN}
-use Rattle.core_term.specs.Term.{Term, variableC, operationC, datumC, ifC, lambdaC, applicationC, Terms, noneC, moreC, count, variables}
+use Rattle.core_term.specs.Term.{variableC, operationC, datumC, ifC, lambdaC, applicationC, noneC, moreC, Plain, Plains, count, variables}
 
 -- what is asked of a node in its environment, and the environment of its parts
 pub record Asked (E : Type 0) : Type 0 where
@@ -24,23 +24,23 @@ module _ {E : Type 0} (A : Asked E) where
     everyData e b noneD = true
     everyData e b (moreD d ds) = everyDatum e b d && everyData e b ds
 
-module _ {F E : Type 0} (A : Asked E) where
+module _ {E : Type 0} (A : Asked E) where
   unfoldable mutual
-    pub every : E → ℕ → Term F → Bool
+    pub every : E → ℕ → Plain → Bool
     every e b (variableC n) = A .test e b (variableN n)
     every e b (operationC n) = A .test e b (operationN n)
     every e b (datumC d) = everyDatum A e b d
     every e b (ifC x y z) =
         let in′ = A .enter e b ifN in
         A .test e b ifN && (every in′ b x && (every in′ (b + variables x) y && every in′ (b + variables x + variables y) z))
-    every e b (lambdaC first formals body) =
-        let x = lambdaN first (length formals) in
-        A .test e b x && every (A .enter e b x) (b + length formals) body
+    every e b (lambdaC first names body) =
+        let x = lambdaN first names in
+        A .test e b x && every (A .enter e b x) (b + length names) body
     every e b (applicationC h ts) =
         let x = applicationN (count ts) in
         A .test e b x && (every (A .enter e b x) b h && everyTerm (A .enter e b x) (b + variables h) ts)
 
-    pub everyTerm : E → ℕ → Terms F → Bool
+    pub everyTerm : E → ℕ → Plains → Bool
     everyTerm e b noneC = true
     everyTerm e b (moreC t ts) = every e b t && everyTerm e (b + variables t) ts
 
@@ -48,5 +48,5 @@ module _ {F E : Type 0} (A : Asked E) where
 unfoldable pub proper : Asked (Unit {0})
 proper = record { test = λ e b x. isNode x; enter = λ e b x. e }
 
-unfoldable pub wellFormed : {F : Type 0} → Term F → Bool
+unfoldable pub wellFormed : Plain → Bool
 wellFormed t = every proper tt 0 t

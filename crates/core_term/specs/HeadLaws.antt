@@ -1,21 +1,22 @@
 -- What the checker finds at the beginning of words, by their code.
 use mathlib.Core.Path.{_≡_, refl, sym, ap, subst, _∙_}
-use mathlib.Core.Bool.{Bool, true, false, _&&_, and-false, false≢true}
+use mathlib.Core.Bool.{Bool, true, false, cond, _&&_, and-false, false≢true}
 use mathlib.Core.List.{List, [], _∷_, _++_}
 use mathlib.Core.Logic.{_⊎_, inl, inr}
-use Prim.Native.Nat.{ℕ, zero, suc, _+_, _≤_, _<_}
+use Prim.Native.Nat.{ℕ, zero, suc, _+_, _-_, _≤_, _<_}
 use native.Mathlib.Omega.{arith}
 use native.Mathlib.Numerals.{add-one}
 use native.Mathlib.Nat.{add-zero}
 use lib.Dec.{eqb, ltb, leb}
-use lib.ListN.{length, getD, drop}
+use lib.ListN.{length, getD, take, drop, length-drop}
+use lib.Seq.{drop-drop, length-take-le}
 use borrow.Author.Tests.{lt-ltb, le-ltb, le-leb, lt-leb, eq-eqb, ne-eqb}
 use Rattle.words.specs.Limits.{placesMost, formalsMost}
-use Rattle.words.specs.Lists.{within}
+use Rattle.words.specs.Lists.{within, allOf}
 use Rattle.words.specs.TestLaws.{within-is}
 use Rattle.datum.specs.Constant.{isConstant, constantWords, integer, boolean, decimal}
 use Rattle.datum.specs.ConstantLaws.{constant-case}
-use Rattle.core_term.specs.Node.{variableCode, operationCode, integerCode, booleanCode, nameCode, listCode, ifCode, lambdaCode, applicationCode, decimalCode, Node, isNode, isDatumNode, isListNode, nodeWords, parts, binds, Got, got, missing, nothing, withWord, withTwo, alone, codes, ofCode, sound, nodeAt, variableN, operationN, constantN, nameN, listN, ifN, lambdaN, applicationN}
+use Rattle.core_term.specs.Node.{variableCode, operationCode, integerCode, booleanCode, nameCode, listCode, ifCode, lambdaCode, applicationCode, decimalCode, Node, isNode, isDatumNode, isListNode, nodeWords, parts, binds, Got, got, missing, nothing, withWord, withTwo, withNames, alone, codes, ofCode, sound, nodeAt, variableN, operationN, constantN, nameN, listN, ifN, lambdaN, applicationN}
 use Rattle.core_term.specs.NodeLaws.{NodeRead, node-read}
 use Rattle.core_term.specs.declared.head.Head.{Head}
 use Rattle.core_term.specs.declared.head.Head.the-variants as H
@@ -78,6 +79,21 @@ two-missing f (w ∷ []) h = refl
 two-missing f (w ∷ a ∷ []) h = refl
 two-missing f (w ∷ a ∷ b ∷ ws) h = absurd (omega arith)
 
+pub names-found : (f : ℕ → List ℕ → Node) (ws : List ℕ) → 3 ≤ length ws
+    → withNames f (drop 1 ws) ≡ cond (leb (getD ws 2 0) (length (drop 3 ws))) (got (f (getD ws 1 0) (take (getD ws 2 0) (drop 3 ws))) (drop (getD ws 2 0) (drop 3 ws))) missing
+unfolding withNames
+names-found f [] h = absurd (omega arith)
+names-found f (w ∷ []) h = absurd (omega arith)
+names-found f (w ∷ a ∷ []) h = absurd (omega arith)
+names-found f (w ∷ a ∷ b ∷ ws) h = refl
+
+names-missing : (f : ℕ → List ℕ → Node) (ws : List ℕ) → length ws < 3 → withNames f (drop 1 ws) ≡ missing
+unfolding withNames
+names-missing f [] h = refl
+names-missing f (w ∷ []) h = refl
+names-missing f (w ∷ a ∷ []) h = refl
+names-missing f (w ∷ a ∷ b ∷ ws) h = absurd (omega arith)
+
 -- ---- nodes by their code
 
 module _ (ws : List ℕ) (l : 2 ≤ length ws) where
@@ -116,9 +132,20 @@ pub if-at : (ws : List ℕ) → 1 ≤ length ws → getD ws 0 0 ≡ ifCode → n
 unfolding codes sound isNode alone
 if-at ws l e = rw (at-code ws ifCode e l)
 
-pub lambda-at : (ws : List ℕ) → 3 ≤ length ws → getD ws 0 0 ≡ lambdaCode → nodeAt ws ≡ sound (got (lambdaN (getD ws 1 0) (getD ws 2 0)) (drop 3 ws))
+-- the names of a lambda's variables
+abbrev pub namesAt : List ℕ → List ℕ
+namesAt ws = take (getD ws 2 0) (drop 3 ws)
+
+pub names-part : (ws : List ℕ) (end : ℕ) → end ≡ 3 + getD ws 2 0 → take (end - 3) (drop 3 ws) ≡ namesAt ws
+names-part ws end h = let e : end - 3 ≡ getD ws 2 0 = omega arith in rw e
+
+pub lambda-at : (ws : List ℕ) → 3 + getD ws 2 0 ≤ length ws → getD ws 0 0 ≡ lambdaCode → nodeAt ws ≡ sound (got (lambdaN (getD ws 1 0) (namesAt ws)) (drop (3 + getD ws 2 0) ws))
 unfolding codes
-lambda-at ws l e = let h : 1 ≤ length ws = omega arith in rw (at-code ws lambdaCode e h, two-found lambdaN ws l)
+lambda-at ws l e =
+    let h : 1 ≤ length ws = omega arith in
+    let k : getD ws 2 0 ≤ length (drop 3 ws) = omega (arith, length-drop 3 ws) in
+    let d : drop (getD ws 2 0) (drop 3 ws) ≡ drop (3 + getD ws 2 0) ws = drop-drop (getD ws 2 0) 3 ws in
+    rw (at-code ws lambdaCode e h, names-found lambdaN ws (omega arith), le-leb _ _ k, d)
 
 pub decimal-at : (ws : List ℕ) → 3 ≤ length ws → getD ws 0 0 ≡ decimalCode → nodeAt ws ≡ sound (got (constantN (decimal (getD ws 1 0) (getD ws 2 0))) (drop 3 ws))
 unfolding codes
@@ -181,18 +208,29 @@ module _ (operations base : ℕ) (nameGood : ℕ → Bool) (flags : List ℕ) (b
   unfolding headOf window allowed nodeWords parts binds isDatumNode isListNode
   if-found l free e = rw (if-at ws l e, free, add-zero)
 
-  module _ (l : 3 ≤ length ws) (free : q ≡ false) (e : getD ws 0 0 ≡ lambdaCode) where
-    pub lambda-found : getD ws 2 0 ≤ formalsMost → getD ws 1 0 ≡ b → H.Node 3 1 (getD ws 1 0 + getD ws 2 0) false ≡ Answer
+  module _ (l : 3 + getD ws 2 0 ≤ length ws) (free : q ≡ false) (e : getD ws 0 0 ≡ lambdaCode) where
+    names-count : length (namesAt ws) ≡ getD ws 2 0
+    names-count = length-take-le (getD ws 2 0) (drop 3 ws) (omega (arith, length-drop 3 ws))
+
+    pub lambda-found : getD ws 2 0 ≤ formalsMost → getD ws 1 0 ≡ b → allOf nameGood (namesAt ws) ≡ true → H.Node (3 + getD ws 2 0) 1 (getD ws 1 0 + getD ws 2 0) false ≡ Answer
     unfolding headOf window allowed nodeWords parts binds isDatumNode isListNode sound isNode
-    lambda-found h k = rw (lambda-at ws l e, le-leb _ _ h, free, eq-eqb _ _ k, le-leb _ _ h, k)
+    lambda-found h k g =
+        let n : 3 + getD ws 2 0 ≡ suc (suc (suc (getD ws 2 0))) = omega arith in
+        rw (lambda-at ws l e, names-count, le-leb _ _ h, free, names-count, le-leb _ _ h, eq-eqb _ _ k, g, k, n)
 
     pub lambda-many : formalsMost < getD ws 2 0 → H.No ≡ Answer
     unfolding headOf sound isNode
-    lambda-many h = rw (lambda-at ws l e, lt-leb _ _ h)
+    lambda-many h = rw (lambda-at ws l e, names-count, lt-leb _ _ h)
 
+    -- another first number
     pub lambda-other : getD ws 2 0 ≤ formalsMost → (getD ws 1 0 ≡ b → ⊥) → H.No ≡ Answer
     unfolding headOf window allowed isDatumNode sound isNode
-    lambda-other h k = rw (lambda-at ws l e, le-leb _ _ h, free, ne-eqb _ _ k, and-false)
+    lambda-other h k = rw (lambda-at ws l e, names-count, le-leb _ _ h, free, names-count, ne-eqb _ _ k, and-false)
+
+    -- a name that is not good
+    pub lambda-unnamed : getD ws 2 0 ≤ formalsMost → allOf nameGood (namesAt ws) ≡ false → H.No ≡ Answer
+    unfolding headOf window allowed isDatumNode sound isNode
+    lambda-unnamed h k = rw (lambda-at ws l e, names-count, le-leb _ _ h, free, names-count, k, and-false, and-false)
 
   module _ (l : 3 ≤ length ws) (e : getD ws 0 0 ≡ decimalCode) where
     pub decimal-found : 1 ≤ getD ws 2 0 → getD ws 2 0 ≤ placesMost → H.Node 3 0 b false ≡ Answer
@@ -207,7 +245,7 @@ module _ (operations base : ℕ) (nameGood : ℕ → Bool) (flags : List ℕ) (b
 
 -- only an if has no more than its code
 pub short-missing : (ws : List ℕ) → (getD ws 0 0 ≡ ifCode → ⊥) → length ws < 2 → nodeAt ws ≡ missing
-unfolding nodeAt ofCode codes sound withWord withTwo nothing
+unfolding nodeAt ofCode codes sound withWord withTwo withNames nothing
 short-missing [] k l = refl
 short-missing (w ∷ []) k l = go w k
   where
@@ -235,8 +273,20 @@ two-short k f ws is e l = go (length ws) refl
     go (suc n) h = let m : 1 ≤ length ws = omega arith in rw (at-code ws k e m, is, two-missing f ws l)
 
 pub lambda-short : (ws : List ℕ) → getD ws 0 0 ≡ lambdaCode → length ws < 3 → nodeAt ws ≡ missing
-unfolding codes
-lambda-short ws = two-short lambdaCode lambdaN ws refl
+unfolding codes sound
+lambda-short ws e l = go (length ws) refl
+  where
+    go : (n : ℕ) → length ws ≡ n → nodeAt ws ≡ missing
+    go zero h = at-none ws h
+    go (suc n) h = let m : 1 ≤ length ws = omega arith in rw (at-code ws lambdaCode e m, names-missing lambdaN ws l)
+
+-- a name is missing
+pub lambda-cut : (ws : List ℕ) → getD ws 0 0 ≡ lambdaCode → 3 ≤ length ws → length ws < 3 + getD ws 2 0 → nodeAt ws ≡ missing
+unfolding codes sound
+lambda-cut ws e l h =
+    let m : 1 ≤ length ws = omega arith in
+    let k : length (drop 3 ws) < getD ws 2 0 = omega (arith, length-drop 3 ws) in
+    rw (at-code ws lambdaCode e m, names-found lambdaN ws l, lt-leb _ _ k)
 
 pub decimal-short : (ws : List ℕ) → getD ws 0 0 ≡ decimalCode → length ws < 3 → nodeAt ws ≡ missing
 unfolding codes
@@ -258,7 +308,7 @@ datum-code (constantN a) r p h =
 datum-code (nameN n) r p h = inl (omega arith, omega arith)
 datum-code (listN n) r p h = inl (omega arith, omega arith)
 datum-code ifN r p h = absurd (false≢true h)
-datum-code (lambdaN first n) r p h = absurd (false≢true h)
+datum-code (lambdaN first names) r p h = absurd (false≢true h)
 datum-code (applicationN n) r p h = absurd (false≢true h)
 
 -- a datum is wanted, and the code is none of 2 to 5 and 9

@@ -3,6 +3,7 @@ pub mod Node
 pub mod NodeLaws
 pub mod Term
 pub mod Words
+pub mod TermLaws
 pub mod Decode
 pub mod Every
 pub mod EveryLaws
@@ -20,7 +21,6 @@ pub mod ShapeLaws
 pub mod Walk
 pub mod Windows
 pub mod CheckLaws
-pub mod ForgetLaws
 pub mod Decimal
 pub mod DecimalLaws
 pub mod Text

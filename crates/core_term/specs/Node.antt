@@ -4,7 +4,7 @@ use mathlib.Core.Bool.{Bool, true, false, cond}
 use mathlib.Core.List.{List, [], _∷_}
 use Prim.Native.Nat.{ℕ, suc}
 use lib.Dec.{leb}
-use lib.ListN.{getD}
+use lib.ListN.{length, getD, take, drop}
 use Rattle.words.specs.Limits.{formalsMost}
 use Rattle.datum.specs.Constant.{Constant, isConstant, constantWords, integer, boolean, decimal}
 
@@ -48,7 +48,7 @@ pub data Node : Type 0 where
   nameN : (number : ℕ) → Node
   listN : (count : ℕ) → Node
   ifN : Node
-  lambdaN : (first count : ℕ) → Node
+  lambdaN : (first : ℕ) (names : List ℕ) → Node
   applicationN : (count : ℕ) → Node
 
 -- a node's own words
@@ -59,7 +59,7 @@ nodeWords (constantN a) = constantWords a
 nodeWords (nameN n) = nameCode ∷ n ∷ []
 nodeWords (listN n) = listCode ∷ n ∷ []
 nodeWords ifN = ifCode ∷ []
-nodeWords (lambdaN first n) = lambdaCode ∷ first ∷ n ∷ []
+nodeWords (lambdaN first names) = lambdaCode ∷ first ∷ length names ∷ names
 nodeWords (applicationN n) = applicationCode ∷ n ∷ []
 
 -- how many terms or data follow them
@@ -70,7 +70,7 @@ parts (constantN a) = 0
 parts (nameN n) = 0
 parts (listN n) = n
 parts ifN = 3
-parts (lambdaN first n) = 1
+parts (lambdaN first names) = 1
 parts (applicationN n) = suc n
 
 -- how many variables it binds
@@ -81,7 +81,7 @@ binds (constantN a) = 0
 binds (nameN n) = 0
 binds (listN n) = 0
 binds ifN = 0
-binds (lambdaN first n) = n
+binds (lambdaN first names) = length names
 binds (applicationN n) = 0
 
 -- codes 2 to 5 and 9 begin a datum
@@ -92,7 +92,7 @@ isDatumNode (constantN a) = true
 isDatumNode (nameN n) = true
 isDatumNode (listN n) = true
 isDatumNode ifN = false
-isDatumNode (lambdaN first n) = false
+isDatumNode (lambdaN first names) = false
 isDatumNode (applicationN n) = false
 
 -- the parts of a quoted list are data
@@ -103,7 +103,7 @@ isListNode (constantN a) = false
 isListNode (nameN n) = false
 isListNode (listN n) = true
 isListNode ifN = false
-isListNode (lambdaN first n) = false
+isListNode (lambdaN first names) = false
 isListNode (applicationN n) = false
 
 -- booleans are 0 or 1, decimals have 1 to 4 places, and a lambda has 0 to 8 variables
@@ -114,7 +114,7 @@ isNode (constantN a) = isConstant a
 isNode (nameN n) = true
 isNode (listN n) = true
 isNode ifN = true
-isNode (lambdaN first n) = leb n formalsMost
+isNode (lambdaN first names) = leb (length names) formalsMost
 isNode (applicationN n) = true
 
 -- ---- the node at the beginning of words
@@ -140,6 +140,12 @@ withTwo f [] = missing
 withTwo f (a ∷ []) = missing
 withTwo f (a ∷ b ∷ ws) = got (f a b) ws
 
+-- one that is followed by a word, a count, and so many words
+unfoldable pub withNames : (ℕ → List ℕ → Node) → Read Node
+withNames f [] = missing
+withNames f (a ∷ []) = missing
+withNames f (a ∷ n ∷ ws) = cond (leb n (length ws)) (got (f a (take n ws)) (drop n ws)) missing
+
 unfoldable pub alone : Node → Read Node
 alone x ws = got x ws
 
@@ -147,7 +153,7 @@ alone x ws = got x ws
 unfoldable pub codes : List (Read Node)
 codes =
     withWord variableN ∷ withWord operationN ∷ withWord (λ w. constantN (integer w)) ∷ withWord (λ w. constantN (boolean w)) ∷
-    withWord nameN ∷ withWord listN ∷ alone ifN ∷ withTwo lambdaN ∷ withWord applicationN ∷
+    withWord nameN ∷ withWord listN ∷ alone ifN ∷ withNames lambdaN ∷ withWord applicationN ∷
     withTwo (λ w p. constantN (decimal w p)) ∷ []
 
 unfoldable pub ofCode : Read Node

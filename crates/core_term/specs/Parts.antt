@@ -1,6 +1,5 @@
 -- A term as its first node and the terms that follow it, which is how code walks through words.
 use mathlib.Core.Bool.{Bool, true, _&&_}
-use lib.ListN.{length}
 use Rattle.datum.specs.Datum.{Datum, constantD, nameD, listD, Data, noneD, moreD}
 use Rattle.datum.specs.Datum as D
 use Rattle.core_term.specs.Node.{Node, isDatumNode, variableN, operationN, constantN, nameN, listN, ifN, lambdaN, applicationN}
@@ -16,7 +15,7 @@ node (variableC n) = variableN n
 node (operationC n) = operationN n
 node (datumC d) = datumNode d
 node (ifC x y z) = ifN
-node (lambdaC first formals body) = lambdaN first (length formals)
+node (lambdaC first names body) = lambdaN first names
 node (applicationC h ts) = applicationN (count ts)
 
 -- data as terms
@@ -34,7 +33,7 @@ partsOf (variableC n) = noneC
 partsOf (operationC n) = noneC
 partsOf (datumC d) = datumParts d
 partsOf (ifC x y z) = moreC x (moreC y (moreC z noneC))
-partsOf (lambdaC first formals body) = moreC body noneC
+partsOf (lambdaC first names body) = moreC body noneC
 partsOf (applicationC h ts) = moreC h ts
 
 unfoldable pub isDatum : Plain → Bool

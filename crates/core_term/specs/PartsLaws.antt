@@ -5,7 +5,7 @@ use mathlib.Core.List.{List, _++_, append-nil}
 use Prim.Native.Nat.{ℕ, suc, _+_, _≤_}
 use native.Mathlib.Omega.{arith}
 use native.Mathlib.Nat.{add-zero}
-use lib.ListN.{length, replicate, length-append, length-replicate}
+use lib.ListN.{length, length-append}
 use Rattle.datum.specs.ConstantLaws.{words-few}
 use Rattle.datum.specs.Datum.{constantD, nameD, listD, Data, noneD, moreD}
 use Rattle.datum.specs.Datum as D
@@ -31,7 +31,7 @@ encode-parts (datumC (constantD a)) = sym (append-nil (nodeWords (constantN a)))
 encode-parts (datumC (nameD n)) = sym (append-nil (nodeWords (nameN n)))
 encode-parts (datumC (listD ds)) = ap (λ (z : List ℕ). nodeWords (listN (D.count ds)) ++ z) (sym (encode-quoted ds))
 encode-parts (ifC x y z) = rw (append-nil (encode z))
-encode-parts (lambdaC first formals body) = rw (append-nil (encode body))
+encode-parts (lambdaC first names body) = rw (append-nil (encode body))
 encode-parts (applicationC h ts) = refl
 
 -- a term has at least two words
@@ -43,7 +43,7 @@ encode-two (datumC (constantD a)) = omega (arith, words-few a .0)
 encode-two (datumC (nameD n)) = omega arith
 encode-two (datumC (listD ds)) = omega arith
 encode-two (ifC x y z) = omega (arith, encode-two x, length-append (encode x) (encode y ++ encode z))
-encode-two (lambdaC first formals body) = omega arith
+encode-two (lambdaC first names body) = omega arith
 encode-two (applicationC h ts) = omega arith
 
 -- ---- counts
@@ -61,7 +61,7 @@ count-parts (datumC (constantD a)) = refl
 count-parts (datumC (nameD n)) = refl
 count-parts (datumC (listD ds)) = count-quoted ds
 count-parts (ifC x y z) = refl
-count-parts (lambdaC first formals body) = refl
+count-parts (lambdaC first names body) = refl
 count-parts (applicationC h ts) = refl
 
 variables-quoted : (ds : Data) → variablesAll (quoted ds) ≡ 0
@@ -77,7 +77,7 @@ variables-parts (datumC (constantD a)) = refl
 variables-parts (datumC (nameD n)) = refl
 variables-parts (datumC (listD ds)) = rw (variables-quoted ds)
 variables-parts (ifC x y z) = omega arith
-variables-parts (lambdaC first formals body) = omega arith
+variables-parts (lambdaC first names body) = omega arith
 variables-parts (applicationC h ts) = omega arith
 
 -- ---- data
@@ -97,7 +97,7 @@ list-data (datumC (constantD a)) h = absurd (false≢true h)
 list-data (datumC (nameD n)) h = absurd (false≢true h)
 list-data (datumC (listD ds)) h = quoted-data ds
 list-data (ifC x y z) h = absurd (false≢true h)
-list-data (lambdaC first formals body) h = absurd (false≢true h)
+list-data (lambdaC first names body) h = absurd (false≢true h)
 list-data (applicationC h ts) k = absurd (false≢true k)
 
 -- ---- a test of every node
@@ -116,7 +116,7 @@ module _ {E : Type 0} (A : Asked E) where
   every-parts e b (datumC (nameD n)) = sym (and-true _)
   every-parts e b (datumC (listD ds)) = rw (add-zero b, every-quoted (A .enter e b (listN (D.count ds))) b ds)
   every-parts e b (ifC x y z) = rw (add-zero b, and-true)
-  every-parts e b (lambdaC first formals body) = rw and-true
+  every-parts e b (lambdaC first names body) = rw and-true
   every-parts e b (applicationC h ts) = rw (add-zero b)
 
 -- ---- a term of its node and parts
@@ -140,7 +140,7 @@ unquoted (moreC (datumC d) ts) h =
     let k = unquoted ts (both (isDatumNode (datumNode d)) (areData ts) h .1) in
     record { them = moreD d (k .them); are = ap (moreC (datumC d)) (k .are) }
 unquoted (moreC (ifC x y z) ts) h = absurd (false≢true h)
-unquoted (moreC (lambdaC first formals body) ts) h = absurd (false≢true h)
+unquoted (moreC (lambdaC first names body) ts) h = absurd (false≢true h)
 unquoted (moreC (applicationC f us) ts) h = absurd (false≢true h)
 
 leaf-built : (t : Plain) (ts : Plains) → partsOf t ≡ noneC → count ts ≡ 0 → Built (node t) ts
@@ -156,12 +156,11 @@ three-built (moreC x (moreC y noneC)) h = absurd (omega arith)
 three-built (moreC x (moreC y (moreC z noneC))) h = record { term = ifC x y z; is = refl; has = refl }
 three-built (moreC x (moreC y (moreC z (moreC w ts)))) h = absurd (omega arith)
 
-one-built : (first n : ℕ) (ts : Plains) → count ts ≡ 1 → Built (lambdaN first n) ts
+one-built : (first : ℕ) (names : List ℕ) (ts : Plains) → count ts ≡ 1 → Built (lambdaN first names) ts
 unfolding count node partsOf
-one-built first n noneC h = absurd (omega arith)
-one-built first n (moreC body noneC) h =
-    record { term = lambdaC first (replicate n (tt {0})) body; is = ap (lambdaN first) (length-replicate n (tt {0})); has = refl }
-one-built first n (moreC body (moreC u ts)) h = absurd (omega arith)
+one-built first names noneC h = absurd (omega arith)
+one-built first names (moreC body noneC) h = record { term = lambdaC first names body; is = refl; has = refl }
+one-built first names (moreC body (moreC u ts)) h = absurd (omega arith)
 
 more-built : (n : ℕ) (ts : Plains) → count ts ≡ suc n → Built (applicationN n) ts
 unfolding count node partsOf
@@ -183,5 +182,5 @@ built (constantN a) ts h d = leaf-built (datumC (constantD a)) ts refl h
 built (nameN n) ts h d = leaf-built (datumC (nameD n)) ts refl h
 built (listN n) ts h d = list-built n ts h (d refl)
 built ifN ts h d = three-built ts h
-built (lambdaN first n) ts h d = one-built first n ts h
+built (lambdaN first names) ts h d = one-built first names ts h
 built (applicationN n) ts h d = more-built n ts h

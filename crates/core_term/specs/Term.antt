@@ -1,7 +1,7 @@
--- Core terms. F is what a lambda says of each variable it binds: a run keeps the name there, words say nothing.
-use mathlib.Core.List.{List}
+-- Core terms. F is what a lambda says of each variable it binds: a run keeps the name there, words its number.
+use mathlib.Core.List.{List, [], _++_, map}
 use Prim.Native.Nat.{ℕ, suc, _+_}
-use lib.ListN.{length, replicate}
+use lib.ListN.{length}
 use Rattle.datum.specs.Datum.{Datum}
 
 -- a datum is a constant, or what quote gives
@@ -38,24 +38,43 @@ module _ {F : Type 0} where
     variablesAll noneC = 0
     variablesAll (moreC t ts) = variables t + variablesAll ts
 
--- a term as its words tell it
+  -- what is said of them, in the words' order
+  unfoldable mutual
+    pub formalsOf : Term F → List F
+    formalsOf (variableC n) = []
+    formalsOf (operationC n) = []
+    formalsOf (datumC d) = []
+    formalsOf (ifC x y z) = formalsOf x ++ (formalsOf y ++ formalsOf z)
+    formalsOf (lambdaC first formals body) = formals ++ formalsOf body
+    formalsOf (applicationC h ts) = formalsOf h ++ formalsAll ts
+
+    pub formalsAll : Terms F → List F
+    formalsAll noneC = []
+    formalsAll (moreC t ts) = formalsOf t ++ formalsAll ts
+
+-- a term as its words tell it: of each variable the number of its name
 abbrev pub Plain : Type 0
-Plain = Term (Unit {0})
+Plain = Term ℕ
 
 abbrev pub Plains : Type 0
-Plains = Terms (Unit {0})
+Plains = Terms ℕ
 
--- the same with nothing said of the variables
-module _ {F : Type 0} where
+-- the same with something else said of the variables
+module _ {F G : Type 0} (say : F → G) where
   unfoldable mutual
-    pub forget : Term F → Plain
-    forget (variableC n) = variableC n
-    forget (operationC n) = operationC n
-    forget (datumC d) = datumC d
-    forget (ifC x y z) = ifC (forget x) (forget y) (forget z)
-    forget (lambdaC first formals body) = lambdaC first (replicate (length formals) tt) (forget body)
-    forget (applicationC h ts) = applicationC (forget h) (forgetAll ts)
+    pub onFormals : Term F → Term G
+    onFormals (variableC n) = variableC n
+    onFormals (operationC n) = operationC n
+    onFormals (datumC d) = datumC d
+    onFormals (ifC x y z) = ifC (onFormals x) (onFormals y) (onFormals z)
+    onFormals (lambdaC first formals body) = lambdaC first (map say formals) (onFormals body)
+    onFormals (applicationC h ts) = applicationC (onFormals h) (onFormalsAll ts)
 
-    pub forgetAll : Terms F → Plains
-    forgetAll noneC = noneC
-    forgetAll (moreC t ts) = moreC (forget t) (forgetAll ts)
+    pub onFormalsAll : Terms F → Terms G
+    onFormalsAll noneC = noneC
+    onFormalsAll (moreC t ts) = moreC (onFormals t) (onFormalsAll ts)
+
+-- and with nothing said of them, for a reader of terms that pays no heed to names
+unfoldable pub forget : {F : Type 0} → Term F → Term (Unit {0})
+unfolding onFormals
+forget t = onFormals (λ f. tt) t

@@ -3,11 +3,11 @@ use mathlib.Core.Bool.{cond}
 use mathlib.Core.List.{List, [], _∷_, _++_}
 use Prim.Native.Nat.{ℕ, zero, suc}
 use lib.Dec.{eqb}
-use lib.ListN.{length}
+use lib.ListN.{length, getD}
 use Rattle.words.specs.Text.{bytes}
 use Rattle.datum.specs.Constant.{Constant, decimalKind}
 use Rattle.datum.specs.Datum.{Datum, constantD, nameD, listD, Data, noneD, moreD}
-use Rattle.core_term.specs.Term.{Term, variableC, operationC, datumC, ifC, lambdaC, applicationC, Terms, noneC, moreC}
+use Rattle.core_term.specs.Term.{variableC, operationC, datumC, ifC, lambdaC, applicationC, noneC, moreC, Plain, Plains, formalsOf}
 use Rattle.core_term.specs.Decimal.{decimal, integerText, decimalText}
 
 -- single spaces between
@@ -22,17 +22,9 @@ spaced (t ∷ ts) = spacedAfter t ts
 unfoldable pub parenthesized : List (List ℕ) → List ℕ
 parenthesized ts = 40 ∷ (spaced ts ++ (41 ∷ []))
 
--- v0, o0
-unfoldable pub variableText : ℕ → List ℕ
-variableText n = 118 ∷ decimal n
-
+-- o0
 unfoldable pub operationText : ℕ → List ℕ
 operationText n = 111 ∷ decimal n
-
--- v0 v1: n variables from the first
-unfoldable pub formalTexts : ℕ → ℕ → List (List ℕ)
-formalTexts first zero = []
-formalTexts first (suc n) = variableText first ∷ formalTexts (suc first) n
 
 -- an integer, a decimal with its places, #t or #f
 unfoldable pub constantText : Constant → List ℕ
@@ -58,17 +50,32 @@ module _ (spell : ℕ → List ℕ) where
   outermost (nameD n) = parenthesized (bytes "quote" ∷ bare (nameD n) ∷ [])
   outermost (listD ds) = parenthesized (bytes "quote" ∷ bare (listD ds) ∷ [])
 
-module _ {F : Type 0} (spell : ℕ → List ℕ) where
-  unfoldable mutual
-    pub text : Term F → List ℕ
-    text (variableC n) = variableText n
-    text (operationC n) = operationText n
-    text (datumC d) = outermost spell d
-    text (ifC x y z) = parenthesized (bytes "if" ∷ text x ∷ text y ∷ text z ∷ [])
-    text (lambdaC first formals body) =
-        parenthesized (bytes "lambda" ∷ parenthesized (formalTexts first (length formals)) ∷ text body ∷ [])
-    text (applicationC h ts) = parenthesized (text h ∷ texts ts)
+-- within a term whose variables have these names, by number
+module _ (spell : ℕ → List ℕ) (called : List ℕ) where
+  -- v0.t, at formals and at every use
+  unfoldable pub variableText : ℕ → List ℕ
+  variableText n = 118 ∷ (decimal n ++ (46 ∷ spell (getD called n 0)))
 
-    pub texts : Terms F → List (List ℕ)
-    texts noneC = []
-    texts (moreC t ts) = text t ∷ texts ts
+  -- v0.t v1.u: n variables from the first
+  unfoldable pub formalTexts : ℕ → ℕ → List (List ℕ)
+  formalTexts first zero = []
+  formalTexts first (suc n) = variableText first ∷ formalTexts (suc first) n
+
+  unfoldable mutual
+    pub textIn : Plain → List ℕ
+    textIn (variableC n) = variableText n
+    textIn (operationC n) = operationText n
+    textIn (datumC d) = outermost spell d
+    textIn (ifC x y z) = parenthesized (bytes "if" ∷ textIn x ∷ textIn y ∷ textIn z ∷ [])
+    textIn (lambdaC first names body) =
+        parenthesized (bytes "lambda" ∷ parenthesized (formalTexts first (length names)) ∷ textIn body ∷ [])
+    textIn (applicationC h ts) = parenthesized (textIn h ∷ textsIn ts)
+
+    pub textsIn : Plains → List (List ℕ)
+    textsIn noneC = []
+    textsIn (moreC t ts) = textIn t ∷ textsIn ts
+
+-- variables are numbered in the words' order (ground 19), so the n-th formal names variable n
+unfoldable pub text : (ℕ → List ℕ) → Plain → List ℕ
+unfolding formalsOf
+text spell t = textIn spell (formalsOf t) t

@@ -6,6 +6,7 @@ use Prim.Native.Nat.{ℕ, zero, suc, _+_, _-_}
 use lib.Dec.{eqb, ltb, leb}
 use lib.ListN.{length, getD, set}
 use Rattle.words.specs.Limits.{formalsMost}
+use Rattle.words.specs.Lists.{allOf}
 use Rattle.datum.specs.Constant.{isConstant}
 use Rattle.datum.specs.NameTable.{hasName}
 use Rattle.core_term.specs.declared.head.Head.{Head}
@@ -44,7 +45,7 @@ allowed operations nameGood base flags b (constantN a) = isConstant a
 allowed operations nameGood base flags b (nameN n) = nameGood n
 allowed operations nameGood base flags b (listN n) = true
 allowed operations nameGood base flags b ifN = true
-allowed operations nameGood base flags b (lambdaN first n) = leb n formalsMost && eqb first b
+allowed operations nameGood base flags b (lambdaN first names) = leb (length names) formalsMost && (eqb first b && allOf nameGood names)
 allowed operations nameGood base flags b (applicationN n) = true
 
 unfoldable pub window : ℕ → (ℕ → Bool) → ℕ → Asked (List ℕ)

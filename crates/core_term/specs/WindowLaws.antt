@@ -4,11 +4,12 @@ use mathlib.Core.Bool.{Bool, true, false, cond, _&&_}
 use mathlib.Core.List.{List, [], _∷_}
 use Prim.Native.Nat.{ℕ, zero, suc, _+_, _-_, _*_, _≤_, _<_}
 use native.Mathlib.Omega.{arith}
+use native.Mathlib.Numerals.{add-one}
 use lib.Dec.{eqb, ltb, leb}
-use lib.ListN.{length, getD, set, length-set, List·getD-eq-default}
-use lib.Seq.{set-out, getD-set-same, getD-set-other, ext-getD}
+use lib.ListN.{length, getD, set, drop, length-set, List·getD-eq-default}
+use lib.Seq.{drop-length, drop-cons, set-out, getD-set-same, getD-set-other, ext-getD}
 use borrow.Author.Tests.{lt-ltb, le-ltb, ltb-true, ltb-false, le-leb, lt-leb}
-use Rattle.words.specs.Lists.{within}
+use Rattle.words.specs.Lists.{within, allOf}
 use Rattle.datum.specs.NameTable.{lengthAt, hasName}
 use Rattle.core_term.specs.Node.{Node, isNode, variableN, operationN, constantN, nameN, listN, ifN, lambdaN, applicationN}
 use Rattle.core_term.specs.NodeLaws.{both}
@@ -164,6 +165,20 @@ module _ (tabled : Bool) (table : List ℕ) (n : ℕ) where
     pub good-empty : l < 1 → goodName tabled table n ≡ leb 1 l
     good-empty k = good-length h e room ∙ rw (sym is, lt-leb 1 l k)
 
+-- one of a lambda's names after another
+module _ (f : ℕ → Bool) (names : List ℕ) (i : ℕ) (so-far : allOf f (drop i names) ≡ allOf f names) where
+  pub names-next : i < length names → f (getD names i 0) ≡ true → allOf f (drop (i + 1) names) ≡ allOf f names
+  unfolding allOf
+  names-next h g = rw add-one (sym (ap (allOf f) (drop-cons names i 0 h) ∙ rw g) ∙ so-far)
+
+  pub names-bad : i < length names → f (getD names i 0) ≡ false → false ≡ allOf f names
+  unfolding allOf
+  names-bad h g = sym (ap (allOf f) (drop-cons names i 0 h) ∙ rw g) ∙ so-far
+
+  pub names-end : i ≡ length names → true ≡ allOf f names
+  unfolding allOf
+  names-end h = sym (ap (λ (n : ℕ). allOf f (drop n names)) h ∙ ap (allOf f) (drop-length names)) ∙ so-far
+
 -- ---- nodes
 
 -- what is allowed is a node
@@ -175,5 +190,5 @@ allowed-node operations nameGood base e b (constantN a) h = h
 allowed-node operations nameGood base e b (nameN n) h = refl
 allowed-node operations nameGood base e b (listN n) h = refl
 allowed-node operations nameGood base e b ifN h = refl
-allowed-node operations nameGood base e b (lambdaN first n) h = both (leb n 8) (eqb first b) h .0
+allowed-node operations nameGood base e b (lambdaN first names) h = both (leb (length names) 8) _ h .0
 allowed-node operations nameGood base e b (applicationN n) h = refl

@@ -32,17 +32,17 @@ noFlags-clear span flags e base b k l m =
 -- ---- flags and scope
 
 -- what is in scope inside a lambda
-module _ (s : Scope) (b n k : ℕ) where
-  inside-own : b ≤ k → k < b + n → inside s b (lambdaN b n) k ≡ true
+module _ (s : Scope) (b : ℕ) (names : List ℕ) (k : ℕ) where
+  inside-own : b ≤ k → k < b + length names → inside s b (lambdaN b names) k ≡ true
   unfolding inside
-  inside-own l m = rw (le-leb b k l, lt-ltb k (b + n) m)
+  inside-own l m = rw (le-leb b k l, lt-ltb k (b + length names) m)
 
-  inside-other : (b ≤ k → k < b + n → ⊥) → inside s b (lambdaN b n) k ≡ s k
+  inside-other : (b ≤ k → k < b + length names → ⊥) → inside s b (lambdaN b names) k ≡ s k
   unfolding inside
   inside-other h =
       case k b
       (λ l. rw (lt-leb b k l))
-      (λ l. case k (b + n) (λ m. absurd (h l m)) (λ m. rw (le-ltb k (b + n) m, and-false)))
+      (λ l. case k (b + length names) (λ m. absurd (h l m)) (λ m. rw (le-ltb k (b + length names) m, and-false)))
 
 -- the flags are the scope, as far as the window goes, and only bound variables are in scope
 record Agree (span base : ℕ) (s : Scope) (flags : List ℕ) (b : ℕ) : Type 0 where
@@ -71,21 +71,21 @@ module _ (span base : ℕ) (s : Scope) (flags : List ℕ) (b : ℕ) (g : Agree s
   agree-scope n l m h = sym (g .same n l m) ∙ sym (noted-in base n flags l) ∙ h
 
   -- a lambda's own variables
-  agree-lambda : (n : ℕ) → Agree span base (inside s b (lambdaN b n)) (marked base b n 1 flags) (b + n)
-  agree-lambda n =
-      record { size = marked-length base b n 1 flags ∙ g .size; same = same; bound = bound }
+  agree-lambda : (names : List ℕ) → Agree span base (inside s b (lambdaN b names)) (marked base b (length names) 1 flags) (b + length names)
+  agree-lambda names =
+      record { size = marked-length base b (length names) 1 flags ∙ g .size; same = same; bound = bound }
     where
-      own : (k : ℕ) → base ≤ k → k - base < span → b ≤ k → k < b + n → eqb (getD (marked base b n 1 flags) (k - base) 1) 1 ≡ inside s b (lambdaN b n) k
-      own k l m x y = rw (inside-own s b n k x y, marked-in base k 1 1 l b n flags x y (omega (arith, g .size)))
+      own : (k : ℕ) → base ≤ k → k - base < span → b ≤ k → k < b + length names → eqb (getD (marked base b (length names) 1 flags) (k - base) 1) 1 ≡ inside s b (lambdaN b names) k
+      own k l m x y = rw (inside-own s b names k x y, marked-in base k 1 1 l b (length names) flags x y (omega (arith, g .size)))
 
-      other : (k : ℕ) → base ≤ k → k - base < span → (b ≤ k → k < b + n → ⊥) → eqb (getD (marked base b n 1 flags) (k - base) 1) 1 ≡ inside s b (lambdaN b n) k
-      other k l m h = rw (inside-other s b n k h, marked-out base k 1 1 l b n flags h) (g .same k l m)
+      other : (k : ℕ) → base ≤ k → k - base < span → (b ≤ k → k < b + length names → ⊥) → eqb (getD (marked base b (length names) 1 flags) (k - base) 1) 1 ≡ inside s b (lambdaN b names) k
+      other k l m h = rw (inside-other s b names k h, marked-out base k 1 1 l b (length names) flags h) (g .same k l m)
 
-      same : (k : ℕ) → base ≤ k → k - base < span → eqb (getD (marked base b n 1 flags) (k - base) 1) 1 ≡ inside s b (lambdaN b n) k
-      same k l m = case k b (λ x. other k l m (λ y z. omega arith)) (λ x. case k (b + n) (own k l m x) (λ y. other k l m (λ z w. omega arith)))
+      same : (k : ℕ) → base ≤ k → k - base < span → eqb (getD (marked base b (length names) 1 flags) (k - base) 1) 1 ≡ inside s b (lambdaN b names) k
+      same k l m = case k b (λ x. other k l m (λ y z. omega arith)) (λ x. case k (b + length names) (own k l m x) (λ y. other k l m (λ z w. omega arith)))
 
-      bound : (k : ℕ) → inside s b (lambdaN b n) k ≡ true → k < b + n
-      bound k h = case k (b + n) (λ l. l) (λ l. let i : k < b = g .bound k (sym (inside-other s b n k (λ x y. omega arith)) ∙ h) in omega arith)
+      bound : (k : ℕ) → inside s b (lambdaN b names) k ≡ true → k < b + length names
+      bound k h = case k (b + length names) (λ l. l) (λ l. let i : k < b = g .bound k (sym (inside-other s b names k (λ x y. omega arith)) ∙ h) in omega arith)
 
   agree-enter : (x : Node) (z : Scope) → firstNumber z b x ≡ true → Agree span base (inside s b x) (marked base b (binds x) 1 flags) (b + binds x)
   unfolding inside binds marked firstNumber
@@ -95,7 +95,8 @@ module _ (span base : ℕ) (s : Scope) (flags : List ℕ) (b : ℕ) (g : Agree s
   agree-enter (nameN n) z h = agree-more 0
   agree-enter (listN n) z h = agree-more 0
   agree-enter ifN z h = agree-more 0
-  agree-enter (lambdaN first n) z h = subst (λ (i : ℕ). Agree span base (inside s b (lambdaN i n)) (marked base b n 1 flags) (b + n)) (sym (eqb-true first b h)) (agree-lambda n)
+  agree-enter (lambdaN first names) z h =
+      subst (λ (i : ℕ). Agree span base (inside s b (lambdaN i names)) (marked base b (length names) 1 flags) (b + length names)) (sym (eqb-true first b h)) (agree-lambda names)
   agree-enter (applicationN n) z h = agree-more 0
 
 agree-none : (span base : ℕ) → Agree span base outside (noFlags span) 0
@@ -133,7 +134,7 @@ module _ (span operations : ℕ) (nameGood : ℕ → Bool) where
   four-allow base e flags b (nameN n) g h = h knows
   four-allow base e flags b (listN n) g h = refl
   four-allow base e flags b ifN g h = refl
-  four-allow base e flags b (lambdaN first n) g h = rw (h shapes, h numbers)
+  four-allow base e flags b (lambdaN first names) g h = rw (h shapes, h numbers, h knows)
   four-allow base e flags b (applicationN n) g h = refl
 
   four-enter : (base : ℕ) (e : Asking → Scope) (flags : List ℕ) (b : ℕ) (x : Node) → Agree span base (e scopes) flags b
@@ -173,7 +174,7 @@ module _ (span operations : ℕ) (nameGood : ℕ → Bool) where
     allowed-first s (nameN n) h = refl
     allowed-first s (listN n) h = refl
     allowed-first s ifN h = refl
-    allowed-first s (lambdaN first n) h = both (leb n 8) (eqb first b) h .1
+    allowed-first s (lambdaN first names) h = both (eqb first b) _ (both (leb (length names) 8) _ h .1) .0
     allowed-first s (applicationN n) h = refl
 
     allowed-known : (s : Scope) (x : Node) → allowed operations nameGood base flags b x ≡ true → known operations nameGood s b x ≡ true
@@ -184,7 +185,7 @@ module _ (span operations : ℕ) (nameGood : ℕ → Bool) where
     allowed-known s (nameN n) h = h
     allowed-known s (listN n) h = refl
     allowed-known s ifN h = refl
-    allowed-known s (lambdaN first n) h = refl
+    allowed-known s (lambdaN first names) h = both (eqb first b) _ (both (leb (length names) 8) _ h .1) .1
     allowed-known s (applicationN n) h = refl
 
   -- a window that a term passes, and one with variable n in it
@@ -219,10 +220,10 @@ module _ (span operations : ℕ) (nameGood : ℕ → Bool) where
           let i = c .in′ in
           agree-scope span (i .base) s (e i) b (g i) n (c .low) (omega (arith, c .high, c .low)) (both (ltb n b) (noted (i .base) (e i) n) (h i) .1)
 
-      node-scope : (e : Passed t → List ℕ) (s : Scope) (b : ℕ) (x : Node) → ((i : Passed t) → Agree span (i .base) s (e i) b) → b ≤ variables t
+      node-scope : (e : Passed t → List ℕ) (s : Scope) (b : ℕ) (x : Node) → ((i : Passed t) → Agree span (i .base) s (e i) b) → b + binds x ≤ variables t
           → ((i : Passed t) → allowed operations nameGood (i .base) (e i) b x ≡ true) → variableInside s b x ≡ true
       unfolding allowed variableInside
-      node-scope e s b (variableN n) g l h = variable-scope e s b n g l h
+      node-scope e s b (variableN n) g l h = variable-scope e s b n g (omega arith) h
       node-scope e s b (operationN n) g l h = refl
       node-scope e s b (constantN a) g l h = refl
       node-scope e s b (nameN n) g l h = refl

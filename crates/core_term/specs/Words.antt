@@ -1,11 +1,10 @@
 -- The words of data and terms: each node's own, then its parts'.
 use mathlib.Core.List.{List, [], _++_}
 use Prim.Native.Nat.{ℕ}
-use lib.ListN.{length}
 use Rattle.datum.specs.Datum.{Datum, constantD, nameD, listD, Data, noneD, moreD}
 use Rattle.datum.specs.Datum as D
 use Rattle.core_term.specs.Node.{nodeWords, variableN, operationN, constantN, nameN, listN, ifN, lambdaN, applicationN}
-use Rattle.core_term.specs.Term.{Term, variableC, operationC, datumC, ifC, lambdaC, applicationC, Terms, noneC, moreC, count}
+use Rattle.core_term.specs.Term.{variableC, operationC, datumC, ifC, lambdaC, applicationC, noneC, moreC, Plain, Plains, count}
 
 unfoldable mutual
   pub datumWords : Datum → List ℕ
@@ -17,16 +16,15 @@ unfoldable mutual
   dataWords noneD = []
   dataWords (moreD d ds) = datumWords d ++ dataWords ds
 
-module _ {F : Type 0} where
-  unfoldable mutual
-    pub encode : Term F → List ℕ
-    encode (variableC n) = nodeWords (variableN n)
-    encode (operationC n) = nodeWords (operationN n)
-    encode (datumC d) = datumWords d
-    encode (ifC x y z) = nodeWords ifN ++ (encode x ++ (encode y ++ encode z))
-    encode (lambdaC first formals body) = nodeWords (lambdaN first (length formals)) ++ encode body
-    encode (applicationC h ts) = nodeWords (applicationN (count ts)) ++ (encode h ++ encodeAll ts)
+unfoldable mutual
+  pub encode : Plain → List ℕ
+  encode (variableC n) = nodeWords (variableN n)
+  encode (operationC n) = nodeWords (operationN n)
+  encode (datumC d) = datumWords d
+  encode (ifC x y z) = nodeWords ifN ++ (encode x ++ (encode y ++ encode z))
+  encode (lambdaC first names body) = nodeWords (lambdaN first names) ++ encode body
+  encode (applicationC h ts) = nodeWords (applicationN (count ts)) ++ (encode h ++ encodeAll ts)
 
-    pub encodeAll : Terms F → List ℕ
-    encodeAll noneC = []
-    encodeAll (moreC t ts) = encode t ++ encodeAll ts
+  pub encodeAll : Plains → List ℕ
+  encodeAll noneC = []
+  encodeAll (moreC t ts) = encode t ++ encodeAll ts

@@ -4,6 +4,7 @@ ghost use mathlib.Core.Bool.{Bool, false};
 ghost use mathlib.Core.List.{List};
 ghost use Prim.Native.Nat.{ℕ, _≤_, _<_};
 ghost use lib.ListN.{length, getD};
+ghost use Rattle.words.specs.Lists.{allOf};
 ghost use Rattle.core_term.specs.Node.{listCode, lambdaCode, decimalCode, nodeAt};
 ghost use Rattle.core_term.specs.Window.{goodName, window, headOf, leafHead};
 use crate::codes;
@@ -85,23 +86,44 @@ pub fn leaf(
     name_good(wide(a), names, tabled)
 }
 
-// A lambda: its first number is the count of variables before it.
-fn lambda_head(words: &[u32], bound: usize) -> Head
+// Every name of a lambda's variables is good.
+fn names_good(formals: &[u32], names: &[u8], tabled: bool) -> bool
+    ensures { λ r. ⌜ r ≡ allOf (goodName tabled (now (names .entry))) (now (formals .entry)) ⌝ }
+{
+    let mut i = 0;
+    while i < formals.len() {
+        if !name_good(wide(formals[i]), names, tabled) {
+            return false;
+        }
+        i = i + 1;
+    }
+    true
+}
+
+// A lambda: its first number is the count of variables before it, and a good name stands for each of its own.
+fn lambda_head(words: &[u32], names: &[u8], tabled: bool, bound: usize) -> Head
     requires { ⌜ (1 ≤ length (now words)) × (getD (now words) 0 0 ≡ lambdaCode) ⌝ }
-    ensures { λ r. ⌜ ((operations base : ℕ) (nameGood : ℕ → Bool) (flags : List ℕ) → r ≡ headOf (window operations nameGood base) false flags bound (nodeAt (now (words .entry)))) ⌝ }
+    ensures { λ r. ⌜ ((operations base : ℕ) (flags : List ℕ) → r ≡ headOf (window operations (goodName tabled (now (names .entry))) base) false flags bound (nodeAt (now (words .entry)))) ⌝ }
 {
     if words.len() < 3 {
         return Head::No;
     }
     let first = wide(words[1]);
     let count = words[2];
+    let end = 3 + wide(count);
+    if words.len() < end {
+        return Head::No;
+    }
     if count > FORMALS {
         return Head::No;
     }
     if first != bound {
         return Head::No;
     }
-    Head::Node(3, 1, first + wide(count), false)
+    if !names_good(&words[3..end], names, tabled) {
+        return Head::No;
+    }
+    Head::Node(end, 1, first + wide(count), false)
 }
 
 // A decimal: three words, the last of them 1 to 4.
@@ -123,9 +145,9 @@ fn decimal_head(words: &[u32], bound: usize) -> Head
 }
 
 // A node with parts, or a decimal: codes 5 to 9.
-fn branch(words: &[u32], bound: usize, quoted: bool) -> Head
+fn branch(words: &[u32], names: &[u8], tabled: bool, bound: usize, quoted: bool) -> Head
     requires { ⌜ (1 ≤ length (now words)) × (listCode ≤ getD (now words) 0 0) ⌝ }
-    ensures { λ r. ⌜ ((operations base : ℕ) (nameGood : ℕ → Bool) (flags : List ℕ) → r ≡ headOf (window operations nameGood base) quoted flags bound (nodeAt (now (words .entry)))) ⌝ }
+    ensures { λ r. ⌜ ((operations base : ℕ) (flags : List ℕ) → r ≡ headOf (window operations (goodName tabled (now (names .entry))) base) quoted flags bound (nodeAt (now (words .entry)))) ⌝ }
 {
     let code = words[0];
     if code == codes::IF {
@@ -148,7 +170,7 @@ fn branch(words: &[u32], bound: usize, quoted: bool) -> Head
         return Head::No;
     }
     if code == codes::LAMBDA {
-        return lambda_head(words, bound);
+        return lambda_head(words, names, tabled, bound);
     }
     if code > codes::APPLICATION {
         return Head::No;
@@ -173,7 +195,7 @@ pub fn node(
         return Head::No;
     }
     if words[0] >= codes::LIST {
-        return branch(words, bound, quoted);
+        return branch(words, names, tabled, bound, quoted);
     }
     if words.len() < 2 {
         return Head::No;

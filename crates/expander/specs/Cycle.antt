@@ -5,7 +5,7 @@ use Rattle.words.specs.Limits.{macrosMost}
 use Rattle.recipe.specs.Name.{Name}
 use Rattle.recipe.specs.Tree.{Tree, size}
 use Rattle.core_term.specs.Term.{Term, Terms}
-use Rattle.core_term.specs.Words.{encode, encodeAll}
+use Rattle.expansion.specs.Run.{wordsOf, wordsOfAll}
 use Rattle.expansion.specs.Forms.{expand, expandAll}
 use Rattle.arena.specs.Arena.{treeAt}
 use Rattle.turns.specs.declared.answers.Reached.{Reached}
@@ -33,10 +33,10 @@ module _ (operations : List ℕ) (fuel : ℕ) where
 
   -- an answer and the last tables are right for an expression, and for operands, whatever gas is enough
   abbrev pub Right : Tree → Reached → Tables → Tables → Ended → Type 0
-  Right t r a last e = (gas : ℕ) → size t + fuel ≤ gas + r .sum → Left encode r (a .core) last (expandBy gas t a r) e
+  Right t r a last e = (gas : ℕ) → size t + fuel ≤ gas + r .sum → Left wordsOf r (a .core) last (expandBy gas t a r) e
 
   abbrev pub RightAll : Tree → Reached → Tables → Tables → Ended → Type 0
-  RightAll t r a last e = (gas : ℕ) → size t - 1 + fuel ≤ gas + r .sum → Left encodeAll r (a .core) last (expandAllBy gas t a r) e
+  RightAll t r a last e = (gas : ℕ) → size t - 1 + fuel ≤ gas + r .sum → Left wordsOfAll r (a .core) last (expandAllBy gas t a r) e
 
   -- the expression at hand stands for the first
   pub record Going (tree : Tree) (r₀ : Reached) (before : Tables) (node w : ℕ) (r : Reached) (a : Tables) : Type 0 where

@@ -9,8 +9,9 @@ use Rattle.recipe.specs.Name.{Name}
 use Rattle.recipe.specs.Tree.{Tree, pair, size, elements}
 use Rattle.recipe.specs.TreeLaws.{size-positive}
 use Rattle.recipe.specs.Tidy.{tidyPair}
-use Rattle.core_term.specs.Term.{Term, Terms, moreC}
-use Rattle.core_term.specs.Words.{encode, encodeAll}
+use Rattle.core_term.specs.Term.{Term, Terms, moreC, onFormals}
+use Rattle.core_term.specs.Words.{encodeAll}
+use Rattle.expansion.specs.Run.{wordsOf, wordsOfAll}
 use Rattle.expansion.specs.Computation.{State}
 use Rattle.expansion.specs.Forms.{expandWithin, expand}
 use Rattle.arena.specs.Arena.{treeAt}
@@ -79,7 +80,7 @@ module _ (operations : List ℕ) (fuel : ℕ) where
 
   -- with enough gas there is a turn
   pub right-turn : (t : Tree) (r : Reached) (a last : Tables) (e : Ended) → r .sum ≤ fuel
-      → ((gas : ℕ) → size t + fuel ≤ suc gas + r .sum → Left encode r (a .core) last (turnOf operations fuel (expand macrosMost operations fuel gas) t (stateAt a r)) e)
+      → ((gas : ℕ) → size t + fuel ≤ suc gas + r .sum → Left wordsOf r (a .core) last (turnOf operations fuel (expand macrosMost operations fuel gas) t (stateAt a r)) e)
       → Right operations fuel t r a last e
   unfolding expandWithin
   right-turn t r a last e h f zero g = absurd (omega (arith, size-positive t))
@@ -131,25 +132,25 @@ module _ (operations : List ℕ) (fuel : ℕ) where
   walking-start list w r a x p = record { kept = kept-none _ r a x; placed = p; falls = omega arith; means = λ e last h. h }
 
   -- the end of the first operand, and of the later ones
-  first-done : (v : Term Name) (e : End (Terms Name)) → Prefixed encodeAll encodeAll (moreC v) (encode v) e
-  unfolding encodeAll
+  first-done : (v : Term Name) (e : End (Terms Name)) → Prefixed wordsOfAll wordsOfAll (moreC v) (wordsOf v) e
+  unfolding onFormals encodeAll
   first-done v (finished b s) = refl
   first-done v (refusedEnd k s) = tt
   first-done v halted = tt
 
   -- where the first operand is done, the later ones' words follow its words
-  later-right : (r q : Reached) (a b last : Tables) (e : Ended) (first : End (Term Name)) (later : State → End (Terms Name)) → Left encode r (a .core) b first (Done q) → q .at ≤ length (a .core)
-      → Left encodeAll q (b .core) last (later (stateAt b q)) e → Left encodeAll r (a .core) last (then (λ v u. then (λ x s. finished (moreC v x) s) (later u)) first) e
+  later-right : (r q : Reached) (a b last : Tables) (e : Ended) (first : End (Term Name)) (later : State → End (Terms Name)) → Left wordsOf r (a .core) b first (Done q) → q .at ≤ length (a .core)
+      → Left wordsOfAll q (b .core) last (later (stateAt b q)) e → Left wordsOfAll r (a .core) last (then (λ v u. then (λ x s. finished (moreC v x) s) (later u)) first) e
   unfolding then
   later-right r q a b last e (finished v s) later l room k =
-      left-after encodeAll encodeAll (moreC v) (encode v) r q (a .core) (b .core) last (later s) e (first-done v (later s)) (l .1) room
-      (subst (λ (z : State). Left encodeAll q (b .core) last (later z) e) (sym (l .0)) k)
+      left-after wordsOfAll wordsOfAll (moreC v) (wordsOf v) r q (a .core) (b .core) last (later s) e (first-done v (later s)) (l .1) room
+      (subst (λ (z : State). Left wordsOfAll q (b .core) last (later z) e) (sym (l .0)) k)
   later-right r q a b last e (refusedEnd g s) later l room k = absurd l
   later-right r q a b last e halted later l room k = absurd l
 
   -- where it is refused, so are the operands
-  first-refused : (r : Reached) (a last : Tables) (x y z : ℕ) (first : End (Term Name)) (later : State → End (Terms Name)) → Left encode r (a .core) last first (Refused x y z)
-      → Left encodeAll r (a .core) last (then (λ v u. then (λ b s. finished (moreC v b) s) (later u)) first) (Refused x y z)
+  first-refused : (r : Reached) (a last : Tables) (x y z : ℕ) (first : End (Term Name)) (later : State → End (Terms Name)) → Left wordsOf r (a .core) last first (Refused x y z)
+      → Left wordsOfAll r (a .core) last (then (λ v u. then (λ b s. finished (moreC v b) s) (later u)) first) (Refused x y z)
   unfolding then
   first-refused r a last x y z (finished v s) later l = absurd l
   first-refused r a last x y z (refusedEnd g s) later l = l
@@ -161,13 +162,13 @@ module _ (operations : List ℕ) (fuel : ℕ) where
 
     -- the end of the list
     pub walking-end : length (elements left) ≡ 0 → size left ≡ 1 → ExpandsAll operations fuel tree r₀ before a (Done r)
-    unfolding encodeAll
+    unfolding onFormals encodeAll
     walking-end none one =
         record {
           kept = kept-part (size tree - 1) (size left - 1) (size tree - 1) 0 r₀ r before a (omega arith) (g .kept);
           means = g .means (Done r) a
               (λ gas l.
-              subst (λ (e : End (Terms Name)). Left encodeAll r (a .core) a e (Done r))
+              subst (λ (e : End (Terms Name)). Left wordsOfAll r (a .core) a e (Done r))
               (sym (no-operands operations fuel (expand macrosMost operations fuel gas) left none (stateAt a r)))
               (refl, written-none (a .core) (r .at)));
         }
@@ -201,7 +202,7 @@ module _ (operations : List ℕ) (fuel : ℕ) where
             kept = tt;
             means = g .means (Refused x y z) last
                 (λ gas l.
-                subst (λ (e : End (Terms Name)). Left encodeAll r (a .core) last e (Refused x y z)) (sym (by-pair gas))
+                subst (λ (e : End (Terms Name)). Left wordsOfAll r (a .core) last e (Refused x y z)) (sym (by-pair gas))
                 (first-refused r a last x y z (expandBy operations fuel gas first a r) _ (f .means gas (omega (arith, sizes)))));
           }
 
@@ -217,9 +218,9 @@ module _ (operations : List ℕ) (fuel : ℕ) where
             falls = rw same (omega (arith, sizes, g .falls, f .kept .sum-grows));
             means = λ e last h. g .means e last
                 (λ gas l.
-                subst (λ (z : End (Terms Name)). Left encodeAll r (a .core) last z e) (sym (by-pair gas))
+                subst (λ (z : End (Terms Name)). Left wordsOfAll r (a .core) last z e) (sym (by-pair gas))
                 (later-right r q a b last e (expandBy operations fuel gas first a r) _ (f .means gas (omega (arith, sizes))) room
-                (subst (λ (t : Tree). Left encodeAll q (b .core) last (expandAllBy operations fuel gas t b q) e) same (h gas (rw same (omega (arith, sizes, f .kept .sum-grows)))))));
+                (subst (λ (t : Tree). Left wordsOfAll q (b .core) last (expandAllBy operations fuel gas t b q) e) same (h gas (rw same (omega (arith, sizes, f .kept .sum-grows)))))));
           }
         where
           tail-proper : {h t : Tree} → Proper (pair h t) → Proper t

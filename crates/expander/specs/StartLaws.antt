@@ -20,10 +20,9 @@ use Rattle.recipe.specs.TableWeight.{treeOf-size}
 use Rattle.recipe.specs.Tidy.{tidy-weaken, tidy-element, tidy-names}
 use Rattle.recipe.specs.TableTidy.{treeOf-tidy}
 use Rattle.core_term.specs.Term.{Term}
-use Rattle.core_term.specs.Words.{encode}
 use Rattle.expansion.specs.Computation.{State, start, Out, done, refused, starved}
 use Rattle.expansion.specs.Forms.{expand}
-use Rattle.expansion.specs.Run.{ended, operationNumbers, expandRecipe}
+use Rattle.expansion.specs.Run.{wordsOf, ended, operationNumbers, expandRecipe}
 use Rattle.arena.specs.Arena.{treeAt}
 use Rattle.arena.specs.LayOut.{LaidOut}
 use Rattle.arena.specs.Lists.{Means}
@@ -42,14 +41,14 @@ use Rattle.expander.specs.Start.{Lends, endNumbers, Expanded}
 -- ---- ends
 
 -- an end as the definition's, from the core table's start, is the run's
-expanded : (core : List ℕ) (r : Reached) (last : Tables) (out : Out (Term Name)) (e : Ended) → r .at ≡ 0 → Left encode r core last (endOf out) e → Expanded (ended out) (last .core) e
+expanded : (core : List ℕ) (r : Reached) (last : Tables) (out : Out (Term Name)) (e : Ended) → r .at ≡ 0 → Left wordsOf r core last (endOf out) e → Expanded (ended out) (last .core) e
 unfolding endOf ended endNumbers runNumbers groundOf stateAt
 expanded core r last (done t s l) (Done q) z (i, w) =
     let steps : q .steps ≡ s .steps = sym (ap (λ (u : State). u .steps) i) in
     let sum : q .sum ≡ s .sum = sym (ap (λ (u : State). u .sum) i) in
-    let until : q .at ≡ length (encode t) = omega (arith, w .end) in
-    let begins : last .core ≡ encode t ++ drop (q .at) core = w .words ∙ rw z in
-    record { numbers = rw (steps, sum, until); words = ap (take (length (encode t))) begins ∙ take-append-seam (encode t) (drop (q .at) core) }
+    let until : q .at ≡ length (wordsOf t) = omega (arith, w .end) in
+    let begins : last .core ≡ wordsOf t ++ drop (q .at) core = w .words ∙ rw z in
+    record { numbers = rw (steps, sum, until); words = ap (take (length (wordsOf t))) begins ∙ take-append-seam (wordsOf t) (drop (q .at) core) }
 expanded core r last (done t s l) (Refused h n m) z x = absurd x
 expanded core r last (refused g s l) (Done q) z x = absurd x
 expanded core r last (refused g s l) (Refused h n m) z (i, j, k) = record { numbers = rw (i, j, k); words = refl }
@@ -125,5 +124,5 @@ module _ (items work core operations : List ℕ) (fuel : ℕ) (l : Lends items w
         let gas : ℕ = size (treeOf items) + fuel in
         let begun = subst (λ (q : Reached). ExpandsBy operations fuel (treeAt work′ body 0) q (tables work′ core macros) last e) from-is x in
         expanded core (atStart top) last (expandRecipe fuel (treeOf items)) e refl
-        (subst (λ t. Left encode (atStart top) core last (endOf (expand macrosMost (operationNumbers (treeOf items)) fuel gas t start)) e) start-tree
+        (subst (λ t. Left wordsOf (atStart top) core last (endOf (expand macrosMost (operationNumbers (treeOf items)) fuel gas t start)) e) start-tree
         (begun (operationNumbers (treeOf items)) start-lent .means gas (omega (arith, start-size))))

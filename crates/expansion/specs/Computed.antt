@@ -32,7 +32,7 @@ unfolding
     Table.items Table.byKind Table.constantOf Table.references Table.occurrences Table.kindAt Table.isPairItem Table.isItem Table.isReferredOnce
     Table.trees Table.treeOf Table.itemCount Table.isLayout
     Node.nodeWords
-    Term.count
+    Term.count Term.onFormals
     Words.datumWords Words.encode
     Lookup.formOf Lookup.placeFrom Lookup.unboundMeaning Lookup.orUnbound Lookup.lookup Lookup.isSyntaxRules Lookup.agree
     Rules.chosenCount Rules.afterChosen Rules.ellipsisOf Rules.drivers Rules.isDriven Rules.depthFits Rules.variableFrom Rules.nameTemplate Rules.areVariables

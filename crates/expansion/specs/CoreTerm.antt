@@ -20,11 +20,10 @@ use Rattle.recipe.specs.Tree.{Tree, isName, elements, element, size}
 use Rattle.recipe.specs.Tidy.{tidy-element, tidy-weaken}
 use Rattle.recipe.specs.Table.{isLayout, treeOf}
 use Rattle.recipe.specs.TableTidy.{treeOf-tidy}
-use Rattle.core_term.specs.Term.{Term, forget}
-use Rattle.core_term.specs.Words.{encode}
+use Rattle.core_term.specs.Term.{Term}
 use Rattle.core_term.specs.Check.{outside, small, termOf}
 use Rattle.expansion.specs.Computation.{start}
-use Rattle.expansion.specs.Run.{accepted, coreOf, ended, operationNumbers, areOperations, expandRecipe, run}
+use Rattle.expansion.specs.Run.{accepted, told, wordsOf, coreOf, ended, operationNumbers, areOperations, expandRecipe, run}
 use Rattle.expansion.specs.RunLaws.{accepted≢refusedOn, accepted≢unfinished, unbegun, run-holds}
 use Rattle.expansion.specs.CoreTerm.Worlds.{World, fine-plain}
 use Rattle.expansion.specs.CoreTerm.WorldState.{Closed}
@@ -34,8 +33,8 @@ use Rattle.expansion.specs.CoreTerm.Sound.{MakesTerm, expand-made}
 -- these words are those of a term that passes, with so many operations
 pub record CoreTerm (operations : ℕ) (ws : List ℕ) : Type 0 where
   pub term : Term Name
-  pub words : ws ≡ encode term
-  pub passes : termOf operations small ws ≡ some (forget term)
+  pub words : ws ≡ wordsOf term
+  pub passes : termOf operations small ws ≡ some (told term)
 
 -- nothing is bound at the start
 nowhere : World
@@ -61,6 +60,6 @@ unfolding unbegun ended start nowhere
 run-term items fuel work core =
     run-holds (λ r. r .outcome ≡ accepted → CoreTerm (length (operationNumbers (treeOf items))) (coreOf r)) items fuel work core (λ b. expandRecipe-made fuel items (b .layout))
     (λ g _ e. absurd (accepted≢refusedOn g (sym e)))
-    (λ b t s l q e. record { term = t; words = refl; passes = sound-termOf _ t (q .passed) (operations-most (treeOf items) (b .operations)) })
+    (λ b t s l q e. record { term = t; words = refl; passes = sound-termOf _ (told t) (q .passed) (operations-most (treeOf items) (b .operations)) })
     (λ b g s l r e. absurd (accepted≢refusedOn g (sym e)))
     (λ b l x e. absurd (accepted≢unfinished (sym e)))

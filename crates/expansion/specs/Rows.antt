@@ -23,9 +23,9 @@ E01-to-E16 =
     2 6 (2 ∷ 1 ∷ []) ∷
     -- E08: literals: an inserted name keeps the binding of its template's place
     gives "() (let-syntax ((c (syntax-rules (else) ((_ else) 1) ((_ x) 2)))) (lambda (else) (let-syntax ((w (syntax-rules () ((_) (c else))))) (w))))"
-    2 6 (7 ∷ 0 ∷ 1 ∷ 2 ∷ 2 ∷ []) ∷
+    2 6 (7 ∷ 0 ∷ 1 ∷ 9 ∷ 2 ∷ 2 ∷ []) ∷
     -- E09: literals: the same binding on both sides agrees
-    gives "() (lambda (else) (let-syntax ((c (syntax-rules (else) ((_ else) 1) ((_ x) 2)))) (c else)))" 1 1 (7 ∷ 0 ∷ 1 ∷ 2 ∷ 1 ∷ []) ∷
+    gives "() (lambda (else) (let-syntax ((c (syntax-rules (else) ((_ else) 1) ((_ x) 2)))) (c else)))" 1 1 (7 ∷ 0 ∷ 1 ∷ 8 ∷ 2 ∷ 1 ∷ []) ∷
     -- E10: a literal that is the macro's own name, let-syntax
     gives "() (let-syntax ((if (syntax-rules (if) ((_ if) 1) ((_ x) 2)))) (if if))" 1 1 (2 ∷ 2 ∷ []) ∷
     -- E11: and letrec-syntax
@@ -55,44 +55,44 @@ E17-to-E33 =
     refuses "() (let-syntax ((k (syntax-rules () ((_ x y) (lambda (x y) (x y)))))) (let-syntax ((w (syntax-rules () ((_) (k t t))))) (w)))" 14 2 22 ∷
     -- E19: one inserted, one from the use: not the same
     gives "() (let-syntax ((k (syntax-rules () ((_ x y) (lambda (x y) (x y)))))) (let-syntax ((w (syntax-rules () ((_ z) (k z t))))) (w t)))"
-    2 22 (7 ∷ 0 ∷ 2 ∷ 8 ∷ 1 ∷ 0 ∷ 0 ∷ 0 ∷ 1 ∷ []) ∷
+    2 22 (7 ∷ 0 ∷ 2 ∷ 13 ∷ 13 ∷ 8 ∷ 1 ∷ 0 ∷ 0 ∷ 0 ∷ 1 ∷ []) ∷
     -- E20: a macro name from the use captures the use
     gives "() (let-syntax ((def (syntax-rules () ((_ n v e) (let-syntax ((n (syntax-rules () ((_) v)))) e))))) (def k 5 (k)))" 2 28 (2 ∷ 5 ∷ []) ∷
     -- E21: an inserted macro name does not
     refuses "() (let-syntax ((def (syntax-rules () ((_ e) (let-syntax ((k (syntax-rules () ((_) 5)))) e))))) (def (k)))" 11 1 27 ∷
     -- E22: the use's mark cancels: the operation t is not captured
     gives "(t) (let-syntax ((or2 (syntax-rules () ((_ a b) ((lambda (t) (if t t b)) a))))) ((lambda (if) (or2 if t)) #f))"
-    1 21 (8 ∷ 1 ∷ 7 ∷ 0 ∷ 1 ∷ 8 ∷ 1 ∷ 7 ∷ 1 ∷ 1 ∷ 6 ∷ 0 ∷ 1 ∷ 0 ∷ 1 ∷ 1 ∷ 0 ∷ 0 ∷ 0 ∷ 3 ∷ 0 ∷ []) ∷
+    1 21 (8 ∷ 1 ∷ 7 ∷ 0 ∷ 1 ∷ 1 ∷ 8 ∷ 1 ∷ 7 ∷ 1 ∷ 1 ∷ 8 ∷ 6 ∷ 0 ∷ 1 ∷ 0 ∷ 1 ∷ 1 ∷ 0 ∷ 0 ∷ 0 ∷ 3 ∷ 0 ∷ []) ∷
     -- E23: divide of document 002
     gives "(+ * /) ((lambda (/) (let-syntax ((divide (syntax-rules () ((_ a b) (/ a b))))) ((lambda (/) (divide 6 3)) *))) +)"
-    1 7 (8 ∷ 1 ∷ 7 ∷ 0 ∷ 1 ∷ 8 ∷ 1 ∷ 7 ∷ 1 ∷ 1 ∷ 8 ∷ 2 ∷ 0 ∷ 0 ∷ 2 ∷ 6 ∷ 2 ∷ 3 ∷ 1 ∷ 1 ∷ 1 ∷ 0 ∷ []) ∷
+    1 7 (8 ∷ 1 ∷ 7 ∷ 0 ∷ 1 ∷ 10 ∷ 8 ∷ 1 ∷ 7 ∷ 1 ∷ 1 ∷ 10 ∷ 8 ∷ 2 ∷ 0 ∷ 0 ∷ 2 ∷ 6 ∷ 2 ∷ 3 ∷ 1 ∷ 1 ∷ 1 ∷ 0 ∷ []) ∷
     -- E24: or of document 002
     gives "() (letrec-syntax ((or (syntax-rules () ((_) #f) ((_ e) e) ((_ a b ...) ((lambda (t) (if t t (or b ...))) a))))) (lambda (t u) (or t u #f)))"
-    3 53 (7 ∷ 0 ∷ 2 ∷ 8 ∷ 1 ∷ 7 ∷ 2 ∷ 1 ∷ 6 ∷ 0 ∷ 2 ∷ 0 ∷ 2 ∷ 8 ∷ 1 ∷ 7 ∷ 3 ∷ 1 ∷ 6 ∷ 0 ∷ 3 ∷ 0 ∷ 3 ∷ 3 ∷ 0 ∷ 0 ∷ 1 ∷ 0 ∷ 0 ∷ []) ∷
+    3 53 (7 ∷ 0 ∷ 2 ∷ 12 ∷ 13 ∷ 8 ∷ 1 ∷ 7 ∷ 2 ∷ 1 ∷ 12 ∷ 6 ∷ 0 ∷ 2 ∷ 0 ∷ 2 ∷ 8 ∷ 1 ∷ 7 ∷ 3 ∷ 1 ∷ 12 ∷ 6 ∷ 0 ∷ 3 ∷ 0 ∷ 3 ∷ 3 ∷ 0 ∷ 0 ∷ 1 ∷ 0 ∷ 0 ∷ []) ∷
     -- E25: a binding made before a mark
-    gives "() (lambda (x) (let-syntax ((m (syntax-rules () ((_) x)))) (m)))" 1 1 (7 ∷ 0 ∷ 1 ∷ 0 ∷ 0 ∷ []) ∷
+    gives "() (lambda (x) (let-syntax ((m (syntax-rules () ((_) x)))) (m)))" 1 1 (7 ∷ 0 ∷ 1 ∷ 8 ∷ 0 ∷ 0 ∷ []) ∷
     -- E26: mark, binding, mark on one template name
     gives "() (let-syntax ((m (syntax-rules () ((_) (lambda (x) (let-syntax ((n (syntax-rules () ((_ y) (lambda (y) x))))) (n x))))))) (m))"
-    2 56 (7 ∷ 0 ∷ 1 ∷ 7 ∷ 1 ∷ 1 ∷ 0 ∷ 0 ∷ []) ∷
+    2 56 (7 ∷ 0 ∷ 1 ∷ 9 ∷ 7 ∷ 1 ∷ 1 ∷ 9 ∷ 0 ∷ 0 ∷ []) ∷
     -- E27: one number with three sets of marks
     gives "() (letrec-syntax ((m (syntax-rules () ((_ a 0) a) ((_ a 1) (lambda (x) (m (if a x x) 0))) ((_ a 2) (lambda (x) (m (if a x x) 1)))))) (lambda (x) (m x 2)))"
-    3 71 (7 ∷ 0 ∷ 1 ∷ 7 ∷ 1 ∷ 1 ∷ 7 ∷ 2 ∷ 1 ∷ 6 ∷ 6 ∷ 0 ∷ 0 ∷ 0 ∷ 1 ∷ 0 ∷ 1 ∷ 0 ∷ 2 ∷ 0 ∷ 2 ∷ []) ∷
+    3 71 (7 ∷ 0 ∷ 1 ∷ 10 ∷ 7 ∷ 1 ∷ 1 ∷ 10 ∷ 7 ∷ 2 ∷ 1 ∷ 10 ∷ 6 ∷ 6 ∷ 0 ∷ 0 ∷ 0 ∷ 1 ∷ 0 ∷ 1 ∷ 0 ∷ 2 ∷ 0 ∷ 2 ∷ []) ∷
     -- E28: a name bound outside, and inside by the template
     gives "() (lambda (t) (let-syntax ((or2 (syntax-rules () ((_ a b) ((lambda (t) (if t t b)) a))))) (or2 #f t)))"
-    1 21 (7 ∷ 0 ∷ 1 ∷ 8 ∷ 1 ∷ 7 ∷ 1 ∷ 1 ∷ 6 ∷ 0 ∷ 1 ∷ 0 ∷ 1 ∷ 0 ∷ 0 ∷ 3 ∷ 0 ∷ []) ∷
+    1 21 (7 ∷ 0 ∷ 1 ∷ 8 ∷ 8 ∷ 1 ∷ 7 ∷ 1 ∷ 1 ∷ 8 ∷ 6 ∷ 0 ∷ 1 ∷ 0 ∷ 1 ∷ 0 ∷ 0 ∷ 3 ∷ 0 ∷ []) ∷
     -- E29: an inserted literal
     gives "() (let-syntax ((m (syntax-rules () ((_ a) (lambda (t) (let-syntax ((g (syntax-rules (t) ((_ t) 1) ((_ x) 2)))) (if (g t) (g a) 0))))))) (lambda (t) (m t)))"
-    3 65 (7 ∷ 0 ∷ 1 ∷ 7 ∷ 1 ∷ 1 ∷ 6 ∷ 2 ∷ 1 ∷ 2 ∷ 2 ∷ 2 ∷ 0 ∷ []) ∷
+    3 65 (7 ∷ 0 ∷ 1 ∷ 10 ∷ 7 ∷ 1 ∷ 1 ∷ 10 ∷ 6 ∷ 2 ∷ 1 ∷ 2 ∷ 2 ∷ 2 ∷ 0 ∷ []) ∷
     -- E30: an inserted macro name that is the macro's own
     gives "() (letrec-syntax ((loop (syntax-rules () ((_ x) (letrec-syntax ((loop (syntax-rules () ((_ y) y)))) (loop x)))))) (loop 1))"
     2 32 (2 ∷ 1 ∷ []) ∷
     -- E31: an inserted form name, bound again
-    gives "() (let-syntax ((m (syntax-rules () ((_) (lambda (quote) (quote 1)))))) (m))" 1 13 (7 ∷ 0 ∷ 1 ∷ 8 ∷ 1 ∷ 0 ∷ 0 ∷ 2 ∷ 1 ∷ []) ∷
+    gives "() (let-syntax ((m (syntax-rules () ((_) (lambda (quote) (quote 1)))))) (m))" 1 13 (7 ∷ 0 ∷ 1 ∷ 0 ∷ 8 ∷ 1 ∷ 0 ∷ 0 ∷ 2 ∷ 1 ∷ []) ∷
     -- E32: quote strips marks and bindings; names by number
     gives "() (let-syntax ((q (syntax-rules () ((_ x) (quote x))))) (lambda (y) (q (y if #t -5))))"
-    1 13 (7 ∷ 0 ∷ 1 ∷ 5 ∷ 4 ∷ 4 ∷ 10 ∷ 4 ∷ 1 ∷ 3 ∷ 1 ∷ 2 ∷ 4294967291 ∷ []) ∷
+    1 13 (7 ∷ 0 ∷ 1 ∷ 10 ∷ 5 ∷ 4 ∷ 4 ∷ 10 ∷ 4 ∷ 1 ∷ 3 ∷ 1 ∷ 2 ∷ 4294967291 ∷ []) ∷
     -- E33: quote bound again: an application
-    gives "() (lambda (quote) (quote 1))" 0 0 (7 ∷ 0 ∷ 1 ∷ 8 ∷ 1 ∷ 0 ∷ 0 ∷ 2 ∷ 1 ∷ []) ∷
+    gives "() (lambda (quote) (quote 1))" 0 0 (7 ∷ 0 ∷ 1 ∷ 0 ∷ 8 ∷ 1 ∷ 0 ∷ 0 ∷ 2 ∷ 1 ∷ []) ∷
     []
 
 pub E17-to-E33-hold : map filed E17-to-E33 ≡ E17-to-E33
@@ -104,7 +104,7 @@ unfolding gives refuses
 E34-to-E48 =
     -- E34: each copy is expanded anew, variables numbered through the run
     gives "() (let-syntax ((d (syntax-rules () ((_ e) (if e e e))))) (d (lambda (x) x)))"
-    1 33 (6 ∷ 7 ∷ 0 ∷ 1 ∷ 0 ∷ 0 ∷ 7 ∷ 1 ∷ 1 ∷ 0 ∷ 1 ∷ 7 ∷ 2 ∷ 1 ∷ 0 ∷ 2 ∷ []) ∷
+    1 33 (6 ∷ 7 ∷ 0 ∷ 1 ∷ 10 ∷ 0 ∷ 0 ∷ 7 ∷ 1 ∷ 1 ∷ 10 ∷ 0 ∷ 1 ∷ 7 ∷ 2 ∷ 1 ∷ 10 ∷ 0 ∷ 2 ∷ []) ∷
     -- E35: a variable under no ellipsis, under one in the template
     gives "(list) (let-syntax ((p (syntax-rules () ((_ x (a ...)) (list (list x a) ...))))) (p #t (1 2 3)))"
     1 27 (8 ∷ 3 ∷ 1 ∷ 0 ∷ 8 ∷ 2 ∷ 1 ∷ 0 ∷ 3 ∷ 1 ∷ 2 ∷ 1 ∷ 8 ∷ 2 ∷ 1 ∷ 0 ∷ 3 ∷ 1 ∷ 2 ∷ 2 ∷ 8 ∷ 2 ∷ 1 ∷ 0 ∷ 3 ∷ 1 ∷ 2 ∷ 3 ∷ []) ∷
@@ -112,7 +112,7 @@ E34-to-E48 =
     gives "(list) (let-syntax ((n (syntax-rules () ((_ (a b ...) ...) (list (list a b ...) ...))))) (n (1) (2 3 4)))"
     1 19 (8 ∷ 2 ∷ 1 ∷ 0 ∷ 8 ∷ 1 ∷ 1 ∷ 0 ∷ 2 ∷ 1 ∷ 8 ∷ 3 ∷ 1 ∷ 0 ∷ 2 ∷ 2 ∷ 2 ∷ 3 ∷ 2 ∷ 4 ∷ []) ∷
     -- E37: an ellipsis in the middle of a template's list
-    gives "() (let-syntax ((m (syntax-rules () ((_ a b ...) (b ... a))))) (m 1 (lambda (x) x)))" 1 13 (8 ∷ 1 ∷ 7 ∷ 0 ∷ 1 ∷ 0 ∷ 0 ∷ 2 ∷ 1 ∷ []) ∷
+    gives "() (let-syntax ((m (syntax-rules () ((_ a b ...) (b ... a))))) (m 1 (lambda (x) x)))" 1 13 (8 ∷ 1 ∷ 7 ∷ 0 ∷ 1 ∷ 11 ∷ 0 ∷ 0 ∷ 2 ∷ 1 ∷ []) ∷
     -- E38: inner driving lists that differ
     refuses "(list) (let-syntax ((z (syntax-rules () ((_ ((a ...) ...) ((b ...) ...)) (list (list (list a b) ...) ...))))) (z ((1 2) (3)) ((4 5) (6 7))))"
     17 0 0 ∷
@@ -172,7 +172,7 @@ E49-to-E62 =
     -- E59: a macro name as a bare expression
     refuses "() (let-syntax ((m (syntax-rules () ((_) 1)))) m)" 12 0 0 ∷
     -- E60: a macro name bound again by lambda
-    gives "() (let-syntax ((m (syntax-rules () ((_) 1)))) (lambda (m) (m)))" 0 0 (7 ∷ 0 ∷ 1 ∷ 8 ∷ 0 ∷ 0 ∷ 0 ∷ []) ∷
+    gives "() (let-syntax ((m (syntax-rules () ((_) 1)))) (lambda (m) (m)))" 0 0 (7 ∷ 0 ∷ 1 ∷ 8 ∷ 8 ∷ 0 ∷ 0 ∷ 0 ∷ []) ∷
     -- E61: an integer as head, an empty quoted list, the least integer
     gives "() (lambda () ((quote ()) (1 -2147483648)))" 0 0 (7 ∷ 0 ∷ 0 ∷ 8 ∷ 1 ∷ 5 ∷ 0 ∷ 8 ∷ 1 ∷ 2 ∷ 1 ∷ 2 ∷ 2147483648 ∷ []) ∷
     -- E62: no ellipsis can be inserted

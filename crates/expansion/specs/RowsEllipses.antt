@@ -80,7 +80,7 @@ E78-to-E96 =
     -- E92: the macro's own name
     gives "(list) (letrec-syntax ((m (syntax-rules m () ((_ a m) (list a m))))) (m 1 2))" 1 7 (8 ∷ 2 ∷ 1 ∷ 0 ∷ 2 ∷ 1 ∷ 2 ∷ 2 ∷ []) ∷
     -- E93: one that is bound outside
-    gives "(list) (lambda (e) (let-syntax ((m (syntax-rules e () ((_ a e) (list a e))))) (m 1 e)))" 1 7 (7 ∷ 0 ∷ 1 ∷ 8 ∷ 2 ∷ 1 ∷ 0 ∷ 2 ∷ 1 ∷ 0 ∷ 0 ∷ []) ∷
+    gives "(list) (lambda (e) (let-syntax ((m (syntax-rules e () ((_ a e) (list a e))))) (m 1 e)))" 1 7 (7 ∷ 0 ∷ 1 ∷ 9 ∷ 8 ∷ 2 ∷ 1 ∷ 0 ∷ 2 ∷ 1 ∷ 0 ∷ 0 ∷ []) ∷
     -- E94: one that a macro inserted
     gives "(list) (let-syntax ((w (syntax-rules () ((_ x) (let-syntax ((n (syntax-rules e () ((_ a e) (list a e))))) (n x 2)))))) (w 1))"
     2 50 (8 ∷ 2 ∷ 1 ∷ 0 ∷ 2 ∷ 1 ∷ 2 ∷ 2 ∷ []) ∷

@@ -25,12 +25,12 @@ fuels =
     -- F1: 18 below the sum, accepted from the sum on
     withFuel 20 (refuses "() (let-syntax ((or2 (syntax-rules () ((_ a b) ((lambda (t) (if t t b)) a))))) (lambda (t) (or2 #f t)))" 18 0 0) ∷
     withFuel 21 (gives "() (let-syntax ((or2 (syntax-rules () ((_ a b) ((lambda (t) (if t t b)) a))))) (lambda (t) (or2 #f t)))"
-    1 21 (7 ∷ 0 ∷ 1 ∷ 8 ∷ 1 ∷ 7 ∷ 1 ∷ 1 ∷ 6 ∷ 0 ∷ 1 ∷ 0 ∷ 1 ∷ 0 ∷ 0 ∷ 3 ∷ 0 ∷ [])) ∷
+    1 21 (7 ∷ 0 ∷ 1 ∷ 11 ∷ 8 ∷ 1 ∷ 7 ∷ 1 ∷ 1 ∷ 11 ∷ 6 ∷ 0 ∷ 1 ∷ 0 ∷ 1 ∷ 0 ∷ 0 ∷ 3 ∷ 0 ∷ [])) ∷
     withFuel 8192 (gives "() (let-syntax ((or2 (syntax-rules () ((_ a b) ((lambda (t) (if t t b)) a))))) (lambda (t) (or2 #f t)))"
-    1 21 (7 ∷ 0 ∷ 1 ∷ 8 ∷ 1 ∷ 7 ∷ 1 ∷ 1 ∷ 6 ∷ 0 ∷ 1 ∷ 0 ∷ 1 ∷ 0 ∷ 0 ∷ 3 ∷ 0 ∷ [])) ∷
+    1 21 (7 ∷ 0 ∷ 1 ∷ 11 ∷ 8 ∷ 1 ∷ 7 ∷ 1 ∷ 1 ∷ 11 ∷ 6 ∷ 0 ∷ 1 ∷ 0 ∷ 1 ∷ 0 ∷ 0 ∷ 3 ∷ 0 ∷ [])) ∷
     -- F5: no step, the same at every fuel
-    withFuel 0 (gives "() (lambda (x) x)" 0 0 (7 ∷ 0 ∷ 1 ∷ 0 ∷ 0 ∷ [])) ∷
-    withFuel 8192 (gives "() (lambda (x) x)" 0 0 (7 ∷ 0 ∷ 1 ∷ 0 ∷ 0 ∷ [])) ∷
+    withFuel 0 (gives "() (lambda (x) x)" 0 0 (7 ∷ 0 ∷ 1 ∷ 8 ∷ 0 ∷ 0 ∷ [])) ∷
+    withFuel 8192 (gives "() (lambda (x) x)" 0 0 (7 ∷ 0 ∷ 1 ∷ 8 ∷ 0 ∷ 0 ∷ [])) ∷
     -- F6: 16 with no fuel stays
     withFuel 0 (refuses "() (let-syntax ((m (syntax-rules () ((_ 1) 1)))) (m 2))" 16 0 0) ∷
     withFuel 1 (refuses "() (let-syntax ((m (syntax-rules () ((_ 1) 1)))) (m 2))" 16 0 0) ∷

@@ -14,10 +14,10 @@ recipes =
     -- Else: a literal without a binding
     gives "() (let-syntax ((c (syntax-rules (else) ((_ else) 1) ((_ x) 2)))) (c else))" 1 1 (2 ∷ 1 ∷ []) ∷
     -- Else: a literal bound at the use
-    gives "() (let-syntax ((c (syntax-rules (else) ((_ else) 1) ((_ x) 2)))) (lambda (else) (c else)))" 1 1 (7 ∷ 0 ∷ 1 ∷ 2 ∷ 2 ∷ []) ∷
+    gives "() (let-syntax ((c (syntax-rules (else) ((_ else) 1) ((_ x) 2)))) (lambda (else) (c else)))" 1 1 (7 ∷ 0 ∷ 1 ∷ 9 ∷ 2 ∷ 2 ∷ []) ∷
     -- F1: the sum reaches the fuel
     withFuel 21 (gives "() (let-syntax ((or2 (syntax-rules () ((_ a b) ((lambda (t) (if t t b)) a))))) (lambda (t) (or2 #f t)))"
-    1 21 (7 ∷ 0 ∷ 1 ∷ 8 ∷ 1 ∷ 7 ∷ 1 ∷ 1 ∷ 6 ∷ 0 ∷ 1 ∷ 0 ∷ 1 ∷ 0 ∷ 0 ∷ 3 ∷ 0 ∷ [])) ∷
+    1 21 (7 ∷ 0 ∷ 1 ∷ 11 ∷ 8 ∷ 1 ∷ 7 ∷ 1 ∷ 1 ∷ 11 ∷ 6 ∷ 0 ∷ 1 ∷ 0 ∷ 1 ∷ 0 ∷ 0 ∷ 3 ∷ 0 ∷ [])) ∷
     -- F1: the sum would pass it
     withFuel 20 (refuses "() (let-syntax ((or2 (syntax-rules () ((_ a b) ((lambda (t) (if t t b)) a))))) (lambda (t) (or2 #f t)))" 18 0 0) ∷
     -- F2: 17 before 18 with no fuel
@@ -29,21 +29,27 @@ recipes =
     -- Private: an inserted syntax-rules, bound
     refuses "() (let-syntax ((m (syntax-rules () ((_) (lambda (syntax-rules) (let-syntax ((k (syntax-rules () ((_) 1)))) (k))))))) (m))" 15 1 35 ∷
     -- Private: an inserted name that is a literal of its rule
-    gives "() (let-syntax ((m (syntax-rules (t) ((_ t) (lambda (t) t)) ((_ x) 0)))) (m t))" 1 9 (7 ∷ 0 ∷ 1 ∷ 0 ∷ 0 ∷ []) ∷
+    gives "() (let-syntax ((m (syntax-rules (t) ((_ t) (lambda (t) t)) ((_ x) 0)))) (m t))" 1 9 (7 ∷ 0 ∷ 1 ∷ 9 ∷ 0 ∷ 0 ∷ []) ∷
     -- Private: an inserted name that is an operation
-    gives "(op) (let-syntax ((m (syntax-rules () ((_ a) (lambda (op) (op a)))))) (m op))" 1 13 (7 ∷ 0 ∷ 1 ∷ 8 ∷ 1 ∷ 0 ∷ 0 ∷ 1 ∷ 0 ∷ []) ∷
+    gives "(op) (let-syntax ((m (syntax-rules () ((_ a) (lambda (op) (op a)))))) (m op))" 1 13 (7 ∷ 0 ∷ 1 ∷ 8 ∷ 8 ∷ 1 ∷ 0 ∷ 0 ∷ 1 ∷ 0 ∷ []) ∷
     -- Private: a form that is quoted and not reached
     gives "() (quote (let-syntax ((m (syntax-rules () ((_) x)))) 1))"
     0 0 (5 ∷ 3 ∷ 4 ∷ 3 ∷ 5 ∷ 1 ∷ 5 ∷ 2 ∷ 4 ∷ 8 ∷ 5 ∷ 3 ∷ 4 ∷ 5 ∷ 5 ∷ 0 ∷ 5 ∷ 2 ∷ 5 ∷ 1 ∷ 4 ∷ 7 ∷ 4 ∷ 9 ∷ 2 ∷ 1 ∷ []) ∷
     -- Names: inserted by two steps, not the same
     gives "() (let-syntax ((k (syntax-rules () ((_ x) (lambda (t x) (t x)))))) (let-syntax ((w (syntax-rules () ((_) (k t))))) (w)))"
-    2 20 (7 ∷ 0 ∷ 2 ∷ 8 ∷ 1 ∷ 0 ∷ 0 ∷ 0 ∷ 1 ∷ []) ∷
+    2 20 (7 ∷ 0 ∷ 2 ∷ 10 ∷ 10 ∷ 8 ∷ 1 ∷ 0 ∷ 0 ∷ 0 ∷ 1 ∷ []) ∷
     -- Names: an inserted _ as a bare expression
     refuses "() (let-syntax ((m (syntax-rules () ((_) _)))) (m))" 12 1 1 ∷
     -- Names: an inserted _ matches anything, each by itself
     gives "() (let-syntax ((m (syntax-rules () ((_) (let-syntax ((n (syntax-rules () ((_ _ _) 1)))) (n 2 3)))))) (m))" 2 36 (2 ∷ 1 ∷ []) ∷
+    -- Names of variables: as they are written, one for each variable
+    gives "() (lambda (t u) ((lambda (t) (t u)) t))" 0 0 (7 ∷ 0 ∷ 2 ∷ 8 ∷ 9 ∷ 8 ∷ 1 ∷ 7 ∷ 2 ∷ 1 ∷ 8 ∷ 8 ∷ 1 ∷ 0 ∷ 2 ∷ 0 ∷ 1 ∷ 0 ∷ 0 ∷ []) ∷
+    -- Names of variables: a formal from the use has its own name there
+    gives "() (let-syntax ((k (syntax-rules () ((_ x) (lambda (x) x))))) (k y))" 1 9 (7 ∷ 0 ∷ 1 ∷ 10 ∷ 0 ∷ 0 ∷ []) ∷
+    -- Names of variables: of a form, and none
+    gives "() (lambda (if) (lambda () (if 1 2)))" 0 0 (7 ∷ 0 ∷ 1 ∷ 1 ∷ 7 ∷ 1 ∷ 0 ∷ 8 ∷ 2 ∷ 0 ∷ 0 ∷ 2 ∷ 1 ∷ 2 ∷ 2 ∷ []) ∷
     -- Names: a quoted name that is bound keeps its number
-    gives "() (lambda (x) (quote (m x)))" 0 0 (7 ∷ 0 ∷ 1 ∷ 5 ∷ 2 ∷ 4 ∷ 9 ∷ 4 ∷ 8 ∷ []) ∷
+    gives "() (lambda (x) (quote (m x)))" 0 0 (7 ∷ 0 ∷ 1 ∷ 8 ∷ 5 ∷ 2 ∷ 4 ∷ 9 ∷ 4 ∷ 8 ∷ []) ∷
     -- Matching: variables after a list, after a constant and after _
     gives "(list) (let-syntax ((m (syntax-rules () ((_ (a b) c) (list a b c))))) (m (1 2) 3))" 1 9 (8 ∷ 3 ∷ 1 ∷ 0 ∷ 2 ∷ 1 ∷ 2 ∷ 2 ∷ 2 ∷ 3 ∷ []) ∷
     gives "(list) (let-syntax ((m (syntax-rules () ((_ 0 a _ b) (list a b))))) (m 0 1 2 3))" 1 7 (8 ∷ 2 ∷ 1 ∷ 0 ∷ 2 ∷ 1 ∷ 2 ∷ 3 ∷ []) ∷

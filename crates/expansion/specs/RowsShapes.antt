@@ -39,7 +39,7 @@ shapes =
     refuses "() (lambda x 1)" 13 0 0 ∷
     refuses "() (lambda (1) 1)" 13 0 0 ∷
     refuses "() (lambda (...) 1)" 13 0 0 ∷
-    gives "() (lambda (a b c d e f g h) 1)" 0 0 (7 ∷ 0 ∷ 8 ∷ 2 ∷ 1 ∷ []) ∷
+    gives "() (lambda (a b c d e f g h) 1)" 0 0 (7 ∷ 0 ∷ 8 ∷ 8 ∷ 9 ∷ 10 ∷ 11 ∷ 12 ∷ 13 ∷ 14 ∷ 15 ∷ 2 ∷ 1 ∷ []) ∷
     refuses "() (lambda (a b c d e f g h i) 1)" 13 0 0 ∷
     -- let-syntax: three parts, and a list of 1 to 16 pairs of a name and rules
     refuses "() (let-syntax ((m 1)))" 13 0 0 ∷

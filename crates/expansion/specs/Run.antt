@@ -10,8 +10,8 @@ use Rattle.words.specs.Lists.{allOf}
 use Rattle.recipe.specs.Name.{Name, distinct}
 use Rattle.recipe.specs.Tree.{Tree, size, names, isName, elements, element}
 use Rattle.recipe.specs.Table.{itemCount, isLayout, treeOf}
-use Rattle.core_term.specs.Term.{Term}
-use Rattle.core_term.specs.Words.{encode}
+use Rattle.core_term.specs.Term.{Term, Terms, Plain, Plains, onFormals, onFormalsAll}
+use Rattle.core_term.specs.Words.{encode, encodeAll}
 use Rattle.expansion.specs.Computation.{start, Events, Out, done, refused, starved}
 use Rattle.expansion.specs.Forms.{expand}
 
@@ -29,10 +29,23 @@ pub record Run : Type 0 where
   pub term : Option (Term Name)
   pub events : Events
 
+-- a term as its words tell it: of each formal its own number, marks dropped
+abbrev pub told : Term Name → Plain
+told = onFormals (λ x. x .number)
+
+abbrev pub toldAll : Terms Name → Plains
+toldAll = onFormalsAll (λ x. x .number)
+
+abbrev pub wordsOf : Term Name → List ℕ
+wordsOf t = encode (told t)
+
+abbrev pub wordsOfAll : Terms Name → List ℕ
+wordsOfAll ts = encodeAll (toldAll ts)
+
 -- its core term, the words of the accepted term
 abbrev pub termWords : Option (Term Name) → List ℕ
 termWords none = []
-termWords (some t) = encode t
+termWords (some t) = wordsOf t
 
 abbrev pub coreOf : Run → List ℕ
 coreOf r = termWords (r .term)

@@ -31,4 +31,4 @@ pub record Printed (x out out′ : List ℕ) (n : ℕ) : Type 0 where
 
 -- bytes that hold any output of the filing program
 abbrev pub outputMost : ℕ
-outputMost = 73728
+outputMost = 116736

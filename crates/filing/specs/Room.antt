@@ -1,4 +1,4 @@
--- No output of the filing program passes the 73,728 bytes that it has, so it always prints what the definition says.
+-- No output of the filing program passes the 116,736 bytes that it has, so it always prints what the definition says.
 use mathlib.Core.Path.{_≡_, refl, ap, subst}
 use mathlib.Core.List.{List, [], _∷_, _++_}
 use mathlib.Core.Option.{Option, none, some}

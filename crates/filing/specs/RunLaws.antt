@@ -19,12 +19,9 @@ use Rattle.reading_layout.specs.Answers.{read-slots}
 use Rattle.reader.specs.declared.Reading.{Reading}
 use Rattle.reader.specs.declared.Reading.the-variants as RV
 use Rattle.reader.specs.Served as R
-use Rattle.core_term.specs.Node.{nodeWords, variableN, operationN, constantN, nameN, listN, ifN, lambdaN, applicationN}
-use Rattle.core_term.specs.NodeLaws.{node-some}
-use Rattle.core_term.specs.Term.{Term, variableC, operationC, datumC, ifC, lambdaC, applicationC, count}
-use Rattle.core_term.specs.Words.{datumWords, dataWords, encode, encodeAll}
+use Rattle.core_term.specs.PartsLaws.{encode-two}
 use Rattle.core_term.specs.Check.{termOf}
-use Rattle.expansion.specs.Run.{Outcome, accepted, refusedOn, unfinished, Run, coreOf, run}
+use Rattle.expansion.specs.Run.{told, Outcome, accepted, refusedOn, unfinished, Run, coreOf, run}
 use Rattle.expansion.specs.CoreTerm.{run-term}
 use Rattle.expansion.specs.Bounds.Gas.{run-finished}
 use Rattle.expansion.specs.Ways.Grounds.{RefusedOn, atOnce, later, run-ground}
@@ -45,18 +42,6 @@ front ws zs table n e l =
     (omega (arith, ap length e, length-append ws zs), ap (take n) e ∙ take-at ws zs n (sym l))
 
 -- ---- expansion
-
--- a term has words
-term-words : {F : Type 0} (t : Term F) → 1 ≤ length (encode t)
-unfolding encode datumWords
-term-words (variableC n) = node-some (variableN n)
-term-words (operationC n) = node-some (operationN n)
-term-words (datumC (constantD a)) = node-some (constantN a)
-term-words (datumC (nameD n)) = node-some (nameN n)
-term-words (datumC (listD ds)) = omega (arith, node-some (listN (D.count ds)), length-append (nodeWords (listN (D.count ds))) (dataWords ds))
-term-words (ifC x y z) = omega (arith, node-some ifN, length-append (nodeWords ifN) (encode x ++ (encode y ++ encode z)))
-term-words (lambdaC first formals body) = omega (arith, node-some (lambdaN first (length formals)), length-append (nodeWords (lambdaN first (length formals))) (encode body))
-term-words (applicationC h ts) = omega (arith, node-some (applicationN (count ts)), length-append (nodeWords (applicationN (count ts))) (encode h ++ encodeAll ts))
 
 -- no ground is 0
 low : (g : ℕ) (r : Run) → RefusedOn g r → 7 ≤ g
@@ -84,7 +69,7 @@ module _ (items : List ℕ) (fuel work core : ℕ) where
       go : (o : Outcome) → it .outcome ≡ o → g ≡ groundOf o → _≡_ {A = ℕ} 0 (length (coreOf it)) → it .outcome ≡ refusedOn g
       go accepted h z l =
           let t = run-term items fuel work core h in
-          absurd (omega (arith, term-words (t .term), ap length (t .words)))
+          absurd (omega (arith, encode-two (told (t .term)), ap length (t .words)))
       go (refusedOn k) h z l = h ∙ ap refusedOn (sym z)
       go unfinished h z l = absurd (run-finished items fuel work core h)
 
@@ -100,11 +85,11 @@ module _ (items : List ℕ) (fuel : ℕ) (work work′ core core′ : List ℕ) 
   expanded-by e x = record { output = wrote-is e x; work-after = s .work-after; core-after = s .core-after }
 
   module _ (n m l : ℕ) (h : r ≡ Accepted n m l) (to : ℕ) (w : to ≡ l) where
-    told : numbersOf (Accepted n m l) ≡ runNumbers ran
-    told = told-as (Accepted n m l) h
+    counts : numbersOf (Accepted n m l) ≡ runNumbers ran
+    counts = told-as (Accepted n m l) h
 
     ran-accepted : ran .outcome ≡ accepted
-    ran-accepted = is-accepted items fuel (length work) (length core) n m l told
+    ran-accepted = is-accepted items fuel (length work) (length core) n m l counts
 
     -- the core table begins with the term
     pub term-front : (to ≤ length core′) × (take to core′ ≡ coreOf ran)
@@ -112,19 +97,19 @@ module _ (items : List ℕ) (fuel : ℕ) (work work′ core core′ : List ℕ) 
     term-front =
         front (coreOf ran) (replicate (length core - length (coreOf ran)) 0) core′ to
         (s .core-after ∙ ap (λ (o : Outcome). leftBy o (coreOf ran) core) ran-accepted)
-        (w ∙ ap (λ (k : Numbers). k .length) told)
+        (w ∙ ap (λ (k : Numbers). k .length) counts)
 
     pub expanded-accepted : {names out out′ : List ℕ} {q : Writing} → Wrote (some (acceptance names n m (termOf operationsMost (hasName names) (take to core′)))) out out′ q
         → Expanded items fuel names work work′ core core′ out out′ q
     unfolding numbersOf runNumbers printedRun printed
-    expanded-accepted = expanded-by (rw (ran-accepted, ap (λ (k : Numbers). k .steps) told, ap (λ (k : Numbers). k .sum) told, term-front .1))
+    expanded-accepted = expanded-by (rw (ran-accepted, ap (λ (k : Numbers). k .steps) counts, ap (λ (k : Numbers). k .sum) counts, term-front .1))
 
   pub expanded-refused : (g n m : ℕ) → r ≡ Refused g n m → {names out out′ : List ℕ} {q : Writing} → Wrote (some (refusal g n m)) out out′ q
       → Expanded items fuel names work work′ core core′ out out′ q
   unfolding numbersOf runNumbers printedRun printed
   expanded-refused g n m h =
-      let told = told-as (Refused g n m) h in
-      expanded-by (rw (is-refused items fuel (length work) (length core) g n m told, ap (λ (k : Numbers). k .steps) told, ap (λ (k : Numbers). k .sum) told))
+      let counts = told-as (Refused g n m) h in
+      expanded-by (rw (is-refused items fuel (length work) (length core) g n m counts, ap (λ (k : Numbers). k .steps) counts, ap (λ (k : Numbers). k .sum) counts))
 
 -- ---- reading
 

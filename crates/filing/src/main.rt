@@ -19,7 +19,7 @@ use words::NAME_BYTES;
 use writer::Writing;
 
 // Bytes of the longest output, and some to spare. specs/File.antt has the same number.
-const OUTPUT: usize = 73728;
+const OUTPUT: usize = 116736;
 
 fn item_table() -> [u32; ITEM_WORDS] {
     [0; ITEM_WORDS]

@@ -6,3 +6,4 @@ pub mod BinderLaws
 pub mod ScopeLaws
 pub mod Quotes
 pub mod QuoteLaws
+pub mod NumberLaws

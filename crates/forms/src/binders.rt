@@ -3,13 +3,16 @@
 
 ghost use mathlib.Core.Path.{_≡_};
 ghost use mathlib.Core.Bool.{true, false};
-ghost use Prim.Native.Nat.{_^_, _<_};
+ghost use Prim.Native.Nat.{ℕ, _+_, _^_, _≤_, _<_};
+ghost use lib.ListN.{length};
 ghost use Rattle.words.specs.Lists.{anyOf};
 ghost use mathlib.Core.Option.{some};
 ghost use Rattle.recipe.specs.Name.{variable, macro, same, distinct, bindingKey};
 ghost use Rattle.recipe.specs.Tree.{element};
 ghost use Rattle.expansion.specs.Forms.{isLambda, formals, keywords};
 ghost use Rattle.arena.specs.Arena.{nameAt, treeAt};
+ghost use Rattle.forms.specs.NumberLaws.{numbersIn};
+ghost use Rattle.forms.specs.Quotes.{Written};
 ghost use Rattle.forms.specs.Binders.{AllNames, namesIn, ListTails, bindsTo, Space, Scoped};
 use crate::shapes;
 use arena::cells;
@@ -134,4 +137,21 @@ pub fn bind_macros(work: &mut [u32], node: u32, w: u32, first: u32, top: u32) ->
 {
     let list = lists::element(work, node, 1);
     bind_names(work, list, w, true, first, w, top)
+}
+
+// The numbers of the names that a lambda's list binds, into the core table from `at`; answers where the next word stands.
+pub fn put_numbers(work: &[u32], list: u32, core: &mut [u32], at: usize) -> usize
+    requires { ⌜ ((w : ℕ) × (AllNames false (treeAt (now work) list w)) × (at + length (namesIn false (treeAt (now work) list w)) ≤ length (now core))) ⌝ }
+    ensures { λ r. ⌜ ((w : ℕ) → AllNames false (treeAt (now (work .entry)) list w) → Written (numbersIn (treeAt (now (work .entry)) list w)) (now (core .entry)) (now (core .exit)) at r) ⌝ }
+{
+    let mut node = list;
+    let mut n = at;
+    while cells::word(work, node, cells::KIND) == cells::PAIR {
+        let first = cells::reference(work, node, cells::HEAD);
+        let own = shapes::own_name(work, first, false);
+        core[n] = names::number_of(work, own);
+        node = cells::reference(work, node, cells::TAIL);
+        n += 1;
+    }
+    n
 }

@@ -1,8 +1,9 @@
--- Demand 3 for two calls: by the service's promise (demands 1 and 2) they give equal answers and leave equal words in the core and
--- work tables, whatever words they are lent.
+-- Demand 3 for two calls: by the service's promise (demands 1 and 2) they give equal answers and leave equal words in the work tables,
+-- and in the core tables but for the name words where a copy stands, whatever words they are lent.
 use mathlib.Core.Path.{_≡_, refl, ap, ap₂, sym, _∙_}
 use mathlib.Core.Bool.{Bool, true, cond, false≢true}
 use mathlib.Core.List.{List, [], _++_}
+use mathlib.Core.Option.{Option, none, some}
 use Prim.Native.Nat.{ℕ, _-_, _<_}
 use native.Mathlib.Omega.{arith}
 use lib.Dec.{leb}
@@ -11,12 +12,16 @@ use borrow.Author.Tests.{lt-leb}
 use Rattle.words.specs.Lists.{allOf, anyOf}
 use Rattle.words.specs.Tables.{filled}
 use Rattle.words.specs.TestLaws.{and-parts}
+use Rattle.recipe.specs.Name.{Name}
+use Rattle.recipe.specs.Table.{treeOf}
+use Rattle.core_term.specs.Term.{Term}
+use Rattle.core_term.specs.TermLaws.{onFormals-words}
 use Rattle.expansion.specs.Computation.{Event}
 use Rattle.expansion.specs.Run.{Outcome, accepted, refusedOn, unfinished, Run, run}
 use Rattle.expansion.specs.RunLaws.{unbegun}
 use Rattle.expansion.specs.Bounds.Gas.{run-finished}
 use Rattle.expansion.specs.Ways.Grounds.{RefusedOn, atOnce, later, run-ground}
-use Rattle.private_names.specs.Statement.{Choice, renamed, isReachedAt, hypotheses, Answer, answerOf, PrivateNames}
+use Rattle.private_names.specs.Statement.{Choice, isOldItem, renamed, isReachedAt, hypotheses, Answer, answerOf, formalNumber, coreWith, answerWith, PrivateNames}
 use Rattle.private_names_proof.specs.Claim.{private-names}
 use Rattle.expander.specs.declared.Expansion.{Expansion}
 use Rattle.expander.specs.Service.{Numbers, numbersOf, groundOf, runNumbers, leftBy, coreAfter, workAfter, Served}
@@ -54,20 +59,39 @@ module _ (ws : List ℕ) (fuel work core : ℕ) (f : Event → Bool) (shown : an
 abbrev numbersFor : Answer → Numbers
 numbersFor a = record { ground = groundOf (a .outcome); steps = a .steps; sum = a .sum; length = length (a .core) }
 
--- with one fuel and lent tables of equal lengths: of a recipe, and of the recipe with a private name renamed
+-- whatever number stands where a copy does, the words are as many
+with-length : (C : ℕ → Bool) (m n : ℕ) (o : Option (Term Name)) → length (coreWith C m o) ≡ length (coreWith C n o)
+unfolding coreWith
+with-length C m n none = refl
+with-length C m n (some t) = onFormals-words (formalNumber C m) (formalNumber C n) t
+
+-- what the first call leaves in its core table, with number n where a copy stands
+abbrev pub coreLeft : (ws : List ℕ) (fuel : ℕ) (c : Choice) (work core : List ℕ) → ℕ → List ℕ
+coreLeft ws fuel c work core n =
+    let r = run ws fuel (length work) (length core) in
+    leftBy (r .outcome) (coreWith (isOldItem (treeOf ws) c) n (r .term)) core
+
+-- with one fuel and lent tables of equal lengths: of a recipe, and of the recipe with a private name renamed. Numbers and work tables
+-- are equal; the core tables hold the first run's term, one with the old number and the other with the new where a copy stands
 pub private-calls : (ws : List ℕ) (fuel : ℕ) (c : Choice) (work work′ work₁ work₂ core core′ core₁ core₂ : List ℕ) (first second : Expansion)
     → length work′ ≡ length work → length core′ ≡ length core
     → allOf (λ h. h) (hypotheses ws c (run ws fuel (length work) (length core) .events)) ≡ true
     → Served ws fuel work work₁ core core₁ first
     → Served (renamed ws c) fuel work′ work₂ core′ core₂ second
-    → (numbersOf second ≡ numbersOf first) × (core₂ ≡ core₁) × (work₂ ≡ work₁)
-unfolding PrivateNames hypotheses allOf answerOf runNumbers coreAfter workAfter
+    → (numbersOf second ≡ numbersOf first) × (core₁ ≡ coreLeft ws fuel c work core (c .old)) × (core₂ ≡ coreLeft ws fuel c work core (c .new)) × (work₂ ≡ work₁)
+unfolding PrivateNames hypotheses allOf answerOf answerWith runNumbers coreAfter workAfter
 private-calls ws fuel c work work′ work₁ work₂ core core′ core₁ core₂ first second x y h p q =
-    let shown = and-parts (anyOf (isReachedAt (c .form)) (run ws fuel (length work) (length core) .events)) _ h .0 in
+    let r = run ws fuel (length work) (length core) in
+    let C = isOldItem (treeOf ws) c in
+    let shown = and-parts (anyOf (isReachedAt (c .form)) (r .events)) _ h .0 in
     let left = left-by-length ws fuel (length work) (length core) (isReachedAt (c .form)) shown in
-    let e : answerOf (run (renamed ws c) fuel (length work′) (length core′)) ≡ answerOf (run ws fuel (length work) (length core)) =
-    ap₂ (λ m n. answerOf (run (renamed ws c) fuel m n)) x y ∙ private-names ws fuel (length work) (length core) c h in (
-      q .numbers ∙ ap numbersFor e ∙ sym (p .numbers),
-      q .core-after ∙ ap (λ (a : Answer). leftBy (a .outcome) (a .core) core′) e ∙ left _ core′ core y ∙ sym (p .core-after),
+    let named = private-names ws fuel (length work) (length core) c h in
+    let e : answerOf (run (renamed ws c) fuel (length work′) (length core′)) ≡ answerWith C (c .new) r =
+    ap₂ (λ m n. answerOf (run (renamed ws c) fuel m n)) x y ∙ named .1 in
+    let same : numbersFor (answerWith C (c .new) r) ≡ numbersFor (answerWith C (c .old) r) =
+    ap (λ (n : ℕ). record { ground = groundOf (r .outcome); steps = r .steps; sum = r .sum; length = n }) (with-length C (c .new) (c .old) (r .term)) in (
+      q .numbers ∙ ap numbersFor e ∙ same ∙ sym (ap numbersFor (named .0)) ∙ sym (p .numbers),
+      p .core-after ∙ ap (λ (a : Answer). leftBy (a .outcome) (a .core) core) (named .0),
+      q .core-after ∙ ap (λ (a : Answer). leftBy (a .outcome) (a .core) core′) e ∙ left _ core′ core y,
       q .work-after ∙ ap (λ (a : Answer). leftBy (a .outcome) [] work′) e ∙ left [] work′ work x ∙ sym (p .work-after),
     )

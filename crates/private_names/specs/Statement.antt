@@ -10,6 +10,8 @@ use Rattle.words.specs.Lists.{allOf, anyOf}
 use Rattle.recipe.specs.Name.{Binding, Name, bindingKey}
 use Rattle.recipe.specs.Tree.{Tree, empty, constant, name, pair, names, onName, element}
 use Rattle.recipe.specs.Table.{items, treeOf}
+use Rattle.core_term.specs.Term.{Term, onFormals}
+use Rattle.core_term.specs.Words.{encode}
 use Rattle.expansion.specs.Rules.{ruleList, ruleTemplate, hasVariable}
 use Rattle.expansion.specs.Forms.{rulesFormOf}
 use Rattle.expansion.specs.Computation.{Event, looked, quoted, reached, binds, Events}
@@ -151,9 +153,23 @@ pub record Answer : Type 0 where
 unfoldable pub answerOf : Run → Answer
 answerOf r = record { outcome = r .outcome; steps = r .steps; sum = r .sum; core = coreOf r }
 
--- demand 3: whatever the recipe, fuel and lengths of lent tables
+-- a formal's name word, with number n where a copy stands
+unfoldable pub formalNumber : (C : ℕ → Bool) → ℕ → Name → ℕ
+formalNumber C n x = cond (isCopy C x) n (x .number)
+
+-- a run's core term, with number n in those name words alone
+unfoldable pub coreWith : (C : ℕ → Bool) → ℕ → Option (Term Name) → List ℕ
+coreWith C n none = []
+coreWith C n (some t) = encode (onFormals (formalNumber C n) t)
+
+unfoldable pub answerWith : (C : ℕ → Bool) → ℕ → Run → Answer
+answerWith C n r = record { outcome = r .outcome; steps = r .steps; sum = r .sum; core = coreWith C n (r .term) }
+
+-- demand 3, whatever the recipe, fuel and lengths of lent tables. A fresh private name may be seen in the name words alone: where a
+-- copy stands, one run has the old number and the other the new; all else agrees
 unfoldable pub PrivateNames : Type 0
 PrivateNames =
     (ws : List ℕ) (fuel work core : ℕ) (c : Choice)
     → allOf (λ h. h) (hypotheses ws c (run ws fuel work core .events)) ≡ true
-    → answerOf (run (renamed ws c) fuel work core) ≡ answerOf (run ws fuel work core)
+    → (answerOf (run ws fuel work core) ≡ answerWith (isOldItem (treeOf ws) c) (c .old) (run ws fuel work core))
+    × (answerOf (run (renamed ws c) fuel work core) ≡ answerWith (isOldItem (treeOf ws) c) (c .new) (run ws fuel work core))

@@ -1,4 +1,5 @@
--- Demand 3 computed on recipes: where its hypotheses hold the two runs have equal answers, with lookups of copies among what they show;
+-- Demand 3 computed on recipes: where its hypotheses hold the two runs have equal answers, but for the name words where copies stand,
+-- with lookups of copies among what they show;
 -- and for each hypothesis there is a recipe where that one alone fails, and the answers differ. Labels such as E28 are those of the
 -- recipes with known expansions (crate expansion).
 use mathlib.Core.Path.{_≡_, refl}
@@ -15,7 +16,7 @@ use Rattle.expansion.specs.Rules.{hasVariable}
 use Rattle.expansion.specs.Computation.{looked, quoted, reached, binds, Events}
 use Rattle.expansion.specs.Run.{accepted, refusedOn, Run}
 use Rattle.expansion.specs.Computed.{computed}
-use Rattle.private_names.specs.Statement.{Choice, isOldItem, isCopy, renamed, hypotheses, parts, firstWith, hasHead, formAt, rulesAt, ruleAt, templateAt, isVariableAt, isPrivate, isNew, renumber, isReachedAt, bindsCopy, isOwnedByCopy, quotesNoCopy, findsOwn, Answer, answerOf}
+use Rattle.private_names.specs.Statement.{Choice, isOldItem, isCopy, renamed, hypotheses, parts, firstWith, hasHead, formAt, rulesAt, ruleAt, templateAt, isVariableAt, isPrivate, isNew, renumber, isReachedAt, bindsCopy, isOwnedByCopy, quotesNoCopy, findsOwn, Answer, answerOf, formalNumber, coreWith, answerWith}
 
 -- the items of a recipe's text
 unfoldable pub itemsOf : String → List ℕ
@@ -70,6 +71,11 @@ finding hold lookups first second = record { hold = hold; lookups = lookups; fir
 unfoldable pub equal : ℕ → Answer → Finding
 equal lookups answer = finding (true ∷ true ∷ true ∷ true ∷ true ∷ []) lookups answer answer
 
+-- all hypotheses hold, and two accepted runs differ in name words alone
+unfoldable pub renames : (lookups steps sum : ℕ) → (first second : List ℕ) → Finding
+unfolding gives finding
+renames lookups steps sum first second = finding (true ∷ true ∷ true ∷ true ∷ true ∷ []) lookups (gives steps sum first) (gives steps sum second)
+
 -- the second run, beside the first
 unfoldable pub compared : List ℕ → Choice → Run → Finding
 compared ws c r =
@@ -90,22 +96,22 @@ unfoldable pub permuted : List ℕ
 permuted = 4 ∷ 2 ∷ 1 ∷ 4 ∷ 4 ∷ 3 ∷ 0 ∷ 0 ∷ 0 ∷ 0 ∷ 0 ∷ 0 ∷ 4 ∷ 6 ∷ 5 ∷ 4 ∷ 8 ∷ 7 ∷ 3 ∷ 3 ∷ 0 ∷ 4 ∷ 10 ∷ 9 ∷ 4 ∷ 12 ∷ 11 ∷ 0 ∷ 0 ∷ 0 ∷ 4 ∷ 14 ∷ 13 ∷ 0 ∷ 0 ∷ 0 ∷ 4 ∷ 16 ∷ 15 ∷ 0 ∷ 0 ∷ 0 ∷ 3 ∷ 8 ∷ 0 ∷ 4 ∷ 18 ∷ 17 ∷ 3 ∷ 8 ∷ 0 ∷ 0 ∷ 0 ∷ 0 ∷ 4 ∷ 20 ∷ 19 ∷ 4 ∷ 22 ∷ 21 ∷ 3 ∷ 5 ∷ 0 ∷ 4 ∷ 24 ∷ 23 ∷ 0 ∷ 0 ∷ 0 ∷ 0 ∷ 0 ∷ 0 ∷ 4 ∷ 26 ∷ 25 ∷ 4 ∷ 28 ∷ 27 ∷ 4 ∷ 30 ∷ 29 ∷ 0 ∷ 0 ∷ 0 ∷ 4 ∷ 32 ∷ 31 ∷ 0 ∷ 0 ∷ 0 ∷ 3 ∷ 7 ∷ 0 ∷ 4 ∷ 34 ∷ 33 ∷ 3 ∷ 2 ∷ 0 ∷ 4 ∷ 36 ∷ 35 ∷ 4 ∷ 38 ∷ 37 ∷ 0 ∷ 0 ∷ 0 ∷ 3 ∷ 9 ∷ 0 ∷ 0 ∷ 0 ∷ 0 ∷ 3 ∷ 9 ∷ 0 ∷ []
 
 unfoldable pub holding : List (Trial × Finding)
-unfolding trial trialOf permuted gives refuses equal finding
+unfolding trial trialOf permuted gives refuses equal renames finding
 holding =
     -- E28: bound outside by the name's number, and again inside the template
     (
       trial "() (lambda (t) (let-syntax ((or2 (syntax-rules () ((_ a b) ((lambda (t) (if t t b)) a))))) (or2 #f t)))" 11 0 0 8,
-      equal 2 (gives 1 21 (7 ∷ 0 ∷ 1 ∷ 8 ∷ 1 ∷ 7 ∷ 1 ∷ 1 ∷ 6 ∷ 0 ∷ 1 ∷ 0 ∷ 1 ∷ 0 ∷ 0 ∷ 3 ∷ 0 ∷ [])),
+      renames 2 1 21 (7 ∷ 0 ∷ 1 ∷ 8 ∷ 8 ∷ 1 ∷ 7 ∷ 1 ∷ 1 ∷ 8 ∷ 6 ∷ 0 ∷ 1 ∷ 0 ∷ 1 ∷ 0 ∷ 0 ∷ 3 ∷ 0 ∷ []) (7 ∷ 0 ∷ 1 ∷ 8 ∷ 8 ∷ 1 ∷ 7 ∷ 1 ∷ 1 ∷ 1000 ∷ 6 ∷ 0 ∷ 1 ∷ 0 ∷ 1 ∷ 0 ∷ 0 ∷ 3 ∷ 0 ∷ []),
     ) ∷
     -- E22: an operation of that number
     (
       trial "(t) (let-syntax ((or2 (syntax-rules () ((_ a b) ((lambda (t) (if t t b)) a))))) ((lambda (if) (or2 if t)) #f))" 6 0 0 8,
-      equal 2 (gives 1 21 (8 ∷ 1 ∷ 7 ∷ 0 ∷ 1 ∷ 8 ∷ 1 ∷ 7 ∷ 1 ∷ 1 ∷ 6 ∷ 0 ∷ 1 ∷ 0 ∷ 1 ∷ 1 ∷ 0 ∷ 0 ∷ 0 ∷ 3 ∷ 0 ∷ [])),
+      renames 2 1 21 (8 ∷ 1 ∷ 7 ∷ 0 ∷ 1 ∷ 1 ∷ 8 ∷ 1 ∷ 7 ∷ 1 ∷ 1 ∷ 8 ∷ 6 ∷ 0 ∷ 1 ∷ 0 ∷ 1 ∷ 1 ∷ 0 ∷ 0 ∷ 0 ∷ 3 ∷ 0 ∷ []) (8 ∷ 1 ∷ 7 ∷ 0 ∷ 1 ∷ 1 ∷ 8 ∷ 1 ∷ 7 ∷ 1 ∷ 1 ∷ 1000 ∷ 6 ∷ 0 ∷ 1 ∷ 0 ∷ 1 ∷ 1 ∷ 0 ∷ 0 ∷ 0 ∷ 3 ∷ 0 ∷ []),
     ) ∷
     -- E29: a literal of rules that the template makes
     (
       trial "() (let-syntax ((m (syntax-rules () ((_ a) (lambda (t) (let-syntax ((g (syntax-rules (t) ((_ t) 1) ((_ x) 2)))) (if (g t) (g a) 0))))))) (lambda (t) (m t)))" 4 0 0 10,
-      equal 3 (gives 3 65 (7 ∷ 0 ∷ 1 ∷ 7 ∷ 1 ∷ 1 ∷ 6 ∷ 2 ∷ 1 ∷ 2 ∷ 2 ∷ 2 ∷ 0 ∷ [])),
+      renames 3 3 65 (7 ∷ 0 ∷ 1 ∷ 10 ∷ 7 ∷ 1 ∷ 1 ∷ 10 ∷ 6 ∷ 2 ∷ 1 ∷ 2 ∷ 2 ∷ 2 ∷ 0 ∷ []) (7 ∷ 0 ∷ 1 ∷ 10 ∷ 7 ∷ 1 ∷ 1 ∷ 1000 ∷ 6 ∷ 2 ∷ 1 ∷ 2 ∷ 2 ∷ 2 ∷ 0 ∷ []),
     ) ∷
     -- E30: the macro's own name, bound again
     (
@@ -115,12 +121,12 @@ holding =
     -- E31: a form's name, bound again
     (
       trial "() (let-syntax ((m (syntax-rules () ((_) (lambda (quote) (quote 1)))))) (m))" 4 0 0 0,
-      equal 1 (gives 1 13 (7 ∷ 0 ∷ 1 ∷ 8 ∷ 1 ∷ 0 ∷ 0 ∷ 2 ∷ 1 ∷ [])),
+      renames 1 1 13 (7 ∷ 0 ∷ 1 ∷ 0 ∷ 8 ∷ 1 ∷ 0 ∷ 0 ∷ 2 ∷ 1 ∷ []) (7 ∷ 0 ∷ 1 ∷ 1000 ∷ 8 ∷ 1 ∷ 0 ∷ 0 ∷ 2 ∷ 1 ∷ []),
     ) ∷
     -- E24: the third rule of letrec-syntax, used twice
     (
       trial "() (letrec-syntax ((or (syntax-rules () ((_) #f) ((_ e) e) ((_ a b ...) ((lambda (t) (if t t (or b ...))) a))))) (lambda (t u) (or t u #f)))" 4 0 2 12,
-      equal 4 (gives 3 53 (7 ∷ 0 ∷ 2 ∷ 8 ∷ 1 ∷ 7 ∷ 2 ∷ 1 ∷ 6 ∷ 0 ∷ 2 ∷ 0 ∷ 2 ∷ 8 ∷ 1 ∷ 7 ∷ 3 ∷ 1 ∷ 6 ∷ 0 ∷ 3 ∷ 0 ∷ 3 ∷ 3 ∷ 0 ∷ 0 ∷ 1 ∷ 0 ∷ 0 ∷ [])),
+      renames 4 3 53 (7 ∷ 0 ∷ 2 ∷ 12 ∷ 13 ∷ 8 ∷ 1 ∷ 7 ∷ 2 ∷ 1 ∷ 12 ∷ 6 ∷ 0 ∷ 2 ∷ 0 ∷ 2 ∷ 8 ∷ 1 ∷ 7 ∷ 3 ∷ 1 ∷ 12 ∷ 6 ∷ 0 ∷ 3 ∷ 0 ∷ 3 ∷ 3 ∷ 0 ∷ 0 ∷ 1 ∷ 0 ∷ 0 ∷ []) (7 ∷ 0 ∷ 2 ∷ 12 ∷ 13 ∷ 8 ∷ 1 ∷ 7 ∷ 2 ∷ 1 ∷ 1000 ∷ 6 ∷ 0 ∷ 2 ∷ 0 ∷ 2 ∷ 8 ∷ 1 ∷ 7 ∷ 3 ∷ 1 ∷ 1000 ∷ 6 ∷ 0 ∷ 3 ∷ 0 ∷ 3 ∷ 3 ∷ 0 ∷ 0 ∷ 1 ∷ 0 ∷ 0 ∷ []),
     ) ∷
     -- E14: a variable of rules that the template makes
     (
@@ -135,7 +141,7 @@ holding =
     -- E26: through a macro that the template makes
     (
       trial "() (let-syntax ((m (syntax-rules () ((_) (lambda (x) (let-syntax ((n (syntax-rules () ((_ y) (lambda (y) x))))) (n x))))))) (m))" 4 0 0 9,
-      equal 1 (gives 2 56 (7 ∷ 0 ∷ 1 ∷ 7 ∷ 1 ∷ 1 ∷ 0 ∷ 0 ∷ [])),
+      renames 1 2 56 (7 ∷ 0 ∷ 1 ∷ 9 ∷ 7 ∷ 1 ∷ 1 ∷ 9 ∷ 0 ∷ 0 ∷ []) (7 ∷ 0 ∷ 1 ∷ 1000 ∷ 7 ∷ 1 ∷ 1 ∷ 1000 ∷ 0 ∷ 0 ∷ []),
     ) ∷
     -- refused in both runs: syntax-rules bound, then heading rules
     (
@@ -145,22 +151,22 @@ holding =
     -- a literal of its own rules
     (
       trial "() (let-syntax ((m (syntax-rules (t) ((_ t) (lambda (t) t)) ((_ x) 0)))) (m t))" 4 0 0 9,
-      equal 1 (gives 1 9 (7 ∷ 0 ∷ 1 ∷ 0 ∷ 0 ∷ [])),
+      renames 1 1 9 (7 ∷ 0 ∷ 1 ∷ 9 ∷ 0 ∷ 0 ∷ []) (7 ∷ 0 ∷ 1 ∷ 1000 ∷ 0 ∷ 0 ∷ []),
     ) ∷
     -- an operation's name, bound
     (
       trial "(op) (let-syntax ((m (syntax-rules () ((_ a) (lambda (op) (op a)))))) (m op))" 6 0 0 8,
-      equal 1 (gives 1 13 (7 ∷ 0 ∷ 1 ∷ 8 ∷ 1 ∷ 0 ∷ 0 ∷ 1 ∷ 0 ∷ [])),
+      renames 1 1 13 (7 ∷ 0 ∷ 1 ∷ 8 ∷ 8 ∷ 1 ∷ 0 ∷ 0 ∷ 1 ∷ 0 ∷ []) (7 ∷ 0 ∷ 1 ∷ 1000 ∷ 8 ∷ 1 ∷ 0 ∷ 0 ∷ 1 ∷ 0 ∷ []),
     ) ∷
     -- the second rule of the second macro
     (
       trial "() (lambda (z) (let-syntax ((k (syntax-rules () ((_) 1))) (m (syntax-rules () ((_ a) 0) ((_ a b) ((lambda (t) (t b)) a))))) ((m z z) (k))))" 11 1 1 13,
-      equal 1 (gives 2 18 (7 ∷ 0 ∷ 1 ∷ 8 ∷ 1 ∷ 8 ∷ 1 ∷ 7 ∷ 1 ∷ 1 ∷ 8 ∷ 1 ∷ 0 ∷ 1 ∷ 0 ∷ 0 ∷ 0 ∷ 0 ∷ 2 ∷ 1 ∷ [])),
+      renames 1 2 18 (7 ∷ 0 ∷ 1 ∷ 8 ∷ 8 ∷ 1 ∷ 8 ∷ 1 ∷ 7 ∷ 1 ∷ 1 ∷ 13 ∷ 8 ∷ 1 ∷ 0 ∷ 1 ∷ 0 ∷ 0 ∷ 0 ∷ 0 ∷ 2 ∷ 1 ∷ []) (7 ∷ 0 ∷ 1 ∷ 8 ∷ 8 ∷ 1 ∷ 8 ∷ 1 ∷ 7 ∷ 1 ∷ 1 ∷ 1000 ∷ 8 ∷ 1 ∷ 0 ∷ 1 ∷ 0 ∷ 0 ∷ 0 ∷ 0 ∷ 2 ∷ 1 ∷ []),
     ) ∷
     -- the pattern's first place
     (
       trial "() (letrec-syntax ((m (syntax-rules () ((m x) (lambda (m) (m x)))))) (m 1))" 4 0 0 8,
-      equal 1 (gives 1 13 (7 ∷ 0 ∷ 1 ∷ 8 ∷ 1 ∷ 0 ∷ 0 ∷ 2 ∷ 1 ∷ [])),
+      renames 1 1 13 (7 ∷ 0 ∷ 1 ∷ 8 ∷ 8 ∷ 1 ∷ 0 ∷ 0 ∷ 2 ∷ 1 ∷ []) (7 ∷ 0 ∷ 1 ∷ 1000 ∷ 8 ∷ 1 ∷ 0 ∷ 0 ∷ 2 ∷ 1 ∷ []),
     ) ∷
     -- the form is refused by its shape
     (
@@ -195,12 +201,12 @@ holding =
     -- copies under an ellipsis, through another macro
     (
       trial "() (if 1 2 (lambda (q) (q (let-syntax ((m (syntax-rules () ((_ (a b) ...) (lambda (t) (t (a t) ...)))))) (let-syntax ((n (syntax-rules () ((_ x) (m (x x) (x x)))))) (n q))))))" 21 0 0 12,
-      equal 3 (gives 2 38 (6 ∷ 2 ∷ 1 ∷ 2 ∷ 2 ∷ 7 ∷ 0 ∷ 1 ∷ 8 ∷ 1 ∷ 0 ∷ 0 ∷ 7 ∷ 1 ∷ 1 ∷ 8 ∷ 2 ∷ 0 ∷ 1 ∷ 8 ∷ 1 ∷ 0 ∷ 0 ∷ 0 ∷ 1 ∷ 8 ∷ 1 ∷ 0 ∷ 0 ∷ 0 ∷ 1 ∷ [])),
+      renames 3 2 38 (6 ∷ 2 ∷ 1 ∷ 2 ∷ 2 ∷ 7 ∷ 0 ∷ 1 ∷ 8 ∷ 8 ∷ 1 ∷ 0 ∷ 0 ∷ 7 ∷ 1 ∷ 1 ∷ 12 ∷ 8 ∷ 2 ∷ 0 ∷ 1 ∷ 8 ∷ 1 ∷ 0 ∷ 0 ∷ 0 ∷ 1 ∷ 8 ∷ 1 ∷ 0 ∷ 0 ∷ 0 ∷ 1 ∷ []) (6 ∷ 2 ∷ 1 ∷ 2 ∷ 2 ∷ 7 ∷ 0 ∷ 1 ∷ 8 ∷ 8 ∷ 1 ∷ 0 ∷ 0 ∷ 7 ∷ 1 ∷ 1 ∷ 1000 ∷ 8 ∷ 2 ∷ 0 ∷ 1 ∷ 8 ∷ 1 ∷ 0 ∷ 0 ∷ 0 ∷ 1 ∷ 8 ∷ 1 ∷ 0 ∷ 0 ∷ 0 ∷ 1 ∷ []),
     ) ∷
     -- beside an ellipsis of the author's choice
     (
       trial "() (let-syntax ((m (syntax-rules e () ((_ a e) (lambda (t) (t a e)))))) (m 1 2))" 4 0 0 11,
-      equal 1 (gives 1 15 (7 ∷ 0 ∷ 1 ∷ 8 ∷ 2 ∷ 0 ∷ 0 ∷ 2 ∷ 1 ∷ 2 ∷ 2 ∷ [])),
+      renames 1 1 15 (7 ∷ 0 ∷ 1 ∷ 11 ∷ 8 ∷ 2 ∷ 0 ∷ 0 ∷ 2 ∷ 1 ∷ 2 ∷ 2 ∷ []) (7 ∷ 0 ∷ 1 ∷ 1000 ∷ 8 ∷ 2 ∷ 0 ∷ 0 ∷ 2 ∷ 1 ∷ 2 ∷ 2 ∷ []),
     ) ∷
     -- E94: the ellipsis of rules that the template makes
     (
@@ -210,7 +216,7 @@ holding =
     -- in an escaped template
     (
       trial "() (let-syntax ((m (syntax-rules () ((_ a) (... (lambda (t) (t a))))))) (m 1))" 4 0 0 10,
-      equal 1 (gives 1 13 (7 ∷ 0 ∷ 1 ∷ 8 ∷ 1 ∷ 0 ∷ 0 ∷ 2 ∷ 1 ∷ [])),
+      renames 1 1 13 (7 ∷ 0 ∷ 1 ∷ 10 ∷ 8 ∷ 1 ∷ 0 ∷ 0 ∷ 2 ∷ 1 ∷ []) (7 ∷ 0 ∷ 1 ∷ 1000 ∷ 8 ∷ 1 ∷ 0 ∷ 0 ∷ 2 ∷ 1 ∷ []),
     ) ∷
     -- a macro without end that the template makes
     (
@@ -218,12 +224,24 @@ holding =
       equal 162 (refuses 18 162 512),
     ) ∷
     -- items in another order than reading's
-    (trialOf permuted 6 0 0 9 1000, equal 1 (gives 1 9 (7 ∷ 0 ∷ 1 ∷ 0 ∷ 0 ∷ []))) ∷
+    (trialOf permuted 6 0 0 9 1000, renames 1 1 9 (7 ∷ 0 ∷ 1 ∷ 9 ∷ 0 ∷ 0 ∷ []) (7 ∷ 0 ∷ 1 ∷ 1000 ∷ 0 ∷ 0 ∷ [])) ∷
     []
 
 pub hypotheses-hold : map (λ r. found (r .0)) holding ≡ map (λ r. r .1) holding
 unfolding found holding
 hypotheses-hold = refl
+
+-- what the claim says of the two answers, by the first run alone
+unfoldable pub claimed : Trial → Answer × Answer
+unfolding computed parts firstWith hasHead formAt rulesAt ruleAt templateAt isOldItem isCopy formalNumber coreWith answerWith
+claimed t =
+    let C = isOldItem (treeOf (t .items)) (t .choice) in
+    let r = computed (t .items) filingFuel filingWork filingCore in
+    (answerWith C (t .choice .old) r, answerWith C (t .choice .new) r)
+
+pub claims-hold : map (λ r. claimed (r .0)) holding ≡ map (λ r. (r .1 .first, r .1 .second)) holding
+unfolding claimed holding
+claims-hold = refl
 
 -- ---- one hypothesis fails, and the answers differ
 
@@ -233,17 +251,17 @@ failing =
     -- E25: a lookup of a copy finds a binding whose own name is none
     (
       trial "() (lambda (x) (let-syntax ((m (syntax-rules () ((_) x)))) (m)))" 11 0 0 8,
-      finding (true ∷ true ∷ true ∷ true ∷ false ∷ []) 1 (gives 1 1 (7 ∷ 0 ∷ 1 ∷ 0 ∷ 0 ∷ [])) (refuses 11 1 1),
+      finding (true ∷ true ∷ true ∷ true ∷ false ∷ []) 1 (gives 1 1 (7 ∷ 0 ∷ 1 ∷ 8 ∷ 0 ∷ 0 ∷ [])) (refuses 11 1 1),
     ) ∷
     -- E24: a lookup of a copy finds the macro itself
     (
       trial "() (letrec-syntax ((or (syntax-rules () ((_) #f) ((_ e) e) ((_ a b ...) ((lambda (t) (if t t (or b ...))) a))))) (lambda (t u) (or t u #f)))" 4 0 2 8,
-      finding (true ∷ true ∷ true ∷ true ∷ false ∷ []) 2 (gives 3 53 (7 ∷ 0 ∷ 2 ∷ 8 ∷ 1 ∷ 7 ∷ 2 ∷ 1 ∷ 6 ∷ 0 ∷ 2 ∷ 0 ∷ 2 ∷ 8 ∷ 1 ∷ 7 ∷ 3 ∷ 1 ∷ 6 ∷ 0 ∷ 3 ∷ 0 ∷ 3 ∷ 3 ∷ 0 ∷ 0 ∷ 1 ∷ 0 ∷ 0 ∷ [])) (refuses 11 1 27),
+      finding (true ∷ true ∷ true ∷ true ∷ false ∷ []) 2 (gives 3 53 (7 ∷ 0 ∷ 2 ∷ 12 ∷ 13 ∷ 8 ∷ 1 ∷ 7 ∷ 2 ∷ 1 ∷ 12 ∷ 6 ∷ 0 ∷ 2 ∷ 0 ∷ 2 ∷ 8 ∷ 1 ∷ 7 ∷ 3 ∷ 1 ∷ 12 ∷ 6 ∷ 0 ∷ 3 ∷ 0 ∷ 3 ∷ 3 ∷ 0 ∷ 0 ∷ 1 ∷ 0 ∷ 0 ∷ [])) (refuses 11 1 27),
     ) ∷
     -- E22: a lookup of a copy finds a form
     (
       trial "(t) (let-syntax ((or2 (syntax-rules () ((_ a b) ((lambda (t) (if t t b)) a))))) ((lambda (if) (or2 if t)) #f))" 6 0 0 1,
-      finding (true ∷ true ∷ true ∷ true ∷ false ∷ []) 1 (gives 1 21 (8 ∷ 1 ∷ 7 ∷ 0 ∷ 1 ∷ 8 ∷ 1 ∷ 7 ∷ 1 ∷ 1 ∷ 6 ∷ 0 ∷ 1 ∷ 0 ∷ 1 ∷ 1 ∷ 0 ∷ 0 ∷ 0 ∷ 3 ∷ 0 ∷ [])) (refuses 11 1 21),
+      finding (true ∷ true ∷ true ∷ true ∷ false ∷ []) 1 (gives 1 21 (8 ∷ 1 ∷ 7 ∷ 0 ∷ 1 ∷ 1 ∷ 8 ∷ 1 ∷ 7 ∷ 1 ∷ 1 ∷ 8 ∷ 6 ∷ 0 ∷ 1 ∷ 0 ∷ 1 ∷ 1 ∷ 0 ∷ 0 ∷ 0 ∷ 3 ∷ 0 ∷ [])) (refuses 11 1 21),
     ) ∷
     -- E14: the head of a rules form
     (
@@ -263,7 +281,7 @@ failing =
     -- a copy is quoted by a later step
     (
       trial "() (let-syntax ((q (syntax-rules () ((_ x) (quote x))))) (let-syntax ((m (syntax-rules () ((_) (lambda (t) (q t)))))) (m)))" 33 0 0 11,
-      finding (true ∷ true ∷ true ∷ false ∷ true ∷ []) 0 (gives 2 18 (7 ∷ 0 ∷ 1 ∷ 4 ∷ 11 ∷ [])) (gives 2 18 (7 ∷ 0 ∷ 1 ∷ 4 ∷ 1000 ∷ [])),
+      finding (true ∷ true ∷ true ∷ false ∷ true ∷ []) 0 (gives 2 18 (7 ∷ 0 ∷ 1 ∷ 11 ∷ 4 ∷ 11 ∷ [])) (gives 2 18 (7 ∷ 0 ∷ 1 ∷ 1000 ∷ 4 ∷ 1000 ∷ [])),
     ) ∷
     -- the form is reached through a macro's result alone, where its template's name is the outer rule's variable
     (
@@ -278,7 +296,7 @@ failing =
     -- the new name is one that the template has: it becomes the lambda's
     (
       trialTo 8 "(a) (let-syntax ((m (syntax-rules () ((_) (lambda (t) a))))) (m))" 6 0 0 10,
-      finding (true ∷ true ∷ false ∷ true ∷ true ∷ []) 0 (gives 1 9 (7 ∷ 0 ∷ 1 ∷ 1 ∷ 0 ∷ [])) (gives 1 9 (7 ∷ 0 ∷ 1 ∷ 0 ∷ 0 ∷ [])),
+      finding (true ∷ true ∷ false ∷ true ∷ true ∷ []) 0 (gives 1 9 (7 ∷ 0 ∷ 1 ∷ 10 ∷ 1 ∷ 0 ∷ [])) (gives 1 9 (7 ∷ 0 ∷ 1 ∷ 8 ∷ 0 ∷ 0 ∷ [])),
     ) ∷
     -- a variable of the rule
     (
@@ -303,12 +321,12 @@ failing =
     -- the new name is a base form's: `...` binds nothing
     (
       trialTo 6 "() (let-syntax ((m (syntax-rules () ((_) (lambda (t) t))))) (m))" 4 0 0 9,
-      finding (true ∷ true ∷ false ∷ true ∷ true ∷ []) 1 (gives 1 9 (7 ∷ 0 ∷ 1 ∷ 0 ∷ 0 ∷ [])) (refuses 15 0 0),
+      finding (true ∷ true ∷ false ∷ true ∷ true ∷ []) 1 (gives 1 9 (7 ∷ 0 ∷ 1 ∷ 9 ∷ 0 ∷ 0 ∷ [])) (refuses 15 0 0),
     ) ∷
     -- the new name is past the last number: the table has no layout
     (
       trialTo 1024 "() (let-syntax ((m (syntax-rules () ((_) (lambda (t) t))))) (m))" 4 0 0 9,
-      finding (true ∷ true ∷ false ∷ true ∷ true ∷ []) 1 (gives 1 9 (7 ∷ 0 ∷ 1 ∷ 0 ∷ 0 ∷ [])) (refuses 7 0 0),
+      finding (true ∷ true ∷ false ∷ true ∷ true ∷ []) 1 (gives 1 9 (7 ∷ 0 ∷ 1 ∷ 9 ∷ 0 ∷ 0 ∷ [])) (refuses 7 0 0),
     ) ∷
     []
 

@@ -17,15 +17,16 @@ use Rattle.recipe.specs.TreeLaws.{onNames-size, onNames-element}
 use Rattle.recipe.specs.Table.{isLayout, treeOf}
 use Rattle.recipe.specs.TableNames.{numberAt}
 use Rattle.core_term.specs.Term.{Term}
+use Rattle.core_term.specs.Words.{encode}
 use Rattle.expansion.specs.Computation.{start, Out, done, refused, starved}
 use Rattle.expansion.specs.Forms.{rulesFormOf, expandWithin, expand}
 use Rattle.expansion.specs.Run.{accepted, refusedOn, ended, operationNumbers, areOperations, expandRecipe, run}
 use Rattle.expansion.specs.RunLaws.{Begun, begun-run, shows-begun}
 use Rattle.private_names.specs.Statement as S
-use Rattle.private_names.specs.Statement.{Choice, isOldItem, isNew, renamed, isReachedAt, quotesNoCopy, findsOwn, hypotheses, answerOf, PrivateNames}
+use Rattle.private_names.specs.Statement.{Choice, isOldItem, isNew, renamed, isReachedAt, quotesNoCopy, findsOwn, hypotheses, answerOf, coreWith, answerWith, PrivateNames}
 use Rattle.simulation.specs.Names.Shown.{Renaming, ofCopy, AllFine}
 use Rattle.simulation.specs.Names.{Raw}
-use Rattle.simulation.specs.Terms.{TermRel, encode-rel}
+use Rattle.simulation.specs.Terms.{TermRel, first-told, second-told}
 use Rattle.simulation.specs.States.{StateRel, no-macro}
 use Rattle.simulation.specs.Outcomes.{eventsOf, OutRel, dones, refusals, starvations}
 use Rattle.simulation.specs.Form.{Joins}
@@ -38,13 +39,19 @@ use Rattle.private_names_proof.specs.Before.{before-agree}
 use Rattle.private_names_proof.specs.Renamed.{unbound, renew, Held, held-element, Chosen, renamed-hole}
 use Rattle.private_names_proof.specs.Taken.{new-large, renaming, held, chosen, operations-same}
 
--- ---- outcomes that agree give one answer
+-- ---- outcomes that agree give one answer, but for the name words where a copy stands
 
-ended-answer : (ρ : Renaming) (raw : Raw ρ) {x y : Out (Term Name)} → OutRel ρ raw 0 (TermRel ρ) x y → answerOf (ended y) ≡ answerOf (ended x)
-unfolding answerOf ended
-ended-answer ρ raw (dones r q) = λ i. record { outcome = accepted; steps = sym (q .steps) i; sum = sym (q .sum) i; core = sym (encode-rel r) i }
-ended-answer ρ raw (refusals {g = g} q) = λ i. record { outcome = refusedOn g; steps = sym (q .steps) i; sum = sym (q .sum) i; core = [] }
-ended-answer ρ raw starvations = refl
+ended-first : (ρ : Renaming) (raw : Raw ρ) {x y : Out (Term Name)} → OutRel ρ raw 0 (TermRel ρ) x y → answerOf (ended x) ≡ answerWith (ρ .isPrivate) (ρ .old) (ended x)
+unfolding answerOf answerWith coreWith ended
+ended-first ρ raw (dones {s = s} r q) = λ i. record { outcome = accepted; steps = s .steps; sum = s .sum; core = encode (sym (first-told ρ r) i) }
+ended-first ρ raw (refusals q) = refl
+ended-first ρ raw starvations = refl
+
+ended-second : (ρ : Renaming) (raw : Raw ρ) {x y : Out (Term Name)} → OutRel ρ raw 0 (TermRel ρ) x y → answerOf (ended y) ≡ answerWith (ρ .isPrivate) (ρ .new) (ended x)
+unfolding answerOf answerWith coreWith ended
+ended-second ρ raw (dones r q) = λ i. record { outcome = accepted; steps = sym (q .steps) i; sum = sym (q .sum) i; core = encode (sym (second-told ρ r) i) }
+ended-second ρ raw (refusals {g = g} q) = λ i. record { outcome = refusedOn g; steps = sym (q .steps) i; sum = sym (q .sum) i; core = [] }
+ended-second ρ raw starvations = refl
 
 -- ---- an expression and the renumbered one, from the start
 
@@ -125,6 +132,12 @@ module _ (ws : List ℕ) (fuel work core : ℕ) (c : Choice) (k : Case ws fuel w
   fine : AllFine ρ (eventsOf (firstOf fuel ws))
   fine = all-fine ρ (eventsOf (firstOf fuel ws)) (λ b. refl) (k .unquoted) (k .own) own-names
 
+  -- what is claimed of the two answers
+  abbrev Claimed : Type 0
+  Claimed =
+      (answerOf (run ws fuel work core) ≡ answerWith (isOldItem (treeOf ws) c) (c .old) (run ws fuel work core))
+      × (answerOf (run (renamed ws c) fuel work core) ≡ answerWith (isOldItem (treeOf ws) c) (c .new) (run ws fuel work core))
+
   -- where the form lies at l
   module _ (l : List ℕ) (i : Headed (c .form) l (element 1 (treeOf ws))) where
     joins : Joins ρ (TermRel ρ) (firstOf fuel ws) (expansionOf fuel (treeOf ws) (onNames (renew ρ) (element 1 (treeOf ws))))
@@ -153,11 +166,15 @@ module _ (ws : List ℕ) (fuel work core : ℕ) (c : Choice) (k : Case ws fuel w
         ∙ ap (λ t. ended (expandRecipe fuel t)) (treeOf-renumber (isOldItem (treeOf ws) c) (c .new) ws)
         ∙ ap ended (renamed-is fuel (renew ρ) (treeOf ws) same)
 
-    answers : answerOf (run (renamed ws c) fuel work core) ≡ answerOf (run ws fuel work core)
-    answers = ap answerOf second-is ∙ ended-answer ρ (joins .raw) (joins .outcomes) ∙ sym (ap answerOf (first-is ws fuel work core (k .begun)))
+    answers : Claimed
+    answers =
+        let is = first-is ws fuel work core (k .begun) in (
+          ap answerOf is ∙ ended-first ρ (joins .raw) (joins .outcomes) ∙ sym (ap (answerWith (isOldItem (treeOf ws) c) (c .old)) is),
+          ap answerOf second-is ∙ ended-second ρ (joins .raw) (joins .outcomes) ∙ sym (ap (answerWith (isOldItem (treeOf ws) c) (c .new)) is),
+        )
 
   -- the form lies somewhere, since the run comes to it
-  located : Unheaded (c .form) (element 1 (treeOf ws)) ⊎ ((l : List ℕ) × Headed (c .form) l (element 1 (treeOf ws))) → answerOf (run (renamed ws c) fuel work core) ≡ answerOf (run ws fuel work core)
+  located : Unheaded (c .form) (element 1 (treeOf ws)) ⊎ ((l : List ℕ) × Headed (c .form) l (element 1 (treeOf ws))) → Claimed
   unfolding firstOf expansionOf
   located (inl u) = absurd (false≢true
       (sym (none-reached (c .form) (expand-unreached (c .form) macrosMost macrosMost (operationNumbers (treeOf ws)) fuel (size (treeOf ws) + fuel) (element 1 (treeOf ws)) u start)) ∙ k .reaches))

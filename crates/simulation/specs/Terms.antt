@@ -1,14 +1,14 @@
--- Core terms that differ in their formals' own names alone. The words do not show those names.
-use mathlib.Core.Path.{_≡_, refl, ap, ap₂, subst}
+-- Core terms that differ in their formals' own names alone. So what is told of them differs where those names are told differently.
+use mathlib.Core.Path.{_≡_, refl, ap, ap₂, sym, subst}
 use mathlib.Core.Bool.{true, false}
-use mathlib.Core.List.{List, _++_}
-use Prim.Native.Nat.{ℕ, suc}
+use mathlib.Core.List.{List}
+use Prim.Native.Nat.{ℕ}
 use Rattle.datum.specs.Datum.{Datum}
 use Rattle.recipe.specs.Name.{Name}
-use Rattle.core_term.specs.Term.{Term, variableC, operationC, datumC, ifC, lambdaC, applicationC, Terms, noneC, moreC, count}
-use Rattle.core_term.specs.Node.{nodeWords, ifN, lambdaN, applicationN}
-use Rattle.core_term.specs.Words.{encode, encodeAll}
-use Rattle.simulation.specs.Relations.{ListRel, length-rel}
+use Rattle.core_term.specs.Term.{Term, variableC, operationC, datumC, ifC, lambdaC, applicationC, Terms, noneC, moreC, onFormals, onFormalsAll}
+use Rattle.expansion.specs.Run.{told}
+use Rattle.private_names.specs.Statement.{formalNumber}
+use Rattle.simulation.specs.Relations.{ListRel, ends, joins, map-rel, list-eq}
 use Rattle.simulation.specs.Names.Shown.{Renaming, isCopy, not-private-not-copy, private-copy}
 use Rattle.simulation.specs.Names.{Kind, Ready, Raw, NameRel, kept, turned}
 
@@ -33,27 +33,42 @@ module _ {F : Type 0} {R : F → F → Type 0} where
   pub lambdaCs-eq : {n m : ℕ} {xs ys : List F} {a b : Term F} → n ≡ m → ListRel R xs ys → TermOf R a b → TermOf R (lambdaC n xs a) (lambdaC m ys b)
   lambdaCs-eq {n} {m} {xs} {ys} {a} {b} p r q = subst (λ z. TermOf R (lambdaC n xs a) (lambdaC z ys b)) p (lambdaCs r q)
 
-  -- ---- their words are equal
+  -- ---- what is told of related formals
 
-  count-rel : {ts us : Terms F} → TermsOf R ts us → count ts ≡ count us
-  unfolding count
-  count-rel noneCs = refl
-  count-rel (moreCs a ts) = ap suc (count-rel ts)
+  module _ {G : Type 0} (f g : F → G) (alike : (x y : F) → R x y → f x ≡ g y) where
+    mutual
+      unfolding onFormals
 
-  mutual
-    unfolding encode encodeAll
+      pub told-rel : {a b : Term F} → TermOf R a b → onFormals f a ≡ onFormals g b
+      told-rel variableCs = refl
+      told-rel operationCs = refl
+      told-rel datumCs = refl
+      told-rel (ifCs a b c) = λ i. ifC (told-rel a i) (told-rel b i) (told-rel c i)
+      told-rel (lambdaCs {n = n} r a) = ap₂ (lambdaC n) (list-eq (λ x y e. e) (map-rel f g alike r)) (told-rel a)
+      told-rel (applicationCs a ts) = ap₂ applicationC (told-rel a) (told-all-rel ts)
 
-    pub encode-rel : {a b : Term F} → TermOf R a b → encode a ≡ encode b
-    encode-rel variableCs = refl
-    encode-rel operationCs = refl
-    encode-rel datumCs = refl
-    encode-rel (ifCs a b c) = ap₂ (λ x y. nodeWords ifN ++ (x ++ y)) (encode-rel a) (ap₂ _++_ (encode-rel b) (encode-rel c))
-    encode-rel (lambdaCs {n = n} r a) = ap₂ (λ k w. nodeWords (lambdaN n k) ++ w) (length-rel r) (encode-rel a)
-    encode-rel (applicationCs a ts) = ap₂ (λ k w. nodeWords (applicationN k) ++ w) (count-rel ts) (ap₂ _++_ (encode-rel a) (encodeAll-rel ts))
+      told-all-rel : {ts us : Terms F} → TermsOf R ts us → onFormalsAll f ts ≡ onFormalsAll g us
+      told-all-rel noneCs = refl
+      told-all-rel (moreCs a ts) = ap₂ moreC (told-rel a) (told-all-rel ts)
 
-    pub encodeAll-rel : {ts us : Terms F} → TermsOf R ts us → encodeAll ts ≡ encodeAll us
-    encodeAll-rel noneCs = refl
-    encodeAll-rel (moreCs a ts) = ap₂ _++_ (encode-rel a) (encodeAll-rel ts)
+  -- of the first of two related terms alone
+  module _ {S : F → F → Type 0} (first : (x y : F) → R x y → S x x) where
+    first-list : {xs ys : List F} → ListRel R xs ys → ListRel S xs xs
+    first-list ends = ends
+    first-list (joins r rs) = joins (first _ _ r) (first-list rs)
+
+    mutual
+      pub first-rel : {a b : Term F} → TermOf R a b → TermOf S a a
+      first-rel variableCs = variableCs
+      first-rel operationCs = operationCs
+      first-rel datumCs = datumCs
+      first-rel (ifCs a b c) = ifCs (first-rel a) (first-rel b) (first-rel c)
+      first-rel (lambdaCs r a) = lambdaCs (first-list r) (first-rel a)
+      first-rel (applicationCs a ts) = applicationCs (first-rel a) (first-all-rel ts)
+
+      first-all-rel : {ts us : Terms F} → TermsOf R ts us → TermsOf S ts ts
+      first-all-rel noneCs = noneCs
+      first-all-rel (moreCs a ts) = moreCs (first-rel a) (first-all-rel ts)
 
 -- ---- the terms of two runs
 
@@ -68,6 +83,23 @@ module _ (ρ : Renaming) where
 
   abbrev pub TermsRel : Terms Name → Terms Name → Type 0
   TermsRel = TermsOf FormalRel
+
+  -- the second run has the new number where a copy stands, and the first the old
+  pub second-told : {a b : Term Name} → TermRel a b → onFormals (formalNumber (ρ .isPrivate) (ρ .new)) a ≡ told b
+  unfolding formalNumber
+  second-told = told-rel _ _ number
+    where
+      number : (x y : Name) → FormalRel x y → formalNumber (ρ .isPrivate) (ρ .new) x ≡ y .number
+      number x y (same-formal c e) = rw c (ap (λ z. z .number) e)
+      number x y (copied-formal c i o n) = rw c (sym n)
+
+  pub first-told : {a b : Term Name} → TermRel a b → onFormals (formalNumber (ρ .isPrivate) (ρ .old)) a ≡ told a
+  unfolding formalNumber
+  first-told r = told-rel _ _ (λ x y e. e) (first-rel number r)
+    where
+      number : (x y : Name) → FormalRel x y → formalNumber (ρ .isPrivate) (ρ .old) x ≡ x .number
+      number x y (same-formal c e) = rw c
+      number x y (copied-formal c i o n) = rw c (sym o)
 
   pub formal-rel : {Q : Kind} → Ready ρ Q → (raw : Raw ρ) (x y : Name) → NameRel ρ raw Q x y → FormalRel x y
   formal-rel rd raw x y (kept q k) = same-formal (not-private-not-copy ρ x (k .not-private)) (k .eq)

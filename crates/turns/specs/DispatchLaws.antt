@@ -13,7 +13,7 @@ use Rattle.recipe.specs.Name.{Name}
 use Rattle.recipe.specs.Tree.{Tree, constant, name, pair, size, isName, onName, isListOf, tail, onPair}
 use Rattle.recipe.specs.TreeLaws.{size-positive}
 use Rattle.recipe.specs.Tidy.{tidyConstant, tidy-tail}
-use Rattle.core_term.specs.Term.{Term, variableC, operationC}
+use Rattle.core_term.specs.Term.{Term, variableC, operationC, onFormals}
 use Rattle.core_term.specs.Node.{nodeWords, applicationCode}
 use Rattle.core_term.specs.Words.{encode}
 use Rattle.expansion.specs.Lookup as U
@@ -164,14 +164,14 @@ module _ (operations : List ℕ) (work core macros : List ℕ) (fuel node list w
 
   pub variable-turned : (core′ : List ℕ) (n : ℕ) (q : Reached) → meansOf (Variable n) ≡ lookup operations x → HeaderMoved list 0 n r work core core′ q
       → Spreads operations fuel (treeAt work node w) r (tables work core macros) (tables work core′ macros) list w q
-  unfolding encode nodeWords meansOf
+  unfolding onFormals encode nodeWords meansOf
   variable-turned core′ n q e m =
       let t = treeAt work list w in
       of-pair core′ q (spread-named (variableC n) 0 n refl operations fuel x t r q work core core′ macros list w pair-ready list-placed refl (m w) (λ expand s. variable-turn operations fuel expand s x t n (sym e)))
 
   pub operation-turned : (core′ : List ℕ) (p : ℕ) (q : Reached) → meansOf (Operation p) ≡ lookup operations x → HeaderMoved list 1 p r work core core′ q
       → Spreads operations fuel (treeAt work node w) r (tables work core macros) (tables work core′ macros) list w q
-  unfolding encode nodeWords meansOf
+  unfolding onFormals encode nodeWords meansOf
   operation-turned core′ p q e m =
       let t = treeAt work list w in
       of-pair core′ q (spread-named (operationC p) 1 p refl operations fuel x t r q work core core′ macros list w pair-ready list-placed refl (m w) (λ expand s. operation-turn operations fuel expand s x t p (sym e)))

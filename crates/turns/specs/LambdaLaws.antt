@@ -1,27 +1,30 @@
 -- Laws of a lambda's turn: its names are bound, and its body stands for it.
 use mathlib.Core.Path.{_≡_, refl, ap, ap₂, sym, subst, _∙_}
 use mathlib.Core.Bool.{true, false}
-use mathlib.Core.List.{List, [], _∷_}
+use mathlib.Core.List.{List, [], _∷_, map}
 use Prim.Native.Nat.{ℕ, _+_, _*_, _^_, _≤_, _<_}
 use native.Mathlib.Omega.{arith}
-use lib.ListN.{length}
+use lib.ListN.{length, length-map}
 use Rattle.words.specs.Limits.{macrosMost}
 use Rattle.words.specs.TestLaws.{and-parts}
 use Rattle.recipe.specs.Name.{variable, Name, distinct}
 use Rattle.recipe.specs.Tree.{Tree, pair, size, isListOf, elements, element, bindAll}
 use Rattle.recipe.specs.TreeLaws.{size-positive, names-size, bindAll-size}
 use Rattle.recipe.specs.Tidy.{tidy-element, tidy-bindAll}
-use Rattle.core_term.specs.Term.{Term, lambdaC}
+use Rattle.core_term.specs.Term.{Term, lambdaC, onFormals}
 use Rattle.core_term.specs.Node.{nodeWords, lambdaCode}
 use Rattle.core_term.specs.Words.{encode}
+use Rattle.expansion.specs.Run.{wordsOf}
 use Rattle.expansion.specs.Computation.{State, M}
 use Rattle.expansion.specs.Forms.{isLambda, formals, expandLambda}
 use Rattle.arena.specs.Arena.{treeAt}
 use Rattle.arena.specs.Lists.{Means, Counts}
 use Rattle.forms.specs.Binders as F
-use Rattle.forms.specs.Binders.{Space, Scoped}
-use Rattle.forms.specs.ScopeLaws.{scoped-tree, proper, formals-count}
+use Rattle.forms.specs.Binders.{AllNames, namesIn, Space, Scoped}
+use Rattle.forms.specs.ScopeLaws.{scoped-tree, proper, lambda-names, formals-are, formals-count}
+use Rattle.forms.specs.NumberLaws.{numbersIn}
 use Rattle.forms.specs.Quotes.{Written}
+use Rattle.forms.specs.QuoteLaws.{written-then}
 use Rattle.turns.specs.declared.answers.Reached.{Reached}
 use Rattle.turns.specs.declared.answers.Ended.{Ended}
 use Rattle.turns.specs.declared.answers.Turn.{Turn}
@@ -35,7 +38,7 @@ use Rattle.turns.specs.Turns.{Left, turnOf, Ends, Follows}
 use Rattle.turns.specs.Leaves.{Refuses}
 use Rattle.turns.specs.LeafLaws.{refused-ends}
 use Rattle.turns.specs.SpreadLaws.{cons, listed, Prefixed, left-after}
-use Rattle.turns.specs.Scopes.{Roomy, Bound, BoundLeft, LambdaBound, LambdaRefused, LambdaLeft}
+use Rattle.turns.specs.Scopes.{Roomy, lambdaWords, Bound, BoundLeft, LambdaBound, LambdaRefused, LambdaLeft}
 
 -- ---- sizes
 
@@ -83,24 +86,49 @@ module _ (work core : List ℕ) (node w : ℕ) (r : Reached) (roomy : Roomy work
     pub lambda-few : r .variables + count < 2 ^ 32
     lambda-few = omega (arith, lambda-count, lambda-sizes tree shape, roomy .few)
 
-    pub bound-by : (body wrap top at : ℕ) (work′ core′ : List ℕ) → Means work node body (element 2) → Scoped variable (r .variables) (formals tree) w work work′ (r .top) wrap top
-        → Written (lambdaCode ∷ r .variables ∷ count ∷ []) core core′ (r .at) at → (q : Reached) → q ≡ widened top at count r → Bound tree r work work′ core core′ body wrap q
-    unfolding widened
-    bound-by body wrap top at work′ core′ body-is scoped put q e =
-        subst (Bound tree r work work′ core core′ body wrap) (sym e)
-        (record {
-          body-is = scoped-tree variable (r .variables) (formals tree) w work work′ (r .top) wrap top scoped body (omega (arith, body-is .low, roomy .placed .node-below)) ∙ ap (bindAll variable (r .variables) (formals tree)) (body-is .is w);
-          body-below = omega (arith, body-is .low, roomy .placed .node-below);
-          wrap-below = scoped .wrap-below;
-          numbers = ap₂ (λ (t n : ℕ). widened t at n r) (scoped .end-is) lambda-count;
-          put = subst (λ (n : ℕ). Written (lambdaCode ∷ r .variables ∷ n ∷ []) core core′ (r .at) at) lambda-count put;
-          kept = scoped .kept;
-        })
+    names-are : namesIn false (treeAt work list w) ≡ formals tree
+    names-are = ap (namesIn false) (list-is .is w) ∙ formals-are tree shape lambda-proper
+
+    all-names : AllNames false (treeAt work list w)
+    all-names = subst (AllNames false) (sym (list-is .is w)) (lambda-names tree shape)
+
+    -- room for the numbers, behind three words
+    module _ (core₁ : List ℕ) (at : ℕ) (header : Written (lambdaCode ∷ r .variables ∷ count ∷ []) core core₁ (r .at) at) where
+      pub numbers-room : length core₁ ≡ length core → (v : ℕ) × (AllNames false (treeAt work list v)) × (at + length (namesIn false (treeAt work list v)) ≤ length core₁)
+      numbers-room e = (w, all-names, omega (arith, e, header .end, ap length names-are, lambda-sizes tree shape, roomy .core-fits))
+
+      module _ (core′ : List ℕ) (end : ℕ) (numbers : (v : ℕ) → AllNames false (treeAt work list v) → Written (numbersIn (treeAt work list v)) core₁ core′ at end) where
+        named : Written (map (λ x. x .number) (formals tree)) core₁ core′ at end
+        named = subst (λ (xs : List Name). Written (map (λ x. x .number) xs) core₁ core′ at end) names-are (numbers w all-names)
+
+        pub numbers-small : end < 2 ^ 32
+        numbers-small = omega (arith, header .end, named .end, length-map (formals tree) (λ x. x .number), lambda-sizes tree shape, roomy .core-small)
+
+        put-all : Written (lambdaWords (r .variables) (formals tree)) core core′ (r .at) end
+        put-all =
+            let n : count ≡ length (map (λ x. x .number) (formals tree)) = lambda-count ∙ sym (length-map (formals tree) (λ x. x .number)) in
+            subst (λ (k : ℕ). Written (lambdaCode ∷ r .variables ∷ k ∷ map (λ x. x .number) (formals tree)) core core′ (r .at) end) n
+            (written-then (r .at) core (lambdaCode ∷ r .variables ∷ count ∷ []) (map (λ x. x .number) (formals tree)) core₁ core′ at end
+            (omega (arith, header .end, lambda-sizes tree shape, roomy .core-fits)) header named)
+
+        pub bound-by : (body wrap top : ℕ) (work′ : List ℕ) → Means work node body (element 2) → Scoped variable (r .variables) (formals tree) w work work′ (r .top) wrap top
+            → (q : Reached) → q ≡ widened top end count r → Bound tree r work work′ core core′ body wrap q
+        unfolding widened
+        bound-by body wrap top work′ body-is scoped q e =
+            subst (Bound tree r work work′ core core′ body wrap) (sym e)
+            (record {
+              body-is = scoped-tree variable (r .variables) (formals tree) w work work′ (r .top) wrap top scoped body (omega (arith, body-is .low, roomy .placed .node-below)) ∙ ap (bindAll variable (r .variables) (formals tree)) (body-is .is w);
+              body-below = omega (arith, body-is .low, roomy .placed .node-below);
+              wrap-below = scoped .wrap-below;
+              numbers = ap₂ (λ (t n : ℕ). widened t end n r) (scoped .end-is) lambda-count;
+              put = put-all;
+              kept = scoped .kept;
+            })
 
 -- ---- the turn
 
-lambda-prefixed : (first : ℕ) (xs : List Name) (e : End (Term Name)) → Prefixed encode encode (lambdaC first xs) (lambdaCode ∷ first ∷ length xs ∷ []) e
-unfolding encode nodeWords
+lambda-prefixed : (first : ℕ) (xs : List Name) (e : End (Term Name)) → Prefixed wordsOf wordsOf (lambdaC first xs) (lambdaWords first xs) e
+unfolding onFormals encode nodeWords
 lambda-prefixed first xs (finished v s) = refl
 lambda-prefixed first xs (refusedEnd k s) = tt
 lambda-prefixed first xs halted = tt
@@ -132,10 +160,10 @@ module _ (operations : List ℕ) (fuel : ℕ) (t : Tree) (r : Reached) (work wor
         let sum-is : q .sum ≡ r .sum = ap (λ (z : Reached). z .sum) (b .numbers) in
         let variables-are : q .variables ≡ r .variables + length (formals t) = ap (λ (z : Reached). z .variables) (b .numbers) in
         let macros-are : q .macros ≡ r .macros = ap (λ (z : Reached). z .macros) (b .numbers) in
-        let at-is : q .at ≡ r .at + 3 = b .put .end in
+        let at-is : q .at ≡ r .at + (3 + length (formals t)) = omega (arith, b .put .end, length-map (formals t) (λ x. x .number)) in
         record {
           work-long = long;
-          core-long = put-long (lambdaCode ∷ r .variables ∷ length (formals t) ∷ []) (r .at) core core′ (q .at) (omega (arith, ready .core-room, sizes)) (b .put);
+          core-long = put-long (lambdaWords (r .variables) (formals t)) (r .at) core core′ (q .at) (omega (arith, ready .core-room, sizes, length-map (formals t) (λ x. x .number))) (b .put);
           macros-long = refl;
           arena = b .kept;
           known = refl;
@@ -167,7 +195,7 @@ module _ (operations : List ℕ) (fuel : ℕ) (t : Tree) (r : Reached) (work wor
     lambda-follows =
         let s = stateAt (tables work core macros) r in
         let k = lambda-kept in
-        let at-is : q .at ≡ r .at + 3 = b .put .end in
+        let at-is : q .at ≡ r .at + (3 + length (formals t)) = omega (arith, b .put .end, length-map (formals t) (λ x. x .number)) in
         record {
           kept = k;
           placed = record {
@@ -177,13 +205,13 @@ module _ (operations : List ℕ) (fuel : ℕ) (t : Tree) (r : Reached) (work wor
           };
           falls = omega (arith, body-size, sizes, k .sum-grows);
           means = λ expand a last l.
-              subst (λ (e : End (Term Name)). Left encode r core last e a)
+              subst (λ (e : End (Term Name)). Left wordsOf r core last e a)
               (sym (lambda-turn expand s refl))
-              (left-after encode encode (lambdaC (r .variables) (formals t)) (lambdaCode ∷ r .variables ∷ length (formals t) ∷ []) r q core core′ last
+              (left-after wordsOf wordsOf (lambdaC (r .variables) (formals t)) (lambdaWords (r .variables) (formals t)) r q core core′ last
               (endOf (expand (bindAll variable (r .variables) (formals t) (element 2 t)) (withVariables (length (formals t)) s))) a
               (lambda-prefixed (r .variables) (formals t) (endOf (expand (bindAll variable (r .variables) (formals t) (element 2 t)) (withVariables (length (formals t)) s)))) (b .put) (omega (arith, ready .core-room, sizes))
-              (subst (λ (z : State). Left encode q core′ last (endOf (expand (bindAll variable (r .variables) (formals t) (element 2 t)) z)) a) lambda-state
-              (subst (λ (z : Tree). Left encode q core′ last (endOf (expand z (stateAt (tables work′ core′ macros) q))) a) (b .body-is) l)));
+              (subst (λ (z : State). Left wordsOf q core′ last (endOf (expand (bindAll variable (r .variables) (formals t) (element 2 t)) z)) a) lambda-state
+              (subst (λ (z : Tree). Left wordsOf q core′ last (endOf (expand z (stateAt (tables work′ core′ macros) q))) a) (b .body-is) l)));
         }
 
 -- ---- the tests

@@ -14,9 +14,10 @@ use Rattle.datum.specs.ConstantLaws.{made, words-few}
 use Rattle.datum.specs.Datum.{constantD}
 use Rattle.recipe.specs.Name.{Binding, variable, macro, Name}
 use Rattle.recipe.specs.Tree.{Tree, name, pair, size}
-use Rattle.core_term.specs.Term.{Term, variableC, operationC, datumC}
+use Rattle.core_term.specs.Term.{Term, variableC, operationC, datumC, onFormals}
 use Rattle.core_term.specs.Node.{nodeWords}
 use Rattle.core_term.specs.Words.{datumWords, encode}
+use Rattle.expansion.specs.Run.{wordsOf}
 use Rattle.expansion.specs.Lookup as U
 use Rattle.expansion.specs.Lookup.{Found, bound, form, operation, nothing, formOf, placeFrom, unboundMeaning, orUnbound, lookup}
 use Rattle.expansion.specs.Computation.{State, M, give, refuse}
@@ -96,11 +97,11 @@ module _ (found : Found) (r : Reached) (core core′ : List ℕ) where
   name-form k a e h = refused-leaf (nameEnd found) 2 12 r core a (λ s. ap (λ (f : Found). nameEnd f s) (sym e)) h
 
   pub name-variable : (n : ℕ) (q : Reached) → meansOf (Variable n) ≡ found → Moved (0 ∷ n ∷ []) r core core′ q → Leaf (nameEnd found) 2 r core core′ (Done q)
-  unfolding nameEnd meansOf encode nodeWords
+  unfolding nameEnd meansOf onFormals encode nodeWords
   name-variable n q e m = record { term = variableC n; is = λ s. ap (λ (f : Found). nameEnd f s) (sym e); short = omega arith; moves = m }
 
   pub name-operation : (p : ℕ) (q : Reached) → meansOf (Operation p) ≡ found → Moved (1 ∷ p ∷ []) r core core′ q → Leaf (nameEnd found) 2 r core core′ (Done q)
-  unfolding nameEnd meansOf encode nodeWords
+  unfolding nameEnd meansOf onFormals encode nodeWords
   name-operation p q e m = record { term = operationC p; is = λ s. ap (λ (f : Found). nameEnd f s) (sym e); short = omega arith; moves = m }
 
 pub expandName-end : (limit : ℕ) (operations : List ℕ) (fuel : ℕ) (expand : Tree → M (Term Name)) (found : Found) (s : State) → endOf (expandName limit operations fuel expand found s) ≡ nameEnd found s
@@ -122,7 +123,7 @@ module _ (kind first second : ℕ) (r : Reached) (core : List ℕ) (room : CoreR
 
 pub constant-made : (kind first second : ℕ) (r : Reached) (core core′ : List ℕ) (at : ℕ) (q : Reached) → q ≡ moved at r → Written (constantWords (made kind first second)) core core′ (r .at) at
     → ConstantLeft kind first second r core core′ (Done q)
-unfolding constantEnd encode datumWords nodeWords
+unfolding constantEnd onFormals encode datumWords nodeWords
 constant-made kind first second r core core′ at q e p =
     record {
       term = datumC (constantD (made kind first second));
@@ -137,11 +138,11 @@ module _ (operations : List ℕ) (fuel : ℕ) (tree : Tree) (r : Reached) (work 
   made-ends : (q : Reached) → Makes E (coreRate * size tree) r core core′ q → Ends operations fuel tree r (tables work core macros) (tables work core′ macros) (Done q)
   made-ends q m =
       record {
-        kept = kept-moved fuel (size tree) 0 r q work core core′ macros (encode (m .term)) ready (m .moves) (omega arith) (omega (arith, m .short));
+        kept = kept-moved fuel (size tree) 0 r q work core core′ macros (wordsOf (m .term)) ready (m .moves) (omega arith) (omega (arith, m .short));
         means = λ expand.
-            subst (λ (e : End (Term Name)). Left encode r core (tables work core′ macros) e (Done q))
+            subst (λ (e : End (Term Name)). Left wordsOf r core (tables work core′ macros) e (Done q))
             (sym (is expand (stateAt (tables work core macros) r) ∙ m .is (stateAt (tables work core macros) r)))
-            (state-moved r q work core core′ macros (encode (m .term)) (m .moves), m .moves .put);
+            (state-moved r q work core core′ macros (wordsOf (m .term)) (m .moves), m .moves .put);
       }
 
   stopped-ends : (g n k : ℕ) → Stops E r g n k → Ends operations fuel tree r (tables work core macros) (tables work core′ macros) (Refused g n k)
@@ -150,7 +151,7 @@ module _ (operations : List ℕ) (fuel : ℕ) (tree : Tree) (r : Reached) (work 
       record {
         kept = tt;
         means = λ expand.
-            subst (λ (e : End (Term Name)). Left encode r core (tables work core′ macros) e (Refused g n k))
+            subst (λ (e : End (Term Name)). Left wordsOf r core (tables work core′ macros) e (Refused g n k))
             (sym (is expand (stateAt (tables work core macros) r) ∙ m .is (stateAt (tables work core macros) r)))
             (refl, sym (m .steps-are), sym (m .sum-is));
       }
@@ -176,5 +177,5 @@ module _ (operations : List ℕ) (fuel : ℕ) (tree : Tree) (r : Reached) (befor
       subst (λ (b : Ended). Ends operations fuel tree r before after b) (sym e)
       (record {
         kept = tt;
-        means = λ expand. subst (λ (z : End (Term Name)). Left encode r (before .core) after z (Refused g (r .steps) (r .sum))) (sym (is expand (stateAt before r))) (refl, refl, refl);
+        means = λ expand. subst (λ (z : End (Term Name)). Left wordsOf r (before .core) after z (Refused g (r .steps) (r .sum))) (sym (is expand (stateAt before r))) (refl, refl, refl);
       })

@@ -9,7 +9,7 @@ use Rattle.datum.specs.ConstantLaws.{made}
 use Rattle.datum.specs.Datum.{constantD}
 use Rattle.recipe.specs.Name.{variable, macro, Name}
 use Rattle.core_term.specs.Term.{Term, variableC, operationC, datumC}
-use Rattle.core_term.specs.Words.{encode}
+use Rattle.expansion.specs.Run.{wordsOf}
 use Rattle.expansion.specs.Lookup.{Found, bound, form, operation, nothing}
 use Rattle.expansion.specs.Computation.{State}
 use Rattle.turns.specs.declared.answers.Reached.{Reached}
@@ -26,8 +26,8 @@ Refuses g r a = a ≡ Refused g (r .steps) (r .sum)
 pub record Makes (E : State → End (Term Name)) (most : ℕ) (r : Reached) (core core′ : List ℕ) (q : Reached) : Type 0 where
   pub term : Term Name
   pub is : (s : State) → E s ≡ finished term s
-  pub short : length (encode term) ≤ most
-  pub moves : Moved (encode term) r core core′ q
+  pub short : length (wordsOf term) ≤ most
+  pub moves : Moved (wordsOf term) r core core′ q
 
 pub record Stops (E : State → End (Term Name)) (r : Reached) (ground steps sum : ℕ) : Type 0 where
   pub is : (s : State) → E s ≡ refusedEnd ground s

@@ -15,7 +15,7 @@ use Rattle.recipe.specs.TreeLaws.{bindAll-size}
 use Rattle.recipe.specs.Tidy.{tidy-elements, tidy-element, tidy-bindAll}
 use Rattle.recipe.specs.TableTidy.{IsConstant}
 use Rattle.core_term.specs.Term.{Term}
-use Rattle.core_term.specs.Words.{encode}
+use Rattle.expansion.specs.Run.{wordsOf}
 use Rattle.expansion.specs.Rules.{Rule, rulesOf}
 use Rattle.expansion.specs.TidyRules.{TidyRules, rulesOf-tidy}
 use Rattle.expansion.specs.Computation.{State, M}
@@ -81,7 +81,7 @@ module _ (operations : List ℕ) (fuel : ℕ) (t : Tree) (inside : Bool) (head :
       subst (λ (b : Ended). Ends operations fuel t r (tables work core macros) (tables work′ core macros′) b) (sym (x .refuses))
       (record {
         kept = tt;
-        means = λ expand. subst (λ (z : End (Term Name)). Left encode r core (tables work′ core macros′) z (Refused (x .ground) (r .steps) (r .sum))) (sym (macros-turn expand state counted ∙ x .is _ state)) (refl, refl, refl);
+        means = λ expand. subst (λ (z : End (Term Name)). Left wordsOf r core (tables work′ core macros′) z (Refused (x .ground) (r .steps) (r .sum))) (sym (macros-turn expand state counted ∙ x .is _ state)) (refl, refl, refl);
       })
 
   module _ (node w : ℕ) (q : Reached) (y : MacrosKnown t inside r work work′ macros macros′ node w q) (good : Proper t)
@@ -155,8 +155,8 @@ module _ (operations : List ℕ) (fuel : ℕ) (t : Tree) (inside : Bool) (head :
           };
           falls = omega (arith, body-size, sizes, k .sum-grows);
           means = λ expand a last l.
-              subst (λ (e : End (Term Name)). Left encode r core last e a) (sym (known-turn expand))
+              subst (λ (e : End (Term Name)). Left wordsOf r core last e a) (sym (known-turn expand))
               (left-same r q core last (endOf (expand (bindAll macro (r .macros) (keywords t) (element 2 t)) (withMacros (x .rules) state))) a at-is
-              (subst (λ (z : State). Left encode q core last (endOf (expand (bindAll macro (r .macros) (keywords t) (element 2 t)) z)) a) known-state
-              (subst (λ (z : Tree). Left encode q core last (endOf (expand z (stateAt (tables work′ core macros′) q))) a) (x .body-is) l)));
+              (subst (λ (z : State). Left wordsOf q core last (endOf (expand (bindAll macro (r .macros) (keywords t) (element 2 t)) z)) a) known-state
+              (subst (λ (z : Tree). Left wordsOf q core last (endOf (expand z (stateAt (tables work′ core macros′) q))) a) (x .body-is) l)));
         }

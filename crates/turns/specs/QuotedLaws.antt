@@ -9,7 +9,7 @@ use Rattle.words.specs.Limits.{coreRate}
 use Rattle.recipe.specs.Tree.{Tree, size, strip, isListOf, element}
 use Rattle.recipe.specs.TreeLaws.{element-size}
 use Rattle.recipe.specs.Tidy.{tidy-element}
-use Rattle.core_term.specs.Term.{datumC}
+use Rattle.core_term.specs.Term.{datumC, onFormals}
 use Rattle.core_term.specs.Words.{datumWords, encode}
 use Rattle.arena.specs.Arena.{treeAt}
 use Rattle.arena.specs.Lists.{Means}
@@ -45,7 +45,7 @@ module _ (work core : List ℕ) (node : ℕ) (r : Reached) where
     quote-small room at e = omega (arith, room .small, words-most 0)
 
     pub quote-made : (at : ℕ) (core′ : List ℕ) → ((w : ℕ) → isListOf 2 (treeAt work node w) ≡ true) → Q.Written (quotedAt work datum) core core′ (r .at) at → (q : Reached) → q ≡ moved at r → QuoteLeft work node r core core′ (Done q)
-    unfolding quoteEnd needs encode
+    unfolding quoteEnd needs onFormals encode
     quote-made at core′ shape x q q-is w =
         let e : quotedAt work datum ≡ datumWords (strip (element 1 (treeAt work node w))) =
         sym (quoted-any work datum w) ∙ ap (λ (t : Tree). datumWords (strip t)) (datum-is .is w) in

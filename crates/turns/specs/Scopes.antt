@@ -1,7 +1,7 @@
 -- What the turns of forms leave, by words alone: the law of each form makes a turn of it.
 use mathlib.Core.Path.{_≡_}
 use mathlib.Core.Bool.{true, false}
-use mathlib.Core.List.{List, [], _∷_}
+use mathlib.Core.List.{List, [], _∷_, map}
 use Prim.Native.Nat.{ℕ, _+_, _*_, _≤_}
 use lib.ListN.{length, take}
 use Rattle.words.specs.Limits.{coreRate}
@@ -54,13 +54,17 @@ IfLeft work node tail w r core core′ (Over a) = ((u : ℕ) → isListOf 4 (tre
 
 -- ---- lambda
 
+-- a lambda's own words: its code, first number and count, and its names' numbers
+abbrev pub lambdaWords : ℕ → List Name → List ℕ
+lambdaWords first xs = lambdaCode ∷ first ∷ length (map (λ x. x .number) xs) ∷ map (λ x. x .number) xs
+
 -- the lambda's names are bound in its body
 pub record Bound (tree : Tree) (r : Reached) (work work′ core core′ : List ℕ) (node w : ℕ) (q : Reached) : Type 0 where
   pub body-is : treeAt work′ node w ≡ bindAll variable (r .variables) (formals tree) (element 2 tree)
   pub body-below : node ≤ r .top
   pub wrap-below : w ≤ q .top
   pub numbers : q ≡ widened (r .top + itemRate * length (formals tree)) (q .at) (length (formals tree)) r
-  pub put : Written (lambdaCode ∷ r .variables ∷ length (formals tree) ∷ []) core core′ (r .at) (q .at)
+  pub put : Written (lambdaWords (r .variables) (formals tree)) core core′ (r .at) (q .at)
   pub kept : take (r .top) work′ ≡ take (r .top) work
 
 abbrev pub BoundLeft : (tree : Tree) (r : Reached) (work work′ core core′ : List ℕ) → Turn → Type 0

@@ -12,9 +12,11 @@ use Rattle.words.specs.TestLaws.{and-parts}
 use Rattle.recipe.specs.Name.{Name}
 use Rattle.recipe.specs.Tree.{Tree, empty, constant, name, pair, size, isList, isListOf, elements, element}
 use Rattle.recipe.specs.TreeLaws.{size-positive}
-use Rattle.core_term.specs.Term.{Term, variableC, ifC, applicationC, Terms, noneC, moreC, count}
+use Rattle.core_term.specs.Term.{Term, variableC, ifC, applicationC, Terms, noneC, moreC, count, onFormals}
+use Rattle.core_term.specs.TermLaws.{onFormals-count}
 use Rattle.core_term.specs.Node.{nodeWords, ifCode, applicationCode}
-use Rattle.core_term.specs.Words.{encode, encodeAll}
+use Rattle.core_term.specs.Words.{encode}
+use Rattle.expansion.specs.Run.{wordsOf, wordsOfAll}
 use Rattle.expansion.specs.Lookup.{form, if, lookup}
 use Rattle.expansion.specs.Computation.{State, M, give}
 use Rattle.expansion.specs.Forms.{expandAll, expandOperands, expandApplication, expandList, expandPair, expandTree}
@@ -34,15 +36,15 @@ use Rattle.turns.specs.LeafLaws.{headed}
 -- ---- words that follow others
 
 -- the words of what g makes are a header and the words before
-module _ {A B : Type 0} (wordsOf : A → List ℕ) (wordsOf′ : B → List ℕ) (g : A → B) (header : List ℕ) where
+module _ {A B : Type 0} (words : A → List ℕ) (words′ : B → List ℕ) (g : A → B) (header : List ℕ) where
   abbrev pub Prefixed : End A → Type 0
-  Prefixed (finished v s) = wordsOf′ (g v) ≡ header ++ wordsOf v
+  Prefixed (finished v s) = words′ (g v) ≡ header ++ words v
   Prefixed (refusedEnd k s) = Unit {0}
   Prefixed halted = Unit {0}
 
   pub left-after : (r q : Reached) (core core₁ : List ℕ) (last : Tables) (e : End A) (a : Ended)
       → Prefixed e → Written header core core₁ (r .at) (q .at) → q .at ≤ length core
-      → Left wordsOf q core₁ last e a → Left wordsOf′ r core last (then (λ v s. finished (g v) s) e) a
+      → Left words q core₁ last e a → Left words′ r core last (then (λ v s. finished (g v) s) e) a
   unfolding then
   left-after r q core core₁ last (finished v s) (Done p) f h room l = (l .0, subst (λ (ws : List ℕ). Written ws core (last .core) (r .at) (p .at)) (sym f) (put-after h (l .1) room))
   left-after r q core core₁ last (finished v s) (Refused x y z) f h room l = l
@@ -85,7 +87,7 @@ module _ (operations : List ℕ) (fuel : ℕ) (tree : Tree) (r q : Reached) (wor
     (ready : Ready fuel (size tree) r (tables work core macros)) (m : Moved header r core core′ q) (placed : Placed work (r .top) list w) where
   pub spread-by : (g : Terms Name → Term Name) → size (treeAt work list w) ≤ size tree → length header + coreRate * (size (treeAt work list w) - 1) ≤ coreRate * size tree
       → ((expand : Tree → M (Term Name)) (s : State) → turnOf operations fuel expand tree s ≡ then (λ v u. finished (g v) u) (operandsOf operations fuel expand (treeAt work list w) s))
-      → ((expand : Tree → M (Term Name)) (s : State) → Prefixed encodeAll encode g header (operandsOf operations fuel expand (treeAt work list w) s))
+      → ((expand : Tree → M (Term Name)) (s : State) → Prefixed wordsOfAll wordsOf g header (operandsOf operations fuel expand (treeAt work list w) s))
       → Spreads operations fuel tree r (tables work core macros) (tables work core′ macros) list w q
   unfolding coreNeed moved
   spread-by g less few turn prefixed =
@@ -98,18 +100,18 @@ module _ (operations : List ℕ) (fuel : ℕ) (tree : Tree) (r q : Reached) (wor
         placed = subst (λ (n : ℕ). Placed work n list w) (sym top-is) placed;
         falls = omega arith;
         means = λ expand a last l.
-            subst (λ (e : End (Term Name)). Left encode r core last e a) (sym (turn expand s))
-            (left-after encodeAll encode g header r q core core′ last (operandsOf operations fuel expand (treeAt work list w) s) a (prefixed expand s) (m .put)
+            subst (λ (e : End (Term Name)). Left wordsOf r core last e a) (sym (turn expand s))
+            (left-after wordsOfAll wordsOf g header r q core core′ last (operandsOf operations fuel expand (treeAt work list w) s) a (prefixed expand s) (m .put)
             (omega (arith, m .put .end, ready .core-room))
-            (subst (λ (z : State). Left encodeAll q core′ last (operandsOf operations fuel expand (treeAt work list w) z) a) (sym same) l));
+            (subst (λ (z : State). Left wordsOfAll q core′ last (operandsOf operations fuel expand (treeAt work list w) z) a) (sym same) l));
       }
 
 -- ---- an application whose head is a variable or an operation
 
-module _ (head : Term Name) (code number : ℕ) (words : encode head ≡ code ∷ number ∷ []) where
-  application-prefixed : (n : ℕ) (e : End (Terms Name)) → Counts n e → Prefixed encodeAll encode (applicationC head) (applicationCode ∷ n ∷ code ∷ number ∷ []) e
-  unfolding encode nodeWords
-  application-prefixed n (finished v s) h = ap₂ (λ (k : ℕ) (l : List ℕ). 8 ∷ k ∷ (l ++ encodeAll v)) h words
+module _ (head : Term Name) (code number : ℕ) (words : wordsOf head ≡ code ∷ number ∷ []) where
+  application-prefixed : (n : ℕ) (e : End (Terms Name)) → Counts n e → Prefixed wordsOfAll wordsOf (applicationC head) (applicationCode ∷ n ∷ code ∷ number ∷ []) e
+  unfolding onFormals encode nodeWords
+  application-prefixed n (finished v s) h = ap₂ (λ (k : ℕ) (l : List ℕ). 8 ∷ k ∷ (l ++ wordsOfAll v)) (onFormals-count (λ x. x .number) v ∙ h) words
   application-prefixed n (refusedEnd k s) h = tt
   application-prefixed n halted h = tt
 
@@ -132,10 +134,10 @@ unfoldable pub applicationOf : Terms Name → Term Name
 applicationOf noneC = variableC 0
 applicationOf (moreC a b) = applicationC a b
 
-applied-prefixed : (n : ℕ) (e : End (Terms Name)) → Counts (suc n) e → Prefixed encodeAll encode applicationOf (applicationCode ∷ n ∷ []) e
-unfolding encode nodeWords applicationOf count
+applied-prefixed : (n : ℕ) (e : End (Terms Name)) → Counts (suc n) e → Prefixed wordsOfAll wordsOf applicationOf (applicationCode ∷ n ∷ []) e
+unfolding onFormals encode nodeWords applicationOf count
 applied-prefixed n (finished noneC s) h = absurd (omega arith)
-applied-prefixed n (finished (moreC a b) s) h = let k : count b ≡ n = omega arith in ap (λ (k : ℕ). 8 ∷ k ∷ (encode a ++ encodeAll b)) k
+applied-prefixed n (finished (moreC a b) s) h = let k : count b ≡ n = omega arith in ap (λ (k : ℕ). 8 ∷ k ∷ (wordsOf a ++ wordsOfAll b)) (onFormals-count (λ x. x .number) b ∙ k)
 applied-prefixed n (refusedEnd k s) h = tt
 applied-prefixed n halted h = tt
 
@@ -190,12 +192,12 @@ ifOf (moreC a noneC) = variableC 0
 ifOf (moreC a (moreC b noneC)) = variableC 0
 ifOf (moreC a (moreC b (moreC c d))) = ifC a b c
 
-if-prefixed : (e : End (Terms Name)) → Counts 3 e → Prefixed encodeAll encode ifOf (ifCode ∷ []) e
-unfolding encode nodeWords ifOf count
+if-prefixed : (e : End (Terms Name)) → Counts 3 e → Prefixed wordsOfAll wordsOf ifOf (ifCode ∷ []) e
+unfolding onFormals encode nodeWords ifOf count
 if-prefixed (finished noneC s) h = absurd (omega arith)
 if-prefixed (finished (moreC a noneC) s) h = absurd (omega arith)
 if-prefixed (finished (moreC a (moreC b noneC)) s) h = absurd (omega arith)
-if-prefixed (finished (moreC a (moreC b (moreC c noneC))) s) h = ap (λ (l : List ℕ). 6 ∷ (encode a ++ (encode b ++ l))) (sym (append-nil (encode c)))
+if-prefixed (finished (moreC a (moreC b (moreC c noneC))) s) h = ap (λ (l : List ℕ). 6 ∷ (wordsOf a ++ (wordsOf b ++ l))) (sym (append-nil (wordsOf c)))
 if-prefixed (finished (moreC a (moreC b (moreC c (moreC d f)))) s) h = absurd (omega arith)
 if-prefixed (refusedEnd k s) h = tt
 if-prefixed halted h = tt

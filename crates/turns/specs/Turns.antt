@@ -6,7 +6,7 @@ use Rattle.words.specs.Limits.{macrosMost}
 use Rattle.recipe.specs.Name.{Name}
 use Rattle.recipe.specs.Tree.{Tree, size}
 use Rattle.core_term.specs.Term.{Term, Terms}
-use Rattle.core_term.specs.Words.{encode, encodeAll}
+use Rattle.expansion.specs.Run.{wordsOf, wordsOfAll}
 use Rattle.expansion.specs.Lookup.{unboundMeaning}
 use Rattle.expansion.specs.Computation.{State, M}
 use Rattle.expansion.specs.Forms.{expandTree, expandAll, expand}
@@ -28,9 +28,9 @@ pub record Lent (operations places : List ℕ) : Type 0 where
 -- ---- an end and the answer
 
 -- from r and a core table; the words are those of what is made
-module _ {A : Type 0} (wordsOf : A → List ℕ) (r : Reached) (core : List ℕ) (after : Tables) where
+module _ {A : Type 0} (words : A → List ℕ) (r : Reached) (core : List ℕ) (after : Tables) where
   abbrev pub Left : End A → Ended → Type 0
-  Left (finished a s) (Done q) = (s ≡ stateAt after q) × Written (wordsOf a) core (after .core) (r .at) (q .at)
+  Left (finished a s) (Done q) = (s ≡ stateAt after q) × Written (words a) core (after .core) (r .at) (q .at)
   Left (finished a s) (Refused h n m) = ⊥
   Left (refusedEnd g s) (Done q) = ⊥
   Left (refusedEnd g s) (Refused h n m) = (g ≡ h) × (s .steps ≡ n) × (s .sum ≡ m)
@@ -55,7 +55,7 @@ module _ (operations : List ℕ) (fuel : ℕ) where
     -- the whole expression is expanded
     pub record Ends (a : Ended) : Type 0 where
       pub kept : KeptBy fuel (size tree) r before after a
-      pub means : (expand : Tree → M (Term Name)) → Left encode r (before .core) after (turnOf expand tree (stateAt before r)) a
+      pub means : (expand : Tree → M (Term Name)) → Left wordsOf r (before .core) after (turnOf expand tree (stateAt before r)) a
 
     -- another expression stands for it
     pub record Follows (node w : ℕ) (q : Reached) : Type 0 where
@@ -63,8 +63,8 @@ module _ (operations : List ℕ) (fuel : ℕ) where
       pub placed : Placed (after .work) (q .top) node w
       pub falls : size (treeAt (after .work) node w) + r .sum < size tree + q .sum
       pub means : (expand : Tree → M (Term Name)) (a : Ended) (last : Tables)
-          → Left encode q (after .core) last (endOf (expand (treeAt (after .work) node w) (stateAt after q))) a
-          → Left encode r (before .core) last (turnOf expand tree (stateAt before r)) a
+          → Left wordsOf q (after .core) last (endOf (expand (treeAt (after .work) node w) (stateAt after q))) a
+          → Left wordsOf r (before .core) last (turnOf expand tree (stateAt before r)) a
 
     -- operands are left of it; the end of their list costs nothing
     pub record Spreads (list w : ℕ) (q : Reached) : Type 0 where
@@ -72,8 +72,8 @@ module _ (operations : List ℕ) (fuel : ℕ) where
       pub placed : Placed (after .work) (q .top) list w
       pub falls : size (treeAt (after .work) list w) + r .sum ≤ size tree + q .sum
       pub means : (expand : Tree → M (Term Name)) (a : Ended) (last : Tables)
-          → Left encodeAll q (after .core) last (operandsOf expand (treeAt (after .work) list w) (stateAt after q)) a
-          → Left encode r (before .core) last (turnOf expand tree (stateAt before r)) a
+          → Left wordsOfAll q (after .core) last (operandsOf expand (treeAt (after .work) list w) (stateAt after q)) a
+          → Left wordsOf r (before .core) last (turnOf expand tree (stateAt before r)) a
 
     abbrev pub Turned : Turn → Type 0
     Turned (Again node w q) = Follows node w q
@@ -85,12 +85,12 @@ module _ (operations : List ℕ) (fuel : ℕ) where
 module _ (operations : List ℕ) (fuel : ℕ) (tree : Tree) (r : Reached) (before after : Tables) where
   pub record Expands (a : Ended) : Type 0 where
     pub kept : KeptBy fuel (size tree) r before after a
-    pub means : (gas : ℕ) → size tree + fuel ≤ gas + r .sum → Left encode r (before .core) after (endOf (expand macrosMost operations fuel gas tree (stateAt before r))) a
+    pub means : (gas : ℕ) → size tree + fuel ≤ gas + r .sum → Left wordsOf r (before .core) after (endOf (expand macrosMost operations fuel gas tree (stateAt before r))) a
 
   pub record ExpandsAll (a : Ended) : Type 0 where
     pub kept : KeptBy fuel (size tree - 1) r before after a
     pub means : (gas : ℕ) → size tree - 1 + fuel ≤ gas + r .sum
-        → Left encodeAll r (before .core) after (endOf (expandAll macrosMost operations fuel (expand macrosMost operations fuel gas) tree (stateAt before r))) a
+        → Left wordsOfAll r (before .core) after (endOf (expandAll macrosMost operations fuel (expand macrosMost operations fuel gas) tree (stateAt before r))) a
 
 -- ---- the same, whatever the operations whose places are lent
 

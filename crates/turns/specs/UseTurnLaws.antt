@@ -16,7 +16,7 @@ use Rattle.recipe.specs.TreeLaws.{size-positive, mark-size, produce-size}
 use Rattle.recipe.specs.Tidy.{tidy-tail, tidy-mark, tidy-produce}
 use Rattle.recipe.specs.TableTidy.{IsConstant}
 use Rattle.core_term.specs.Term.{Term}
-use Rattle.core_term.specs.Words.{encode}
+use Rattle.expansion.specs.Run.{wordsOf}
 use Rattle.expansion.specs.Rules.{Rule}
 use Rattle.expansion.specs.Match.{firstFit}
 use Rattle.expansion.specs.Transcribe.{equalLengths, transcribe}
@@ -97,8 +97,8 @@ proper-rule limit used p (given {a = x} f) =
 
 -- ---- the words follow from the same place
 
-pub left-same : (r q : Reached) (core : List ℕ) (last : Tables) (e : End (Term Name)) (a : Ended) → q .at ≡ r .at → Left encode q core last e a → Left encode r core last e a
-left-same r q core last (finished v s) (Done p) h l = (l .0, subst (λ (n : ℕ). Written (encode v) core (last .core) n (p .at)) h (l .1))
+pub left-same : (r q : Reached) (core : List ℕ) (last : Tables) (e : End (Term Name)) (a : Ended) → q .at ≡ r .at → Left wordsOf q core last e a → Left wordsOf r core last e a
+left-same r q core last (finished v s) (Done p) h l = (l .0, subst (λ (n : ℕ). Written (wordsOf v) core (last .core) n (p .at)) h (l .1))
 left-same r q core last (finished v s) (Refused x y z) h l = l
 left-same r q core last (refusedEnd k s) (Done p) h l = l
 left-same r q core last (refusedEnd k s) (Refused x y z) h l = l
@@ -126,7 +126,7 @@ module _ (operations : List ℕ) (fuel n : ℕ) (t : Tree) (r : Reached) (work w
       (record {
         kept = tt;
         means = λ expand.
-            subst (λ (z : End (Term Name)). Left encode r core (tables work′ core macros) z (Refused (x .ground) (r .steps) (r .sum)))
+            subst (λ (z : End (Term Name)). Left wordsOf r core (tables work′ core macros) z (Refused (x .ground) (r .steps) (r .sum)))
             (sym (turn-outcome expand ∙ ap (outcomeEnd expand state) (x .is))) (refl, refl, refl);
       })
 
@@ -192,8 +192,8 @@ module _ (operations : List ℕ) (fuel n : ℕ) (t : Tree) (r : Reached) (work w
           };
           falls = omega (arith, made-size);
           means = λ expand a last l.
-              subst (λ (e : End (Term Name)). Left encode r core last e a) (sym (turn-outcome expand ∙ ap (outcomeEnd expand state) (x .is)))
+              subst (λ (e : End (Term Name)). Left wordsOf r core last e a) (sym (turn-outcome expand ∙ ap (outcomeEnd expand state) (x .is)))
               (left-same r q core last (endOf (expand (produce (mark (suc (r .steps)) (x .tree))) (withStep (size (x .tree)) state))) a at-is
-              (subst (λ (z : State). Left encode q core last (endOf (expand (produce (mark (suc (r .steps)) (x .tree))) z)) a) use-state
-              (subst (λ (z : Tree). Left encode q core last (endOf (expand z (stateAt (tables work′ core macros) q))) a) (x .means) l)));
+              (subst (λ (z : State). Left wordsOf q core last (endOf (expand (produce (mark (suc (r .steps)) (x .tree))) z)) a) use-state
+              (subst (λ (z : Tree). Left wordsOf q core last (endOf (expand z (stateAt (tables work′ core macros) q))) a) (x .means) l)));
         }

@@ -54,11 +54,17 @@ fn lambda_body(work: &mut [u32], core: &mut [u32], node: u32, wrap: u32, reached
     ensures { λ r. ⌜ BoundLeft (treeAt (now (work .entry)) node wrap) reached (now (work .entry)) (now (work .exit)) (now (core .entry)) (now (core .exit)) r ⌝ }
 {
     let first = reached.variables;
-    let count = lists::count(work, lists::element(work, node, 1));
+    let list = lists::element(work, node, 1);
+    let count = lists::count(work, list);
     let body = lists::element(work, node, 2);
-    let scope = binders::bind_formals(work, node, wrap, first, reached.top);
     let at = output::put_three(core, reached.at, codes::LAMBDA, first, count);
-    Turn::Again(body, scope.wrap, reached.widened(scope.top, at, count))
+    let end = binders::put_numbers(work, list, core, at as usize);
+    let scope = binders::bind_formals(work, node, wrap, first, reached.top);
+    Turn::Again(
+        body,
+        scope.wrap,
+        reached.widened(scope.top, end as u32, count),
+    )
 }
 
 // (lambda (name ...) body)

@@ -5,6 +5,8 @@ pub mod LaidLaws
 pub mod Digits
 pub mod DigitsLaws
 pub mod PointLaws
+pub mod Called
+pub mod CalledLaws
 pub mod Pieces
 pub mod PiecesLaws
 pub mod Opened

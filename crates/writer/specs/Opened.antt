@@ -1,23 +1,31 @@
--- Words that begin with a node whose name, if it is one, has a slot.
+-- Words that begin with a node whose names have slots: its own, and those of its variables.
 use mathlib.Core.Path.{_≡_}
-use mathlib.Core.Bool.{Bool, true}
+use mathlib.Core.Bool.{Bool, true, _&&_}
 use mathlib.Core.List.{List}
-use Prim.Native.Nat.{ℕ}
+use Prim.Native.Nat.{ℕ, _+_}
+use lib.Dec.{ltb, leb}
+use lib.ListN.{length}
+use Rattle.words.specs.Lists.{allOf}
 use Rattle.datum.specs.NameTable.{hasName}
+use Rattle.writer.specs.Called.{Said}
 use Rattle.core_term.specs.Node.{Node, got, nodeAt, variableN, operationN, constantN, nameN, listN, ifN, lambdaN, applicationN}
 
-unfoldable pub named : List ℕ → Node → Bool
-named names (variableN n) = true
-named names (operationN n) = true
-named names (constantN a) = true
-named names (nameN n) = hasName names n
-named names (listN n) = true
-named names ifN = true
-named names (lambdaN first n) = true
-named names (applicationN n) = true
+-- every name of a variable has a slot
+unfoldable pub spelled : Said → Bool
+spelled said = allOf (hasName (said .table)) (said .called)
 
-pub record Opened (names ws : List ℕ) : Type 0 where
+unfoldable pub named : Said → Node → Bool
+named said (variableN n) = ltb n (length (said .called)) && spelled said
+named said (operationN n) = true
+named said (constantN a) = true
+named said (nameN n) = hasName (said .table) n
+named said (listN n) = true
+named said ifN = true
+named said (lambdaN first names) = leb (first + length names) (length (said .called)) && spelled said
+named said (applicationN n) = true
+
+pub record Opened (said : Said) (ws : List ℕ) : Type 0 where
   pub it : Node
   pub left : List ℕ
   pub is : nodeAt ws ≡ got it left
-  pub spelled : named names it ≡ true
+  pub fits : named said it ≡ true

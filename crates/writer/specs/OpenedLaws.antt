@@ -6,7 +6,8 @@ use Prim.Native.Nat.{ℕ, zero, suc, _+_, _-_, _*_, _≤_, _<_}
 use native.Mathlib.Omega.{arith}
 use native.Mathlib.Numerals.{add-one}
 use lib.Dec.{leb, ltb}
-use lib.ListN.{length, getD, take, drop}
+use lib.ListN.{length, getD, take, drop, length-drop}
+use lib.Seq.{length-take-le}
 use borrow.Author.Tests.{leb-true, ltb-true, ne-eqb}
 use Rattle.words.specs.Lists.{within}
 use Rattle.words.specs.TestLaws.{within-parts}
@@ -17,13 +18,15 @@ use Rattle.datum.specs.ConstantLaws.{constant-case}
 use Rattle.core_term.specs.Node.{variableCode, operationCode, integerCode, booleanCode, nameCode, listCode, ifCode, lambdaCode, applicationCode, decimalCode, Node, nodeWords, got, missing, nodeAt, sound, isNode, variableN, operationN, constantN, nameN, listN, ifN, lambdaN, applicationN}
 use Rattle.core_term.specs.NodeLaws.{both, node-read}
 use Rattle.core_term.specs.WindowLaws.{case}
-use Rattle.core_term.specs.HeadLaws.{at-none, at-past, short-missing, lambda-short, decimal-short, variable-at, operation-at, integer-at, boolean-at, name-at, list-at, if-at, lambda-at, application-at, decimal-at}
+use Rattle.core_term.specs.HeadLaws.{at-none, at-past, short-missing, lambda-short, lambda-cut, decimal-short, variable-at, operation-at, integer-at, boolean-at, name-at, list-at, if-at, lambda-at, application-at, decimal-at, namesAt}
 use Rattle.words.specs.Text.{bytes}
 use Rattle.core_term.specs.Decimal.{decimal, integerText, decimalText}
 use Rattle.core_term.specs.Text.{variableText, operationText, constantText}
+use Rattle.core_term.specs.TextRoom.{all-at}
 use Rattle.writer.specs.Pieces.{formalsText, opening, closing}
 use Rattle.writer.specs.PiecesLaws.{list-inner, list-quoted}
-use Rattle.writer.specs.Opened.{named, Opened}
+use Rattle.writer.specs.Called.{Said, spellOf}
+use Rattle.writer.specs.Opened.{spelled, named, Opened}
 
 -- ---- names
 
@@ -73,6 +76,9 @@ module _ (ws : List ℕ) (x : Node) (r : List ℕ) (is : nodeAt ws ≡ got x r) 
   pub three-words : getD ws 0 0 ≡ lambdaCode → 3 ≤ length ws
   three-words e = case (length ws) 3 (λ l. no-got x r (sym (lambda-short ws e l) ∙ is)) (λ l. l)
 
+  pub lambda-words : getD ws 0 0 ≡ lambdaCode → 3 + getD ws 2 0 ≤ length ws
+  lambda-words e = case (length ws) (3 + getD ws 2 0) (λ l. no-got x r (sym (lambda-cut ws e (three-words e) l) ∙ is)) (λ l. l)
+
   pub decimal-words : getD ws 0 0 ≡ decimalCode → 3 ≤ length ws
   decimal-words e = case (length ws) 3 (λ l. no-got x r (sym (decimal-short ws e l) ∙ is)) (λ l. l)
 
@@ -100,8 +106,11 @@ module _ (ws : List ℕ) (x : Node) (r : List ℕ) (is : nodeAt ws ≡ got x r) 
   pub is-if : getD ws 0 0 ≡ ifCode → x ≡ ifN
   is-if e = let k = sym is ∙ if-at ws some-words e in cc
 
-  pub is-lambda : getD ws 0 0 ≡ lambdaCode → x ≡ lambdaN (getD ws 1 0) (getD ws 2 0)
-  is-lambda e = sound-is _ _ x r (sym (lambda-at ws (three-words e) e) ∙ is) .0
+  pub is-lambda : getD ws 0 0 ≡ lambdaCode → x ≡ lambdaN (getD ws 1 0) (namesAt ws)
+  is-lambda e = sound-is _ _ x r (sym (lambda-at ws (lambda-words e) e) ∙ is) .0
+
+  pub names-count : getD ws 0 0 ≡ lambdaCode → length (namesAt ws) ≡ getD ws 2 0
+  names-count e = length-take-le (getD ws 2 0) (drop 3 ws) (omega (arith, length-drop 3 ws, lambda-words e))
 
   pub is-application : getD ws 0 0 ≡ applicationCode → x ≡ applicationN (getD ws 1 0)
   is-application e = let k = sym is ∙ application-at ws (two-words (λ h. omega arith)) e in cc
@@ -115,49 +124,49 @@ module _ (ws : List ℕ) (x : Node) (r : List ℕ) (is : nodeAt ws ≡ got x r) 
 
   -- ---- what opens and closes it
 
-  module _ (spell : ℕ → List ℕ) (inner : Bool) where
-    pub opens-variable : getD ws 0 0 ≡ variableCode → 118 ∷ decimal (getD ws 1 0) ≡ opening spell inner x
-    unfolding opening variableText
+  module _ (said : Said) (inner : Bool) where
+    pub opens-variable : getD ws 0 0 ≡ variableCode → variableText (spellOf said) (said .called) (getD ws 1 0) ≡ opening said inner x
+    unfolding opening
     opens-variable e = rw (is-variable e)
 
-    pub opens-operation : getD ws 0 0 ≡ operationCode → 111 ∷ decimal (getD ws 1 0) ≡ opening spell inner x
+    pub opens-operation : getD ws 0 0 ≡ operationCode → 111 ∷ decimal (getD ws 1 0) ≡ opening said inner x
     unfolding opening operationText
     opens-operation e = rw (is-operation e)
 
-    pub opens-integer : getD ws 0 0 ≡ integerCode → integerText (getD ws 1 0) ≡ opening spell inner x
+    pub opens-integer : getD ws 0 0 ≡ integerCode → integerText (getD ws 1 0) ≡ opening said inner x
     unfolding opening constantText integer
     opens-integer e = rw (is-integer e)
 
-    pub opens-false : getD ws 0 0 ≡ booleanCode → getD ws 1 0 ≡ 0 → 35 ∷ 102 ∷ [] ≡ opening spell inner x
+    pub opens-false : getD ws 0 0 ≡ booleanCode → getD ws 1 0 ≡ 0 → 35 ∷ 102 ∷ [] ≡ opening said inner x
     unfolding opening constantText boolean bytes
     opens-false e h = rw (is-boolean e, h)
 
-    pub opens-true : getD ws 0 0 ≡ booleanCode → (getD ws 1 0 ≡ 0 → ⊥) → 35 ∷ 116 ∷ [] ≡ opening spell inner x
+    pub opens-true : getD ws 0 0 ≡ booleanCode → (getD ws 1 0 ≡ 0 → ⊥) → 35 ∷ 116 ∷ [] ≡ opening said inner x
     unfolding opening constantText boolean bytes
     opens-true e h = rw (is-boolean e, ne-eqb _ _ h)
 
-    pub opens-name : getD ws 0 0 ≡ nameCode → opening spell inner (nameN (getD ws 1 0)) ≡ opening spell inner x
-    opens-name e = ap (opening spell inner) (sym (is-name e))
+    pub opens-name : getD ws 0 0 ≡ nameCode → opening said inner (nameN (getD ws 1 0)) ≡ opening said inner x
+    opens-name e = ap (opening said inner) (sym (is-name e))
 
-    pub opens-inner : getD ws 0 0 ≡ listCode → inner ≡ true → 40 ∷ [] ≡ opening spell inner x
-    opens-inner e h = sym (list-inner spell inner (getD ws 1 0) h) ∙ ap (opening spell inner) (sym (is-list e))
+    pub opens-inner : getD ws 0 0 ≡ listCode → inner ≡ true → 40 ∷ [] ≡ opening said inner x
+    opens-inner e h = sym (list-inner said inner (getD ws 1 0) h) ∙ ap (opening said inner) (sym (is-list e))
 
-    pub opens-quoted : getD ws 0 0 ≡ listCode → inner ≡ false → 40 ∷ 113 ∷ 117 ∷ 111 ∷ 116 ∷ 101 ∷ 32 ∷ 40 ∷ [] ≡ opening spell inner x
-    opens-quoted e h = sym (list-quoted spell inner (getD ws 1 0) h) ∙ ap (opening spell inner) (sym (is-list e))
+    pub opens-quoted : getD ws 0 0 ≡ listCode → inner ≡ false → 40 ∷ 113 ∷ 117 ∷ 111 ∷ 116 ∷ 101 ∷ 32 ∷ 40 ∷ [] ≡ opening said inner x
+    opens-quoted e h = sym (list-quoted said inner (getD ws 1 0) h) ∙ ap (opening said inner) (sym (is-list e))
 
-    pub opens-if : getD ws 0 0 ≡ ifCode → 40 ∷ 105 ∷ 102 ∷ [] ≡ opening spell inner x
+    pub opens-if : getD ws 0 0 ≡ ifCode → 40 ∷ 105 ∷ 102 ∷ [] ≡ opening said inner x
     unfolding opening bytes
     opens-if e = rw (is-if e)
 
-    pub opens-lambda : getD ws 0 0 ≡ lambdaCode → bytes "(lambda (" ++ (formalsText false (getD ws 1 0) (getD ws 2 0) ++ bytes ")") ≡ opening spell inner x
+    pub opens-lambda : getD ws 0 0 ≡ lambdaCode → bytes "(lambda (" ++ (formalsText said false (getD ws 1 0) (getD ws 2 0) ++ bytes ")") ≡ opening said inner x
     unfolding opening
-    opens-lambda e = rw (is-lambda e)
+    opens-lambda e = rw (is-lambda e, names-count e)
 
-    pub opens-application : getD ws 0 0 ≡ applicationCode → 40 ∷ [] ≡ opening spell inner x
+    pub opens-application : getD ws 0 0 ≡ applicationCode → 40 ∷ [] ≡ opening said inner x
     unfolding opening bytes
     opens-application e = rw (is-application e)
 
-    pub opens-decimal : getD ws 0 0 ≡ decimalCode → decimalText (getD ws 1 0) (getD ws 2 0) ≡ opening spell inner x
+    pub opens-decimal : getD ws 0 0 ≡ decimalCode → decimalText (getD ws 1 0) (getD ws 2 0) ≡ opening said inner x
     unfolding opening constantText K.decimal
     opens-decimal e = rw (is-decimal e)
 
@@ -182,7 +191,7 @@ leaf-closes inner (constantN a) r h = refl
 leaf-closes inner (nameN n) r h = refl
 leaf-closes inner (listN n) r h = absurd (omega arith)
 leaf-closes inner ifN r h = absurd (omega arith)
-leaf-closes inner (lambdaN first n) r h = absurd (omega arith)
+leaf-closes inner (lambdaN first names) r h = absurd (omega arith)
 leaf-closes inner (applicationN n) r h = absurd (omega arith)
 
 -- a constant has none of these codes
@@ -200,7 +209,7 @@ rest-closes inner (constantN a) r p h d k = absurd (constant-code a r p h d)
 rest-closes inner (nameN n) r p h d k = absurd (omega arith)
 rest-closes inner (listN n) r p h d k = rw (k refl)
 rest-closes inner ifN r p h d k = refl
-rest-closes inner (lambdaN first n) r p h d k = refl
+rest-closes inner (lambdaN first names) r p h d k = refl
 rest-closes inner (applicationN n) r p h d k = refl
 
 module _ (ws : List ℕ) (x : Node) (r : List ℕ) (is : nodeAt ws ≡ got x r) (inner : Bool) where
@@ -213,10 +222,33 @@ module _ (ws : List ℕ) (x : Node) (r : List ℕ) (is : nodeAt ws ≡ got x r) 
       rest-closes inner x r (node-read ws x r is .proper) (omega (arith, e)) (λ f. d (e ∙ f)) (λ f. k (e ∙ f))
 
 -- a name that stands there has a slot
-pub name-spelled : (names ws : List ℕ) (o : Opened names ws) → getD ws 0 0 ≡ nameCode → hasName names (getD ws 1 0) ≡ true
+pub name-spelled : (said : Said) (ws : List ℕ) (o : Opened said ws) → getD ws 0 0 ≡ nameCode → hasName (said .table) (getD ws 1 0) ≡ true
 unfolding named
-name-spelled names ws o e = subst (λ (y : Node). named names y ≡ true) (is-name ws (o .it) (o .left) (o .is) e) (o .spelled)
+name-spelled said ws o e = subst (λ (y : Node). named said y ≡ true) (is-name ws (o .it) (o .left) (o .is) e) (o .fits)
+
+-- a variable that stands there has a name, and so have those that a lambda binds
+pub record Naming (said : Said) (count : ℕ) : Type 0 where
+  pub many : count ≤ length (said .called)
+  pub slots : spelled said ≡ true
+
+pub variable-named : (said : Said) (ws : List ℕ) (o : Opened said ws) → getD ws 0 0 ≡ variableCode → Naming said (suc (getD ws 1 0))
+unfolding named
+variable-named said ws o e =
+    let h = both (ltb (getD ws 1 0) (length (said .called))) (spelled said) (subst (λ (y : Node). named said y ≡ true) (is-variable ws (o .it) (o .left) (o .is) e) (o .fits)) in
+    record { many = ltb-true (getD ws 1 0) (length (said .called)) (h .0); slots = h .1 }
+
+pub lambda-named : (said : Said) (ws : List ℕ) (o : Opened said ws) → getD ws 0 0 ≡ lambdaCode → Naming said (getD ws 1 0 + getD ws 2 0)
+unfolding named
+lambda-named said ws o e =
+    let n = names-count ws (o .it) (o .left) (o .is) e in
+    let h = both (leb (getD ws 1 0 + length (namesAt ws)) (length (said .called))) (spelled said) (subst (λ (y : Node). named said y ≡ true) (is-lambda ws (o .it) (o .left) (o .is) e) (o .fits)) in
+    record { many = omega (arith, n, leb-true (getD ws 1 0 + length (namesAt ws)) (length (said .called)) (h .0)); slots = h .1 }
+
+-- the slot of a variable's name
+pub naming-slot : (said : Said) (count n : ℕ) → Naming said count → n < count → hasName (said .table) (getD (said .called) n 0) ≡ true
+unfolding spelled
+naming-slot said count n g h = all-at (hasName (said .table)) (said .called) n (g .slots) (omega (arith, g .many))
 
 -- an equal lambda opens equally
-pub lambda-same : (a b m n : ℕ) → a ≡ b → m ≡ n → bytes "(lambda (" ++ (formalsText false a m ++ bytes ")") ≡ bytes "(lambda (" ++ (formalsText false b n ++ bytes ")")
-lambda-same a b m n p q = rw (p, q)
+pub lambda-same : (said : Said) (a b m n : ℕ) → a ≡ b → m ≡ n → bytes "(lambda (" ++ (formalsText said false a m ++ bytes ")") ≡ bytes "(lambda (" ++ (formalsText said false b n ++ bytes ")")
+lambda-same said a b m n p q = rw (p, q)

@@ -12,8 +12,9 @@ use Rattle.core_term.specs.Parts.{isDatum}
 use Rattle.writer.specs.Put as P
 use Rattle.writer.specs.declared.term.Step.{Step}
 use Rattle.writer.specs.declared.term.Step.the-variants as S
-use Rattle.writer.specs.declared.term.Shape.{Shape}
+use Rattle.writer.specs.declared.shapes.Shape.{Shape}
 use Rattle.writer.specs.Laid.{Left}
+use Rattle.writer.specs.Called.{Said}
 use Rattle.writer.specs.Pieces.{gapFirst}
 use Rattle.writer.specs.Opened.{named}
 
@@ -25,20 +26,20 @@ pub record Shaped (x : Node) (s : Shape) : Type 0 where
   pub inner : s .quoted ≡ isListNode x
 
 -- every node is one, and its name has a slot
-unfoldable pub spelling : List ℕ → Asked (Unit {0})
-spelling names = record { test = λ e b x. isNode x && named names x; enter = λ e b x. e }
+unfoldable pub spelling : Said → Asked (Unit {0})
+spelling said = record { test = λ e b x. isNode x && named said x; enter = λ e b x. e }
 
 -- a term that can be written; inside quote, a datum
-pub record Fits (names : List ℕ) (inner : Bool) (t : Plain) : Type 0 where
+pub record Fits (said : Said) (inner : Bool) (t : Plain) : Type 0 where
   pub before : ℕ
-  pub fine : every (spelling names) tt before t ≡ true
+  pub fine : every (spelling said) tt before t ≡ true
   pub datum : inner ≡ true → isDatum t ≡ true
 
 -- words that begin with one
-pub record Begins (names : List ℕ) (inner : Bool) (ws : List ℕ) : Type 0 where
+pub record Begins (said : Said) (inner : Bool) (ws : List ℕ) : Type 0 where
   pub term : Plain
   pub rest : List ℕ
-  pub fits : Fits names inner term
+  pub fits : Fits said inner term
   pub words : ws ≡ encode term ++ rest
 
 -- n words walked through and text x laid

@@ -10,7 +10,6 @@ use lib.Seq.{drop-append-seam, drop-at, drop-drop}
 use Rattle.datum.specs.Constant.{decimalKind, constantWords, decimal}
 use Rattle.datum.specs.ConstantLaws.{words-decimal, words-other}
 use Rattle.core_term.specs.Node.{listCode, ifCode, lambdaCode, applicationCode, decimalCode, Node, got, nodeAt, nodeWords, parts, binds, isNode, isListNode, variableN, operationN, constantN, nameN, listN, ifN, lambdaN, applicationN}
-use Rattle.datum.specs.NameTable.{nameAt}
 use Rattle.core_term.specs.NodeLaws.{both, node-round, node-some, node-read}
 use Rattle.core_term.specs.Term.{noneC, moreC, Plain, Plains, count, variables}
 use Rattle.core_term.specs.Words.{encode, encodeAll}
@@ -24,13 +23,14 @@ use Rattle.writer.specs.Put.{Put}
 use Rattle.writer.specs.Put as P
 use Rattle.writer.specs.declared.term.Step.{Step}
 use Rattle.writer.specs.declared.term.Step.the-variants as S
-use Rattle.writer.specs.declared.term.Shape.{Shape}
+use Rattle.writer.specs.declared.shapes.Shape.{Shape}
 use Rattle.writer.specs.Laid.{Left}
 use Rattle.writer.specs.LaidLaws.{left-done, left-full, left-then, left-is, left-none}
 use Rattle.writer.specs.Pieces.{gapText, gapFirst, opening, closing, textIn, partsText}
 use Rattle.writer.specs.PiecesLaws.{pieces}
+use Rattle.writer.specs.Called.{Said, NodeHere}
 use Rattle.writer.specs.Opened.{named, Opened}
-use Rattle.writer.specs.OpenedLaws.{code-is, closes-leaf, is-list, is-if, is-lambda, is-application, is-decimal}
+use Rattle.writer.specs.OpenedLaws.{code-is, closes-leaf, is-list, is-if, is-lambda, names-count, is-application, is-decimal}
 use Rattle.writer.specs.Walk.{Shaped, spelling, Fits, Begins, Walked, walked, stopped}
 
 -- ---- shapes
@@ -48,17 +48,30 @@ leaf-shape (constantN a) r h =
 leaf-shape (nameN n) r h = record { own = refl; rest = refl; gap = refl; inner = refl }
 leaf-shape (listN n) r h = absurd (omega arith)
 leaf-shape ifN r h = absurd (omega arith)
-leaf-shape (lambdaN first n) r h = absurd (omega arith)
+leaf-shape (lambdaN first names) r h = absurd (omega arith)
 leaf-shape (applicationN n) r h = absurd (omega arith)
+
+-- a node of another code than if, lambda and decimal
+two-own : (x : Node) (r : List ℕ) → (getD (nodeWords x ++ r) 0 0 ≡ ifCode → ⊥) → (getD (nodeWords x ++ r) 0 0 ≡ lambdaCode → ⊥) → (getD (nodeWords x ++ r) 0 0 ≡ decimalCode → ⊥)
+    → (2 ≡ length (nodeWords x)) × (0 ≡ binds x)
+unfolding nodeWords binds
+two-own (variableN n) r a b c = (refl, refl)
+two-own (operationN n) r a b c = (refl, refl)
+two-own (constantN k) r a b c = (ap length (sym (words-other k (λ e. c (ap (λ (l : List ℕ). getD (l ++ r) 0 0) (words-decimal k e))))), refl)
+two-own (nameN n) r a b c = (refl, refl)
+two-own (listN n) r a b c = (refl, refl)
+two-own ifN r a b c = absurd (a refl)
+two-own (lambdaN first names) r a b c = absurd (b refl)
+two-own (applicationN n) r a b c = (refl, refl)
 
 module _ (ws : List ℕ) (x : Node) (r : List ℕ) (is : nodeAt ws ≡ got x r) where
   pub shaped-if : getD ws 0 0 ≡ ifCode → Shaped x (shape 1 3 true false)
   unfolding shape nodeWords parts gapFirst isListNode
   shaped-if e = rw (is-if ws x r is e) (record { own = refl; rest = refl; gap = refl; inner = refl })
 
-  pub shaped-lambda : getD ws 0 0 ≡ lambdaCode → Shaped x (shape 3 1 true false)
+  pub shaped-lambda : (n : ℕ) → n ≡ getD ws 2 0 → getD ws 0 0 ≡ lambdaCode → Shaped x (shape (3 + n) 1 true false)
   unfolding shape nodeWords parts gapFirst isListNode
-  shaped-lambda e = rw (is-lambda ws x r is e) (record { own = refl; rest = refl; gap = refl; inner = refl })
+  shaped-lambda n h e = rw (is-lambda ws x r is e) (record { own = omega (arith, h, names-count ws x r is e); rest = refl; gap = refl; inner = refl })
 
   pub shaped-leaf : getD ws 0 0 < listCode → Shaped x (shape 2 0 false false)
   shaped-leaf h = leaf-shape x r (omega (arith, code-is ws x r is))
@@ -74,6 +87,27 @@ module _ (ws : List ℕ) (x : Node) (r : List ℕ) (is : nodeAt ws ≡ got x r) 
   pub shaped-decimal : getD ws 0 0 ≡ decimalCode → Shaped x (shape 3 0 false false)
   unfolding shape nodeWords parts gapFirst isListNode constantWords decimal
   shaped-decimal e = rw (is-decimal ws x r is e) (record { own = refl; rest = refl; gap = refl; inner = refl })
+
+-- ---- a node's own words
+
+module _ (ws : List ℕ) (x : Node) (r : List ℕ) (is : nodeAt ws ≡ got x r) where
+  abbrev OwnIs : ℕ → ℕ → Type 0
+  OwnIs size names = (size ≡ length (nodeWords x)) × (names ≡ binds x)
+
+  pub own-if : getD ws 0 0 ≡ ifCode → OwnIs 1 0
+  unfolding nodeWords binds
+  own-if e = rw (is-if ws x r is e) (refl, refl)
+
+  pub own-lambda : (n : ℕ) → n ≡ getD ws 2 0 → getD ws 0 0 ≡ lambdaCode → OwnIs (3 + n) n
+  unfolding nodeWords binds
+  own-lambda n h e = let c = names-count ws x r is e in rw (is-lambda ws x r is e) (omega (arith, h, c), omega (arith, h, c))
+
+  pub own-decimal : getD ws 0 0 ≡ decimalCode → OwnIs 3 0
+  unfolding nodeWords binds constantWords decimal
+  own-decimal e = rw (is-decimal ws x r is e) (refl, refl)
+
+  pub own-other : (getD ws 0 0 ≡ ifCode → ⊥) → (getD ws 0 0 ≡ lambdaCode → ⊥) → (getD ws 0 0 ≡ decimalCode → ⊥) → OwnIs 2 0
+  own-other a b c = two-own x r (λ e. a (code-is ws x r is ∙ e)) (λ e. b (code-is ws x r is ∙ e)) (λ e. c (code-is ws x r is ∙ e))
 
 -- ---- answers and rows of terms
 
@@ -108,7 +142,7 @@ none-left (moreC t ts) h = absurd (omega arith)
 
 -- ---- the term that words begin with
 
-module _ (names : List ℕ) where
+module _ (names : Said) where
   spelling-proper : (t : Plain) (b : ℕ) → every (spelling names) tt b t ≡ true → every proper tt b t ≡ true
   unfolding spelling proper
   spelling-proper t b h =
@@ -122,10 +156,10 @@ module _ (names : List ℕ) where
 
   -- what is said of one term is said of each
   pub for-any : (inner ink : Bool) (ws : List ℕ) (b : Begins names inner ws) (at : ℕ) (d e : List ℕ) (s : Step)
-      → Walked ink (textIn (nameAt names) inner (b .term)) (length (encode (b .term))) at d e s
-      → (t : Plain) (r : List ℕ) → Fits names inner t → ws ≡ encode t ++ r → Walked ink (textIn (nameAt names) inner t) (length (encode t)) at d e s
+      → Walked ink (textIn names inner (b .term)) (length (encode (b .term))) at d e s
+      → (t : Plain) (r : List ℕ) → Fits names inner t → ws ≡ encode t ++ r → Walked ink (textIn names inner t) (length (encode t)) at d e s
   for-any inner ink ws b at d e s k t r f w =
-      subst (λ (u : Plain). Walked ink (textIn (nameAt names) inner u) (length (encode u)) at d e s) (same-term inner ws (b .term) t (b .rest) r (b .fits) f (b .words) w) k
+      subst (λ (u : Plain). Walked ink (textIn names inner u) (length (encode u)) at d e s) (same-term inner ws (b .term) t (b .rest) r (b .fits) f (b .words) w) k
 
   -- ---- its node
 
@@ -146,7 +180,10 @@ module _ (names : List ℕ) where
     unfolding spelling
     begins-opened =
         let x = node (b .term) in
-        record { it = x; left = encodeAll (partsOf (b .term)) ++ b .rest; is = begins-node; spelled = both (isNode x) (named names x) (both (isNode x && named names x) _ node-fine .0) .1 }
+        record { it = x; left = encodeAll (partsOf (b .term)) ++ b .rest; is = begins-node; fits = both (isNode x) (named names x) (both (isNode x && named names x) _ node-fine .0) .1 }
+
+    pub begins-here : NodeHere ws
+    begins-here = record { it = node (b .term); left = encodeAll (partsOf (b .term)) ++ b .rest; is = begins-node }
 
   -- ---- its parts
 
@@ -164,7 +201,7 @@ module _ (names : List ℕ) where
       pub size : from + length (encodeAll todo) ≡ length (encode (whole .term))
       pub begun : 1 ≤ from
       pub sofar : List ℕ
-      pub text : partsText (nameAt names) quoted (gapFirst (node (whole .term))) (partsOf (whole .term)) ≡ sofar ++ partsText (nameAt names) quoted wanted todo
+      pub text : partsText names quoted (gapFirst (node (whole .term))) (partsOf (whole .term)) ≡ sofar ++ partsText names quoted wanted todo
       pub laid : Left ink sofar opened d e (P.Done to)
 
     pub going-start : (b : Begins names inner ws) (s : Shape) → quoted ≡ s .quoted → Shaped (node (b .term)) s → opened ≤ length d → Going (s .own) (s .parts) opened (s .wanted) d
@@ -187,7 +224,7 @@ module _ (names : List ℕ) where
           size = omega (arith, h .own);
           begun = omega (arith, h .own, node-some x);
           sofar = [];
-          text = ap (λ (z : Bool). partsText (nameAt names) quoted z (partsOf (b .term))) (sym (h .gap));
+          text = ap (λ (z : Bool). partsText names quoted z (partsOf (b .term))) (sym (h .gap));
           laid = left-none ink opened d l;
         }
 
@@ -199,12 +236,12 @@ module _ (names : List ℕ) where
       going-shorter = omega (arith, ap length (rest-is from ws) ∙ length-drop from ws, g .begun, going-inside)
 
       -- no part is left
-      pub going-end : left ≡ 0 → (from ≡ length (encode (g .whole .term))) × Left ink (partsText (nameAt names) quoted (gapFirst (node (g .whole .term))) (partsOf (g .whole .term))) opened d e (P.Done to)
+      pub going-end : left ≡ 0 → (from ≡ length (encode (g .whole .term))) × Left ink (partsText names quoted (gapFirst (node (g .whole .term))) (partsOf (g .whole .term))) opened d e (P.Done to)
       unfolding encode partsText count
       going-end h =
           let z : g .todo ≡ noneC = none-left (g .todo) (g .many ∙ h) in (
             omega (arith, g .size, ap (λ (ts : Plains). length (encodeAll ts)) z),
-            left-is (sym (g .text ∙ ap (λ (ts : Plains). g .sofar ++ partsText (nameAt names) quoted wanted ts) z ∙ append-nil (g .sofar))) (g .laid),
+            left-is (sym (g .text ∙ ap (λ (ts : Plains). g .sofar ++ partsText names quoted wanted ts) z ∙ append-nil (g .sofar))) (g .laid),
           )
 
       module _ (h : 0 < left) where
@@ -231,10 +268,10 @@ module _ (names : List ℕ) where
         unfolding count
         next-count = sym (g .many) ∙ ap count (next .is)
 
-        next-text : partsText (nameAt names) quoted (gapFirst (node (g .whole .term))) (partsOf (g .whole .term))
-            ≡ g .sofar ++ (gapText wanted ++ (textIn (nameAt names) quoted (next .first) ++ partsText (nameAt names) quoted true (next .rest)))
+        next-text : partsText names quoted (gapFirst (node (g .whole .term))) (partsOf (g .whole .term))
+            ≡ g .sofar ++ (gapText wanted ++ (textIn names quoted (next .first) ++ partsText names quoted true (next .rest)))
         unfolding partsText
-        next-text = g .text ∙ ap (λ (ts : Plains). g .sofar ++ partsText (nameAt names) quoted wanted ts) (next .is)
+        next-text = g .text ∙ ap (λ (ts : Plains). g .sofar ++ partsText names quoted wanted ts) (next .is)
 
         next-fits : Fits names quoted (next .first)
         next-fits = record { before = g .before; fine = both (every (spelling names) tt (g .before) (next .first)) _ next-fine .0; datum = λ q. both (isDatum (next .first)) (areData (next .rest)) (next-data q) .0 }
@@ -245,20 +282,20 @@ module _ (names : List ℕ) where
 
         module _ (f : List ℕ) (r : Put) (k : Left ink (gapText wanted) to e f r) where
           -- no room for the space before it
-          pub gap-full : r ≡ P.Full → Left ink (partsText (nameAt names) quoted (gapFirst (node (g .whole .term))) (partsOf (g .whole .term))) opened d f P.Full
+          pub gap-full : r ≡ P.Full → Left ink (partsText names quoted (gapFirst (node (g .whole .term))) (partsOf (g .whole .term))) opened d f P.Full
           gap-full q = left-is (sym next-text) (left-then (g .laid) to refl (left-full k _ q))
 
           module _ (m : ℕ) (q : r ≡ P.Done m) (f′ : List ℕ) (s : Step)
-              (c : (t : Plain) (z : List ℕ) → Fits names quoted t → take (length ws - from) (drop from ws) ≡ encode t ++ z → Walked ink (textIn (nameAt names) quoted t) (length (encode t)) m f f′ s) where
-            child : Walked ink (textIn (nameAt names) quoted (next .first)) (length (encode (next .first))) m f f′ s
+              (c : (t : Plain) (z : List ℕ) → Fits names quoted t → take (length ws - from) (drop from ws) ≡ encode t ++ z → Walked ink (textIn names quoted t) (length (encode t)) m f f′ s) where
+            child : Walked ink (textIn names quoted (next .first)) (length (encode (next .first))) m f f′ s
             child = c (next .first) (encodeAll (next .rest) ++ g .whole .rest) next-fits (rest-is from ws ∙ next-place)
 
             -- nor for the part itself
-            pub part-full : s ≡ S.Full → Left ink (partsText (nameAt names) quoted (gapFirst (node (g .whole .term))) (partsOf (g .whole .term))) opened d f′ P.Full
-            part-full u = left-is (sym next-text) (left-then (g .laid) to refl (left-then k m q (left-full (stopped-by child u) (partsText (nameAt names) quoted true (next .rest)) refl)))
+            pub part-full : s ≡ S.Full → Left ink (partsText names quoted (gapFirst (node (g .whole .term))) (partsOf (g .whole .term))) opened d f′ P.Full
+            part-full u = left-is (sym next-text) (left-then (g .laid) to refl (left-then k m q (left-full (stopped-by child u) (partsText names quoted true (next .rest)) refl)))
 
             module _ (used end : ℕ) (u : s ≡ S.Done used end) where
-              laid-child : (used ≡ length (encode (next .first))) × Left ink (textIn (nameAt names) quoted (next .first)) m f f′ (P.Done end)
+              laid-child : (used ≡ length (encode (next .first))) × Left ink (textIn names quoted (next .first)) m f f′ (P.Done end)
               laid-child = walked-by child used end u
 
               pub part-inside : from + used ≤ length ws
@@ -268,7 +305,7 @@ module _ (names : List ℕ) where
 
               pub going-on : Going (from + used) (left - 1) end true f′
               going-on =
-                  let p = textIn (nameAt names) quoted (next .first) in
+                  let p = textIn names quoted (next .first) in
                   record {
                     whole = g .whole;
                     inner′ = g .inner′;
@@ -288,20 +325,20 @@ module _ (names : List ℕ) where
   -- ---- the whole
 
   module _ (inner ink : Bool) (ws : List ℕ) (b : Begins names inner ws) (at : ℕ) (d₀ d : List ℕ) (r : Put)
-      (o : (x : Node) (l : List ℕ) → nodeAt ws ≡ got x l → Left ink (opening (nameAt names) inner x) at d₀ d r) where
+      (o : (x : Node) (l : List ℕ) → nodeAt ws ≡ got x l → Left ink (opening names inner x) at d₀ d r) where
     x′ : Node
     x′ = node (b .term)
 
-    opened-left : Left ink (opening (nameAt names) inner (node (b .term))) at d₀ d r
+    opened-left : Left ink (opening names inner (node (b .term))) at d₀ d r
     opened-left = o (node (b .term)) _ (begins-node inner ws b)
 
     abbrev Parts : Bool → List ℕ
-    Parts q = partsText (nameAt names) q (gapFirst (node (b .term))) (partsOf (b .term))
+    Parts q = partsText names q (gapFirst (node (b .term))) (partsOf (b .term))
 
-    all-text : (q : Bool) → q ≡ isListNode (node (b .term)) → opening (nameAt names) inner (node (b .term)) ++ (Parts q ++ closing inner (node (b .term))) ≡ textIn (nameAt names) inner (b .term)
-    all-text q h = ap (λ (z : Bool). opening (nameAt names) inner (node (b .term)) ++ (Parts z ++ closing inner (node (b .term)))) h ∙ sym (pieces (nameAt names) inner (b .term) (b .fits .datum))
+    all-text : (q : Bool) → q ≡ isListNode (node (b .term)) → opening names inner (node (b .term)) ++ (Parts q ++ closing inner (node (b .term))) ≡ textIn names inner (b .term)
+    all-text q h = ap (λ (z : Bool). opening names inner (node (b .term)) ++ (Parts z ++ closing inner (node (b .term)))) h ∙ sym (pieces names inner (b .term) (b .fits .datum))
 
-    pub open-stops : r ≡ P.Full → Walked ink (textIn (nameAt names) inner (b .term)) (length (encode (b .term))) at d₀ d S.Full
+    pub open-stops : r ≡ P.Full → Walked ink (textIn names inner (b .term)) (length (encode (b .term))) at d₀ d S.Full
     open-stops h = stopped (left-is (all-text _ refl) (left-full opened-left _ h))
 
     -- a leaf has no parts, and nothing closes it
@@ -319,27 +356,27 @@ module _ (names : List ℕ) where
           let x = node (b .term) in
           leaf-shaped .own ∙ sym (ap length (encode-parts (b .term) ∙ ap (λ (ts : Plains). nodeWords x ++ encodeAll ts) leaf-parts ∙ append-nil (nodeWords x)))
 
-      leaf-text : opening (nameAt names) inner (node (b .term)) ≡ textIn (nameAt names) inner (b .term)
+      leaf-text : opening names inner (node (b .term)) ≡ textIn names inner (b .term)
       unfolding partsText
       leaf-text =
           let x = node (b .term) in
-          let p : Parts (isListNode x) ≡ [] = ap (partsText (nameAt names) (isListNode x) (gapFirst x)) leaf-parts in
+          let p : Parts (isListNode x) ≡ [] = ap (partsText names (isListNode x) (gapFirst x)) leaf-parts in
           let c : [] ≡ Parts (isListNode x) ++ closing inner x = closes-leaf ws x _ (begins-node inner ws b) inner h ∙ ap (λ (z : List ℕ). z ++ closing inner x) (sym p) in
-          sym (append-nil (opening (nameAt names) inner x)) ∙ ap (λ (z : List ℕ). opening (nameAt names) inner x ++ z) c ∙ all-text _ refl
+          sym (append-nil (opening names inner x)) ∙ ap (λ (z : List ℕ). opening names inner x ++ z) c ∙ all-text _ refl
 
-      pub leaf-walked : (to : ℕ) → r ≡ P.Done to → Walked ink (textIn (nameAt names) inner (b .term)) (length (encode (b .term))) at d₀ d (S.Done 2 to)
+      pub leaf-walked : (to : ℕ) → r ≡ P.Done to → Walked ink (textIn names inner (b .term)) (length (encode (b .term))) at d₀ d (S.Done 2 to)
       leaf-walked to k = walked leaf-size (left-done (left-is leaf-text opened-left) to k)
 
     module _ (opened : ℕ) (h : r ≡ P.Done opened) (q : Bool) (i : q ≡ isListNode (node (b .term))) (e : List ℕ) where
-      pub parts-stop : Left ink (Parts q) opened d e P.Full → Walked ink (textIn (nameAt names) inner (b .term)) (length (encode (b .term))) at d₀ e S.Full
+      pub parts-stop : Left ink (Parts q) opened d e P.Full → Walked ink (textIn names inner (b .term)) (length (encode (b .term))) at d₀ e S.Full
       parts-stop l = stopped (left-is (all-text q i) (left-then opened-left opened h (left-full l _ refl)))
 
       module _ (to : ℕ) (l : Left ink (Parts q) opened d e (P.Done to)) (f : List ℕ) (s : Put) (c : (x : Node) (z : List ℕ) → nodeAt ws ≡ got x z → Left ink (closing inner x) to e f s) where
         closed : Left ink (closing inner (node (b .term))) to e f s
         closed = c (node (b .term)) _ (begins-node inner ws b)
 
-        pub close-stops : s ≡ P.Full → Walked ink (textIn (nameAt names) inner (b .term)) (length (encode (b .term))) at d₀ f S.Full
-        close-stops k = stopped (subst (λ (z : Put). Left ink (textIn (nameAt names) inner (b .term)) at d₀ f z) k (left-is (all-text q i) (left-then opened-left opened h (left-then l to refl closed))))
+        pub close-stops : s ≡ P.Full → Walked ink (textIn names inner (b .term)) (length (encode (b .term))) at d₀ f S.Full
+        close-stops k = stopped (subst (λ (z : Put). Left ink (textIn names inner (b .term)) at d₀ f z) k (left-is (all-text q i) (left-then opened-left opened h (left-then l to refl closed))))
 
-        pub all-walked : (used end : ℕ) → used ≡ length (encode (b .term)) → s ≡ P.Done end → Walked ink (textIn (nameAt names) inner (b .term)) (length (encode (b .term))) at d₀ f (S.Done used end)
-        all-walked used end n k = walked n (subst (λ (z : Put). Left ink (textIn (nameAt names) inner (b .term)) at d₀ f z) k (left-is (all-text q i) (left-then opened-left opened h (left-then l to refl closed))))
+        pub all-walked : (used end : ℕ) → used ≡ length (encode (b .term)) → s ≡ P.Done end → Walked ink (textIn names inner (b .term)) (length (encode (b .term))) at d₀ f (S.Done used end)
+        all-walked used end n k = walked n (subst (λ (z : Put). Left ink (textIn names inner (b .term)) at d₀ f z) k (left-is (all-text q i) (left-then opened-left opened h (left-then l to refl closed))))

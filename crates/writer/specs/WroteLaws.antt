@@ -8,17 +8,21 @@ use native.Mathlib.Omega.{arith}
 use lib.Dec.{leb}
 use lib.ListN.{length, drop}
 use borrow.Author.Tests.{leb-true, leb-false, le-leb, lt-leb}
+use Rattle.words.specs.Lists.{allOf}
 use Rattle.words.specs.TestLaws.{and-parts}
 use Rattle.datum.specs.NameTable.{nameAt, hasName}
 use Rattle.core_term.specs.Node.{Node, isNode, variableN, operationN, constantN, nameN, listN, ifN, lambdaN, applicationN}
-use Rattle.core_term.specs.Term.{Plain, variables}
+use Rattle.core_term.specs.Term.{Plain, variables, formalsOf}
 use Rattle.core_term.specs.Words.{encode}
-use Rattle.core_term.specs.Every.{Asked, every, proper, wellFormed}
+use Rattle.core_term.specs.Decode.{decode}
+use Rattle.core_term.specs.DecodeLaws.{decode-encode}
+use Rattle.core_term.specs.Every.{every}
 use Rattle.core_term.specs.EveryLaws.{every-from}
-use Rattle.core_term.specs.Check.{Scope, outside, known, asked, allKnown, termOf, isTerm, isSome}
+use Rattle.core_term.specs.Check.{outside, allKnown, termOf, isTerm, isSome}
 use Rattle.core_term.specs.CheckLaws.{Accepted, accepted, isTerm-some}
+use Rattle.core_term.specs.Text as T
 use Rattle.core_term.specs.Text.{text}
-use Rattle.core_term.specs.TextRoom.{textRate, textWordsMost, text-room}
+use Rattle.core_term.specs.TextRoom.{textRate, textWordsMost, narrowNode, narrow, formals-known, all-narrow, text-room}
 use Rattle.writer.specs.Put.{Put, Done, Full}
 use Rattle.writer.specs.declared.term.Step.{Step}
 use Rattle.writer.specs.declared.term.Step.the-variants as S
@@ -27,7 +31,8 @@ use Rattle.writer.specs.declared.Writing.the-variants.{Written, NoTerm, 
 use Rattle.writer.specs.Laid.{Left}
 use Rattle.writer.specs.LaidLaws.{laid-dry, laid-first, done-is, full-is, left-done}
 use Rattle.writer.specs.Pieces.{textIn}
-use Rattle.writer.specs.Opened.{named}
+use Rattle.writer.specs.Called.{namesFrom, calledIn, IsTerm, said}
+use Rattle.writer.specs.Opened.{spelled, named}
 use Rattle.writer.specs.Walk.{spelling, Fits, Begins, Walked}
 use Rattle.writer.specs.WalkLaws.{walked-by, stopped-by}
 use Rattle.writer.specs.Writing.{groundOf, lengthOf, textFor, textOf, ground, size, after}
@@ -123,43 +128,30 @@ module _ (x out e : List ℕ) (r : Put) (dry : Left false x 0 out e r) where
 
 -- ---- the term
 
--- names that stand in it have slots
-known-named : (operations : ℕ) (names : List ℕ) (s : Scope) (b : ℕ) (x : Node) → known operations (hasName names) s b x ≡ true → named names x ≡ true
-unfolding known named
-known-named operations names s b (variableN n) h = refl
-known-named operations names s b (operationN n) h = refl
-known-named operations names s b (constantN a) h = refl
-known-named operations names s b (nameN n) h = h
-known-named operations names s b (listN n) h = refl
-known-named operations names s b ifN h = refl
-known-named operations names s b (lambdaN first n) h = refl
-known-named operations names s b (applicationN n) h = refl
+-- its nodes are ones, and all their names have slots
+narrow-named : (names called : List ℕ) → allOf (hasName names) called ≡ true → (x : Node) → narrowNode names called x ≡ true → (isNode x && named (said names called) x) ≡ true
+unfolding narrowNode isNode named spelled
+narrow-named names called g (variableN n) h = rw (h, g)
+narrow-named names called g (operationN n) h = refl
+narrow-named names called g (constantN a) h = rw h
+narrow-named names called g (nameN n) h = h
+narrow-named names called g (listN n) h = refl
+narrow-named names called g ifN h = refl
+narrow-named names called g (lambdaN first ns) h = let p = and-parts (leb (length ns) 8) _ h in rw (p .0, p .1, g)
+narrow-named names called g (applicationN n) h = refl
 
 module _ (ws : List ℕ) (operations : ℕ) (names : List ℕ) where
-  spelled-fine : (t : Plain) → Accepted operations (hasName names) ws t → every (spelling names) tt 0 t ≡ true
-  unfolding spelling asked allKnown proper wellFormed
+  spelled-fine : (t : Plain) → Accepted operations (hasName names) ws t → every (spelling (said names (formalsOf t))) tt 0 t ≡ true
+  unfolding spelling narrow allKnown
   spelled-fine t a =
-      every-from both-ask (spelling names) (variables t) (λ f g c. Unit {0}) tests (λ f g c x r k. tt) (λ f g c n r. tt) t (λ i. outside) tt 0 tt (omega arith) all
-    where
-      shaped : Scope → ℕ → Node → Bool
-      shaped s b x = isNode x
-
-      both-ask : Bool → Asked Scope
-      both-ask true = asked shaped
-      both-ask false = asked (known operations (hasName names))
-
-      tests : (e : Bool → Scope) (f : Unit {0}) (b : ℕ) (x : Node) → Unit {0} → b ≤ variables t → ((i : Bool) → both-ask i .test (e i) b x ≡ true) → spelling names .test f b x ≡ true
-      tests e f b x r l h = rw (h true) (known-named operations names (e false) b x (h false))
-
-      all : (i : Bool) → every (both-ask i) outside 0 t ≡ true
-      all true =
-          every-from (λ (i : Unit {0}). proper) (asked shaped) (variables t) (λ f g c. Unit {0})
-          (λ f g c x r l k. k tt) (λ f g c x r k. tt) (λ f g c n r. tt) t (λ i. tt) outside 0 tt (omega arith) (λ i. a .formed)
-      all false = a .known′
+      let g = formals-known operations (hasName names) t outside 0 (a .known′) in
+      every-from (λ (i : Unit {0}). narrow names (formalsOf t)) (spelling (said names (formalsOf t))) (variables t) (λ f h c. Unit {0})
+      (λ f h c x r l k. narrow-named names (formalsOf t) g x (k tt)) (λ f h c x r k. tt) (λ f h c n r. tt) t (λ i. tt) tt 0 tt (omega arith) (λ i. all-narrow operations names ws t a)
 
   -- what a walk of the words promises
-  abbrev Walk : Bool → List ℕ → List ℕ → Step → Type 0
-  Walk ink d e s = (t : Plain) (r : List ℕ) → Fits names false t → ws ≡ encode t ++ r → Walked ink (textIn (nameAt names) false t) (length (encode t)) 0 d e s
+  abbrev Walk : List ℕ → Bool → List ℕ → List ℕ → Step → Type 0
+  Walk called ink d e s =
+      (t : Plain) (r : List ℕ) → Fits (said names called) false t → ws ≡ encode t ++ r → Walked ink (textIn (said names called) false t) (length (encode t)) 0 d e s
 
   -- ---- one that passes
 
@@ -167,8 +159,14 @@ module _ (ws : List ℕ) (operations : ℕ) (names : List ℕ) where
     passes : Accepted operations (hasName names) ws t
     passes = accepted operations (hasName names) ws t k
 
-    fitting : Fits names false t
-    fitting = record { before = 0; fine = spelled-fine t passes; datum = λ k. absurd (false≢true k) }
+    -- the names of its variables
+    pub called-are : calledIn ws ≡ formalsOf t
+    unfolding calledIn namesFrom
+    called-are = ap namesFrom (ap decode (sym (passes .words)) ∙ decode-encode t (passes .formed))
+
+    fitting : (called : List ℕ) → called ≡ calledIn ws → Fits (said names called) false t
+    fitting called e =
+        subst (λ (z : List ℕ). Fits (said names z) false t) (sym (e ∙ called-are)) (record { before = 0; fine = spelled-fine t passes; datum = λ k. absurd (false≢true k) })
 
     all-words : ws ≡ encode t ++ []
     all-words = sym (passes .words) ∙ sym (append-nil (encode t))
@@ -189,10 +187,10 @@ module _ (ws : List ℕ) (operations : ℕ) (names : List ℕ) where
         let h : length Text ≤ length out = omega (arith, text-room operations names ws t passes few) in
         record { told = sym (le-leb (length Text) (length out) h); left = refl }
 
-    module _ {ink : Bool} {d e : List ℕ} {s : Step} (c : Walk ink d e s) where
+    module _ (called : List ℕ) (same : called ≡ calledIn ws) {ink : Bool} {d e : List ℕ} {s : Step} (c : Walk called ink d e s) where
       walk : Walked ink Text (length (encode t)) 0 d e s
-      unfolding textIn
-      walk = c t [] fitting all-words
+      unfolding textIn text
+      walk = subst (λ (z : List ℕ). Walked ink (T.textIn (nameAt names) z t) (length (encode t)) 0 d e s) (same ∙ called-are) (c t [] (fitting called same) all-words)
 
       walk-done : (used to : ℕ) → s ≡ S.Done used to → Left ink Text 0 d e (Done to)
       walk-done used to q = walked-by walk used to q .1
@@ -201,17 +199,17 @@ module _ (ws : List ℕ) (operations : ℕ) (names : List ℕ) where
       walk-full q = stopped-by walk q
 
   -- the walk that measures
-  module _ {out e : List ℕ} {s : Step} (c : Walk false out e s) where
+  module _ (called : List ℕ) (same : called ≡ calledIn ws) {out e : List ℕ} {s : Step} (c : Walk called false out e s) where
     pub walk-short : s ≡ S.Full → (t : Plain) → termOf operations (hasName names) ws ≡ some t → Measured (text (nameAt names) t) out e false
     walk-short q t k =
-        let l = full-is (walk-full t k c q) in
+        let l = full-is (walk-full t k called same c q) in
         let x = text (nameAt names) t in
         record { told = sym (lt-leb (length x) (length out) (omega arith)); left = l .1 refl }
 
     pub walk-fits : (used n : ℕ) → s ≡ S.Done used n → (t : Plain) → termOf operations (hasName names) ws ≡ some t → Measured (text (nameAt names) t) out e true
     walk-fits used n q t k =
         let x = text (nameAt names) t in
-        let l = measured-is x out e (Done n) (walk-done t k c used n q) n refl in
+        let l = measured-is x out e (Done n) (walk-done t k called same c used n q) n refl in
         record { told = sym (le-leb (length x) (length out) (l .1)); left = l .2 }
 
   module _ (h : isTerm operations (hasName names) ws ≡ true) where
@@ -221,9 +219,12 @@ module _ (ws : List ℕ) (operations : ℕ) (names : List ℕ) where
     it-is : termOf operations (hasName names) ws ≡ some it
     it-is = isTerm-some operations (hasName names) ws h .1
 
+    pub is-told : IsTerm ws
+    is-told = (it, ap decode (sym (passes it it-is .words)) ∙ decode-encode it (passes it it-is .formed))
+
     -- the words begin with it
-    pub term-begins : Begins names false ws
-    term-begins = record { term = it; rest = []; fits = fitting it it-is; words = all-words it it-is }
+    pub term-begins : (called : List ℕ) → called ≡ calledIn ws → Begins (said names called) false ws
+    term-begins called same = record { term = it; rest = []; fits = fitting it it-is called same; words = all-words it it-is }
 
     module _ {out e : List ℕ} {fits : Bool} (m : (operations : ℕ) (t : Plain) → termOf operations (hasName names) ws ≡ some t → Measured (text (nameAt names) t) out e fits) where
       abbrev measure : Measured (Text it it-is) out e fits
@@ -236,7 +237,7 @@ module _ (ws : List ℕ) (operations : ℕ) (names : List ℕ) where
           (wrote-none x out (leb-false (length x) (length out) (sym (measure .told) ∙ k)) e (measure .left))
 
       -- the walk that lays the bytes
-      module _ (k : fits ≡ true) {f : List ℕ} {u : Step} (d : Walk true e f u) where
+      module _ (k : fits ≡ true) (called : List ℕ) (same : called ≡ calledIn ws) {f : List ℕ} {u : Step} (d : Walk called true e f u) where
         room : length (Text it it-is) ≤ length out
         room = leb-true (length (Text it it-is)) (length out) (sym (measure .told) ∙ k)
 
@@ -246,9 +247,9 @@ module _ (ws : List ℕ) (operations : ℕ) (names : List ℕ) where
         pub no-second : u ≡ S.Full → Wrote (textOf ws operations names) out f NoRoom
         no-second q =
             subst (λ (o : Option (List ℕ)). Wrote o out f NoRoom) (text-is it it-is)
-            (fitting-never-full (Text it it-is) out room f Full (on-out (walk-full it it-is d q)) refl)
+            (fitting-never-full (Text it it-is) out room f Full (on-out (walk-full it it-is called same d q)) refl)
 
         pub wrote-text : (used end : ℕ) → u ≡ S.Done used end → Wrote (textOf ws operations names) out f (Written end)
         wrote-text used end q =
             subst (λ (o : Option (List ℕ)). Wrote o out f (Written end)) (text-is it it-is)
-            (fitting-wrote (Text it it-is) out room f (Done end) (on-out (walk-done it it-is d used end q)) end refl)
+            (fitting-wrote (Text it it-is) out room f (Done end) (on-out (walk-done it it-is called same d used end q)) end refl)

@@ -1,21 +1,27 @@
 // Writing: a core term's one text, or ground 19 or 20. specs/Writing.antt says what each call answers and leaves.
 pub mod bytes; // bytes laid into the output
+mod called; // the names of variables, by number
+mod names; // names as text
 pub mod numbers; // decimal text
 mod pieces; // what opens and closes a node
+mod shapes; // a node's own words and its parts
 mod term; // a term's text
 
 ghost use mathlib.Core.Path.{_≡_};
-ghost use mathlib.Core.Bool.{false};
+ghost use mathlib.Core.Bool.{true, false};
 ghost use mathlib.Core.Option.{some};
 ghost use Prim.Native.Nat.{ℕ};
 ghost use lib.ListN.{length};
 ghost use Rattle.datum.specs.NameTable.{nameAt, hasName};
 ghost use Rattle.core_term.specs.Term.{Plain};
-ghost use Rattle.core_term.specs.Check.{termOf};
+ghost use Rattle.core_term.specs.Check.{termOf, isTerm};
 ghost use Rattle.core_term.specs.Text.{text};
+ghost use Rattle.writer.specs.Called.{calledIn, calledBy, Tells, saidBy};
 ghost use Rattle.writer.specs.Walk.{Begins};
 ghost use Rattle.writer.specs.Writing.{textOf};
 ghost use Rattle.writer.specs.Wrote.{hasRoom, Measured, Wrote};
+use called::Noted;
+use called::note;
 use core_term::is_term;
 use term::Step;
 use term::term;
@@ -30,7 +36,7 @@ pub enum Writing {
 // A term of at most so many words has at most so many bytes of text for each. core_term/specs/TextRoom.antt has the same numbers.
 const TEXT_WORDS: usize = 1000000000;
 
-const TEXT_RATE: usize = 36;
+const TEXT_RATE: usize = 57;
 
 // Whether out holds the text of any term of so many words.
 fn has_room(words: &[u32], out: &[u8]) -> bool
@@ -44,31 +50,74 @@ fn has_room(words: &[u32], out: &[u8]) -> bool
 }
 
 // Whether out holds the text of words' term. Where it may be too short, a walk measures the text and lays no byte.
-fn text_fits(words: &[u32], names: &[u8], out: &mut [u8]) -> bool
-    requires { ⌜ Begins (now names) false (now words) ⌝ }
+fn text_fits(words: &[u32], names: &[u8], out: &mut [u8], called: &[u32], direct: bool) -> bool
+    requires { ⌜ (Begins (saidBy (now names) direct (now called)) false (now words)) × (Tells direct (now called)) × (calledBy direct (now called) ≡ calledIn (now words)) ⌝ }
     ensures { λ r. ⌜ ((operations : ℕ) (t : Plain) → termOf operations (hasName (now (names .entry))) (now (words .entry)) ≡ some t → Measured (text (nameAt (now (names .entry))) t) (now (out .entry)) (now (out .exit)) r) ⌝ }
 {
     if has_room(words, out) {
         return true;
     }
-    let Step::Done(used, length) = term(words, names, out, 0, false, false) else {
+    let Step::Done(used, length) = term(words, names, out, 0, false, false, called, direct) else {
         return false;
     };
     true
 }
 
-// The text of words' term into out. No byte is laid before it is known that the text fits.
+// The text of words' term into out, with the names of its variables. No byte is laid before it is known that the text fits.
+fn write_called(
+    words: &[u32],
+    operations: u32,
+    names: &[u8],
+    out: &mut [u8],
+    called: &[u32],
+    direct: bool,
+) -> Writing
+    requires { ⌜ (isTerm operations (hasName (now names)) (now words) ≡ true) × (Tells direct (now called)) × (calledBy direct (now called) ≡ calledIn (now words)) ⌝ }
+    ensures { λ r. ⌜ Wrote (textOf (now (words .entry)) operations (now (names .entry))) (now (out .entry)) (now (out .exit)) r ⌝ }
+{
+    if !text_fits(words, names, out, called, direct) {
+        return Writing::NoRoom;
+    }
+    let Step::Done(used, end) = term(words, names, out, 0, false, true, called, direct) else {
+        return Writing::NoRoom;
+    };
+    Writing::Written(end)
+}
+
+// The same, with a table to note these names in; where they are too many, each is found in the words.
+fn write_noting(
+    words: &[u32],
+    operations: u32,
+    names: &[u8],
+    out: &mut [u8],
+    table: &mut [u32],
+) -> Writing
+    requires { ⌜ isTerm operations (hasName (now names)) (now words) ≡ true ⌝ }
+    ensures { λ r. ⌜ Wrote (textOf (now (words .entry)) operations (now (names .entry))) (now (out .entry)) (now (out .exit)) r ⌝ }
+{
+    let Noted::All(count) = note(words, table) else {
+        return write_called(words, operations, names, out, words, false);
+    };
+    write_called(words, operations, names, out, &table[..count], true)
+}
+
+// Names of so many variables are noted; expansion gives no term with more.
+const VARIABLES: usize = 6144;
+
+// The same where there are no more words than this.
+const FEW: usize = 512;
+
+// The text of words' term into out.
 pub fn write(words: &[u32], operations: u32, names: &[u8], out: &mut [u8]) -> Writing
     ensures { λ r. ⌜ Wrote (textOf (now (words .entry)) operations (now (names .entry))) (now (out .entry)) (now (out .exit)) r ⌝ }
 {
     if !is_term(words, operations, names) {
         return Writing::NoTerm;
     }
-    if !text_fits(words, names, out) {
-        return Writing::NoRoom;
+    if words.len() <= FEW {
+        let mut table = [0u32; FEW];
+        return write_noting(words, operations, names, out, &mut table);
     }
-    let Step::Done(used, end) = term(words, names, out, 0, false, true) else {
-        return Writing::NoRoom;
-    };
-    Writing::Written(end)
+    let mut table = [0u32; VARIABLES];
+    write_noting(words, operations, names, out, &mut table)
 }

@@ -8,7 +8,7 @@ ghost use Rattle.core_term.specs.Decimal.{decimal, padded, pointed, integerText
 ghost use Rattle.writer.specs.Put.{putOf};
 ghost use Rattle.writer.specs.Laid.{laid, Left};
 ghost use Rattle.writer.specs.Digits.{tens, quotient, remainder};
-ghost use Rattle.writer.specs.Pieces.{gapText, formalsText};
+ghost use Rattle.writer.specs.Pieces.{gapText};
 use crate::bytes::FULL;
 use crate::bytes::byte;
 use crate::bytes::copy;
@@ -236,30 +236,4 @@ pub fn gap(wanted: bool, out: &mut [u8], at: usize, ink: bool) -> usize
         return at;
     }
     byte(b' ', out, at, ink)
-}
-
-// v0 v1: count variables from first on, with a space before the first where one is wanted.
-pub fn formals(
-    wanted: bool,
-    first: usize,
-    count: usize,
-    out: &mut [u8],
-    at: usize,
-    ink: bool,
-) -> usize
-    requires { ⌜ (at ≤ length (now out)) × (first + count < 18446744073709551616) ⌝ }
-    ensures { λ r. ⌜ Left ink (formalsText wanted first count) at (now (out .entry)) (now (out .exit)) (putOf r) ⌝ }
-{
-    if count == 0 {
-        return at;
-    }
-    let a = gap(wanted, out, at, ink);
-    if a == FULL {
-        return FULL;
-    }
-    let b = numbered(b'v', first, out, a, ink);
-    if b == FULL {
-        return FULL;
-    }
-    formals(true, first + 1, count - 1, out, b, ink)
 }

@@ -5,44 +5,30 @@ ghost use mathlib.Core.List.{List, _++_};
 ghost use Prim.Native.Nat.{ℕ, _+_, _≤_, _<_};
 ghost use lib.ListN.{length, getD};
 ghost use Rattle.words.specs.Text.{bytes};
-ghost use Rattle.datum.specs.NameTable.{nameAt, hasName};
+ghost use Rattle.datum.specs.NameTable.{hasName};
 ghost use Rattle.core_term.specs.Node.{integerCode, listCode, Node, nodeAt, got, nameN};
 ghost use Rattle.writer.specs.Put.{putOf};
 ghost use Rattle.writer.specs.Laid.{Left};
+ghost use Rattle.writer.specs.Called.{Tells, said, saidBy};
 ghost use Rattle.writer.specs.Pieces.{formalsText, opening, closing};
 ghost use Rattle.writer.specs.Opened.{Opened};
+ghost use Rattle.writer.specs.OpenedLaws.{Naming};
 use crate::bytes::FULL;
 use crate::bytes::byte;
 use crate::bytes::copy;
+use crate::names::formals;
+use crate::names::name;
+use crate::names::variable;
 use crate::numbers::decimal;
-use crate::numbers::formals;
 use crate::numbers::integer;
 use crate::numbers::numbered;
 use crate::numbers::wide;
 use core_term::codes;
-use words::SLOT;
-
-fn size(n: u8) -> usize
-    ensures { λ r. ⌜ r ≡ n ⌝ }
-{
-    n as usize
-}
-
-// The spelling of name n.
-fn name(n: usize, names: &[u8], out: &mut [u8], at: usize, ink: bool) -> usize
-    requires { ⌜ (at ≤ length (now out)) × (hasName (now names) n ≡ true) ⌝ }
-    ensures { λ r. ⌜ Left ink (nameAt (now (names .entry)) n) at (now (out .entry)) (now (out .exit)) (putOf r) ⌝ }
-{
-    let start = SLOT * n;
-    let from = start + 1;
-    let to = from + size(names[start]);
-    copy(&names[from..to], out, at, ink)
-}
 
 // A name inside quote, or (quote name).
 fn name_opening(n: usize, names: &[u8], out: &mut [u8], at: usize, inner: bool, ink: bool) -> usize
     requires { ⌜ (at ≤ length (now out)) × (hasName (now names) n ≡ true) ⌝ }
-    ensures { λ r. ⌜ Left ink (opening (nameAt (now (names .entry))) inner (nameN n)) at (now (out .entry)) (now (out .exit)) (putOf r) ⌝ }
+    ensures { λ r. ⌜ ((called : List ℕ) → Left ink (opening (said (now (names .entry)) called) inner (nameN n)) at (now (out .entry)) (now (out .exit)) (putOf r)) ⌝ }
 {
     if inner {
         return name(n, names, out, at, ink);
@@ -58,16 +44,25 @@ fn name_opening(n: usize, names: &[u8], out: &mut [u8], at: usize, inner: bool, 
     byte(b')', out, b, ink)
 }
 
-// (lambda (v0 v1)
-fn lambda_opening(first: usize, count: usize, out: &mut [u8], at: usize, ink: bool) -> usize
-    requires { ⌜ (at ≤ length (now out)) × (first + count < 18446744073709551616) ⌝ }
-    ensures { λ r. ⌜ Left ink (bytes "(lambda (" ++ (formalsText false first count ++ bytes ")")) at (now (out .entry)) (now (out .exit)) (putOf r) ⌝ }
+// (lambda (v0.t v1.u)
+fn lambda_opening(
+    first: usize,
+    count: usize,
+    names: &[u8],
+    out: &mut [u8],
+    at: usize,
+    ink: bool,
+    called: &[u32],
+    direct: bool,
+) -> usize
+    requires { ⌜ (at ≤ length (now out)) × (first + count < 18446744073709551616) × (Naming (saidBy (now names) direct (now called)) (first + count)) × (Tells direct (now called)) ⌝ }
+    ensures { λ r. ⌜ Left ink (bytes "(lambda (" ++ (formalsText (saidBy (now (names .entry)) direct (now (called .entry))) false first count ++ bytes ")")) at (now (out .entry)) (now (out .exit)) (putOf r) ⌝ }
 {
     let a = copy(b"(lambda (", out, at, ink);
     if a == FULL {
         return FULL;
     }
-    let b = formals(false, first, count, out, a, ink);
+    let b = formals(false, first, count, names, out, a, ink, called, direct);
     if b == FULL {
         return FULL;
     }
@@ -83,8 +78,8 @@ fn datum_opening(
     inner: bool,
     ink: bool,
 ) -> usize
-    requires { ⌜ (at ≤ length (now out)) × Opened (now names) (now words) × (integerCode ≤ getD (now words) 0 0) × (getD (now words) 0 0 ≤ listCode) ⌝ }
-    ensures { λ r. ⌜ ((x : Node) (left : List ℕ) → nodeAt (now (words .entry)) ≡ got x left → Left ink (opening (nameAt (now (names .entry))) inner x) at (now (out .entry)) (now (out .exit)) (putOf r)) ⌝ }
+    requires { ⌜ (at ≤ length (now out)) × ((c : List ℕ) × Opened (said (now names) c) (now words)) × (integerCode ≤ getD (now words) 0 0) × (getD (now words) 0 0 ≤ listCode) ⌝ }
+    ensures { λ r. ⌜ ((called : List ℕ) (x : Node) (left : List ℕ) → nodeAt (now (words .entry)) ≡ got x left → Left ink (opening (said (now (names .entry)) called) inner x) at (now (out .entry)) (now (out .exit)) (putOf r)) ⌝ }
 {
     let code = words[0];
     let a = words[1];
@@ -107,14 +102,23 @@ fn datum_opening(
 }
 
 // The text of the leaf at the beginning of words, a node of codes 0 to 4.
-pub fn leaf(words: &[u32], names: &[u8], out: &mut [u8], at: usize, inner: bool, ink: bool) -> usize
-    requires { ⌜ (at ≤ length (now out)) × Opened (now names) (now words) × (getD (now words) 0 0 < listCode) ⌝ }
-    ensures { λ r. ⌜ ((x : Node) (left : List ℕ) → nodeAt (now (words .entry)) ≡ got x left → Left ink (opening (nameAt (now (names .entry))) inner x) at (now (out .entry)) (now (out .exit)) (putOf r)) ⌝ }
+pub fn leaf(
+    words: &[u32],
+    names: &[u8],
+    out: &mut [u8],
+    at: usize,
+    inner: bool,
+    ink: bool,
+    called: &[u32],
+    direct: bool,
+) -> usize
+    requires { ⌜ (at ≤ length (now out)) × Opened (saidBy (now names) direct (now called)) (now words) × (getD (now words) 0 0 < listCode) × (Tells direct (now called)) ⌝ }
+    ensures { λ r. ⌜ ((x : Node) (left : List ℕ) → nodeAt (now (words .entry)) ≡ got x left → Left ink (opening (saidBy (now (names .entry)) direct (now (called .entry))) inner x) at (now (out .entry)) (now (out .exit)) (putOf r)) ⌝ }
 {
     let code = words[0];
     let a = wide(words[1]);
     if code == codes::VARIABLE {
-        return numbered(b'v', a, out, at, ink);
+        return variable(a, names, out, at, ink, called, direct);
     }
     if code == codes::OPERATION {
         return numbered(b'o', a, out, at, ink);
@@ -130,9 +134,11 @@ pub fn begin(
     at: usize,
     inner: bool,
     ink: bool,
+    called: &[u32],
+    direct: bool,
 ) -> usize
-    requires { ⌜ (at ≤ length (now out)) × Opened (now names) (now words) ⌝ }
-    ensures { λ r. ⌜ ((x : Node) (left : List ℕ) → nodeAt (now (words .entry)) ≡ got x left → Left ink (opening (nameAt (now (names .entry))) inner x) at (now (out .entry)) (now (out .exit)) (putOf r)) ⌝ }
+    requires { ⌜ (at ≤ length (now out)) × Opened (saidBy (now names) direct (now called)) (now words) × (Tells direct (now called)) ⌝ }
+    ensures { λ r. ⌜ ((x : Node) (left : List ℕ) → nodeAt (now (words .entry)) ≡ got x left → Left ink (opening (saidBy (now (names .entry)) direct (now (called .entry))) inner x) at (now (out .entry)) (now (out .exit)) (putOf r)) ⌝ }
 {
     let code = words[0];
     if code == codes::IF {
@@ -140,7 +146,7 @@ pub fn begin(
     }
     let a = wide(words[1]);
     if code == codes::VARIABLE {
-        return numbered(b'v', a, out, at, ink);
+        return variable(a, names, out, at, ink, called, direct);
     }
     if code == codes::OPERATION {
         return numbered(b'o', a, out, at, ink);
@@ -149,7 +155,7 @@ pub fn begin(
         return datum_opening(words, names, out, at, inner, ink);
     }
     if code == codes::LAMBDA {
-        return lambda_opening(a, wide(words[2]), out, at, ink);
+        return lambda_opening(a, wide(words[2]), names, out, at, ink, called, direct);
     }
     if code == codes::DECIMAL {
         return decimal(words[1], words[2], out, at, ink);

@@ -136,6 +136,13 @@ pub fn many_marks(rounds: usize, body: &str) -> Vec<u32> {
     text::read(recipe.as_bytes()).expect(&recipe).words()
 }
 
+/// The words of a term with so many variables, eight a lambda, all of them used where the innermost lambda has its body.
+pub fn many_variables(count: usize) -> Vec<u32> {
+    let lambda = |first: usize| [7, first as u32, 8].into_iter().chain((first..first + 8).map(|n| (n % 1_024) as u32));
+    let lambdas = (0..count).step_by(8).flat_map(lambda);
+    lambdas.chain([8, count as u32, 1, 0]).chain((0..count as u32).flat_map(|n| [0, n])).collect()
+}
+
 /// Each deepest input with its fuel, and how many levels its term or datum has, or how many copies, elements, wraps or marks.
 pub fn inputs() -> Vec<(&'static str, Vec<u32>, u32, usize)> {
     vec![

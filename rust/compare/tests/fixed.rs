@@ -35,23 +35,23 @@ fn of_the_papers() {
         (format!("{LIST} (l (1 2) (3 4)))"), "accepted 1 19\n(o0 (o0 2 1) (o0 4 3))\n"),
         (format!("{LIST} (l))"), "accepted 1 3\n(o0)\n"),
         (format!("{CASES} (c else))"), "accepted 1 1\n1\n"),
-        (format!("{CASES} (lambda (else) (c else)))"), "accepted 1 1\n(lambda (v0) 2)\n"),
+        (format!("{CASES} (lambda (else) (c else)))"), "accepted 1 1\n(lambda (v0.else) 2)\n"),
         (format!("{CASES} (c other))"), "accepted 1 1\n2\n"),
         // or2 and or of document 002: a private t, and the curator's
         (
             "() (let-syntax ((or2 (syntax-rules () ((_ e1 e2) ((lambda (t) (if t t e2)) e1))))) (lambda (t) (or2 #f t)))".to_string(),
-            "accepted 1 21\n(lambda (v0) ((lambda (v1) (if v1 v1 v0)) #f))\n",
+            "accepted 1 21\n(lambda (v0.t) ((lambda (v1.t) (if v1.t v1.t v0.t)) #f))\n",
         ),
-        (format!("{OR} (lambda (t) (or #f t)))"), "accepted 2 26\n(lambda (v0) ((lambda (v1) (if v1 v1 v0)) #f))\n"),
+        (format!("{OR} (lambda (t) (or #f t)))"), "accepted 2 26\n(lambda (v0.t) ((lambda (v1.t) (if v1.t v1.t v0.t)) #f))\n"),
         (
             format!("{OR} (lambda (t) (or 1 2 t)))"),
-            "accepted 3 53\n(lambda (v0) ((lambda (v1) (if v1 v1 ((lambda (v2) (if v2 v2 v0)) 2))) 1))\n",
+            "accepted 3 53\n(lambda (v0.t) ((lambda (v1.t) (if v1.t v1.t ((lambda (v2.t) (if v2.t v2.t v0.t)) 2))) 1))\n",
         ),
         // divide of document 002: the inserted name refers to the outer binding
         (
             "(+ *) ((lambda (over) (let-syntax ((divide (syntax-rules () ((_ a b) (over a b))))) ((lambda (over) (divide 6 3)) *))) +)"
                 .to_string(),
-            "accepted 1 7\n((lambda (v0) ((lambda (v1) (v0 6 3)) o1)) o0)\n",
+            "accepted 1 7\n((lambda (v0.over) ((lambda (v1.over) (v0.over 6 3)) o1)) o0)\n",
         ),
     ];
     for (recipe, output) in rows {
@@ -112,7 +112,7 @@ fn both(items: &[u32]) -> (u32, u32, Vec<u32>) {
 #[test]
 fn many_wraps() {
     let (ground, steps, core) = both(&deep::many_wraps());
-    assert_eq!((ground, &core[..]), (0, &[7, 0, 1, 0, 0][..]), "(lambda (v0) v0)");
+    assert_eq!((ground, &core[..]), (0, &[7, 0, 1, 21, 0, 0][..]), "(lambda (v0.y) v0.y)");
     assert!(steps > 800, "{steps} steps");
 }
 
@@ -122,9 +122,11 @@ fn many_marks() {
     for rounds in [1, 2, 10] {
         let answer = |body: &str| both(&deep::many_marks(rounds, body));
         let (ground, steps, core) = answer("(lambda (x) (lambda (y) (f x y)))");
-        assert_eq!((ground, &core[..]), (0, &[7, 0, 1, 7, 1, 1, 8, 2, 1, 0, 0, 0, 0, 1][..]), "(lambda (v0) (lambda (v1) (o0 v0 v1)))");
+        let t = core[3];
+        let known = [7, 0, 1, t, 7, 1, 1, t, 8, 2, 1, 0, 0, 0, 0, 1];
+        assert_eq!((ground, &core[..]), (0, &known[..]), "(lambda (v0.t) (lambda (v1.t) (o0 v0.t v1.t)))");
         assert!(steps as usize > 32 * rounds, "{steps} steps");
-        assert_eq!(answer("(lambda (x y) y)").2, [7, 0, 2, 0, 1], "(lambda (v0 v1) v1)");
+        assert_eq!(answer("(lambda (x y) y)").2, [7, 0, 2, t, t, 0, 1], "(lambda (v0.t v1.t) v1.t)");
         assert_eq!(answer("(lambda (x x) y)").0, 14);
         assert_eq!(answer("(lambda (x) y)").0, 11);
     }

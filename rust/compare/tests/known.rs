@@ -1,6 +1,7 @@
 //! The proved services on texts, tables and words with known answers: every number, and every word and byte of what they are lent, which
 //! the second expander says.
 
+use compare::deep::many_variables;
 use compare::refusal;
 use grebetallboy::{expand, read, write, Error};
 use inputs::{in_stack, known};
@@ -54,11 +55,41 @@ fn words() {
         assert_eq!(&out[..length], known.unwrap_or("").as_bytes(), "{words:?}");
         assert!(out[length..].iter().all(|byte| *byte == b'.'), "{words:?}");
     }
-    assert_eq!(told(write(&[4, 1_023], 256, &names[..65_535], &mut [0; 64])).0, 19);
-    let mut out = [7; 15];
-    assert_eq!(told(write(&[7, 0, 1, 0, 0], 0, &[], &mut out)).0, 20);
-    assert_eq!(out, [7; 15]);
-    assert_eq!(core::text(&[7, 0, 1, 0, 0], 0, &[]).map(|text| text.len()), Some(16));
+    for (words, given, known) in known::NAMED {
+        let mut out = [b'.'; 64];
+        let (ground, length) = told(write(words, 256, &known::table_of(given), &mut out));
+        assert_eq!((ground, &out[..length]), (if known.is_some() { 0 } else { 19 }, known.unwrap_or("").as_bytes()), "{words:?}");
+    }
+    for words in [&[4, 1_023][..], &[7, 0, 1, 1_023, 2, 5]] {
+        assert_eq!(told(write(words, 256, &names[..65_535], &mut [0; 64])).0, 19);
+    }
+    let mut out = [7; 19];
+    assert_eq!(told(write(&[7, 0, 1, 8, 0, 0], 0, &names, &mut out)).0, 20);
+    assert_eq!(out, [7; 19]);
+    assert_eq!(core::text(&[7, 0, 1, 8, 0, 0], 0, &names).map(|text| text.len()), Some(20));
+}
+
+/// A term that expansion gives, with its formals' names.
+#[test]
+fn formals() {
+    let (items, words) = known::two_formals();
+    let (mut work, mut core) = ([3; 360], [3; 45]);
+    assert_eq!(told(expand(&items, 0, &mut work, &mut core).map(|run| run.length)), (0, 7));
+    assert_eq!((&core[..7], &core[7..], &work[..]), (&words[..], &[0; 38][..], &[0; 360][..]));
+}
+
+/// Terms with so many variables, up to the most that expansion gives and past it, each of which is used far from its lambda.
+#[test]
+fn variables() {
+    let names = known::longest_names();
+    for count in [8, 64, 512, 4_096, 6_136, 6_144, 6_152, 8_000] {
+        let words = many_variables(count);
+        let known = in_stack(256 << 20, || core::text(&words, 256, &names)).expect("a term");
+        let mut out = vec![7; known.len() + 1];
+        assert_eq!(told(write(&words, 256, &names, &mut out)), (0, known.len()), "{count}");
+        assert!(out[..known.len()] == known && out[known.len()] == 7, "{count}");
+        assert_eq!(told(write(&words, 256, &names, &mut out[1..known.len()])).0, 20, "{count}");
+    }
 }
 
 /// The deepest terms that fit in the longest core table, applications and lambdas without operands and variables.

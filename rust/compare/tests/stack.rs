@@ -21,6 +21,7 @@ fn texts() {
 
 #[test]
 fn deepest_tables() {
+    let names = known::longest_names();
     for (name, items, fuel, depth) in deep::inputs() {
         assert!(items.len() <= 3 * 4_096, "{name}: {} items", items.len() / 3);
         let (work, core) = table_words(items.len() / 3, fuel);
@@ -29,7 +30,7 @@ fn deepest_tables() {
             let answer = expand(&items, fuel, &mut work, &mut core);
             let words = core[..answer.map_or(0, |run| run.length)].to_vec();
             let mut out = vec![0; TEXT_RATE * words.len()];
-            write(&words, 256, &[], &mut out).expect(name);
+            write(&words, 256, &names, &mut out).expect(name);
             (answer, words)
         });
         let run = in_stack(MUCH, || run(&items, fuel, work, core));

@@ -20,8 +20,9 @@ fn words(random: &mut Random, recipe: &text::Recipe) -> Vec<u32> {
     }
     for _ in 0..random.below(3) {
         let at = random.below(words.len().max(1));
-        match random.below(6) {
+        match random.below(8) {
             0 => words.truncate(at),
+            6 | 7 => damage_names(random, &mut words),
             1 if at < words.len() => words[at] = random.below(10) as u32,
             2 if at < words.len() => words[at] = [u32::MAX, 1 << 31, 1_023, 1_024, 256][random.below(5)],
             3 => words.insert(at.min(words.len()), random.below(10) as u32),
@@ -30,6 +31,22 @@ fn words(random: &mut Random, recipe: &text::Recipe) -> Vec<u32> {
         }
     }
     words
+}
+
+/// Another number, a word more or a word less among the names of a lambda, or another count of them.
+fn damage_names(random: &mut Random, words: &mut Vec<u32>) {
+    let lambdas: Vec<usize> = (3..words.len()).filter(|&at| words[at - 3] == 7).collect();
+    if lambdas.is_empty() {
+        return;
+    }
+    let at = lambdas[random.below(lambdas.len())];
+    match random.below(8) {
+        0 => drop(words.remove(at)),
+        1 => words.insert(at, random.below(20) as u32),
+        2 => words[at - 1] = random.below(10) as u32,
+        3 => words[at] = [u32::MAX, 1 << 31, 1_023, 1_024][random.below(4)],
+        _ => words[at] = random.below(20) as u32,
+    }
 }
 
 /// The words of a decimal, now and then of no places or too many; any value, small ones more often.
@@ -48,7 +65,8 @@ fn writing() {
         let mut names = recipe.name_table();
         if random.chance(20) {
             let at = random.below(names.len());
-            names[at] = random.below(256) as u8;
+            let at = if random.chance(50) { at - at % 64 } else { at };
+            names[at] = [0, 1, 63, 64, random.below(256) as u8][random.below(5)];
         }
         let operations = [0, 1, 2, 255, 256, 257][random.below(6)];
         let length = core::text(&words, operations, &names).map_or(40, |t| t.len() + random.below(4)).saturating_sub(random.below(3));

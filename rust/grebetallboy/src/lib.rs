@@ -22,7 +22,7 @@ pub fn table_words(items: usize, fuel: u32) -> (usize, usize) {
 }
 
 /// Bytes of output for each word of a core term that hold its text, whatever the term (of up to 10^9 words).
-pub const TEXT_RATE: usize = 36;
+pub const TEXT_RATE: usize = 57;
 
 /// Bytes of stack that reading takes at most.
 pub const READ_STACK: usize = 16 << 10;
@@ -32,9 +32,10 @@ pub fn expand_stack(items: usize, fuel: u32) -> usize {
     (256 << 10) + 512 * (items.min(4_096) + fuel.min(8_192) as usize)
 }
 
-/// Bytes of stack that writing takes at most: each word may open a part of the term inside the one before.
+/// Bytes of stack that writing takes at most: each word may open a part of the term inside the one before, and the names of some
+/// 6,000 variables are noted.
 pub fn write_stack(words: usize) -> usize {
-    words.saturating_mul(256).saturating_add(16 << 10)
+    words.saturating_mul(256).saturating_add(48 << 10)
 }
 
 #[derive(Clone, Copy, Debug, PartialEq, Eq)]

@@ -6,7 +6,7 @@ use std::path::{Path, PathBuf};
 use std::process::{Command, Stdio};
 
 const RECIPE: &str = "() (let-syntax ((or2 (syntax-rules () ((_ a b) ((lambda (t) (if t t b)) a))))) (lambda (t) (or2 #f t)))";
-const TERM: &str = "1 steps, 21 items\n(lambda (v0) ((lambda (v1) (if v1 v1 v0)) #f))\n";
+const TERM: &str = "1 steps, 21 items\n(lambda (v0.t) ((lambda (v1.t) (if v1.t v1.t v0.t)) #f))\n";
 
 fn printed(program: &mut Command, text: &str) -> String {
     let mut child = program.stdin(Stdio::piped()).stdout(Stdio::piped()).spawn().expect("the example starts");

@@ -158,6 +158,17 @@ pub fn decimal_operand() -> Vec<u32> {
     Table::recipe(&mut |t| t.list(1, &mut |t, _| t.name(8)), expression)
 }
 
+/// `() (lambda (t u) u)` and its term, of which t and u are 8 and 9.
+pub fn two_formals() -> (Vec<u32>, [u32; 7]) {
+    let formals = &mut |t: &mut Table| t.list(2, &mut |t, place| t.name(8 + place as u32));
+    let part = &mut |t: &mut Table, place| match place {
+        0 => t.name(2),
+        1 => formals(t),
+        _ => t.name(9),
+    };
+    (Table::recipe(&mut |t| t.empty(), &mut |t| t.list(3, part)), [7, 0, 2, 8, 9, 0, 1])
+}
+
 /// Item tables of grounds 7 to 10, and such as pass them.
 pub fn layouts() -> Vec<Layout> {
     let ample = |name, items, ground| Layout { name, items, fuel: 0, work: 98_304, core: 12_288, ground };
@@ -200,10 +211,20 @@ pub fn layouts() -> Vec<Layout> {
 pub type Words = (&'static [u32], u32, Option<&'static str>);
 
 pub const WORDS: &[Words] = &[
-    (&[7, 0, 1, 0, 0], 256, Some("(lambda (v0) v0)")),
-    (&[6, 7, 0, 1, 0, 0, 7, 0, 1, 0, 0, 2, 0], 256, None),
-    (&[6, 7, 0, 1, 0, 0, 7, 1, 1, 0, 0, 2, 0], 256, None),
-    (&[6, 7, 0, 1, 0, 0, 7, 1, 1, 0, 1, 2, 0], 256, Some("(if (lambda (v0) v0) (lambda (v1) v1) 0)")),
+    (&[7, 0, 1, 8, 0, 0], 256, Some("(lambda (v0.x) v0.x)")),
+    (&[6, 7, 0, 1, 8, 0, 0, 7, 0, 1, 8, 0, 0, 2, 0], 256, None),
+    (&[6, 7, 0, 1, 8, 0, 0, 7, 1, 1, 8, 0, 0, 2, 0], 256, None),
+    (&[6, 7, 0, 1, 8, 0, 0, 7, 1, 1, 1_023, 0, 1, 2, 0], 256, Some("(if (lambda (v0.x) v0.x) (lambda (v1.z) v1.z) 0)")),
+    (&[7, 0, 2, 1_023, 8, 8, 1, 0, 1, 0, 0], 256, Some("(lambda (v0.z v1.x) (v1.x v0.z))")),
+    (&[7, 0, 1, 9, 2, 5], 256, None),
+    (&[7, 0, 1, 1_024, 2, 5], 256, None),
+    (&[7, 0, 1, u32::MAX, 2, 5], 256, None),
+    (&[7, 0, 2, 8, 9, 2, 5], 256, None),
+    (&[7, 0, 1, 2, 5], 256, None),
+    (&[7, 0, 1, 0, 0, 8], 256, None),
+    (&[7, 0, 1, 8], 256, None),
+    (&[7, 0, 2, 8], 256, None),
+    (&[7, 0, 0, 8, 2, 5], 256, None),
     (&[5, 2, 4, 8, 5, 0], 256, Some("(quote (x ()))")),
     (&[5, 1, 0, 0], 256, None),
     (&[2, 5, 2, 6], 256, None),
@@ -212,7 +233,8 @@ pub const WORDS: &[Words] = &[
     (&[3, 2], 256, None),
     (&[7, 1, 0, 2, 5], 256, None),
     (&[7, 0, 0, 2, 5], 256, Some("(lambda () 5)")),
-    (&[7, 0, 9, 2, 5], 256, None),
+    (&[7, 0, 8, 8, 8, 8, 8, 8, 8, 8, 1_023, 0, 7], 256, Some("(lambda (v0.x v1.x v2.x v3.x v4.x v5.x v6.x v7.z) v7.z)")),
+    (&[7, 0, 9, 8, 8, 8, 8, 8, 8, 8, 8, 8, 2, 5], 256, None),
     (&[1, 255], 256, Some("o255")),
     (&[1, 255], 1, None),
     (&[1, 255], 257, None),
@@ -236,9 +258,34 @@ pub const WORDS: &[Words] = &[
     (&[4, 1_023], 256, Some("(quote z)")),
     (&[4, 9], 256, None),
     (&[5, 0], 256, Some("(quote ())")),
-    (&[7, 0, 1, 8, 1, 0, 0, 7, 1, 0, 0, 0], 256, Some("(lambda (v0) (v0 (lambda () v0)))")),
+    (&[7, 0, 1, 8, 8, 1, 0, 0, 7, 1, 0, 0, 0], 256, Some("(lambda (v0.x) (v0.x (lambda () v0.x)))")),
     (&[], 256, None),
 ];
+
+/// Words, the names from number 8 on, and the text; none is ground 19.
+pub type Named = (&'static [u32], &'static [&'static str], Option<&'static str>);
+
+pub const NAMED: &[Named] = &[
+    (&[7, 0, 2, 8, 9, 0, 1], &["t", "u"], Some("(lambda (v0.t v1.u) v1.u)")),
+    (&[7, 0, 1, 1_024, 0, 0], &["t"], None),
+    (&[7, 0, 1, 9, 0, 0], &["t"], None),
+    (&[7, 0, 2, 8], &["t"], None),
+];
+
+/// A name table with these names from number 8 on.
+pub fn table_of(given: &[&str]) -> Vec<u8> {
+    let mut names = vec![0; 65_536];
+    for (name, slot) in given.iter().zip(names.chunks_mut(64).skip(8)) {
+        slot[0] = name.len() as u8;
+        slot[1..=name.len()].copy_from_slice(name.as_bytes());
+    }
+    names
+}
+
+/// A name table in which each of the 1,024 names has 63 bytes.
+pub fn longest_names() -> Vec<u8> {
+    (0..1_024).flat_map(|n| [vec![63], format!("n{n:062}").into_bytes()].concat()).collect()
+}
 
 /// A name table for [`WORDS`].
 pub fn names() -> Vec<u8> {

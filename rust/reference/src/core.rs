@@ -11,7 +11,8 @@ pub enum Term {
     Boolean(bool),
     Quoted(Datum),
     If(Box<[Term; 3]>),
-    Lambda(u32, u32, Box<Term>),
+    /// The first variable's number, the formals' name numbers, the body.
+    Lambda(u32, Vec<u32>, Box<Term>),
     Application(Box<Term>, Vec<Term>),
 }
 
@@ -33,8 +34,9 @@ impl Term {
                 out.push(6);
                 parts.iter().for_each(|t| t.put(out));
             }
-            Term::Lambda(first, count, body) => {
-                out.extend([7, *first, *count]);
+            Term::Lambda(first, names, body) => {
+                out.extend([7, *first, names.len() as u32]);
+                out.extend(names);
                 body.put(out);
             }
             Term::Application(head, operands) => {
@@ -72,133 +74,190 @@ fn decimal(n: Number) -> String {
     format!("{sign}{whole}.{part:0places$}", places = n.places as usize)
 }
 
-struct Writer<'a> {
+/// The slot of a name that can be written: it lies in the name table, with a length of 1 to 63.
+pub fn spelled(names: &[u8], n: u32) -> Option<&[u8]> {
+    let slot = names.get(64 * n as usize..)?.get(..64)?;
+    (n < 1_024 && (1..=63).contains(&slot[0])).then(|| &slot[1..=slot[0] as usize])
+}
+
+struct Decoder<'a> {
     words: &'a [u32],
     operations: u32,
     names: &'a [u8],
     variables: u64,
     scope: Vec<(u64, u64)>,
-    out: Vec<u8>,
 }
 
-/// The text of exactly one term; none is ground 19.
-pub fn text(words: &[u32], operations: u32, names: &[u8]) -> Option<Vec<u8>> {
+/// Exactly one term; none is ground 19.
+pub fn decode(words: &[u32], operations: u32, names: &[u8]) -> Option<Term> {
     if operations > 256 {
         return None;
     }
-    let mut w = Writer { words, operations, names, variables: 0, scope: Vec::new(), out: Vec::new() };
-    w.term()?;
-    w.words.is_empty().then_some(w.out)
+    let mut d = Decoder { words, operations, names, variables: 0, scope: Vec::new() };
+    let term = d.term()?;
+    d.words.is_empty().then_some(term)
 }
 
-impl Writer<'_> {
+impl Decoder<'_> {
     fn word(&mut self) -> Option<u32> {
         let (first, rest) = self.words.split_first()?;
         self.words = rest;
         Some(*first)
     }
 
+    fn name(&mut self) -> Option<u32> {
+        self.word().filter(|n| spelled(self.names, *n).is_some())
+    }
+
+    fn terms(&mut self, count: u32) -> Option<Vec<Term>> {
+        (0..count).map(|_| self.term()).collect()
+    }
+
+    fn term(&mut self) -> Option<Term> {
+        if let 2..=5 | 9 = self.words.first()? {
+            return Some(match self.datum()? {
+                Datum::Number(n) => Term::Number(n),
+                Datum::Boolean(b) => Term::Boolean(b),
+                quoted => Term::Quoted(quoted),
+            });
+        }
+        Some(match self.word()? {
+            0 => {
+                let n = self.word()?;
+                self.scope.iter().find(|(first, end)| (*first..*end).contains(&u64::from(n)))?;
+                Term::Variable(n)
+            }
+            1 => Term::Operation(self.word().filter(|n| *n < self.operations)?),
+            6 => Term::If(Box::new([self.term()?, self.term()?, self.term()?])),
+            7 => {
+                let (first, count) = (self.word()?, self.word()?);
+                if u64::from(first) != self.variables || count > 8 {
+                    return None;
+                }
+                let names = (0..count).map(|_| self.name()).collect::<Option<_>>()?;
+                self.variables += u64::from(count);
+                self.scope.push((u64::from(first), self.variables));
+                let body = self.term()?;
+                self.scope.pop();
+                Term::Lambda(first, names, Box::new(body))
+            }
+            8 => {
+                let count = self.word()?;
+                Term::Application(Box::new(self.term()?), self.terms(count)?)
+            }
+            _ => return None,
+        })
+    }
+
+    fn datum(&mut self) -> Option<Datum> {
+        Some(match self.word()? {
+            2 => Datum::Number(Number { value: self.word()? as i32, places: 0 }),
+            3 => Datum::Boolean(self.word().filter(|b| *b < 2)? == 1),
+            4 => Datum::Name(self.name()?),
+            5 => {
+                let count = self.word()?;
+                Datum::List((0..count).map(|_| self.datum()).collect::<Option<_>>()?)
+            }
+            9 => {
+                let value = self.word()? as i32;
+                Datum::Number(Number { value, places: self.word().filter(|places| (1..=4).contains(places))? })
+            }
+            _ => return None,
+        })
+    }
+}
+
+struct Writer<'a> {
+    names: &'a [u8],
+    /// The name of each variable so far, by its number.
+    called: Vec<u32>,
+    out: Vec<u8>,
+}
+
+/// The text of exactly one term; none is ground 19.
+pub fn text(words: &[u32], operations: u32, names: &[u8]) -> Option<Vec<u8>> {
+    let term = decode(words, operations, names)?;
+    let mut w = Writer { names, called: Vec::new(), out: Vec::new() };
+    w.term(&term);
+    Some(w.out)
+}
+
+impl Writer<'_> {
     fn put(&mut self, text: &str) {
         self.out.extend(text.as_bytes());
     }
 
-    fn term(&mut self) -> Option<()> {
-        match self.words.first()? {
-            2 | 3 | 9 => return self.datum(),
-            4 | 5 => {
-                self.put("(quote ");
-                self.datum()?;
-                self.put(")");
-                return Some(());
-            }
-            _ => {}
-        }
-        match self.word()? {
-            0 => {
-                let n = self.word()?;
-                self.scope.iter().find(|(first, end)| (*first..*end).contains(&u64::from(n)))?;
-                self.put(&format!("v{n}"));
-            }
-            1 => {
-                let n = self.word().filter(|n| *n < self.operations)?;
-                self.put(&format!("o{n}"));
-            }
-            6 => {
-                self.put("(if");
-                for _ in 0..3 {
-                    self.put(" ");
-                    self.term()?;
-                }
-                self.put(")");
-            }
-            7 => {
-                let (first, count) = (u64::from(self.word()?), u64::from(self.word()?));
-                if first != self.variables || count > 8 {
-                    return None;
-                }
-                self.variables += count;
-                let formals: Vec<String> = (first..first + count).map(|n| format!("v{n}")).collect();
-                self.put(&format!("(lambda ({}) ", formals.join(" ")));
-                self.scope.push((first, first + count));
-                self.term()?;
-                self.scope.pop();
-                self.put(")");
-            }
-            8 => {
-                let count = self.word()?;
-                self.put("(");
-                self.term()?;
-                for _ in 0..count {
-                    self.put(" ");
-                    self.term()?;
-                }
-                self.put(")");
-            }
-            _ => return None,
-        }
-        Some(())
+    fn name(&mut self, n: u32) {
+        self.out.extend(spelled(self.names, n).expect("a decoded name can be written"));
     }
 
-    fn datum(&mut self) -> Option<()> {
-        match self.word()? {
-            2 => {
-                let n = self.word()? as i32;
-                self.put(&n.to_string());
+    /// Its number, and the name that its formal had.
+    fn variable(&mut self, n: u32) {
+        self.put(&format!("v{n}."));
+        self.name(self.called[n as usize]);
+    }
+
+    /// Each after a space but the first.
+    fn spaced<T>(&mut self, list: impl IntoIterator<Item = T>, put: impl Fn(&mut Self, T)) {
+        for (i, t) in list.into_iter().enumerate() {
+            if i > 0 {
+                self.put(" ");
             }
-            3 => match self.word()? {
-                0 => self.put("#f"),
-                1 => self.put("#t"),
-                _ => return None,
-            },
-            4 => {
-                let n = self.word().filter(|n| *n < 1_024)? as usize;
-                let slot = self.names.get(64 * n..64 * (n + 1))?;
-                let length = slot[0] as usize;
-                if !(1..=63).contains(&length) {
-                    return None;
-                }
-                let name = slot[1..=length].to_vec();
-                self.out.extend(name);
-            }
-            5 => {
-                let count = self.word()?;
-                self.put("(");
-                for i in 0..count {
-                    if i > 0 {
-                        self.put(" ");
-                    }
-                    self.datum()?;
-                }
+            put(self, t);
+        }
+    }
+
+    fn term(&mut self, t: &Term) {
+        match t {
+            Term::Variable(n) => self.variable(*n),
+            Term::Operation(n) => self.put(&format!("o{n}")),
+            Term::Number(n) => self.number(*n),
+            Term::Boolean(b) => self.boolean(*b),
+            Term::Quoted(d) => {
+                self.put("(quote ");
+                self.datum(d);
                 self.put(")");
             }
-            9 => {
-                let value = self.word()? as i32;
-                let places = self.word().filter(|places| (1..=4).contains(places))?;
-                self.put(&decimal(Number { value, places }));
+            Term::If(parts) => {
+                self.put("(if ");
+                self.spaced(parts.iter(), Self::term);
+                self.put(")");
             }
-            _ => return None,
+            Term::Lambda(first, names, body) => {
+                self.called.extend(names);
+                self.put("(lambda (");
+                self.spaced((*first..).take(names.len()), Self::variable);
+                self.put(") ");
+                self.term(body);
+                self.put(")");
+            }
+            Term::Application(head, operands) => {
+                self.put("(");
+                self.spaced(std::iter::once(&**head).chain(operands), Self::term);
+                self.put(")");
+            }
         }
-        Some(())
+    }
+
+    fn datum(&mut self, d: &Datum) {
+        match d {
+            Datum::Number(n) => self.number(*n),
+            Datum::Boolean(b) => self.boolean(*b),
+            Datum::Name(n) => self.name(*n),
+            Datum::List(list) => {
+                self.put("(");
+                self.spaced(list, Self::datum);
+                self.put(")");
+            }
+        }
+    }
+
+    fn boolean(&mut self, b: bool) {
+        self.put(if b { "#t" } else { "#f" });
+    }
+
+    fn number(&mut self, n: Number) {
+        self.put(&if n.places == 0 { n.value.to_string() } else { decimal(n) });
     }
 }
 

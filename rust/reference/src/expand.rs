@@ -179,11 +179,11 @@ impl Expander {
         distinct(&formals)?;
         let first = self.variables;
         self.variables += formals.len() as u32;
-        let count = formals.len() as u32;
+        let names = formals.iter().map(|x| x.number).collect();
         let bound: Vec<_> = formals.into_iter().zip(first..).map(|(x, n)| (x, Binding::Variable(n))).collect();
         self.events.extend(bound.iter().map(|(x, b)| Event::Binds(*b, x.clone())));
         let body = self.expression(body.clone().bind(&bound))?;
-        Ok(Term::Lambda(first, count, Box::new(body)))
+        Ok(Term::Lambda(first, names, Box::new(body)))
     }
 
     fn let_syntax(&mut self, head: &Name, list: &[Tree], recursive: bool) -> Answer {

@@ -1,10 +1,12 @@
-//! Demand 3 tried on random recipes, with the new name unused anywhere and with one that is new to its template alone.
+//! Demand 3 tried on random recipes, with the new name unused anywhere and with one that is new to its template alone: the two runs have
+//! the same outcome and counts, and the second's words are those of the first's term with the new number at each formal that is a copy.
 //! `RECIPES=1000000 SEED=7 cargo test --release --test private_names` makes a long run.
 
-use inputs::{in_stack, patterns::Rules, setting, Random, Recipes};
+use inputs::{in_stack, known, patterns::Rules, setting, Random, Recipes};
+use reference::core::{decode, Term};
 use reference::expand::{run, Event, Run};
-use reference::tree::{Binding, Name, Tree};
 use reference::rules::{self, Ellipsis};
+use reference::tree::{Binding, Name, Tree};
 use reference::{table, text};
 use std::collections::{HashMap, HashSet};
 
@@ -47,10 +49,18 @@ struct Shown {
     lookups: usize,
 }
 
+fn copy(items: &HashSet<u32>, x: &Name) -> bool {
+    x.produced && items.contains(&x.item)
+}
+
+/// The bindings of a run, with their own names.
+fn own(run: &Run) -> HashMap<Binding, &Name> {
+    run.events.iter().filter_map(|e| if let Event::Binds(b, x) = e { Some((*b, x)) } else { None }).collect()
+}
+
 fn shown(run: &Run, items: &HashSet<u32>) -> Shown {
-    let copy = |x: &Name| x.produced && items.contains(&x.item);
-    let own: HashMap<Binding, &Name> =
-        run.events.iter().filter_map(|e| if let Event::Binds(b, x) = e { Some((*b, x)) } else { None }).collect();
+    let copy = |x: &Name| copy(items, x);
+    let own = own(run);
     let mut answer = Shown { hidden: true, lookups: 0 };
     for event in &run.events {
         match event {
@@ -69,11 +79,35 @@ fn shown(run: &Run, items: &HashSet<u32>) -> Shown {
 struct Count {
     hidden: usize,
     with_lookups: usize,
+    name_words_differ: usize,
     differ_where_shown: usize,
 }
 
-fn agree(a: &Run, b: &Run) -> bool {
-    a.outcome == b.outcome && a.steps == b.steps && a.sum == b.sum && a.core == b.core
+/// A term with other names at its formals, given each variable's number and name.
+fn called(t: &Term, name: &dyn Fn(u32, u32) -> u32) -> Term {
+    match t {
+        Term::Lambda(first, names, body) => {
+            let names = (*first..).zip(names).map(|(variable, &n)| name(variable, n)).collect();
+            Term::Lambda(*first, names, Box::new(called(body, name)))
+        }
+        Term::If(parts) => Term::If(Box::new(parts.each_ref().map(|t| called(t, name)))),
+        Term::Application(head, operands) => {
+            Term::Application(Box::new(called(head, name)), operands.iter().map(|t| called(t, name)).collect())
+        }
+        other => other.clone(),
+    }
+}
+
+/// The words of a run's term with the new number at each formal that is a copy; none where it is refused.
+fn renamed(run: &Run, items: &HashSet<u32>, new: u32) -> Vec<u32> {
+    let Some(term) = decode(&run.core, 256, &known::longest_names()) else { return Vec::new() };
+    let own = own(run);
+    called(&term, &|variable, old| if copy(items, own[&Binding::Variable(variable)]) { new } else { old }).words()
+}
+
+/// Outcome and counts of the first run, and these words.
+fn agree(first: &Run, words: &[u32], second: &Run) -> bool {
+    first.outcome == second.outcome && first.steps == second.steps && first.sum == second.sum && second.core == words
 }
 
 fn try_recipe(source: &str, random: &mut Random, count: &mut Count) {
@@ -96,13 +130,15 @@ fn try_recipe(source: &str, random: &mut Random, count: &mut Count) {
                 let unused = recipe.names.len() as u32;
                 let fresh = |n: u32| !matches!(n, 6 | 7) && !numbers.contains(&n) && !place.variables.contains(&n);
                 for new in [unused, local].into_iter().filter(|n| fresh(*n)) {
-                    let mut renamed = words.clone();
-                    items.iter().for_each(|i| renamed[3 * *i as usize + 1] = new);
-                    let equal = agree(&first, &run(&renamed, FUEL, WORDS, WORDS));
+                    let mut changed = words.clone();
+                    items.iter().for_each(|i| changed[3 * *i as usize + 1] = new);
+                    let expected = renamed(&first, &items, new);
+                    let equal = agree(&first, &expected, &run(&changed, FUEL, WORDS, WORDS));
                     if said.hidden {
                         assert!(equal, "{source}\nold {old} new {new} items {items:?}");
                         count.hidden += 1;
                         count.with_lookups += usize::from(said.lookups > 0);
+                        count.name_words_differ += usize::from(expected != first.core);
                     } else {
                         count.differ_where_shown += usize::from(!equal);
                     }
@@ -123,9 +159,42 @@ fn private_names_never_show() {
             try_recipe(&source, &mut random, &mut count);
         }
         println!("{recipes} recipes: {count:?}");
-        assert!(count.with_lookups as u64 > recipes / 100 && count.differ_where_shown as u64 > recipes / 100, "{count:?}");
+        let met = [count.with_lookups, count.name_words_differ, count.differ_where_shown];
+        assert!(met.iter().all(|&n| n as u64 > recipes / 100), "{count:?}");
     };
     in_stack(256 << 20, body);
+}
+
+/// A recipe's words, the items of its names that are spelled so, the words with a new number there, and that number.
+fn renaming(source: &str, name: &str) -> (Vec<u32>, HashSet<u32>, Vec<u32>, u32) {
+    let recipe = text::read(source.as_bytes()).unwrap();
+    let (words, new) = (recipe.words(), recipe.names.len() as u32);
+    let old = recipe.names.iter().position(|n| n == name.as_bytes()).unwrap() as u32;
+    let items: HashSet<u32> = (0..words.len() / 3).filter(|&i| words[3 * i..][..3] == [3, old, 0]).map(|i| i as u32).collect();
+    let mut changed = words.clone();
+    items.iter().for_each(|i| changed[3 * *i as usize + 1] = new);
+    (words, items, changed, new)
+}
+
+/// A private name as a formal: its name word is the new number then, and no other word differs.
+#[test]
+fn a_copy_is_a_formal() {
+    let source = "() (lambda (t) (let-syntax ((or2 (syntax-rules () ((_ a b) ((lambda (p) (if p p b)) a))))) (or2 #f t)))";
+    let (words, items, changed, new) = renaming(source, "p");
+    let (first, second) = (run(&words, FUEL, WORDS, WORDS), run(&changed, FUEL, WORDS, WORDS));
+    let differ: Vec<usize> = (0..first.core.len()).filter(|&i| first.core[i] != second.core[i]).collect();
+    assert_eq!((&differ[..], second.core[differ[0]]), (&[9][..], new), "{:?}", first.core);
+    assert!(agree(&first, &renamed(&first, &items, new), &second));
+}
+
+/// A private macro name is no formal: nothing differs.
+#[test]
+fn no_copy_is_a_formal() {
+    let source = "() (let-syntax ((m (syntax-rules () ((_ a) (let-syntax ((p (syntax-rules () ((_) a)))) (p)))))) (lambda (t) (m t)))";
+    let (words, items, changed, new) = renaming(source, "p");
+    let (first, second) = (run(&words, FUEL, WORDS, WORDS), run(&changed, FUEL, WORDS, WORDS));
+    assert!(shown(&first, &items).lookups > 0 && agree(&first, &first.core, &second));
+    assert_eq!(renamed(&first, &items, new), first.core);
 }
 
 /// An author's ellipsis counts as a variable: where it is renamed in the template alone, rules break, and no copy has been seen.

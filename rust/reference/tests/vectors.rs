@@ -19,6 +19,11 @@ fn layouts() {
     }
     assert_eq!(expand::run(&known::layouts()[0].items, 0, 120, 15).core, [2, 5]);
     assert_eq!(expand::run(&known::decimal_operand(), 0, 264, 33).core, [8, 1, 1, 0, 9, 80, 2]);
+    let (items, words) = known::two_formals();
+    let reading = text::read(b"() (lambda (t u) u)").unwrap();
+    assert_eq!(items, reading.words());
+    assert_eq!(expand::expand_call(&items, 0, &mut [3; 360], &mut [3; 45]), (0, 0, 0, 7));
+    assert_eq!(expand::run(&items, 0, 360, 45).core, words);
 }
 
 #[test]
@@ -28,10 +33,16 @@ fn words() {
         let text = core::text(words, *operations, &names).map(|text| String::from_utf8(text).unwrap());
         assert_eq!(text.as_deref(), *known, "{words:?}");
     }
-    assert_eq!(core::text(&[4, 1_023], 256, &names[..65_535]), None);
-    let mut out = [7; 15];
-    assert_eq!(core::write_call(&[7, 0, 1, 0, 0], 0, &[], &mut out), (20, 0));
-    assert_eq!(out, [7; 15]);
+    for (words, given, known) in known::NAMED {
+        let text = core::text(words, 256, &known::table_of(given)).map(|text| String::from_utf8(text).unwrap());
+        assert_eq!(text.as_deref(), *known, "{words:?}");
+    }
+    for words in [&[4, 1_023][..], &[7, 0, 1, 1_023, 2, 5]] {
+        assert_eq!(core::text(words, 256, &names[..65_535]), None);
+    }
+    let mut out = [7; 19];
+    assert_eq!(core::write_call(&[7, 0, 1, 8, 0, 0], 0, &names, &mut out), (20, 0));
+    assert_eq!(out, [7; 19]);
 }
 
 #[test]

@@ -16,13 +16,14 @@ use Rattle.datum.specs.Datum.{constantD}
 use Rattle.recipe.specs.Name.{Binding, variable, macro, Name}
 use Rattle.recipe.specs.Tree.{Tree, empty, constant, name, pair, size, strip, stripTail, onPair, isList, isListOf, elements, element, tail, mark, produce, bindAll}
 use Rattle.recipe.specs.TreeLaws.{size-positive, element-size, names-size, totalSize, elements-size, mark-size, produce-size, bindAll-size}
-use Rattle.core_term.specs.Term.{Term, variableC, operationC, datumC, ifC, applicationC, noneC, moreC}
+use Rattle.core_term.specs.Term.{Term, variableC, operationC, datumC, ifC, applicationC, noneC, moreC, onFormals}
 use Rattle.core_term.specs.Node.{nodeWords}
-use Rattle.core_term.specs.Words.{datumWords, dataWords, encode, encodeAll}
+use Rattle.core_term.specs.Words.{datumWords, dataWords, encode}
 use Rattle.expansion.specs.Lookup.{quote, if, lambda, let-syntax, letrec-syntax, auxiliary, Found, bound, form, operation, nothing, lookup}
 use Rattle.expansion.specs.Transcribe.{transcribe}
 use Rattle.expansion.specs.Computation.{State, Out, M}
 use Rattle.expansion.specs.Forms.{isLambda, formals, isMacros, keywords, rulesForms, expandAll, expandQuote, expandIf, expandLambda, expandMacros, expandUse, expandOperands, expandList, expandName, expandApplication, expandPair, expandTree, expandWithin, expand}
+use Rattle.expansion.specs.Run.{wordsOf, wordsOfAll}
 use Rattle.expansion.specs.FormLaws.{rules-added, readRules-holds}
 use Rattle.expansion.specs.Outcomes.{Holds, give-holds, refuse-holds, test-holds, show-holds, get-holds, addVariables-holds, addMacros-holds, addStep-holds, then-holds, orRefuse-holds, weaken}
 
@@ -100,7 +101,7 @@ abbrev pub Spends : {A : Type 0} (fuel k : ℕ) (s : State) → (A → ℕ) → 
 Spends fuel k s words o = Holds ⊥ (λ g u l. Solvent fuel u) (λ a u l. Spent fuel k s (words a) u) o
 
 abbrev pub SpendsTerm : (fuel k : ℕ) (s : State) → Out (Term Name) → Type 0
-SpendsTerm fuel k s = Spends fuel k s (λ w. length (encode w))
+SpendsTerm fuel k s = Spends fuel k s (λ w. length (wordsOf w))
 
 -- an expander for which gas bounds the tree and the fuel left
 abbrev pub Thrifty : (fuel gas : ℕ) → (Tree → M (Term Name)) → Type 0
@@ -112,8 +113,8 @@ module _ (limit : ℕ) (operations : List ℕ) (fuel : ℕ) where
   nothing-spent k s n low h = record { grown = omega arith; solvent = low; words = omega arith; bindings = omega arith }
 
   module _ (gas : ℕ) (rec : Tree → M (Term Name)) (good : Thrifty fuel gas rec) where
-    all-spends : (t : Tree) (s : State) → Solvent fuel s → size t + fuel ≤ gas + s .sum → Spends fuel (size t) s (λ w. length (encodeAll w) + 2) (expandAll limit operations fuel rec t s)
-    unfolding expandAll size encode nodeWords
+    all-spends : (t : Tree) (s : State) → Solvent fuel s → size t + fuel ≤ gas + s .sum → Spends fuel (size t) s (λ w. length (wordsOfAll w) + 2) (expandAll limit operations fuel rec t s)
+    unfolding expandAll size onFormals encode nodeWords
     all-spends empty s low g = give-holds noneC s (nothing-spent 1 s 2 low (omega arith))
     all-spends (constant a) s low g = give-holds noneC s (nothing-spent 1 s 2 low (omega arith))
     all-spends (name x) s low g = give-holds noneC s (nothing-spent 1 s 2 low (omega arith))
@@ -123,15 +124,15 @@ module _ (limit : ℕ) (operations : List ℕ) (fuel : ℕ) where
         give-holds (moreC a b) v (record { grown = omega arith; solvent = r .solvent; words = simp length-append (omega arith); bindings = omega arith })
 
     -- after a head that is paid for by k
-    operands-spends : (k : ℕ) (a : Term Name) (t : Tree) (s : State) → Solvent fuel s → size t + fuel ≤ gas + s .sum → length (encode a) ≤ 2 * k
+    operands-spends : (k : ℕ) (a : Term Name) (t : Tree) (s : State) → Solvent fuel s → size t + fuel ≤ gas + s .sum → length (wordsOf a) ≤ 2 * k
         → SpendsTerm fuel (k + size t) s (expandOperands limit operations fuel rec a t s)
-    unfolding expandOperands encode nodeWords
+    unfolding expandOperands onFormals encode nodeWords
     operands-spends k a t s low g e =
         then-holds _ _ _ s (all-spends t s low g) λ b u l q.
         give-holds (applicationC a b) u (record { grown = omega arith; solvent = q .solvent; words = simp length-append (omega arith); bindings = omega arith })
 
     -- after a variable or an operation
-    named-spends : (a : Term Name) (h t : Tree) (s : State) → Solvent fuel s → size (pair h t) + fuel ≤ suc gas + s .sum → length (encode a) ≡ 2
+    named-spends : (a : Term Name) (h t : Tree) (s : State) → Solvent fuel s → size (pair h t) + fuel ≤ suc gas + s .sum → length (wordsOf a) ≡ 2
         → SpendsTerm fuel (size (pair h t)) s (expandOperands limit operations fuel rec a (tail (pair h t)) s)
     unfolding size tail onPair
     named-spends a h t s low g e =
@@ -139,21 +140,21 @@ module _ (limit : ℕ) (operations : List ℕ) (fuel : ℕ) where
         record { grown = q .grown; solvent = q .solvent; words = omega (arith, q .words, size-positive h); bindings = omega (arith, q .bindings) }
 
     application-spends : (h t : Tree) (s : State) → Solvent fuel s → size (pair h t) + fuel ≤ suc gas + s .sum → SpendsTerm fuel (size (pair h t)) s (expandApplication limit operations fuel rec h t s)
-    unfolding expandApplication expandOperands size encode nodeWords
+    unfolding expandApplication expandOperands size onFormals encode nodeWords
     application-spends h t s low g =
         then-holds _ _ _ s (good h s low (omega arith)) λ a u l q.
         then-holds _ _ _ u (all-spends t u (q .solvent) (omega arith)) λ b v k r.
         give-holds (applicationC a b) v (record { grown = omega arith; solvent = r .solvent; words = simp length-append (omega arith); bindings = omega arith })
 
     quote-spends : (t : Tree) (s : State) → Solvent fuel s → SpendsTerm fuel (size t) s (expandQuote limit operations fuel rec t s)
-    unfolding expandQuote encode nodeWords
+    unfolding expandQuote onFormals encode nodeWords
     quote-spends t s low =
         test-holds _ _ _ s low λ _.
         show-holds _ _ s
         (give-holds _ s (nothing-spent (size t) s _ low (omega (arith, datum-words (element 1 t), element-size 1 t))))
 
     if-spends : (t : Tree) (s : State) → Solvent fuel s → size t + fuel ≤ suc gas + s .sum → SpendsTerm fuel (size t) s (expandIf limit operations fuel rec t s)
-    unfolding expandIf encode nodeWords
+    unfolding expandIf onFormals encode nodeWords
     if-spends t s low g =
         test-holds _ _ _ s low λ h.
         then-holds _ _ _ s (good (element 1 t) s low (omega (arith, if-size t h))) λ a u i q.
@@ -162,7 +163,7 @@ module _ (limit : ℕ) (operations : List ℕ) (fuel : ℕ) where
         give-holds (ifC a b c) w (record { grown = omega arith; solvent = p .solvent; words = simp length-append (omega (arith, if-size t h)); bindings = omega (arith, if-size t h) })
 
     lambda-spends : (t : Tree) (s : State) → Solvent fuel s → size t + fuel ≤ suc gas + s .sum → SpendsTerm fuel (size t) s (expandLambda limit operations fuel rec t s)
-    unfolding expandLambda encode nodeWords
+    unfolding expandLambda onFormals encode nodeWords
     lambda-spends t s low g =
         test-holds _ _ _ s low λ shape.
         test-holds _ _ _ s low λ _.
@@ -171,7 +172,7 @@ module _ (limit : ℕ) (operations : List ℕ) (fuel : ℕ) where
         (addVariables-holds _ _ s
         (let e = lambda-size variable (s .variables) (formals t) t shape in
         then-holds _ _ _ _ (good _ _ (record { paid = low .paid; bounded = low .bounded }) (omega (arith, e))) λ w u l q.
-        give-holds _ u (record { grown = q .grown; solvent = q .solvent; words = omega (arith, e, q .words); bindings = omega (arith, e, q .bindings) }))))
+        give-holds _ u (record { grown = q .grown; solvent = q .solvent; words = simp length-append (omega (arith, e, q .words, length-map (formals t) (λ x. x .number))); bindings = omega (arith, e, q .bindings) }))))
 
     macros-spends : (inside : Bool) (x : Name) (t : Tree) (s : State) → Solvent fuel s → size t + fuel ≤ suc gas + s .sum → SpendsTerm fuel (size t) s (expandMacros limit operations fuel rec inside x t s)
     unfolding expandMacros
@@ -204,7 +205,7 @@ module _ (limit : ℕ) (operations : List ℕ) (fuel : ℕ) where
         record { grown = omega (arith, q .grown); solvent = q .solvent; words = omega (arith, e, q .words); bindings = omega (arith, e, q .bindings) })))
 
     list-spends : (f : Found) (x : Name) (h t : Tree) (s : State) → Solvent fuel s → size (pair h t) + fuel ≤ suc gas + s .sum → SpendsTerm fuel (size (pair h t)) s (expandList limit operations fuel rec f x (pair h t) s)
-    unfolding expandList encode nodeWords
+    unfolding expandList onFormals encode nodeWords
     list-spends (bound (variable n)) x h t s low g = named-spends (variableC n) h t s low g refl
     list-spends (bound (macro n)) x h t s low g = use-spends n (pair h t) s low g
     list-spends (form quote) x h t s low g = quote-spends (pair h t) s low
@@ -217,7 +218,7 @@ module _ (limit : ℕ) (operations : List ℕ) (fuel : ℕ) where
     list-spends nothing x h t s low g = refuse-holds 11 s low
 
     name-spends : (f : Found) (s : State) → Solvent fuel s → SpendsTerm fuel 1 s (expandName limit operations fuel rec f s)
-    unfolding expandName encode nodeWords
+    unfolding expandName onFormals encode nodeWords
     name-spends (bound (variable n)) s low = give-holds (variableC n) s (nothing-spent 1 s 2 low (omega arith))
     name-spends (bound (macro n)) s low = refuse-holds 12 s low
     name-spends (form f) s low = refuse-holds 12 s low
@@ -232,7 +233,7 @@ module _ (limit : ℕ) (operations : List ℕ) (fuel : ℕ) where
     pair-spends (pair a b) t s low g = application-spends (pair a b) t s low g
 
     tree-spends : Thrifty fuel (suc gas) (expandTree limit operations fuel rec)
-    unfolding expandTree size encode nodeWords datumWords
+    unfolding expandTree size onFormals encode nodeWords datumWords
     tree-spends empty s low g = refuse-holds 13 s low
     tree-spends (constant a) s low g = give-holds (datumC (constantD a)) s (nothing-spent 1 s _ low (omega (arith, words-few a .1)))
     tree-spends (name x) s low g = show-holds _ _ s (name-spends (lookup operations x) s low)

@@ -2,26 +2,27 @@
 -- as that term, and pass.
 use mathlib.Core.Path.{_≡_, refl, ap, subst, _∙_}
 use mathlib.Core.Bool.{Bool, true, _&&_}
+use mathlib.Core.List.{List}
 use mathlib.Core.Option.{some}
 use Prim.Native.Nat.{ℕ, _+_, _≤_, _<_}
 use native.Mathlib.Omega.{arith}
 use lib.Dec.{eqb, leb}
+use lib.ListN.{length}
 use borrow.Author.Tests.{le-leb, lt-ltb, eq-eqb}
 use Rattle.words.specs.Limits.{namesMost, formalsMost, operationsMost}
+use Rattle.words.specs.Lists.{allOf}
 use Rattle.words.specs.TestLaws.{and-parts, and-both}
 use Rattle.datum.specs.Constant.{Constant, isConstant}
-use Rattle.recipe.specs.Name.{Name}
 use Rattle.recipe.specs.Tree.{Tree, strip, stripTail}
 use Rattle.recipe.specs.Tidy.{tidyEmpty, tidyConstant, tidyName, tidyPair}
 use Rattle.core_term.specs.Node.{isNode, variableN, operationN, constantN, nameN, lambdaN, Node}
-use Rattle.core_term.specs.Term.{Term, variables, forget}
+use Rattle.core_term.specs.Term.{Plain, variables}
 use Rattle.core_term.specs.Every.{Asked, everyDatum, everyData, every, proper, wellFormed}
 use Rattle.core_term.specs.Check.{Scope, inside, variableInside, firstNumber, known, small, outside, asked, scoped, numbered, allKnown, passes, passing, termOf}
 use Rattle.core_term.specs.Words.{encode}
 use Rattle.core_term.specs.EveryLaws.{every-from}
 use Rattle.core_term.specs.DecodeLaws.{decode-encode}
 use Rattle.expansion.specs.CoreTerm.Worlds.{World, FineTree}
-use Rattle.core_term.specs.ForgetLaws.{every-forget}
 
 -- ---- what is asked of every node: that it is one, and all of ground 19
 
@@ -45,9 +46,9 @@ module _ (operations : ℕ) (e : Scope) (b : ℕ) where
   unfolding sound isNode variableInside firstNumber known small
   name-sound n h = lt-ltb n namesMost h
 
-  pub lambda-sound : (n : ℕ) → n ≤ formalsMost → sound operations .test e b (lambdaN b n) ≡ true
+  pub lambda-sound : (names : List ℕ) → length names ≤ formalsMost → allOf small names ≡ true → sound operations .test e b (lambdaN b names) ≡ true
   unfolding sound isNode variableInside firstNumber known
-  lambda-sound n h = and-both (leb n formalsMost) _ (le-leb n formalsMost h) (and-both (eqb b b) true (eq-eqb b b refl) refl)
+  lambda-sound names h g = and-both (leb (length names) formalsMost) _ (le-leb (length names) formalsMost h) (and-both (eqb b b) _ (eq-eqb b b refl) g)
 
   module _ {W : World} where
     mutual
@@ -76,7 +77,7 @@ module _ (operations : ℕ) (e : Scope) (b : ℕ) (x : Node) (h : sound operatio
       let r = and-parts (firstNumber e b x) _ (q .1) in
       (p .0, q .0, r .0, r .1)
 
-module _ (operations : ℕ) (t : Term Name) (h : every (sound operations) outside 0 t ≡ true) where
+module _ (operations : ℕ) (t : Plain) (h : every (sound operations) outside 0 t ≡ true) where
   -- a weaker test, of an environment that f makes of the scope
   sound-implies : {E : Type 0} (B : Asked E) (f : Scope → E) → ((e : Scope) (b : ℕ) (x : Node) → sound operations .test e b x ≡ true → B .test (f e) b x ≡ true)
       → ((e : Scope) (b : ℕ) (x : Node) → f (inside e b x) ≡ B .enter (f e) b x) → every B (f outside) 0 t ≡ true
@@ -92,20 +93,20 @@ module _ (operations : ℕ) (t : Term Name) (h : every (sound operations) outsid
   sound-wellFormed = sound-implies proper (λ e. tt) (λ e b x p. sound-parts operations e b x p .0) (λ e b x. refl)
 
   -- a test of ground 19
-  sound-asked : (test : Scope → ℕ → Node → Bool) → ((e : Scope) (b : ℕ) (x : Node) → sound operations .test e b x ≡ true → test e b x ≡ true) → every (asked test) outside 0 (forget t) ≡ true
+  sound-asked : (test : Scope → ℕ → Node → Bool) → ((e : Scope) (b : ℕ) (x : Node) → sound operations .test e b x ≡ true → test e b x ≡ true) → every (asked test) outside 0 t ≡ true
   unfolding asked
-  sound-asked test k = every-forget (asked test) t outside 0 ∙ sound-implies (asked test) (λ e. e) k (λ e b x. refl)
+  sound-asked test k = sound-implies (asked test) (λ e. e) k (λ e b x. refl)
 
-  sound-passes : passes operations small (forget t) ≡ true
+  sound-passes : passes operations small t ≡ true
   unfolding passes scoped numbered allKnown
   sound-passes =
       and-both _ _ (sound-asked variableInside (λ e b x p. sound-parts operations e b x p .1))
       (and-both _ _ (sound-asked firstNumber (λ e b x p. sound-parts operations e b x p .2)) (sound-asked (known operations small) (λ e b x p. sound-parts operations e b x p .3)))
 
-  sound-passing : operations ≤ operationsMost → passing operations small (some (forget t)) ≡ some (forget t)
+  sound-passing : operations ≤ operationsMost → passing operations small (some t) ≡ some t
   unfolding passing
   sound-passing l = rw (and-both (leb operations operationsMost) _ (le-leb operations operationsMost l) sound-passes)
 
-  pub sound-termOf : operations ≤ operationsMost → termOf operations small (encode t) ≡ some (forget t)
+  pub sound-termOf : operations ≤ operationsMost → termOf operations small (encode t) ≡ some t
   unfolding termOf
   sound-termOf l = ap (passing operations small) (decode-encode t sound-wellFormed) ∙ sound-passing l

@@ -2,54 +2,42 @@
 use borrow.Author.Needs.{needs}
 use Rattle.writer.proofs.write.Statement.{statement}
 use Rattle.writer.proofs.write.Tie as tie
+use Rattle.writer.proofs.write.Reads as reads
+use Rattle.writer.proofs.write.Lts as lts
+use Rattle.core_term.proofs.is_term.Reads as is-term-reads
+use Rattle.writer.proofs.write_noting.Reads as write-noting-reads
 use native.Mathlib.Omega.{arith}
 use mathlib.Core.Path.{sym, _∙_}
 use borrow.Author.Tests.{not-true, not-false}
-use Rattle.writer.specs.WroteLaws.{no-term, term-begins, no-room, no-second, wrote-text}
+use Rattle.writer.specs.WroteLaws.{no-term}
 
 returns : tie.Need-returns
 returns c =
-    let is-term = c .before .is-term in
-    no-term (c .before .before .before .before .before .args .words .now) _ _ _ (sym (is-term .ensures) ∙ not-true (is-term .result) (c .if1 .taken))
+    no-term (c .before .before .before .before .before .args .words .now) _ _ _ (sym (c .before .is-term .ensures) ∙ not-true (c .before .is-term .result) (c .if1 .taken))
 
-text-fits-requires : tie.Need-text-fits-requires
-text-fits-requires c κs =
-    let is-term = c .before .before .is-term in
-    term-begins (c .before .before .before .before .before .before .args .words .now) _ _ (sym (is-term .ensures) ∙ not-false (is-term .result) (c .before .if1 .left))
+write-noting-requires : tie.Need-write-noting-requires
+write-noting-requires c κs =
+    sym (c .before .before .before .before .is-term .ensures) ∙ not-false (c .before .before .before .before .is-term .result) (c .before .before .before .if1 .left)
+
+same-length : tie.Need-same-length
+same-length c =
+    c .before .before .before .write-noting .kept .1 .1 .1 .0
 
 returns-2 : tie.Need-returns-2
 returns-2 c =
-    let is-term = c .before .before .before .before .before .before .is-term in
-    let text-fits = c .before .before .before .text-fits in
-    no-room (c .before .before .before .before .before .before .before .before .before .before .args .words .now) _ _ (sym (is-term .ensures) ∙ not-false (is-term .result) (c .before .before .before .before .before .if1 .left))
-    (text-fits .ensures) (not-true (text-fits .result) (c .if2 .taken))
+    c .before .before .before .write-noting .ensures
 
-term-requires : tie.Need-term-requires
-term-requires c κs =
-    let is-term = c .before .before .before .before .before .before .before .is-term in
-    (omega arith, term-begins (c .before .before .before .before .before .before .before .before .before .before .before .args .words .now) _ _ (sym (is-term .ensures) ∙ not-false (is-term .result) (c .before .before .before .before .before .before .if1 .left)))
+write-noting-requires-2 : tie.Need-write-noting-requires-2
+write-noting-requires-2 c κs =
+    sym (c .before .before .before .before .is-term .ensures) ∙ not-false (c .before .before .before .before .is-term .result) (c .before .before .before .if1 .left)
 
 same-length-2 : tie.Need-same-length-2
 same-length-2 c =
-    c .before .before .before .before .term .kept .1 .1 .0 ∙ c .before .before .before .before .before .before .before .before .before .text-fits .kept .1 .1 .0
+    c .before .before .before .write-noting2 .kept .1 .1 .1 .0
 
 returns-3 : tie.Need-returns-3
 returns-3 c =
-    let is-term = c .before .before .before .before .before .before .before .before .before .before .before .before .is-term in
-    let text-fits = c .before .before .before .before .before .before .before .before .before .text-fits in
-    no-second (c .before .before .before .before .before .before .before .before .before .before .before .before .before .before .before .before .args .words .now) _ _ (sym (is-term .ensures) ∙ not-false (is-term .result) (c .before .before .before .before .before .before .before .before .before .before .before .if1 .left))
-    (text-fits .ensures) (not-false (text-fits .result) (c .before .before .before .before .before .before .if2 .left)) (c .before .before .before .before .term .ensures) (c .enum-told .given .1)
-
-same-length-3 : tie.Need-same-length-3
-same-length-3 c =
-    c .before .before .before .before .before .term .kept .1 .1 .0 ∙ c .before .before .before .before .before .before .before .before .before .before .text-fits .kept .1 .1 .0
-
-returns-4 : tie.Need-returns-4
-returns-4 c =
-    let is-term = c .before .before .before .before .before .before .before .before .before .before .before .before .before .is-term in
-    let text-fits = c .before .before .before .before .before .before .before .before .before .before .text-fits in
-    wrote-text (c .before .before .before .before .before .before .before .before .before .before .before .before .before .before .before .before .before .args .words .now) _ _ (sym (is-term .ensures) ∙ not-false (is-term .result) (c .before .before .before .before .before .before .before .before .before .before .before .before .if1 .left))
-    (text-fits .ensures) (not-false (text-fits .result) (c .before .before .before .before .before .before .before .if2 .left)) (c .before .before .before .before .before .term .ensures) _ _ (c .before .used .given .1)
+    c .before .before .before .write-noting2 .ensures
 
 pub write-spec : {M : Type 1} → statement M
 write-spec =
@@ -57,13 +45,11 @@ write-spec =
     (tie.spec
     (λ c κs. search needs)  -- is-term-requires
     returns
-    text-fits-requires
-    (λ c. search needs)  -- same-length
+    (λ c. search needs)  -- slice-aggregate-write-noting
+    write-noting-requires
+    same-length
     returns-2
-    term-requires
-    (λ c. search needs)  -- enum-known-used
-    (λ c. search needs)  -- enum-told
+    (λ c. search needs)  -- slice-aggregate-write-noting-2
+    write-noting-requires-2
     same-length-2
-    returns-3
-    same-length-3
-    returns-4)
+    returns-3)

@@ -158,9 +158,25 @@ fn numbers() {
     }
 }
 
+/// Writing alone: terms of so many variables, each used once, under lambdas inside one another. Expansion gives some 6,000 at most.
+fn variables() {
+    println!("\n| variables of a term, writing alone | words | µs | ns for each |\n|---|---|---|---|");
+    let names = [&[1, b't'][..], &[0; 62]].concat().repeat(1_024);
+    for count in [376, 752, 1_504, 3_000, 6_000, 6_144, 12_000] {
+        let words = deep::many_variables(count);
+        let mut out = vec![0; grebetallboy::TEXT_RATE * words.len()];
+        let us = time(|| {
+            std::hint::black_box(grebetallboy::write(&words, 256, &names, &mut out)).expect("a term");
+        });
+        println!("| {count} | {} | {us:.0} | {:.1} |", words.len(), us * 1e3 / count as f64);
+    }
+}
+
 fn main() {
-    if std::env::args().any(|argument| argument == "numbers") {
-        return numbers();
+    match std::env::args().nth(1).as_deref() {
+        Some("numbers") => return numbers(),
+        Some("variables") => return variables(),
+        _ => {}
     }
     recipes();
     let mut tables = tables(8_192);
@@ -229,4 +245,5 @@ fn main() {
     });
     growth("operands", &[250, 500, 1_000, 2_000], |n| format!("(f) (f {})", repeated(n, |i| (i % 10).to_string())));
     numbers();
+    variables();
 }

@@ -11,7 +11,7 @@ returns c =
 
 returns-2 : tie.Need-returns-2
 returns-2 c =
-    c .branch .ensures _ _ _ _
+    c .branch .ensures _ _ _
 
 returns-3 : tie.Need-returns-3
 returns-3 c =

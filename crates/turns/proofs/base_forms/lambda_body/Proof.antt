@@ -1,43 +1,80 @@
--- `base_forms::lambda_body`: the names' binders, then the header's words.
+-- `base_forms::lambda_body`: the header's words and the names' numbers, then the names' binders.
 use borrow.Author.Needs.{needs}
 use Rattle.turns.proofs.base_forms.lambda_body.Statement.{statement}
 use Rattle.turns.proofs.base_forms.lambda_body.Tie as tie
-use Rattle.turns.specs.LambdaLaws.{lambda-proper, lambda-space, lambda-core, lambda-few, bound-by}
+use Rattle.turns.proofs.base_forms.lambda_body.Reads as reads
+use Rattle.turns.proofs.base_forms.lambda_body.Lts as lts
+use Rattle.arena.proofs.lists.count.Reads as count-reads
+use Rattle.arena.proofs.lists.element.Reads as element-reads
+use Rattle.forms.proofs.binders.bind_formals.Reads as bind-formals-reads
+use Rattle.forms.proofs.binders.put_numbers.Reads as put-numbers-reads
+use Rattle.turns.proofs.answers.Reached.widened.Reads as widened-reads
+use Rattle.turns.proofs.output.put_three.Reads as put-three-reads
+use native.Mathlib.Omega.{arith}
+use mathlib.Core.Path.{_∙_}
+use Rattle.turns.specs.LambdaLaws.{lambda-proper, lambda-space, lambda-core, lambda-few, numbers-room, numbers-small, bound-by}
 
-bind-formals-requires : tie.Need-bind-formals-requires
-bind-formals-requires c κs =
-    let entry = c .before .before .before .before .before .before .before .before in
-    let a = entry .args in
-    (entry .pre .1, lambda-proper (a .work .now) (a .core .now) (a .node) (a .wrap) (a .reached) (entry .pre .0) (entry .pre .1), lambda-space (a .work .now) (a .core .now) (a .node) (a .wrap) (a .reached) (entry .pre .0) (entry .pre .1))
+element-requires : tie.Need-element-requires
+element-requires c κs =
+    search needs
+
+count-requires : tie.Need-count-requires
+count-requires c κs =
+    search needs
+
+element-requires-2 : tie.Need-element-requires-2
+element-requires-2 c κs =
+    search needs
 
 put-three-requires : tie.Need-put-three-requires
 put-three-requires c κs =
-    let entry = c .before .before .before .before .before .before .before .before .before .before .before .before in
-    let a = entry .args in
-    lambda-core (a .work .now) (a .core .now) (a .node) (a .wrap) (a .reached) (entry .pre .0) (entry .pre .1)
+    lambda-core (c .before .before .before .before .before .before .before .before .before .args .work .now) (c .before .before .before .before .before .before .before .before .before .args .core .now) (c .before .before .before .before .before .before .before .before .before .args .node) (c .before .before .before .before .before .before .before .before .before .args .wrap) (c .before .before .before .before .before .before .before .before .before .args .reached) (c .before .before .before .before .before .before .before .before .before .pre .0) (c .before .before .before .before .before .before .before .before .before .pre .1)
+
+cast-put-numbers : tie.Need-cast-put-numbers
+cast-put-numbers c =
+    search needs
+
+put-numbers-requires : tie.Need-put-numbers-requires
+put-numbers-requires c κs =
+    numbers-room (c .before .before .before .before .before .before .before .before .before .before .before .before .before .before .args .work .now) (c .before .before .before .before .before .before .before .before .before .before .before .before .before .before .args .core .now) (c .before .before .before .before .before .before .before .before .before .before .before .before .before .before .args .node) (c .before .before .before .before .before .before .before .before .before .before .before .before .before .before .args .wrap) (c .before .before .before .before .before .before .before .before .before .before .before .before .before .before .args .reached) (c .before .before .before .before .before .before .before .before .before .before .before .before .before .before .pre .0) (c .before .before .before .before .before .before .before .before .before .before .before .before .before .before .pre .1) _ _ (c .before .before .before .before .before .before .before .before .before .before .element .ensures) (c .before .before .before .before .before .before .before .before .count .ensures) _ _ (c .before .before .before .before .put-three .ensures) (c .before .before .before .before .put-three .kept .0)
+
+bind-formals-requires : tie.Need-bind-formals-requires
+bind-formals-requires c κs =
+    (c .before .before .before .before .before .before .before .before .before .before .before .before .before .before .before .before .before .before .pre .1, lambda-proper (c .before .before .before .before .before .before .before .before .before .before .before .before .before .before .before .before .before .before .args .work .now) (c .before .before .before .before .before .before .before .before .before .before .before .before .before .before .before .before .before .before .args .core .now) (c .before .before .before .before .before .before .before .before .before .before .before .before .before .before .before .before .before .before .args .node) (c .before .before .before .before .before .before .before .before .before .before .before .before .before .before .before .before .before .before .args .wrap) (c .before .before .before .before .before .before .before .before .before .before .before .before .before .before .before .before .before .before .args .reached) (c .before .before .before .before .before .before .before .before .before .before .before .before .before .before .before .before .before .before .pre .0) (c .before .before .before .before .before .before .before .before .before .before .before .before .before .before .before .before .before .before .pre .1), lambda-space (c .before .before .before .before .before .before .before .before .before .before .before .before .before .before .before .before .before .before .args .work .now) (c .before .before .before .before .before .before .before .before .before .before .before .before .before .before .before .before .before .before .args .core .now) (c .before .before .before .before .before .before .before .before .before .before .before .before .before .before .before .before .before .before .args .node) (c .before .before .before .before .before .before .before .before .before .before .before .before .before .before .before .before .before .before .args .wrap) (c .before .before .before .before .before .before .before .before .before .before .before .before .before .before .before .before .before .before .args .reached) (c .before .before .before .before .before .before .before .before .before .before .before .before .before .before .before .before .before .before .pre .0) (c .before .before .before .before .before .before .before .before .before .before .before .before .before .before .before .before .before .before .pre .1))
+
+cast-widened : tie.Need-cast-widened
+cast-widened c =
+    record { fits = numbers-small (c .before .before .before .before .before .before .before .before .before .before .before .before .before .before .before .before .before .before .before .before .before .args .work .now) (c .before .before .before .before .before .before .before .before .before .before .before .before .before .before .before .before .before .before .before .before .before .args .core .now) (c .before .before .before .before .before .before .before .before .before .before .before .before .before .before .before .before .before .before .before .before .before .args .node) (c .before .before .before .before .before .before .before .before .before .before .before .before .before .before .before .before .before .before .before .before .before .args .wrap) (c .before .before .before .before .before .before .before .before .before .before .before .before .before .before .before .before .before .before .before .before .before .args .reached) (c .before .before .before .before .before .before .before .before .before .before .before .before .before .before .before .before .before .before .before .before .before .pre .0) (c .before .before .before .before .before .before .before .before .before .before .before .before .before .before .before .before .before .before .before .before .before .pre .1) _ _ (c .before .before .before .before .before .before .before .before .before .before .before .before .before .before .before .before .before .element .ensures) (c .before .before .before .before .before .before .before .before .before .before .before .before .before .before .before .count .ensures) _ _ (c .before .before .before .before .before .before .before .before .before .before .before .put-three .ensures) _ _ (c .before .before .before .before .before .before .put-numbers .ensures) }
 
 widened-requires : tie.Need-widened-requires
 widened-requires c κs =
-    let entry = c .before .before .before .before .before .before .before .before .before .before .before .before .before .before .before in
-    let a = entry .args in
-    lambda-few (a .work .now) (a .core .now) (a .node) (a .wrap) (a .reached) (entry .pre .0) (entry .pre .1) _ _ (c .before .before .before .before .before .before .before .before .before .before .before .element .ensures) (c .before .before .before .before .before .before .before .before .before .before .count .ensures)
+    lambda-few (c .before .before .before .before .before .before .before .before .before .before .before .before .before .before .before .before .before .before .before .before .before .args .work .now) (c .before .before .before .before .before .before .before .before .before .before .before .before .before .before .before .before .before .before .before .before .before .args .core .now) (c .before .before .before .before .before .before .before .before .before .before .before .before .before .before .before .before .before .before .before .before .before .args .node) (c .before .before .before .before .before .before .before .before .before .before .before .before .before .before .before .before .before .before .before .before .before .args .wrap) (c .before .before .before .before .before .before .before .before .before .before .before .before .before .before .before .before .before .before .before .before .before .args .reached) (c .before .before .before .before .before .before .before .before .before .before .before .before .before .before .before .before .before .before .before .before .before .pre .0) (c .before .before .before .before .before .before .before .before .before .before .before .before .before .before .before .before .before .before .before .before .before .pre .1) _ _ (c .before .before .before .before .before .before .before .before .before .before .before .before .before .before .before .before .before .element .ensures) (c .before .before .before .before .before .before .before .before .before .before .before .before .before .before .before .count .ensures)
+
+same-length : tie.Need-same-length
+same-length c =
+    c .before .before .before .bind-formals .kept .0
+
+same-length-2 : tie.Need-same-length-2
+same-length-2 c =
+    c .before .before .before .before .before .before .before .put-numbers .kept .1 .1 .0 ∙ c .before .before .before .before .before .before .before .before .before .before .before .before .put-three .kept .0
 
 returns : tie.Need-returns
 returns c =
-    let entry = c .before .before .before .before .before .before .before .before .before .before .before .before .before .before .before .before in
-    let a = entry .args in
-    bound-by (a .work .now) (a .core .now) (a .node) (a .wrap) (a .reached) (entry .pre .0) (entry .pre .1) _ _ (c .before .before .before .before .before .before .before .before .before .before .before .before .element .ensures) (c .before .before .before .before .before .before .before .before .before .before .before .count .ensures) _ _ _ _ _ _ (c .before .before .before .before .before .before .before .before .before .element2 .ensures) (c .before .before .before .before .before .before .before .bind-formals .ensures) (c .before .before .before .put-three .ensures) _ (c .widened .ensures)
+    bound-by (c .before .before .before .before .before .before .before .before .before .before .before .before .before .before .before .before .before .before .before .before .before .before .args .work .now) (c .before .before .before .before .before .before .before .before .before .before .before .before .before .before .before .before .before .before .before .before .before .before .args .core .now) (c .before .before .before .before .before .before .before .before .before .before .before .before .before .before .before .before .before .before .before .before .before .before .args .node) (c .before .before .before .before .before .before .before .before .before .before .before .before .before .before .before .before .before .before .before .before .before .before .args .wrap) (c .before .before .before .before .before .before .before .before .before .before .before .before .before .before .before .before .before .before .before .before .before .before .args .reached) (c .before .before .before .before .before .before .before .before .before .before .before .before .before .before .before .before .before .before .before .before .before .before .pre .0) (c .before .before .before .before .before .before .before .before .before .before .before .before .before .before .before .before .before .before .before .before .before .before .pre .1) _ _ (c .before .before .before .before .before .before .before .before .before .before .before .before .before .before .before .before .before .before .element .ensures) (c .before .before .before .before .before .before .before .before .before .before .before .before .before .before .before .before .count .ensures) _ _ (c .before .before .before .before .before .before .before .before .before .before .before .before .put-three .ensures) _ _ (c .before .before .before .before .before .before .before .put-numbers .ensures) _ _ _ _ (c .before .before .before .before .before .before .before .before .before .before .before .before .before .before .element2 .ensures) (c .before .before .before .bind-formals .ensures) _ (c .widened .ensures)
 
 pub lambda-body-spec : {M : Type 1} → statement M
 lambda-body-spec =
     tie.close
     (tie.spec
-    (λ c κs. search needs)  -- element-requires
-    (λ c κs. search needs)  -- count-requires
-    (λ c κs. search needs)  -- element-requires-2
-    bind-formals-requires
+    element-requires
+    count-requires
+    element-requires-2
     put-three-requires
+    cast-put-numbers
+    put-numbers-requires
+    bind-formals-requires
+    cast-widened
     widened-requires
-    (λ c. search needs)  -- same-length
-    (λ c. search needs)  -- same-length-2
+    same-length
+    same-length-2
     returns)

@@ -2,29 +2,35 @@
 use borrow.Author.Needs.{needs}
 use Rattle.writer.proofs.pieces.begin.Statement.{statement}
 use Rattle.writer.proofs.pieces.begin.Tie as tie
+use Rattle.writer.proofs.pieces.begin.Reads as reads
+use Rattle.writer.proofs.pieces.begin.Lts as lts
 use Rattle.writer.proofs.bytes.byte.Reads as byte-reads
 use Rattle.writer.proofs.bytes.copy.Reads as copy-reads
+use Rattle.writer.proofs.names.variable.Reads as variable-reads
 use Rattle.writer.proofs.numbers.decimal.Reads as decimal-reads
 use Rattle.writer.proofs.numbers.numbered.Reads as numbered-reads
 use Rattle.writer.proofs.numbers.wide.Reads as wide-reads
 use Rattle.writer.proofs.pieces.datum_opening.Reads as datum-opening-reads
 use Rattle.writer.proofs.pieces.lambda_opening.Reads as lambda-opening-reads
 use native.Mathlib.Omega.{arith}
-use mathlib.Core.Path.{_≡_, ap, _∙_}
+use mathlib.Core.Path.{_≡_, ap, _∙_, sym, subst}
 use mathlib.Core.List.{_∷_}
-use Prim.Native.Nat.{ℕ}
+use Prim.Native.Nat.{ℕ, suc}
 use Rattle.writer.specs.LaidLaws.{left-is}
 use lib.ListN.{getD}
 use Rattle.core_term.specs.Decimal.{decimal}
-use Rattle.writer.specs.OpenedLaws.{some-words, two-words, three-words, decimal-words, decimal-places, code-most, opens-if, opens-variable, opens-operation, opens-lambda, lambda-same, opens-application, opens-decimal}
+use Rattle.writer.specs.OpenedLaws.{some-words, two-words, three-words, decimal-words, decimal-places, code-most, opens-if, opens-variable, opens-operation, opens-lambda, lambda-same, opens-application, opens-decimal, Naming, variable-named, lambda-named}
+use Rattle.datum.specs.NameTable.{nameAt}
+use Rattle.core_term.specs.Text.{variableText}
+use Rattle.writer.specs.Called.{calledBy, saidBy}
 
 shared-slice-read-code : tie.Need-shared-slice-read-code
 shared-slice-read-code c =
-    let o = c .before .before .before .before .pre .1 in omega (arith, some-words (c .before .before .before .before .args .words .now) (o .it) (o .left) (o .is))
+    let o = c .before .before .before .before .before .pre .1 in omega (arith, some-words (c .before .before .before .before .before .args .words .now) (o .it) (o .left) (o .is))
 
 copy-requires : tie.Need-copy-requires
 copy-requires c κs =
-    c .before .before .before .before .before .before .before .pre .0
+    c .before .before .before .before .before .before .before .before .pre .0
 
 same-length : tie.Need-same-length
 same-length c =
@@ -32,39 +38,39 @@ same-length c =
 
 returns : tie.Need-returns
 returns c =
-    λ x l h. left-is (opens-if (c .before .before .before .before .before .before .before .before .before .before .args .words .now) x l h _ _ (c .before .before .before .before .before .if1 .taken)) (c .before .before .copy .ensures)
+    λ x l h. left-is (opens-if (c .before .before .before .before .before .before .before .before .before .before .before .args .words .now) x l h _ _ (c .before .before .before .before .before .if1 .taken)) (c .before .before .copy .ensures)
 
 shared-slice-read-wide : tie.Need-shared-slice-read-wide
 shared-slice-read-wide c =
-    let o = c .before .before .before .before .before .before .pre .1 in omega (arith, two-words (c .before .before .before .before .before .before .args .words .now) (o .it) (o .left) (o .is) (c .before .if1 .left))
+    let o = c .before .before .before .before .before .before .before .pre .1 in omega (arith, two-words (c .before .before .before .before .before .before .before .args .words .now) (o .it) (o .left) (o .is) (c .before .if1 .left))
 
-numbered-requires : tie.Need-numbered-requires
-numbered-requires c κs =
-    c .before .before .before .before .before .before .before .before .before .pre .0
+variable-requires : tie.Need-variable-requires
+variable-requires c κs =
+    (c .before .before .before .before .before .before .before .before .before .before .pre .0, subst (λ (n : ℕ). Naming (saidBy (c .before .before .before .before .before .before .before .before .before .before .args .names .now) (c .before .before .before .before .before .before .before .before .before .before .args .direct) (c .before .before .before .before .before .before .before .before .before .before .args .called .now)) (suc n)) (sym (c .before .before .wide .ensures)) (variable-named _ (c .before .before .before .before .before .before .before .before .before .before .args .words .now) (c .before .before .before .before .before .before .before .before .before .before .pre .1) (c .before .if2 .taken)), c .before .before .before .before .before .before .before .before .before .before .pre .2)
 
 same-length-2 : tie.Need-same-length-2
 same-length-2 c =
-    c .before .before .numbered .kept .1 .1 .0
+    c .before .before .variable .kept .1 .1 .0
 
 returns-2 : tie.Need-returns-2
 returns-2 c =
-    λ x l h. left-is (ap (λ (n : ℕ). 118 ∷ decimal n) (c .before .before .before .before .before .wide .ensures) ∙ opens-variable (c .before .before .before .before .before .before .before .before .before .before .before .before .args .words .now) x l h _ _ (c .before .before .before .before .if2 .taken)) (c .before .before .numbered .ensures)
+    λ x l h. left-is (ap (variableText (nameAt (c .before .before .before .before .before .before .before .before .before .before .before .before .before .args .names .now)) (calledBy (c .before .before .before .before .before .before .before .before .before .before .before .before .before .args .direct) (c .before .before .before .before .before .before .before .before .before .before .before .before .before .args .called .now))) (c .before .before .before .before .before .wide .ensures) ∙ opens-variable (c .before .before .before .before .before .before .before .before .before .before .before .before .before .args .words .now) x l h (saidBy (c .before .before .before .before .before .before .before .before .before .before .before .before .before .args .names .now) (c .before .before .before .before .before .before .before .before .before .before .before .before .before .args .direct) (c .before .before .before .before .before .before .before .before .before .before .before .before .before .args .called .now)) _ (c .before .before .before .before .if2 .taken)) (c .before .before .variable .ensures)
 
-numbered-requires-2 : tie.Need-numbered-requires-2
-numbered-requires-2 c κs =
-    c .before .before .before .before .before .before .before .before .before .before .pre .0
+numbered-requires : tie.Need-numbered-requires
+numbered-requires c κs =
+    c .before .before .before .before .before .before .before .before .before .before .before .pre .0
 
 same-length-3 : tie.Need-same-length-3
 same-length-3 c =
-    c .before .before .numbered2 .kept .1 .1 .0
+    c .before .before .numbered .kept .1 .1 .0
 
 returns-3 : tie.Need-returns-3
 returns-3 c =
-    λ x l h. left-is (ap (λ (n : ℕ). 111 ∷ decimal n) (c .before .before .before .before .before .before .wide .ensures) ∙ opens-operation (c .before .before .before .before .before .before .before .before .before .before .before .before .before .args .words .now) x l h _ _ (c .before .before .before .before .if3 .taken)) (c .before .before .numbered2 .ensures)
+    λ x l h. left-is (ap (λ (n : ℕ). 111 ∷ decimal n) (c .before .before .before .before .before .before .wide .ensures) ∙ opens-operation (c .before .before .before .before .before .before .before .before .before .before .before .before .before .before .args .words .now) x l h _ _ (c .before .before .before .before .if3 .taken)) (c .before .before .numbered .ensures)
 
 datum-opening-requires : tie.Need-datum-opening-requires
 datum-opening-requires c κs =
-    (c .before .before .before .before .before .before .before .before .before .before .before .pre .0, c .before .before .before .before .before .before .before .before .before .before .before .pre .1, omega (arith, c .before .before .before .if2 .left, c .before .before .if3 .left), c .before .if4 .taken)
+    (c .before .before .before .before .before .before .before .before .before .before .before .before .pre .0, (calledBy (c .before .before .before .before .before .before .before .before .before .before .before .before .args .direct) (c .before .before .before .before .before .before .before .before .before .before .before .before .args .called .now), c .before .before .before .before .before .before .before .before .before .before .before .before .pre .1), omega (arith, c .before .before .before .if2 .left, c .before .before .if3 .left), c .before .if4 .taken)
 
 same-length-4 : tie.Need-same-length-4
 same-length-4 c =
@@ -72,35 +78,35 @@ same-length-4 c =
 
 returns-4 : tie.Need-returns-4
 returns-4 c =
-    λ x l h. c .before .before .datum-opening .ensures x l h
+    λ x l h. c .before .before .datum-opening .ensures _ x l h
 
 shared-slice-read-wide-2 : tie.Need-shared-slice-read-wide-2
 shared-slice-read-wide-2 c =
-    let o = c .before .before .before .before .before .before .before .before .before .before .before .before .pre .1 in omega (arith, three-words (c .before .before .before .before .before .before .before .before .before .before .before .before .args .words .now) (o .it) (o .left) (o .is) (c .before .if5 .taken))
+    let o = c .before .before .before .before .before .before .before .before .before .before .before .before .before .pre .1 in omega (arith, three-words (c .before .before .before .before .before .before .before .before .before .before .before .before .before .args .words .now) (o .it) (o .left) (o .is) (c .before .if5 .taken))
 
 lambda-opening-requires : tie.Need-lambda-opening-requires
 lambda-opening-requires c κs =
-    (c .before .before .before .before .before .before .before .before .before .before .before .before .before .before .pre .0, omega (arith, c .before .before .before .before .before .before .before .wide .ensures, c .before .wide2 .ensures, c .before .before .shared-slice-known5 .given 1, c .before .before .shared-slice-known5 .given 2))
+    (c .before .before .before .before .before .before .before .before .before .before .before .before .before .before .before .pre .0, omega (arith, c .before .before .before .before .before .before .before .wide .ensures, c .before .wide2 .ensures, c .before .before .shared-slice-known6 .given 1, c .before .before .shared-slice-known6 .given 2), (let g = lambda-named _ (c .before .before .before .before .before .before .before .before .before .before .before .before .before .before .before .args .words .now) (c .before .before .before .before .before .before .before .before .before .before .before .before .before .before .before .pre .1) (c .before .before .before .if5 .taken) in record { many = omega (arith, g .many, c .before .before .before .before .before .before .before .wide .ensures, c .before .wide2 .ensures); slots = g .slots }), c .before .before .before .before .before .before .before .before .before .before .before .before .before .before .before .pre .2)
 
 same-length-5 : tie.Need-same-length-5
 same-length-5 c =
-    c .before .before .lambda-opening .kept .1 .1 .0
+    c .before .before .lambda-opening .kept .1 .1 .1 .0
 
 returns-5 : tie.Need-returns-5
 returns-5 c =
-    λ x l h. left-is (lambda-same _ _ _ _ (c .before .before .before .before .before .before .before .before .before .before .wide .ensures) (c .before .before .before .before .wide2 .ensures) ∙ opens-lambda (c .before .before .before .before .before .before .before .before .before .before .before .before .before .before .before .before .before .args .words .now) x l h _ _ (c .before .before .before .before .before .before .if5 .taken)) (c .before .before .lambda-opening .ensures)
+    λ x l h. left-is (lambda-same _ _ _ _ _ (c .before .before .before .before .before .before .before .before .before .before .wide .ensures) (c .before .before .before .before .wide2 .ensures) ∙ opens-lambda (c .before .before .before .before .before .before .before .before .before .before .before .before .before .before .before .before .before .before .args .words .now) x l h _ _ (c .before .before .before .before .before .before .if5 .taken)) (c .before .before .lambda-opening .ensures)
 
 shared-slice-read-decimal : tie.Need-shared-slice-read-decimal
 shared-slice-read-decimal c =
-    let o = c .before .before .before .before .before .before .before .before .before .before .before .before .before .pre .1 in omega (arith, two-words (c .before .before .before .before .before .before .before .before .before .before .before .before .before .args .words .now) (o .it) (o .left) (o .is) (c .before .before .before .before .before .before .before .before .if1 .left))
+    let o = c .before .before .before .before .before .before .before .before .before .before .before .before .before .before .pre .1 in omega (arith, two-words (c .before .before .before .before .before .before .before .before .before .before .before .before .before .before .args .words .now) (o .it) (o .left) (o .is) (c .before .before .before .before .before .before .before .before .if1 .left))
 
 shared-slice-read-decimal-2 : tie.Need-shared-slice-read-decimal-2
 shared-slice-read-decimal-2 c =
-    let o = c .before .before .before .before .before .before .before .before .before .before .before .before .before .before .pre .1 in omega (arith, decimal-words (c .before .before .before .before .before .before .before .before .before .before .before .before .before .before .args .words .now) (o .it) (o .left) (o .is) (c .before .before .if6 .taken))
+    let o = c .before .before .before .before .before .before .before .before .before .before .before .before .before .before .before .pre .1 in omega (arith, decimal-words (c .before .before .before .before .before .before .before .before .before .before .before .before .before .before .before .args .words .now) (o .it) (o .left) (o .is) (c .before .before .if6 .taken))
 
 decimal-requires : tie.Need-decimal-requires
 decimal-requires c κs =
-    let o = c .before .before .before .before .before .before .before .before .before .before .before .before .before .before .before .pre .1 in let k = decimal-places (c .before .before .before .before .before .before .before .before .before .before .before .before .before .before .before .args .words .now) (o .it) (o .left) (o .is) (c .before .before .before .if6 .taken) in (c .before .before .before .before .before .before .before .before .before .before .before .before .before .before .before .pre .0, k .0, k .1)
+    let o = c .before .before .before .before .before .before .before .before .before .before .before .before .before .before .before .before .pre .1 in let k = decimal-places (c .before .before .before .before .before .before .before .before .before .before .before .before .before .before .before .before .args .words .now) (o .it) (o .left) (o .is) (c .before .before .before .if6 .taken) in (c .before .before .before .before .before .before .before .before .before .before .before .before .before .before .before .before .pre .0, k .0, k .1)
 
 same-length-6 : tie.Need-same-length-6
 same-length-6 c =
@@ -108,11 +114,11 @@ same-length-6 c =
 
 returns-6 : tie.Need-returns-6
 returns-6 c =
-    λ x l h. left-is (opens-decimal (c .before .before .before .before .before .before .before .before .before .before .before .before .before .before .before .before .before .before .args .words .now) x l h _ _ (c .before .before .before .before .before .before .if6 .taken)) (c .before .before .decimal .ensures)
+    λ x l h. left-is (opens-decimal (c .before .before .before .before .before .before .before .before .before .before .before .before .before .before .before .before .before .before .before .args .words .now) x l h _ _ (c .before .before .before .before .before .before .if6 .taken)) (c .before .before .decimal .ensures)
 
 byte-requires : tie.Need-byte-requires
 byte-requires c κs =
-    c .before .before .before .before .before .before .before .before .before .before .before .before .before .pre .0
+    c .before .before .before .before .before .before .before .before .before .before .before .before .before .before .pre .0
 
 same-length-7 : tie.Need-same-length-7
 same-length-7 c =
@@ -120,7 +126,7 @@ same-length-7 c =
 
 returns-7 : tie.Need-returns-7
 returns-7 c =
-    λ x l h. let o = c .before .before .before .before .before .before .before .before .before .before .before .before .before .before .before .before .pre .1 in let e : getD (c .before .before .before .before .before .before .before .before .before .before .before .before .before .before .before .before .args .words .now) 0 0 ≡ 8 = omega (arith, code-most (c .before .before .before .before .before .before .before .before .before .before .before .before .before .before .before .before .args .words .now) x l h, c .before .before .before .before .before .before .before .before .before .before .before .if1 .left, c .before .before .before .before .before .before .if4 .left, c .before .before .before .before .before .if5 .left, c .before .before .before .before .if6 .left) in left-is (opens-application (c .before .before .before .before .before .before .before .before .before .before .before .before .before .before .before .before .args .words .now) x l h _ _ e) (c .before .before .byte .ensures)
+    λ x l h. let o = c .before .before .before .before .before .before .before .before .before .before .before .before .before .before .before .before .before .pre .1 in let e : getD (c .before .before .before .before .before .before .before .before .before .before .before .before .before .before .before .before .before .args .words .now) 0 0 ≡ 8 = omega (arith, code-most (c .before .before .before .before .before .before .before .before .before .before .before .before .before .before .before .before .before .args .words .now) x l h, c .before .before .before .before .before .before .before .before .before .before .before .if1 .left, c .before .before .before .before .before .before .if4 .left, c .before .before .before .before .before .if5 .left, c .before .before .before .before .if6 .left) in left-is (opens-application (c .before .before .before .before .before .before .before .before .before .before .before .before .before .before .before .before .before .args .words .now) x l h _ _ e) (c .before .before .byte .ensures)
 
 pub begin-spec : {M : Type 1} → statement M
 begin-spec =
@@ -133,10 +139,10 @@ begin-spec =
     returns
     shared-slice-read-wide
     (λ c κs. search needs)  -- wide-requires
-    numbered-requires
+    variable-requires
     same-length-2
     returns-2
-    numbered-requires-2
+    numbered-requires
     same-length-3
     returns-3
     datum-opening-requires

@@ -14,18 +14,19 @@ use mathlib.Core.Path.{_≡_, ap, _∙_}
 use Prim.Native.Nat.{ℕ}
 use Rattle.writer.specs.LaidLaws.{left-is}
 use Rattle.writer.specs.Pieces.{opening}
-use Rattle.datum.specs.NameTable.{nameAt, hasName}
+use Rattle.datum.specs.NameTable.{hasName}
 use Rattle.core_term.specs.Node.{nameN}
 use lib.ListN.{getD}
 use Rattle.writer.specs.OpenedLaws.{some-words, two-words, opens-integer, opens-false, opens-true, opens-name, opens-inner, opens-quoted, name-spelled}
+use Rattle.writer.specs.Called.{said}
 
 shared-slice-read-code : tie.Need-shared-slice-read-code
 shared-slice-read-code c =
-    let o = c .before .before .before .before .pre .1 in omega (arith, some-words (c .before .before .before .before .args .words .now) (o .it) (o .left) (o .is))
+    let o = c .before .before .before .before .pre .1 .1 in omega (arith, some-words (c .before .before .before .before .args .words .now) (o .it) (o .left) (o .is))
 
 shared-slice-read-a : tie.Need-shared-slice-read-a
 shared-slice-read-a c =
-    let o = c .before .before .before .before .before .pre .1 in omega (arith, two-words (c .before .before .before .before .before .args .words .now) (o .it) (o .left) (o .is) (λ e. omega (arith, c .before .before .before .before .before .pre .3)))
+    let o = c .before .before .before .before .before .pre .1 .1 in omega (arith, two-words (c .before .before .before .before .before .args .words .now) (o .it) (o .left) (o .is) (λ e. omega (arith, c .before .before .before .before .before .pre .3)))
 
 integer-requires : tie.Need-integer-requires
 integer-requires c κs =
@@ -37,7 +38,7 @@ same-length c =
 
 returns : tie.Need-returns
 returns c =
-    λ x l h. left-is (opens-integer (c .before .before .before .before .before .before .before .before .before .before .args .words .now) x l h _ _ (c .before .before .before .before .if1 .taken)) (c .before .before .integer .ensures)
+    λ v x l h. left-is (opens-integer (c .before .before .before .before .before .before .before .before .before .before .args .words .now) x l h (said _ v) _ (c .before .before .before .before .if1 .taken)) (c .before .before .integer .ensures)
 
 copy-requires : tie.Need-copy-requires
 copy-requires c κs =
@@ -49,7 +50,7 @@ same-length-2 c =
 
 returns-2 : tie.Need-returns-2
 returns-2 c =
-    λ x l h. left-is (opens-false (c .before .before .before .before .before .before .before .before .before .before .before .before .before .args .words .now) x l h _ _ (c .before .before .before .before .before .before .if2 .taken) (c .before .before .before .before .before .if3 .taken)) (c .before .before .copy .ensures)
+    λ v x l h. left-is (opens-false (c .before .before .before .before .before .before .before .before .before .before .before .before .before .args .words .now) x l h (said _ v) _ (c .before .before .before .before .before .before .if2 .taken) (c .before .before .before .before .before .if3 .taken)) (c .before .before .copy .ensures)
 
 copy-requires-2 : tie.Need-copy-requires-2
 copy-requires-2 c κs =
@@ -61,11 +62,11 @@ same-length-3 c =
 
 returns-3 : tie.Need-returns-3
 returns-3 c =
-    λ x l h. left-is (opens-true (c .before .before .before .before .before .before .before .before .before .before .before .before .before .args .words .now) x l h _ _ (c .before .before .before .before .before .before .if2 .taken) (c .before .before .before .before .before .if3 .left)) (c .before .before .copy2 .ensures)
+    λ v x l h. left-is (opens-true (c .before .before .before .before .before .before .before .before .before .before .before .before .before .args .words .now) x l h (said _ v) _ (c .before .before .before .before .before .before .if2 .taken) (c .before .before .before .before .before .if3 .left)) (c .before .before .copy2 .ensures)
 
 name-opening-requires : tie.Need-name-opening-requires
 name-opening-requires c κs =
-    (c .before .before .before .before .before .before .before .before .before .before .pre .0, ap (hasName (c .before .before .before .before .before .before .before .before .before .before .args .names .now)) (c .before .wide .ensures) ∙ name-spelled (c .before .before .before .before .before .before .before .before .before .before .args .names .now) (c .before .before .before .before .before .before .before .before .before .before .args .words .now) (c .before .before .before .before .before .before .before .before .before .before .pre .1) (c .before .before .if4 .taken))
+    (c .before .before .before .before .before .before .before .before .before .before .pre .0, ap (hasName (c .before .before .before .before .before .before .before .before .before .before .args .names .now)) (c .before .wide .ensures) ∙ name-spelled (said (c .before .before .before .before .before .before .before .before .before .before .args .names .now) (c .before .before .before .before .before .before .before .before .before .before .pre .1 .0)) (c .before .before .before .before .before .before .before .before .before .before .args .words .now) (c .before .before .before .before .before .before .before .before .before .before .pre .1 .1) (c .before .before .if4 .taken))
 
 same-length-4 : tie.Need-same-length-4
 same-length-4 c =
@@ -73,7 +74,7 @@ same-length-4 c =
 
 returns-4 : tie.Need-returns-4
 returns-4 c =
-    λ x l h. left-is (ap (λ (n : ℕ). opening (nameAt (c .before .before .before .before .before .before .before .before .before .before .before .before .before .args .names .now)) (c .before .before .before .before .before .before .before .before .before .before .before .before .before .args .inner) (nameN n)) (c .before .before .before .before .wide .ensures) ∙ opens-name (c .before .before .before .before .before .before .before .before .before .before .before .before .before .args .words .now) x l h _ _ (c .before .before .before .before .before .if4 .taken)) (c .before .before .name-opening .ensures)
+    λ v x l h. left-is (ap (λ (n : ℕ). opening (said (c .before .before .before .before .before .before .before .before .before .before .before .before .before .args .names .now) v) (c .before .before .before .before .before .before .before .before .before .before .before .before .before .args .inner) (nameN n)) (c .before .before .before .before .wide .ensures) ∙ opens-name (c .before .before .before .before .before .before .before .before .before .before .before .before .before .args .words .now) x l h (said _ v) _ (c .before .before .before .before .before .if4 .taken)) (c .before .before .name-opening .ensures v)
 
 byte-requires : tie.Need-byte-requires
 byte-requires c κs =
@@ -85,7 +86,7 @@ same-length-5 c =
 
 returns-5 : tie.Need-returns-5
 returns-5 c =
-    λ x l h. let e : getD (c .before .before .before .before .before .before .before .before .before .before .before .before .before .args .words .now) 0 0 ≡ 5 = omega (arith, c .before .before .before .before .before .before .before .before .before .before .before .before .before .pre .2, c .before .before .before .before .before .before .before .before .before .before .before .before .before .pre .3, c .before .before .before .before .before .before .before .if1 .left, c .before .before .before .before .before .before .if2 .left, c .before .before .before .before .before .if4 .left) in left-is (opens-inner (c .before .before .before .before .before .before .before .before .before .before .before .before .before .args .words .now) x l h _ _ e (c .before .before .before .before .if5 .taken)) (c .before .before .byte .ensures)
+    λ v x l h. let e : getD (c .before .before .before .before .before .before .before .before .before .before .before .before .before .args .words .now) 0 0 ≡ 5 = omega (arith, c .before .before .before .before .before .before .before .before .before .before .before .before .before .pre .2, c .before .before .before .before .before .before .before .before .before .before .before .before .before .pre .3, c .before .before .before .before .before .before .before .if1 .left, c .before .before .before .before .before .before .if2 .left, c .before .before .before .before .before .if4 .left) in left-is (opens-inner (c .before .before .before .before .before .before .before .before .before .before .before .before .before .args .words .now) x l h (said _ v) _ e (c .before .before .before .before .if5 .taken)) (c .before .before .byte .ensures)
 
 copy-requires-3 : tie.Need-copy-requires-3
 copy-requires-3 c κs =
@@ -97,7 +98,7 @@ same-length-6 c =
 
 returns-6 : tie.Need-returns-6
 returns-6 c =
-    λ x l h. let e : getD (c .before .before .before .before .before .before .before .before .before .before .before .before .before .before .args .words .now) 0 0 ≡ 5 = omega (arith, c .before .before .before .before .before .before .before .before .before .before .before .before .before .before .pre .2, c .before .before .before .before .before .before .before .before .before .before .before .before .before .before .pre .3, c .before .before .before .before .before .before .before .before .if1 .left, c .before .before .before .before .before .before .before .if2 .left, c .before .before .before .before .before .before .if4 .left) in left-is (opens-quoted (c .before .before .before .before .before .before .before .before .before .before .before .before .before .before .args .words .now) x l h _ _ e (c .before .before .before .before .before .if5 .left)) (c .before .before .copy3 .ensures)
+    λ v x l h. let e : getD (c .before .before .before .before .before .before .before .before .before .before .before .before .before .before .args .words .now) 0 0 ≡ 5 = omega (arith, c .before .before .before .before .before .before .before .before .before .before .before .before .before .before .pre .2, c .before .before .before .before .before .before .before .before .before .before .before .before .before .before .pre .3, c .before .before .before .before .before .before .before .before .if1 .left, c .before .before .before .before .before .before .before .if2 .left, c .before .before .before .before .before .before .if4 .left) in left-is (opens-quoted (c .before .before .before .before .before .before .before .before .before .before .before .before .before .before .args .words .now) x l h (said _ v) _ e (c .before .before .before .before .before .if5 .left)) (c .before .before .copy3 .ensures)
 
 pub datum-opening-spec : {M : Type 1} → statement M
 datum-opening-spec =

@@ -6,14 +6,14 @@ use Rattle.writer.proofs.pieces.lambda_opening.Reads as reads
 use Rattle.writer.proofs.pieces.lambda_opening.Lts as lts
 use Rattle.writer.proofs.bytes.byte.Reads as byte-reads
 use Rattle.writer.proofs.bytes.copy.Reads as copy-reads
-use Rattle.writer.proofs.numbers.formals.Reads as formals-reads
+use Rattle.writer.proofs.names.formals.Reads as formals-reads
 use mathlib.Core.Path.{sym, _∙_}
 use Rattle.writer.specs.LaidLaws.{place-room, place-full, place-then, left-is}
 use Rattle.writer.specs.PiecesLaws.{lambda-bytes}
 
 copy-requires : tie.Need-copy-requires
 copy-requires c κs =
-    c .before .before .before .pre .0
+    c .before .before .before .before .before .pre .0
 
 same-length : tie.Need-same-length
 same-length c =
@@ -21,19 +21,19 @@ same-length c =
 
 returns : tie.Need-returns
 returns c =
-    left-is (sym (lambda-bytes _ _)) (place-full (c .before .before .before .copy .ensures) _ (c .if1 .taken))
+    left-is (sym (lambda-bytes _ _ _)) (place-full (c .before .before .before .copy .ensures) _ (c .if1 .taken))
 
 formals-requires : tie.Need-formals-requires
 formals-requires c κs =
-    (place-room (c .before .before .before .before .copy .ensures) (c .before .if1 .left), c .before .before .before .before .before .before .before .before .pre .1)
+    (place-room (c .before .before .before .before .copy .ensures) (c .before .if1 .left), c .before .before .before .before .before .before .before .before .before .before .pre .1, c .before .before .before .before .before .before .before .before .before .before .pre .2, c .before .before .before .before .before .before .before .before .before .before .pre .3)
 
 same-length-2 : tie.Need-same-length-2
 same-length-2 c =
-    c .before .before .before .formals .kept .1 .1 .1 .0 ∙ c .before .before .before .before .before .before .before .before .copy .kept .1 .0
+    c .before .before .before .formals .kept .1 .1 .1 .1 .0 ∙ c .before .before .before .before .before .before .before .before .copy .kept .1 .0
 
 returns-2 : tie.Need-returns-2
 returns-2 c =
-    left-is (sym (lambda-bytes _ _)) (place-then (c .before .before .before .before .before .before .before .before .copy .ensures) (c .before .before .before .before .before .if1 .left) (place-full (c .before .before .before .formals .ensures) _ (c .if2 .taken)))
+    left-is (sym (lambda-bytes _ _ _)) (place-then (c .before .before .before .before .before .before .before .before .copy .ensures) (c .before .before .before .before .before .if1 .left) (place-full (c .before .before .before .formals .ensures) _ (c .if2 .taken)))
 
 byte-requires : tie.Need-byte-requires
 byte-requires c κs =
@@ -41,11 +41,11 @@ byte-requires c κs =
 
 same-length-3 : tie.Need-same-length-3
 same-length-3 c =
-    c .before .before .byte .kept .1 .0 ∙ c .before .before .before .before .before .before .before .formals .kept .1 .1 .1 .0 ∙ c .before .before .before .before .before .before .before .before .before .before .before .before .copy .kept .1 .0
+    c .before .before .byte .kept .1 .0 ∙ c .before .before .before .before .before .before .before .formals .kept .1 .1 .1 .1 .0 ∙ c .before .before .before .before .before .before .before .before .before .before .before .before .copy .kept .1 .0
 
 returns-3 : tie.Need-returns-3
 returns-3 c =
-    left-is (sym (lambda-bytes _ _)) (place-then (c .before .before .before .before .before .before .before .before .before .before .before .before .copy .ensures) (c .before .before .before .before .before .before .before .before .before .if1 .left) (place-then (c .before .before .before .before .before .before .before .formals .ensures) (c .before .before .before .before .if2 .left) (c .before .before .byte .ensures)))
+    left-is (sym (lambda-bytes _ _ _)) (place-then (c .before .before .before .before .before .before .before .before .before .before .before .before .copy .ensures) (c .before .before .before .before .before .before .before .before .before .if1 .left) (place-then (c .before .before .before .before .before .before .before .formals .ensures) (c .before .before .before .before .if2 .left) (c .before .before .byte .ensures)))
 
 pub lambda-opening-spec : {M : Type 1} → statement M
 lambda-opening-spec =

@@ -2,49 +2,58 @@
 use borrow.Author.Needs.{needs}
 use Rattle.writer.proofs.pieces.leaf.Statement.{statement}
 use Rattle.writer.proofs.pieces.leaf.Tie as tie
+use Rattle.writer.proofs.pieces.leaf.Reads as reads
+use Rattle.writer.proofs.pieces.leaf.Lts as lts
+use Rattle.writer.proofs.names.variable.Reads as variable-reads
+use Rattle.writer.proofs.numbers.numbered.Reads as numbered-reads
+use Rattle.writer.proofs.numbers.wide.Reads as wide-reads
+use Rattle.writer.proofs.pieces.datum_opening.Reads as datum-opening-reads
 use native.Mathlib.Omega.{arith}
-use mathlib.Core.Path.{ap, _∙_}
+use mathlib.Core.Path.{ap, _∙_, sym, subst}
 use mathlib.Core.List.{_∷_}
-use Prim.Native.Nat.{ℕ}
+use Prim.Native.Nat.{ℕ, suc}
 use Rattle.core_term.specs.Decimal.{decimal}
 use Rattle.writer.specs.LaidLaws.{left-is}
-use Rattle.writer.specs.OpenedLaws.{some-words, two-words, opens-variable, opens-operation}
+use Rattle.writer.specs.OpenedLaws.{some-words, two-words, opens-variable, opens-operation, Naming, variable-named}
+use Rattle.datum.specs.NameTable.{nameAt}
+use Rattle.core_term.specs.Text.{variableText}
+use Rattle.writer.specs.Called.{calledBy, saidBy}
 
 shared-slice-read-code : tie.Need-shared-slice-read-code
 shared-slice-read-code c =
-    let s = c .before .before .before .before in let o = s .pre .1 in omega (arith, some-words (s .args .words .now) (o .it) (o .left) (o .is))
+    let s = (c .before .before .before .before .before) in let o = s .pre .1 in omega (arith, some-words (s .args .words .now) (o .it) (o .left) (o .is))
 
 shared-slice-read-wide : tie.Need-shared-slice-read-wide
 shared-slice-read-wide c =
-    let s = c .before .before .before .before .before in let o = s .pre .1 in omega (arith, two-words (s .args .words .now) (o .it) (o .left) (o .is) (λ e. omega (arith, s .pre .2)))
+    let s = (c .before .before .before .before .before .before) in let o = s .pre .1 in omega (arith, two-words (s .args .words .now) (o .it) (o .left) (o .is) (λ e. omega (arith, s .pre .2)))
 
-numbered-requires : tie.Need-numbered-requires
-numbered-requires c κs =
-    c .before .before .before .before .before .before .before .before .pre .0
+variable-requires : tie.Need-variable-requires
+variable-requires c κs =
+    (c .before .before .before .before .before .before .before .before .before .pre .0, subst (λ (n : ℕ). Naming (saidBy (c .before .before .before .before .before .before .before .before .before .args .names .now) (c .before .before .before .before .before .before .before .before .before .args .direct) (c .before .before .before .before .before .before .before .before .before .args .called .now)) (suc n)) (sym (c .before .before .wide .ensures)) (variable-named _ (c .before .before .before .before .before .before .before .before .before .args .words .now) (c .before .before .before .before .before .before .before .before .before .pre .1) (c .before .if1 .taken)), c .before .before .before .before .before .before .before .before .before .pre .3)
 
 same-length : tie.Need-same-length
 same-length c =
-    c .before .before .numbered .kept .1 .1 .0
+    c .before .before .variable .kept .1 .1 .0
 
 returns : tie.Need-returns
 returns c =
-    λ x l h. left-is (ap (λ (n : ℕ). 118 ∷ decimal n) (c .before .before .before .before .before .wide .ensures) ∙ opens-variable (c .before .before .before .before .before .before .before .before .before .before .before .args .words .now) x l h _ _ (c .before .before .before .before .if1 .taken)) (c .before .before .numbered .ensures)
+    λ x l h. left-is (ap (variableText (nameAt (c .before .before .before .before .before .before .before .before .before .before .before .before .args .names .now)) (calledBy (c .before .before .before .before .before .before .before .before .before .before .before .before .args .direct) (c .before .before .before .before .before .before .before .before .before .before .before .before .args .called .now))) (c .before .before .before .before .before .wide .ensures) ∙ opens-variable (c .before .before .before .before .before .before .before .before .before .before .before .before .args .words .now) x l h (saidBy (c .before .before .before .before .before .before .before .before .before .before .before .before .args .names .now) (c .before .before .before .before .before .before .before .before .before .before .before .before .args .direct) (c .before .before .before .before .before .before .before .before .before .before .before .before .args .called .now)) _ (c .before .before .before .before .if1 .taken)) (c .before .before .variable .ensures)
 
-numbered-requires-2 : tie.Need-numbered-requires-2
-numbered-requires-2 c κs =
-    c .before .before .before .before .before .before .before .before .before .pre .0
+numbered-requires : tie.Need-numbered-requires
+numbered-requires c κs =
+    c .before .before .before .before .before .before .before .before .before .before .pre .0
 
 same-length-2 : tie.Need-same-length-2
 same-length-2 c =
-    c .before .before .numbered2 .kept .1 .1 .0
+    c .before .before .numbered .kept .1 .1 .0
 
 returns-2 : tie.Need-returns-2
 returns-2 c =
-    λ x l h. left-is (ap (λ (n : ℕ). 111 ∷ decimal n) (c .before .before .before .before .before .before .wide .ensures) ∙ opens-operation (c .before .before .before .before .before .before .before .before .before .before .before .before .args .words .now) x l h _ _ (c .before .before .before .before .if2 .taken)) (c .before .before .numbered2 .ensures)
+    λ x l h. left-is (ap (λ (n : ℕ). 111 ∷ decimal n) (c .before .before .before .before .before .before .wide .ensures) ∙ opens-operation (c .before .before .before .before .before .before .before .before .before .before .before .before .before .args .words .now) x l h _ _ (c .before .before .before .before .if2 .taken)) (c .before .before .numbered .ensures)
 
 datum-opening-requires : tie.Need-datum-opening-requires
 datum-opening-requires c κs =
-    let s = c .before .before .before .before .before .before .before .before .before in (s .pre .0, s .pre .1, omega (arith, c .before .before .if1 .left, c .before .if2 .left), omega (arith, s .pre .2))
+    let s = (c .before .before .before .before .before .before .before .before .before .before) in (s .pre .0, (calledBy (s .args .direct) (s .args .called .now), s .pre .1), omega (arith, c .before .before .if1 .left, c .before .if2 .left), omega (arith, s .pre .2))
 
 same-length-3 : tie.Need-same-length-3
 same-length-3 c =
@@ -52,7 +61,7 @@ same-length-3 c =
 
 returns-3 : tie.Need-returns-3
 returns-3 c =
-    c .before .before .datum-opening .ensures
+    λ x l h. c .before .before .datum-opening .ensures _ x l h
 
 pub leaf-spec : {M : Type 1} → statement M
 leaf-spec =
@@ -61,10 +70,10 @@ leaf-spec =
     shared-slice-read-code
     shared-slice-read-wide
     (λ c κs. search needs)  -- wide-requires
-    numbered-requires
+    variable-requires
     same-length
     returns
-    numbered-requires-2
+    numbered-requires
     same-length-2
     returns-2
     datum-opening-requires

@@ -6,10 +6,11 @@ use Rattle.writer.proofs.pieces.name_opening.Reads as reads
 use Rattle.writer.proofs.pieces.name_opening.Lts as lts
 use Rattle.writer.proofs.bytes.byte.Reads as byte-reads
 use Rattle.writer.proofs.bytes.copy.Reads as copy-reads
-use Rattle.writer.proofs.pieces.name.Reads as name-reads
+use Rattle.writer.proofs.names.name.Reads as name-reads
 use mathlib.Core.Path.{sym, _∙_}
 use Rattle.writer.specs.LaidLaws.{place-room, place-full, place-then, left-is}
 use Rattle.writer.specs.PiecesLaws.{name-inner, name-quoted}
+use Rattle.writer.specs.Called.{said}
 
 name-requires : tie.Need-name-requires
 name-requires c κs =
@@ -21,7 +22,7 @@ same-length c =
 
 returns : tie.Need-returns
 returns c =
-    left-is (sym (name-inner _ _ _ (c .before .before .before .before .if1 .taken))) (c .before .before .name .ensures)
+    λ v. left-is (sym (name-inner (said _ v) _ _ (c .before .before .before .before .if1 .taken))) (c .before .before .name .ensures)
 
 copy-requires : tie.Need-copy-requires
 copy-requires c κs =
@@ -33,7 +34,7 @@ same-length-2 c =
 
 returns-2 : tie.Need-returns-2
 returns-2 c =
-    left-is (sym (name-quoted _ _ _ (c .before .before .before .before .before .before .if1 .left))) (place-full (c .before .before .before .copy .ensures) _ (c .if2 .taken))
+    λ v. left-is (sym (name-quoted (said _ v) _ _ (c .before .before .before .before .before .before .if1 .left))) (place-full (c .before .before .before .copy .ensures) _ (c .if2 .taken))
 
 name-requires-2 : tie.Need-name-requires-2
 name-requires-2 c κs =
@@ -45,7 +46,7 @@ same-length-3 c =
 
 returns-3 : tie.Need-returns-3
 returns-3 c =
-    left-is (sym (name-quoted _ _ _ (c .before .before .before .before .before .before .before .before .before .before .before .if1 .left))) (place-then (c .before .before .before .before .before .before .before .before .copy .ensures) (c .before .before .before .before .before .if2 .left) (place-full (c .before .before .before .name2 .ensures) _ (c .if3 .taken)))
+    λ v. left-is (sym (name-quoted (said _ v) _ _ (c .before .before .before .before .before .before .before .before .before .before .before .if1 .left))) (place-then (c .before .before .before .before .before .before .before .before .copy .ensures) (c .before .before .before .before .before .if2 .left) (place-full (c .before .before .before .name2 .ensures) _ (c .if3 .taken)))
 
 byte-requires : tie.Need-byte-requires
 byte-requires c κs =
@@ -57,7 +58,7 @@ same-length-4 c =
 
 returns-4 : tie.Need-returns-4
 returns-4 c =
-    left-is (sym (name-quoted _ _ _ (c .before .before .before .before .before .before .before .before .before .before .before .before .before .before .before .if1 .left))) (place-then (c .before .before .before .before .before .before .before .before .before .before .before .before .copy .ensures) (c .before .before .before .before .before .before .before .before .before .if2 .left) (place-then (c .before .before .before .before .before .before .before .name2 .ensures) (c .before .before .before .before .if3 .left) (c .before .before .byte .ensures)))
+    λ v. left-is (sym (name-quoted (said _ v) _ _ (c .before .before .before .before .before .before .before .before .before .before .before .before .before .before .before .if1 .left))) (place-then (c .before .before .before .before .before .before .before .before .before .before .before .before .copy .ensures) (c .before .before .before .before .before .before .before .before .before .if2 .left) (place-then (c .before .before .before .before .before .before .before .name2 .ensures) (c .before .before .before .before .if3 .left) (c .before .before .byte .ensures)))
 
 pub name-opening-spec : {M : Type 1} → statement M
 name-opening-spec =

@@ -1,6 +1,6 @@
 -- `term` and `part` lay the text of what the words begin with. The invariant is Going of specs/WalkLaws.antt; the measure is
 -- twice the count of words, and one more for `part`, which calls `term` with the same words.
-use Prim.Native.Nat.{ℕ, _+_, _*_, _<_}
+use Prim.Native.Nat.{ℕ, _<_, _+_, _*_}
 use borrow.Fn.Kinds.{In}
 use borrow.Fn.PlainCycle.{Measures, is, falls, and}
 use Rattle.writer.proofs.term.part.Reads as part
@@ -13,7 +13,7 @@ use Rattle.writer.proofs.numbers.gap.Reads as gap-reads
 use Rattle.writer.proofs.pieces.begin.Reads as begin-reads
 use Rattle.writer.proofs.pieces.finish.Reads as finish-reads
 use Rattle.writer.proofs.pieces.leaf.Reads as leaf-reads
-use Rattle.writer.proofs.term.parts_of.Reads as parts-of-reads
+use Rattle.writer.proofs.shapes.parts_of.Reads as parts-of-reads
 use Rattle.writer.proofs.term.+part+term.{statement}
 use Rattle.writer.proofs.term.+part+term.Tie.{close}
 use borrow.Author.Needs.{needs}
@@ -22,27 +22,28 @@ use mathlib.Core.Path.{refl, _∙_}
 use Rattle.writer.specs.LaidLaws.{left-length, left-room, put-done, put-full, place-room}
 use lib.ListN.{length}
 use Rattle.writer.specs.OpenedLaws.{some-words}
-use Rattle.writer.specs.WalkLaws.{for-any, begins-node, begins-opened, Going, going-start, going-inside, going-shorter, going-next, going-on, going-end, gap-full, part-full, part-inside, open-stops, leaf-walked, parts-stop, close-stops, all-walked}
+use Rattle.writer.specs.WalkLaws.{for-any, begins-node, begins-opened, Going, going-start, going-inside, going-shorter, going-next, going-on, going-end, gap-full, part-full, part-inside, open-stops, leaf-walked, parts-stop, close-stops, all-walked, begins-here}
+use Rattle.writer.specs.Called.{saidBy}
 
-abbrev μ-part : Measures 3 part-kinds.ps ℕ
+abbrev μ-part : Measures 4 part-kinds.ps ℕ
 μ-part κs a =
     2 * length (a .0 .now) + 1
 
-abbrev μ-term : Measures 3 term-kinds.ps ℕ
+abbrev μ-term : Measures 4 term-kinds.ps ℕ
 μ-term κs a =
     2 * length (a .0 .now)
 
-abbrev part-at : ℕ → In 3 part-kinds.ps
-part-at t = and 3 part-kinds.ps (is 3 part-kinds.ps μ-part t) part.Pre
+abbrev part-at : ℕ → In 4 part-kinds.ps
+part-at t = and 4 part-kinds.ps (is 4 part-kinds.ps μ-part t) part.Pre
 
-abbrev part-below : ℕ → In 3 part-kinds.ps
-part-below t = and 3 part-kinds.ps (falls 3 part-kinds.ps _<_ μ-part t) part.Pre
+abbrev part-below : ℕ → In 4 part-kinds.ps
+part-below t = and 4 part-kinds.ps (falls 4 part-kinds.ps _<_ μ-part t) part.Pre
 
-abbrev term-at : ℕ → In 3 term-kinds.ps
-term-at t = and 3 term-kinds.ps (is 3 term-kinds.ps μ-term t) term.Pre
+abbrev term-at : ℕ → In 4 term-kinds.ps
+term-at t = and 4 term-kinds.ps (is 4 term-kinds.ps μ-term t) term.Pre
 
-abbrev term-below : ℕ → In 3 term-kinds.ps
-term-below t = and 3 term-kinds.ps (falls 3 term-kinds.ps _<_ μ-term t) term.Pre
+abbrev term-below : ℕ → In 4 term-kinds.ps
+term-below t = and 4 term-kinds.ps (falls 4 term-kinds.ps _<_ μ-term t) term.Pre
 
 -- what the callees promise
 abbrev P : ℕ → part-lts.Claims
@@ -51,21 +52,13 @@ P t = (leaf-reads.Asked, leaf-reads.Learnt, term-below t, term.Post)
 abbrev E : ℕ → term-lts.Claims
 E t = (begin-reads.Asked, begin-reads.Learnt, parts-of-reads.Asked, parts-of-reads.Learnt, gap-reads.Asked, gap-reads.Learnt, part-below t, part.Post, finish-reads.Asked, finish-reads.Learnt)
 
-abbrev term-Inv-loop : term-lts.InvT-loop
-term-Inv-loop words names out₀ at inner ink opened quoted from₀ left₀ wanted₀ to₀ out from left wanted to =
-    Going names inner ink quoted words opened out₀ from left to wanted out
-
-abbrev term-μ-loop : term-lts.MeasureT-loop
-term-μ-loop words names out₀ at inner ink opened quoted from₀ left₀ wanted₀ to₀ out from left wanted to =
-    left
-
 part-shared-slice-read-if1 : (t : ℕ) → part-lts.Need-shared-slice-read-if1 (P t) (part-at t) part.Post
 part-shared-slice-read-if1 t c =
-    let s = c .before .before .before .before in let o = begins-opened _ _ _ (s .pre .1 .1) in omega (arith, some-words (s .args .words .now) (o .it) (o .left) (o .is))
+    let s = (c .before .before .before .before .before) in let o = begins-opened _ _ _ (s .pre .1 .1) in omega (arith, some-words (s .args .words .now) (o .it) (o .left) (o .is))
 
 part-leaf-requires : (t : ℕ) → part-lts.Need-leaf-requires (P t) (part-at t) part.Post
 part-leaf-requires t c κs =
-    let s = c .before .before .before .before .before .before in (s .pre .1 .0, begins-opened _ _ _ (s .pre .1 .1), c .before .if1 .taken)
+    let s = (c .before .before .before .before .before .before .before) in (s .pre .1 .0, begins-opened _ _ _ (s .pre .1 .1), c .before .if1 .taken, s .pre .1 .2)
 
 part-same-length : (t : ℕ) → part-lts.Need-same-length (P t) (part-at t) part.Post
 part-same-length t c =
@@ -73,7 +66,7 @@ part-same-length t c =
 
 part-returns : (t : ℕ) → part-lts.Need-returns (P t) (part-at t) part.Post
 part-returns t c =
-    let s = c .before .before .before .before .before .before .before .before .before .before in let w = s .args .words .now in
+    let s = (c .before .before .before .before .before .before .before .before .before .before .before) in let w = s .args .words .now in
     for-any _ _ _ w (s .pre .1 .1) _ _ _ _ (open-stops _ _ _ w (s .pre .1 .1) _ _ _ _ (c .before .before .before .leaf .ensures) (put-full _ (c .if2 .taken)))
 
 part-same-length-2 : (t : ℕ) → part-lts.Need-same-length-2 (P t) (part-at t) part.Post
@@ -82,7 +75,7 @@ part-same-length-2 t c =
 
 part-returns-2 : (t : ℕ) → part-lts.Need-returns-2 (P t) (part-at t) part.Post
 part-returns-2 t c =
-    let s = c .before .before .before .before .before .before .before .before .before .before in let w = s .args .words .now in
+    let s = (c .before .before .before .before .before .before .before .before .before .before .before) in let w = s .args .words .now in
     for-any _ _ _ w (s .pre .1 .1) _ _ _ _ (leaf-walked _ _ _ w (s .pre .1 .1) _ _ _ _ (c .before .before .before .leaf .ensures) (c .before .before .before .before .before .if1 .taken) _ (put-done _ (c .if2 .left)))
 
 part-same-length-3 : (t : ℕ) → part-lts.Need-same-length-3 (P t) (part-at t) part.Post
@@ -93,9 +86,17 @@ part-returns-3 : (t : ℕ) → part-lts.Need-returns-3 (P t) (part-at t) part.Po
 part-returns-3 t c =
     c .before .before .term .ensures
 
+abbrev term-Inv-loop : term-lts.InvT-loop
+term-Inv-loop words names out₀ at inner ink called direct opened quoted from₀ left₀ wanted₀ to₀ out from left wanted to =
+    Going (saidBy names direct called) inner ink quoted words opened out₀ from left to wanted out
+
+abbrev term-μ-loop : term-lts.MeasureT-loop
+term-μ-loop words names out₀ at inner ink called direct opened quoted from₀ left₀ wanted₀ to₀ out from left wanted to =
+    left
+
 term-begin-requires : (t : ℕ) → term-lts.Need-begin-requires (E t) (term-at t) term.Post term-Inv-loop term-μ-loop
 term-begin-requires t c κs =
-    (c .before .before .before .before .pre .1 .0, begins-opened _ _ _ (c .before .before .before .before .pre .1 .1))
+    (c .before .before .before .before .before .pre .1 .0, begins-opened _ _ _ (c .before .before .before .before .before .pre .1 .1), c .before .before .before .before .before .pre .1 .2)
 
 term-same-length : (t : ℕ) → term-lts.Need-same-length (E t) (term-at t) term.Post term-Inv-loop term-μ-loop
 term-same-length t c =
@@ -103,15 +104,15 @@ term-same-length t c =
 
 term-returns : (t : ℕ) → term-lts.Need-returns (E t) (term-at t) term.Post term-Inv-loop term-μ-loop
 term-returns t c =
-    for-any _ _ _ (c .before .before .before .before .before .before .before .before .args .words .now) (c .before .before .before .before .before .before .before .before .pre .1 .1) _ _ _ _ (open-stops _ _ _ (c .before .before .before .before .before .before .before .before .args .words .now) (c .before .before .before .before .before .before .before .before .pre .1 .1) _ _ _ _ (c .before .before .before .begin .ensures) (put-full _ (c .if1 .taken)))
+    for-any _ _ _ (c .before .before .before .before .before .before .before .before .before .args .words .now) (c .before .before .before .before .before .before .before .before .before .pre .1 .1) _ _ _ _ (open-stops _ _ _ (c .before .before .before .before .before .before .before .before .before .args .words .now) (c .before .before .before .before .before .before .before .before .before .pre .1 .1) _ _ _ _ (c .before .before .before .begin .ensures) (put-full _ (c .if1 .taken)))
 
 term-parts-of-requires : (t : ℕ) → term-lts.Need-parts-of-requires (E t) (term-at t) term.Post term-Inv-loop term-μ-loop
 term-parts-of-requires t c κs =
-    begins-opened _ _ _ (c .before .before .before .before .before .before .before .before .pre .1 .1)
+    begins-here _ _ _ (c .before .before .before .before .before .before .before .before .before .pre .1 .1)
 
 term-loop-holds : (t : ℕ) → term-lts.Need-loop-holds (E t) (term-at t) term.Post term-Inv-loop term-μ-loop
 term-loop-holds t c =
-    going-start _ _ _ _ (c .before .before .before .before .before .before .before .before .before .args .words .now) _ _ (c .before .before .before .before .before .before .before .before .before .pre .1 .1) (c .parts-of .result) refl (c .parts-of .ensures _ _ (begins-node _ _ (c .before .before .before .before .before .before .before .before .before .args .words .now) (c .before .before .before .before .before .before .before .before .before .pre .1 .1))) (place-room (c .before .before .before .before .begin .ensures _ _ (begins-node _ _ (c .before .before .before .before .before .before .before .before .before .args .words .now) (c .before .before .before .before .before .before .before .before .before .pre .1 .1))) (c .before .if1 .left))
+    going-start _ _ _ _ (c .before .before .before .before .before .before .before .before .before .before .args .words .now) _ _ (c .before .before .before .before .before .before .before .before .before .before .pre .1 .1) (c .parts-of .result) refl (c .parts-of .ensures _ _ (begins-node _ _ (c .before .before .before .before .before .before .before .before .before .before .args .words .now) (c .before .before .before .before .before .before .before .before .before .before .pre .1 .1))) (place-room (c .before .before .before .before .begin .ensures _ _ (begins-node _ _ (c .before .before .before .before .before .before .before .before .before .before .args .words .now) (c .before .before .before .before .before .before .before .before .before .before .pre .1 .1))) (c .before .if1 .left))
 
 term-gap-requires : (t : ℕ) → term-lts.Need-gap-requires (E t) (term-at t) term.Post term-Inv-loop term-μ-loop
 term-gap-requires t c κs =
@@ -123,23 +124,23 @@ term-same-length-2 t c =
 
 term-returns-2 : (t : ℕ) → term-lts.Need-returns-2 (E t) (term-at t) term.Post term-Inv-loop term-μ-loop
 term-returns-2 t c =
-    let g = c .before .before .before .before .before .before .loop .inv in for-any _ _ _ (c .before .before .before .before .before .before .before .before .before .before .before .before .before .before .before .before .args .words .now) (g .whole) _ _ _ _ (parts-stop _ _ _ (c .before .before .before .before .before .before .before .before .before .before .before .before .before .before .before .before .args .words .now) (g .whole) _ _ _ _ (c .before .before .before .before .before .before .before .before .before .before .before .begin .ensures) _ (put-done _ (c .before .before .before .before .before .before .before .before .if1 .left)) _ (g .inner′) _ (gap-full _ _ _ _ (c .before .before .before .before .before .before .before .before .before .before .before .before .before .before .before .before .args .words .now) _ _ _ _ _ _ _ g (omega arith) _ _ (c .before .before .before .gap .ensures) (put-full _ (c .if2 .taken))))
+    let g = c .before .before .before .before .before .before .loop .inv in for-any _ _ _ (c .before .before .before .before .before .before .before .before .before .before .before .before .before .before .before .before .before .args .words .now) (g .whole) _ _ _ _ (parts-stop _ _ _ (c .before .before .before .before .before .before .before .before .before .before .before .before .before .before .before .before .before .args .words .now) (g .whole) _ _ _ _ (c .before .before .before .before .before .before .before .before .before .before .before .begin .ensures) _ (put-done _ (c .before .before .before .before .before .before .before .before .if1 .left)) _ (g .inner′) _ (gap-full _ _ _ _ (c .before .before .before .before .before .before .before .before .before .before .before .before .before .before .before .before .before .args .words .now) _ _ _ _ _ _ _ g (omega arith) _ _ (c .before .before .before .gap .ensures) (put-full _ (c .if2 .taken))))
 
 term-mul-part : (t : ℕ) → term-lts.Need-mul-part (E t) (term-at t) term.Post term-Inv-loop term-μ-loop
 term-mul-part t c =
-    let l = going-inside _ _ _ _ (c .before .before .before .before .before .before .before .before .before .before .before .before .before .before .before .before .args .words .now) _ _ _ _ _ _ _ (c .before .before .before .before .before .before .loop .inv) in omega (arith, c .before .before .before .before .before .before .before .before .before .before .before .before .before .before .before .before .good .0 .1)
+    let l = going-inside _ _ _ _ (c .before .before .before .before .before .before .before .before .before .before .before .before .before .before .before .before .before .args .words .now) _ _ _ _ _ _ _ (c .before .before .before .before .before .before .loop .inv) in omega (arith, c .before .before .before .before .before .before .before .before .before .before .before .before .before .before .before .before .before .good .0 .1)
 
 term-sub-part : (t : ℕ) → term-lts.Need-sub-part (E t) (term-at t) term.Post term-Inv-loop term-μ-loop
 term-sub-part t c =
-    let l = going-inside _ _ _ _ (c .before .before .before .before .before .before .before .before .before .before .before .before .before .before .before .before .args .words .now) _ _ _ _ _ _ _ (c .before .before .before .before .before .before .loop .inv) in omega arith
+    let l = going-inside _ _ _ _ (c .before .before .before .before .before .before .before .before .before .before .before .before .before .before .before .before .before .args .words .now) _ _ _ _ _ _ _ (c .before .before .before .before .before .before .loop .inv) in omega arith
 
 term-part-part-start : (t : ℕ) → term-lts.Need-part-part-start (E t) (term-at t) term.Post term-Inv-loop term-μ-loop
 term-part-part-start t c =
-    let l = going-inside _ _ _ _ (c .before .before .before .before .before .before .before .before .before .before .before .before .before .before .before .before .args .words .now) _ _ _ _ _ _ _ (c .before .before .before .before .before .before .loop .inv) in omega arith
+    let l = going-inside _ _ _ _ (c .before .before .before .before .before .before .before .before .before .before .before .before .before .before .before .before .before .args .words .now) _ _ _ _ _ _ _ (c .before .before .before .before .before .before .loop .inv) in omega arith
 
 term-part-requires : (t : ℕ) → term-lts.Need-part-requires (E t) (term-at t) term.Post term-Inv-loop term-μ-loop
 term-part-requires t c κs =
-    let g = c .before .before .before .before .before .before .before .before .loop .inv in (omega (arith, going-shorter _ _ _ _ (c .before .before .before .before .before .before .before .before .before .before .before .before .before .before .before .before .before .before .args .words .now) _ _ _ _ _ _ _ g, c .before .before .before .before .before .before .before .before .before .before .before .before .before .before .before .before .before .before .pre .0), (place-room (c .before .before .before .before .before .gap .ensures) (c .before .before .if2 .left), going-next _ _ _ _ (c .before .before .before .before .before .before .before .before .before .before .before .before .before .before .before .before .before .before .args .words .now) _ _ _ _ _ _ _ g (omega arith)))
+    let g = c .before .before .before .before .before .before .before .before .loop .inv in (omega (arith, going-shorter _ _ _ _ (c .before .before .before .before .before .before .before .before .before .before .before .before .before .before .before .before .before .before .before .args .words .now) _ _ _ _ _ _ _ g, c .before .before .before .before .before .before .before .before .before .before .before .before .before .before .before .before .before .before .before .pre .0), (place-room (c .before .before .before .before .before .gap .ensures) (c .before .before .if2 .left), going-next _ _ _ _ (c .before .before .before .before .before .before .before .before .before .before .before .before .before .before .before .before .before .before .before .args .words .now) _ _ _ _ _ _ _ g (omega arith), c .before .before .before .before .before .before .before .before .before .before .before .before .before .before .before .before .before .before .before .pre .1 .2))
 
 term-same-length-3 : (t : ℕ) → term-lts.Need-same-length-3 (E t) (term-at t) term.Post term-Inv-loop term-μ-loop
 term-same-length-3 t c =
@@ -147,19 +148,19 @@ term-same-length-3 t c =
 
 term-returns-3 : (t : ℕ) → term-lts.Need-returns-3 (E t) (term-at t) term.Post term-Inv-loop term-μ-loop
 term-returns-3 t c =
-    let g = c .before .before .before .before .before .before .before .before .before .before .before .before .before .loop .inv in for-any _ _ _ (c .before .before .before .before .before .before .before .before .before .before .before .before .before .before .before .before .before .before .before .before .before .before .before .args .words .now) (g .whole) _ _ _ _ (parts-stop _ _ _ (c .before .before .before .before .before .before .before .before .before .before .before .before .before .before .before .before .before .before .before .before .before .before .before .args .words .now) (g .whole) _ _ _ _ (c .before .before .before .before .before .before .before .before .before .before .before .before .before .before .before .before .before .before .begin .ensures) _ (put-done _ (c .before .before .before .before .before .before .before .before .before .before .before .before .before .before .before .if1 .left)) _ (g .inner′) _ (part-full _ _ _ _ (c .before .before .before .before .before .before .before .before .before .before .before .before .before .before .before .before .before .before .before .before .before .before .before .args .words .now) _ _ _ _ _ _ _ g (omega arith) _ _ (c .before .before .before .before .before .before .before .before .before .before .gap .ensures) _ (put-done _ (c .before .before .before .before .before .before .before .if2 .left)) _ _ (c .before .before .before .before .part .ensures) (c .enum-told .given .1)))
+    let g = c .before .before .before .before .before .before .before .before .before .before .before .before .before .loop .inv in for-any _ _ _ (c .before .before .before .before .before .before .before .before .before .before .before .before .before .before .before .before .before .before .before .before .before .before .before .before .args .words .now) (g .whole) _ _ _ _ (parts-stop _ _ _ (c .before .before .before .before .before .before .before .before .before .before .before .before .before .before .before .before .before .before .before .before .before .before .before .before .args .words .now) (g .whole) _ _ _ _ (c .before .before .before .before .before .before .before .before .before .before .before .before .before .before .before .before .before .before .begin .ensures) _ (put-done _ (c .before .before .before .before .before .before .before .before .before .before .before .before .before .before .before .if1 .left)) _ (g .inner′) _ (part-full _ _ _ _ (c .before .before .before .before .before .before .before .before .before .before .before .before .before .before .before .before .before .before .before .before .before .before .before .before .args .words .now) _ _ _ _ _ _ _ g (omega arith) _ _ (c .before .before .before .before .before .before .before .before .before .before .gap .ensures) _ (put-done _ (c .before .before .before .before .before .before .before .if2 .left)) _ _ (c .before .before .before .before .part .ensures) (c .enum-told .given .1)))
 
 term-add-from : (t : ℕ) → term-lts.Need-add-from (E t) (term-at t) term.Post term-Inv-loop term-μ-loop
 term-add-from t c =
-    let g = c .before .before .before .before .before .before .before .before .before .before .before .before .before .before .loop .inv in omega (arith, c .before .before .before .before .before .before .before .before .before .before .before .before .before .before .before .before .before .before .before .before .before .before .before .before .good .0 .1, part-inside _ _ _ _ (c .before .before .before .before .before .before .before .before .before .before .before .before .before .before .before .before .before .before .before .before .before .before .before .before .args .words .now) _ _ _ _ _ _ _ g (omega arith) _ _ (c .before .before .before .before .before .before .before .before .before .before .before .gap .ensures) _ (put-done _ (c .before .before .before .before .before .before .before .before .if2 .left)) _ _ (c .before .before .before .before .before .part .ensures) _ _ (c .before .used .given .1))
+    let g = c .before .before .before .before .before .before .before .before .before .before .before .before .before .before .loop .inv in omega (arith, c .before .before .before .before .before .before .before .before .before .before .before .before .before .before .before .before .before .before .before .before .before .before .before .before .before .good .0 .1, part-inside _ _ _ _ (c .before .before .before .before .before .before .before .before .before .before .before .before .before .before .before .before .before .before .before .before .before .before .before .before .before .args .words .now) _ _ _ _ _ _ _ g (omega arith) _ _ (c .before .before .before .before .before .before .before .before .before .before .before .gap .ensures) _ (put-done _ (c .before .before .before .before .before .before .before .before .if2 .left)) _ _ (c .before .before .before .before .before .part .ensures) _ _ (c .before .used .given .1))
 
 term-loop-again : (t : ℕ) → term-lts.Need-loop-again (E t) (term-at t) term.Post term-Inv-loop term-μ-loop
 term-loop-again t c =
-    let g = c .before .before .before .before .before .before .before .before .before .before .before .before .before .before .loop .inv in going-on _ _ _ _ (c .before .before .before .before .before .before .before .before .before .before .before .before .before .before .before .before .before .before .before .before .before .before .before .before .args .words .now) _ _ _ _ _ _ _ g (omega arith) _ _ (c .before .before .before .before .before .before .before .before .before .before .before .gap .ensures) _ (put-done _ (c .before .before .before .before .before .before .before .before .if2 .left)) _ _ (c .before .before .before .before .before .part .ensures) _ _ (c .before .used .given .1)
+    let g = c .before .before .before .before .before .before .before .before .before .before .before .before .before .before .loop .inv in going-on _ _ _ _ (c .before .before .before .before .before .before .before .before .before .before .before .before .before .before .before .before .before .before .before .before .before .before .before .before .before .args .words .now) _ _ _ _ _ _ _ g (omega arith) _ _ (c .before .before .before .before .before .before .before .before .before .before .before .gap .ensures) _ (put-done _ (c .before .before .before .before .before .before .before .before .if2 .left)) _ _ (c .before .before .before .before .before .part .ensures) _ _ (c .before .used .given .1)
 
 term-finish-requires : (t : ℕ) → term-lts.Need-finish-requires (E t) (term-at t) term.Post term-Inv-loop term-μ-loop
 term-finish-requires t c κs =
-    let g = c .before .before .loop .inv in (left-room (g .laid) _ refl, some-words (c .before .before .before .before .before .before .before .before .before .before .before .before .args .words .now) _ _ (begins-node _ _ (c .before .before .before .before .before .before .before .before .before .before .before .before .args .words .now) (g .whole)))
+    let g = c .before .before .loop .inv in (left-room (g .laid) _ refl, some-words (c .before .before .before .before .before .before .before .before .before .before .before .before .before .args .words .now) _ _ (begins-node _ _ (c .before .before .before .before .before .before .before .before .before .before .before .before .before .args .words .now) (g .whole)))
 
 term-same-length-4 : (t : ℕ) → term-lts.Need-same-length-4 (E t) (term-at t) term.Post term-Inv-loop term-μ-loop
 term-same-length-4 t c =
@@ -167,7 +168,7 @@ term-same-length-4 t c =
 
 term-returns-4 : (t : ℕ) → term-lts.Need-returns-4 (E t) (term-at t) term.Post term-Inv-loop term-μ-loop
 term-returns-4 t c =
-    let g = c .before .before .before .before .before .before .loop .inv in for-any _ _ _ (c .before .before .before .before .before .before .before .before .before .before .before .before .before .before .before .before .args .words .now) (g .whole) _ _ _ _ (close-stops _ _ _ (c .before .before .before .before .before .before .before .before .before .before .before .before .before .before .before .before .args .words .now) (g .whole) _ _ _ _ (c .before .before .before .before .before .before .before .before .before .before .before .begin .ensures) _ (put-done _ (c .before .before .before .before .before .before .before .before .if1 .left)) _ (g .inner′) _ _ (going-end _ _ _ _ (c .before .before .before .before .before .before .before .before .before .before .before .before .before .before .before .before .args .words .now) _ _ _ _ _ _ _ g (omega arith) .1) _ _ (c .before .before .before .finish .ensures) (put-full _ (c .if3 .taken)))
+    let g = c .before .before .before .before .before .before .loop .inv in for-any _ _ _ (c .before .before .before .before .before .before .before .before .before .before .before .before .before .before .before .before .before .args .words .now) (g .whole) _ _ _ _ (close-stops _ _ _ (c .before .before .before .before .before .before .before .before .before .before .before .before .before .before .before .before .before .args .words .now) (g .whole) _ _ _ _ (c .before .before .before .before .before .before .before .before .before .before .before .begin .ensures) _ (put-done _ (c .before .before .before .before .before .before .before .before .if1 .left)) _ (g .inner′) _ _ (going-end _ _ _ _ (c .before .before .before .before .before .before .before .before .before .before .before .before .before .before .before .before .before .args .words .now) _ _ _ _ _ _ _ g (omega arith) .1) _ _ (c .before .before .before .finish .ensures) (put-full _ (c .if3 .taken)))
 
 term-same-length-5 : (t : ℕ) → term-lts.Need-same-length-5 (E t) (term-at t) term.Post term-Inv-loop term-μ-loop
 term-same-length-5 t c =
@@ -175,10 +176,11 @@ term-same-length-5 t c =
 
 term-returns-5 : (t : ℕ) → term-lts.Need-returns-5 (E t) (term-at t) term.Post term-Inv-loop term-μ-loop
 term-returns-5 t c =
-    let g = c .before .before .before .before .before .before .loop .inv in let z = going-end _ _ _ _ (c .before .before .before .before .before .before .before .before .before .before .before .before .before .before .before .before .args .words .now) _ _ _ _ _ _ _ g (omega arith) in for-any _ _ _ (c .before .before .before .before .before .before .before .before .before .before .before .before .before .before .before .before .args .words .now) (g .whole) _ _ _ _ (all-walked _ _ _ (c .before .before .before .before .before .before .before .before .before .before .before .before .before .before .before .before .args .words .now) (g .whole) _ _ _ _ (c .before .before .before .before .before .before .before .before .before .before .before .begin .ensures) _ (put-done _ (c .before .before .before .before .before .before .before .before .if1 .left)) _ (g .inner′) _ _ (z .1) _ _ (c .before .before .before .finish .ensures) _ _ (z .0) (put-done _ (c .if3 .left)))
+    let g = c .before .before .before .before .before .before .loop .inv in let z = going-end _ _ _ _ (c .before .before .before .before .before .before .before .before .before .before .before .before .before .before .before .before .before .args .words .now) _ _ _ _ _ _ _ g (omega arith) in for-any _ _ _ (c .before .before .before .before .before .before .before .before .before .before .before .before .before .before .before .before .before .args .words .now) (g .whole) _ _ _ _ (all-walked _ _ _ (c .before .before .before .before .before .before .before .before .before .before .before .before .before .before .before .before .before .args .words .now) (g .whole) _ _ _ _ (c .before .before .before .before .before .before .before .before .before .before .before .begin .ensures) _ (put-done _ (c .before .before .before .before .before .before .before .before .if1 .left)) _ (g .inner′) _ _ (z .1) _ _ (c .before .before .before .finish .ensures) _ _ (z .0) (put-done _ (c .if3 .left)))
 
 pub +part+term-spec : {M : Type 1} → statement M
-+part+term-spec = close μ-part μ-term (λ t. part-lts.spec (P t) (part-at t)
++part+term-spec = close μ-part μ-term (λ t. part-lts.spec (P t)
+    (part-at t)
     part.Post
     (part-shared-slice-read-if1 t)
     (part-leaf-requires t)
@@ -189,7 +191,8 @@ pub +part+term-spec : {M : Type 1} → statement M
     (λ c κs. search needs)  -- part-term-requires
     (part-same-length-3 t)
     (part-returns-3 t))
-    λ t. term-lts.spec (E t) (term-at t)
+    λ t. term-lts.spec (E t)
+    (term-at t)
     term.Post
     term-Inv-loop
     term-μ-loop

@@ -1,11 +1,11 @@
 -- The bytes of a slot that exists.
 use borrow.Author.Needs.{needs}
-use Rattle.writer.proofs.pieces.name.Statement.{statement}
-use Rattle.writer.proofs.pieces.name.Tie as tie
-use Rattle.writer.proofs.pieces.name.Reads as reads
-use Rattle.writer.proofs.pieces.name.Lts as lts
+use Rattle.writer.proofs.names.name.Statement.{statement}
+use Rattle.writer.proofs.names.name.Tie as tie
+use Rattle.writer.proofs.names.name.Reads as reads
+use Rattle.writer.proofs.names.name.Lts as lts
 use Rattle.writer.proofs.bytes.copy.Reads as copy-reads
-use Rattle.writer.proofs.pieces.size.Reads as size-reads
+use Rattle.writer.proofs.names.size.Reads as size-reads
 use native.Mathlib.Omega.{arith}
 use Rattle.writer.specs.LaidLaws.{left-is}
 use Rattle.writer.specs.OpenedLaws.{slot-of, name-cut}

@@ -1,0 +1,81 @@
+-- One name after another.
+use Rattle.core_term.proofs.head.names_good.Statement.{statement}
+use Rattle.core_term.proofs.head.names_good.Tie as tie
+use Rattle.core_term.proofs.head.names_good.Reads as reads
+use Rattle.core_term.proofs.head.names_good.Lts as lts
+use Rattle.core_term.proofs.head.name_good.Reads as name-good-reads
+use Rattle.core_term.proofs.head.wide.Reads as wide-reads
+use borrow.Author.Needs.{needs}
+use native.Mathlib.Omega.{arith}
+use Prim.Native.Nat.{_≤_, _-_}
+use mathlib.Core.Path.{_≡_, refl, sym, ap, _∙_}
+use lib.ListN.{length, getD, drop}
+use borrow.Author.Tests.{not-true, not-false}
+use Rattle.words.specs.Lists.{allOf}
+use Rattle.core_term.specs.Window.{goodName}
+use Rattle.core_term.specs.WindowLaws.{names-next, names-bad, names-end}
+
+abbrev Inv-loop : tie.InvT-loop
+Inv-loop formals names tabled i₀ i =
+    (i ≤ length (formals)) × (allOf (goodName tabled (names)) (drop i (formals)) ≡ allOf (goodName tabled (names)) (formals))
+
+abbrev μ-loop : tie.MeasureT-loop
+μ-loop formals names tabled i₀ i =
+    length (formals) - i
+
+loop-holds : tie.Need-loop-holds Inv-loop μ-loop
+loop-holds c =
+    (omega arith, refl)
+
+mul-wide : tie.Need-mul-wide Inv-loop μ-loop
+mul-wide c =
+    search needs
+
+shared-slice-read-wide : tie.Need-shared-slice-read-wide Inv-loop μ-loop
+shared-slice-read-wide c =
+    search needs
+
+wide-requires : tie.Need-wide-requires Inv-loop μ-loop
+wide-requires c κs =
+    search needs
+
+name-good-requires : tie.Need-name-good-requires Inv-loop μ-loop
+name-good-requires c κs =
+    search needs
+
+returns : tie.Need-returns Inv-loop μ-loop
+returns c =
+    names-bad _ (c .before .before .before .before .before .before .before .before .args .formals .now) _ (c .before .before .before .before .before .loop .inv .1) (c .before .before .before .before .loop-test .taken) (sym (ap (goodName _ _) (c .before .before .wide .ensures)) ∙ sym (c .before .name-good .ensures) ∙ not-true _ (c .if1 .taken))
+
+add-i : tie.Need-add-i Inv-loop μ-loop
+add-i c =
+    search needs
+
+loop-less : tie.Need-loop-less Inv-loop μ-loop
+loop-less c =
+    search needs
+
+loop-again : tie.Need-loop-again Inv-loop μ-loop
+loop-again c =
+    (omega (arith, c .before .before .before .before .loop-test .taken), names-next _ (c .before .before .before .before .before .before .before .before .args .formals .now) _ (c .before .before .before .before .before .loop .inv .1) (c .before .before .before .before .loop-test .taken) (sym (ap (goodName _ _) (c .before .before .wide .ensures)) ∙ sym (c .before .name-good .ensures) ∙ not-false _ (c .if1 .left)))
+
+returns-2 : tie.Need-returns-2 Inv-loop μ-loop
+returns-2 c =
+    names-end _ (c .before .before .before .before .args .formals .now) (c .before .loop .i) (c .before .loop .inv .1) (omega (arith, c .before .loop .inv .0, c .loop-test .left))
+
+pub names-good-spec : {M : Type 1} → statement M
+names-good-spec =
+    tie.close
+    (tie.spec
+    Inv-loop
+    μ-loop
+    loop-holds
+    mul-wide
+    shared-slice-read-wide
+    wide-requires
+    name-good-requires
+    returns
+    add-i
+    loop-less
+    loop-again
+    returns-2)

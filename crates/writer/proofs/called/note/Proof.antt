@@ -1,0 +1,114 @@
+-- The names before a node are noted.
+use Rattle.writer.proofs.called.note.Statement.{statement}
+use Rattle.writer.proofs.called.note.Tie as tie
+use Rattle.writer.proofs.called.note.Reads as reads
+use Rattle.writer.proofs.called.note.Lts as lts
+use Rattle.writer.proofs.called.put.Reads as put-reads
+use Rattle.writer.proofs.shapes.own.Reads as own-reads
+use borrow.Author.Needs.{needs}
+use native.Mathlib.Omega.{arith}
+use mathlib.Core.Path.{_≡_, refl, ap, _∙_}
+use Prim.Native.Nat.{_≤_, _+_, _-_}
+use lib.ListN.{length, take, drop}
+use Rattle.writer.specs.CalledLaws.{Scan, Notes, scan-start, scan-end, scan-here, scan-sizes, scan-next, scan-names, scan-count, notes-more, notes-all}
+
+abbrev Inv-loop : tie.InvT-loop
+Inv-loop words table₀ at₀ seen₀ table at seen =
+    Scan words at seen × (length table ≡ length table₀) × (seen ≤ length table₀) × Notes words seen table
+
+abbrev μ-loop : tie.MeasureT-loop
+μ-loop words table₀ at₀ seen₀ table at seen =
+    length words - at
+
+loop-holds : tie.Need-loop-holds Inv-loop μ-loop
+loop-holds c =
+    (scan-start (c .before .before .args .words .now) (c .before .before .pre .0, c .before .before .pre .1), refl, omega arith, refl)
+
+own-requires : tie.Need-own-requires Inv-loop μ-loop
+own-requires c κs =
+    scan-here (c .before .before .before .before .before .args .words .now) _ _ (c .before .before .loop .inv .0) (c .before .loop-test .taken)
+
+sub-if1 : tie.Need-sub-if1 Inv-loop μ-loop
+sub-if1 c =
+    omega (arith, c .before .before .before .loop .inv .1, c .before .before .before .loop .inv .2)
+
+same-length : tie.Need-same-length Inv-loop μ-loop
+same-length c =
+    c .before .before .before .before .before .loop .inv .1
+
+returns : tie.Need-returns Inv-loop μ-loop
+returns c =
+    tt
+
+add-end : tie.Need-add-end Inv-loop μ-loop
+add-end c =
+    let z = scan-sizes (c .before .before .before .before .before .before .before .before .before .args .words .now) _ _ (c .before .before .before .before .before .before .loop .inv .0) (c .before .before .before .before .before .loop-test .taken) (c .before .before .before .own .result .size) (c .before .before .before .own .result .names) (c .before .before .before .own .ensures) in omega (arith, z .2, c .before .before .before .before .before .before .before .before .before .good .0)
+
+sub-put : tie.Need-sub-put Inv-loop μ-loop
+sub-put c =
+    let z = scan-sizes (c .before .before .before .before .before .before .before .before .before .before .args .words .now) _ _ (c .before .before .before .before .before .before .before .loop .inv .0) (c .before .before .before .before .before .before .loop-test .taken) (c .before .before .before .before .own .result .size) (c .before .before .before .before .own .result .names) (c .before .before .before .before .own .ensures) in omega (arith, z .1)
+
+mul-put : tie.Need-mul-put Inv-loop μ-loop
+mul-put c =
+    let z = scan-sizes (c .before .before .before .before .before .before .before .before .before .before .args .words .now) _ _ (c .before .before .before .before .before .before .before .loop .inv .0) (c .before .before .before .before .before .before .loop-test .taken) (c .before .before .before .before .own .result .size) (c .before .before .before .before .own .result .names) (c .before .before .before .before .own .ensures) in omega (arith, z .1, z .2, c .before .before .before .before .before .before .before .before .before .before .good .0)
+
+part-put-start : tie.Need-part-put-start Inv-loop μ-loop
+part-put-start c =
+    let z = scan-sizes (c .before .before .before .before .before .before .before .before .before .before .args .words .now) _ _ (c .before .before .before .before .before .before .before .loop .inv .0) (c .before .before .before .before .before .before .loop-test .taken) (c .before .before .before .before .own .result .size) (c .before .before .before .before .own .result .names) (c .before .before .before .before .own .ensures) in omega (arith, z .1)
+
+part-put-end : tie.Need-part-put-end Inv-loop μ-loop
+part-put-end c =
+    let z = scan-sizes (c .before .before .before .before .before .before .before .before .before .before .args .words .now) _ _ (c .before .before .before .before .before .before .before .loop .inv .0) (c .before .before .before .before .before .before .loop-test .taken) (c .before .before .before .before .own .result .size) (c .before .before .before .before .own .result .names) (c .before .before .before .before .own .ensures) in omega (arith, z .2)
+
+put-requires : tie.Need-put-requires Inv-loop μ-loop
+put-requires c κs =
+    let z = scan-sizes (c .before .before .before .before .before .before .before .before .before .before .before .before .args .words .now) _ _ (c .before .before .before .before .before .before .before .before .before .loop .inv .0) (c .before .before .before .before .before .before .before .before .loop-test .taken) (c .before .before .before .before .before .before .own .result .size) (c .before .before .before .before .before .before .own .result .names) (c .before .before .before .before .before .before .own .ensures) in omega (arith, scan-count (c .before .before .before .before .before .before .before .before .before .before .before .before .args .words .now) _ _ (c .before .before .before .before .before .before .before .before .before .loop .inv .0) (c .before .before .before .before .before .before .before .before .loop-test .taken) (c .before .before .before .before .before .before .own .result .size) (c .before .before .before .before .before .before .own .result .names) (c .before .before .before .before .before .before .own .ensures), c .before .before .before .before .if1 .left, c .before .before .before .before .before .before .before .before .before .loop .inv .1, c .before .before .before .before .before .before .before .before .before .loop .inv .2)
+
+add-seen : tie.Need-add-seen Inv-loop μ-loop
+add-seen c =
+    omega (arith, c .before .before .before .before .before .before .before .before .if1 .left, c .before .before .before .before .before .before .before .before .before .before .before .before .before .loop .inv .1, c .before .before .before .before .before .before .before .before .before .before .before .before .before .loop .inv .2, c .before .before .before .before .before .before .before .before .before .before .before .before .before .before .before .before .good .1)
+
+loop-less : tie.Need-loop-less Inv-loop μ-loop
+loop-less c =
+    let z = scan-sizes (c .before .before .before .before .before .before .before .before .before .before .before .before .before .before .before .before .args .words .now) _ _ (c .before .before .before .before .before .before .before .before .before .before .before .before .before .loop .inv .0) (c .before .before .before .before .before .before .before .before .before .before .before .before .loop-test .taken) (c .before .before .before .before .before .before .before .before .before .before .own .result .size) (c .before .before .before .before .before .before .before .before .before .before .own .result .names) (c .before .before .before .before .before .before .before .before .before .before .own .ensures) in omega (arith, z .0, z .2)
+
+loop-again : tie.Need-loop-again Inv-loop μ-loop
+loop-again c =
+    let z = scan-sizes (c .before .before .before .before .before .before .before .before .before .before .before .before .before .before .before .before .args .words .now) _ _ (c .before .before .before .before .before .before .before .before .before .before .before .before .before .loop .inv .0) (c .before .before .before .before .before .before .before .before .before .before .before .before .loop-test .taken) (c .before .before .before .before .before .before .before .before .before .before .own .result .size) (c .before .before .before .before .before .before .before .before .before .before .own .result .names) (c .before .before .before .before .before .before .before .before .before .before .own .ensures) in
+    (scan-next (c .before .before .before .before .before .before .before .before .before .before .before .before .before .before .before .before .args .words .now) _ _ (c .before .before .before .before .before .before .before .before .before .before .before .before .before .loop .inv .0) (c .before .before .before .before .before .before .before .before .before .before .before .before .loop-test .taken) (c .before .before .before .before .before .before .before .before .before .before .own .result .size) (c .before .before .before .before .before .before .before .before .before .before .own .result .names) (c .before .before .before .before .before .before .before .before .before .before .own .ensures), c .before .before .before .put .kept .1 .0 ∙ c .before .before .before .before .before .before .before .before .before .before .before .before .before .loop .inv .1, omega (arith, c .before .before .before .before .before .before .before .before .if1 .left, c .before .before .before .before .before .before .before .before .before .before .before .before .before .loop .inv .1, c .before .before .before .before .before .before .before .before .before .before .before .before .before .loop .inv .2), ap (take (c .before .before .before .before .before .before .before .before .before .before .before .before .before .loop .seen + c .before .before .before .before .before .before .before .before .before .before .own .result .names)) (c .before .before .before .put .ensures) ∙ notes-more (c .before .before .before .before .before .before .before .before .before .before .before .before .before .before .before .before .args .words .now) (c .before .before .before .before .before .before .before .before .before .before .before .before .before .loop .table) (take (c .before .before .before .before .before .before .before .before .before .before .before .before .before .loop .at + c .before .before .before .before .before .before .before .before .before .before .own .result .size - (c .before .before .before .before .before .before .before .before .before .before .before .before .before .loop .at + c .before .before .before .before .before .before .before .before .before .before .own .result .size - c .before .before .before .before .before .before .before .before .before .before .own .result .names)) (drop (c .before .before .before .before .before .before .before .before .before .before .before .before .before .loop .at + c .before .before .before .before .before .before .before .before .before .before .own .result .size - c .before .before .before .before .before .before .before .before .before .before .own .result .names) (c .before .before .before .before .before .before .before .before .before .before .before .before .before .before .before .before .args .words .now))) (c .before .before .before .before .before .before .before .before .before .before .before .before .before .loop .seen) (c .before .before .before .before .before .before .before .before .before .before .own .result .names) (c .before .before .before .before .before .before .before .before .before .before .before .before .before .loop .inv .3) (omega (arith, c .before .before .before .before .before .before .before .before .if1 .left, c .before .before .before .before .before .before .before .before .before .before .before .before .before .loop .inv .1, c .before .before .before .before .before .before .before .before .before .before .before .before .before .loop .inv .2)) (z .3) (scan-count (c .before .before .before .before .before .before .before .before .before .before .before .before .before .before .before .before .args .words .now) _ _ (c .before .before .before .before .before .before .before .before .before .before .before .before .before .loop .inv .0) (c .before .before .before .before .before .before .before .before .before .before .before .before .loop-test .taken) (c .before .before .before .before .before .before .before .before .before .before .own .result .size) (c .before .before .before .before .before .before .before .before .before .before .own .result .names) (c .before .before .before .before .before .before .before .before .before .before .own .ensures)) (scan-names (c .before .before .before .before .before .before .before .before .before .before .before .before .before .before .before .before .args .words .now) _ _ (c .before .before .before .before .before .before .before .before .before .before .before .before .before .loop .inv .0) (c .before .before .before .before .before .before .before .before .before .before .before .before .loop-test .taken) (c .before .before .before .before .before .before .before .before .before .before .own .result .size) (c .before .before .before .before .before .before .before .before .before .before .own .result .names) (c .before .before .before .before .before .before .before .before .before .before .own .ensures)))
+
+same-length-2 : tie.Need-same-length-2 Inv-loop μ-loop
+same-length-2 c =
+    c .before .loop .inv .1
+
+returns-2 : tie.Need-returns-2 Inv-loop μ-loop
+returns-2 c =
+    let e : c .before .loop .at ≡ length (c .before .before .before .before .args .words .now) = omega (arith, c .before .loop .inv .0 .inside, c .loop-test .left) in (omega (arith, c .before .loop .inv .1, c .before .loop .inv .2), notes-all (c .before .before .before .before .args .words .now) (c .before .loop .table) (c .before .loop .seen) (c .before .loop .inv .3) (scan-end (c .before .before .before .before .args .words .now) _ _ (c .before .loop .inv .0) e))
+
+pub note-spec : {M : Type 1} → statement M
+note-spec =
+    tie.close
+    (tie.spec
+    Inv-loop
+    μ-loop
+    loop-holds
+    (λ c. search needs)  -- mul-own
+    (λ c. search needs)  -- sub-own
+    (λ c. search needs)  -- part-own-start
+    (λ c. search needs)  -- part-own-end
+    own-requires
+    sub-if1
+    same-length
+    returns
+    add-end
+    sub-put
+    mul-put
+    (λ c. search needs)  -- sub-put-2
+    part-put-start
+    part-put-end
+    put-requires
+    add-seen
+    loop-less
+    loop-again
+    same-length-2
+    returns-2)
