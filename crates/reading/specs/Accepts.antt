@@ -24,7 +24,7 @@ use Rattle.reading.specs.Laws.Elements.{got-only, never-got, then-got, F
 
 -- ---- meanings of all tokens
 
-mean-is : {ts : List Token} {ms : List Meaning} → Mean ts ms → map meaningOf ts ≡ ms
+pub mean-is : {ts : List Token} {ms : List Meaning} → Mean ts ms → map meaningOf ts ≡ ms
 mean-is R.none = refl
 mean-is (R.more w q) = ap₂ _∷_ (means-is w) (mean-is q)
 
@@ -37,7 +37,7 @@ taken-allowed (name cs) r s h = refl
 taken-allowed (refused g) r s h = never-got h
 
 -- tokens that are all taken are all allowed
-taken-mean : (ts : List Token) (r s : Reading) → takesAll (map meaningOf ts) r ≡ got s → Mean ts (map meaningOf ts)
+pub taken-mean : (ts : List Token) (r s : Reading) → takesAll (map meaningOf ts) r ≡ got s → Mean ts (map meaningOf ts)
 unfolding takesAll
 taken-mean [] r s h = R.none
 taken-mean (t ∷ ts) r s h =
@@ -105,18 +105,18 @@ pub record Accepted (text : List ℕ) (items names : ℕ) (r : Recipe) : Type 0 
   pub isRecipe : RecipeText text first second
   pub same : r ≡ recipe first second
 
-finished-complete : (s : Reading) (r : Recipe) → finished s ≡ got r → isComplete s ≡ true
+pub finished-complete : (s : Reading) (r : Recipe) → finished s ≡ got r → isComplete s ≡ true
 unfolding finished
 finished-complete s r h = either (isComplete s) (λ e. e) (λ e. never-got (rw e at h))
 
 -- the elements of a text that is taken to its end are two
 module _ (s : Reading) (c : isComplete s ≡ true) where
   -- what is left after x
-  behind : (x : Element) (r : Reading) (ms : List Meaning) → takesAll (spelled x ++ ms) r ≡ got s → takesAll ms (after x r) ≡ got s
+  pub behind : (x : Element) (r : Reading) (ms : List Meaning) → takesAll (spelled x ++ ms) r ≡ got s → takesAll ms (after x r) ≡ got s
   behind x r ms h = sym (element-taken x r ms (element-fits x r ms s h)) ∙ h
 
   -- a reading that is the last one is complete
-  complete : (r : Reading) → takesAll [] r ≡ got s → isComplete r ≡ true
+  pub complete : (r : Reading) → takesAll [] r ≡ got s → isComplete r ≡ true
   unfolding takesAll
   complete r h = subst (λ q. isComplete q ≡ true) (sym (got-only h)) c
 
@@ -130,7 +130,7 @@ module _ (s : Reading) (c : isComplete s ≡ true) where
       let l = behind y (after x begin) (spelled z ++ spelledAll zs) k in
       never refl (element-fits z (after y (after x begin)) (spelledAll zs) s l .room)
 
-spelled-by : {ms : List Meaning} → Rest 0 ms → (xs : Elements) × (ms ≡ spelledAll xs)
+pub spelled-by : {ms : List Meaning} → Rest 0 ms → (xs : Elements) × (ms ≡ spelledAll xs)
 spelled-by (last xs) = (xs, refl)
 
 module _ (text : List ℕ) (short : length text ≤ textBytesMost) where

@@ -17,7 +17,7 @@ use Rattle.reading.specs.Token.{Token, open′, close′, bad, flag, run, token
 use Rattle.reading.specs.Meaning.{Meaning, begins, ends, constant, name, refused, isNegative, unsigned, isNumeral, fraction, isFraction, signed, numeralOf, isName, nameOf, meaningOf}
 use Rattle.reading.specs.Numbering.{baseNames, numberOf, withName}
 use Rattle.reading.specs.Elements.{Answer, got, refusedFor, then, Reading, start, isComplete, counted, put, named, opened, closed, isWithin, begin, takes, takesAll}
-use Rattle.reading.specs.Read.{Recipe, finished, recipeOver, recipeOf, read, nameBytes}
+use Rattle.reading.specs.Read.{Recipe, finished, recipeOver, elementsOf, readElements, read, nameBytes}
 
 -- a name or ground of a meaning, the names or the ground of an answer
 abbrev Short : Meaning → Type 0
@@ -110,18 +110,29 @@ finished-short (refusedFor g) h = h
 
 -- ---- texts
 
-recipe-short : (text : List ℕ) → ShortRecipe (recipeOf text)
-unfolding recipeOf recipeOver start baseNames allOf isShort
-recipe-short text = finished-short (takesAll (map meaningOf (tokens text)) (start baseNames 2)) (all-short (tokens text) (start baseNames 2) base)
+elements-short : (wanted : ℕ) (text : List ℕ) → ShortRecipe (elementsOf wanted text)
+unfolding elementsOf recipeOver start baseNames allOf isShort
+elements-short wanted text = finished-short (takesAll (map meaningOf (tokens text)) (start baseNames wanted)) (all-short (tokens text) (start baseNames wanted) base)
   where
     base : allOf isShort baseNames ≡ true
     base = refl
 
+elements-read-short : (wanted : ℕ) (text : List ℕ) (items names : ℕ) → ShortRecipe (readElements wanted text items names)
+unfolding readElements
+elements-read-short wanted text items names =
+    either (ltb items itemWordsLeast || ltb names nameBytesLeast) (λ e. rw e (omega arith))
+    (λ e. either (ltb textBytesMost (length text)) (λ l. rw (e, l) (omega arith)) (λ l. rw (e, l) (elements-short wanted text)))
+
+-- no name of an accepted text is longer than a slot holds
+pub names-short : (wanted : ℕ) (text : List ℕ) (items names : ℕ) (r : Recipe) → readElements wanted text items names ≡ got r → allOf isShort (r .names) ≡ true
+names-short wanted text items names r e = subst ShortRecipe e (elements-read-short wanted text items names)
+
+pub elements-ground : (wanted : ℕ) (text : List ℕ) (items names : ℕ) (g : ℕ) → readElements wanted text items names ≡ refusedFor g → g ≤ 6
+elements-ground wanted text items names g e = subst ShortRecipe e (elements-read-short wanted text items names)
+
 read-short : (text : List ℕ) (items names : ℕ) → ShortRecipe (read text items names)
 unfolding read
-read-short text items names =
-    either (ltb items itemWordsLeast || ltb names nameBytesLeast) (λ e. rw e (omega arith))
-    (λ e. either (ltb textBytesMost (length text)) (λ l. rw (e, l) (omega arith)) (λ l. rw (e, l) (recipe-short text)))
+read-short = elements-read-short 2
 
 pub read-slots : (text : List ℕ) (items names : ℕ) (r : Recipe) → read text items names ≡ got r → length (nameBytes r) ≡ 64 * length (r .names)
 unfolding nameBytes

@@ -19,6 +19,7 @@ use Rattle.reading.specs.Laws.Elements.{names-grow-all}
 use Rattle.reading.specs.Laws.Meanings.{fraction-places}
 use Rattle.reading.specs.AcceptedLaws.{number-most}
 use Rattle.reading.specs.RecipeText as R
+use Rattle.reading.specs.CoreText.{one, CoreText, coreElement}
 use Rattle.reading.specs.RecipeText.{HasTokens, Means, Mean, Element, Elements, constantE, nameE, listE, noneE, moreE, spelled, spelledAll, namesOf, namesOfAll, numbered, numberedAll, both, RecipeText, recipe}
 use Rattle.reading_layout.specs.Items.{fits, fitAll}
 
@@ -101,3 +102,7 @@ mutual
 pub recipe-fits : (text : List ℕ) (x y : Element) → RecipeText text x y → fitAll (recipe x y .elements) ≡ true
 unfolding recipe
 recipe-fits text x y t = elements-fit (both x y) baseNames (mean-good (t .allowed) (tokens-good (t .hasTokens))) (t .fewNames)
+
+pub core-fits : (text : List ℕ) (x : Element) → CoreText text x → fitAll (coreElement x .elements) ≡ true
+unfolding coreElement
+core-fits text x t = elements-fit (one x) baseNames (mean-good (t .allowed) (tokens-good (t .hasTokens))) (t .fewNames)

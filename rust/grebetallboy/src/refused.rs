@@ -3,7 +3,7 @@
 use std::fmt;
 
 /// What each number means, from 1 on, as the table of README.md has it.
-const MEANINGS: [&str; 20] = [
+const MEANINGS: [&str; 22] = [
     "reading is lent fewer than 12,288 item words or 65,536 name bytes",
     "the text has more than 65,535 bytes",
     "a byte or token is not allowed",
@@ -24,9 +24,11 @@ const MEANINGS: [&str; 20] = [
     "a step's result would take the sum past the fuel",
     "writing's words are not exactly one core term",
     "the output is shorter than the text",
+    "a supplier's text is not in the core grammar",
+    "a name in a supplier's text is neither bound round it nor an operation",
 ];
 
-/// What a number of document 01 means; nothing for a number that is none of its twenty.
+/// What a number of documents 01 and 02 means; nothing for one that no call answers.
 pub fn meaning(ground: u32) -> Option<&'static str> {
     MEANINGS.get((ground as usize).checked_sub(1)?).copied()
 }
@@ -41,7 +43,7 @@ pub struct Refused {
 
 impl fmt::Display for Refused {
     fn fmt(&self, f: &mut fmt::Formatter<'_>) -> fmt::Result {
-        write!(f, "refused with {}: {}", self.ground, meaning(self.ground).unwrap_or("no number of document 01"))
+        write!(f, "refused with {}: {}", self.ground, meaning(self.ground).unwrap_or("no number of documents 01 and 02"))
     }
 }
 

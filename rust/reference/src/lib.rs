@@ -2,16 +2,17 @@
 //!
 //! The modules follow the paper: [`text`] reads a recipe text, [`table`] holds the item table and its layout,
 //! [`tree`] the trees with their marks and bindings, [`rules`] what macros are, [`expand`] the forms and the run,
-//! [`core`] the core term, its words and its text.
+//! [`core`] the core term, its words and its text, [`supplier`] a supplier's expansion held against ours.
 
 pub mod core;
 pub mod expand;
 pub mod rules;
+pub mod supplier;
 pub mod table;
 pub mod text;
 pub mod tree;
 
-/// A ground for refusing, 1 to 20.
+/// A ground for refusing, 1 to 22.
 pub type Ground = u32;
 
 /// Names 0 to 7.
@@ -32,5 +33,23 @@ pub fn file(text: &[u8], fuel: u32) -> String {
             let term = core::text(&run.core, 256, &recipe.name_table()).expect("an accepted run's words are a term");
             format!("accepted {} {}\n{}\n", run.steps, run.sum, String::from_utf8_lossy(&term))
         }
+    }
+}
+
+/// What the program that holds a supplier's text against a recipe prints.
+pub fn compare(recipe: &[u8], text: &[u8], fuel: u32) -> String {
+    let answer = || {
+        let recipe = text::read(recipe)?;
+        let items = recipe.words();
+        let (work, core) = expand::table_words(items.len() / 3, fuel);
+        let run = expand::run(&items, fuel, work, core);
+        run.outcome?;
+        let (mut items2, mut names2) = (vec![0; 12_288], vec![0; 65_536]);
+        supplier::compare(&items, &recipe.name_table(), &run.core, text, &mut items2, &mut names2)
+    };
+    match answer() {
+        Ok(true) => "yes\n".to_string(),
+        Ok(false) => "no\n".to_string(),
+        Err(ground) => format!("refused {ground}\n"),
     }
 }

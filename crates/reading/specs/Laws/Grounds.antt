@@ -47,7 +47,7 @@ use Rattle.reading.specs.Elements.{
   takes,
   takesAll,
 }
-use Rattle.reading.specs.Read.{Recipe, finished, recipeOver, recipeOf, read}
+use Rattle.reading.specs.Read.{Recipe, finished, recipeOver, elementsOf, recipeOf, read}
 
 -- a ground of a meaning, and of an answer, is at least 3
 abbrev High : Meaning → Type 0
@@ -120,12 +120,12 @@ finished-high r = either (isComplete r) (λ c. rw c (omega arith)) (λ c. rw c (
 
 -- ---- texts
 
-recipe-high : (text : List ℕ) → HighAnswer (recipeOf text)
-unfolding recipeOf recipeOver
-recipe-high text = then-high (takesAll (map meaningOf (tokens text)) (start baseNames 2)) finished (all-high (tokens text) (start baseNames 2)) finished-high
+elements-high : (wanted : ℕ) (text : List ℕ) → HighAnswer (elementsOf wanted text)
+unfolding elementsOf recipeOver
+elements-high wanted text = then-high (takesAll (map meaningOf (tokens text)) (start baseNames wanted)) finished (all-high (tokens text) (start baseNames wanted)) finished-high
 
-pub ground-high : (text : List ℕ) (g : ℕ) → recipeOf text ≡ refusedFor g → 3 ≤ g
-ground-high text g e = subst (λ a. HighAnswer a) e (recipe-high text)
+pub ground-high : (wanted : ℕ) (text : List ℕ) (g : ℕ) → elementsOf wanted text ≡ refusedFor g → 3 ≤ g
+ground-high wanted text g e = subst (λ a. HighAnswer a) e (elements-high wanted text)
 
 -- ---- calls
 
@@ -142,7 +142,7 @@ read-some : (text : List ℕ) (items names : ℕ) → SomeAnswer (read text item
 unfolding read
 read-some text items names =
     either (ltb items itemWordsLeast || ltb names nameBytesLeast) (λ e. rw e (omega arith))
-    (λ e. either (ltb textBytesMost (length text)) (λ l. rw (e, l) (omega arith)) (λ l. rw (e, l) (high-some (recipeOf text) (recipe-high text))))
+    (λ e. either (ltb textBytesMost (length text)) (λ l. rw (e, l) (omega arith)) (λ l. rw (e, l) (high-some (recipeOf text) (elements-high 2 text))))
 
 pub ground-some : (text : List ℕ) (items names g : ℕ) → read text items names ≡ refusedFor g → 1 ≤ g
 ground-some text items names g e = subst (λ a. SomeAnswer a) e (read-some text items names)

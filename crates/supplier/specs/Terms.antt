@@ -1,0 +1,39 @@
+-- What the code answers of an expression against words.
+use mathlib.Core.Path.{_≡_}
+use mathlib.Core.Bool.{Bool, true, _&&_}
+use mathlib.Core.List.{List, [], _∷_, _++_, map}
+use Prim.Native.Nat.{ℕ, zero, suc}
+use lib.Dec.{ltb, leb}
+use lib.ListN.{length, getD}
+use Rattle.words.specs.Limits.{formalsMost}
+use Rattle.datum.specs.NameTable.{nameAt}
+use Rattle.core_term.specs.Term.{variableC, operationC, datumC, ifC, lambdaC, applicationC, noneC, moreC, Plain, Plains}
+use Rattle.core_term.specs.Words.{encode}
+use Rattle.comparison.specs.Agrees.{Scope, meant, sameName}
+use Rattle.supplier.specs.declared.quoted.Agreed.{Agreed}
+use Rattle.supplier.specs.Quoted.{Right, isGood}
+
+-- the scope that the first `top` names and variables are
+unfoldable pub scopeOf : List ℕ → List ℕ → ℕ → Scope
+scopeOf names variables zero = []
+scopeOf names variables (suc k) = (getD names k 0, getD variables k 0) ∷ scopeOf names variables k
+
+-- a term with so many operations whose data are good and whose lambdas have 0 to 8 variables
+unfoldable mutual
+  pub isGoodTerm : List ℕ → ℕ → Plain → Bool
+  isGoodTerm ours operations (variableC v) = true
+  isGoodTerm ours operations (operationC p) = ltb p operations
+  isGoodTerm ours operations (datumC d) = isGood ours d
+  isGoodTerm ours operations (ifC x y z) = isGoodTerm ours operations x && (isGoodTerm ours operations y && isGoodTerm ours operations z)
+  isGoodTerm ours operations (lambdaC v fs x) = leb (length fs) formalsMost && isGoodTerm ours operations x
+  isGoodTerm ours operations (applicationC h ts) = isGoodTerm ours operations h && areGoodTerms ours operations ts
+
+  pub areGoodTerms : List ℕ → ℕ → Plains → Bool
+  areGoodTerms ours operations noneC = true
+  areGoodTerms ours operations (moreC t ts) = isGoodTerm ours operations t && areGoodTerms ours operations ts
+
+-- a name, with the operations by number
+abbrev pub ReferenceRight : (words theirs ours operations names variables : List ℕ) (top n : ℕ) → Agreed → Type 0
+ReferenceRight words theirs ours operations names variables top n r =
+    (t : Plain) (rest : List ℕ) → isGoodTerm ours (length operations) t ≡ true → words ≡ encode t ++ rest
+    → Right (sameName (nameAt theirs) (nameAt ours) (map (nameAt ours) operations) n (meant n (scopeOf names variables top)) t) (length (encode t)) r
