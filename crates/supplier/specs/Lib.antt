@@ -16,3 +16,5 @@ pub mod DataLaws
 pub mod Terms
 pub mod TermsLaws
 pub mod BoundLaws
+pub mod FormsLaws
+pub mod OperandsLaws
