@@ -18,3 +18,4 @@ pub mod TermsLaws
 pub mod BoundLaws
 pub mod FormsLaws
 pub mod OperandsLaws
+pub mod TermWalkLaws

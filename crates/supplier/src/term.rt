@@ -77,7 +77,7 @@ fn reference(
 
 // A lambda's n variables, numbered from `first` on, behind the first `top`.
 fn number(bound: &mut [usize], top: usize, n: usize, first: u32)
-    requires { ⌜ (top + n ≤ length (now bound)) × (n ≤ 8) ⌝ }
+    requires { ⌜ top + n ≤ length (now bound) ⌝ }
     ensures numbered { λ r. ⌜ round (now (bound .exit)) (top + n) ≡ inside (numbers first n) (round (now (bound .entry)) top) ⌝ }
     ensures kept { λ r. ⌜ Kept top (now (bound .entry)) (now (bound .exit)) ⌝ }
 {

@@ -64,7 +64,7 @@ loop-less c =
 -- src/term.rt:85:5
 loop-again : tie.Need-loop-again Inv-loop μ-loop
 loop-again c =
-    (omega arith, length-set (c .before .before .loop .bound) (c .before .before .before .before .args .top + c .before .before .loop .k) (c .wide .result + c .before .before .loop .k) ∙ c .before .before .loop .inv .1, kept-set (c .before .before .before .before .args .top) (c .before .before .loop .k) (c .wide .result + c .before .before .loop .k) (c .before .before .before .before .args .bound .now) (c .before .before .loop .bound) (c .before .before .loop .inv .2), numbered-more (c .before .before .before .before .args .first) (c .before .before .before .before .args .top) (c .before .before .loop .k) (c .before .before .loop .bound) (c .wide .result + c .before .before .loop .k) (c .before .before .loop .k + 1) (ap (λ x. x + c .before .before .loop .k) (c .wide .ensures)) refl (omega (arith, c .before .loop-test .taken, c .before .before .before .before .pre .0, c .before .before .loop .inv .1)) (c .before .before .loop .inv .3))
+    (omega arith, length-set (c .before .before .loop .bound) (c .before .before .before .before .args .top + c .before .before .loop .k) (c .wide .result + c .before .before .loop .k) ∙ c .before .before .loop .inv .1, kept-set (c .before .before .before .before .args .top) (c .before .before .loop .k) (c .wide .result + c .before .before .loop .k) (c .before .before .before .before .args .bound .now) (c .before .before .loop .bound) (c .before .before .loop .inv .2), numbered-more (c .before .before .before .before .args .first) (c .before .before .before .before .args .top) (c .before .before .loop .k) (c .before .before .loop .bound) (c .wide .result + c .before .before .loop .k) (c .before .before .loop .k + 1) (ap (λ x. x + c .before .before .loop .k) (c .wide .ensures)) refl (omega (arith, c .before .loop-test .taken, c .before .before .before .before .pre, c .before .before .loop .inv .1)) (c .before .before .loop .inv .3))
 
 -- src/term.rt:79:1
 same-length : tie.Need-same-length Inv-loop μ-loop
