@@ -1,18 +1,18 @@
 -- Laws of forms against words: the expression that an element is, by its shape, and our term, by its first word.
 use mathlib.Core.Path.{_≡_, refl, sym, ap, ap₂, subst, _∙_}
 use mathlib.Core.Bool.{Bool, true, false, _&&_, and-true}
-use mathlib.Core.List.{List, [], _∷_, _++_, map, append-assoc, append-nil}
+use mathlib.Core.List.{List, _∷_, _++_, map, append-assoc, append-nil}
 use mathlib.Core.Option.{Option, none, some}
 use Prim.Native.Nat.{ℕ, zero, suc, _+_, _≤_, _<_}
 use native.Mathlib.Omega.{arith}
-use lib.Dec.{eqb, ltb, leb}
+use lib.Dec.{eqb, leb}
 use lib.ListN.{length, getD, drop, length-append}
 use lib.Seq.{drop-at}
-use borrow.Author.Tests.{eqb-true, eqb-false, eq-eqb, leb-true}
+use borrow.Author.Tests.{eqb-true, eqb-false, eq-eqb}
 use Rattle.words.specs.Limits.{formalsMost}
 use Rattle.words.specs.Options.{onlyIf, mapSome, mapBoth}
-use Rattle.words.specs.TestLaws.{and-left, and-right, and-both, and-none-right}
-use Rattle.datum.specs.Constant.{Constant, isConstant, constantWords, integer, boolean, decimal}
+use Rattle.words.specs.TestLaws.{and-right}
+use Rattle.datum.specs.Constant.{Constant, isConstant, integer, boolean, decimal}
 use Rattle.datum.specs.ConstantLaws.{words-decimal, words-other, kind-most, constant-case}
 use Rattle.datum.specs.Datum.{Datum, constantD, nameD, listD, Data, noneD, moreD}
 use Rattle.datum.specs.Datum as D
@@ -22,7 +22,7 @@ use Rattle.core_term.specs.Term.{variableC, operationC, datumC, ifC, lambdaC, a
 use Rattle.core_term.specs.Words.{datumWords, encode, encodeAll}
 use Rattle.comparison.specs.Expression.{Expression, referenceE, datumE, ifE, lambdaE, applicationE, Expressions, noneE, moreE}
 use Rattle.comparison.specs.Grammar.{isFree, theOne, first, after, quoted, conditional, formals, withBody, applied, headed, expressionOf, expressionsOf, laterOf}
-use Rattle.comparison.specs.Agrees.{Scope, bind, onDatum, onIf, onLambda, onApplication, sameDatum, agrees, agreeAll}
+use Rattle.comparison.specs.Agrees.{Scope, bind, onDatum, onIf, onLambda, onApplication, agrees, agreeAll}
 use Rattle.comparison.specs.BindersLaws.{either}
 use Rattle.comparison.specs.Same.{Same, SameAll, datum′, if′, lambda′, application′, none′, more′}
 use Rattle.comparison.specs.SameLaws.{agrees-says}
@@ -34,7 +34,7 @@ use Rattle.supplier.specs.Judged.{formOf, lambdaOf}
 use Rattle.supplier.specs.ListLaws.{none-some, some-is, size, size-is}
 use Rattle.supplier.specs.WalkLaws.{form-most, list-whole, list-headed}
 use Rattle.supplier.specs.Quoted.{Right, isGood, DatumRight}
-use Rattle.supplier.specs.Terms.{scopeOf, isGoodTerm, areGoodTerms, quotedOf, conditionalOf, applicationOf, AllRight, ExpressionRight}
+use Rattle.supplier.specs.Terms.{scopeOf, isGoodTerm, areGoodTerms, quotedOf, conditionalOf, applicationOf, AllRight}
 
 -- ---- answers that are there
 

@@ -1,15 +1,14 @@
 -- Laws of expressions one behind the other against our terms.
 use mathlib.Core.Path.{_≡_, refl, sym, ap, ap₂, subst, _∙_}
 use mathlib.Core.Bool.{Bool, true, false, _&&_}
-use mathlib.Core.List.{List, [], _∷_, _++_, map, append-assoc}
-use mathlib.Core.Option.{Option, none, some}
-use Prim.Native.Nat.{ℕ, zero, suc, _+_, _*_, _≤_, _<_}
+use mathlib.Core.List.{List, _++_, map, append-assoc}
+use mathlib.Core.Option.{some}
+use Prim.Native.Nat.{ℕ, _+_}
 use native.Mathlib.Omega.{arith}
 use lib.ListN.{length, drop, length-append}
 use lib.Seq.{drop-at, drop-drop}
-use Rattle.words.specs.Options.{mapSome, mapBoth}
 use Rattle.words.specs.TestLaws.{and-left, and-right}
-use Rattle.datum.specs.Datum.{Datum, Data, noneD, moreD}
+use Rattle.datum.specs.Datum.{Data, noneD}
 use Rattle.datum.specs.Datum as D
 use Rattle.datum.specs.NameTable.{nameAt}
 use Rattle.recipe.specs.Table.{kindAt}
@@ -25,7 +24,7 @@ use Rattle.supplier.specs.Items.{DatumAt, DataAt, PairAt}
 use Rattle.supplier.specs.ItemsLaws.{pair-kind, none-kind}
 use Rattle.supplier.specs.ListLaws.{some-is}
 use Rattle.supplier.specs.Quoted.{Right}
-use Rattle.supplier.specs.Terms.{scopeOf, isGoodTerm, areGoodTerms, AllRight, ExpressionRight}
+use Rattle.supplier.specs.Terms.{scopeOf, isGoodTerm, areGoodTerms, ExpressionRight}
 use Rattle.supplier.specs.FormsLaws.{both-some}
 
 -- how the two sides spell their names, and what is in scope

@@ -1,19 +1,19 @@
 -- Laws of the walk through an expression against words, in the code's shape.
 use mathlib.Core.Path.{_≡_, refl, sym, ap, subst, _∙_}
-use mathlib.Core.Bool.{Bool, true, false}
+use mathlib.Core.Bool.{true}
 use mathlib.Core.List.{List, _++_, map}
 use mathlib.Core.Option.{some}
-use Prim.Native.Nat.{ℕ, suc, _+_, _*_, _≤_, _<_}
+use Prim.Native.Nat.{ℕ, _+_, _*_, _≤_, _<_}
 use native.Mathlib.Omega.{arith}
 use lib.ListN.{length, getD, drop}
-use Rattle.datum.specs.Datum.{Datum, constantD, nameD, listD, Data, noneD, moreD, datumItems}
+use Rattle.datum.specs.Datum.{Datum, constantD, nameD, listD, Data, noneD, moreD}
 use Rattle.datum.specs.Datum as D
 use Rattle.datum.specs.NameTable.{nameAt}
 use Rattle.recipe.specs.Table.{kindAt}
 use Rattle.recipe.specs.TreeFrom.{headAt, tailAt}
 use Rattle.core_term.specs.Term.{Plain}
 use Rattle.core_term.specs.Words.{encode}
-use Rattle.comparison.specs.Expression.{Expression, referenceE, datumE, lambdaE}
+use Rattle.comparison.specs.Expression.{Expression, datumE}
 use Rattle.comparison.specs.Grammar.{formals, expressionOf}
 use Rattle.comparison.specs.Agrees.{Scope, bind, agrees}
 use Rattle.comparison.specs.Binders.{numbers}
@@ -31,7 +31,6 @@ use Rattle.supplier.specs.WalkLaws.{TwoAt, two-at}
 use Rattle.supplier.specs.Quoted.{Right}
 use Rattle.supplier.specs.QuotedLaws.{not-so}
 use Rattle.supplier.specs.Terms.{scopeOf, isGoodTerm, quotedOf, conditionalOf, applicationOf, ReferenceRight, DatumTermRight, ExpressionRight, FormRight}
-use Rattle.supplier.specs.TermsLaws.{term-two}
 use Rattle.supplier.specs.BoundLaws.{bound-scope}
 use Rattle.supplier.specs.FormsLaws.{name-expression, constant-expression, empty-expression, quoted-is, conditional-is, lambda-is, application-is, quoted-none, quoted-datum, Lambda, lambda-of, lambda-two, lambda-first, lambda-no, lambda-yes}
 
