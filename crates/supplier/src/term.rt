@@ -18,6 +18,7 @@ use crate::grammar::formals;
 use crate::names::same_name;
 use crate::quoted::Agreed;
 use crate::quoted::datum;
+use crate::quoted::wide;
 use crate::scope::innermost;
 use core_term::codes;
 use layout::item::NAME;
@@ -25,12 +26,6 @@ use layout::item::PAIR;
 use layout::item::head;
 use layout::item::kind;
 use layout::item::tail;
-
-fn wide(n: u32) -> usize
-    ensures { λ r. ⌜ r ≡ n ⌝ }
-{
-    n as usize
-}
 
 // A name: the variable of its innermost formal, or an operation of its spelling.
 fn reference(

@@ -25,7 +25,7 @@ use Rattle.supplier.proofs.grammar.formals.Reads as formals-reads
 use Rattle.supplier.proofs.term.datum_term.Reads as datum-term-reads
 use Rattle.supplier.proofs.term.number.Reads as number-reads
 use Rattle.supplier.proofs.term.reference.Reads as reference-reads
-use Rattle.supplier.proofs.term.wide.Reads as wide-reads
+use Rattle.supplier.proofs.quoted.wide.Reads as wide-reads
 use Rattle.supplier.proofs.term.+all+application+conditional+expression+lambda.{statement}
 use Rattle.supplier.proofs.term.+all+application+conditional+expression+lambda.Tie.{close}
 use mathlib.Core.Path.{_≡_, refl, sym, ap, subst, _∙_}

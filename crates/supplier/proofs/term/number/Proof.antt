@@ -2,7 +2,7 @@ use Rattle.supplier.proofs.term.number.Statement.{statement}
 use Rattle.supplier.proofs.term.number.Tie as tie
 use Rattle.supplier.proofs.term.number.Reads as reads
 use Rattle.supplier.proofs.term.number.Lts as lts
-use Rattle.supplier.proofs.term.wide.Reads as wide-reads
+use Rattle.supplier.proofs.quoted.wide.Reads as wide-reads
 use mathlib.Core.Path.{_≡_, refl, sym, ap, _∙_}
 use Prim.Native.Nat.{_+_, _-_, _≤_}
 use native.Mathlib.Omega.{arith}

@@ -6,7 +6,7 @@ use Rattle.supplier.proofs.term.reference.Lts as lts
 use Rattle.supplier.proofs.names.same_name.Reads as same-name-reads
 use Rattle.supplier.proofs.scope.innermost.Reads as innermost-reads
 use Rattle.supplier.proofs.scope.wide.Reads as scope-wide-reads
-use Rattle.supplier.proofs.term.wide.Reads as term-wide-reads
+use Rattle.supplier.proofs.quoted.wide.Reads as term-wide-reads
 use mathlib.Core.Path.{_≡_, refl, sym, ap, subst, _∙_}
 use native.Mathlib.Omega.{arith}
 use lib.ListN.{getD}
