@@ -1,5 +1,5 @@
 -- What yes says of a text that was read, and which texts get it.
-use mathlib.Core.Path.{_≡_, refl, sym, ap, _∙_}
+use mathlib.Core.Path.{_≡_, refl, sym, ap, ap₂, _∙_}
 use mathlib.Core.Bool.{Bool, true, false, cond}
 use mathlib.Core.List.{List, []}
 use mathlib.Core.Option.{Option, none, some}
@@ -20,6 +20,8 @@ use Rattle.comparison.specs.Agrees.{agrees}
 use Rattle.comparison.specs.Compare.{Verdict, yes, no, refusedOn, decided, held}
 use Rattle.comparison.specs.Binders.{binders, ourBinders}
 use Rattle.comparison.specs.BindersLaws.{either, yes-binders}
+use Rattle.comparison.specs.Renamed.{Renamed}
+use Rattle.comparison.specs.RenamedLaws.{agrees-renamed, closed-renamed}
 use Rattle.comparison.specs.Rendering.{Choice, render, Uncaptured}
 use Rattle.comparison.specs.RenderingLaws.{rendering-agrees}
 use Rattle.comparison.specs.Written.{written, isExpression}
@@ -40,6 +42,12 @@ module _ (ours : ℕ → List ℕ) (operations : List (List ℕ)) (t : Plain) (r
   abbrev theirs : ℕ → List ℕ
   theirs = nameAt (nameBytes r)
 
+  -- the verdict of a text whose one element is an expression
+  held-is : (d : Datum) (x : Expression) → r .elements ≡ moreD d noneD → expressionOf d ≡ some x
+      → held ours operations t (got r) ≡ decided theirs ours operations t (some x)
+  unfolding held theOne after
+  held-is d x e f = ap (λ ds. decided theirs ours operations t (after (theOne ds) expressionOf)) e ∙ ap (decided theirs ours operations t) f
+
   -- ---- yes of a text whose element agrees
 
   module _ (nameGood : ℕ → Bool) (h : allKnown (length operations) nameGood t ≡ true) where
@@ -49,9 +57,7 @@ module _ (ours : ℕ → List ℕ) (operations : List (List ℕ)) (t : Plain) (r
 
     pub agrees-yes : (d : Datum) (x : Expression) → r .elements ≡ moreD d noneD → expressionOf d ≡ some x → agrees theirs ours operations [] x t ≡ true
         → held ours operations t (got r) ≡ yes
-    unfolding held theOne after
-    agrees-yes d x e f a =
-        ap (λ ds. decided theirs ours operations t (after (theOne ds) expressionOf)) e ∙ ap (decided theirs ours operations t) f ∙ decided-yes x a
+    agrees-yes d x e f a = held-is d x e f ∙ decided-yes x a
 
     -- yes for every rendering of our term
     pub rendering-yes : (c : Choice) → isExpression (render c t) ≡ true → Uncaptured c theirs ours operations [] t
@@ -90,3 +96,17 @@ module _ (ours : ℕ → List ℕ) (operations : List (List ℕ)) (t : Plain) (r
   -- after yes, each reference has the same binder in both terms
   pub yes-same-binders : numbered t ≡ true → (h : held ours operations t (got r) ≡ yes) → binders [] (yes-told h .expression) ≡ ourBinders [] t
   yes-same-binders n h = let d = yes-told h in yes-binders theirs ours operations (d .expression) t n (d .agreed)
+
+-- ---- the choice of bound names
+
+-- two texts, each with its own name table, whose elements differ in the choice of bound names get one verdict
+pub renamed-verdict : (ours : ℕ → List ℕ) (operations : List (List ℕ)) (t : Plain) (r s : Recipe) (x y : Expression)
+    → isExpression x ≡ true → r .elements ≡ moreD (written x) noneD → isExpression y ≡ true → s .elements ≡ moreD (written y) noneD
+    → Renamed (nameAt (nameBytes r)) (nameAt (nameBytes s)) [] x y → held ours operations t (got r) ≡ held ours operations t (got s)
+unfolding decided
+renamed-verdict ours operations t r s x y g e h f p =
+    let here = nameAt (nameBytes r) in
+    let there = nameAt (nameBytes s) in
+    held-is ours operations t r (written x) x e (written-read x g)
+    ∙ ap₂ (λ c a. cond c (cond a yes no) (refusedOn 22)) (closed-renamed here there ours operations p) (agrees-renamed here there ours operations t p)
+    ∙ sym (held-is ours operations t s (written y) y f (written-read y h))
