@@ -80,1108 +80,306 @@ abbrev all-μ-loop : all-lts.MeasureT-loop
 all-μ-loop items theirs ours operations scope₀ top i j₀ opened₀ scope j opened =
     length items - j
 
--- src/grammar.rt:248:5
-all-loop-holds : (t : ℕ) → all-lts.Need-loop-holds (
-  kind-reads.Asked,
-  kind-reads.Learnt,
-  head-reads.Asked,
-  head-reads.Learnt,
-  expression-below t,
-  expression.Post,
-  is-outside-reads.Asked,
-  is-outside-reads.Learnt,
-  open-after-reads.Asked,
-  open-after-reads.Learnt,
-  tail-reads.Asked,
-  tail-reads.Learnt,
-) (all-at t) all.Post all-Inv-loop all-μ-loop
-all-loop-holds t c =
-    (c .before .before .before .before .before .pre .1 .0, judging-start (isOperation (c .before .before .before .before .before .args .theirs .now) (c .before .before .before .before .before .args .ours .now) (c .before .before .before .before .before .args .operations .now)) (round (c .before .before .before .before .before .args .scope .now) (c .before .before .before .before .before .args .top)) (c .before .before .before .before .before .args .items .now) (c .before .before .before .before .before .args .i), (λ k l. refl), refl, omega arith)
+abbrev all-claims : ℕ → all-lts.Claims
+all-claims t = (kind-reads.Asked, kind-reads.Learnt, head-reads.Asked, head-reads.Learnt, expression-below t, expression.Post, is-outside-reads.Asked, is-outside-reads.Learnt, open-after-reads.Asked, open-after-reads.Learnt, tail-reads.Asked, tail-reads.Learnt)
 
--- src/grammar.rt:248:11
-all-kind-requires : (t : ℕ) → all-lts.Need-kind-requires (
-  kind-reads.Asked,
-  kind-reads.Learnt,
-  head-reads.Asked,
-  head-reads.Learnt,
-  expression-below t,
-  expression.Post,
-  is-outside-reads.Asked,
-  is-outside-reads.Learnt,
-  open-after-reads.Asked,
-  open-after-reads.Learnt,
-  tail-reads.Asked,
-  tail-reads.Learnt,
-) (all-at t) all.Post all-Inv-loop all-μ-loop
+abbrev expression-claims : ℕ → expression-lts.Claims
+expression-claims t = (kind-reads.Asked, kind-reads.Learnt, head-reads.Asked, head-reads.Learnt, name-judged-reads.Asked, name-judged-reads.Learnt, form-reads.Asked, form-reads.Learnt, tail-reads.Asked, tail-reads.Learnt, is-quotation-reads.Asked, is-quotation-reads.Learnt, count-reads.Asked, count-reads.Learnt, all-below t, all.Post, lambda-below t, lambda.Post)
+
+abbrev lambda-claims : ℕ → lambda-lts.Claims
+lambda-claims t = (count-reads.Asked, count-reads.Learnt, head-reads.Asked, head-reads.Learnt, formals-reads.Asked, formals-reads.Learnt, tail-reads.Asked, tail-reads.Learnt, expression-below t, expression.Post)
+
+all-loop-holds : (t : ℕ) → all-lts.Need-loop-holds (all-claims t) (all-at t) all.Post all-Inv-loop all-μ-loop
+all-loop-holds t c =
+    let args = c .before .before .before .before .before .args in
+    (c .before .before .before .before .before .pre .1 .0, judging-start (isOperation (args .theirs .now) (args .ours .now) (args .operations .now)) (round (args .scope .now) (args .top)) (args .items .now) (args .i), (λ k l. refl), refl, omega arith)
+
+all-kind-requires : (t : ℕ) → all-lts.Need-kind-requires (all-claims t) (all-at t) all.Post all-Inv-loop all-μ-loop
 all-kind-requires t c κs =
     data-in (c .before .before .before .before .before .before .args .items .now) (c .loop .j) (c .loop .inv .0 .0) (c .loop .inv .0 .1)
 
--- src/grammar.rt:249:77
-all-head-requires : (t : ℕ) → all-lts.Need-head-requires (
-  kind-reads.Asked,
-  kind-reads.Learnt,
-  head-reads.Asked,
-  head-reads.Learnt,
-  expression-below t,
-  expression.Post,
-  is-outside-reads.Asked,
-  is-outside-reads.Learnt,
-  open-after-reads.Asked,
-  open-after-reads.Learnt,
-  tail-reads.Asked,
-  tail-reads.Learnt,
-) (all-at t) all.Post all-Inv-loop all-μ-loop
+all-head-requires : (t : ℕ) → all-lts.Need-head-requires (all-claims t) (all-at t) all.Post all-Inv-loop all-μ-loop
 all-head-requires t c κs =
-    data-in (c .before .before .before .before .before .before .before .before .before .args .items .now) (c .before .before .before .loop .j) (c .before .before .before .loop .inv .0 .0) (c .before .before .before .loop .inv .0 .1)
+    let loop = c .before .before .before .loop in
+    data-in (c .before .before .before .before .before .before .before .before .before .args .items .now) (loop .j) (loop .inv .0 .0) (loop .inv .0 .1)
 
--- src/grammar.rt:249:13
-all-expression-requires : (t : ℕ) → all-lts.Need-expression-requires (
-  kind-reads.Asked,
-  kind-reads.Learnt,
-  head-reads.Asked,
-  head-reads.Learnt,
-  expression-below t,
-  expression.Post,
-  is-outside-reads.Asked,
-  is-outside-reads.Learnt,
-  open-after-reads.Asked,
-  open-after-reads.Learnt,
-  tail-reads.Asked,
-  tail-reads.Learnt,
-) (all-at t) all.Post all-Inv-loop all-μ-loop
+all-expression-requires : (t : ℕ) → all-lts.Need-expression-requires (all-claims t) (all-at t) all.Post all-Inv-loop all-μ-loop
 all-expression-requires t c κs =
-    let p = pair-kind (c .before .before .before .before .before .before .before .before .before .before .args .items .now) (c .before .before .before .before .loop .j) (c .before .before .before .before .loop .inv .0 .0) (c .before .before .before .before .loop .inv .0 .1) (sym (c .before .before .before .kind .ensures) ∙ c .before .before .if1 .taken) in
-    (omega (arith, c .before .before .before .before .before .before .before .before .before .before .pre .0, c .head .ensures, p .headIs, c .before .before .before .before .loop .inv .4, data-in (c .before .before .before .before .before .before .before .before .before .before .args .items .now) (c .before .before .before .before .loop .j) (c .before .before .before .before .loop .inv .0 .0) (c .before .before .before .before .loop .inv .0 .1)), ((p .first, subst (λ x. DatumAt (c .before .before .before .before .before .before .before .before .before .before .args .items .now) x (p .first)) (sym (c .head .ensures)) (p .head)), (omega (arith, c .before .before .before .before .before .before .before .before .before .before .pre .1 .1 .0, c .head .ensures, p .headIs, c .before .before .before .before .loop .inv .4), c .before .before .before .before .before .before .before .before .before .before .pre .1 .1 .1, omega (arith, c .before .before .before .before .before .before .before .before .before .before .pre .1 .1 .2, c .before .before .before .before .loop .inv .3)), c .before .before .before .before .before .before .before .before .before .before .pre .1 .2))
+    let args = c .before .before .before .before .before .before .before .before .before .before .args in
+    let pre = c .before .before .before .before .before .before .before .before .before .before .pre in
+    let loop = c .before .before .before .before .loop in
+    let p = pair-kind (args .items .now) (loop .j) (loop .inv .0 .0) (loop .inv .0 .1) (sym (c .before .before .before .kind .ensures) ∙ c .before .before .if1 .taken) in
+    (omega (arith, pre .0, c .head .ensures, p .headIs, loop .inv .4, data-in (args .items .now) (loop .j) (loop .inv .0 .0) (loop .inv .0 .1)), ((p .first, subst (λ x. DatumAt (args .items .now) x (p .first)) (sym (c .head .ensures)) (p .head)), (omega (arith, pre .1 .1 .0, c .head .ensures, p .headIs, loop .inv .4), pre .1 .1 .1, omega (arith, pre .1 .1 .2, loop .inv .3)), pre .1 .2))
 
--- src/grammar.rt:250:12
-all-is-outside-requires : (t : ℕ) → all-lts.Need-is-outside-requires (
-  kind-reads.Asked,
-  kind-reads.Learnt,
-  head-reads.Asked,
-  head-reads.Learnt,
-  expression-below t,
-  expression.Post,
-  is-outside-reads.Asked,
-  is-outside-reads.Learnt,
-  open-after-reads.Asked,
-  open-after-reads.Learnt,
-  tail-reads.Asked,
-  tail-reads.Learnt,
-) (all-at t) all.Post all-Inv-loop all-μ-loop
-all-is-outside-requires t c κs =
-    search needs
-
--- src/grammar.rt:251:13
-all-same-length : (t : ℕ) → all-lts.Need-same-length (
-  kind-reads.Asked,
-  kind-reads.Learnt,
-  head-reads.Asked,
-  head-reads.Learnt,
-  expression-below t,
-  expression.Post,
-  is-outside-reads.Asked,
-  is-outside-reads.Learnt,
-  open-after-reads.Asked,
-  open-after-reads.Learnt,
-  tail-reads.Asked,
-  tail-reads.Learnt,
-) (all-at t) all.Post all-Inv-loop all-μ-loop
+all-same-length : (t : ℕ) → all-lts.Need-same-length (all-claims t) (all-at t) all.Post all-Inv-loop all-μ-loop
 all-same-length t c =
     c .before .before .before .before .expression .kept .1 .1 .1 .1 .0 ∙ c .before .before .before .before .before .before .before .before .before .loop .inv .3
 
--- src/grammar.rt:251:13
-all-returns : (t : ℕ) → all-lts.Need-returns (
-  kind-reads.Asked,
-  kind-reads.Learnt,
-  head-reads.Asked,
-  head-reads.Learnt,
-  expression-below t,
-  expression.Post,
-  is-outside-reads.Asked,
-  is-outside-reads.Learnt,
-  open-after-reads.Asked,
-  open-after-reads.Learnt,
-  tail-reads.Asked,
-  tail-reads.Learnt,
-) (all-at t) all.Post all-Inv-loop all-μ-loop
+all-returns : (t : ℕ) → all-lts.Need-returns (all-claims t) (all-at t) all.Post all-Inv-loop all-μ-loop
 all-returns t c =
-    let z : c .before .before .before .before .before .before .before .before .before .before .before .before .before .before .before .args .top ≡ c .before .before .before .before .before .before .before .before .before .before .before .before .before .before .before .args .top + 0 = omega arith in
-    (judging-outside (isOperation (c .before .before .before .before .before .before .before .before .before .before .before .before .before .before .before .args .theirs .now) (c .before .before .before .before .before .before .before .before .before .before .before .before .before .before .before .args .ours .now) (c .before .before .before .before .before .before .before .before .before .before .before .before .before .before .before .args .operations .now)) (round (c .before .before .before .before .before .before .before .before .before .before .before .before .before .before .before .args .scope .now) (c .before .before .before .before .before .before .before .before .before .before .before .before .before .before .before .args .top)) (c .before .before .before .before .before .before .before .before .before .before .before .before .before .before .before .args .items .now) (c .before .before .before .before .before .before .before .before .before .before .before .before .before .before .before .args .i) (c .before .before .before .before .before .before .before .before .before .loop .j) (c .before .before .before .before .before .before .before .before .before .loop .opened) (c .before .before .before .before .before .before .before .before .before .loop .inv .1) (sym (c .before .before .before .before .before .before .before .before .kind .ensures) ∙ c .before .before .before .before .before .before .before .if1 .taken) (c .before .before .before .before .expression .result) _ (c .before .before .before .before .before .head .ensures) (λ d h. c .before .before .before .before .expression .ensures .0 d h ∙ ap (λ r. judge (isOperation (c .before .before .before .before .before .before .before .before .before .before .before .before .before .before .before .args .theirs .now) (c .before .before .before .before .before .before .before .before .before .before .before .before .before .before .before .args .ours .now) (c .before .before .before .before .before .before .before .before .before .before .before .before .before .before .before .args .operations .now)) r (expressionOf d)) (kept-round (c .before .before .before .before .before .before .before .before .before .before .before .before .before .before .before .args .top) (c .before .before .before .before .before .before .before .before .before .before .before .before .before .before .before .args .scope .now) (c .before .before .before .before .before .before .before .before .before .loop .scope) (c .before .before .before .before .before .before .before .before .before .loop .inv .2))) (sym (c .before .is-outside .ensures) ∙ c .if2 .taken), (kept-on (c .before .before .before .before .before .before .before .before .before .before .before .before .before .before .before .args .top) 0 (c .before .before .before .before .before .before .before .before .before .before .before .before .before .before .before .args .scope .now) (c .before .before .before .before .before .before .before .before .before .loop .scope) (c .before .before .before .before .expression .last .1 .1 .1 .1 .0) (c .before .before .before .before .before .before .before .before .before .loop .inv .2) (subst (λ m. Kept m (c .before .before .before .before .before .before .before .before .before .loop .scope) (c .before .before .before .before .expression .last .1 .1 .1 .1 .0)) z (c .before .before .before .before .expression .ensures .1))))
+    let args = c .before .before .before .before .before .before .before .before .before .before .before .before .before .before .before .args in
+    let loop = c .before .before .before .before .before .before .before .before .before .loop in
+    let expression = c .before .before .before .before .expression in
+    let z : args .top ≡ args .top + 0 = omega arith in
+    (judging-outside (isOperation (args .theirs .now) (args .ours .now) (args .operations .now)) (round (args .scope .now) (args .top)) (args .items .now) (args .i) (loop .j) (loop .opened) (loop .inv .1) (sym (c .before .before .before .before .before .before .before .before .kind .ensures) ∙ c .before .before .before .before .before .before .before .if1 .taken) (expression .result) _ (c .before .before .before .before .before .head .ensures) (λ d h. expression .ensures .0 d h ∙ ap (λ r. judge (isOperation (args .theirs .now) (args .ours .now) (args .operations .now)) r (expressionOf d)) (kept-round (args .top) (args .scope .now) (loop .scope) (loop .inv .2))) (sym (c .before .is-outside .ensures) ∙ c .if2 .taken), (kept-on (args .top) 0 (args .scope .now) (loop .scope) (expression .last .1 .1 .1 .1 .0) (loop .inv .2) (subst (λ m. Kept m (loop .scope) (expression .last .1 .1 .1 .1 .0)) z (expression .ensures .1))))
 
--- src/grammar.rt:253:9
-all-open-after-requires : (t : ℕ) → all-lts.Need-open-after-requires (
-  kind-reads.Asked,
-  kind-reads.Learnt,
-  head-reads.Asked,
-  head-reads.Learnt,
-  expression-below t,
-  expression.Post,
-  is-outside-reads.Asked,
-  is-outside-reads.Learnt,
-  open-after-reads.Asked,
-  open-after-reads.Learnt,
-  tail-reads.Asked,
-  tail-reads.Learnt,
-) (all-at t) all.Post all-Inv-loop all-μ-loop
-all-open-after-requires t c κs =
-    search needs
-
--- src/grammar.rt:254:9
-all-tail-requires : (t : ℕ) → all-lts.Need-tail-requires (
-  kind-reads.Asked,
-  kind-reads.Learnt,
-  head-reads.Asked,
-  head-reads.Learnt,
-  expression-below t,
-  expression.Post,
-  is-outside-reads.Asked,
-  is-outside-reads.Learnt,
-  open-after-reads.Asked,
-  open-after-reads.Learnt,
-  tail-reads.Asked,
-  tail-reads.Learnt,
-) (all-at t) all.Post all-Inv-loop all-μ-loop
+all-tail-requires : (t : ℕ) → all-lts.Need-tail-requires (all-claims t) (all-at t) all.Post all-Inv-loop all-μ-loop
 all-tail-requires t c κs =
-    data-in (c .before .before .before .before .before .before .before .before .before .before .before .before .before .before .before .before .args .items .now) (c .before .before .before .before .before .before .before .before .before .before .loop .j) (c .before .before .before .before .before .before .before .before .before .before .loop .inv .0 .0) (c .before .before .before .before .before .before .before .before .before .before .loop .inv .0 .1)
+    let loop = c .before .before .before .before .before .before .before .before .before .before .loop in
+    data-in (c .before .before .before .before .before .before .before .before .before .before .before .before .before .before .before .before .args .items .now) (loop .j) (loop .inv .0 .0) (loop .inv .0 .1)
 
--- src/grammar.rt:248:5
-all-loop-less : (t : ℕ) → all-lts.Need-loop-less (
-  kind-reads.Asked,
-  kind-reads.Learnt,
-  head-reads.Asked,
-  head-reads.Learnt,
-  expression-below t,
-  expression.Post,
-  is-outside-reads.Asked,
-  is-outside-reads.Learnt,
-  open-after-reads.Asked,
-  open-after-reads.Learnt,
-  tail-reads.Asked,
-  tail-reads.Learnt,
-) (all-at t) all.Post all-Inv-loop all-μ-loop
+all-loop-less : (t : ℕ) → all-lts.Need-loop-less (all-claims t) (all-at t) all.Post all-Inv-loop all-μ-loop
 all-loop-less t c =
-    let p = pair-kind (c .before .before .before .before .before .before .before .before .before .before .before .before .before .before .before .before .before .args .items .now) (c .before .before .before .before .before .before .before .before .before .before .before .loop .j) (c .before .before .before .before .before .before .before .before .before .before .before .loop .inv .0 .0) (c .before .before .before .before .before .before .before .before .before .before .before .loop .inv .0 .1) (sym (c .before .before .before .before .before .before .before .before .before .before .kind .ensures) ∙ c .before .before .before .before .before .before .before .before .before .if1 .taken) in omega (arith, c .tail .ensures, p .tailIs, data-in (c .before .before .before .before .before .before .before .before .before .before .before .before .before .before .before .before .before .args .items .now) (c .before .before .before .before .before .before .before .before .before .before .before .loop .j) (c .before .before .before .before .before .before .before .before .before .before .before .loop .inv .0 .0) (c .before .before .before .before .before .before .before .before .before .before .before .loop .inv .0 .1))
+    let args = c .before .before .before .before .before .before .before .before .before .before .before .before .before .before .before .before .before .args in
+    let loop = c .before .before .before .before .before .before .before .before .before .before .before .loop in
+    let p = pair-kind (args .items .now) (loop .j) (loop .inv .0 .0) (loop .inv .0 .1) (sym (c .before .before .before .before .before .before .before .before .before .before .kind .ensures) ∙ c .before .before .before .before .before .before .before .before .before .if1 .taken) in omega (arith, c .tail .ensures, p .tailIs, data-in (args .items .now) (loop .j) (loop .inv .0 .0) (loop .inv .0 .1))
 
--- src/grammar.rt:248:5
-all-loop-again : (t : ℕ) → all-lts.Need-loop-again (
-  kind-reads.Asked,
-  kind-reads.Learnt,
-  head-reads.Asked,
-  head-reads.Learnt,
-  expression-below t,
-  expression.Post,
-  is-outside-reads.Asked,
-  is-outside-reads.Learnt,
-  open-after-reads.Asked,
-  open-after-reads.Learnt,
-  tail-reads.Asked,
-  tail-reads.Learnt,
-) (all-at t) all.Post all-Inv-loop all-μ-loop
+all-loop-again : (t : ℕ) → all-lts.Need-loop-again (all-claims t) (all-at t) all.Post all-Inv-loop all-μ-loop
 all-loop-again t c =
-    let z : c .before .before .before .before .before .before .before .before .before .before .before .before .before .before .before .before .before .args .top ≡ c .before .before .before .before .before .before .before .before .before .before .before .before .before .before .before .before .before .args .top + 0 = omega arith in
-    let p = pair-kind (c .before .before .before .before .before .before .before .before .before .before .before .before .before .before .before .before .before .args .items .now) (c .before .before .before .before .before .before .before .before .before .before .before .loop .j) (c .before .before .before .before .before .before .before .before .before .before .before .loop .inv .0 .0) (c .before .before .before .before .before .before .before .before .before .before .before .loop .inv .0 .1) (sym (c .before .before .before .before .before .before .before .before .before .before .kind .ensures) ∙ c .before .before .before .before .before .before .before .before .before .if1 .taken) in (
-      (p .rest, subst (λ x. DataAt (c .before .before .before .before .before .before .before .before .before .before .before .before .before .before .before .before .before .args .items .now) x (p .rest)) (sym (c .tail .ensures)) (p .tail)),
-      subst (λ o. Judging (isOperation (c .before .before .before .before .before .before .before .before .before .before .before .before .before .before .before .before .before .args .theirs .now) (c .before .before .before .before .before .before .before .before .before .before .before .before .before .before .before .before .before .args .ours .now) (c .before .before .before .before .before .before .before .before .before .before .before .before .before .before .before .before .before .args .operations .now)) (round (c .before .before .before .before .before .before .before .before .before .before .before .before .before .before .before .before .before .args .scope .now) (c .before .before .before .before .before .before .before .before .before .before .before .before .before .before .before .before .before .args .top)) (c .before .before .before .before .before .before .before .before .before .before .before .before .before .before .before .before .before .args .items .now) (c .before .before .before .before .before .before .before .before .before .before .before .before .before .before .before .before .before .args .i) (c .tail .result) o) (sym (c .before .open-after .ensures)) (judging-next (isOperation (c .before .before .before .before .before .before .before .before .before .before .before .before .before .before .before .before .before .args .theirs .now) (c .before .before .before .before .before .before .before .before .before .before .before .before .before .before .before .before .before .args .ours .now) (c .before .before .before .before .before .before .before .before .before .before .before .before .before .before .before .before .before .args .operations .now)) (round (c .before .before .before .before .before .before .before .before .before .before .before .before .before .before .before .before .before .args .scope .now) (c .before .before .before .before .before .before .before .before .before .before .before .before .before .before .before .before .before .args .top)) (c .before .before .before .before .before .before .before .before .before .before .before .before .before .before .before .before .before .args .items .now) (c .before .before .before .before .before .before .before .before .before .before .before .before .before .before .before .before .before .args .i) (c .before .before .before .before .before .before .before .before .before .before .before .loop .j) (c .before .before .before .before .before .before .before .before .before .before .before .loop .opened) (c .before .before .before .before .before .before .before .before .before .before .before .loop .inv .1) (sym (c .before .before .before .before .before .before .before .before .before .before .kind .ensures) ∙ c .before .before .before .before .before .before .before .before .before .if1 .taken) (c .before .before .before .before .before .before .expression .result) _ (c .before .before .before .before .before .before .before .head .ensures) (λ d h. c .before .before .before .before .before .before .expression .ensures .0 d h ∙ ap (λ r. judge (isOperation (c .before .before .before .before .before .before .before .before .before .before .before .before .before .before .before .before .before .args .theirs .now) (c .before .before .before .before .before .before .before .before .before .before .before .before .before .before .before .before .before .args .ours .now) (c .before .before .before .before .before .before .before .before .before .before .before .before .before .before .before .before .before .args .operations .now)) r (expressionOf d)) (kept-round (c .before .before .before .before .before .before .before .before .before .before .before .before .before .before .before .before .before .args .top) (c .before .before .before .before .before .before .before .before .before .before .before .before .before .before .before .before .before .args .scope .now) (c .before .before .before .before .before .before .before .before .before .before .before .loop .scope) (c .before .before .before .before .before .before .before .before .before .before .before .loop .inv .2))) (sym (c .before .before .before .is-outside .ensures) ∙ c .before .before .if2 .left) _ (c .tail .ensures)),
-      (kept-on (c .before .before .before .before .before .before .before .before .before .before .before .before .before .before .before .before .before .args .top) 0 (c .before .before .before .before .before .before .before .before .before .before .before .before .before .before .before .before .before .args .scope .now) (c .before .before .before .before .before .before .before .before .before .before .before .loop .scope) (c .before .before .before .before .before .before .expression .last .1 .1 .1 .1 .0) (c .before .before .before .before .before .before .before .before .before .before .before .loop .inv .2) (subst (λ m. Kept m (c .before .before .before .before .before .before .before .before .before .before .before .loop .scope) (c .before .before .before .before .before .before .expression .last .1 .1 .1 .1 .0)) z (c .before .before .before .before .before .before .expression .ensures .1))),
-      c .before .before .before .before .before .before .expression .kept .1 .1 .1 .1 .0 ∙ c .before .before .before .before .before .before .before .before .before .before .before .loop .inv .3,
-      omega (arith, c .before .before .before .before .before .before .before .before .before .before .before .loop .inv .4, c .tail .ensures, p .tailIs),
+    let args = c .before .before .before .before .before .before .before .before .before .before .before .before .before .before .before .before .before .args in
+    let loop = c .before .before .before .before .before .before .before .before .before .before .before .loop in
+    let kind = c .before .before .before .before .before .before .before .before .before .before .kind in
+    let if1 = c .before .before .before .before .before .before .before .before .before .if1 in
+    let expression = c .before .before .before .before .before .before .expression in
+    let z : args .top ≡ args .top + 0 = omega arith in
+    let p = pair-kind (args .items .now) (loop .j) (loop .inv .0 .0) (loop .inv .0 .1) (sym (kind .ensures) ∙ if1 .taken) in (
+      (p .rest, subst (λ x. DataAt (args .items .now) x (p .rest)) (sym (c .tail .ensures)) (p .tail)),
+      subst (λ o. Judging (isOperation (args .theirs .now) (args .ours .now) (args .operations .now)) (round (args .scope .now) (args .top)) (args .items .now) (args .i) (c .tail .result) o) (sym (c .before .open-after .ensures)) (judging-next (isOperation (args .theirs .now) (args .ours .now) (args .operations .now)) (round (args .scope .now) (args .top)) (args .items .now) (args .i) (loop .j) (loop .opened) (loop .inv .1) (sym (kind .ensures) ∙ if1 .taken) (expression .result) _ (c .before .before .before .before .before .before .before .head .ensures) (λ d h. expression .ensures .0 d h ∙ ap (λ r. judge (isOperation (args .theirs .now) (args .ours .now) (args .operations .now)) r (expressionOf d)) (kept-round (args .top) (args .scope .now) (loop .scope) (loop .inv .2))) (sym (c .before .before .before .is-outside .ensures) ∙ c .before .before .if2 .left) _ (c .tail .ensures)),
+      (kept-on (args .top) 0 (args .scope .now) (loop .scope) (expression .last .1 .1 .1 .1 .0) (loop .inv .2) (subst (λ m. Kept m (loop .scope) (expression .last .1 .1 .1 .1 .0)) z (expression .ensures .1))),
+      expression .kept .1 .1 .1 .1 .0 ∙ loop .inv .3,
+      omega (arith, loop .inv .4, c .tail .ensures, p .tailIs),
     )
 
--- src/grammar.rt:257:9
-all-same-length-2 : (t : ℕ) → all-lts.Need-same-length-2 (
-  kind-reads.Asked,
-  kind-reads.Learnt,
-  head-reads.Asked,
-  head-reads.Learnt,
-  expression-below t,
-  expression.Post,
-  is-outside-reads.Asked,
-  is-outside-reads.Learnt,
-  open-after-reads.Asked,
-  open-after-reads.Learnt,
-  tail-reads.Asked,
-  tail-reads.Learnt,
-) (all-at t) all.Post all-Inv-loop all-μ-loop
+all-same-length-2 : (t : ℕ) → all-lts.Need-same-length-2 (all-claims t) (all-at t) all.Post all-Inv-loop all-μ-loop
 all-same-length-2 t c =
     c .before .before .before .loop .inv .3
 
--- src/grammar.rt:257:9
-all-returns-2 : (t : ℕ) → all-lts.Need-returns-2 (
-  kind-reads.Asked,
-  kind-reads.Learnt,
-  head-reads.Asked,
-  head-reads.Learnt,
-  expression-below t,
-  expression.Post,
-  is-outside-reads.Asked,
-  is-outside-reads.Learnt,
-  open-after-reads.Asked,
-  open-after-reads.Learnt,
-  tail-reads.Asked,
-  tail-reads.Learnt,
-) (all-at t) all.Post all-Inv-loop all-μ-loop
+all-returns-2 : (t : ℕ) → all-lts.Need-returns-2 (all-claims t) (all-at t) all.Post all-Inv-loop all-μ-loop
 unfolding withOpen
 all-returns-2 t c =
-    ((λ ds h. ap (λ o. withOpen o Closed) (sym (c .if3 .taken)) ∙ judging-end (isOperation (c .before .before .before .before .before .before .before .before .before .args .theirs .now) (c .before .before .before .before .before .before .before .before .before .args .ours .now) (c .before .before .before .before .before .before .before .before .before .args .operations .now)) (round (c .before .before .before .before .before .before .before .before .before .args .scope .now) (c .before .before .before .before .before .before .before .before .before .args .top)) (c .before .before .before .before .before .before .before .before .before .args .items .now) (c .before .before .before .before .before .before .before .before .before .args .i) (c .before .before .before .loop .j) (c .before .before .before .loop .opened) (c .before .before .before .loop .inv .1) (λ e. c .before .if1 .left (c .before .before .kind .ensures ∙ e)) ds h), c .before .before .before .loop .inv .2)
+    let args = c .before .before .before .before .before .before .before .before .before .args in
+    let loop = c .before .before .before .loop in
+    ((λ ds h. ap (λ o. withOpen o Closed) (sym (c .if3 .taken)) ∙ judging-end (isOperation (args .theirs .now) (args .ours .now) (args .operations .now)) (round (args .scope .now) (args .top)) (args .items .now) (args .i) (loop .j) (loop .opened) (loop .inv .1) (λ e. c .before .if1 .left (c .before .before .kind .ensures ∙ e)) ds h), loop .inv .2)
 
--- src/grammar.rt:233:1
-all-same-length-3 : (t : ℕ) → all-lts.Need-same-length-3 (
-  kind-reads.Asked,
-  kind-reads.Learnt,
-  head-reads.Asked,
-  head-reads.Learnt,
-  expression-below t,
-  expression.Post,
-  is-outside-reads.Asked,
-  is-outside-reads.Learnt,
-  open-after-reads.Asked,
-  open-after-reads.Learnt,
-  tail-reads.Asked,
-  tail-reads.Learnt,
-) (all-at t) all.Post all-Inv-loop all-μ-loop
+all-same-length-3 : (t : ℕ) → all-lts.Need-same-length-3 (all-claims t) (all-at t) all.Post all-Inv-loop all-μ-loop
 all-same-length-3 t c =
     c .before .before .before .loop .inv .3
 
--- src/grammar.rt:233:1
-all-returns-3 : (t : ℕ) → all-lts.Need-returns-3 (
-  kind-reads.Asked,
-  kind-reads.Learnt,
-  head-reads.Asked,
-  head-reads.Learnt,
-  expression-below t,
-  expression.Post,
-  is-outside-reads.Asked,
-  is-outside-reads.Learnt,
-  open-after-reads.Asked,
-  open-after-reads.Learnt,
-  tail-reads.Asked,
-  tail-reads.Learnt,
-) (all-at t) all.Post all-Inv-loop all-μ-loop
+all-returns-3 : (t : ℕ) → all-lts.Need-returns-3 (all-claims t) (all-at t) all.Post all-Inv-loop all-μ-loop
 unfolding withOpen
 all-returns-3 t c =
-    ((λ ds h. ap (λ o. withOpen o Closed) (sym (c .if3 .left)) ∙ judging-end (isOperation (c .before .before .before .before .before .before .before .before .before .args .theirs .now) (c .before .before .before .before .before .before .before .before .before .args .ours .now) (c .before .before .before .before .before .before .before .before .before .args .operations .now)) (round (c .before .before .before .before .before .before .before .before .before .args .scope .now) (c .before .before .before .before .before .before .before .before .before .args .top)) (c .before .before .before .before .before .before .before .before .before .args .items .now) (c .before .before .before .before .before .before .before .before .before .args .i) (c .before .before .before .loop .j) (c .before .before .before .loop .opened) (c .before .before .before .loop .inv .1) (λ e. c .before .if1 .left (c .before .before .kind .ensures ∙ e)) ds h), c .before .before .before .loop .inv .2)
+    let args = c .before .before .before .before .before .before .before .before .before .args in
+    let loop = c .before .before .before .loop in
+    ((λ ds h. ap (λ o. withOpen o Closed) (sym (c .if3 .left)) ∙ judging-end (isOperation (args .theirs .now) (args .ours .now) (args .operations .now)) (round (args .scope .now) (args .top)) (args .items .now) (args .i) (loop .j) (loop .opened) (loop .inv .1) (λ e. c .before .if1 .left (c .before .before .kind .ensures ∙ e)) ds h), loop .inv .2)
 
--- src/grammar.rt:178:9
-expression-kind-requires : (t : ℕ) → expression-lts.Need-kind-requires (
-  kind-reads.Asked,
-  kind-reads.Learnt,
-  head-reads.Asked,
-  head-reads.Learnt,
-  name-judged-reads.Asked,
-  name-judged-reads.Learnt,
-  form-reads.Asked,
-  form-reads.Learnt,
-  tail-reads.Asked,
-  tail-reads.Learnt,
-  is-quotation-reads.Asked,
-  is-quotation-reads.Learnt,
-  count-reads.Asked,
-  count-reads.Learnt,
-  all-below t,
-  all.Post,
-  lambda-below t,
-  lambda.Post,
-) (expression-at t) expression.Post
+expression-kind-requires : (t : ℕ) → expression-lts.Need-kind-requires (expression-claims t) (expression-at t) expression.Post
 expression-kind-requires t c κs =
-    datum-in (c .before .before .before .before .before .args .items .now) (c .before .before .before .before .before .args .i) (c .before .before .before .before .before .pre .1 .0 .0) (c .before .before .before .before .before .pre .1 .0 .1)
+    let args = c .before .before .before .before .before .args in
+    let pre = c .before .before .before .before .before .pre in
+    datum-in (args .items .now) (args .i) (pre .1 .0 .0) (pre .1 .0 .1)
 
--- src/grammar.rt:180:66
-expression-head-requires : (t : ℕ) → expression-lts.Need-head-requires (
-  kind-reads.Asked,
-  kind-reads.Learnt,
-  head-reads.Asked,
-  head-reads.Learnt,
-  name-judged-reads.Asked,
-  name-judged-reads.Learnt,
-  form-reads.Asked,
-  form-reads.Learnt,
-  tail-reads.Asked,
-  tail-reads.Learnt,
-  is-quotation-reads.Asked,
-  is-quotation-reads.Learnt,
-  count-reads.Asked,
-  count-reads.Learnt,
-  all-below t,
-  all.Post,
-  lambda-below t,
-  lambda.Post,
-) (expression-at t) expression.Post
+expression-head-requires : (t : ℕ) → expression-lts.Need-head-requires (expression-claims t) (expression-at t) expression.Post
 expression-head-requires t c κs =
-    datum-in (c .before .before .before .before .before .before .before .before .args .items .now) (c .before .before .before .before .before .before .before .before .args .i) (c .before .before .before .before .before .before .before .before .pre .1 .0 .0) (c .before .before .before .before .before .before .before .before .pre .1 .0 .1)
+    let args = c .before .before .before .before .before .before .before .before .args in
+    let pre = c .before .before .before .before .before .before .before .before .pre in
+    datum-in (args .items .now) (args .i) (pre .1 .0 .0) (pre .1 .0 .1)
 
--- src/grammar.rt:180:9
-expression-name-judged-requires : (t : ℕ) → expression-lts.Need-name-judged-requires (
-  kind-reads.Asked,
-  kind-reads.Learnt,
-  head-reads.Asked,
-  head-reads.Learnt,
-  name-judged-reads.Asked,
-  name-judged-reads.Learnt,
-  form-reads.Asked,
-  form-reads.Learnt,
-  tail-reads.Asked,
-  tail-reads.Learnt,
-  is-quotation-reads.Asked,
-  is-quotation-reads.Learnt,
-  count-reads.Asked,
-  count-reads.Learnt,
-  all-below t,
-  all.Post,
-  lambda-below t,
-  lambda.Post,
-) (expression-at t) expression.Post
+expression-name-judged-requires : (t : ℕ) → expression-lts.Need-name-judged-requires (expression-claims t) (expression-at t) expression.Post
 expression-name-judged-requires t c κs =
-    (c .before .before .before .before .before .before .before .before .before .pre .1 .2, omega (arith, c .head .ensures, name-datum (c .before .before .before .before .before .before .before .before .before .args .items .now) (c .before .before .before .before .before .before .before .before .before .args .i) (c .before .before .before .before .before .before .before .before .before .pre .1 .0 .0) (c .before .before .before .before .before .before .before .before .before .pre .1 .0 .1) (sym (c .before .before .before .kind .ensures) ∙ c .before .before .if1 .taken) .1), omega (arith, c .before .before .before .before .before .before .before .before .before .pre .1 .1 .0, c .before .before .before .before .before .before .before .before .before .pre .1 .1 .1, c .before .before .before .before .before .before .before .before .before .pre .1 .1 .2, datum-in (c .before .before .before .before .before .before .before .before .before .args .items .now) (c .before .before .before .before .before .before .before .before .before .args .i) (c .before .before .before .before .before .before .before .before .before .pre .1 .0 .0) (c .before .before .before .before .before .before .before .before .before .pre .1 .0 .1)))
+    let args = c .before .before .before .before .before .before .before .before .before .args in
+    let pre = c .before .before .before .before .before .before .before .before .before .pre in
+    (pre .1 .2, omega (arith, c .head .ensures, name-datum (args .items .now) (args .i) (pre .1 .0 .0) (pre .1 .0 .1) (sym (c .before .before .before .kind .ensures) ∙ c .before .before .if1 .taken) .1), omega (arith, pre .1 .1 .0, pre .1 .1 .1, pre .1 .1 .2, datum-in (args .items .now) (args .i) (pre .1 .0 .0) (pre .1 .0 .1)))
 
--- src/grammar.rt:180:9
-expression-same-length : (t : ℕ) → expression-lts.Need-same-length (
-  kind-reads.Asked,
-  kind-reads.Learnt,
-  head-reads.Asked,
-  head-reads.Learnt,
-  name-judged-reads.Asked,
-  name-judged-reads.Learnt,
-  form-reads.Asked,
-  form-reads.Learnt,
-  tail-reads.Asked,
-  tail-reads.Learnt,
-  is-quotation-reads.Asked,
-  is-quotation-reads.Learnt,
-  count-reads.Asked,
-  count-reads.Learnt,
-  all-below t,
-  all.Post,
-  lambda-below t,
-  lambda.Post,
-) (expression-at t) expression.Post
-expression-same-length t c =
-    search needs
-
--- src/grammar.rt:180:9
-expression-returns : (t : ℕ) → expression-lts.Need-returns (
-  kind-reads.Asked,
-  kind-reads.Learnt,
-  head-reads.Asked,
-  head-reads.Learnt,
-  name-judged-reads.Asked,
-  name-judged-reads.Learnt,
-  form-reads.Asked,
-  form-reads.Learnt,
-  tail-reads.Asked,
-  tail-reads.Learnt,
-  is-quotation-reads.Asked,
-  is-quotation-reads.Learnt,
-  count-reads.Asked,
-  count-reads.Learnt,
-  all-below t,
-  all.Post,
-  lambda-below t,
-  lambda.Post,
-) (expression-at t) expression.Post
+expression-returns : (t : ℕ) → expression-lts.Need-returns (expression-claims t) (expression-at t) expression.Post
 expression-returns t c =
-    ((λ d h. c .name-judged .ensures ∙ ap (λ e. judge (isOperation (c .before .before .before .before .before .before .before .before .before .before .args .theirs .now) (c .before .before .before .before .before .before .before .before .before .before .args .ours .now) (c .before .before .before .before .before .before .before .before .before .before .args .operations .now)) (round (c .before .before .before .before .before .before .before .before .before .before .args .scope .now) (c .before .before .before .before .before .before .before .before .before .before .args .top)) (expressionOf e)) (ap nameD (c .before .head .ensures) ∙ sym (name-datum (c .before .before .before .before .before .before .before .before .before .before .args .items .now) (c .before .before .before .before .before .before .before .before .before .before .args .i) d h (sym (c .before .before .before .before .kind .ensures) ∙ c .before .before .before .if1 .taken) .0))), (λ k l. refl))
+    let args = c .before .before .before .before .before .before .before .before .before .before .args in
+    ((λ d h. c .name-judged .ensures ∙ ap (λ e. judge (isOperation (args .theirs .now) (args .ours .now) (args .operations .now)) (round (args .scope .now) (args .top)) (expressionOf e)) (ap nameD (c .before .head .ensures) ∙ sym (name-datum (args .items .now) (args .i) d h (sym (c .before .before .before .before .kind .ensures) ∙ c .before .before .before .if1 .taken) .0))), (λ k l. refl))
 
--- src/grammar.rt:183:9
-expression-returns-2 : (t : ℕ) → expression-lts.Need-returns-2 (
-  kind-reads.Asked,
-  kind-reads.Learnt,
-  head-reads.Asked,
-  head-reads.Learnt,
-  name-judged-reads.Asked,
-  name-judged-reads.Learnt,
-  form-reads.Asked,
-  form-reads.Learnt,
-  tail-reads.Asked,
-  tail-reads.Learnt,
-  is-quotation-reads.Asked,
-  is-quotation-reads.Learnt,
-  count-reads.Asked,
-  count-reads.Learnt,
-  all-below t,
-  all.Post,
-  lambda-below t,
-  lambda.Post,
-) (expression-at t) expression.Post
+expression-returns-2 : (t : ℕ) → expression-lts.Need-returns-2 (expression-claims t) (expression-at t) expression.Post
 expression-returns-2 t c =
-    ((λ d h. sym (ap (λ e. judge (isOperation (c .before .before .before .before .before .before .before .before .args .theirs .now) (c .before .before .before .before .before .before .before .before .args .ours .now) (c .before .before .before .before .before .before .before .before .args .operations .now)) (round (c .before .before .before .before .before .before .before .before .args .scope .now) (c .before .before .before .before .before .before .before .before .args .top)) (expressionOf e)) (empty-datum (c .before .before .before .before .before .before .before .before .args .items .now) (c .before .before .before .before .before .before .before .before .args .i) d h (sym (c .before .before .kind .ensures) ∙ c .if2 .taken)) ∙ judge-empty (isOperation (c .before .before .before .before .before .before .before .before .args .theirs .now) (c .before .before .before .before .before .before .before .before .args .ours .now) (c .before .before .before .before .before .before .before .before .args .operations .now)) (round (c .before .before .before .before .before .before .before .before .args .scope .now) (c .before .before .before .before .before .before .before .before .args .top)))), (λ k l. refl))
+    let args = c .before .before .before .before .before .before .before .before .args in
+    ((λ d h. sym (ap (λ e. judge (isOperation (args .theirs .now) (args .ours .now) (args .operations .now)) (round (args .scope .now) (args .top)) (expressionOf e)) (empty-datum (args .items .now) (args .i) d h (sym (c .before .before .kind .ensures) ∙ c .if2 .taken)) ∙ judge-empty (isOperation (args .theirs .now) (args .ours .now) (args .operations .now)) (round (args .scope .now) (args .top)))), (λ k l. refl))
 
--- src/grammar.rt:186:9
-expression-returns-3 : (t : ℕ) → expression-lts.Need-returns-3 (
-  kind-reads.Asked,
-  kind-reads.Learnt,
-  head-reads.Asked,
-  head-reads.Learnt,
-  name-judged-reads.Asked,
-  name-judged-reads.Learnt,
-  form-reads.Asked,
-  form-reads.Learnt,
-  tail-reads.Asked,
-  tail-reads.Learnt,
-  is-quotation-reads.Asked,
-  is-quotation-reads.Learnt,
-  count-reads.Asked,
-  count-reads.Learnt,
-  all-below t,
-  all.Post,
-  lambda-below t,
-  lambda.Post,
-) (expression-at t) expression.Post
+expression-returns-3 : (t : ℕ) → expression-lts.Need-returns-3 (expression-claims t) (expression-at t) expression.Post
 expression-returns-3 t c =
-    ((λ d h. let l = constant-datum (c .before .before .before .before .before .before .before .before .before .args .items .now) (c .before .before .before .before .before .before .before .before .before .args .i) d h (λ e. c .before .if2 .left (c .before .before .before .kind .ensures ∙ e)) (λ e. c .if3 .taken (c .before .before .before .kind .ensures ∙ e)) (λ e. c .before .before .if1 .left (c .before .before .before .kind .ensures ∙ e)) in sym (ap (λ e. judge (isOperation (c .before .before .before .before .before .before .before .before .before .args .theirs .now) (c .before .before .before .before .before .before .before .before .before .args .ours .now) (c .before .before .before .before .before .before .before .before .before .args .operations .now)) (round (c .before .before .before .before .before .before .before .before .before .args .scope .now) (c .before .before .before .before .before .before .before .before .before .args .top)) (expressionOf e)) (l .is) ∙ judge-constant (isOperation (c .before .before .before .before .before .before .before .before .before .args .theirs .now) (c .before .before .before .before .before .before .before .before .before .args .ours .now) (c .before .before .before .before .before .before .before .before .before .args .operations .now)) (round (c .before .before .before .before .before .before .before .before .before .args .scope .now) (c .before .before .before .before .before .before .before .before .before .args .top)) (l .constant))), (λ k l. refl))
+    let args = c .before .before .before .before .before .before .before .before .before .args in
+    let kind = c .before .before .before .kind in
+    ((λ d h. let l = constant-datum (args .items .now) (args .i) d h (λ e. c .before .if2 .left (kind .ensures ∙ e)) (λ e. c .if3 .taken (kind .ensures ∙ e)) (λ e. c .before .before .if1 .left (kind .ensures ∙ e)) in sym (ap (λ e. judge (isOperation (args .theirs .now) (args .ours .now) (args .operations .now)) (round (args .scope .now) (args .top)) (expressionOf e)) (l .is) ∙ judge-constant (isOperation (args .theirs .now) (args .ours .now) (args .operations .now)) (round (args .scope .now) (args .top)) (l .constant))), (λ k l. refl))
 
--- src/grammar.rt:188:28
-expression-head-requires-2 : (t : ℕ) → expression-lts.Need-head-requires-2 (
-  kind-reads.Asked,
-  kind-reads.Learnt,
-  head-reads.Asked,
-  head-reads.Learnt,
-  name-judged-reads.Asked,
-  name-judged-reads.Learnt,
-  form-reads.Asked,
-  form-reads.Learnt,
-  tail-reads.Asked,
-  tail-reads.Learnt,
-  is-quotation-reads.Asked,
-  is-quotation-reads.Learnt,
-  count-reads.Asked,
-  count-reads.Learnt,
-  all-below t,
-  all.Post,
-  lambda-below t,
-  lambda.Post,
-) (expression-at t) expression.Post
+expression-head-requires-2 : (t : ℕ) → expression-lts.Need-head-requires-2 (expression-claims t) (expression-at t) expression.Post
 expression-head-requires-2 t c κs =
-    datum-in (c .before .before .before .before .before .before .before .before .before .args .items .now) (c .before .before .before .before .before .before .before .before .before .args .i) (c .before .before .before .before .before .before .before .before .before .pre .1 .0 .0) (c .before .before .before .before .before .before .before .before .before .pre .1 .0 .1)
+    let args = c .before .before .before .before .before .before .before .before .before .args in
+    let pre = c .before .before .before .before .before .before .before .before .before .pre in
+    datum-in (args .items .now) (args .i) (pre .1 .0 .0) (pre .1 .0 .1)
 
--- src/grammar.rt:188:9
-expression-form-requires : (t : ℕ) → expression-lts.Need-form-requires (
-  kind-reads.Asked,
-  kind-reads.Learnt,
-  head-reads.Asked,
-  head-reads.Learnt,
-  name-judged-reads.Asked,
-  name-judged-reads.Learnt,
-  form-reads.Asked,
-  form-reads.Learnt,
-  tail-reads.Asked,
-  tail-reads.Learnt,
-  is-quotation-reads.Asked,
-  is-quotation-reads.Learnt,
-  count-reads.Asked,
-  count-reads.Learnt,
-  all-below t,
-  all.Post,
-  lambda-below t,
-  lambda.Post,
-) (expression-at t) expression.Post
+expression-form-requires : (t : ℕ) → expression-lts.Need-form-requires (expression-claims t) (expression-at t) expression.Post
 expression-form-requires t c κs =
-    let p = pair-datum (c .before .before .before .before .before .before .before .before .before .before .args .items .now) (c .before .before .before .before .before .before .before .before .before .before .args .i) (c .before .before .before .before .before .before .before .before .before .before .pre .1 .0 .0) (c .before .before .before .before .before .before .before .before .before .before .pre .1 .0 .1) (sym (c .before .before .before .before .kind .ensures) ∙ c .before .if3 .left) .pair in (p .first, subst (λ x. DatumAt (c .before .before .before .before .before .before .before .before .before .before .args .items .now) x (p .first)) (sym (c .head2 .ensures)) (p .head))
+    let args = c .before .before .before .before .before .before .before .before .before .before .args in
+    let pre = c .before .before .before .before .before .before .before .before .before .before .pre in
+    let p = pair-datum (args .items .now) (args .i) (pre .1 .0 .0) (pre .1 .0 .1) (sym (c .before .before .before .before .kind .ensures) ∙ c .before .if3 .left) .pair in (p .first, subst (λ x. DatumAt (args .items .now) x (p .first)) (sym (c .head2 .ensures)) (p .head))
 
--- src/grammar.rt:189:9
-expression-tail-requires : (t : ℕ) → expression-lts.Need-tail-requires (
-  kind-reads.Asked,
-  kind-reads.Learnt,
-  head-reads.Asked,
-  head-reads.Learnt,
-  name-judged-reads.Asked,
-  name-judged-reads.Learnt,
-  form-reads.Asked,
-  form-reads.Learnt,
-  tail-reads.Asked,
-  tail-reads.Learnt,
-  is-quotation-reads.Asked,
-  is-quotation-reads.Learnt,
-  count-reads.Asked,
-  count-reads.Learnt,
-  all-below t,
-  all.Post,
-  lambda-below t,
-  lambda.Post,
-) (expression-at t) expression.Post
+expression-tail-requires : (t : ℕ) → expression-lts.Need-tail-requires (expression-claims t) (expression-at t) expression.Post
 expression-tail-requires t c κs =
-    datum-in (c .before .before .before .before .before .before .before .before .before .before .before .args .items .now) (c .before .before .before .before .before .before .before .before .before .before .before .args .i) (c .before .before .before .before .before .before .before .before .before .before .before .pre .1 .0 .0) (c .before .before .before .before .before .before .before .before .before .before .before .pre .1 .0 .1)
+    let args = c .before .before .before .before .before .before .before .before .before .before .before .args in
+    let pre = c .before .before .before .before .before .before .before .before .before .before .before .pre in
+    datum-in (args .items .now) (args .i) (pre .1 .0 .0) (pre .1 .0 .1)
 
--- src/grammar.rt:191:12
-expression-is-quotation-requires : (t : ℕ) → expression-lts.Need-is-quotation-requires (
-  kind-reads.Asked,
-  kind-reads.Learnt,
-  head-reads.Asked,
-  head-reads.Learnt,
-  name-judged-reads.Asked,
-  name-judged-reads.Learnt,
-  form-reads.Asked,
-  form-reads.Learnt,
-  tail-reads.Asked,
-  tail-reads.Learnt,
-  is-quotation-reads.Asked,
-  is-quotation-reads.Learnt,
-  count-reads.Asked,
-  count-reads.Learnt,
-  all-below t,
-  all.Post,
-  lambda-below t,
-  lambda.Post,
-) (expression-at t) expression.Post
+expression-is-quotation-requires : (t : ℕ) → expression-lts.Need-is-quotation-requires (expression-claims t) (expression-at t) expression.Post
 expression-is-quotation-requires t c κs =
-    let p = pair-datum (c .before .before .before .before .before .before .before .before .before .before .before .before .before .args .items .now) (c .before .before .before .before .before .before .before .before .before .before .before .before .before .args .i) (c .before .before .before .before .before .before .before .before .before .before .before .before .before .pre .1 .0 .0) (c .before .before .before .before .before .before .before .before .before .before .before .before .before .pre .1 .0 .1) (sym (c .before .before .before .before .before .before .before .kind .ensures) ∙ c .before .before .before .before .if3 .left) .pair in (p .rest, subst (λ x. DataAt (c .before .before .before .before .before .before .before .before .before .before .before .before .before .args .items .now) x (p .rest)) (sym (c .before .tail .ensures)) (p .tail))
+    let args = c .before .before .before .before .before .before .before .before .before .before .before .before .before .args in
+    let pre = c .before .before .before .before .before .before .before .before .before .before .before .before .before .pre in
+    let p = pair-datum (args .items .now) (args .i) (pre .1 .0 .0) (pre .1 .0 .1) (sym (c .before .before .before .before .before .before .before .kind .ensures) ∙ c .before .before .before .before .if3 .left) .pair in (p .rest, subst (λ x. DataAt (args .items .now) x (p .rest)) (sym (c .before .tail .ensures)) (p .tail))
 
--- src/grammar.rt:192:13
-expression-returns-4 : (t : ℕ) → expression-lts.Need-returns-4 (
-  kind-reads.Asked,
-  kind-reads.Learnt,
-  head-reads.Asked,
-  head-reads.Learnt,
-  name-judged-reads.Asked,
-  name-judged-reads.Learnt,
-  form-reads.Asked,
-  form-reads.Learnt,
-  tail-reads.Asked,
-  tail-reads.Learnt,
-  is-quotation-reads.Asked,
-  is-quotation-reads.Learnt,
-  count-reads.Asked,
-  count-reads.Learnt,
-  all-below t,
-  all.Post,
-  lambda-below t,
-  lambda.Post,
-) (expression-at t) expression.Post
+expression-returns-4 : (t : ℕ) → expression-lts.Need-returns-4 (expression-claims t) (expression-at t) expression.Post
 expression-returns-4 t c =
-    ((λ d h. let l = pair-datum (c .before .before .before .before .before .before .before .before .before .before .before .before .before .before .before .args .items .now) (c .before .before .before .before .before .before .before .before .before .before .before .before .before .before .before .args .i) d h (sym (c .before .before .before .before .before .before .before .before .before .kind .ensures) ∙ c .before .before .before .before .before .before .if3 .left) in let f = c .before .before .before .before .form .ensures (l .pair .first) (subst (λ x. DatumAt (c .before .before .before .before .before .before .before .before .before .before .before .before .before .before .before .args .items .now) x (l .pair .first)) (sym (c .before .before .before .before .before .head2 .ensures)) (l .pair .head)) in let r = subst (λ x. DataAt (c .before .before .before .before .before .before .before .before .before .before .before .before .before .before .before .args .items .now) x (l .pair .rest)) (sym (c .before .before .before .tail .ensures)) (l .pair .tail) in sym (list-quote (isOperation (c .before .before .before .before .before .before .before .before .before .before .before .before .before .before .before .args .theirs .now) (c .before .before .before .before .before .before .before .before .before .before .before .before .before .before .before .args .ours .now) (c .before .before .before .before .before .before .before .before .before .before .before .before .before .before .before .args .operations .now)) (round (c .before .before .before .before .before .before .before .before .before .before .before .before .before .before .before .args .scope .now) (c .before .before .before .before .before .before .before .before .before .before .before .before .before .before .before .args .top)) (c .before .before .before .before .before .before .before .before .before .before .before .before .before .before .before .args .items .now) (c .before .before .before .before .before .before .before .before .before .before .before .before .before .before .before .args .i) d l (sym f ∙ c .before .before .if4 .taken) ∙ rw (sym (c .before .is-quotation .ensures (l .pair .rest) r) ∙ c .if5 .taken))), (λ k l. refl))
+    let args = c .before .before .before .before .before .before .before .before .before .before .before .before .before .before .before .args in
+    ((λ d h. let l = pair-datum (args .items .now) (args .i) d h (sym (c .before .before .before .before .before .before .before .before .before .kind .ensures) ∙ c .before .before .before .before .before .before .if3 .left) in let f = c .before .before .before .before .form .ensures (l .pair .first) (subst (λ x. DatumAt (args .items .now) x (l .pair .first)) (sym (c .before .before .before .before .before .head2 .ensures)) (l .pair .head)) in let r = subst (λ x. DataAt (args .items .now) x (l .pair .rest)) (sym (c .before .before .before .tail .ensures)) (l .pair .tail) in sym (list-quote (isOperation (args .theirs .now) (args .ours .now) (args .operations .now)) (round (args .scope .now) (args .top)) (args .items .now) (args .i) d l (sym f ∙ c .before .before .if4 .taken) ∙ rw (sym (c .before .is-quotation .ensures (l .pair .rest) r) ∙ c .if5 .taken))), (λ k l. refl))
 
--- src/grammar.rt:194:9
-expression-returns-5 : (t : ℕ) → expression-lts.Need-returns-5 (
-  kind-reads.Asked,
-  kind-reads.Learnt,
-  head-reads.Asked,
-  head-reads.Learnt,
-  name-judged-reads.Asked,
-  name-judged-reads.Learnt,
-  form-reads.Asked,
-  form-reads.Learnt,
-  tail-reads.Asked,
-  tail-reads.Learnt,
-  is-quotation-reads.Asked,
-  is-quotation-reads.Learnt,
-  count-reads.Asked,
-  count-reads.Learnt,
-  all-below t,
-  all.Post,
-  lambda-below t,
-  lambda.Post,
-) (expression-at t) expression.Post
+expression-returns-5 : (t : ℕ) → expression-lts.Need-returns-5 (expression-claims t) (expression-at t) expression.Post
 expression-returns-5 t c =
-    ((λ d h. let l = pair-datum (c .before .before .before .before .before .before .before .before .before .before .before .before .before .before .before .args .items .now) (c .before .before .before .before .before .before .before .before .before .before .before .before .before .before .before .args .i) d h (sym (c .before .before .before .before .before .before .before .before .before .kind .ensures) ∙ c .before .before .before .before .before .before .if3 .left) in let f = c .before .before .before .before .form .ensures (l .pair .first) (subst (λ x. DatumAt (c .before .before .before .before .before .before .before .before .before .before .before .before .before .before .before .args .items .now) x (l .pair .first)) (sym (c .before .before .before .before .before .head2 .ensures)) (l .pair .head)) in let r = subst (λ x. DataAt (c .before .before .before .before .before .before .before .before .before .before .before .before .before .before .before .args .items .now) x (l .pair .rest)) (sym (c .before .before .before .tail .ensures)) (l .pair .tail) in sym (list-quote (isOperation (c .before .before .before .before .before .before .before .before .before .before .before .before .before .before .before .args .theirs .now) (c .before .before .before .before .before .before .before .before .before .before .before .before .before .before .before .args .ours .now) (c .before .before .before .before .before .before .before .before .before .before .before .before .before .before .before .args .operations .now)) (round (c .before .before .before .before .before .before .before .before .before .before .before .before .before .before .before .args .scope .now) (c .before .before .before .before .before .before .before .before .before .before .before .before .before .before .before .args .top)) (c .before .before .before .before .before .before .before .before .before .before .before .before .before .before .before .args .items .now) (c .before .before .before .before .before .before .before .before .before .before .before .before .before .before .before .args .i) d l (sym f ∙ c .before .before .if4 .taken) ∙ rw (sym (c .before .is-quotation .ensures (l .pair .rest) r) ∙ c .if5 .left))), (λ k l. refl))
+    let args = c .before .before .before .before .before .before .before .before .before .before .before .before .before .before .before .args in
+    ((λ d h. let l = pair-datum (args .items .now) (args .i) d h (sym (c .before .before .before .before .before .before .before .before .before .kind .ensures) ∙ c .before .before .before .before .before .before .if3 .left) in let f = c .before .before .before .before .form .ensures (l .pair .first) (subst (λ x. DatumAt (args .items .now) x (l .pair .first)) (sym (c .before .before .before .before .before .head2 .ensures)) (l .pair .head)) in let r = subst (λ x. DataAt (args .items .now) x (l .pair .rest)) (sym (c .before .before .before .tail .ensures)) (l .pair .tail) in sym (list-quote (isOperation (args .theirs .now) (args .ours .now) (args .operations .now)) (round (args .scope .now) (args .top)) (args .items .now) (args .i) d l (sym f ∙ c .before .before .if4 .taken) ∙ rw (sym (c .before .is-quotation .ensures (l .pair .rest) r) ∙ c .if5 .left))), (λ k l. refl))
 
--- src/grammar.rt:197:12
-expression-count-requires : (t : ℕ) → expression-lts.Need-count-requires (
-  kind-reads.Asked,
-  kind-reads.Learnt,
-  head-reads.Asked,
-  head-reads.Learnt,
-  name-judged-reads.Asked,
-  name-judged-reads.Learnt,
-  form-reads.Asked,
-  form-reads.Learnt,
-  tail-reads.Asked,
-  tail-reads.Learnt,
-  is-quotation-reads.Asked,
-  is-quotation-reads.Learnt,
-  count-reads.Asked,
-  count-reads.Learnt,
-  all-below t,
-  all.Post,
-  lambda-below t,
-  lambda.Post,
-) (expression-at t) expression.Post
+expression-count-requires : (t : ℕ) → expression-lts.Need-count-requires (expression-claims t) (expression-at t) expression.Post
 expression-count-requires t c κs =
-    let p = pair-datum (c .before .before .before .before .before .before .before .before .before .before .before .before .before .before .args .items .now) (c .before .before .before .before .before .before .before .before .before .before .before .before .before .before .args .i) (c .before .before .before .before .before .before .before .before .before .before .before .before .before .before .pre .1 .0 .0) (c .before .before .before .before .before .before .before .before .before .before .before .before .before .before .pre .1 .0 .1) (sym (c .before .before .before .before .before .before .before .before .kind .ensures) ∙ c .before .before .before .before .before .if3 .left) .pair in (p .rest, subst (λ x. DataAt (c .before .before .before .before .before .before .before .before .before .before .before .before .before .before .args .items .now) x (p .rest)) (sym (c .before .before .tail .ensures)) (p .tail))
+    let args = c .before .before .before .before .before .before .before .before .before .before .before .before .before .before .args in
+    let pre = c .before .before .before .before .before .before .before .before .before .before .before .before .before .before .pre in
+    let p = pair-datum (args .items .now) (args .i) (pre .1 .0 .0) (pre .1 .0 .1) (sym (c .before .before .before .before .before .before .before .before .kind .ensures) ∙ c .before .before .before .before .before .if3 .left) .pair in (p .rest, subst (λ x. DataAt (args .items .now) x (p .rest)) (sym (c .before .before .tail .ensures)) (p .tail))
 
--- src/grammar.rt:198:13
-expression-returns-6 : (t : ℕ) → expression-lts.Need-returns-6 (
-  kind-reads.Asked,
-  kind-reads.Learnt,
-  head-reads.Asked,
-  head-reads.Learnt,
-  name-judged-reads.Asked,
-  name-judged-reads.Learnt,
-  form-reads.Asked,
-  form-reads.Learnt,
-  tail-reads.Asked,
-  tail-reads.Learnt,
-  is-quotation-reads.Asked,
-  is-quotation-reads.Learnt,
-  count-reads.Asked,
-  count-reads.Learnt,
-  all-below t,
-  all.Post,
-  lambda-below t,
-  lambda.Post,
-) (expression-at t) expression.Post
+expression-returns-6 : (t : ℕ) → expression-lts.Need-returns-6 (expression-claims t) (expression-at t) expression.Post
 expression-returns-6 t c =
-    ((λ d h. let l = pair-datum (c .before .before .before .before .before .before .before .before .before .before .before .before .before .before .before .before .args .items .now) (c .before .before .before .before .before .before .before .before .before .before .before .before .before .before .before .before .args .i) d h (sym (c .before .before .before .before .before .before .before .before .before .before .kind .ensures) ∙ c .before .before .before .before .before .before .before .if3 .left) in let f = c .before .before .before .before .before .form .ensures (l .pair .first) (subst (λ x. DatumAt (c .before .before .before .before .before .before .before .before .before .before .before .before .before .before .before .before .args .items .now) x (l .pair .first)) (sym (c .before .before .before .before .before .before .head2 .ensures)) (l .pair .head)) in let r = subst (λ x. DataAt (c .before .before .before .before .before .before .before .before .before .before .before .before .before .before .before .before .args .items .now) x (l .pair .rest)) (sym (c .before .before .before .before .tail .ensures)) (l .pair .tail) in sym (list-if-not (isOperation (c .before .before .before .before .before .before .before .before .before .before .before .before .before .before .before .before .args .theirs .now) (c .before .before .before .before .before .before .before .before .before .before .before .before .before .before .before .before .args .ours .now) (c .before .before .before .before .before .before .before .before .before .before .before .before .before .before .before .before .args .operations .now)) (round (c .before .before .before .before .before .before .before .before .before .before .before .before .before .before .before .before .args .scope .now) (c .before .before .before .before .before .before .before .before .before .before .before .before .before .before .before .before .args .top)) (c .before .before .before .before .before .before .before .before .before .before .before .before .before .before .before .before .args .items .now) (c .before .before .before .before .before .before .before .before .before .before .before .before .before .before .before .before .args .i) d l (sym f ∙ c .before .before .if6 .taken) (λ e. c .if7 .taken (c .before .count .ensures (l .pair .rest) r ∙ e)))), (λ k l. refl))
+    let args = c .before .before .before .before .before .before .before .before .before .before .before .before .before .before .before .before .args in
+    ((λ d h. let l = pair-datum (args .items .now) (args .i) d h (sym (c .before .before .before .before .before .before .before .before .before .before .kind .ensures) ∙ c .before .before .before .before .before .before .before .if3 .left) in let f = c .before .before .before .before .before .form .ensures (l .pair .first) (subst (λ x. DatumAt (args .items .now) x (l .pair .first)) (sym (c .before .before .before .before .before .before .head2 .ensures)) (l .pair .head)) in let r = subst (λ x. DataAt (args .items .now) x (l .pair .rest)) (sym (c .before .before .before .before .tail .ensures)) (l .pair .tail) in sym (list-if-not (isOperation (args .theirs .now) (args .ours .now) (args .operations .now)) (round (args .scope .now) (args .top)) (args .items .now) (args .i) d l (sym f ∙ c .before .before .if6 .taken) (λ e. c .if7 .taken (c .before .count .ensures (l .pair .rest) r ∙ e)))), (λ k l. refl))
 
--- src/grammar.rt:200:9
-expression-all-requires : (t : ℕ) → expression-lts.Need-all-requires (
-  kind-reads.Asked,
-  kind-reads.Learnt,
-  head-reads.Asked,
-  head-reads.Learnt,
-  name-judged-reads.Asked,
-  name-judged-reads.Learnt,
-  form-reads.Asked,
-  form-reads.Learnt,
-  tail-reads.Asked,
-  tail-reads.Learnt,
-  is-quotation-reads.Asked,
-  is-quotation-reads.Learnt,
-  count-reads.Asked,
-  count-reads.Learnt,
-  all-below t,
-  all.Post,
-  lambda-below t,
-  lambda.Post,
-) (expression-at t) expression.Post
+expression-all-requires : (t : ℕ) → expression-lts.Need-all-requires (expression-claims t) (expression-at t) expression.Post
 expression-all-requires t c κs =
-    let p = pair-datum (c .before .before .before .before .before .before .before .before .before .before .before .before .before .before .before .before .before .args .items .now) (c .before .before .before .before .before .before .before .before .before .before .before .before .before .before .before .before .before .args .i) (c .before .before .before .before .before .before .before .before .before .before .before .before .before .before .before .before .before .pre .1 .0 .0) (c .before .before .before .before .before .before .before .before .before .before .before .before .before .before .before .before .before .pre .1 .0 .1) (sym (c .before .before .before .before .before .before .before .before .before .before .before .kind .ensures) ∙ c .before .before .before .before .before .before .before .before .if3 .left) .pair in (omega (arith, c .before .before .before .before .before .before .before .before .before .before .before .before .before .before .before .before .before .pre .0, c .before .before .before .before .before .tail .ensures, p .tailIs, datum-in (c .before .before .before .before .before .before .before .before .before .before .before .before .before .before .before .before .before .args .items .now) (c .before .before .before .before .before .before .before .before .before .before .before .before .before .before .before .before .before .args .i) (c .before .before .before .before .before .before .before .before .before .before .before .before .before .before .before .before .before .pre .1 .0 .0) (c .before .before .before .before .before .before .before .before .before .before .before .before .before .before .before .before .before .pre .1 .0 .1)), ((p .rest, subst (λ x. DataAt (c .before .before .before .before .before .before .before .before .before .before .before .before .before .before .before .before .before .args .items .now) x (p .rest)) (sym (c .before .before .before .before .before .tail .ensures)) (p .tail)), (omega (arith, c .before .before .before .before .before .before .before .before .before .before .before .before .before .before .before .before .before .pre .1 .1 .0, c .before .before .before .before .before .tail .ensures, p .tailIs), c .before .before .before .before .before .before .before .before .before .before .before .before .before .before .before .before .before .pre .1 .1 .1, c .before .before .before .before .before .before .before .before .before .before .before .before .before .before .before .before .before .pre .1 .1 .2), c .before .before .before .before .before .before .before .before .before .before .before .before .before .before .before .before .before .pre .1 .2))
+    let args = c .before .before .before .before .before .before .before .before .before .before .before .before .before .before .before .before .before .args in
+    let pre = c .before .before .before .before .before .before .before .before .before .before .before .before .before .before .before .before .before .pre in
+    let tail = c .before .before .before .before .before .tail in
+    let p = pair-datum (args .items .now) (args .i) (pre .1 .0 .0) (pre .1 .0 .1) (sym (c .before .before .before .before .before .before .before .before .before .before .before .kind .ensures) ∙ c .before .before .before .before .before .before .before .before .if3 .left) .pair in (omega (arith, pre .0, tail .ensures, p .tailIs, datum-in (args .items .now) (args .i) (pre .1 .0 .0) (pre .1 .0 .1)), ((p .rest, subst (λ x. DataAt (args .items .now) x (p .rest)) (sym (tail .ensures)) (p .tail)), (omega (arith, pre .1 .1 .0, tail .ensures, p .tailIs), pre .1 .1 .1, pre .1 .1 .2), pre .1 .2))
 
--- src/grammar.rt:200:9
-expression-same-length-2 : (t : ℕ) → expression-lts.Need-same-length-2 (
-  kind-reads.Asked,
-  kind-reads.Learnt,
-  head-reads.Asked,
-  head-reads.Learnt,
-  name-judged-reads.Asked,
-  name-judged-reads.Learnt,
-  form-reads.Asked,
-  form-reads.Learnt,
-  tail-reads.Asked,
-  tail-reads.Learnt,
-  is-quotation-reads.Asked,
-  is-quotation-reads.Learnt,
-  count-reads.Asked,
-  count-reads.Learnt,
-  all-below t,
-  all.Post,
-  lambda-below t,
-  lambda.Post,
-) (expression-at t) expression.Post
+expression-same-length-2 : (t : ℕ) → expression-lts.Need-same-length-2 (expression-claims t) (expression-at t) expression.Post
 expression-same-length-2 t c =
     c .before .before .all .kept .1 .1 .1 .1 .0
 
--- src/grammar.rt:200:9
-expression-returns-7 : (t : ℕ) → expression-lts.Need-returns-7 (
-  kind-reads.Asked,
-  kind-reads.Learnt,
-  head-reads.Asked,
-  head-reads.Learnt,
-  name-judged-reads.Asked,
-  name-judged-reads.Learnt,
-  form-reads.Asked,
-  form-reads.Learnt,
-  tail-reads.Asked,
-  tail-reads.Learnt,
-  is-quotation-reads.Asked,
-  is-quotation-reads.Learnt,
-  count-reads.Asked,
-  count-reads.Learnt,
-  all-below t,
-  all.Post,
-  lambda-below t,
-  lambda.Post,
-) (expression-at t) expression.Post
+expression-returns-7 : (t : ℕ) → expression-lts.Need-returns-7 (expression-claims t) (expression-at t) expression.Post
 expression-returns-7 t c =
-    ((λ d h. let l = pair-datum (c .before .before .before .before .before .before .before .before .before .before .before .before .before .before .before .before .before .before .before .before .args .items .now) (c .before .before .before .before .before .before .before .before .before .before .before .before .before .before .before .before .before .before .before .before .args .i) d h (sym (c .before .before .before .before .before .before .before .before .before .before .before .before .before .before .kind .ensures) ∙ c .before .before .before .before .before .before .before .before .before .before .before .if3 .left) in let f = c .before .before .before .before .before .before .before .before .before .form .ensures (l .pair .first) (subst (λ x. DatumAt (c .before .before .before .before .before .before .before .before .before .before .before .before .before .before .before .before .before .before .before .before .args .items .now) x (l .pair .first)) (sym (c .before .before .before .before .before .before .before .before .before .before .head2 .ensures)) (l .pair .head)) in let r = subst (λ x. DataAt (c .before .before .before .before .before .before .before .before .before .before .before .before .before .before .before .before .before .before .before .before .args .items .now) x (l .pair .rest)) (sym (c .before .before .before .before .before .before .before .before .tail .ensures)) (l .pair .tail) in c .before .before .all .ensures .0 (l .pair .rest) r ∙ sym (list-if (isOperation (c .before .before .before .before .before .before .before .before .before .before .before .before .before .before .before .before .before .before .before .before .args .theirs .now) (c .before .before .before .before .before .before .before .before .before .before .before .before .before .before .before .before .before .before .before .before .args .ours .now) (c .before .before .before .before .before .before .before .before .before .before .before .before .before .before .before .before .before .before .before .before .args .operations .now)) (round (c .before .before .before .before .before .before .before .before .before .before .before .before .before .before .before .before .before .before .before .before .args .scope .now) (c .before .before .before .before .before .before .before .before .before .before .before .before .before .before .before .before .before .before .before .before .args .top)) (c .before .before .before .before .before .before .before .before .before .before .before .before .before .before .before .before .before .before .before .before .args .items .now) (c .before .before .before .before .before .before .before .before .before .before .before .before .before .before .before .before .before .before .before .before .args .i) d l (sym f ∙ c .before .before .before .before .before .before .if6 .taken) (sym (c .before .before .before .before .before .count .ensures (l .pair .rest) r) ∙ c .before .before .before .before .if7 .left))), c .before .before .all .ensures .1)
+    let args = c .before .before .before .before .before .before .before .before .before .before .before .before .before .before .before .before .before .before .before .before .args in
+    let all = c .before .before .all in
+    ((λ d h. let l = pair-datum (args .items .now) (args .i) d h (sym (c .before .before .before .before .before .before .before .before .before .before .before .before .before .before .kind .ensures) ∙ c .before .before .before .before .before .before .before .before .before .before .before .if3 .left) in let f = c .before .before .before .before .before .before .before .before .before .form .ensures (l .pair .first) (subst (λ x. DatumAt (args .items .now) x (l .pair .first)) (sym (c .before .before .before .before .before .before .before .before .before .before .head2 .ensures)) (l .pair .head)) in let r = subst (λ x. DataAt (args .items .now) x (l .pair .rest)) (sym (c .before .before .before .before .before .before .before .before .tail .ensures)) (l .pair .tail) in all .ensures .0 (l .pair .rest) r ∙ sym (list-if (isOperation (args .theirs .now) (args .ours .now) (args .operations .now)) (round (args .scope .now) (args .top)) (args .items .now) (args .i) d l (sym f ∙ c .before .before .before .before .before .before .if6 .taken) (sym (c .before .before .before .before .before .count .ensures (l .pair .rest) r) ∙ c .before .before .before .before .if7 .left))), all .ensures .1)
 
--- src/grammar.rt:203:9
-expression-lambda-requires : (t : ℕ) → expression-lts.Need-lambda-requires (
-  kind-reads.Asked,
-  kind-reads.Learnt,
-  head-reads.Asked,
-  head-reads.Learnt,
-  name-judged-reads.Asked,
-  name-judged-reads.Learnt,
-  form-reads.Asked,
-  form-reads.Learnt,
-  tail-reads.Asked,
-  tail-reads.Learnt,
-  is-quotation-reads.Asked,
-  is-quotation-reads.Learnt,
-  count-reads.Asked,
-  count-reads.Learnt,
-  all-below t,
-  all.Post,
-  lambda-below t,
-  lambda.Post,
-) (expression-at t) expression.Post
+expression-lambda-requires : (t : ℕ) → expression-lts.Need-lambda-requires (expression-claims t) (expression-at t) expression.Post
 expression-lambda-requires t c κs =
-    let p = pair-datum (c .before .before .before .before .before .before .before .before .before .before .before .before .before .before .before .before .args .items .now) (c .before .before .before .before .before .before .before .before .before .before .before .before .before .before .before .before .args .i) (c .before .before .before .before .before .before .before .before .before .before .before .before .before .before .before .before .pre .1 .0 .0) (c .before .before .before .before .before .before .before .before .before .before .before .before .before .before .before .before .pre .1 .0 .1) (sym (c .before .before .before .before .before .before .before .before .before .before .kind .ensures) ∙ c .before .before .before .before .before .before .before .if3 .left) .pair in (omega (arith, c .before .before .before .before .before .before .before .before .before .before .before .before .before .before .before .before .pre .0, c .before .before .before .before .tail .ensures, p .tailIs, datum-in (c .before .before .before .before .before .before .before .before .before .before .before .before .before .before .before .before .args .items .now) (c .before .before .before .before .before .before .before .before .before .before .before .before .before .before .before .before .args .i) (c .before .before .before .before .before .before .before .before .before .before .before .before .before .before .before .before .pre .1 .0 .0) (c .before .before .before .before .before .before .before .before .before .before .before .before .before .before .before .before .pre .1 .0 .1)), ((p .rest, subst (λ x. DataAt (c .before .before .before .before .before .before .before .before .before .before .before .before .before .before .before .before .args .items .now) x (p .rest)) (sym (c .before .before .before .before .tail .ensures)) (p .tail)), (omega (arith, c .before .before .before .before .before .before .before .before .before .before .before .before .before .before .before .before .pre .1 .1 .0, c .before .before .before .before .tail .ensures, p .tailIs), c .before .before .before .before .before .before .before .before .before .before .before .before .before .before .before .before .pre .1 .1 .1, c .before .before .before .before .before .before .before .before .before .before .before .before .before .before .before .before .pre .1 .1 .2), c .before .before .before .before .before .before .before .before .before .before .before .before .before .before .before .before .pre .1 .2))
+    let args = c .before .before .before .before .before .before .before .before .before .before .before .before .before .before .before .before .args in
+    let pre = c .before .before .before .before .before .before .before .before .before .before .before .before .before .before .before .before .pre in
+    let tail = c .before .before .before .before .tail in
+    let p = pair-datum (args .items .now) (args .i) (pre .1 .0 .0) (pre .1 .0 .1) (sym (c .before .before .before .before .before .before .before .before .before .before .kind .ensures) ∙ c .before .before .before .before .before .before .before .if3 .left) .pair in (omega (arith, pre .0, tail .ensures, p .tailIs, datum-in (args .items .now) (args .i) (pre .1 .0 .0) (pre .1 .0 .1)), ((p .rest, subst (λ x. DataAt (args .items .now) x (p .rest)) (sym (tail .ensures)) (p .tail)), (omega (arith, pre .1 .1 .0, tail .ensures, p .tailIs), pre .1 .1 .1, pre .1 .1 .2), pre .1 .2))
 
--- src/grammar.rt:203:9
-expression-same-length-3 : (t : ℕ) → expression-lts.Need-same-length-3 (
-  kind-reads.Asked,
-  kind-reads.Learnt,
-  head-reads.Asked,
-  head-reads.Learnt,
-  name-judged-reads.Asked,
-  name-judged-reads.Learnt,
-  form-reads.Asked,
-  form-reads.Learnt,
-  tail-reads.Asked,
-  tail-reads.Learnt,
-  is-quotation-reads.Asked,
-  is-quotation-reads.Learnt,
-  count-reads.Asked,
-  count-reads.Learnt,
-  all-below t,
-  all.Post,
-  lambda-below t,
-  lambda.Post,
-) (expression-at t) expression.Post
+expression-same-length-3 : (t : ℕ) → expression-lts.Need-same-length-3 (expression-claims t) (expression-at t) expression.Post
 expression-same-length-3 t c =
     c .before .before .lambda .kept .1 .1 .1 .1 .0
 
--- src/grammar.rt:203:9
-expression-returns-8 : (t : ℕ) → expression-lts.Need-returns-8 (
-  kind-reads.Asked,
-  kind-reads.Learnt,
-  head-reads.Asked,
-  head-reads.Learnt,
-  name-judged-reads.Asked,
-  name-judged-reads.Learnt,
-  form-reads.Asked,
-  form-reads.Learnt,
-  tail-reads.Asked,
-  tail-reads.Learnt,
-  is-quotation-reads.Asked,
-  is-quotation-reads.Learnt,
-  count-reads.Asked,
-  count-reads.Learnt,
-  all-below t,
-  all.Post,
-  lambda-below t,
-  lambda.Post,
-) (expression-at t) expression.Post
+expression-returns-8 : (t : ℕ) → expression-lts.Need-returns-8 (expression-claims t) (expression-at t) expression.Post
 expression-returns-8 t c =
-    ((λ d h. let l = pair-datum (c .before .before .before .before .before .before .before .before .before .before .before .before .before .before .before .before .before .before .before .args .items .now) (c .before .before .before .before .before .before .before .before .before .before .before .before .before .before .before .before .before .before .before .args .i) d h (sym (c .before .before .before .before .before .before .before .before .before .before .before .before .before .kind .ensures) ∙ c .before .before .before .before .before .before .before .before .before .before .if3 .left) in let f = c .before .before .before .before .before .before .before .before .form .ensures (l .pair .first) (subst (λ x. DatumAt (c .before .before .before .before .before .before .before .before .before .before .before .before .before .before .before .before .before .before .before .args .items .now) x (l .pair .first)) (sym (c .before .before .before .before .before .before .before .before .before .head2 .ensures)) (l .pair .head)) in let r = subst (λ x. DataAt (c .before .before .before .before .before .before .before .before .before .before .before .before .before .before .before .before .before .before .before .args .items .now) x (l .pair .rest)) (sym (c .before .before .before .before .before .before .before .tail .ensures)) (l .pair .tail) in c .before .before .lambda .ensures .0 (l .pair .rest) r ∙ sym (list-lambda (isOperation (c .before .before .before .before .before .before .before .before .before .before .before .before .before .before .before .before .before .before .before .args .theirs .now) (c .before .before .before .before .before .before .before .before .before .before .before .before .before .before .before .before .before .before .before .args .ours .now) (c .before .before .before .before .before .before .before .before .before .before .before .before .before .before .before .before .before .before .before .args .operations .now)) (round (c .before .before .before .before .before .before .before .before .before .before .before .before .before .before .before .before .before .before .before .args .scope .now) (c .before .before .before .before .before .before .before .before .before .before .before .before .before .before .before .before .before .before .before .args .top)) (c .before .before .before .before .before .before .before .before .before .before .before .before .before .before .before .before .before .before .before .args .items .now) (c .before .before .before .before .before .before .before .before .before .before .before .before .before .before .before .before .before .before .before .args .i) d l (sym f ∙ c .before .before .before .before .if8 .taken))), c .before .before .lambda .ensures .1)
+    let args = c .before .before .before .before .before .before .before .before .before .before .before .before .before .before .before .before .before .before .before .args in
+    let lambda = c .before .before .lambda in
+    ((λ d h. let l = pair-datum (args .items .now) (args .i) d h (sym (c .before .before .before .before .before .before .before .before .before .before .before .before .before .kind .ensures) ∙ c .before .before .before .before .before .before .before .before .before .before .if3 .left) in let f = c .before .before .before .before .before .before .before .before .form .ensures (l .pair .first) (subst (λ x. DatumAt (args .items .now) x (l .pair .first)) (sym (c .before .before .before .before .before .before .before .before .before .head2 .ensures)) (l .pair .head)) in let r = subst (λ x. DataAt (args .items .now) x (l .pair .rest)) (sym (c .before .before .before .before .before .before .before .tail .ensures)) (l .pair .tail) in lambda .ensures .0 (l .pair .rest) r ∙ sym (list-lambda (isOperation (args .theirs .now) (args .ours .now) (args .operations .now)) (round (args .scope .now) (args .top)) (args .items .now) (args .i) d l (sym f ∙ c .before .before .before .before .if8 .taken))), lambda .ensures .1)
 
--- src/grammar.rt:205:5
-expression-all-requires-2 : (t : ℕ) → expression-lts.Need-all-requires-2 (
-  kind-reads.Asked,
-  kind-reads.Learnt,
-  head-reads.Asked,
-  head-reads.Learnt,
-  name-judged-reads.Asked,
-  name-judged-reads.Learnt,
-  form-reads.Asked,
-  form-reads.Learnt,
-  tail-reads.Asked,
-  tail-reads.Learnt,
-  is-quotation-reads.Asked,
-  is-quotation-reads.Learnt,
-  count-reads.Asked,
-  count-reads.Learnt,
-  all-below t,
-  all.Post,
-  lambda-below t,
-  lambda.Post,
-) (expression-at t) expression.Post
+expression-all-requires-2 : (t : ℕ) → expression-lts.Need-all-requires-2 (expression-claims t) (expression-at t) expression.Post
 expression-all-requires-2 t c κs =
-    let l = pair-datum (c .before .before .before .before .before .before .before .before .before .before .before .before .before .before .before .before .args .items .now) (c .before .before .before .before .before .before .before .before .before .before .before .before .before .before .before .before .args .i) (c .before .before .before .before .before .before .before .before .before .before .before .before .before .before .before .before .pre .1 .0 .0) (c .before .before .before .before .before .before .before .before .before .before .before .before .before .before .before .before .pre .1 .0 .1) (sym (c .before .before .before .before .before .before .before .before .before .before .kind .ensures) ∙ c .before .before .before .before .before .before .before .if3 .left) in (omega (arith, c .before .before .before .before .before .before .before .before .before .before .before .before .before .before .before .before .pre .0), ((l .elements, l .list), c .before .before .before .before .before .before .before .before .before .before .before .before .before .before .before .before .pre .1 .1, c .before .before .before .before .before .before .before .before .before .before .before .before .before .before .before .before .pre .1 .2))
+    let args = c .before .before .before .before .before .before .before .before .before .before .before .before .before .before .before .before .args in
+    let pre = c .before .before .before .before .before .before .before .before .before .before .before .before .before .before .before .before .pre in
+    let l = pair-datum (args .items .now) (args .i) (pre .1 .0 .0) (pre .1 .0 .1) (sym (c .before .before .before .before .before .before .before .before .before .before .kind .ensures) ∙ c .before .before .before .before .before .before .before .if3 .left) in (omega (arith, pre .0), ((l .elements, l .list), pre .1 .1, pre .1 .2))
 
--- src/grammar.rt:165:1
-expression-same-length-4 : (t : ℕ) → expression-lts.Need-same-length-4 (
-  kind-reads.Asked,
-  kind-reads.Learnt,
-  head-reads.Asked,
-  head-reads.Learnt,
-  name-judged-reads.Asked,
-  name-judged-reads.Learnt,
-  form-reads.Asked,
-  form-reads.Learnt,
-  tail-reads.Asked,
-  tail-reads.Learnt,
-  is-quotation-reads.Asked,
-  is-quotation-reads.Learnt,
-  count-reads.Asked,
-  count-reads.Learnt,
-  all-below t,
-  all.Post,
-  lambda-below t,
-  lambda.Post,
-) (expression-at t) expression.Post
+expression-same-length-4 : (t : ℕ) → expression-lts.Need-same-length-4 (expression-claims t) (expression-at t) expression.Post
 expression-same-length-4 t c =
     c .before .before .all2 .kept .1 .1 .1 .1 .0
 
--- src/grammar.rt:165:1
-expression-returns-9 : (t : ℕ) → expression-lts.Need-returns-9 (
-  kind-reads.Asked,
-  kind-reads.Learnt,
-  head-reads.Asked,
-  head-reads.Learnt,
-  name-judged-reads.Asked,
-  name-judged-reads.Learnt,
-  form-reads.Asked,
-  form-reads.Learnt,
-  tail-reads.Asked,
-  tail-reads.Learnt,
-  is-quotation-reads.Asked,
-  is-quotation-reads.Learnt,
-  count-reads.Asked,
-  count-reads.Learnt,
-  all-below t,
-  all.Post,
-  lambda-below t,
-  lambda.Post,
-) (expression-at t) expression.Post
+expression-returns-9 : (t : ℕ) → expression-lts.Need-returns-9 (expression-claims t) (expression-at t) expression.Post
 expression-returns-9 t c =
-    ((λ d h. let l = pair-datum (c .before .before .before .before .before .before .before .before .before .before .before .before .before .before .before .before .before .before .before .args .items .now) (c .before .before .before .before .before .before .before .before .before .before .before .before .before .before .before .before .before .before .before .args .i) d h (sym (c .before .before .before .before .before .before .before .before .before .before .before .before .before .kind .ensures) ∙ c .before .before .before .before .before .before .before .before .before .before .if3 .left) in let f = c .before .before .before .before .before .before .before .before .form .ensures (l .pair .first) (subst (λ x. DatumAt (c .before .before .before .before .before .before .before .before .before .before .before .before .before .before .before .before .before .before .before .args .items .now) x (l .pair .first)) (sym (c .before .before .before .before .before .before .before .before .before .head2 .ensures)) (l .pair .head)) in let r = subst (λ x. DataAt (c .before .before .before .before .before .before .before .before .before .before .before .before .before .before .before .before .before .before .before .args .items .now) x (l .pair .rest)) (sym (c .before .before .before .before .before .before .before .tail .ensures)) (l .pair .tail) in c .before .before .all2 .ensures .0 (l .elements) (l .list) ∙ sym (list-other (isOperation (c .before .before .before .before .before .before .before .before .before .before .before .before .before .before .before .before .before .before .before .args .theirs .now) (c .before .before .before .before .before .before .before .before .before .before .before .before .before .before .before .before .before .before .before .args .ours .now) (c .before .before .before .before .before .before .before .before .before .before .before .before .before .before .before .before .before .before .before .args .operations .now)) (round (c .before .before .before .before .before .before .before .before .before .before .before .before .before .before .before .before .before .before .before .args .scope .now) (c .before .before .before .before .before .before .before .before .before .before .before .before .before .before .before .before .before .before .before .args .top)) (c .before .before .before .before .before .before .before .before .before .before .before .before .before .before .before .before .before .before .before .args .items .now) (c .before .before .before .before .before .before .before .before .before .before .before .before .before .before .before .before .before .before .before .args .i) d l _ f (c .before .before .before .before .before .before .if4 .left) (c .before .before .before .before .before .if6 .left) (c .before .before .before .before .if8 .left))), c .before .before .all2 .ensures .1)
+    let args = c .before .before .before .before .before .before .before .before .before .before .before .before .before .before .before .before .before .before .before .args in
+    let all2 = c .before .before .all2 in
+    ((λ d h. let l = pair-datum (args .items .now) (args .i) d h (sym (c .before .before .before .before .before .before .before .before .before .before .before .before .before .kind .ensures) ∙ c .before .before .before .before .before .before .before .before .before .before .if3 .left) in let f = c .before .before .before .before .before .before .before .before .form .ensures (l .pair .first) (subst (λ x. DatumAt (args .items .now) x (l .pair .first)) (sym (c .before .before .before .before .before .before .before .before .before .head2 .ensures)) (l .pair .head)) in let r = subst (λ x. DataAt (args .items .now) x (l .pair .rest)) (sym (c .before .before .before .before .before .before .before .tail .ensures)) (l .pair .tail) in all2 .ensures .0 (l .elements) (l .list) ∙ sym (list-other (isOperation (args .theirs .now) (args .ours .now) (args .operations .now)) (round (args .scope .now) (args .top)) (args .items .now) (args .i) d l _ f (c .before .before .before .before .before .before .if4 .left) (c .before .before .before .before .before .if6 .left) (c .before .before .before .before .if8 .left))), all2 .ensures .1)
 
--- src/grammar.rt:222:8
-lambda-count-requires : (t : ℕ) → lambda-lts.Need-count-requires (
-  count-reads.Asked,
-  count-reads.Learnt,
-  head-reads.Asked,
-  head-reads.Learnt,
-  formals-reads.Asked,
-  formals-reads.Learnt,
-  tail-reads.Asked,
-  tail-reads.Learnt,
-  expression-below t,
-  expression.Post,
-) (lambda-at t) lambda.Post
+lambda-count-requires : (t : ℕ) → lambda-lts.Need-count-requires (lambda-claims t) (lambda-at t) lambda.Post
 lambda-count-requires t c κs =
     c .before .before .before .before .before .pre .1 .0
 
--- src/grammar.rt:223:9
-lambda-returns : (t : ℕ) → lambda-lts.Need-returns (
-  count-reads.Asked,
-  count-reads.Learnt,
-  head-reads.Asked,
-  head-reads.Learnt,
-  formals-reads.Asked,
-  formals-reads.Learnt,
-  tail-reads.Asked,
-  tail-reads.Learnt,
-  expression-below t,
-  expression.Post,
-) (lambda-at t) lambda.Post
+lambda-returns : (t : ℕ) → lambda-lts.Need-returns (lambda-claims t) (lambda-at t) lambda.Post
 lambda-returns t c =
-    ((λ ds h. sym (lambda-count (isOperation (c .before .before .before .before .before .before .before .args .theirs .now) (c .before .before .before .before .before .before .before .args .ours .now) (c .before .before .before .before .before .before .before .args .operations .now)) (round (c .before .before .before .before .before .before .before .args .scope .now) (c .before .before .before .before .before .before .before .args .top)) ds (λ e. c .if1 .taken (c .before .count .ensures ds h ∙ e)))), (λ k l. refl))
+    let args = c .before .before .before .before .before .before .before .args in
+    ((λ ds h. sym (lambda-count (isOperation (args .theirs .now) (args .ours .now) (args .operations .now)) (round (args .scope .now) (args .top)) ds (λ e. c .if1 .taken (c .before .count .ensures ds h ∙ e)))), (λ k l. refl))
 
--- src/grammar.rt:225:44
-lambda-head-requires : (t : ℕ) → lambda-lts.Need-head-requires (
-  count-reads.Asked,
-  count-reads.Learnt,
-  head-reads.Asked,
-  head-reads.Learnt,
-  formals-reads.Asked,
-  formals-reads.Learnt,
-  tail-reads.Asked,
-  tail-reads.Learnt,
-  expression-below t,
-  expression.Post,
-) (lambda-at t) lambda.Post
+lambda-head-requires : (t : ℕ) → lambda-lts.Need-head-requires (lambda-claims t) (lambda-at t) lambda.Post
 lambda-head-requires t c κs =
-    data-in (c .before .before .before .before .before .before .before .args .items .now) (c .before .before .before .before .before .before .before .args .i) (c .before .before .before .before .before .before .before .pre .1 .0 .0) (c .before .before .before .before .before .before .before .pre .1 .0 .1)
+    let args = c .before .before .before .before .before .before .before .args in
+    let pre = c .before .before .before .before .before .before .before .pre in
+    data-in (args .items .now) (args .i) (pre .1 .0 .0) (pre .1 .0 .1)
 
--- src/grammar.rt:225:29
-lambda-formals-requires : (t : ℕ) → lambda-lts.Need-formals-requires (
-  count-reads.Asked,
-  count-reads.Learnt,
-  head-reads.Asked,
-  head-reads.Learnt,
-  formals-reads.Asked,
-  formals-reads.Learnt,
-  tail-reads.Asked,
-  tail-reads.Learnt,
-  expression-below t,
-  expression.Post,
-) (lambda-at t) lambda.Post
+lambda-formals-requires : (t : ℕ) → lambda-lts.Need-formals-requires (lambda-claims t) (lambda-at t) lambda.Post
 lambda-formals-requires t c κs =
-    let t = two-at (c .before .before .before .before .before .before .before .before .before .args .items .now) (c .before .before .before .before .before .before .before .before .before .args .i) (c .before .before .before .before .before .before .before .before .before .pre .1 .0 .0) (c .before .before .before .before .before .before .before .before .before .pre .1 .0 .1) (sym (c .before .before .before .count .ensures (c .before .before .before .before .before .before .before .before .before .pre .1 .0 .0) (c .before .before .before .before .before .before .before .before .before .pre .1 .0 .1)) ∙ c .before .before .if1 .left) in ((t .first, subst (λ x. DatumAt (c .before .before .before .before .before .before .before .before .before .args .items .now) x (t .first)) (sym (c .before .head .ensures)) (t .head)), omega (arith, c .before .before .before .before .before .before .before .before .before .pre .1 .1 .0, c .before .before .before .before .before .before .before .before .before .pre .1 .1 .1, c .before .before .before .before .before .before .before .before .before .pre .1 .1 .2, data-in (c .before .before .before .before .before .before .before .before .before .args .items .now) (c .before .before .before .before .before .before .before .before .before .args .i) (c .before .before .before .before .before .before .before .before .before .pre .1 .0 .0) (c .before .before .before .before .before .before .before .before .before .pre .1 .0 .1)))
+    let args = c .before .before .before .before .before .before .before .before .before .args in
+    let pre = c .before .before .before .before .before .before .before .before .before .pre in
+    let t = two-at (args .items .now) (args .i) (pre .1 .0 .0) (pre .1 .0 .1) (sym (c .before .before .before .count .ensures (pre .1 .0 .0) (pre .1 .0 .1)) ∙ c .before .before .if1 .left) in ((t .first, subst (λ x. DatumAt (args .items .now) x (t .first)) (sym (c .before .head .ensures)) (t .head)), omega (arith, pre .1 .1 .0, pre .1 .1 .1, pre .1 .1 .2, data-in (args .items .now) (args .i) (pre .1 .0 .0) (pre .1 .0 .1)))
 
--- src/grammar.rt:225:24
-lambda-enum-known-n : (t : ℕ) → lambda-lts.Need-enum-known-n (
-  count-reads.Asked,
-  count-reads.Learnt,
-  head-reads.Asked,
-  head-reads.Learnt,
-  formals-reads.Asked,
-  formals-reads.Learnt,
-  tail-reads.Asked,
-  tail-reads.Learnt,
-  expression-below t,
-  expression.Post,
-) (lambda-at t) lambda.Post
-lambda-enum-known-n t c =
-    search needs
-
--- src/grammar.rt:226:9
-lambda-enum-told : (t : ℕ) → lambda-lts.Need-enum-told (
-  count-reads.Asked,
-  count-reads.Learnt,
-  head-reads.Asked,
-  head-reads.Learnt,
-  formals-reads.Asked,
-  formals-reads.Learnt,
-  tail-reads.Asked,
-  tail-reads.Learnt,
-  expression-below t,
-  expression.Post,
-) (lambda-at t) lambda.Post
-lambda-enum-told t c =
-    search needs
-
--- src/grammar.rt:226:9
-lambda-same-length : (t : ℕ) → lambda-lts.Need-same-length (
-  count-reads.Asked,
-  count-reads.Learnt,
-  head-reads.Asked,
-  head-reads.Learnt,
-  formals-reads.Asked,
-  formals-reads.Learnt,
-  tail-reads.Asked,
-  tail-reads.Learnt,
-  expression-below t,
-  expression.Post,
-) (lambda-at t) lambda.Post
+lambda-same-length : (t : ℕ) → lambda-lts.Need-same-length (lambda-claims t) (lambda-at t) lambda.Post
 lambda-same-length t c =
     c .before .before .before .before .formals .kept .1 .1 .0
 
--- src/grammar.rt:226:9
-lambda-returns-2 : (t : ℕ) → lambda-lts.Need-returns-2 (
-  count-reads.Asked,
-  count-reads.Learnt,
-  head-reads.Asked,
-  head-reads.Learnt,
-  formals-reads.Asked,
-  formals-reads.Learnt,
-  tail-reads.Asked,
-  tail-reads.Learnt,
-  expression-below t,
-  expression.Post,
-) (lambda-at t) lambda.Post
+lambda-returns-2 : (t : ℕ) → lambda-lts.Need-returns-2 (lambda-claims t) (lambda-at t) lambda.Post
 lambda-returns-2 t c =
-    ((λ ds h. let t = two-at (c .before .before .before .before .before .before .before .before .before .before .before .before .before .before .args .items .now) (c .before .before .before .before .before .before .before .before .before .before .before .before .before .before .args .i) ds h (sym (c .before .before .before .before .before .before .before .before .count .ensures ds h) ∙ c .before .before .before .before .before .before .before .if1 .left) in let f = c .before .before .before .before .formals .ensures .0 (t .first) (subst (λ x. DatumAt (c .before .before .before .before .before .before .before .before .before .before .before .before .before .before .args .items .now) x (t .first)) (sym (c .before .before .before .before .before .before .head .ensures)) (t .head)) in sym (two-none (isOperation (c .before .before .before .before .before .before .before .before .before .before .before .before .before .before .args .theirs .now) (c .before .before .before .before .before .before .before .before .before .before .before .before .before .before .args .ours .now) (c .before .before .before .before .before .before .before .before .before .before .before .before .before .before .args .operations .now)) (round (c .before .before .before .before .before .before .before .before .before .before .before .before .before .before .args .scope .now) (c .before .before .before .before .before .before .before .before .before .before .before .before .before .before .args .top)) (c .before .before .before .before .before .before .before .before .before .before .before .before .before .before .args .items .now) (c .before .before .before .before .before .before .before .before .before .before .before .before .before .before .args .i) ds t (subst (FormalsAre (t .first) (c .before .before .before .before .before .before .before .before .before .before .before .before .before .before .args .top) (c .before .before .before .before .before .before .before .before .before .before .before .before .before .before .args .scope .now) (c .before .before .before .before .formals .last .1 .1 .0)) (c .enum-told .given .1) f))), c .before .before .before .before .formals .ensures .1)
+    let args = c .before .before .before .before .before .before .before .before .before .before .before .before .before .before .args in
+    let formals = c .before .before .before .before .formals in
+    ((λ ds h. let t = two-at (args .items .now) (args .i) ds h (sym (c .before .before .before .before .before .before .before .before .count .ensures ds h) ∙ c .before .before .before .before .before .before .before .if1 .left) in let f = formals .ensures .0 (t .first) (subst (λ x. DatumAt (args .items .now) x (t .first)) (sym (c .before .before .before .before .before .before .head .ensures)) (t .head)) in sym (two-none (isOperation (args .theirs .now) (args .ours .now) (args .operations .now)) (round (args .scope .now) (args .top)) (args .items .now) (args .i) ds t (subst (FormalsAre (t .first) (args .top) (args .scope .now) (formals .last .1 .1 .0)) (c .enum-told .given .1) f))), formals .ensures .1)
 
--- src/grammar.rt:228:28
-lambda-tail-requires : (t : ℕ) → lambda-lts.Need-tail-requires (
-  count-reads.Asked,
-  count-reads.Learnt,
-  head-reads.Asked,
-  head-reads.Learnt,
-  formals-reads.Asked,
-  formals-reads.Learnt,
-  tail-reads.Asked,
-  tail-reads.Learnt,
-  expression-below t,
-  expression.Post,
-) (lambda-at t) lambda.Post
+lambda-tail-requires : (t : ℕ) → lambda-lts.Need-tail-requires (lambda-claims t) (lambda-at t) lambda.Post
 lambda-tail-requires t c κs =
-    data-in (c .before .before .before .before .before .before .before .before .before .before .before .before .before .before .before .args .items .now) (c .before .before .before .before .before .before .before .before .before .before .before .before .before .before .before .args .i) (c .before .before .before .before .before .before .before .before .before .before .before .before .before .before .before .pre .1 .0 .0) (c .before .before .before .before .before .before .before .before .before .before .before .before .before .before .before .pre .1 .0 .1)
+    let args = c .before .before .before .before .before .before .before .before .before .before .before .before .before .before .before .args in
+    let pre = c .before .before .before .before .before .before .before .before .before .before .before .before .before .before .before .pre in
+    data-in (args .items .now) (args .i) (pre .1 .0 .0) (pre .1 .0 .1)
 
--- src/grammar.rt:228:9
-lambda-head-requires-2 : (t : ℕ) → lambda-lts.Need-head-requires-2 (
-  count-reads.Asked,
-  count-reads.Learnt,
-  head-reads.Asked,
-  head-reads.Learnt,
-  formals-reads.Asked,
-  formals-reads.Learnt,
-  tail-reads.Asked,
-  tail-reads.Learnt,
-  expression-below t,
-  expression.Post,
-) (lambda-at t) lambda.Post
+lambda-head-requires-2 : (t : ℕ) → lambda-lts.Need-head-requires-2 (lambda-claims t) (lambda-at t) lambda.Post
 lambda-head-requires-2 t c κs =
-    let t = two-at (c .before .before .before .before .before .before .before .before .before .before .before .before .before .before .before .before .args .items .now) (c .before .before .before .before .before .before .before .before .before .before .before .before .before .before .before .before .args .i) (c .before .before .before .before .before .before .before .before .before .before .before .before .before .before .before .before .pre .1 .0 .0) (c .before .before .before .before .before .before .before .before .before .before .before .before .before .before .before .before .pre .1 .0 .1) (sym (c .before .before .before .before .before .before .before .before .before .before .count .ensures (c .before .before .before .before .before .before .before .before .before .before .before .before .before .before .before .before .pre .1 .0 .0) (c .before .before .before .before .before .before .before .before .before .before .before .before .before .before .before .before .pre .1 .0 .1)) ∙ c .before .before .before .before .before .before .before .before .before .if1 .left) in data-in (c .before .before .before .before .before .before .before .before .before .before .before .before .before .before .before .before .args .items .now) (c .tail .result) (moreD (t .second) noneD) (subst (λ x. DataAt (c .before .before .before .before .before .before .before .before .before .before .before .before .before .before .before .before .args .items .now) x (moreD (t .second) noneD)) (sym (c .tail .ensures)) (t .tail))
+    let args = c .before .before .before .before .before .before .before .before .before .before .before .before .before .before .before .before .args in
+    let pre = c .before .before .before .before .before .before .before .before .before .before .before .before .before .before .before .before .pre in
+    let t = two-at (args .items .now) (args .i) (pre .1 .0 .0) (pre .1 .0 .1) (sym (c .before .before .before .before .before .before .before .before .before .before .count .ensures (pre .1 .0 .0) (pre .1 .0 .1)) ∙ c .before .before .before .before .before .before .before .before .before .if1 .left) in data-in (args .items .now) (c .tail .result) (moreD (t .second) noneD) (subst (λ x. DataAt (args .items .now) x (moreD (t .second) noneD)) (sym (c .tail .ensures)) (t .tail))
 
--- src/grammar.rt:229:56
-lambda-add-expression : (t : ℕ) → lambda-lts.Need-add-expression (
-  count-reads.Asked,
-  count-reads.Learnt,
-  head-reads.Asked,
-  head-reads.Learnt,
-  formals-reads.Asked,
-  formals-reads.Learnt,
-  tail-reads.Asked,
-  tail-reads.Learnt,
-  expression-below t,
-  expression.Post,
-) (lambda-at t) lambda.Post
+lambda-add-expression : (t : ℕ) → lambda-lts.Need-add-expression (lambda-claims t) (lambda-at t) lambda.Post
 lambda-add-expression t c =
-    let t = two-at (c .before .before .before .before .before .before .before .before .before .before .before .before .before .before .before .before .before .before .args .items .now) (c .before .before .before .before .before .before .before .before .before .before .before .before .before .before .before .before .before .before .args .i) (c .before .before .before .before .before .before .before .before .before .before .before .before .before .before .before .before .before .before .pre .1 .0 .0) (c .before .before .before .before .before .before .before .before .before .before .before .before .before .before .before .before .before .before .pre .1 .0 .1) (sym (c .before .before .before .before .before .before .before .before .before .before .before .before .count .ensures (c .before .before .before .before .before .before .before .before .before .before .before .before .before .before .before .before .before .before .pre .1 .0 .0) (c .before .before .before .before .before .before .before .before .before .before .before .before .before .before .before .before .before .before .pre .1 .0 .1)) ∙ c .before .before .before .before .before .before .before .before .before .before .before .if1 .left) in let f = subst (FormalsAre (t .first) (c .before .before .before .before .before .before .before .before .before .before .before .before .before .before .before .before .before .before .args .top) (c .before .before .before .before .before .before .before .before .before .before .before .before .before .before .before .before .before .before .args .scope .now) (c .before .before .before .before .before .before .before .before .formals .last .1 .1 .0)) (c .before .before .before .before .n .given .1) (c .before .before .before .before .before .before .before .before .formals .ensures .0 (t .first) (subst (λ x. DatumAt (c .before .before .before .before .before .before .before .before .before .before .before .before .before .before .before .before .before .before .args .items .now) x (t .first)) (sym (c .before .before .before .before .before .before .before .before .before .before .head .ensures)) (t .head))) in let s = formals-items (t .first) (f .0) (f .1) in let e : c .before .head2 .result ≡ headAt (c .before .before .before .before .before .before .before .before .before .before .before .before .before .before .before .before .before .before .args .items .now) (tailAt (c .before .before .before .before .before .before .before .before .before .before .before .before .before .before .before .before .before .before .args .items .now) (c .before .before .before .before .before .before .before .before .before .before .before .before .before .before .before .before .before .before .args .i)) = c .before .head2 .ensures ∙ ap (headAt (c .before .before .before .before .before .before .before .before .before .before .before .before .before .before .before .before .before .before .args .items .now)) (c .before .before .tail .ensures) in omega (arith, s, f .2, t .bodyIs, datum-in (c .before .before .before .before .before .before .before .before .before .before .before .before .before .before .before .before .before .before .args .items .now) _ (t .second) (t .body), c .before .before .before .before .before .before .before .before .before .before .before .before .before .before .before .before .before .before .pre .1 .1 .0, c .before .before .before .before .before .before .before .before .before .before .before .before .before .before .before .before .before .before .pre .1 .1 .1)
+    let args = c .before .before .before .before .before .before .before .before .before .before .before .before .before .before .before .before .before .before .args in
+    let pre = c .before .before .before .before .before .before .before .before .before .before .before .before .before .before .before .before .before .before .pre in
+    let formals = c .before .before .before .before .before .before .before .before .formals in
+    let head2 = c .before .head2 in
+    let t = two-at (args .items .now) (args .i) (pre .1 .0 .0) (pre .1 .0 .1) (sym (c .before .before .before .before .before .before .before .before .before .before .before .before .count .ensures (pre .1 .0 .0) (pre .1 .0 .1)) ∙ c .before .before .before .before .before .before .before .before .before .before .before .if1 .left) in let f = subst (FormalsAre (t .first) (args .top) (args .scope .now) (formals .last .1 .1 .0)) (c .before .before .before .before .n .given .1) (formals .ensures .0 (t .first) (subst (λ x. DatumAt (args .items .now) x (t .first)) (sym (c .before .before .before .before .before .before .before .before .before .before .head .ensures)) (t .head))) in let s = formals-items (t .first) (f .0) (f .1) in let e : head2 .result ≡ headAt (args .items .now) (tailAt (args .items .now) (args .i)) = head2 .ensures ∙ ap (headAt (args .items .now)) (c .before .before .tail .ensures) in omega (arith, s, f .2, t .bodyIs, datum-in (args .items .now) _ (t .second) (t .body), pre .1 .1 .0, pre .1 .1 .1)
 
--- src/grammar.rt:229:5
-lambda-expression-requires : (t : ℕ) → lambda-lts.Need-expression-requires (
-  count-reads.Asked,
-  count-reads.Learnt,
-  head-reads.Asked,
-  head-reads.Learnt,
-  formals-reads.Asked,
-  formals-reads.Learnt,
-  tail-reads.Asked,
-  tail-reads.Learnt,
-  expression-below t,
-  expression.Post,
-) (lambda-at t) lambda.Post
+lambda-expression-requires : (t : ℕ) → lambda-lts.Need-expression-requires (lambda-claims t) (lambda-at t) lambda.Post
 lambda-expression-requires t c κs =
-    let t = two-at (c .before .before .before .before .before .before .before .before .before .before .before .before .before .before .before .before .before .before .args .items .now) (c .before .before .before .before .before .before .before .before .before .before .before .before .before .before .before .before .before .before .args .i) (c .before .before .before .before .before .before .before .before .before .before .before .before .before .before .before .before .before .before .pre .1 .0 .0) (c .before .before .before .before .before .before .before .before .before .before .before .before .before .before .before .before .before .before .pre .1 .0 .1) (sym (c .before .before .before .before .before .before .before .before .before .before .before .before .count .ensures (c .before .before .before .before .before .before .before .before .before .before .before .before .before .before .before .before .before .before .pre .1 .0 .0) (c .before .before .before .before .before .before .before .before .before .before .before .before .before .before .before .before .before .before .pre .1 .0 .1)) ∙ c .before .before .before .before .before .before .before .before .before .before .before .if1 .left) in let f = subst (FormalsAre (t .first) (c .before .before .before .before .before .before .before .before .before .before .before .before .before .before .before .before .before .before .args .top) (c .before .before .before .before .before .before .before .before .before .before .before .before .before .before .before .before .before .before .args .scope .now) (c .before .before .before .before .before .before .before .before .formals .last .1 .1 .0)) (c .before .before .before .before .n .given .1) (c .before .before .before .before .before .before .before .before .formals .ensures .0 (t .first) (subst (λ x. DatumAt (c .before .before .before .before .before .before .before .before .before .before .before .before .before .before .before .before .before .before .args .items .now) x (t .first)) (sym (c .before .before .before .before .before .before .before .before .before .before .head .ensures)) (t .head))) in let s = formals-items (t .first) (f .0) (f .1) in let e : c .before .head2 .result ≡ headAt (c .before .before .before .before .before .before .before .before .before .before .before .before .before .before .before .before .before .before .args .items .now) (tailAt (c .before .before .before .before .before .before .before .before .before .before .before .before .before .before .before .before .before .before .args .items .now) (c .before .before .before .before .before .before .before .before .before .before .before .before .before .before .before .before .before .before .args .i)) = c .before .head2 .ensures ∙ ap (headAt (c .before .before .before .before .before .before .before .before .before .before .before .before .before .before .before .before .before .before .args .items .now)) (c .before .before .tail .ensures) in
-    (omega (arith, c .before .before .before .before .before .before .before .before .before .before .before .before .before .before .before .before .before .before .pre .0, e, t .bodyIs, data-in (c .before .before .before .before .before .before .before .before .before .before .before .before .before .before .before .before .before .before .args .items .now) (c .before .before .before .before .before .before .before .before .before .before .before .before .before .before .before .before .before .before .args .i) (c .before .before .before .before .before .before .before .before .before .before .before .before .before .before .before .before .before .before .pre .1 .0 .0) (c .before .before .before .before .before .before .before .before .before .before .before .before .before .before .before .before .before .before .pre .1 .0 .1)), ((t .second, subst (λ x. DatumAt (c .before .before .before .before .before .before .before .before .before .before .before .before .before .before .before .before .before .before .args .items .now) x (t .second)) (sym e) (t .body)), (omega (arith, e, t .bodyIs, s, f .2, c .before .before .before .before .before .before .before .before .before .before .before .before .before .before .before .before .before .before .pre .1 .1 .0), c .before .before .before .before .before .before .before .before .before .before .before .before .before .before .before .before .before .before .pre .1 .1 .1, omega (arith, c .before .before .before .before .before .before .before .before .before .before .before .before .before .before .before .before .before .before .pre .1 .1 .2, c .before .before .before .before .before .before .before .before .formals .kept .1 .1 .0)), c .before .before .before .before .before .before .before .before .before .before .before .before .before .before .before .before .before .before .pre .1 .2))
+    let args = c .before .before .before .before .before .before .before .before .before .before .before .before .before .before .before .before .before .before .args in
+    let pre = c .before .before .before .before .before .before .before .before .before .before .before .before .before .before .before .before .before .before .pre in
+    let formals = c .before .before .before .before .before .before .before .before .formals in
+    let head2 = c .before .head2 in
+    let t = two-at (args .items .now) (args .i) (pre .1 .0 .0) (pre .1 .0 .1) (sym (c .before .before .before .before .before .before .before .before .before .before .before .before .count .ensures (pre .1 .0 .0) (pre .1 .0 .1)) ∙ c .before .before .before .before .before .before .before .before .before .before .before .if1 .left) in let f = subst (FormalsAre (t .first) (args .top) (args .scope .now) (formals .last .1 .1 .0)) (c .before .before .before .before .n .given .1) (formals .ensures .0 (t .first) (subst (λ x. DatumAt (args .items .now) x (t .first)) (sym (c .before .before .before .before .before .before .before .before .before .before .head .ensures)) (t .head))) in let s = formals-items (t .first) (f .0) (f .1) in let e : head2 .result ≡ headAt (args .items .now) (tailAt (args .items .now) (args .i)) = head2 .ensures ∙ ap (headAt (args .items .now)) (c .before .before .tail .ensures) in
+    (omega (arith, pre .0, e, t .bodyIs, data-in (args .items .now) (args .i) (pre .1 .0 .0) (pre .1 .0 .1)), ((t .second, subst (λ x. DatumAt (args .items .now) x (t .second)) (sym e) (t .body)), (omega (arith, e, t .bodyIs, s, f .2, pre .1 .1 .0), pre .1 .1 .1, omega (arith, pre .1 .1 .2, formals .kept .1 .1 .0)), pre .1 .2))
 
--- src/grammar.rt:209:1
-lambda-same-length-2 : (t : ℕ) → lambda-lts.Need-same-length-2 (
-  count-reads.Asked,
-  count-reads.Learnt,
-  head-reads.Asked,
-  head-reads.Learnt,
-  formals-reads.Asked,
-  formals-reads.Learnt,
-  tail-reads.Asked,
-  tail-reads.Learnt,
-  expression-below t,
-  expression.Post,
-) (lambda-at t) lambda.Post
+lambda-same-length-2 : (t : ℕ) → lambda-lts.Need-same-length-2 (lambda-claims t) (lambda-at t) lambda.Post
 lambda-same-length-2 t c =
     c .before .before .expression .kept .1 .1 .1 .1 .0 ∙ c .before .before .before .before .before .before .before .before .before .before .before .formals .kept .1 .1 .0
 
--- src/grammar.rt:209:1
-lambda-returns-3 : (t : ℕ) → lambda-lts.Need-returns-3 (
-  count-reads.Asked,
-  count-reads.Learnt,
-  head-reads.Asked,
-  head-reads.Learnt,
-  formals-reads.Asked,
-  formals-reads.Learnt,
-  tail-reads.Asked,
-  tail-reads.Learnt,
-  expression-below t,
-  expression.Post,
-) (lambda-at t) lambda.Post
-lambda-returns-3 t c = (
-  (λ ds h. let t = two-at (c .before .before .before .before .before .before .before .before .before .before .before .before .before .before .before .before .before .before .before .before .before .args .items .now) (c .before .before .before .before .before .before .before .before .before .before .before .before .before .before .before .before .before .before .before .before .before .args .i) ds h (sym (c .before .before .before .before .before .before .before .before .before .before .before .before .before .before .before .count .ensures ds h) ∙ c .before .before .before .before .before .before .before .before .before .before .before .before .before .before .if1 .left) in let f = c .before .before .before .before .before .before .before .before .before .before .before .formals .ensures .0 (t .first) (subst (λ x. DatumAt (c .before .before .before .before .before .before .before .before .before .before .before .before .before .before .before .before .before .before .before .before .before .args .items .now) x (t .first)) (sym (c .before .before .before .before .before .before .before .before .before .before .before .before .before .head .ensures)) (t .head)) in
-      let g = subst (FormalsAre (t .first) (c .before .before .before .before .before .before .before .before .before .before .before .before .before .before .before .before .before .before .before .before .before .args .top) (c .before .before .before .before .before .before .before .before .before .before .before .before .before .before .before .before .before .before .before .before .before .args .scope .now) (c .before .before .before .before .before .before .before .before .before .before .before .formals .last .1 .1 .0)) (c .before .before .before .before .before .before .before .n .given .1) f in
-      let e : c .before .before .before .before .head2 .result ≡ headAt (c .before .before .before .before .before .before .before .before .before .before .before .before .before .before .before .before .before .before .before .before .before .args .items .now) (tailAt (c .before .before .before .before .before .before .before .before .before .before .before .before .before .before .before .before .before .before .before .before .before .args .items .now) (c .before .before .before .before .before .before .before .before .before .before .before .before .before .before .before .before .before .before .before .before .before .args .i)) = c .before .before .before .before .head2 .ensures ∙ ap (headAt (c .before .before .before .before .before .before .before .before .before .before .before .before .before .before .before .before .before .before .before .before .before .args .items .now)) (c .before .before .before .before .before .tail .ensures) in
-      c .before .before .expression .ensures .0 (t .second) (subst (λ x. DatumAt (c .before .before .before .before .before .before .before .before .before .before .before .before .before .before .before .before .before .before .before .before .before .args .items .now) x (t .second)) (sym e) (t .body)) ∙ ap (λ r. judge (isOperation (c .before .before .before .before .before .before .before .before .before .before .before .before .before .before .before .before .before .before .before .before .before .args .theirs .now) (c .before .before .before .before .before .before .before .before .before .before .before .before .before .before .before .before .before .before .before .before .before .args .ours .now) (c .before .before .before .before .before .before .before .before .before .before .before .before .before .before .before .before .before .before .before .before .before .args .operations .now)) r (expressionOf (t .second))) (g .3) ∙ sym (two-some (isOperation (c .before .before .before .before .before .before .before .before .before .before .before .before .before .before .before .before .before .before .before .before .before .args .theirs .now) (c .before .before .before .before .before .before .before .before .before .before .before .before .before .before .before .before .before .before .before .before .before .args .ours .now) (c .before .before .before .before .before .before .before .before .before .before .before .before .before .before .before .before .before .before .before .before .before .args .operations .now)) (round (c .before .before .before .before .before .before .before .before .before .before .before .before .before .before .before .before .before .before .before .before .before .args .scope .now) (c .before .before .before .before .before .before .before .before .before .before .before .before .before .before .before .before .before .before .before .before .before .args .top)) (c .before .before .before .before .before .before .before .before .before .before .before .before .before .before .before .before .before .before .before .before .before .args .items .now) (c .before .before .before .before .before .before .before .before .before .before .before .before .before .before .before .before .before .before .before .before .before .args .i) ds t (g .0) (g .1))),
-  kept-on (c .before .before .before .before .before .before .before .before .before .before .before .before .before .before .before .before .before .before .before .before .before .args .top) _ (c .before .before .before .before .before .before .before .before .before .before .before .before .before .before .before .before .before .before .before .before .before .args .scope .now) (c .before .before .before .before .before .before .before .before .before .before .before .formals .last .1 .1 .0) (c .before .before .expression .last .1 .1 .1 .1 .0) (c .before .before .before .before .before .before .before .before .before .before .before .formals .ensures .1) (c .before .before .expression .ensures .1),
-)
+lambda-returns-3 : (t : ℕ) → lambda-lts.Need-returns-3 (lambda-claims t) (lambda-at t) lambda.Post
+lambda-returns-3 t c =
+    let args = c .before .before .before .before .before .before .before .before .before .before .before .before .before .before .before .before .before .before .before .before .before .args in
+    let formals = c .before .before .before .before .before .before .before .before .before .before .before .formals in
+    let head2 = c .before .before .before .before .head2 in
+    let expression = c .before .before .expression in (
+      (λ ds h. let t = two-at (args .items .now) (args .i) ds h (sym (c .before .before .before .before .before .before .before .before .before .before .before .before .before .before .before .count .ensures ds h) ∙ c .before .before .before .before .before .before .before .before .before .before .before .before .before .before .if1 .left) in let f = formals .ensures .0 (t .first) (subst (λ x. DatumAt (args .items .now) x (t .first)) (sym (c .before .before .before .before .before .before .before .before .before .before .before .before .before .head .ensures)) (t .head)) in
+          let g = subst (FormalsAre (t .first) (args .top) (args .scope .now) (formals .last .1 .1 .0)) (c .before .before .before .before .before .before .before .n .given .1) f in
+          let e : head2 .result ≡ headAt (args .items .now) (tailAt (args .items .now) (args .i)) = head2 .ensures ∙ ap (headAt (args .items .now)) (c .before .before .before .before .before .tail .ensures) in
+          expression .ensures .0 (t .second) (subst (λ x. DatumAt (args .items .now) x (t .second)) (sym e) (t .body)) ∙ ap (λ r. judge (isOperation (args .theirs .now) (args .ours .now) (args .operations .now)) r (expressionOf (t .second))) (g .3) ∙ sym (two-some (isOperation (args .theirs .now) (args .ours .now) (args .operations .now)) (round (args .scope .now) (args .top)) (args .items .now) (args .i) ds t (g .0) (g .1))),
+      kept-on (args .top) _ (args .scope .now) (formals .last .1 .1 .0) (expression .last .1 .1 .1 .1 .0) (formals .ensures .1) (expression .ensures .1),
+    )
 
 pub +all+expression+lambda-spec : {M : Type 1} → statement M
-+all+expression+lambda-spec = close μ-all μ-expression μ-lambda (λ t. all-lts.spec (
-  kind-reads.Asked,
-  kind-reads.Learnt,
-  head-reads.Asked,
-  head-reads.Learnt,
-  expression-below t,
-  expression.Post,
-  is-outside-reads.Asked,
-  is-outside-reads.Learnt,
-  open-after-reads.Asked,
-  open-after-reads.Learnt,
-  tail-reads.Asked,
-  tail-reads.Learnt,
-)
++all+expression+lambda-spec = close μ-all μ-expression μ-lambda (λ t. all-lts.spec (all-claims t)
     (all-at t)
     all.Post
     all-Inv-loop
@@ -1190,10 +388,10 @@ pub +all+expression+lambda-spec : {M : Type 1} → statement M
     (all-kind-requires t)
     (all-head-requires t)
     (all-expression-requires t)
-    (all-is-outside-requires t)
+    (λ c κs. search needs)  -- all-is-outside-requires
     (all-same-length t)
     (all-returns t)
-    (all-open-after-requires t)
+    (λ c κs. search needs)  -- all-open-after-requires
     (all-tail-requires t)
     (all-loop-less t)
     (all-loop-again t)
@@ -1201,32 +399,13 @@ pub +all+expression+lambda-spec : {M : Type 1} → statement M
     (all-returns-2 t)
     (all-same-length-3 t)
     (all-returns-3 t))
-    (λ t. expression-lts.spec (
-      kind-reads.Asked,
-      kind-reads.Learnt,
-      head-reads.Asked,
-      head-reads.Learnt,
-      name-judged-reads.Asked,
-      name-judged-reads.Learnt,
-      form-reads.Asked,
-      form-reads.Learnt,
-      tail-reads.Asked,
-      tail-reads.Learnt,
-      is-quotation-reads.Asked,
-      is-quotation-reads.Learnt,
-      count-reads.Asked,
-      count-reads.Learnt,
-      all-below t,
-      all.Post,
-      lambda-below t,
-      lambda.Post,
-    )
+    (λ t. expression-lts.spec (expression-claims t)
     (expression-at t)
     expression.Post
     (expression-kind-requires t)
     (expression-head-requires t)
     (expression-name-judged-requires t)
-    (expression-same-length t)
+    (λ c. search needs)  -- expression-same-length
     (expression-returns t)
     (expression-returns-2 t)
     (expression-returns-3 t)
@@ -1247,26 +426,15 @@ pub +all+expression+lambda-spec : {M : Type 1} → statement M
     (expression-all-requires-2 t)
     (expression-same-length-4 t)
     (expression-returns-9 t))
-    λ t. lambda-lts.spec (
-      count-reads.Asked,
-      count-reads.Learnt,
-      head-reads.Asked,
-      head-reads.Learnt,
-      formals-reads.Asked,
-      formals-reads.Learnt,
-      tail-reads.Asked,
-      tail-reads.Learnt,
-      expression-below t,
-      expression.Post,
-    )
+    λ t. lambda-lts.spec (lambda-claims t)
     (lambda-at t)
     lambda.Post
     (lambda-count-requires t)
     (lambda-returns t)
     (lambda-head-requires t)
     (lambda-formals-requires t)
-    (lambda-enum-known-n t)
-    (lambda-enum-told t)
+    (λ c. search needs)  -- lambda-enum-known-n
+    (λ c. search needs)  -- lambda-enum-told
     (lambda-same-length t)
     (lambda-returns-2 t)
     (lambda-tail-requires t)
