@@ -1,21 +1,21 @@
 -- After yes, each reference has the same binder in both terms.
 use mathlib.Core.Path.{_≡_, refl, sym, ap, ap₂, subst, _∙_}
-use mathlib.Core.Bool.{Bool, true, false, _&&_, cond}
+use mathlib.Core.Bool.{Bool, true, false, _&&_}
 use mathlib.Core.List.{List, [], _∷_, _++_, map}
 use mathlib.Core.Option.{Option, none, some}
-use Prim.Native.Nat.{ℕ, zero, suc, _+_, _≤_, _<_}
+use Prim.Native.Nat.{ℕ, suc, _+_, _<_}
 use native.Mathlib.Omega.{arith}
 use lib.Dec.{eqb}
 use lib.ListN.{length}
-use borrow.Author.Tests.{eqb-true, eqb-false, eq-eqb, ne-eqb}
+use borrow.Author.Tests.{eqb-true, eq-eqb, ne-eqb}
 use Rattle.words.specs.Options.{mapSome}
 use Rattle.words.specs.TestLaws.{and-left, and-right}
 use Rattle.core_term.specs.Node.{ifN, lambdaN, applicationN}
-use Rattle.core_term.specs.Term.{variableC, operationC, datumC, ifC, lambdaC, applicationC, noneC, moreC, count, variables, variablesAll, Plain, Plains}
+use Rattle.core_term.specs.Term.{lambdaC, count, variables, Plain, Plains}
 use Rattle.core_term.specs.Every.{every, everyTerm}
 use Rattle.core_term.specs.Check as K
 use Rattle.core_term.specs.Check.{outside, asked, firstNumber, numbered}
-use Rattle.comparison.specs.Expression.{Expression, referenceE, datumE, ifE, lambdaE, applicationE, Expressions, noneE, moreE}
+use Rattle.comparison.specs.Expression.{Expression, Expressions}
 use Rattle.comparison.specs.Closed.{inside}
 use Rattle.comparison.specs.Agrees.{Scope, meant, bind, agrees}
 use Rattle.comparison.specs.Same.{Same, SameAll, variable′, operation′, datum′, if′, lambda′, application′, none′, more′}

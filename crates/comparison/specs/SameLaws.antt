@@ -1,7 +1,7 @@
 -- `agrees` decides whether an expression is our term.
-use mathlib.Core.Path.{_≡_, refl, sym, subst, _∙_}
-use mathlib.Core.Bool.{Bool, true, false, _&&_, false≢true}
-use mathlib.Core.List.{List, []}
+use mathlib.Core.Path.{_≡_, refl, subst}
+use mathlib.Core.Bool.{true, false, _&&_, false≢true}
+use mathlib.Core.List.{List}
 use mathlib.Core.Option.{Option, none, some}
 use Prim.Native.Nat.{ℕ}
 use lib.Dec.{eqb}
@@ -10,7 +10,7 @@ use borrow.Author.Tests.{eqb-true, eq-eqb}
 use Rattle.words.specs.TestLaws.{and-left, and-right, and-both}
 use Rattle.core_term.specs.Term.{variableC, operationC, datumC, ifC, lambdaC, applicationC, noneC, moreC, Plain, Plains}
 use Rattle.comparison.specs.Expression.{Expression, referenceE, datumE, ifE, lambdaE, applicationE, Expressions, noneE, moreE}
-use Rattle.comparison.specs.Agrees.{Scope, meant, bind, onVariable, onOperation, onDatum, onIf, onLambda, onApplication, sameDatum, sameName, agrees, agreeAll}
+use Rattle.comparison.specs.Agrees.{Scope, meant, bind, onVariable, onOperation, onDatum, onIf, onLambda, onApplication, sameName, agrees, agreeAll}
 use Rattle.comparison.specs.Same.{Same, SameAll, variable′, operation′, datum′, if′, lambda′, application′, none′, more′}
 
 module _ (theirs ours : ℕ → List ℕ) (operations : List (List ℕ)) where

@@ -1,13 +1,10 @@
 -- The grammar is what is written: an element is an expression exactly where an expression is written so.
 use mathlib.Core.Path.{_≡_, refl, sym, ap, ap₂, subst, _∙_}
-use mathlib.Core.Bool.{Bool, true, false, _&&_, false≢true}
+use mathlib.Core.Bool.{true, _&&_, false≢true}
 use mathlib.Core.List.{List, [], _∷_}
 use mathlib.Core.Option.{Option, none, some}
-use Prim.Native.Nat.{ℕ, zero, suc, _<_}
+use Prim.Native.Nat.{ℕ, zero, suc}
 use native.Mathlib.Omega.{arith}
-use lib.Dec.{ltb}
-use lib.ListN.{getD}
-use borrow.Author.Tests.{ltb-true}
 use Rattle.words.specs.ListLaws.{either}
 use Rattle.words.specs.Options.{onlyIf, mapSome, mapBoth}
 use Rattle.words.specs.TestLaws.{and-left, and-right, and-both}

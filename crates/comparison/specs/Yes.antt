@@ -1,13 +1,13 @@
 -- What yes says of a text that was read, and which texts get it.
 use mathlib.Core.Path.{_≡_, refl, sym, ap, ap₂, _∙_}
-use mathlib.Core.Bool.{Bool, true, false, cond}
+use mathlib.Core.Bool.{Bool, true, cond}
 use mathlib.Core.List.{List, []}
 use mathlib.Core.Option.{Option, none, some}
 use Prim.Native.Nat.{ℕ}
 use native.Mathlib.Omega.{arith}
 use lib.ListN.{length}
 use Rattle.words.specs.Lists.{anyOf, equal}
-use Rattle.datum.specs.Datum.{Datum, Data, noneD, moreD}
+use Rattle.datum.specs.Datum.{Datum, noneD, moreD}
 use Rattle.datum.specs.NameTable.{nameAt}
 use Rattle.reading.specs.Elements.{got}
 use Rattle.reading.specs.Read.{Recipe, nameBytes}

@@ -1,29 +1,25 @@
 -- Laws of judging: one for each way through the code.
 use mathlib.Core.Path.{_≡_, refl, sym, ap, subst, _∙_}
-use mathlib.Core.Bool.{Bool, true, false, _&&_, _||_, cond}
-use mathlib.Core.List.{List, [], _∷_, map}
-use mathlib.Core.Option.{Option, none, some}
-use Prim.Native.Nat.{ℕ, zero, suc, _+_, _≤_, _<_}
+use mathlib.Core.Bool.{Bool, true, false, _||_, cond}
+use mathlib.Core.List.{List}
+use Prim.Native.Nat.{ℕ, _+_, _≤_, _<_}
 use native.Mathlib.Omega.{arith}
-use lib.Dec.{eqb, ltb}
-use lib.ListN.{length, getD}
-use borrow.Author.Tests.{lt-ltb, le-ltb, eqb-true}
-use Rattle.words.specs.Lists.{anyOf, equal}
-use Rattle.words.specs.Options.{onlyIf, mapSome, mapBoth}
-use Rattle.words.specs.TestLaws.{or-left, or-right, or-none}
+use lib.Dec.{eqb}
+use borrow.Author.Tests.{lt-ltb, le-ltb}
+use Rattle.words.specs.Lists.{anyOf}
+use Rattle.words.specs.Options.{onlyIf}
+use Rattle.words.specs.TestLaws.{or-right}
 use Rattle.datum.specs.Constant.{Constant}
 use Rattle.datum.specs.Datum.{Datum, constantD, nameD, listD, Data, noneD, moreD}
 use Rattle.datum.specs.Datum as D
 use Rattle.recipe.specs.Table.{kindAt}
 use Rattle.recipe.specs.TreeFrom.{headAt, tailAt}
-use Rattle.comparison.specs.Expression.{Expression, referenceE, datumE, ifE, lambdaE, applicationE, Expressions, noneE, moreE}
-use Rattle.comparison.specs.Grammar.{isFree, theOne, first, after, quoted, conditional, formals, withBody, applied, headed, expressionOf, listOf, expressionsOf, laterOf}
-use Rattle.comparison.specs.Closed.{inside, closed, closedAll}
-use Rattle.supplier.specs.declared.grammar.Judged.{Judged}
+use Rattle.comparison.specs.Grammar.{isFree, first, expressionOf}
+use Rattle.comparison.specs.Closed.{closed}
 use Rattle.supplier.specs.declared.grammar.Judged.the-variants.{Closed, Open, Outside}
-use Rattle.supplier.specs.Items.{DatumAt, DataAt, PairAt, HeldAll}
-use Rattle.supplier.specs.ItemsLaws.{pair-kind, none-kind, more-is, data-in, name-kind, name-datum, empty-datum, pair-datum, constant-datum}
-use Rattle.supplier.specs.Judged.{judge, judgeAll, quotes, formOf}
+use Rattle.supplier.specs.Items.{DatumAt, DataAt, PairAt}
+use Rattle.supplier.specs.ItemsLaws.{pair-kind, none-kind, more-is, name-kind, name-datum, empty-datum, pair-datum, constant-datum}
+use Rattle.supplier.specs.Judged.{judge, quotes, formOf}
 
 -- ---- counting: the list from place j on, of which n elements were passed
 

@@ -1,14 +1,13 @@
 -- Laws of constants and quoted data against words.
 use mathlib.Core.Path.{_≡_, refl, sym, ap, subst, _∙_}
-use mathlib.Core.Bool.{Bool, true, false, _&&_}
+use mathlib.Core.Bool.{Bool, true, false}
 use mathlib.Core.List.{List, [], _∷_, _++_}
-use Prim.Native.Nat.{ℕ, suc, _+_, _*_, _≤_, _<_}
+use Prim.Native.Nat.{ℕ, suc, _*_, _≤_}
 use native.Mathlib.Omega.{arith}
 use lib.Dec.{eqb, ltb, leb}
 use lib.ListN.{length, getD, drop, length-append}
 use borrow.Author.Tests.{eqb-true, eqb-false, leb-true}
-use Rattle.words.specs.Limits.{nameLengthMost, slotSize}
-use Rattle.words.specs.Lists.{within, equal}
+use Rattle.words.specs.Lists.{equal}
 use Rattle.words.specs.TestLaws.{and-left, and-right, and-both, within-most}
 use Rattle.words.specs.ListLaws.{never}
 use Rattle.datum.specs.Constant.{Constant, isConstant, constantWords}
@@ -17,14 +16,13 @@ use Rattle.datum.specs.Datum.{Datum, constantD, nameD, listD, Data, noneD, more
 use Rattle.datum.specs.NameTable.{nameAt, lengthAt, hasName}
 use Rattle.core_term.specs.Node.{isNode, nodeWords}
 use Rattle.core_term.specs.Term.{variableC, operationC, datumC, ifC, lambdaC, applicationC, Plain}
-use Rattle.core_term.specs.Words.{datumWords, dataWords, encode}
+use Rattle.core_term.specs.Words.{datumWords, encode}
 use Rattle.core_term.specs.Every.{everyDatum, everyData, every, proper}
 use Rattle.core_term.specs.DecodeLaws.{encode-unique}
 use Rattle.comparison.specs.Agrees.{sameConstant, sameDatum}
 use Rattle.comparison.specs.BindersLaws.{either}
 use Rattle.comparison.specs.RenderingLaws.{constant-self}
-use Rattle.supplier.specs.declared.quoted.Agreed.{Agreed}
-use Rattle.supplier.specs.declared.quoted.Agreed.the-variants.{Words, No}
+use Rattle.supplier.specs.declared.quoted.Agreed.the-variants.{Words}
 use Rattle.supplier.specs.Names.{Slot}
 use Rattle.supplier.specs.Quoted.{isGood, areGood, Right}
 

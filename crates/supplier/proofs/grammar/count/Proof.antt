@@ -4,11 +4,10 @@ use Rattle.supplier.proofs.grammar.count.Reads as reads
 use Rattle.supplier.proofs.grammar.count.Lts as lts
 use Rattle.layout.proofs.item.kind.Reads as kind-reads
 use Rattle.layout.proofs.item.tail.Reads as tail-reads
-use mathlib.Core.Path.{_≡_, sym, subst, _∙_}
+use mathlib.Core.Path.{sym, subst, _∙_}
 use native.Mathlib.Omega.{arith}
 use Prim.Native.Nat.{_-_, _≤_}
 use lib.ListN.{length}
-use borrow.Author.Needs.{needs}
 use Rattle.supplier.specs.Items.{DataAt, HeldAll}
 use Rattle.supplier.specs.ItemsLaws.{data-in, pair-kind}
 use Rattle.supplier.specs.JudgedLaws.{Counting, counting-start, counting-next, counting-end}

@@ -4,9 +4,8 @@ use Rattle.supplier.proofs.grammar.form.Reads as reads
 use Rattle.supplier.proofs.grammar.form.Lts as lts
 use Rattle.layout.proofs.item.head.Reads as head-reads
 use Rattle.layout.proofs.item.kind.Reads as kind-reads
-use mathlib.Core.Path.{_≡_, sym, _∙_}
+use mathlib.Core.Path.{sym, _∙_}
 use native.Mathlib.Omega.{arith}
-use borrow.Author.Needs.{needs}
 use Rattle.supplier.specs.ItemsLaws.{datum-in}
 use Rattle.supplier.specs.JudgedLaws.{form-other, form-low, form-high}
 

@@ -6,12 +6,12 @@ use Rattle.layout.proofs.item.head.Reads as head-reads
 use Rattle.layout.proofs.item.kind.Reads as kind-reads
 use Rattle.layout.proofs.item.tail.Reads as tail-reads
 use Rattle.supplier.proofs.scope.innermost.Reads as innermost-reads
-use mathlib.Core.Path.{_≡_, sym, subst, _∙_}
+use mathlib.Core.Path.{sym, _∙_}
 use native.Mathlib.Omega.{arith}
-use Prim.Native.Nat.{_-_, _≤_}
+use Prim.Native.Nat.{_-_}
 use lib.ListN.{length}
 use borrow.Author.Needs.{needs}
-use Rattle.supplier.specs.FormalsLaws.{Taking, taking-start, taking-in, taking-pair, taking-head, taking-head-in, taking-small, taking-none, taking-twice, taking-next, taking-many, taking-end, formals-many, formals-low, passing-other, passing-not}
+use Rattle.supplier.specs.FormalsLaws.{Taking, taking-start, taking-in, taking-pair, taking-head-in, taking-small, taking-none, taking-twice, taking-next, taking-many, taking-end, formals-low, passing-other, passing-not}
 
 abbrev Inv-loop : tie.InvT-loop
 Inv-loop items i scope₀ top j₀ n₀ scope j n =

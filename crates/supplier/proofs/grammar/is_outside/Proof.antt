@@ -3,7 +3,7 @@ use Rattle.supplier.proofs.grammar.is_outside.Statement.{statement}
 use Rattle.supplier.proofs.grammar.is_outside.Tie as tie
 use Rattle.supplier.proofs.grammar.is_outside.Reads as reads
 use Rattle.supplier.proofs.grammar.is_outside.Lts as lts
-use mathlib.Core.Path.{_≡_, sym, ap}
+use mathlib.Core.Path.{sym, ap}
 use Rattle.supplier.specs.declared.grammar.Judged.{Judged}
 use Rattle.supplier.specs.Judged.{isOutside}
 

@@ -6,11 +6,9 @@ use Rattle.supplier.proofs.grammar.is_quotation.Lts as lts
 use Rattle.layout.proofs.item.head.Reads as head-reads
 use Rattle.layout.proofs.item.kind.Reads as kind-reads
 use Rattle.supplier.proofs.grammar.count.Reads as count-reads
-use mathlib.Core.Path.{_≡_, refl, sym, ap, subst, _∙_}
-use native.Mathlib.Omega.{arith}
-use Rattle.datum.specs.Datum.{Data, moreD}
-use Rattle.supplier.specs.Items.{DatumAt, DataAt, PairAt}
-use Rattle.supplier.specs.ItemsLaws.{data-in, datum-in, pair-kind}
+use mathlib.Core.Path.{sym, subst, _∙_}
+use Rattle.supplier.specs.Items.{DatumAt}
+use Rattle.supplier.specs.ItemsLaws.{data-in, datum-in}
 use Rattle.supplier.specs.JudgedLaws.{quotes-not, quotes-at-name, quotes-at-empty, quotes-at-pair, quotes-at-constant, one-pair}
 
 -- src/grammar.rt:55:8

@@ -5,8 +5,7 @@ use Rattle.supplier.proofs.grammar.name_judged.Reads as reads
 use Rattle.supplier.proofs.grammar.name_judged.Lts as lts
 use Rattle.supplier.proofs.names.any_name.Reads as any-name-reads
 use Rattle.supplier.proofs.scope.innermost.Reads as innermost-reads
-use mathlib.Core.Path.{_≡_, sym, subst, _∙_}
-use native.Mathlib.Omega.{arith}
+use mathlib.Core.Path.{sym, _∙_}
 use Rattle.supplier.specs.Judged.{isOperation}
 use Rattle.supplier.specs.Scope.{round}
 use Rattle.supplier.specs.ScopeLaws.{is-bound, none-bound}

@@ -3,7 +3,7 @@ use Rattle.supplier.proofs.grammar.open_after.Statement.{statement}
 use Rattle.supplier.proofs.grammar.open_after.Tie as tie
 use Rattle.supplier.proofs.grammar.open_after.Reads as reads
 use Rattle.supplier.proofs.grammar.open_after.Lts as lts
-use mathlib.Core.Path.{_≡_, sym, ap}
+use mathlib.Core.Path.{sym, ap}
 use Rattle.supplier.specs.declared.grammar.Judged.{Judged}
 use Rattle.supplier.specs.Judged.{openAfter}
 

@@ -1,3 +1,4 @@
+-- The cycle of `quoted::datum` and `elements`: a list's elements stand behind its first item.
 use Prim.Native.Nat.{ℕ, _<_, _-_, _+_, _*_, _≤_}
 use borrow.Fn.Kinds.{In}
 use borrow.Fn.PlainCycle.{Measures, is, falls, and}
@@ -17,26 +18,12 @@ use Rattle.supplier.proofs.quoted.quoted_name.Reads as quoted-name-read
 use Rattle.supplier.proofs.quoted.wide.Reads as wide-reads
 use Rattle.supplier.proofs.quoted.+datum+elements.{statement}
 use Rattle.supplier.proofs.quoted.+datum+elements.Tie.{close}
-use mathlib.Core.Path.{_≡_, refl, sym, ap, subst, _∙_}
-use mathlib.Core.Bool.{true, false}
 use native.Mathlib.Omega.{arith}
-use lib.ListN.{length, drop, length-drop}
+use lib.ListN.{length}
 use borrow.Author.Needs.{needs}
-use Rattle.words.specs.ListLaws.{rest-is}
-use Rattle.datum.specs.Constant.{isConstant}
-use Rattle.datum.specs.ConstantLaws.{kind-most}
-use Rattle.datum.specs.Datum.{nameD, constantD}
-use Rattle.datum.specs.NameTable.{nameAt}
-use Rattle.core_term.specs.Words.{datumWords, dataWords}
-use Rattle.comparison.specs.Agrees.{sameDatum, sameData}
-use Rattle.recipe.specs.Table.{kindAt}
-use Rattle.recipe.specs.Layout.{isListKind}
-use Rattle.supplier.specs.declared.quoted.Agreed.the-variants as A
-use Rattle.supplier.specs.Items.{DatumAt, DataAt, HeldAll}
-use Rattle.supplier.specs.ItemsLaws.{data-in, datum-in, pair-kind, name-datum}
-use Rattle.supplier.specs.Quoted.{Short, Right, DatumRight, DataRight}
-use Rattle.supplier.specs.QuotedLaws.{not-so}
-use Rattle.supplier.specs.DataLaws.{Comparing, comparing-start, left-next, left-no, left-end, list-held, constant-held, list-first-at, list-no, list-yes, no-not, yes-not}
+use Rattle.supplier.specs.Items.{HeldAll}
+use Rattle.supplier.specs.ItemsLaws.{held-in, all-in, name-held, head-held, tail-held}
+use Rattle.supplier.specs.DataLaws.{Comparing, comparing-start, comparing-next, comparing-no, comparing-end, short-after, constant-kind, constant-datum-right, list-elements, list-short, list-other, list-count, list-no, list-yes, name-datum-right}
 
 abbrev μ-datum : Measures 4 datum-kinds.ps ℕ
 μ-datum κs a =
@@ -67,105 +54,83 @@ elements-claims t = (kind-reads.Asked, kind-reads.Learnt, head-reads.Asked, head
 
 datum-kind-requires : (t : ℕ) → datum-lts.Need-kind-requires (datum-claims t) (datum-at t) datum.Post
 datum-kind-requires t c κs =
-    let args = c .before .before .before .before .args in
-    let pre = c .before .before .before .before .pre in
-    datum-in (args .items .now) (args .i) (pre .1 .0 .0) (pre .1 .0 .1)
+    held-in _ _ (c .before .before .before .before .pre .1 .0)
 
 datum-head-requires : (t : ℕ) → datum-lts.Need-head-requires (datum-claims t) (datum-at t) datum.Post
 datum-head-requires t c κs =
-    let args = c .before .before .before .before .before .before .args in
-    let pre = c .before .before .before .before .before .before .pre in
-    datum-in (args .items .now) (args .i) (pre .1 .0 .0) (pre .1 .0 .1)
+    held-in _ _ (c .before .before .before .before .before .before .pre .1 .0)
 
 datum-quoted-name-requires : (t : ℕ) → datum-lts.Need-quoted-name-requires (datum-claims t) (datum-at t) datum.Post
 datum-quoted-name-requires t c κs =
-    let args = c .before .before .before .before .before .before .before .args in
     let pre = c .before .before .before .before .before .before .before .pre in
-    pre .1 .1 (c .head .result) (omega (arith, c .head .ensures, name-datum (args .items .now) (args .i) (pre .1 .0 .0) (pre .1 .0 .1) (sym (c .before .before .kind .ensures) ∙ c .before .if1 .taken) .1))
+    pre .1 .1 (c .head .result) (name-held _ _ _ (c .before .before .kind .ensures) (pre .1 .0) (c .before .if1 .taken) _ (c .head .ensures))
 
 datum-returns : (t : ℕ) → datum-lts.Need-returns (datum-claims t) (datum-at t) datum.Post
 datum-returns t c =
-    let args = c .before .before .before .before .before .before .before .before .args in
-    (c .quoted-name .ensures .0, λ P d e r h g w. subst (λ x. Right (sameDatum (nameAt (args .theirs .now)) (nameAt (args .ours .now)) P x e) (length (datumWords e)) (c .quoted-name .result)) (ap nameD (c .before .head .ensures) ∙ sym (name-datum (args .items .now) (args .i) d h (sym (c .before .before .before .kind .ensures) ∙ c .before .before .if1 .taken) .0)) (c .quoted-name .ensures .1 P e r g w))
+    (c .quoted-name .ensures .0, name-datum-right _ _ _ (c .before .before .before .kind .ensures) (c .before .before .if1 .taken) _ (c .before .head .ensures) _ _ _ (c .quoted-name .result) (c .quoted-name .ensures .1))
 
 datum-head-requires-2 : (t : ℕ) → datum-lts.Need-head-requires-2 (datum-claims t) (datum-at t) datum.Post
 datum-head-requires-2 t c κs =
-    let args = c .before .before .before .before .before .before .before .before .args in
-    let pre = c .before .before .before .before .before .before .before .before .pre in
-    datum-in (args .items .now) (args .i) (pre .1 .0 .0) (pre .1 .0 .1)
+    held-in _ _ (c .before .before .before .before .before .before .before .before .pre .1 .0)
 
 datum-tail-requires : (t : ℕ) → datum-lts.Need-tail-requires (datum-claims t) (datum-at t) datum.Post
 datum-tail-requires t c κs =
-    let args = c .before .before .before .before .before .before .before .before .before .args in
-    let pre = c .before .before .before .before .before .before .before .before .before .pre in
-    datum-in (args .items .now) (args .i) (pre .1 .0 .0) (pre .1 .0 .1)
+    held-in _ _ (c .before .before .before .before .before .before .before .before .before .pre .1 .0)
 
 datum-constant-requires : (t : ℕ) → datum-lts.Need-constant-requires (datum-claims t) (datum-at t) datum.Post
 datum-constant-requires t c κs =
-    let args = c .before .before .before .before .before .before .before .before .before .before .args in
     let pre = c .before .before .before .before .before .before .before .before .before .before .pre in
-    let kind = c .before .before .before .before .before .kind in
-    let is-list-kind = c .before .before .before .is-list-kind in
-    let head2 = c .before .head2 in
-    kind-most (record { kind = kind .result; first = head2 .result; second = c .tail .result }) (constant-held (args .items .now) (args .i) (pre .1 .0 .0) (pre .1 .0 .1) (ap isListKind (sym (kind .ensures)) ∙ sym (is-list-kind .ensures) ∙ no-not (is-list-kind .result) (c .before .before .if2 .taken)) (λ e. c .before .before .before .before .if1 .left (kind .ensures ∙ e)) (kind .result) (head2 .result) (c .tail .result) (kind .ensures) (head2 .ensures) (c .tail .ensures) .1)
+    constant-kind _ _ _ (c .before .before .before .before .before .kind .ensures) _ (c .before .before .before .is-list-kind .ensures) (c .before .before .if2 .taken) (c .before .before .before .before .if1 .left) _ (c .before .head2 .ensures) _ (c .tail .ensures) (pre .1 .0)
 
 datum-returns-2 : (t : ℕ) → datum-lts.Need-returns-2 (datum-claims t) (datum-at t) datum.Post
 datum-returns-2 t c =
-    let args = c .before .before .before .before .before .before .before .before .before .before .before .args in
-    let kind = c .before .before .before .before .before .before .kind in
-    let is-list-kind = c .before .before .before .before .is-list-kind in
-    let head2 = c .before .before .head2 in
-    let tail = c .before .tail in
-    (c .constant .ensures .0, λ P d e r h g w. let k = constant-held (args .items .now) (args .i) d h (ap isListKind (sym (kind .ensures)) ∙ sym (is-list-kind .ensures) ∙ no-not (is-list-kind .result) (c .before .before .before .if2 .taken)) (λ e. c .before .before .before .before .before .if1 .left (kind .ensures ∙ e)) (kind .result) (head2 .result) (tail .result) (kind .ensures) (head2 .ensures) (tail .ensures) in subst (λ x. Right (sameDatum (nameAt (args .theirs .now)) (nameAt (args .ours .now)) P x e) (length (datumWords e)) (c .constant .result)) (sym (k .0)) (c .constant .ensures .1 (nameAt (args .theirs .now)) (nameAt (args .ours .now)) P (args .ours .now) e r (k .1) g w))
+    (c .constant .ensures .0, constant-datum-right _ _ _ (c .before .before .before .before .before .before .kind .ensures) _ (c .before .before .before .before .is-list-kind .ensures) (c .before .before .before .if2 .taken) (c .before .before .before .before .before .if1 .left) _ (c .before .before .head2 .ensures) _ (c .before .tail .ensures) _ _ _ (c .constant .result) (c .constant .ensures .1))
 
 datum-returns-3 : (t : ℕ) → datum-lts.Need-returns-3 (datum-claims t) (datum-at t) datum.Post
 datum-returns-3 t c =
-    let args = c .before .before .before .before .before .before .before .before .before .args in
-    let is-list-kind = c .before .before .is-list-kind in
-    (omega arith, λ P d e r h g w. not-so _ (λ s. omega (arith, c .if3 .taken, list-first-at (args .items .now) (args .words .now) (args .theirs .now) (args .ours .now) P (args .i) d e r (list-held (args .items .now) (args .i) d h (ap isListKind (sym (c .before .before .before .before .kind .ensures)) ∙ sym (is-list-kind .ensures) ∙ yes-not (is-list-kind .result) (c .before .if2 .left))) g w s .0)))
+    (omega arith, list-short _ _ _ (c .before .before .before .before .kind .ensures) _ (c .before .before .is-list-kind .ensures) (c .before .if2 .left) _ _ _ (c .if3 .taken))
 
 datum-returns-4 : (t : ℕ) → datum-lts.Need-returns-4 (datum-claims t) (datum-at t) datum.Post
 datum-returns-4 t c =
-    let args = c .before .before .before .before .before .before .before .before .before .before .before .args in
-    let is-list-kind = c .before .before .before .before .is-list-kind in
-    (omega arith, λ P d e r h g w. not-so _ (λ s. c .if4 .taken (list-first-at (args .items .now) (args .words .now) (args .theirs .now) (args .ours .now) P (args .i) d e r (list-held (args .items .now) (args .i) d h (ap isListKind (sym (c .before .before .before .before .before .before .kind .ensures)) ∙ sym (is-list-kind .ensures) ∙ yes-not (is-list-kind .result) (c .before .before .before .if2 .left))) g w s .1)))
+    (omega arith, list-other _ _ _ (c .before .before .before .before .before .before .kind .ensures) _ (c .before .before .before .before .is-list-kind .ensures) (c .before .before .before .if2 .left) _ _ _ (c .if4 .taken))
 
 datum-count-requires : (t : ℕ) → datum-lts.Need-count-requires (datum-claims t) (datum-at t) datum.Post
 datum-count-requires t c κs =
-    let args = c .before .before .before .before .before .before .before .before .before .before .before .before .before .args in
     let pre = c .before .before .before .before .before .before .before .before .before .before .before .before .before .pre in
-    let is-list-kind = c .before .before .before .before .before .before .is-list-kind in
-    let l = (list-held (args .items .now) (args .i) (pre .1 .0 .0) (pre .1 .0 .1) (ap isListKind (sym (c .before .before .before .before .before .before .before .before .kind .ensures)) ∙ sym (is-list-kind .ensures) ∙ yes-not (is-list-kind .result) (c .before .before .before .before .before .if2 .left))) in (l .elements, l .held)
+    let kind = c .before .before .before .before .before .before .before .before .kind in
+    list-elements _ _ _ (kind .ensures) _ (c .before .before .before .before .before .before .is-list-kind .ensures) (c .before .before .before .before .before .if2 .left) (pre .1 .0)
 
 datum-returns-5 : (t : ℕ) → datum-lts.Need-returns-5 (datum-claims t) (datum-at t) datum.Post
 datum-returns-5 t c =
-    let args = c .before .before .before .before .before .before .before .before .before .before .before .before .before .before .before .args in
     let kind = c .before .before .before .before .before .before .before .before .before .before .kind in
     let is-list-kind = c .before .before .before .before .before .before .before .before .is-list-kind in
-    let if2 = c .before .before .before .before .before .before .before .if2 in
-    (omega arith, λ P d e r h g w. not-so _ (λ s. let l = (list-held (args .items .now) (args .i) d h (ap isListKind (sym (kind .ensures)) ∙ sym (is-list-kind .ensures) ∙ yes-not (is-list-kind .result) (if2 .left))) in c .if5 .taken (c .before .before .wide .ensures ∙ list-first-at (args .items .now) (args .words .now) (args .theirs .now) (args .ours .now) P (args .i) d e r (list-held (args .items .now) (args .i) d h (ap isListKind (sym (kind .ensures)) ∙ sym (is-list-kind .ensures) ∙ yes-not (is-list-kind .result) (if2 .left))) g w s .2 ∙ sym (c .before .count .ensures (l .elements) (l .held)))))
+    (omega arith, list-count _ _ _ (kind .ensures) _ (is-list-kind .ensures) (c .before .before .before .before .before .before .before .if2 .left) _ _ _ _ (c .before .before .wide .ensures) _ (c .before .count .ensures) (c .if5 .taken))
 
 datum-elements-requires : (t : ℕ) → datum-lts.Need-elements-requires (datum-claims t) (datum-at t) datum.Post
 datum-elements-requires t c κs =
-    let args = c .before .before .before .before .before .before .before .before .before .before .before .before .before .before .before .before .args in
     let pre = c .before .before .before .before .before .before .before .before .before .before .before .before .before .before .before .before .pre in
+    let kind = c .before .before .before .before .before .before .before .before .before .before .before .kind in
     let is-list-kind = c .before .before .before .before .before .before .before .before .before .is-list-kind in
-    let l = (list-held (args .items .now) (args .i) (pre .1 .0 .0) (pre .1 .0 .1) (ap isListKind (sym (c .before .before .before .before .before .before .before .before .before .before .before .kind .ensures)) ∙ sym (is-list-kind .ensures) ∙ yes-not (is-list-kind .result) (c .before .before .before .before .before .before .before .before .if2 .left))) in (omega (arith, pre .0), ((l .elements, l .held), pre .1 .1))
+    let if2 = c .before .before .before .before .before .before .before .before .if2 in
+    (omega (arith, pre .0), (list-elements _ _ _ (kind .ensures) _ (is-list-kind .ensures) (if2 .left) (pre .1 .0), pre .1 .1))
 
 datum-returns-6 : (t : ℕ) → datum-lts.Need-returns-6 (datum-claims t) (datum-at t) datum.Post
 datum-returns-6 t c =
-    let args = c .before .before .before .before .before .before .before .before .before .before .before .before .before .before .before .before .before .before .before .args in
     let kind = c .before .before .before .before .before .before .before .before .before .before .before .before .before .before .kind in
     let is-list-kind = c .before .before .before .before .before .before .before .before .before .before .before .before .is-list-kind in
     let if2 = c .before .before .before .before .before .before .before .before .before .before .before .if2 in
+    let if4 = c .before .before .before .before .before .before .before .before .if4 in
     let elements = c .before .before .elements in
-    (omega arith, λ P d e r h g w. list-no (args .items .now) (args .words .now) (args .theirs .now) (args .ours .now) P (args .i) d e r (list-held (args .items .now) (args .i) d h (ap isListKind (sym (kind .ensures)) ∙ sym (is-list-kind .ensures) ∙ yes-not (is-list-kind .result) (if2 .left))) g w (c .before .before .before .before .before .before .before .before .if4 .left) (sym (c .before .before .before .before .before .before .wide .ensures) ∙ c .before .before .before .before .if5 .left ∙ c .before .before .before .before .before .count .ensures ((list-held (args .items .now) (args .i) d h (ap isListKind (sym (kind .ensures)) ∙ sym (is-list-kind .ensures) ∙ yes-not (is-list-kind .result) (if2 .left))) .elements) ((list-held (args .items .now) (args .i) d h (ap isListKind (sym (kind .ensures)) ∙ sym (is-list-kind .ensures) ∙ yes-not (is-list-kind .result) (if2 .left))) .held)) (elements .result) (subst (λ l. DataRight l (args .items .now) (args .theirs .now) (args .ours .now) (args .i) (elements .result)) (rest-is 2 (args .words .now)) (elements .ensures .1)) (c .enum-told .given .1))
+    (omega arith, list-no _ _ _ (kind .ensures) _ (is-list-kind .ensures) (if2 .left) _ _ _ _ (c .before .before .before .before .before .before .wide .ensures) _ (c .before .before .before .before .before .count .ensures) (if4 .left) (c .before .before .before .before .if5 .left) (elements .result) (elements .ensures .1) (c .enum-told .given .1))
 
 datum-add-t17 : (t : ℕ) → datum-lts.Need-add-t17 (datum-claims t) (datum-at t) datum.Post
 datum-add-t17 t c =
     let args = c .before .before .before .before .before .before .before .before .before .before .before .before .before .before .before .before .before .before .before .before .args in
+    let good = c .before .before .before .before .before .before .before .before .before .before .before .before .before .before .before .before .before .before .before .before .good in
+    let if3 = c .before .before .before .before .before .before .before .before .before .before .before .if3 in
     let elements = c .before .before .before .elements in
-    let s = subst (Short (drop 2 (args .words .now))) (c .before .n .given .1) (subst (λ l. Short l (elements .result)) (rest-is 2 (args .words .now)) (elements .ensures .0)) in omega (arith, s, length-drop 2 (args .words .now), c .before .before .before .before .before .before .before .before .before .before .before .if3 .left, c .before .before .before .before .before .before .before .before .before .before .before .before .before .before .before .before .before .before .before .before .good .1)
+    let s = short-after (args .words .now) 2 (elements .result) _ (if3 .left) (elements .ensures .0) (c .before .n .given .1) in
+    omega (arith, s, good .1)
 
 datum-returns-7 : (t : ℕ) → datum-lts.Need-returns-7 (datum-claims t) (datum-at t) datum.Post
 datum-returns-7 t c =
@@ -173,9 +138,12 @@ datum-returns-7 t c =
     let kind = c .before .before .before .before .before .before .before .before .before .before .before .before .before .before .before .kind in
     let is-list-kind = c .before .before .before .before .before .before .before .before .before .before .before .before .before .is-list-kind in
     let if2 = c .before .before .before .before .before .before .before .before .before .before .before .before .if2 in
+    let if3 = c .before .before .before .before .before .before .before .before .before .before .before .if3 in
+    let if4 = c .before .before .before .before .before .before .before .before .before .if4 in
     let elements = c .before .before .before .elements in
     let n = c .before .n in
-    let s = subst (Short (drop 2 (args .words .now))) (n .given .1) (subst (λ l. Short l (elements .result)) (rest-is 2 (args .words .now)) (elements .ensures .0)) in (omega (arith, s, length-drop 2 (args .words .now), c .before .before .before .before .before .before .before .before .before .before .before .if3 .left), λ P d e r h g w. list-yes (args .items .now) (args .words .now) (args .theirs .now) (args .ours .now) P (args .i) d e r (list-held (args .items .now) (args .i) d h (ap isListKind (sym (kind .ensures)) ∙ sym (is-list-kind .ensures) ∙ yes-not (is-list-kind .result) (if2 .left))) g w (c .before .before .before .before .before .before .before .before .before .if4 .left) (sym (c .before .before .before .before .before .before .before .wide .ensures) ∙ c .before .before .before .before .before .if5 .left ∙ c .before .before .before .before .before .before .count .ensures ((list-held (args .items .now) (args .i) d h (ap isListKind (sym (kind .ensures)) ∙ sym (is-list-kind .ensures) ∙ yes-not (is-list-kind .result) (if2 .left))) .elements) ((list-held (args .items .now) (args .i) d h (ap isListKind (sym (kind .ensures)) ∙ sym (is-list-kind .ensures) ∙ yes-not (is-list-kind .result) (if2 .left))) .held)) (elements .result) (subst (λ l. DataRight l (args .items .now) (args .theirs .now) (args .ours .now) (args .i) (elements .result)) (rest-is 2 (args .words .now)) (elements .ensures .1)) _ (n .given .1))
+    let s = short-after (args .words .now) 2 (elements .result) _ (if3 .left) (elements .ensures .0) (n .given .1) in
+    (omega (arith, s), list-yes _ _ _ (kind .ensures) _ (is-list-kind .ensures) (if2 .left) _ _ _ _ (c .before .before .before .before .before .before .before .wide .ensures) _ (c .before .before .before .before .before .before .count .ensures) (if4 .left) (c .before .before .before .before .before .if5 .left) (elements .result) (elements .ensures .1) _ (n .given .1))
 
 abbrev elements-Inv-loop : elements-lts.InvT-loop
 elements-Inv-loop items i words theirs ours j₀ at₀ j at =
@@ -187,17 +155,15 @@ elements-μ-loop items i words theirs ours j₀ at₀ j at =
 
 elements-loop-holds : (t : ℕ) → elements-lts.Need-loop-holds (elements-claims t) (elements-at t) elements.Post elements-Inv-loop elements-μ-loop
 elements-loop-holds t c =
-    let args = c .before .before .before .before .args in
-    (c .before .before .before .before .pre .1 .0, comparing-start (args .items .now) (args .words .now) (args .theirs .now) (args .ours .now) (args .i), omega arith, omega arith)
+    (c .before .before .before .before .pre .1 .0, comparing-start _ _ _ _ _, omega arith, omega arith)
 
 elements-kind-requires : (t : ℕ) → elements-lts.Need-kind-requires (elements-claims t) (elements-at t) elements.Post elements-Inv-loop elements-μ-loop
 elements-kind-requires t c κs =
-    data-in (c .before .before .before .before .before .args .items .now) (c .loop .j) (c .loop .inv .0 .0) (c .loop .inv .0 .1)
+    all-in _ _ (c .loop .inv .0)
 
 elements-head-requires : (t : ℕ) → elements-lts.Need-head-requires (elements-claims t) (elements-at t) elements.Post elements-Inv-loop elements-μ-loop
 elements-head-requires t c κs =
-    let loop = c .before .before .loop in
-    data-in (c .before .before .before .before .before .before .before .args .items .now) (loop .j) (loop .inv .0 .0) (loop .inv .0 .1)
+    all-in _ _ (c .before .before .loop .inv .0)
 
 elements-mul-datum : (t : ℕ) → elements-lts.Need-mul-datum (elements-claims t) (elements-at t) elements.Post elements-Inv-loop elements-μ-loop
 elements-mul-datum t c =
@@ -209,37 +175,35 @@ elements-part-datum-start t c =
 
 elements-datum-requires : (t : ℕ) → elements-lts.Need-datum-requires (elements-claims t) (elements-at t) elements.Post elements-Inv-loop elements-μ-loop
 elements-datum-requires t c κs =
-    let args = c .before .before .before .before .before .before .before .before .before .args in
     let pre = c .before .before .before .before .before .before .before .before .before .pre in
     let loop = c .before .before .before .before .loop in
-    let head = c .before .head in
-    let p = pair-kind (args .items .now) (loop .j) (loop .inv .0 .0) (loop .inv .0 .1) (sym (c .before .before .before .kind .ensures) ∙ c .before .before .if1 .taken) in (omega (arith, pre .0, head .ensures, p .headIs, loop .inv .3, data-in (args .items .now) (loop .j) (loop .inv .0 .0) (loop .inv .0 .1)), ((p .first, subst (λ x. DatumAt (args .items .now) x (p .first)) (sym (head .ensures)) (p .head)), pre .1 .1))
+    let h = head-held _ _ _ (c .before .before .before .kind .ensures) (c .before .before .if1 .taken) (loop .inv .0) _ (c .before .head .ensures) in
+    (omega (arith, pre .0, h .1, loop .inv .3, all-in _ _ (loop .inv .0)), (h .0, pre .1 .1))
 
 elements-returns : (t : ℕ) → elements-lts.Need-returns (elements-claims t) (elements-at t) elements.Post elements-Inv-loop elements-μ-loop
 elements-returns t c =
-    let args = c .before .before .before .before .before .before .before .before .before .before .before .before .args in
-    let loop = c .before .before .before .before .before .before .before .loop in
-    let head = c .before .before .before .before .head in
     let datum = c .before .before .datum in
-    (omega arith, λ P ds es r h g m w. left-no (args .items .now) (args .words .now) (args .theirs .now) (args .ours .now) P (loop .j) (loop .at) _ _ (loop .inv .1 P ds es r h g m w) (sym (c .before .before .before .before .before .before .kind .ensures) ∙ c .before .before .before .before .before .if1 .taken) (head .result) (head .ensures) (datum .result) (subst (λ l. DatumRight l (args .items .now) (args .theirs .now) (args .ours .now) (head .result) (datum .result)) (rest-is (loop .at) (args .words .now)) (datum .ensures .1)) (c .enum-told .given .1))
+    (omega arith, comparing-no _ _ _ _ _ _ _ _ (c .before .before .before .before .before .before .before .loop .inv .1) (c .before .before .before .before .before .before .kind .ensures) (c .before .before .before .before .before .if1 .taken) _ (c .before .before .before .before .head .ensures) (datum .result) (datum .ensures .1) (c .enum-told .given .1))
 
 elements-add-at : (t : ℕ) → elements-lts.Need-add-at (elements-claims t) (elements-at t) elements.Post elements-Inv-loop elements-μ-loop
 elements-add-at t c =
     let args = c .before .before .before .before .before .before .before .before .before .before .before .before .before .args in
+    let good = c .before .before .before .before .before .before .before .before .before .before .before .before .before .good in
     let loop = c .before .before .before .before .before .before .before .before .loop in
     let datum = c .before .before .before .datum in
-    let s = subst (Short (drop (loop .at) (args .words .now))) (c .before .n .given .1) (subst (λ l. Short l (datum .result)) (rest-is (loop .at) (args .words .now)) (datum .ensures .0)) in omega (arith, s, length-drop (loop .at) (args .words .now), loop .inv .2, c .before .before .before .before .before .before .before .before .before .before .before .before .before .good .1)
+    let s = short-after (args .words .now) (loop .at) (datum .result) _ (loop .inv .2) (datum .ensures .0) (c .before .n .given .1) in
+    omega (arith, s, good .1)
 
 elements-tail-requires : (t : ℕ) → elements-lts.Need-tail-requires (elements-claims t) (elements-at t) elements.Post elements-Inv-loop elements-μ-loop
 elements-tail-requires t c κs =
-    let loop = c .before .before .before .before .before .before .before .before .loop in
-    data-in (c .before .before .before .before .before .before .before .before .before .before .before .before .before .args .items .now) (loop .j) (loop .inv .0 .0) (loop .inv .0 .1)
+    all-in _ _ (c .before .before .before .before .before .before .before .before .loop .inv .0)
 
 elements-loop-less : (t : ℕ) → elements-lts.Need-loop-less (elements-claims t) (elements-at t) elements.Post elements-Inv-loop elements-μ-loop
 elements-loop-less t c =
-    let args = c .before .before .before .before .before .before .before .before .before .before .before .before .before .before .args in
     let loop = c .before .before .before .before .before .before .before .before .before .loop in
-    let p = pair-kind (args .items .now) (loop .j) (loop .inv .0 .0) (loop .inv .0 .1) (sym (c .before .before .before .before .before .before .before .before .kind .ensures) ∙ c .before .before .before .before .before .before .before .if1 .taken) in omega (arith, c .tail .ensures, p .tailIs, data-in (args .items .now) (loop .j) (loop .inv .0 .0) (loop .inv .0 .1))
+    let kind = c .before .before .before .before .before .before .before .before .kind in
+    let t = tail-held _ _ _ (kind .ensures) (c .before .before .before .before .before .before .before .if1 .taken) (loop .inv .0) _ (c .tail .ensures) in
+    omega (arith, t .1, all-in _ _ (loop .inv .0))
 
 elements-loop-again : (t : ℕ) → elements-lts.Need-loop-again (elements-claims t) (elements-at t) elements.Post elements-Inv-loop elements-μ-loop
 elements-loop-again t c =
@@ -247,22 +211,19 @@ elements-loop-again t c =
     let loop = c .before .before .before .before .before .before .before .before .before .loop in
     let kind = c .before .before .before .before .before .before .before .before .kind in
     let if1 = c .before .before .before .before .before .before .before .if1 in
-    let head = c .before .before .before .before .before .before .head in
     let datum = c .before .before .before .before .datum in
     let n = c .before .before .n in
-    let s = subst (Short (drop (loop .at) (args .words .now))) (n .given .1) (subst (λ l. Short l (datum .result)) (rest-is (loop .at) (args .words .now)) (datum .ensures .0)) in
-    let p = pair-kind (args .items .now) (loop .j) (loop .inv .0 .0) (loop .inv .0 .1) (sym (kind .ensures) ∙ if1 .taken) in (
-      (p .rest, subst (λ x. DataAt (args .items .now) x (p .rest)) (sym (c .tail .ensures)) (p .tail)),
-      (λ P ds es r h g m w. left-next (args .items .now) (args .words .now) (args .theirs .now) (args .ours .now) P (loop .j) (loop .at) _ _ (loop .inv .1 P ds es r h g m w) (sym (kind .ensures) ∙ if1 .taken) (head .result) (head .ensures) (datum .result) (subst (λ l. DatumRight l (args .items .now) (args .theirs .now) (args .ours .now) (head .result) (datum .result)) (rest-is (loop .at) (args .words .now)) (datum .ensures .1)) _ (n .given .1) _ (c .tail .ensures)),
-      omega (arith, s, length-drop (loop .at) (args .words .now), loop .inv .2),
-      omega (arith, loop .inv .3, c .tail .ensures, p .tailIs),
+    let t = tail-held _ _ _ (kind .ensures) (if1 .taken) (loop .inv .0) _ (c .tail .ensures) in (
+      t .0,
+      comparing-next _ _ _ _ _ _ _ _ (loop .inv .1) (kind .ensures) (if1 .taken) _ (c .before .before .before .before .before .before .head .ensures) (datum .result) (datum .ensures .1) _ (n .given .1) _ (c .tail .ensures),
+      short-after (args .words .now) (loop .at) (datum .result) _ (loop .inv .2) (datum .ensures .0) (n .given .1),
+      omega (arith, loop .inv .3, t .1),
     )
 
 elements-returns-2 : (t : ℕ) → elements-lts.Need-returns-2 (elements-claims t) (elements-at t) elements.Post elements-Inv-loop elements-μ-loop
 elements-returns-2 t c =
-    let args = c .before .before .before .before .before .before .before .args in
     let loop = c .before .before .loop in
-    (omega (arith, loop .inv .2), λ P ds es r h g m w. left-end (args .items .now) (args .words .now) (args .theirs .now) (args .ours .now) P (loop .j) (loop .at) _ _ (loop .inv .1 P ds es r h g m w) (λ e. c .if1 .left (c .before .kind .ensures ∙ e)))
+    (omega (arith, loop .inv .2), comparing-end _ _ _ _ _ _ _ _ (loop .inv .1) (c .before .kind .ensures) (c .if1 .left))
 
 pub +datum+elements-spec : {M : Type 1} → statement M
 +datum+elements-spec = close μ-datum μ-elements (λ t. datum-lts.spec (datum-claims t)

@@ -4,7 +4,7 @@ use Rattle.supplier.proofs.quoted.constant.Tie as tie
 use Rattle.supplier.proofs.quoted.constant.Reads as reads
 use Rattle.supplier.proofs.quoted.constant.Lts as lts
 use Rattle.supplier.proofs.quoted.wide.Reads as wide-reads
-use mathlib.Core.Path.{_≡_, refl, sym, ap, _∙_}
+use mathlib.Core.Path.{sym, _∙_}
 use native.Mathlib.Omega.{arith}
 use Rattle.supplier.specs.QuotedLaws.{not-so, constant-two, second-word, other-words, other-right, decimal-words, decimal-right}
 

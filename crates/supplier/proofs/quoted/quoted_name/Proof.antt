@@ -7,7 +7,7 @@ use Rattle.supplier.proofs.names.same_name.Reads as same-name-reads
 use Rattle.supplier.proofs.quoted.length_of.Reads as length-of-reads
 use Rattle.supplier.proofs.quoted.wide.Reads as wide-reads
 use mathlib.Core.Bool.{true, false}
-use mathlib.Core.Path.{_≡_, refl, sym, ap, _∙_}
+use mathlib.Core.Path.{sym, _∙_}
 use native.Mathlib.Omega.{arith}
 use Rattle.datum.specs.NameTable.{nameAt, lengthAt}
 use Rattle.supplier.specs.QuotedLaws.{not-so, name-two, name-first, name-slot, name-right, name-size}

@@ -4,8 +4,7 @@ use Rattle.supplier.proofs.scope.innermost.Reads as reads
 use Rattle.supplier.proofs.scope.innermost.Lts as lts
 use Rattle.supplier.proofs.scope.wide.Reads as wide-reads
 use mathlib.Core.Path.{_≡_, refl, sym, ap, _∙_}
-use Prim.Native.Nat.{_-_, _≤_}
-use lib.ListN.{length, getD}
+use Prim.Native.Nat.{_≤_}
 use native.Mathlib.Omega.{arith}
 use borrow.Author.Needs.{needs}
 use Rattle.supplier.specs.Scope.{innermost}
