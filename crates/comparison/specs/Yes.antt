@@ -6,6 +6,7 @@ use mathlib.Core.Option.{Option, none, some}
 use Prim.Native.Nat.{ℕ}
 use native.Mathlib.Omega.{arith}
 use lib.ListN.{length}
+use Rattle.words.specs.ListLaws.{either}
 use Rattle.words.specs.Lists.{anyOf, equal}
 use Rattle.datum.specs.Datum.{Datum, noneD, moreD}
 use Rattle.datum.specs.NameTable.{nameAt}
@@ -19,7 +20,7 @@ use Rattle.comparison.specs.Closed.{closed}
 use Rattle.comparison.specs.Agrees.{agrees}
 use Rattle.comparison.specs.Compare.{Verdict, yes, no, refusedOn, decided, held}
 use Rattle.comparison.specs.Binders.{binders, ourBinders}
-use Rattle.comparison.specs.BindersLaws.{either, yes-binders}
+use Rattle.comparison.specs.BindersLaws.{yes-binders}
 use Rattle.comparison.specs.Renamed.{Renamed}
 use Rattle.comparison.specs.RenamedLaws.{agrees-renamed, closed-renamed}
 use Rattle.comparison.specs.Rendering.{Choice, render, Uncaptured}

@@ -7,9 +7,9 @@ use native.Mathlib.Omega.{arith}
 use lib.Dec.{eqb}
 use lib.ListN.{length, getD, drop, length-append, length-drop}
 use lib.Seq.{drop-at, drop-drop}
-use borrow.Author.Tests.{eqb-true, eqb-false}
+use borrow.Author.Tests.{eqb-true, eqb-false, not-true, not-false}
 use Rattle.words.specs.TestLaws.{and-left, and-right}
-use Rattle.words.specs.ListLaws.{never, rest-is}
+use Rattle.words.specs.ListLaws.{never, rest-is, either}
 use Rattle.words.specs.Parts as R
 use Rattle.datum.specs.Constant.{Constant, isConstant, constantWords}
 use Rattle.datum.specs.ConstantLaws.{words-decimal, words-other, kind-no, kind-most}
@@ -21,7 +21,6 @@ use Rattle.recipe.specs.Layout.{isListKind}
 use Rattle.recipe.specs.TreeFrom.{headAt, tailAt}
 use Rattle.core_term.specs.Node.{nodeWords}
 use Rattle.core_term.specs.Words.{datumWords, dataWords}
-use Rattle.comparison.specs.BindersLaws.{either}
 use Rattle.comparison.specs.Agrees.{sameDatum, sameData}
 use Rattle.supplier.specs.declared.quoted.Agreed.{Agreed}
 use Rattle.supplier.specs.declared.quoted.Agreed.the-variants.{Words, No}
@@ -186,16 +185,6 @@ short-after words at r n l s e =
     let k : n ≤ length (drop at words) = subst (Short (drop at words)) e (subst (λ x. Short x r) (rest-is at words) s) in
     omega (arith, k, length-drop at words)
 
--- ---- negations
-
-pub no-not : (b : Bool) → not b ≡ true → b ≡ false
-no-not true h = sym h
-no-not false h = refl
-
-pub yes-not : (b : Bool) → not b ≡ false → b ≡ true
-yes-not true h = refl
-yes-not false h = sym h
-
 -- ---- kinds
 
 not-empty : (k : ℕ) → isListKind k ≡ false → k ≡ 0 → ⊥
@@ -236,7 +225,7 @@ module _ (items : List ℕ) (i k : ℕ) (kind : k ≡ kindAt items i) (b : Bool)
   module _ (no : not b ≡ true) (e : k ≡ 3 → ⊥) (first : ℕ) (f : first ≡ headAt items i) (second : ℕ) (s : second ≡ tailAt items i) where
     constant-there : (d : Datum) → DatumAt items i d
         → (d ≡ constantD (record { kind = k; first = first; second = second })) × (isConstant (record { kind = k; first = first; second = second }) ≡ true)
-    constant-there d o = constant-held items i d o (kind-test false (no-not b no)) (λ q. e (kind ∙ q)) k first second kind f s
+    constant-there d o = constant-held items i d o (kind-test false (not-true b no)) (λ q. e (kind ∙ q)) k first second kind f s
 
     pub constant-kind : Held items i → k ≤ 5
     constant-kind h = kind-most (record { kind = k; first = first; second = second }) (constant-there (h .0) (h .1) .1)
@@ -249,7 +238,7 @@ module _ (items : List ℕ) (i k : ℕ) (kind : k ≡ kindAt items i) (b : Bool)
 
   module _ (yes : not b ≡ false) where
     list-there : (d : Datum) → DatumAt items i d → ListHeld items i d
-    list-there d o = list-held items i d o (kind-test true (yes-not b yes))
+    list-there d o = list-held items i d o (kind-test true (not-false b yes))
 
     pub list-elements : Held items i → HeldAll items i
     list-elements h = let l = list-there (h .0) (h .1) in (l .elements, l .held)

@@ -2,13 +2,13 @@
 use mathlib.Core.Path.{_≡_, refl, sym, ap, subst, _∙_}
 use mathlib.Core.Bool.{Bool, true, false, _&&_, cond, and-true}
 use mathlib.Core.List.{List, _∷_}
-use mathlib.Core.Option.{Option, none, some}
+use mathlib.Core.Option.{Option, none, some, Option·some-injective, Option·none-ne-some}
 use Prim.Native.Nat.{ℕ, zero, suc, _+_, _*_}
 use native.Mathlib.Omega.{arith}
 use lib.Dec.{eqb}
 use lib.ListN.{length}
 use borrow.Author.Tests.{ne-eqb}
-use Rattle.words.specs.ListLaws.{never}
+use Rattle.words.specs.ListLaws.{never, either}
 use Rattle.words.specs.Options.{onlyIf, mapSome, mapBoth}
 use Rattle.datum.specs.Constant.{Constant}
 use Rattle.datum.specs.Datum.{Datum, constantD, nameD, listD, Data, noneD, moreD, datumItems, dataItems}
@@ -18,7 +18,6 @@ use Rattle.recipe.specs.TreeFrom.{headAt, tailAt}
 use Rattle.comparison.specs.Expression.{Expression, Expressions, noneE, moreE}
 use Rattle.comparison.specs.Grammar.{areFormals, theOne, first, names, after, quoted, conditional, formals, withBody, applied, headed, expressionOf, expressionsOf, laterOf}
 use Rattle.comparison.specs.Closed.{inside, closed, closedAll}
-use Rattle.comparison.specs.BindersLaws.{either}
 use Rattle.supplier.specs.declared.grammar.Judged.{Judged}
 use Rattle.supplier.specs.declared.grammar.Judged.the-variants.{Closed, Open, Outside}
 use Rattle.supplier.specs.Items.{DatumAt, DataAt}
@@ -62,23 +61,17 @@ three-is (moreE x (moreE y noneE)) = refl
 three-is (moreE x (moreE y (moreE z noneE))) = refl
 three-is (moreE x (moreE y (moreE z (moreE w xs)))) = sym (ne-eqb (suc (suc (suc (suc (size xs))))) 3 (λ e. omega arith))
 
-none-some : {A X : Type 0} {x : X} → _≡_ {A = Option X} none (some x) → A
-none-some {A} {X} {x} e = let z : _≡_ {A = ℕ} 0 1 = ap (λ (o : Option X). elim o [ none ↦ 0 | some k ↦ 1 ]) e in absurd (omega arith)
-
-some-is : {X : Type 0} {x y : X} → _≡_ {A = Option X} (some x) (some y) → x ≡ y
-some-is {X} {x} e = ap (λ (o : Option X). elim o [ none ↦ x | some k ↦ k ]) e
-
 -- as many expressions as elements
 size-by : (a : Option Expression) (b : Option Expressions) (k : ℕ) (xs : Expressions) → ((ys : Expressions) → b ≡ some ys → size ys ≡ k)
     → mapBoth moreE a b ≡ some xs → size xs ≡ suc k
 unfolding mapBoth mapSome size
-size-by none b k xs h f = none-some f
-size-by (some x) none k xs h f = none-some f
-size-by (some x) (some ys) k xs h f = ap size (sym (some-is f)) ∙ ap suc (h ys refl)
+size-by none b k xs h f = absurd (Option·none-ne-some _ f)
+size-by (some x) none k xs h f = absurd (Option·none-ne-some _ f)
+size-by (some x) (some ys) k xs h f = ap size (sym (Option·some-injective _ _ f)) ∙ ap suc (h ys refl)
 
 size-is : (ds : Data) (xs : Expressions) → expressionsOf ds ≡ some xs → size xs ≡ D.count ds
 unfolding expressionsOf size D.count
-size-is noneD xs e = ap size (sym (some-is e))
+size-is noneD xs e = ap size (sym (Option·some-injective _ _ e))
 size-is (moreD d ds) xs e = size-by (expressionOf d) (expressionsOf ds) (D.count ds) xs (size-is ds) e
 
 same-three : (xs : Expressions) (ds : Data) → expressionsOf ds ≡ some xs → isThree xs ≡ isThreeData ds
@@ -313,23 +306,23 @@ module _ (isOperation : ℕ → Bool) (round : List ℕ) where
 
 names-by : (n k : ℕ) (o : Option (List ℕ)) (ns : List ℕ) → ((ms : List ℕ) → o ≡ some ms → k ≡ 1 + 2 * length ms) → mapSome (_∷_ n) o ≡ some ns → suc (1 + k) ≡ 1 + 2 * length ns
 unfolding mapSome
-names-by n k none ns h e = none-some e
-names-by n k (some ms) ns h e = let l : length ns ≡ suc (length ms) = ap length (sym (some-is e)) in omega (arith, l, h ms refl)
+names-by n k none ns h e = absurd (Option·none-ne-some _ e)
+names-by n k (some ms) ns h e = let l : length ns ≡ suc (length ms) = ap length (sym (Option·some-injective _ _ e)) in omega (arith, l, h ms refl)
 
 names-items : (ds : Data) (ns : List ℕ) → names ds ≡ some ns → dataItems ds ≡ 1 + 2 * length ns
 unfolding names dataItems
-names-items noneD ns e = let l : length ns ≡ 0 = ap length (sym (some-is e)) in omega (arith, l)
-names-items (moreD (constantD a) ds) ns e = none-some e
+names-items noneD ns e = let l : length ns ≡ 0 = ap length (sym (Option·some-injective _ _ e)) in omega (arith, l)
+names-items (moreD (constantD a) ds) ns e = absurd (Option·none-ne-some _ e)
 names-items (moreD (nameD n) ds) ns e = names-by n (dataItems ds) (names ds) ns (names-items ds) e
-names-items (moreD (listD es) ds) ns e = none-some e
+names-items (moreD (listD es) ds) ns e = absurd (Option·none-ne-some _ e)
 
 bindable-is : (o : Option (List ℕ)) (ns : List ℕ) → after o (λ ms. onlyIf (areFormals ms) (some ms)) ≡ some ns → o ≡ some ns
 unfolding after onlyIf
-bindable-is none ns e = none-some e
-bindable-is (some ms) ns e = either (areFormals ms) (λ h. rw h at e) (λ h. none-some (rw h at e))
+bindable-is none ns e = absurd (Option·none-ne-some _ e)
+bindable-is (some ms) ns e = either (areFormals ms) (λ h. rw h at e) (λ h. absurd (Option·none-ne-some _ (rw h at e)))
 
 pub formals-items : (f : Datum) (ns : List ℕ) → formals f ≡ some ns → datumItems f ≡ 1 + 2 * length ns
 unfolding formals datumItems
-formals-items (constantD a) ns e = none-some e
-formals-items (nameD n) ns e = none-some e
+formals-items (constantD a) ns e = absurd (Option·none-ne-some _ e)
+formals-items (nameD n) ns e = absurd (Option·none-ne-some _ e)
 formals-items (listD ds) ns e = names-items ds ns (bindable-is (names ds) ns e)

@@ -9,7 +9,7 @@ use lib.ListN.{length, getD, drop, length-append}
 use borrow.Author.Tests.{eqb-true, eqb-false, leb-true}
 use Rattle.words.specs.Lists.{equal}
 use Rattle.words.specs.TestLaws.{and-left, and-right, and-both, within-most}
-use Rattle.words.specs.ListLaws.{never}
+use Rattle.words.specs.ListLaws.{never, either}
 use Rattle.datum.specs.Constant.{Constant, isConstant, constantWords}
 use Rattle.datum.specs.ConstantLaws.{words-decimal, words-other, words-few}
 use Rattle.datum.specs.Datum.{Datum, constantD, nameD, listD, Data, noneD, moreD}
@@ -20,7 +20,6 @@ use Rattle.core_term.specs.Words.{datumWords, encode}
 use Rattle.core_term.specs.Every.{everyDatum, everyData, every, proper}
 use Rattle.core_term.specs.DecodeLaws.{encode-unique}
 use Rattle.comparison.specs.Agrees.{sameConstant, sameDatum}
-use Rattle.comparison.specs.BindersLaws.{either}
 use Rattle.comparison.specs.RenderingLaws.{constant-self}
 use Rattle.supplier.specs.declared.quoted.Agreed.the-variants.{Words}
 use Rattle.supplier.specs.Names.{Slot}

@@ -6,11 +6,11 @@ use Prim.Native.Nat.{ℕ, suc, _+_, _*_, _≤_, _<_}
 use native.Mathlib.Omega.{arith}
 use lib.Dec.{ltb}
 use borrow.Author.Tests.{ltb-true, eq-eqb, ne-eqb}
+use Rattle.words.specs.ListLaws.{either}
 use Rattle.datum.specs.Datum.{Datum, constantD, nameD, listD, Data, noneD, moreD, datumItems}
 use Rattle.datum.specs.Datum as D
 use Rattle.recipe.specs.Table.{kindAt}
 use Rattle.recipe.specs.TreeFrom.{headAt, tailAt}
-use Rattle.comparison.specs.BindersLaws.{either}
 use Rattle.comparison.specs.Grammar.{expressionOf, expressionsOf}
 use Rattle.supplier.specs.declared.grammar.Judged.{Judged}
 use Rattle.supplier.specs.declared.grammar.Judged.the-variants.{Closed, Outside}
