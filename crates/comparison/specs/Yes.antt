@@ -1,31 +1,33 @@
 -- What yes says of a text that was read, and which texts get it.
 use mathlib.Core.Path.{_≡_, refl, sym, ap, ap₂, _∙_}
 use mathlib.Core.Bool.{Bool, true, cond}
-use mathlib.Core.List.{List, []}
+use mathlib.Core.List.{List, [], _∷_, _++_}
 use mathlib.Core.Option.{Option, none, some}
 use Prim.Native.Nat.{ℕ}
 use native.Mathlib.Omega.{arith}
 use lib.ListN.{length}
 use Rattle.words.specs.ListLaws.{either}
-use Rattle.words.specs.Lists.{anyOf, equal}
+use Rattle.words.specs.Lists.{allOf, anyOf, equal}
+use Rattle.words.specs.Text.{bytes}
 use Rattle.datum.specs.Datum.{Datum, noneD, moreD}
-use Rattle.datum.specs.NameTable.{nameAt}
+use Rattle.datum.specs.NameTable.{slot, lengthAt, nameAt}
 use Rattle.reading.specs.Elements.{got}
-use Rattle.reading.specs.Read.{Recipe, nameBytes}
+use Rattle.reading.specs.Numbering.{baseNames}
+use Rattle.reading.specs.Read.{Recipe, elementsOf, nameBytes}
 use Rattle.core_term.specs.Term.{Plain}
 use Rattle.core_term.specs.Check.{numbered, allKnown}
-use Rattle.comparison.specs.Expression.{Expression}
-use Rattle.comparison.specs.Grammar.{theOne, after, expressionOf}
+use Rattle.comparison.specs.Expression.{Expression, referenceE, lambdaE, applicationE, noneE, moreE}
+use Rattle.comparison.specs.Grammar.{isFree, distinct, areFormals, theOne, after, expressionOf}
 use Rattle.comparison.specs.Closed.{closed}
 use Rattle.comparison.specs.Agrees.{agrees}
 use Rattle.comparison.specs.Compare.{Verdict, yes, no, refusedOn, decided, held}
 use Rattle.comparison.specs.Binders.{binders, ourBinders}
 use Rattle.comparison.specs.BindersLaws.{yes-binders}
-use Rattle.comparison.specs.Renamed.{Renamed}
+use Rattle.comparison.specs.Renamed.{pairs, bound, past, free, Renamed, reference′, lambda′, application′, none′, more′}
 use Rattle.comparison.specs.RenamedLaws.{agrees-renamed, closed-renamed}
 use Rattle.comparison.specs.Rendering.{Choice, render, Uncaptured}
 use Rattle.comparison.specs.RenderingLaws.{rendering-agrees}
-use Rattle.comparison.specs.Written.{written, isExpression}
+use Rattle.comparison.specs.Written.{nameData, written, isExpression}
 use Rattle.comparison.specs.WrittenLaws.{written-read}
 use Rattle.comparison.specs.ClosedLaws.{agrees-closed}
 
@@ -111,3 +113,15 @@ renamed-verdict ours operations t r s x y g e h f p =
     held-is ours operations t r (written x) x e (written-read x g)
     ∙ ap₂ (λ c a. cond c (cond a yes no) (refusedOn 22)) (closed-renamed here there ours operations p) (agrees-renamed here there ours operations t p)
     ∙ sym (held-is ours operations t s (written y) y f (written-read y h))
+
+-- two such texts: `_` is chosen for `a`, so that g has number 9 in the first table and 8 in the second
+pub one-renamed : (ours : ℕ → List ℕ) (operations : List (List ℕ)) (t : Plain)
+    → held ours operations t (elementsOf 1 (bytes "(lambda (a) (g a))")) ≡ held ours operations t (elementsOf 1 (bytes "(lambda (_) (g _))"))
+unfolding elementsOf bytes baseNames nameData written isExpression isFree areFormals distinct allOf anyOf nameAt lengthAt slot nameBytes pairs
+one-renamed ours operations t =
+    let x = lambdaE (8 ∷ []) (applicationE (referenceE 9) (moreE (referenceE 8) noneE)) in
+    let y = lambdaE (7 ∷ []) (applicationE (referenceE 8) (moreE (referenceE 7) noneE)) in
+    let r : Recipe = record { elements = moreD (written x) noneD; names = baseNames ++ (bytes "a" ∷ bytes "g" ∷ []) } in
+    let s : Recipe = record { elements = moreD (written y) noneD; names = baseNames ++ (bytes "g" ∷ []) } in
+    renamed-verdict ours operations t r s x y refl refl refl refl
+    (lambda′ refl (application′ (reference′ (past (λ e. omega arith) (λ e. omega arith) (free refl))) (more′ (reference′ bound) none′)))
