@@ -1,6 +1,6 @@
 -- Laws of quoted lists against words.
-use mathlib.Core.Path.{_≡_, refl, sym, ap, subst, _∙_}
-use mathlib.Core.Bool.{Bool, true, false, not}
+use mathlib.Core.Path.{_≡_, refl, sym, ap, ap₂, subst, _∙_}
+use mathlib.Core.Bool.{Bool, true, false, not, _&&_}
 use mathlib.Core.List.{List, _++_, append-assoc}
 use Prim.Native.Nat.{ℕ, suc, _+_, _≤_, _<_}
 use native.Mathlib.Omega.{arith}
@@ -8,7 +8,7 @@ use lib.Dec.{eqb}
 use lib.ListN.{length, getD, drop, length-append, length-drop}
 use lib.Seq.{drop-at, drop-drop}
 use borrow.Author.Tests.{eqb-true, eqb-false, not-true, not-false}
-use Rattle.words.specs.TestLaws.{and-left, and-right}
+use Rattle.words.specs.TestLaws.{and-left, and-right, and-none-left}
 use Rattle.words.specs.ListLaws.{never, rest-is, either}
 use Rattle.words.specs.Parts as R
 use Rattle.datum.specs.Constant.{Constant, isConstant, constantWords}
@@ -24,7 +24,7 @@ use Rattle.core_term.specs.Words.{datumWords, dataWords}
 use Rattle.comparison.specs.Agrees.{sameDatum, sameData}
 use Rattle.supplier.specs.declared.quoted.Agreed.{Agreed}
 use Rattle.supplier.specs.declared.quoted.Agreed.the-variants.{Words, No}
-use Rattle.supplier.specs.Items.{DatumAt, DataAt, Held, HeldAll}
+use Rattle.supplier.specs.Items.{DatumAt, DataAt, Held, HeldAll, PairAt}
 use Rattle.supplier.specs.ItemsLaws.{pair-kind, none-kind, name-datum, empty-datum, pair-datum, constant-datum, as-list}
 use Rattle.supplier.specs.Quoted.{isGood, areGood, Short, Right, ConstantRight, NameRight, DatumRight, DataRight}
 use Rattle.supplier.specs.QuotedLaws.{not-so}
@@ -107,49 +107,57 @@ comparing-start items words theirs ours i ops ds es rest h g m w =
 module _ (items words theirs ours : List ℕ) (ops : List (List ℕ)) (j at : ℕ) (test : Bool) (size : ℕ) (l : Left items words theirs ours ops j at test size) where
   -- one element more
   module _ (k : kindAt items j ≡ 4) where
+    pair : PairAt items j (l .ds)
+    pair = pair-kind items j (l .ds) (l .held) k
+
+    -- the words have one too
+    more-by : (es : Data) → l .es ≡ es → (x : Datum) × (xs : Data) × (l .es ≡ moreD x xs)
+    unfolding D.count
+    more-by noneD e = absurd (omega (arith, l .many, ap D.count (pair .is), ap D.count e))
+    more-by (moreD x xs) e = (x, xs, e)
+
+    more : (x : Datum) × (xs : Data) × (l .es ≡ moreD x xs)
+    more = more-by (l .es) refl
+
+    abbrev same : Bool
+    same = sameDatum (nameAt theirs) (nameAt ours) ops (pair .first) (more .0)
+
+    test-more : test ≡ (same && sameData (nameAt theirs) (nameAt ours) ops (pair .rest) (more .1))
+    unfolding sameData
+    test-more = l .test-is ∙ ap₂ (sameData (nameAt theirs) (nameAt ours) ops) (pair .is) (more .2)
+
+    good-more : areGood ours (moreD (more .0) (more .1)) ≡ true
+    good-more = subst (λ y. areGood ours y ≡ true) (more .2) (l .good)
+
+    words-more : drop at words ≡ datumWords (more .0) ++ (dataWords (more .1) ++ l .rest)
+    unfolding dataWords
+    words-more = l .words-are ∙ ap (λ y. dataWords y ++ l .rest) (more .2) ∙ append-assoc (datumWords (more .0)) (dataWords (more .1)) (l .rest)
+
     module _ (h : ℕ) (a : h ≡ headAt items j) (r : Agreed) (is : DatumRight (drop at words) items theirs ours h r) where
-      by : (es : Data) → l .es ≡ es → (n : ℕ) → r ≡ Words n → (t : ℕ) → t ≡ tailAt items j → Left items words theirs ours ops t (at + n) test size
-      unfolding D.count areGood dataWords sameData
-      by noneD e n q t u =
-          let p = pair-kind items j (l .ds) (l .held) k in
-          absurd (omega (arith, l .many, ap D.count (p .is), ap D.count e))
-      by (moreD x xs) e n q t u =
-          let p = pair-kind items j (l .ds) (l .held) k in
-          let g : areGood ours (moreD x xs) ≡ true = subst (λ y. areGood ours y ≡ true) e (l .good) in
-          let w : drop at words ≡ datumWords x ++ (dataWords xs ++ l .rest) = l .words-are ∙ ap (λ y. dataWords y ++ l .rest) e ∙ append-assoc (datumWords x) (dataWords xs) (l .rest) in
-          let o = subst (Right (sameDatum (nameAt theirs) (nameAt ours) ops (p .first) x) (length (datumWords x))) q
-          (is ops (p .first) x (dataWords xs ++ l .rest) (subst (λ y. DatumAt items y (p .first)) (sym a) (p .head)) (and-left (isGood ours x) _ g) w) in
-          let f : sameDatum (nameAt theirs) (nameAt ours) ops (p .first) x ≡ true = o .0 in
+      first-right : (q : Agreed) → r ≡ q → Right same (length (datumWords (more .0))) q
+      unfolding areGood
+      first-right q e =
+          subst (Right same (length (datumWords (more .0)))) e
+          (is ops (pair .first) (more .0) (dataWords (more .1) ++ l .rest) (subst (λ y. DatumAt items y (pair .first)) (sym a) (pair .head)) (and-left (isGood ours (more .0)) _ good-more) words-more)
+
+      left-next : (n : ℕ) → r ≡ Words n → (t : ℕ) → t ≡ tailAt items j → Left items words theirs ours ops t (at + n) test size
+      unfolding D.count areGood dataWords
+      left-next n q t u =
+          let o = first-right (Words n) q in
           record {
-            ds = p .rest;
-            es = xs;
+            ds = pair .rest;
+            es = more .1;
             rest = l .rest;
-            held = subst (λ y. DataAt items y (p .rest)) (sym u) (p .tail);
-            good = and-right (isGood ours x) _ g;
-            many = omega (arith, l .many, ap D.count (p .is), ap D.count e);
-            words-are = sym (drop-drop n at words) ∙ ap (drop n) w ∙ drop-at (datumWords x) (dataWords xs ++ l .rest) n (sym (o .1));
-            test-is = l .test-is ∙ ap (λ y. sameData (nameAt theirs) (nameAt ours) ops y (l .es)) (p .is) ∙ ap (sameData (nameAt theirs) (nameAt ours) ops (moreD (p .first) (p .rest))) e ∙ rw f;
-            size-is = l .size-is ∙ ap (λ y. at + length (dataWords y)) e ∙ omega (arith, length-append (datumWords x) (dataWords xs), o .1);
+            held = subst (λ y. DataAt items y (pair .rest)) (sym u) (pair .tail);
+            good = and-right (isGood ours (more .0)) _ good-more;
+            many = omega (arith, l .many, ap D.count (pair .is), ap D.count (more .2));
+            words-are = sym (drop-drop n at words) ∙ ap (drop n) words-more ∙ drop-at (datumWords (more .0)) (dataWords (more .1) ++ l .rest) n (sym (o .1));
+            test-is = test-more ∙ rw (o .0);
+            size-is = l .size-is ∙ ap (λ y. at + length (dataWords y)) (more .2) ∙ omega (arith, length-append (datumWords (more .0)) (dataWords (more .1)), o .1);
           }
 
-      pub left-next : (n : ℕ) → r ≡ Words n → (t : ℕ) → t ≡ tailAt items j → Left items words theirs ours ops t (at + n) test size
-      left-next = by (l .es) refl
-
-      no-by : (es : Data) → l .es ≡ es → r ≡ No → test ≡ false
-      unfolding D.count areGood dataWords sameData
-      no-by noneD e q =
-          let p = pair-kind items j (l .ds) (l .held) k in
-          absurd (omega (arith, l .many, ap D.count (p .is), ap D.count e))
-      no-by (moreD x xs) e q =
-          let p = pair-kind items j (l .ds) (l .held) k in
-          let g : areGood ours (moreD x xs) ≡ true = subst (λ y. areGood ours y ≡ true) e (l .good) in
-          let w : drop at words ≡ datumWords x ++ (dataWords xs ++ l .rest) = l .words-are ∙ ap (λ y. dataWords y ++ l .rest) e ∙ append-assoc (datumWords x) (dataWords xs) (l .rest) in
-          let f : sameDatum (nameAt theirs) (nameAt ours) ops (p .first) x ≡ false = subst (Right (sameDatum (nameAt theirs) (nameAt ours) ops (p .first) x) (length (datumWords x))) q
-          (is ops (p .first) x (dataWords xs ++ l .rest) (subst (λ y. DatumAt items y (p .first)) (sym a) (p .head)) (and-left (isGood ours x) _ g) w) in
-          l .test-is ∙ ap (λ y. sameData (nameAt theirs) (nameAt ours) ops y (l .es)) (p .is) ∙ ap (sameData (nameAt theirs) (nameAt ours) ops (moreD (p .first) (p .rest))) e ∙ rw f
-
-      pub left-no : r ≡ No → test ≡ false
-      left-no = no-by (l .es) refl
+      left-no : r ≡ No → test ≡ false
+      left-no q = test-more ∙ and-none-left same _ (first-right No q)
 
   -- the end
   end-by : (ds es : Data) → l .ds ≡ ds → l .es ≡ es → ds ≡ noneD → Right test size (Words at)
@@ -158,7 +166,7 @@ module _ (items words theirs ours : List ℕ) (ops : List (List ℕ)) (j at : �
   end-by noneD (moreD x xs) e f q = absurd (omega (arith, l .many, ap D.count e, ap D.count f))
   end-by (moreD y ys) es e f q = let z : _≡_ {A = ℕ} 0 1 = cc in absurd (omega arith)
 
-  pub left-end : (kindAt items j ≡ 4 → ⊥) → Right test size (Words at)
+  left-end : (kindAt items j ≡ 4 → ⊥) → Right test size (Words at)
   left-end k = end-by (l .ds) (l .es) refl refl (none-kind items j (l .ds) (l .held) k)
 
 -- in the code's shape: k is the kind of item j, h its head
@@ -265,12 +273,12 @@ module _ (items : List ℕ) (i k : ℕ) (kind : k ≡ kindAt items i) (b : Bool)
             not-so _ (λ h. f (second ∙ first-at ops d x rest o w h .2 ∙ sym (counts (l .elements) (l .held))))
 
         module _ (f : getD words 0 0 ≡ 5) (e : m ≡ n) (r : Agreed) (right : DataRight (R.rest 2 words) items theirs ours i r) where
-          abbrev same : List (List ℕ) → (d : Datum) → DatumAt items i d → Data → Bool
-          same ops d o ys = sameData (nameAt theirs) (nameAt ours) ops (list-there d o .elements) ys
+          abbrev sameElements : List (List ℕ) → (d : Datum) → DatumAt items i d → Data → Bool
+          sameElements ops d o ys = sameData (nameAt theirs) (nameAt ours) ops (list-there d o .elements) ys
 
           -- as its elements agree with the words behind
           inner : (ops : List (List ℕ)) (d x : Datum) (rest : List ℕ) (o : DatumAt items i d) → isGood ours x ≡ true → words ≡ datumWords x ++ rest
-              → (ys : Data) × (x ≡ listD ys) × (sameDatum (nameAt theirs) (nameAt ours) ops d x ≡ same ops d o ys) × Right (same ops d o ys) (length (dataWords ys)) r
+              → (ys : Data) × (x ≡ listD ys) × (sameDatum (nameAt theirs) (nameAt ours) ops d x ≡ sameElements ops d o ys) × Right (sameElements ops d o ys) (length (dataWords ys)) r
           inner ops d x rest o g w =
               let l = list-there d o in
               let y = list-words ours words x rest g w f in
@@ -284,12 +292,12 @@ module _ (items : List ℕ) (i k : ℕ) (kind : k ≡ kindAt items i) (b : Bool)
           pub list-no : r ≡ No → DatumRight words items theirs ours i No
           list-no q ops d x rest o g w =
               let a = inner ops d x rest o g w in
-              a .2 ∙ subst (Right (same ops d o (a .0)) (length (dataWords (a .0)))) q (a .3)
+              a .2 ∙ subst (Right (sameElements ops d o (a .0)) (length (dataWords (a .0)))) q (a .3)
 
           pub list-yes : (t : ℕ) → r ≡ Words t → DatumRight words items theirs ours i (Words (t + 2))
           list-yes t q ops d x rest o g w =
               let a = inner ops d x rest o g w in
-              let z = subst (Right (same ops d o (a .0)) (length (dataWords (a .0)))) q (a .3) in
+              let z = subst (Right (sameElements ops d o (a .0)) (length (dataWords (a .0)))) q (a .3) in
               (a .2 ∙ z .0, omega (arith, z .1, list-size (a .0) x (a .1)))
 
 pub name-datum-right : (items : List ℕ) (i k : ℕ) → k ≡ kindAt items i → k ≡ 3 → (n : ℕ) → n ≡ headAt items i → (words theirs ours : List ℕ) (r : Agreed)

@@ -2,9 +2,10 @@
 use mathlib.Core.Path.{_≡_, refl, sym, ap, subst, _∙_}
 use mathlib.Core.Bool.{Bool, cond}
 use mathlib.Core.List.{List}
-use Prim.Native.Nat.{ℕ, suc, _+_, _*_, _≤_, _<_}
+use Prim.Native.Nat.{ℕ, suc, _+_, _-_, _*_, _≤_, _<_}
 use native.Mathlib.Omega.{arith}
 use lib.Dec.{ltb}
+use lib.ListN.{length}
 use borrow.Author.Tests.{ltb-true, eq-eqb, ne-eqb}
 use Rattle.words.specs.ListLaws.{either}
 use Rattle.datum.specs.Datum.{Datum, constantD, nameD, listD, Data, noneD, moreD, datumItems}
@@ -17,10 +18,10 @@ use Rattle.supplier.specs.declared.grammar.Judged.the-variants.{Closed, 
 use Rattle.supplier.specs.declared.grammar.Bound.{Bound}
 use Rattle.supplier.specs.declared.grammar.Bound.the-variants.{Formals, No}
 use Rattle.supplier.specs.Items.{DatumAt, DataAt, Held, HeldAll}
-use Rattle.supplier.specs.ItemsLaws.{ListAt, pair-kind, name-datum, empty-datum, constant-datum, pair-datum}
+use Rattle.supplier.specs.ItemsLaws.{ListAt, pair-kind, name-datum, empty-datum, constant-datum, pair-datum, held-in, elements-held, tail-held}
 use Rattle.supplier.specs.Scope.{round, Kept}
 use Rattle.supplier.specs.ScopeLaws.{kept-round}
-use Rattle.supplier.specs.Judged.{judge, judgeAll, quotes, formOf, lambdaOf, FormalsAre}
+use Rattle.supplier.specs.Judged.{judge, judgeAll, quotes, formOf, lambdaOf, FormalsAre, Room}
 use Rattle.supplier.specs.JudgedLaws.{count-pair}
 use Rattle.supplier.specs.ListLaws.{isThreeData, judge-constant, judge-empty, judge-quote, judge-if, judge-lambda, judge-application, lambda-count, lambda-none, lambda-some, formals-items}
 
@@ -233,3 +234,11 @@ kept-on top more a b c p q k h = q k (omega arith) ∙ p k h
 pub judges-kept : (isOperation : ℕ → Bool) (ws : List ℕ) (i : ℕ) (v : Judged) (top : ℕ) (before after : List ℕ) → Kept top before after
     → Judges isOperation (round after top) ws i v → Judges isOperation (round before top) ws i v
 judges-kept isOperation ws i v top before after k h d o = h d o ∙ ap (λ r. judge isOperation r (expressionOf d)) (kept-round top before after k)
+
+-- ---- what a call for the tail asks
+
+pub tail-asks : (ws scope : List ℕ) (top i k : ℕ) → k ≡ kindAt ws i → k ≡ 4 → Held ws i → Room ws scope top i → (next : ℕ) → next ≡ tailAt ws i
+    → HeldAll ws next × Room ws scope top next × (length ws - next < length ws - i)
+tail-asks ws scope top i k kind p h r next b =
+    let t = tail-held ws i k kind p (elements-held ws i k kind p h) next b in
+    (t .0, (omega (arith, r .0, t .1), r .1, r .2), omega (arith, t .1, held-in ws i h))

@@ -34,7 +34,7 @@ use Rattle.supplier.specs.ItemsLaws.{held-in, all-in, name-held, element
 use Rattle.supplier.specs.Scope.{round, Kept}
 use Rattle.supplier.specs.Judged.{isOperation}
 use Rattle.supplier.specs.ListLaws.{Judging, judging-start, judging-next, judging-outside, judging-some, judging-none}
-use Rattle.supplier.specs.WalkLaws.{judges-name, judges-empty, judges-constant, judges-quote, judges-if, judges-not-if, judges-lambda, judges-application, judges-not-two, behind-held, formals-held, judges-no-formals, body-held, judges-body, kept-on, judges-kept}
+use Rattle.supplier.specs.WalkLaws.{judges-name, judges-empty, judges-constant, judges-quote, judges-if, judges-not-if, judges-lambda, judges-application, judges-not-two, behind-held, formals-held, judges-no-formals, body-held, judges-body, kept-on, judges-kept, tail-asks}
 
 abbrev μ-all : Measures 5 all-kinds.ps ℕ
 μ-all κs a =
@@ -232,11 +232,12 @@ expression-returns-6 t c =
 
 expression-all-requires : (t : ℕ) → expression-lts.Need-all-requires (expression-claims t) (expression-at t) expression.Post
 expression-all-requires t c κs =
+    let args = c .before .before .before .before .before .before .before .before .before .before .before .before .before .before .before .before .before .args in
     let pre = c .before .before .before .before .before .before .before .before .before .before .before .before .before .before .before .before .before .pre in
     let kind = c .before .before .before .before .before .before .before .before .before .before .before .kind in
     let if3 = c .before .before .before .before .before .before .before .before .if3 in
-    let n = tail-held _ _ _ (kind .ensures) (if3 .left) (elements-held _ _ _ (kind .ensures) (if3 .left) (pre .1 .0)) _ (c .before .before .before .before .before .tail .ensures) in
-    (omega (arith, pre .0, n .1, held-in _ _ (pre .1 .0)), (n .0, (omega (arith, pre .1 .1 .0, n .1), pre .1 .1 .1, pre .1 .1 .2), pre .1 .2))
+    let a = tail-asks (args .items .now) (args .scope .now) _ _ _ (kind .ensures) (if3 .left) (pre .1 .0) (pre .1 .1) _ (c .before .before .before .before .before .tail .ensures) in
+    (omega (arith, pre .0, a .2), (a .0, a .1, pre .1 .2))
 
 expression-same-length-2 : (t : ℕ) → expression-lts.Need-same-length-2 (expression-claims t) (expression-at t) expression.Post
 expression-same-length-2 t c =
@@ -254,11 +255,11 @@ expression-returns-7 t c =
 
 expression-lambda-requires : (t : ℕ) → expression-lts.Need-lambda-requires (expression-claims t) (expression-at t) expression.Post
 expression-lambda-requires t c κs =
+    let args = c .before .before .before .before .before .before .before .before .before .before .before .before .before .before .before .before .args in
     let pre = c .before .before .before .before .before .before .before .before .before .before .before .before .before .before .before .before .pre in
     let kind = c .before .before .before .before .before .before .before .before .before .before .kind in
-    let if3 = c .before .before .before .before .before .before .before .if3 in
-    let n = tail-held _ _ _ (kind .ensures) (if3 .left) (elements-held _ _ _ (kind .ensures) (if3 .left) (pre .1 .0)) _ (c .before .before .before .before .tail .ensures) in
-    (omega (arith, pre .0, n .1, held-in _ _ (pre .1 .0)), (n .0, (omega (arith, pre .1 .1 .0, n .1), pre .1 .1 .1, pre .1 .1 .2), pre .1 .2))
+    let a = tail-asks (args .items .now) (args .scope .now) _ _ _ (kind .ensures) (c .before .before .before .before .before .before .before .if3 .left) (pre .1 .0) (pre .1 .1) _ (c .before .before .before .before .tail .ensures) in
+    (omega (arith, pre .0, a .2), (a .0, a .1, pre .1 .2))
 
 expression-same-length-3 : (t : ℕ) → expression-lts.Need-same-length-3 (expression-claims t) (expression-at t) expression.Post
 expression-same-length-3 t c =
