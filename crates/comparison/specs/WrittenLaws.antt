@@ -127,7 +127,7 @@ bound-back none ns e = absurd (Option·none-ne-some _ e)
 bound-back (some ms) ns e =
     either (areFormals ms) (λ h. let s : some ms ≡ some ns = rw h at e in (s, subst (λ l. areFormals l ≡ true) (Option·some-injective _ _ s) h)) (λ h. absurd (Option·none-ne-some _ (rw h at e)))
 
-formals-back : (f : Datum) (ns : List ℕ) → formals f ≡ some ns → (listD (nameData ns) ≡ f) × (areFormals ns ≡ true)
+pub formals-back : (f : Datum) (ns : List ℕ) → formals f ≡ some ns → (listD (nameData ns) ≡ f) × (areFormals ns ≡ true)
 unfolding formals
 formals-back (constantD a) ns e = absurd (Option·none-ne-some _ e)
 formals-back (nameD n) ns e = absurd (Option·none-ne-some _ e)

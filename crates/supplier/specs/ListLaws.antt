@@ -1,7 +1,7 @@
 -- Laws of judging a list: by its head, and element by element.
 use mathlib.Core.Path.{_≡_, refl, sym, ap, subst, _∙_}
 use mathlib.Core.Bool.{Bool, true, false, _&&_, cond, and-true}
-use mathlib.Core.List.{List, _∷_}
+use mathlib.Core.List.{List, [], _∷_}
 use mathlib.Core.Option.{Option, none, some, Option·some-injective, Option·none-ne-some}
 use Prim.Native.Nat.{ℕ, zero, suc, _+_, _*_}
 use native.Mathlib.Omega.{arith}
@@ -9,14 +9,16 @@ use lib.Dec.{eqb}
 use lib.ListN.{length}
 use borrow.Author.Tests.{ne-eqb}
 use Rattle.words.specs.ListLaws.{never, either}
-use Rattle.words.specs.Options.{onlyIf, mapSome, mapBoth}
+use Rattle.words.specs.Options.{mapSome, mapBoth}
 use Rattle.datum.specs.Constant.{Constant}
 use Rattle.datum.specs.Datum.{Datum, constantD, nameD, listD, Data, noneD, moreD, datumItems, dataItems}
 use Rattle.datum.specs.Datum as D
 use Rattle.recipe.specs.Table.{kindAt}
 use Rattle.recipe.specs.TreeFrom.{headAt, tailAt}
 use Rattle.comparison.specs.Expression.{Expression, Expressions, noneE, moreE}
-use Rattle.comparison.specs.Grammar.{areFormals, theOne, first, names, after, quoted, conditional, formals, withBody, applied, headed, expressionOf, expressionsOf, laterOf}
+use Rattle.comparison.specs.Grammar.{theOne, first, after, quoted, conditional, formals, withBody, applied, headed, expressionOf, expressionsOf, laterOf}
+use Rattle.comparison.specs.Written.{nameData}
+use Rattle.comparison.specs.WrittenLaws.{formals-back}
 use Rattle.comparison.specs.Closed.{inside, closed, closedAll}
 use Rattle.supplier.specs.declared.grammar.Judged.{Judged}
 use Rattle.supplier.specs.declared.grammar.Judged.the-variants.{Closed, Open, Outside}
@@ -304,25 +306,11 @@ module _ (isOperation : ℕ → Bool) (round : List ℕ) where
 
 -- ---- the items of formals
 
-names-by : (n k : ℕ) (o : Option (List ℕ)) (ns : List ℕ) → ((ms : List ℕ) → o ≡ some ms → k ≡ 1 + 2 * length ms) → mapSome (_∷_ n) o ≡ some ns → suc (1 + k) ≡ 1 + 2 * length ns
-unfolding mapSome
-names-by n k none ns h e = absurd (Option·none-ne-some _ e)
-names-by n k (some ms) ns h e = let l : length ns ≡ suc (length ms) = ap length (sym (Option·some-injective _ _ e)) in omega (arith, l, h ms refl)
-
-names-items : (ds : Data) (ns : List ℕ) → names ds ≡ some ns → dataItems ds ≡ 1 + 2 * length ns
-unfolding names dataItems
-names-items noneD ns e = let l : length ns ≡ 0 = ap length (sym (Option·some-injective _ _ e)) in omega (arith, l)
-names-items (moreD (constantD a) ds) ns e = absurd (Option·none-ne-some _ e)
-names-items (moreD (nameD n) ds) ns e = names-by n (dataItems ds) (names ds) ns (names-items ds) e
-names-items (moreD (listD es) ds) ns e = absurd (Option·none-ne-some _ e)
-
-bindable-is : (o : Option (List ℕ)) (ns : List ℕ) → after o (λ ms. onlyIf (areFormals ms) (some ms)) ≡ some ns → o ≡ some ns
-unfolding after onlyIf
-bindable-is none ns e = absurd (Option·none-ne-some _ e)
-bindable-is (some ms) ns e = either (areFormals ms) (λ h. rw h at e) (λ h. absurd (Option·none-ne-some _ (rw h at e)))
+names-items : (ns : List ℕ) → dataItems (nameData ns) ≡ 1 + 2 * length ns
+unfolding nameData dataItems
+names-items [] = refl
+names-items (n ∷ ns) = omega (arith, names-items ns)
 
 pub formals-items : (f : Datum) (ns : List ℕ) → formals f ≡ some ns → datumItems f ≡ 1 + 2 * length ns
-unfolding formals datumItems
-formals-items (constantD a) ns e = absurd (Option·none-ne-some _ e)
-formals-items (nameD n) ns e = absurd (Option·none-ne-some _ e)
-formals-items (listD ds) ns e = names-items ds ns (bindable-is (names ds) ns e)
+unfolding datumItems
+formals-items f ns e = ap datumItems (sym (formals-back f ns e .0)) ∙ names-items ns
