@@ -6,21 +6,17 @@ use Rattle.supplier.proofs.quoted.quoted_name.Lts as lts
 use Rattle.supplier.proofs.names.same_name.Reads as same-name-reads
 use Rattle.supplier.proofs.names.length_of.Reads as length-of-reads
 use Rattle.supplier.proofs.quoted.wide.Reads as wide-reads
-use mathlib.Core.Bool.{true, false}
-use mathlib.Core.Path.{sym, _∙_}
 use native.Mathlib.Omega.{arith}
-use Rattle.datum.specs.NameTable.{nameAt, lengthAt}
-use Rattle.supplier.specs.QuotedLaws.{not-so, name-two, name-first, name-slot, name-right, name-size}
+use Rattle.datum.specs.NameTable.{lengthAt}
+use Rattle.supplier.specs.QuotedLaws.{name-short, name-other, name-no-slot, name-no, name-yes}
 
 returns : tie.Need-returns
 returns c =
-    let args = c .before .before .before .before .args in
-    (omega arith, λ P e r g w. not-so _ (λ h. omega (arith, c .if1 .taken, name-two (args .theirs .now) (args .ours .now) (args .n) P (args .words .now) e r g w h)))
+    (omega arith, name-short _ _ _ _ (c .if1 .taken))
 
 returns-2 : tie.Need-returns-2
 returns-2 c =
-    let args = c .before .before .before .before .before .before .args in
-    (omega arith, λ P e r g w. not-so _ (λ h. c .if2 .taken (name-first (nameAt (args .theirs .now)) (nameAt (args .ours .now)) P (args .n) (args .words .now) e r w h)))
+    (omega arith, name-other _ _ _ _ (c .if2 .taken))
 
 mul-start : tie.Need-mul-start
 mul-start c =
@@ -32,16 +28,12 @@ add-if3 c =
 
 returns-3 : tie.Need-returns-3
 returns-3 c =
-    let args = c .before .before .before .before .before .before .before .before .before .args in
-    let wide = c .before .wide in
-    (omega arith, λ P e r g w. absurd (omega (arith, c .if3 .taken, name-slot (args .theirs .now) (args .ours .now) (args .n) P (args .words .now) e r g w (c .before .before .before .before .before .if1 .left) (c .before .before .before .if2 .left) (wide .result) (sym (wide .ensures)) .0)))
+    (omega arith, name-no-slot _ _ _ _ (c .before .before .before .before .before .if1 .left) (c .before .before .before .if2 .left) _ (c .before .wide .ensures) (λ s. omega (arith, c .if3 .taken, s .0)))
 
 returns-4 : tie.Need-returns-4
 unfolding lengthAt
 returns-4 c =
-    let args = c .before .before .before .before .before .before .before .before .before .before .before .before .args in
-    let wide = c .before .before .before .before .wide in
-    (omega arith, λ P e r g w. absurd (omega (arith, c .if4 .taken, c .before .length-of .ensures, name-slot (args .theirs .now) (args .ours .now) (args .n) P (args .words .now) e r g w (c .before .before .before .before .before .before .before .before .if1 .left) (c .before .before .before .before .before .before .if2 .left) (wide .result) (sym (wide .ensures)) .1)))
+    (omega arith, name-no-slot _ _ _ _ (c .before .before .before .before .before .before .before .before .if1 .left) (c .before .before .before .before .before .before .if2 .left) _ (c .before .before .before .before .wide .ensures) (λ s. omega (arith, c .if4 .taken, c .before .length-of .ensures, s .1)))
 
 same-name-requires : tie.Need-same-name-requires
 unfolding lengthAt
@@ -50,17 +42,12 @@ same-name-requires c κs =
 
 returns-5 : tie.Need-returns-5
 returns-5 c =
-    let args = c .before .before .before .before .before .before .before .before .before .before .before .before .before .before .args in
     let if1 = c .before .before .before .before .before .before .before .before .before .before .if1 in
-    let if2 = c .before .before .before .before .before .before .before .before .if2 in
-    let wide = c .before .before .before .before .before .before .wide in
-    (omega (arith, if1 .left), λ P e r g w. (name-right (args .theirs .now) (args .ours .now) (args .n) P (args .words .now) e r g w (if1 .left) (if2 .left) (wide .result) (sym (wide .ensures)) true (sym (c .if5 .taken) ∙ c .before .same-name .ensures), sym (name-size (args .theirs .now) (args .ours .now) (args .n) P (args .words .now) e r g w (if1 .left) (if2 .left) (wide .result) (sym (wide .ensures)))))
+    (omega (arith, if1 .left), name-yes _ _ _ _ (if1 .left) (c .before .before .before .before .before .before .before .before .if2 .left) _ (c .before .before .before .before .before .before .wide .ensures) _ (c .before .same-name .ensures) (c .if5 .taken))
 
 returns-6 : tie.Need-returns-6
 returns-6 c =
-    let args = c .before .before .before .before .before .before .before .before .before .before .before .before .before .before .args in
-    let wide = c .before .before .before .before .before .before .wide in
-    (omega arith, λ P e r g w. name-right (args .theirs .now) (args .ours .now) (args .n) P (args .words .now) e r g w (c .before .before .before .before .before .before .before .before .before .before .if1 .left) (c .before .before .before .before .before .before .before .before .if2 .left) (wide .result) (sym (wide .ensures)) false (sym (c .if5 .left) ∙ c .before .same-name .ensures))
+    (omega arith, name-no _ _ _ _ (c .before .before .before .before .before .before .before .before .before .before .if1 .left) (c .before .before .before .before .before .before .before .before .if2 .left) _ (c .before .before .before .before .before .before .wide .ensures) _ (c .before .same-name .ensures) (c .if5 .left))
 
 pub quoted-name-spec : {M : Type 1} → statement M
 quoted-name-spec =
