@@ -1,12 +1,12 @@
 -- Laws of names by spelling.
-use mathlib.Core.Path.{_≡_, refl, ap, _∙_}
+use mathlib.Core.Path.{_≡_, refl, sym, ap, _∙_}
 use mathlib.Core.Bool.{Bool, true, false, _||_}
 use mathlib.Core.List.{List, [], _∷_, map}
 use Prim.Native.Nat.{ℕ, zero, suc, _+_, _-_, _*_, _≤_, _<_}
 use native.Mathlib.Omega.{arith}
 use lib.ListN.{length, getD, take, drop}
 use lib.Seq.{drop-cons}
-use Rattle.words.specs.Lists.{anyOf}
+use Rattle.words.specs.Lists.{anyOf, equal}
 use Rattle.datum.specs.NameTable.{lengthAt, nameAt}
 
 -- the part of a table that spells name n
