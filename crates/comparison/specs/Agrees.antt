@@ -9,7 +9,7 @@ use lib.ListN.{length, getD}
 use Rattle.words.specs.Lists.{equal}
 use Rattle.datum.specs.Constant.{Constant}
 use Rattle.datum.specs.Datum.{Datum, constantD, nameD, listD, Data, noneD, moreD}
-use Rattle.core_term.specs.Term.{Term, variableC, operationC, datumC, ifC, lambdaC, applicationC, Terms, noneC, moreC, Plain, Plains}
+use Rattle.core_term.specs.Term.{variableC, operationC, datumC, ifC, lambdaC, applicationC, noneC, moreC, Plain, Plains}
 use Rattle.comparison.specs.Expression.{Expression, referenceE, datumE, ifE, lambdaE, applicationE, Expressions, noneE, moreE}
 
 -- ---- scopes

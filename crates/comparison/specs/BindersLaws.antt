@@ -1,21 +1,22 @@
 -- After yes, each reference has the same binder in both terms.
 use mathlib.Core.Path.{_≡_, refl, sym, ap, ap₂, subst, _∙_}
-use mathlib.Core.Bool.{Bool, true, false, _&&_, cond}
+use mathlib.Core.Bool.{true, _&&_}
 use mathlib.Core.List.{List, [], _∷_, _++_, map}
-use mathlib.Core.Option.{Option, none, some}
-use Prim.Native.Nat.{ℕ, zero, suc, _+_, _≤_, _<_}
+use mathlib.Core.Option.{none, some, Option·some-injective, Option·none-ne-some, Option·some-ne-none}
+use Prim.Native.Nat.{ℕ, suc, _+_, _<_}
 use native.Mathlib.Omega.{arith}
 use lib.Dec.{eqb}
 use lib.ListN.{length}
-use borrow.Author.Tests.{eqb-true, eqb-false, eq-eqb, ne-eqb}
+use borrow.Author.Tests.{eqb-true, eq-eqb, ne-eqb}
+pub use Rattle.words.specs.ListLaws.{either}
 use Rattle.words.specs.Options.{mapSome}
 use Rattle.words.specs.TestLaws.{and-left, and-right}
 use Rattle.core_term.specs.Node.{ifN, lambdaN, applicationN}
-use Rattle.core_term.specs.Term.{variableC, operationC, datumC, ifC, lambdaC, applicationC, noneC, moreC, count, variables, variablesAll, Plain, Plains}
+use Rattle.core_term.specs.Term.{lambdaC, count, variables, Plain, Plains}
 use Rattle.core_term.specs.Every.{every, everyTerm}
 use Rattle.core_term.specs.Check as K
 use Rattle.core_term.specs.Check.{outside, asked, firstNumber, numbered}
-use Rattle.comparison.specs.Expression.{Expression, referenceE, datumE, ifE, lambdaE, applicationE, Expressions, noneE, moreE}
+use Rattle.comparison.specs.Expression.{Expression, Expressions}
 use Rattle.comparison.specs.Closed.{inside}
 use Rattle.comparison.specs.Agrees.{Scope, meant, bind, agrees}
 use Rattle.comparison.specs.Same.{Same, SameAll, variable′, operation′, datum′, if′, lambda′, application′, none′, more′}
@@ -59,34 +60,21 @@ bind-variables (n ∷ ns) v s = bind-variables ns (suc v) ((n, v) ∷ s)
 
 -- ---- one reference
 
-pub either : {X : Type 0} (c : Bool) → (c ≡ true → X) → (c ≡ false → X) → X
-either true f g = f refl
-either false f g = g refl
-
-some-is : {v w : ℕ} → _≡_ {A = Option ℕ} (some v) (some w) → v ≡ w
-some-is {v} e = ap (λ o. elim o [ none ↦ v | some k ↦ k ]) e
-
-pub none-some : {X : Type 0} {v : ℕ} → _≡_ {A = Option ℕ} none (some v) → X
-none-some e = let z : _≡_ {A = ℕ} 0 1 = ap (λ o. elim o [ none ↦ 0 | some k ↦ 1 ]) e in absurd (omega arith)
-
-some-none : {X : Type 0} {v : ℕ} → _≡_ {A = Option ℕ} (some v) none → X
-some-none e = none-some (sym e)
-
 -- what a name means is in scope
 meant-below : (n v b : ℕ) (s : Scope) → Below b s → meant n s ≡ some v → v < b
 unfolding meant
-meant-below n v b [] noneBelow e = none-some e
+meant-below n v b [] noneBelow e = absurd (Option·none-ne-some _ e)
 meant-below n v b ((x, w) ∷ s) (moreBelow l p) e =
     either (eqb n x)
-    (λ h. omega (arith, l, some-is (rw h at e)))
+    (λ h. omega (arith, l, Option·some-injective _ _ (rw h at e)))
     (λ h. omega (arith, l, meant-below n v w s p (rw h at e)))
 
 meant-place : (n v b : ℕ) (s : Scope) → Below b s → meant n s ≡ some v → place n (namesIn s) ≡ place v (variablesIn s)
 unfolding meant place
-meant-place n v b [] noneBelow e = none-some e
+meant-place n v b [] noneBelow e = absurd (Option·none-ne-some _ e)
 meant-place n v b ((x, w) ∷ s) (moreBelow l p) e =
     either (eqb n x)
-    (λ h. rw (h, eq-eqb v w (sym (some-is (rw h at e)))))
+    (λ h. rw (h, eq-eqb v w (sym (Option·some-injective _ _ (rw h at e)))))
     (λ h.
     let f : meant n s ≡ some v = rw h at e in
     let k : v < w = meant-below n v w s p f in
@@ -97,7 +85,7 @@ unfolding meant place mapSome
 none-place n [] e = refl
 none-place n ((x, w) ∷ s) e =
     either (eqb n x)
-    (λ h. some-none (rw h at e))
+    (λ h. absurd (Option·some-ne-none _ (rw h at e)))
     (λ h. rw (h, none-place n s (rw h at e)))
 
 -- ---- all references

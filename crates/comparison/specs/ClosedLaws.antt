@@ -1,31 +1,32 @@
 -- What agrees with a term of the recipe's operations is closed: ground 22 turns back no expression that is our term.
-use mathlib.Core.Path.{_≡_, refl, sym, subst, _∙_}
-use mathlib.Core.Bool.{Bool, true, false, _&&_, _||_}
-use mathlib.Core.List.{List, [], _∷_, map}
-use mathlib.Core.Option.{Option, none, some}
+use mathlib.Core.Path.{_≡_, refl, subst}
+use mathlib.Core.Bool.{Bool, true, _&&_}
+use mathlib.Core.List.{List, [], _∷_}
+use mathlib.Core.Option.{some, Option·none-ne-some}
 use Prim.Native.Nat.{ℕ, zero, suc, _+_, _<_}
 use native.Mathlib.Omega.{arith}
-use lib.Dec.{eqb, ltb}
+use lib.Dec.{eqb}
 use lib.ListN.{length, getD}
 use borrow.Author.Tests.{ltb-true}
+use Rattle.words.specs.ListLaws.{either}
 use Rattle.words.specs.Lists.{allOf, anyOf, equal}
 use Rattle.words.specs.TestLaws.{and-left, and-right, and-both, or-left, or-right}
 use Rattle.core_term.specs.Node.{ifN, lambdaN, applicationN}
-use Rattle.core_term.specs.Term.{lambdaC, count, variables, Plain, Plains}
+use Rattle.core_term.specs.Term.{count, variables, Plain, Plains}
 use Rattle.core_term.specs.Every.{every, everyTerm}
 use Rattle.core_term.specs.Check as K
 use Rattle.core_term.specs.Check.{outside, asked, known, allKnown}
 use Rattle.comparison.specs.Expression.{Expression, Expressions}
 use Rattle.comparison.specs.Closed.{inside, closed, closedAll}
-use Rattle.comparison.specs.Agrees.{Scope, meant, bind, agrees}
+use Rattle.comparison.specs.Agrees.{Scope, meant, agrees}
 use Rattle.comparison.specs.Same.{Same, SameAll, variable′, operation′, datum′, if′, lambda′, application′, none′, more′}
 use Rattle.comparison.specs.SameLaws.{agrees-says}
-use Rattle.comparison.specs.BindersLaws.{namesIn, bind-names, either, none-some}
+use Rattle.comparison.specs.BindersLaws.{namesIn, bind-names}
 
 -- a name that means a variable is a formal's
 meant-formal : (n v : ℕ) (s : Scope) → meant n s ≡ some v → anyOf (eqb n) (namesIn s) ≡ true
 unfolding meant anyOf
-meant-formal n v [] e = none-some e
+meant-formal n v [] e = absurd (Option·none-ne-some _ e)
 meant-formal n v ((x, w) ∷ s) e = either (eqb n x) (λ h. rw h) (λ h. or-right (eqb n x) _ (meant-formal n v s (rw h at e)))
 
 -- a spelling at a place of a list is in the list

@@ -1,5 +1,5 @@
 -- The call (request L4): the recipe's two tables, our term's words and the supplier's text give yes, no, or the ground.
-use mathlib.Core.Bool.{Bool, true, false, _&&_, _||_, cond}
+use mathlib.Core.Bool.{Bool, true, false, _||_, cond}
 use mathlib.Core.List.{List, [], map}
 use mathlib.Core.Option.{Option, none, some}
 use Prim.Native.Nat.{ℕ}
@@ -7,7 +7,7 @@ use lib.Dec.{leb}
 use lib.ListN.{length, replicate}
 use Rattle.words.specs.Lists.{within, allOf, anyOf, equal}
 use Rattle.words.specs.Tables.{filled}
-use Rattle.datum.specs.NameTable.{hasName, nameAt, slots}
+use Rattle.datum.specs.NameTable.{hasName, nameAt}
 use Rattle.reading.specs.Elements.{Answer, got, refusedFor}
 use Rattle.reading.specs.Read.{Recipe, readElements, itemWords, nameBytes}
 use Rattle.recipe.specs.Table.{isLayout, treeOf}

@@ -1,19 +1,18 @@
 -- Every rendering of our term is our term.
 use mathlib.Core.Path.{_≡_, refl, sym, ap, subst, _∙_}
-use mathlib.Core.Bool.{true, _&&_}
+use mathlib.Core.Bool.{true}
 use mathlib.Core.List.{List, [], _∷_, map}
 use mathlib.Core.Option.{none, some}
 use Prim.Native.Nat.{ℕ, zero, suc}
-use lib.Dec.{eqb}
 use lib.ListN.{length, getD, length-map}
 use borrow.Author.Tests.{eq-eqb, ne-eqb}
+use Rattle.words.specs.ListLaws.{equal-refl}
 use Rattle.words.specs.Each.{Each, noneOf, also}
 use Rattle.words.specs.Lists.{equal}
 use Rattle.words.specs.TestLaws.{and-both}
 use Rattle.datum.specs.Constant.{Constant}
-use Rattle.datum.specs.Datum.{Datum, constantD, nameD, listD, Data, noneD, moreD}
+use Rattle.datum.specs.Datum.{Datum, Data}
 use Rattle.core_term.specs.Term.{Plain, Plains}
-use Rattle.comparison.specs.Expression.{Expression, Expressions}
 use Rattle.comparison.specs.Closed.{inside}
 use Rattle.comparison.specs.Agrees.{Scope, meant, bind, sameConstant, sameDatum, sameData, agrees}
 use Rattle.comparison.specs.Same as S
@@ -24,13 +23,8 @@ use Rattle.comparison.specs.Rendering.{Choice, renderDatum, renderData, 
 
 -- ---- equality of lists and of constants
 
-equal-self : (cs : List ℕ) → equal cs cs ≡ true
-unfolding equal
-equal-self [] = refl
-equal-self (c ∷ cs) = and-both _ _ (eq-eqb c c refl) (equal-self cs)
-
 pub equal-is : (cs ds : List ℕ) → cs ≡ ds → equal cs ds ≡ true
-equal-is cs ds e = subst (λ l. equal cs l ≡ true) e (equal-self cs)
+equal-is cs ds e = subst (λ l. equal cs l ≡ true) e (equal-refl cs)
 
 pub constant-self : (a : Constant) → sameConstant a a ≡ true
 unfolding sameConstant

@@ -3,7 +3,7 @@ use mathlib.Core.Path.{_≡_, refl}
 use mathlib.Core.List.{List, [], _∷_, _++_, map}
 use Prim.Native.Nat.{ℕ}
 use Prim.Native.String as S
-use lib.ListN.{set, replicate, take, drop, length}
+use lib.ListN.{set, replicate, drop}
 use Rattle.words.specs.Lists as Lists
 use Rattle.words.specs.Options as Options
 use Rattle.words.specs.Tables as Tables
@@ -11,7 +11,7 @@ use Rattle.words.specs.Limits.{itemWordsLeast, nameBytesLeast, filingFuel, fili
 use Rattle.words.specs.Text.{bytes}
 use Rattle.datum.specs.NameTable as NameTable
 use Rattle.reading.specs.Elements.{Answer, got, refusedFor}
-use Rattle.reading.specs.Read.{Recipe, elementsOf, readElements, read, itemWords, nameBytes}
+use Rattle.reading.specs.Read.{Recipe, elementsOf, readElements, itemWords, nameBytes}
 use Rattle.core_term.specs.Check.{termOf}
 use Rattle.expansion.specs.Run.{coreOf}
 use Rattle.expansion.specs.Computed.{computed}

@@ -1,13 +1,9 @@
 -- The grammar is what is written: an element is an expression exactly where an expression is written so.
 use mathlib.Core.Path.{_≡_, refl, sym, ap, ap₂, subst, _∙_}
-use mathlib.Core.Bool.{Bool, true, false, _&&_, false≢true}
+use mathlib.Core.Bool.{true, _&&_, false≢true}
 use mathlib.Core.List.{List, [], _∷_}
-use mathlib.Core.Option.{Option, none, some}
-use Prim.Native.Nat.{ℕ, zero, suc, _<_}
-use native.Mathlib.Omega.{arith}
-use lib.Dec.{ltb}
-use lib.ListN.{getD}
-use borrow.Author.Tests.{ltb-true}
+use mathlib.Core.Option.{Option, none, some, Option·some-injective, Option·none-ne-some}
+use Prim.Native.Nat.{ℕ, zero, suc}
 use Rattle.words.specs.ListLaws.{either}
 use Rattle.words.specs.Options.{onlyIf, mapSome, mapBoth}
 use Rattle.words.specs.TestLaws.{and-left, and-right, and-both}
@@ -77,93 +73,87 @@ abbrev pub GoodLater : Expressions → Data → Type 0
 GoodLater xs noneD = ⊥
 GoodLater xs (moreD d ds) = GoodAll xs ds
 
-no-some : {A X : Type 0} {x : X} → _≡_ {A = Option X} none (some x) → A
-no-some {A} {X} e = let z : _≡_ {A = ℕ} 0 1 = ap (λ (o : Option X). elim o [ none ↦ 0 | some k ↦ 1 ]) e in absurd (omega arith)
-
-some-same : {X : Type 0} {x y : X} → _≡_ {A = Option X} (some x) (some y) → x ≡ y
-some-same {X} {x} e = ap (λ (o : Option X). elim o [ none ↦ x | some k ↦ k ]) e
-
 applied-back : (d : Datum) (ds : Data) (a : Option Expression) (b : Option Expressions) → ((x : Expression) → a ≡ some x → Good x d)
     → ((xs : Expressions) → b ≡ some xs → GoodAll xs ds) → (x : Expression) → applied a b ≡ some x → Good x (listD (moreD d ds))
 unfolding applied mapBoth mapSome written isExpression
-applied-back d ds none b f g x e = no-some e
-applied-back d ds (some h) none f g x e = no-some e
+applied-back d ds none b f g x e = absurd (Option·none-ne-some _ e)
+applied-back d ds (some h) none f g x e = absurd (Option·none-ne-some _ e)
 applied-back d ds (some h) (some xs) f g x e =
     let p = f h refl in
     let q = g xs refl in
-    subst (λ y. Good y (listD (moreD d ds))) (some-same e) (ap₂ (λ y ys. listD (moreD y ys)) (p .0) (q .0), and-both _ _ (p .1) (q .1))
+    subst (λ y. Good y (listD (moreD d ds))) (Option·some-injective _ _ e) (ap₂ (λ y ys. listD (moreD y ys)) (p .0) (q .0), and-both _ _ (p .1) (q .1))
 
 quote-back : (ds : Data) (x : Expression) → after (theOne ds) quoted ≡ some x → Good x (listD (moreD (nameD 0) ds))
 unfolding after theOne quoted written quotation isExpression
-quote-back noneD x e = no-some e
-quote-back (moreD (constantD a) noneD) x e = no-some e
-quote-back (moreD (nameD n) noneD) x e = subst (λ y. Good y (listD (moreD (nameD 0) (moreD (nameD n) noneD)))) (some-same e) (refl, refl)
-quote-back (moreD (listD es) noneD) x e = subst (λ y. Good y (listD (moreD (nameD 0) (moreD (listD es) noneD)))) (some-same e) (refl, refl)
-quote-back (moreD d (moreD f ds)) x e = no-some e
+quote-back noneD x e = absurd (Option·none-ne-some _ e)
+quote-back (moreD (constantD a) noneD) x e = absurd (Option·none-ne-some _ e)
+quote-back (moreD (nameD n) noneD) x e = subst (λ y. Good y (listD (moreD (nameD 0) (moreD (nameD n) noneD)))) (Option·some-injective _ _ e) (refl, refl)
+quote-back (moreD (listD es) noneD) x e = subst (λ y. Good y (listD (moreD (nameD 0) (moreD (listD es) noneD)))) (Option·some-injective _ _ e) (refl, refl)
+quote-back (moreD d (moreD f ds)) x e = absurd (Option·none-ne-some _ e)
 
 if-back : (ds : Data) (b : Option Expressions) → ((xs : Expressions) → b ≡ some xs → GoodAll xs ds) → (x : Expression) → after b conditional ≡ some x
     → Good x (listD (moreD (nameD 1) ds))
 unfolding after conditional written isExpression
-if-back ds none g x e = no-some e
-if-back ds (some noneE) g x e = no-some e
-if-back ds (some (moreE a noneE)) g x e = no-some e
-if-back ds (some (moreE a (moreE b noneE))) g x e = no-some e
+if-back ds none g x e = absurd (Option·none-ne-some _ e)
+if-back ds (some noneE) g x e = absurd (Option·none-ne-some _ e)
+if-back ds (some (moreE a noneE)) g x e = absurd (Option·none-ne-some _ e)
+if-back ds (some (moreE a (moreE b noneE))) g x e = absurd (Option·none-ne-some _ e)
 if-back ds (some (moreE a (moreE b (moreE c noneE)))) g x e =
     let q = g (moreE a (moreE b (moreE c noneE))) refl in
     let k = and-right (isExpression a) (isExpression b && (isExpression c && true)) (q .1) in
-    subst (λ y. Good y (listD (moreD (nameD 1) ds))) (some-same e) (
+    subst (λ y. Good y (listD (moreD (nameD 1) ds))) (Option·some-injective _ _ e) (
       ap (λ ys. listD (moreD (nameD 1) ys)) (q .0),
       and-both (isExpression a) (isExpression b && isExpression c) (and-left (isExpression a) _ (q .1))
           (and-both (isExpression b) (isExpression c) (and-left (isExpression b) _ k) (and-left (isExpression c) true (and-right (isExpression b) (isExpression c && true) k))),
     )
-if-back ds (some (moreE a (moreE b (moreE c (moreE d xs))))) g x e = no-some e
+if-back ds (some (moreE a (moreE b (moreE c (moreE d xs))))) g x e = absurd (Option·none-ne-some _ e)
 
 names-by : (n : ℕ) (ds : Data) (o : Option (List ℕ)) (ns : List ℕ) → ((ms : List ℕ) → o ≡ some ms → nameData ms ≡ ds) → mapSome (_∷_ n) o ≡ some ns
     → nameData ns ≡ moreD (nameD n) ds
 unfolding mapSome nameData
-names-by n ds none ns h e = no-some e
-names-by n ds (some ms) ns h e = ap nameData (sym (some-same e)) ∙ ap (moreD (nameD n)) (h ms refl)
+names-by n ds none ns h e = absurd (Option·none-ne-some _ e)
+names-by n ds (some ms) ns h e = ap nameData (sym (Option·some-injective _ _ e)) ∙ ap (moreD (nameD n)) (h ms refl)
 
 names-back : (ds : Data) (ns : List ℕ) → names ds ≡ some ns → nameData ns ≡ ds
 unfolding names nameData
-names-back noneD ns e = ap nameData (sym (some-same e))
-names-back (moreD (constantD a) ds) ns e = no-some e
+names-back noneD ns e = ap nameData (sym (Option·some-injective _ _ e))
+names-back (moreD (constantD a) ds) ns e = absurd (Option·none-ne-some _ e)
 names-back (moreD (nameD n) ds) ns e = names-by n ds (names ds) ns (names-back ds) e
-names-back (moreD (listD es) ds) ns e = no-some e
+names-back (moreD (listD es) ds) ns e = absurd (Option·none-ne-some _ e)
 
 bound-back : (o : Option (List ℕ)) (ns : List ℕ) → after o (λ ms. onlyIf (areFormals ms) (some ms)) ≡ some ns → (o ≡ some ns) × (areFormals ns ≡ true)
 unfolding after onlyIf
-bound-back none ns e = no-some e
+bound-back none ns e = absurd (Option·none-ne-some _ e)
 bound-back (some ms) ns e =
-    either (areFormals ms) (λ h. let s : some ms ≡ some ns = rw h at e in (s, subst (λ l. areFormals l ≡ true) (some-same s) h)) (λ h. no-some (rw h at e))
+    either (areFormals ms) (λ h. let s : some ms ≡ some ns = rw h at e in (s, subst (λ l. areFormals l ≡ true) (Option·some-injective _ _ s) h)) (λ h. absurd (Option·none-ne-some _ (rw h at e)))
 
-formals-back : (f : Datum) (ns : List ℕ) → formals f ≡ some ns → (listD (nameData ns) ≡ f) × (areFormals ns ≡ true)
+pub formals-back : (f : Datum) (ns : List ℕ) → formals f ≡ some ns → (listD (nameData ns) ≡ f) × (areFormals ns ≡ true)
 unfolding formals
-formals-back (constantD a) ns e = no-some e
-formals-back (nameD n) ns e = no-some e
+formals-back (constantD a) ns e = absurd (Option·none-ne-some _ e)
+formals-back (nameD n) ns e = absurd (Option·none-ne-some _ e)
 formals-back (listD ds) ns e = let p = bound-back (names ds) ns e in (ap listD (names-back ds ns (p .0)), p .1)
 
 body-back : (f : Datum) (es : Data) (ns : List ℕ) (c : Option Expressions) → ((xs : Expressions) → c ≡ some xs → GoodAll xs es)
     → (listD (nameData ns) ≡ f) × (areFormals ns ≡ true) → (x : Expression) → after c (withBody ns) ≡ some x → Good x (listD (moreD (nameD 2) (moreD f es)))
 unfolding after withBody written isExpression
-body-back f es ns none g p x e = no-some e
-body-back f es ns (some noneE) g p x e = no-some e
+body-back f es ns none g p x e = absurd (Option·none-ne-some _ e)
+body-back f es ns (some noneE) g p x e = absurd (Option·none-ne-some _ e)
 body-back f es ns (some (moreE y noneE)) g p x e =
     let q = g (moreE y noneE) refl in
-    subst (λ z. Good z (listD (moreD (nameD 2) (moreD f es)))) (some-same e)
+    subst (λ z. Good z (listD (moreD (nameD 2) (moreD f es)))) (Option·some-injective _ _ e)
     (ap₂ (λ z zs. listD (moreD (nameD 2) (moreD z zs))) (p .0) (q .0), and-both _ _ (p .1) (and-left (isExpression y) _ (q .1)))
-body-back f es ns (some (moreE y (moreE z xs))) g p x e = no-some e
+body-back f es ns (some (moreE y (moreE z xs))) g p x e = absurd (Option·none-ne-some _ e)
 
 lambda-by : (f : Datum) (es : Data) (o : Option (List ℕ)) (c : Option Expressions) → formals f ≡ o → ((xs : Expressions) → c ≡ some xs → GoodAll xs es)
     → (x : Expression) → after o (λ ns. after c (withBody ns)) ≡ some x → Good x (listD (moreD (nameD 2) (moreD f es)))
 unfolding after
-lambda-by f es none c h g x e = no-some e
+lambda-by f es none c h g x e = absurd (Option·none-ne-some _ e)
 lambda-by f es (some ns) c h g x e = body-back f es ns c g (formals-back f ns h) x e
 
 lambda-back : (ds : Data) (c : Option Expressions) → ((xs : Expressions) → c ≡ some xs → GoodLater xs ds) → (x : Expression)
     → after (after (first ds) formals) (λ ns. after c (withBody ns)) ≡ some x → Good x (listD (moreD (nameD 2) ds))
 unfolding after first
-lambda-back noneD c g x e = no-some e
+lambda-back noneD c g x e = absurd (Option·none-ne-some _ e)
 lambda-back (moreD f es) c g x e = lambda-by f es (formals f) c refl g x e
 
 headed-back : (d : Datum) (ds : Data) (a : Option Expression) (b c : Option Expressions) → ((x : Expression) → a ≡ some x → Good x d)
@@ -180,33 +170,33 @@ headed-back (listD es) ds a b c f g h x e = applied-back (listD es) ds a b f g x
 more-back : (d : Datum) (ds : Data) (a : Option Expression) (b : Option Expressions) → ((x : Expression) → a ≡ some x → Good x d)
     → ((xs : Expressions) → b ≡ some xs → GoodAll xs ds) → (xs : Expressions) → mapBoth moreE a b ≡ some xs → GoodAll xs (moreD d ds)
 unfolding mapBoth mapSome written isExpression
-more-back d ds none b f g xs e = no-some e
-more-back d ds (some x) none f g xs e = no-some e
+more-back d ds none b f g xs e = absurd (Option·none-ne-some _ e)
+more-back d ds (some x) none f g xs e = absurd (Option·none-ne-some _ e)
 more-back d ds (some x) (some ys) f g xs e =
     let p = f x refl in
     let q = g ys refl in
-    subst (λ zs. GoodAll zs (moreD d ds)) (some-same e) (ap₂ moreD (p .0) (q .0), and-both _ _ (p .1) (q .1))
+    subst (λ zs. GoodAll zs (moreD d ds)) (Option·some-injective _ _ e) (ap₂ moreD (p .0) (q .0), and-both _ _ (p .1) (q .1))
 
 free-back : (n : ℕ) (x : Expression) → onlyIf (isFree n) (some (referenceE n)) ≡ some x → Good x (nameD n)
 unfolding onlyIf written isExpression
-free-back n x e = either (isFree n) (λ h. subst (λ y. Good y (nameD n)) (some-same (rw h at e)) (refl, h)) (λ h. no-some (rw h at e))
+free-back n x e = either (isFree n) (λ h. subst (λ y. Good y (nameD n)) (Option·some-injective _ _ (rw h at e)) (refl, h)) (λ h. absurd (Option·none-ne-some _ (rw h at e)))
 
 mutual
   unfolding expressionOf written quotation isExpression
 
   pub read-written : (d : Datum) (x : Expression) → expressionOf d ≡ some x → Good x d
-  read-written (constantD a) x e = subst (λ y. Good y (constantD a)) (some-same e) (refl, refl)
+  read-written (constantD a) x e = subst (λ y. Good y (constantD a)) (Option·some-injective _ _ e) (refl, refl)
   read-written (nameD n) x e = free-back n x e
   read-written (listD ds) x e = list-written ds x e
 
   list-written : (ds : Data) (x : Expression) → listOf ds ≡ some x → Good x (listD ds)
-  list-written noneD x e = no-some e
+  list-written noneD x e = absurd (Option·none-ne-some _ e)
   list-written (moreD d ds) x e = headed-back d ds (expressionOf d) (expressionsOf ds) (laterOf ds) (λ y f. read-written d y f) (λ ys f. all-written ds ys f) (λ ys f. later-written ds ys f) x e
 
   all-written : (ds : Data) (xs : Expressions) → expressionsOf ds ≡ some xs → GoodAll xs ds
-  all-written noneD xs e = subst (λ ys. GoodAll ys noneD) (some-same e) (refl, refl)
+  all-written noneD xs e = subst (λ ys. GoodAll ys noneD) (Option·some-injective _ _ e) (refl, refl)
   all-written (moreD d ds) xs e = more-back d ds (expressionOf d) (expressionsOf ds) (λ y f. read-written d y f) (λ ys f. all-written ds ys f) xs e
 
   later-written : (ds : Data) (xs : Expressions) → laterOf ds ≡ some xs → GoodLater xs ds
-  later-written noneD xs e = no-some e
+  later-written noneD xs e = absurd (Option·none-ne-some _ e)
   later-written (moreD d ds) xs e = all-written ds xs e

@@ -1,17 +1,18 @@
 -- Laws of quoted lists against words.
-use mathlib.Core.Path.{_≡_, refl, sym, ap, subst, _∙_}
+use mathlib.Core.Path.{_≡_, refl, sym, ap, ap₂, subst, _∙_}
 use mathlib.Core.Bool.{Bool, true, false, not, _&&_}
-use mathlib.Core.List.{List, [], _∷_, _++_, append-assoc}
-use Prim.Native.Nat.{ℕ, zero, suc, _+_, _*_, _≤_, _<_}
+use mathlib.Core.List.{List, _++_, append-assoc}
+use Prim.Native.Nat.{ℕ, suc, _+_, _≤_, _<_}
 use native.Mathlib.Omega.{arith}
 use lib.Dec.{eqb}
-use lib.ListN.{length, getD, drop, length-append}
+use lib.ListN.{length, getD, drop, length-append, length-drop}
 use lib.Seq.{drop-at, drop-drop}
-use borrow.Author.Tests.{eqb-true, eqb-false}
-use Rattle.words.specs.TestLaws.{and-left, and-right, and-both}
-use Rattle.words.specs.ListLaws.{never}
+use borrow.Author.Tests.{eqb-true, eqb-false, not-true, not-false}
+use Rattle.words.specs.TestLaws.{and-left, and-right, and-none-left}
+use Rattle.words.specs.ListLaws.{never, rest-is, either}
+use Rattle.words.specs.Parts as R
 use Rattle.datum.specs.Constant.{Constant, isConstant, constantWords}
-use Rattle.datum.specs.ConstantLaws.{words-decimal, words-other, kind-no}
+use Rattle.datum.specs.ConstantLaws.{words-decimal, words-other, kind-no, kind-most}
 use Rattle.datum.specs.Datum.{Datum, constantD, nameD, listD, Data, noneD, moreD}
 use Rattle.datum.specs.Datum as D
 use Rattle.datum.specs.NameTable.{nameAt}
@@ -20,13 +21,13 @@ use Rattle.recipe.specs.Layout.{isListKind}
 use Rattle.recipe.specs.TreeFrom.{headAt, tailAt}
 use Rattle.core_term.specs.Node.{nodeWords}
 use Rattle.core_term.specs.Words.{datumWords, dataWords}
-use Rattle.comparison.specs.BindersLaws.{either}
 use Rattle.comparison.specs.Agrees.{sameDatum, sameData}
 use Rattle.supplier.specs.declared.quoted.Agreed.{Agreed}
 use Rattle.supplier.specs.declared.quoted.Agreed.the-variants.{Words, No}
-use Rattle.supplier.specs.Items.{DatumAt, DataAt}
-use Rattle.supplier.specs.ItemsLaws.{pair-kind, none-kind, empty-datum, pair-datum, constant-datum, as-list}
-use Rattle.supplier.specs.Quoted.{isGood, areGood, Right, DatumRight, DataRight}
+use Rattle.supplier.specs.Items.{DatumAt, DataAt, Held, HeldAll, PairAt}
+use Rattle.supplier.specs.ItemsLaws.{pair-kind, none-kind, name-datum, empty-datum, pair-datum, constant-datum, as-list}
+use Rattle.supplier.specs.Quoted.{isGood, areGood, Short, Right, ConstantRight, NameRight, DatumRight, DataRight}
+use Rattle.supplier.specs.QuotedLaws.{not-so}
 
 -- ---- the first word of a datum
 
@@ -106,49 +107,57 @@ comparing-start items words theirs ours i ops ds es rest h g m w =
 module _ (items words theirs ours : List ℕ) (ops : List (List ℕ)) (j at : ℕ) (test : Bool) (size : ℕ) (l : Left items words theirs ours ops j at test size) where
   -- one element more
   module _ (k : kindAt items j ≡ 4) where
+    pair : PairAt items j (l .ds)
+    pair = pair-kind items j (l .ds) (l .held) k
+
+    -- the words have one too
+    more-by : (es : Data) → l .es ≡ es → (x : Datum) × (xs : Data) × (l .es ≡ moreD x xs)
+    unfolding D.count
+    more-by noneD e = absurd (omega (arith, l .many, ap D.count (pair .is), ap D.count e))
+    more-by (moreD x xs) e = (x, xs, e)
+
+    more : (x : Datum) × (xs : Data) × (l .es ≡ moreD x xs)
+    more = more-by (l .es) refl
+
+    abbrev same : Bool
+    same = sameDatum (nameAt theirs) (nameAt ours) ops (pair .first) (more .0)
+
+    test-more : test ≡ (same && sameData (nameAt theirs) (nameAt ours) ops (pair .rest) (more .1))
+    unfolding sameData
+    test-more = l .test-is ∙ ap₂ (sameData (nameAt theirs) (nameAt ours) ops) (pair .is) (more .2)
+
+    good-more : areGood ours (moreD (more .0) (more .1)) ≡ true
+    good-more = subst (λ y. areGood ours y ≡ true) (more .2) (l .good)
+
+    words-more : drop at words ≡ datumWords (more .0) ++ (dataWords (more .1) ++ l .rest)
+    unfolding dataWords
+    words-more = l .words-are ∙ ap (λ y. dataWords y ++ l .rest) (more .2) ∙ append-assoc (datumWords (more .0)) (dataWords (more .1)) (l .rest)
+
     module _ (h : ℕ) (a : h ≡ headAt items j) (r : Agreed) (is : DatumRight (drop at words) items theirs ours h r) where
-      by : (es : Data) → l .es ≡ es → (n : ℕ) → r ≡ Words n → (t : ℕ) → t ≡ tailAt items j → Left items words theirs ours ops t (at + n) test size
-      unfolding D.count areGood dataWords sameData
-      by noneD e n q t u =
-          let p = pair-kind items j (l .ds) (l .held) k in
-          absurd (omega (arith, l .many, ap D.count (p .is), ap D.count e))
-      by (moreD x xs) e n q t u =
-          let p = pair-kind items j (l .ds) (l .held) k in
-          let g : areGood ours (moreD x xs) ≡ true = subst (λ y. areGood ours y ≡ true) e (l .good) in
-          let w : drop at words ≡ datumWords x ++ (dataWords xs ++ l .rest) = l .words-are ∙ ap (λ y. dataWords y ++ l .rest) e ∙ append-assoc (datumWords x) (dataWords xs) (l .rest) in
-          let o = subst (Right (sameDatum (nameAt theirs) (nameAt ours) ops (p .first) x) (length (datumWords x))) q
-          (is ops (p .first) x (dataWords xs ++ l .rest) (subst (λ y. DatumAt items y (p .first)) (sym a) (p .head)) (and-left (isGood ours x) _ g) w) in
-          let f : sameDatum (nameAt theirs) (nameAt ours) ops (p .first) x ≡ true = o .0 in
+      first-right : (q : Agreed) → r ≡ q → Right same (length (datumWords (more .0))) q
+      unfolding areGood
+      first-right q e =
+          subst (Right same (length (datumWords (more .0)))) e
+          (is ops (pair .first) (more .0) (dataWords (more .1) ++ l .rest) (subst (λ y. DatumAt items y (pair .first)) (sym a) (pair .head)) (and-left (isGood ours (more .0)) _ good-more) words-more)
+
+      left-next : (n : ℕ) → r ≡ Words n → (t : ℕ) → t ≡ tailAt items j → Left items words theirs ours ops t (at + n) test size
+      unfolding D.count areGood dataWords
+      left-next n q t u =
+          let o = first-right (Words n) q in
           record {
-            ds = p .rest;
-            es = xs;
+            ds = pair .rest;
+            es = more .1;
             rest = l .rest;
-            held = subst (λ y. DataAt items y (p .rest)) (sym u) (p .tail);
-            good = and-right (isGood ours x) _ g;
-            many = omega (arith, l .many, ap D.count (p .is), ap D.count e);
-            words-are = sym (drop-drop n at words) ∙ ap (drop n) w ∙ drop-at (datumWords x) (dataWords xs ++ l .rest) n (sym (o .1));
-            test-is = l .test-is ∙ ap (λ y. sameData (nameAt theirs) (nameAt ours) ops y (l .es)) (p .is) ∙ ap (sameData (nameAt theirs) (nameAt ours) ops (moreD (p .first) (p .rest))) e ∙ rw f;
-            size-is = l .size-is ∙ ap (λ y. at + length (dataWords y)) e ∙ omega (arith, length-append (datumWords x) (dataWords xs), o .1);
+            held = subst (λ y. DataAt items y (pair .rest)) (sym u) (pair .tail);
+            good = and-right (isGood ours (more .0)) _ good-more;
+            many = omega (arith, l .many, ap D.count (pair .is), ap D.count (more .2));
+            words-are = sym (drop-drop n at words) ∙ ap (drop n) words-more ∙ drop-at (datumWords (more .0)) (dataWords (more .1) ++ l .rest) n (sym (o .1));
+            test-is = test-more ∙ rw (o .0);
+            size-is = l .size-is ∙ ap (λ y. at + length (dataWords y)) (more .2) ∙ omega (arith, length-append (datumWords (more .0)) (dataWords (more .1)), o .1);
           }
 
-      pub left-next : (n : ℕ) → r ≡ Words n → (t : ℕ) → t ≡ tailAt items j → Left items words theirs ours ops t (at + n) test size
-      left-next = by (l .es) refl
-
-      no-by : (es : Data) → l .es ≡ es → r ≡ No → test ≡ false
-      unfolding D.count areGood dataWords sameData
-      no-by noneD e q =
-          let p = pair-kind items j (l .ds) (l .held) k in
-          absurd (omega (arith, l .many, ap D.count (p .is), ap D.count e))
-      no-by (moreD x xs) e q =
-          let p = pair-kind items j (l .ds) (l .held) k in
-          let g : areGood ours (moreD x xs) ≡ true = subst (λ y. areGood ours y ≡ true) e (l .good) in
-          let w : drop at words ≡ datumWords x ++ (dataWords xs ++ l .rest) = l .words-are ∙ ap (λ y. dataWords y ++ l .rest) e ∙ append-assoc (datumWords x) (dataWords xs) (l .rest) in
-          let f : sameDatum (nameAt theirs) (nameAt ours) ops (p .first) x ≡ false = subst (Right (sameDatum (nameAt theirs) (nameAt ours) ops (p .first) x) (length (datumWords x))) q
-          (is ops (p .first) x (dataWords xs ++ l .rest) (subst (λ y. DatumAt items y (p .first)) (sym a) (p .head)) (and-left (isGood ours x) _ g) w) in
-          l .test-is ∙ ap (λ y. sameData (nameAt theirs) (nameAt ours) ops y (l .es)) (p .is) ∙ ap (sameData (nameAt theirs) (nameAt ours) ops (moreD (p .first) (p .rest))) e ∙ rw f
-
-      pub left-no : r ≡ No → test ≡ false
-      left-no = no-by (l .es) refl
+      left-no : r ≡ No → test ≡ false
+      left-no q = test-more ∙ and-none-left same _ (first-right No q)
 
   -- the end
   end-by : (ds es : Data) → l .ds ≡ ds → l .es ≡ es → ds ≡ noneD → Right test size (Words at)
@@ -157,33 +166,57 @@ module _ (items words theirs ours : List ℕ) (ops : List (List ℕ)) (j at : �
   end-by noneD (moreD x xs) e f q = absurd (omega (arith, l .many, ap D.count e, ap D.count f))
   end-by (moreD y ys) es e f q = let z : _≡_ {A = ℕ} 0 1 = cc in absurd (omega arith)
 
-  pub left-end : (kindAt items j ≡ 4 → ⊥) → Right test size (Words at)
+  left-end : (kindAt items j ≡ 4 → ⊥) → Right test size (Words at)
   left-end k = end-by (l .ds) (l .es) refl refl (none-kind items j (l .ds) (l .held) k)
+
+-- in the code's shape: k is the kind of item j, h its head
+module _ (items words theirs ours : List ℕ) (i j at k : ℕ) (c : Comparing items words theirs ours i j at) (kind : k ≡ kindAt items j) where
+  pub comparing-end : (k ≡ 4 → ⊥) → DataRight words items theirs ours i (Words at)
+  comparing-end e ops ds es rest o g m w =
+      left-end items words theirs ours ops j at (sameData (nameAt theirs) (nameAt ours) ops ds es) (length (dataWords es)) (c ops ds es rest o g m w) (λ q. e (kind ∙ q))
+
+  module _ (p : k ≡ 4) (h : ℕ) (a : h ≡ headAt items j) (r : Agreed) (is : DatumRight (R.rest at words) items theirs ours h r) where
+    right : DatumRight (drop at words) items theirs ours h r
+    right = subst (λ l. DatumRight l items theirs ours h r) (rest-is at words) is
+
+    pub comparing-no : r ≡ No → DataRight words items theirs ours i No
+    comparing-no e ops ds es rest o g m w =
+        left-no items words theirs ours ops j at (sameData (nameAt theirs) (nameAt ours) ops ds es) (length (dataWords es)) (c ops ds es rest o g m w) (sym kind ∙ p) h a r right e
+
+    pub comparing-next : (n : ℕ) → r ≡ Words n → (t : ℕ) → t ≡ tailAt items j → Comparing items words theirs ours i t (at + n)
+    comparing-next n e t b ops ds es rest o g m w =
+        left-next items words theirs ours ops j at (sameData (nameAt theirs) (nameAt ours) ops ds es) (length (dataWords es)) (c ops ds es rest o g m w) (sym kind ∙ p) h a r right n e t b
+
+-- words behind the first `at` that are taken
+pub short-after : (words : List ℕ) (at : ℕ) (r : Agreed) (n : ℕ) → at ≤ length words → Short (R.rest at words) r → r ≡ Words n → at + n ≤ length words
+short-after words at r n l s e =
+    let k : n ≤ length (drop at words) = subst (Short (drop at words)) e (subst (λ x. Short x r) (rest-is at words) s) in
+    omega (arith, k, length-drop at words)
 
 -- ---- kinds
 
-pub not-empty : (k : ℕ) → isListKind k ≡ false → k ≡ 0 → ⊥
+not-empty : (k : ℕ) → isListKind k ≡ false → k ≡ 0 → ⊥
 unfolding isListKind
 not-empty k h e = never (ap isListKind e) h
 
-pub not-pair : (k : ℕ) → isListKind k ≡ false → k ≡ 4 → ⊥
+not-pair : (k : ℕ) → isListKind k ≡ false → k ≡ 4 → ⊥
 unfolding isListKind
 not-pair k h e = never (ap isListKind e) h
 
 -- a list is there
-pub record ListHeld (items : List ℕ) (i : ℕ) (d : Datum) : Type 0 where
+record ListHeld (items : List ℕ) (i : ℕ) (d : Datum) : Type 0 where
   pub elements : Data
   pub is : d ≡ listD elements
   pub held : DataAt items i elements
 
-pub list-held : (items : List ℕ) (i : ℕ) (d : Datum) → DatumAt items i d → isListKind (kindAt items i) ≡ true → ListHeld items i d
+list-held : (items : List ℕ) (i : ℕ) (d : Datum) → DatumAt items i d → isListKind (kindAt items i) ≡ true → ListHeld items i d
 unfolding isListKind
 list-held items i d h k =
     either (eqb (kindAt items i) 0)
     (λ q. let e = empty-datum items i d h (eqb-true (kindAt items i) 0 q) in record { elements = noneD; is = e; held = as-list items i noneD (subst (DatumAt items i) e h) })
     (λ q. let l = pair-datum items i d h (eqb-true (kindAt items i) 4 (rw q at k)) in record { elements = l .elements; is = l .isList; held = l .list })
 
-pub constant-held : (items : List ℕ) (i : ℕ) (d : Datum) → DatumAt items i d → isListKind (kindAt items i) ≡ false → (kindAt items i ≡ 3 → ⊥)
+constant-held : (items : List ℕ) (i : ℕ) (d : Datum) → DatumAt items i d → isListKind (kindAt items i) ≡ false → (kindAt items i ≡ 3 → ⊥)
     → (k f s : ℕ) → k ≡ kindAt items i → f ≡ headAt items i → s ≡ tailAt items i
     → (d ≡ constantD (record { kind = k; first = f; second = s })) × (isConstant (record { kind = k; first = f; second = s }) ≡ true)
 constant-held items i d h l n k f s p q r =
@@ -191,42 +224,84 @@ constant-held items i d h l n k f s p q r =
     let e : a .constant ≡ record { kind = k; first = f; second = s } = λ j. record { kind = sym (p ∙ a .kind) j; first = sym (q ∙ a .first) j; second = sym (r ∙ a .second) j } in
     (a .is ∙ ap constantD e, subst (λ x. isConstant x ≡ true) e (a .good))
 
--- ---- a list, by each way through the code
+-- ---- a datum, by each way through the code: k is the kind of item i, b whether it is a list's
 
-module _ (items words theirs ours : List ℕ) (ops : List (List ℕ)) (i : ℕ) (d e : Datum) (rest : List ℕ)
-    (l : ListHeld items i d) (g : isGood ours e ≡ true) (w : words ≡ datumWords e ++ rest) where
-  abbrev same : Bool
-  same = sameDatum (nameAt theirs) (nameAt ours) ops d e
+module _ (items : List ℕ) (i k : ℕ) (kind : k ≡ kindAt items i) (b : Bool) (is : b ≡ isListKind k) where
+  kind-test : (t : Bool) → b ≡ t → isListKind (kindAt items i) ≡ t
+  kind-test t e = ap isListKind (sym kind) ∙ sym is ∙ e
 
-  pub list-first-at : same ≡ true → (2 ≤ length words) × (getD words 0 0 ≡ 5) × (getD words 1 0 ≡ D.count (l .elements))
-  list-first-at h = list-first (nameAt theirs) (nameAt ours) ops (l .elements) words e rest w (subst (λ x. sameDatum (nameAt theirs) (nameAt ours) ops x e ≡ true) (l .is) h)
+  module _ (no : not b ≡ true) (e : k ≡ 3 → ⊥) (first : ℕ) (f : first ≡ headAt items i) (second : ℕ) (s : second ≡ tailAt items i) where
+    constant-there : (d : Datum) → DatumAt items i d
+        → (d ≡ constantD (record { kind = k; first = first; second = second })) × (isConstant (record { kind = k; first = first; second = second }) ≡ true)
+    constant-there d o = constant-held items i d o (kind-test false (not-true b no)) (λ q. e (kind ∙ q)) k first second kind f s
 
-  module _ (f : getD words 0 0 ≡ 5) (m : getD words 1 0 ≡ D.count (l .elements)) (r : Agreed) (is : DataRight (drop 2 words) items theirs ours i r) where
-    inner : Right (sameData (nameAt theirs) (nameAt ours) ops (l .elements) (list-words ours words e rest g w f .elements)) (length (dataWords (list-words ours words e rest g w f .elements))) r
-    inner =
-        let x = list-words ours words e rest g w f in
-        is ops (l .elements) (x .elements) rest (l .held) (list-good ours (x .elements) e (x .is) g) (sym m ∙ x .many) (x .behind)
+    pub constant-kind : Held items i → k ≤ 5
+    constant-kind h = kind-most (record { kind = k; first = first; second = second }) (constant-there (h .0) (h .1) .1)
 
-    same-is : same ≡ sameData (nameAt theirs) (nameAt ours) ops (l .elements) (list-words ours words e rest g w f .elements)
-    same-is =
-        let x = list-words ours words e rest g w f in
-        ap (λ y. sameDatum (nameAt theirs) (nameAt ours) ops y e) (l .is) ∙ list-same (nameAt theirs) (nameAt ours) ops (l .elements) (x .elements) e (x .is)
+    pub constant-datum-right : (words theirs ours : List ℕ) (r : Agreed) → ConstantRight words k first second r → DatumRight words items theirs ours i r
+    constant-datum-right words theirs ours r h ops d x rest o g w =
+        let c = constant-there d o in
+        subst (λ y. Right (sameDatum (nameAt theirs) (nameAt ours) ops y x) (length (datumWords x)) r) (sym (c .0))
+        (h (nameAt theirs) (nameAt ours) ops ours x rest (c .1) g w)
 
-    pub list-no : r ≡ No → same ≡ false
-    list-no q = same-is ∙ subst (Right (sameData (nameAt theirs) (nameAt ours) ops (l .elements) (list-words ours words e rest g w f .elements)) (length (dataWords (list-words ours words e rest g w f .elements)))) q inner
+  module _ (yes : not b ≡ false) where
+    list-there : (d : Datum) → DatumAt items i d → ListHeld items i d
+    list-there d o = list-held items i d o (kind-test true (not-false b yes))
 
-    pub list-yes : (n : ℕ) → r ≡ Words n → Right same (length (datumWords e)) (Words (n + 2))
-    list-yes n q =
-        let x = list-words ours words e rest g w f in
-        let o = subst (Right (sameData (nameAt theirs) (nameAt ours) ops (l .elements) (x .elements)) (length (dataWords (x .elements)))) q inner in
-        (same-is ∙ o .0, omega (arith, o .1, list-size (x .elements) e (x .is)))
+    pub list-elements : Held items i → HeldAll items i
+    list-elements h = let l = list-there (h .0) (h .1) in (l .elements, l .held)
 
--- ---- negations
+    module _ (words theirs ours : List ℕ) where
+      -- where it agrees the words begin with a list of as many elements
+      first-at : (ops : List (List ℕ)) (d x : Datum) (rest : List ℕ) (o : DatumAt items i d) → words ≡ datumWords x ++ rest
+          → sameDatum (nameAt theirs) (nameAt ours) ops d x ≡ true
+          → (2 ≤ length words) × (getD words 0 0 ≡ 5) × (getD words 1 0 ≡ D.count (list-there d o .elements))
+      first-at ops d x rest o w h =
+          let l = list-there d o in
+          list-first (nameAt theirs) (nameAt ours) ops (l .elements) words x rest w (subst (λ y. sameDatum (nameAt theirs) (nameAt ours) ops y x ≡ true) (l .is) h)
 
-pub no-not : (b : Bool) → not b ≡ true → b ≡ false
-no-not true h = sym h
-no-not false h = refl
+      pub list-short : length words < 2 → DatumRight words items theirs ours i No
+      list-short l ops d x rest o g w = not-so _ (λ h. omega (arith, l, first-at ops d x rest o w h .0))
 
-pub yes-not : (b : Bool) → not b ≡ false → b ≡ true
-yes-not true h = refl
-yes-not false h = sym h
+      pub list-other : (getD words 0 0 ≡ 5 → ⊥) → DatumRight words items theirs ours i No
+      list-other f ops d x rest o g w = not-so _ (λ h. f (first-at ops d x rest o w h .1))
+
+      module _ (m : ℕ) (second : m ≡ getD words 1 0) (n : ℕ) (counts : (ds : Data) → DataAt items i ds → n ≡ D.count ds) where
+        pub list-count : (m ≡ n → ⊥) → DatumRight words items theirs ours i No
+        list-count f ops d x rest o g w =
+            let l = list-there d o in
+            not-so _ (λ h. f (second ∙ first-at ops d x rest o w h .2 ∙ sym (counts (l .elements) (l .held))))
+
+        module _ (f : getD words 0 0 ≡ 5) (e : m ≡ n) (r : Agreed) (right : DataRight (R.rest 2 words) items theirs ours i r) where
+          abbrev sameElements : List (List ℕ) → (d : Datum) → DatumAt items i d → Data → Bool
+          sameElements ops d o ys = sameData (nameAt theirs) (nameAt ours) ops (list-there d o .elements) ys
+
+          -- as its elements agree with the words behind
+          inner : (ops : List (List ℕ)) (d x : Datum) (rest : List ℕ) (o : DatumAt items i d) → isGood ours x ≡ true → words ≡ datumWords x ++ rest
+              → (ys : Data) × (x ≡ listD ys) × (sameDatum (nameAt theirs) (nameAt ours) ops d x ≡ sameElements ops d o ys) × Right (sameElements ops d o ys) (length (dataWords ys)) r
+          inner ops d x rest o g w =
+              let l = list-there d o in
+              let y = list-words ours words x rest g w f in
+              let k : D.count (l .elements) ≡ D.count (y .elements) = sym (counts (l .elements) (l .held)) ∙ sym e ∙ second ∙ y .many in (
+                y .elements,
+                y .is,
+                ap (λ z. sameDatum (nameAt theirs) (nameAt ours) ops z x) (l .is) ∙ list-same (nameAt theirs) (nameAt ours) ops (l .elements) (y .elements) x (y .is),
+                right ops (l .elements) (y .elements) rest (l .held) (list-good ours (y .elements) x (y .is) g) k (rest-is 2 words ∙ y .behind),
+              )
+
+          pub list-no : r ≡ No → DatumRight words items theirs ours i No
+          list-no q ops d x rest o g w =
+              let a = inner ops d x rest o g w in
+              a .2 ∙ subst (Right (sameElements ops d o (a .0)) (length (dataWords (a .0)))) q (a .3)
+
+          pub list-yes : (t : ℕ) → r ≡ Words t → DatumRight words items theirs ours i (Words (t + 2))
+          list-yes t q ops d x rest o g w =
+              let a = inner ops d x rest o g w in
+              let z = subst (Right (sameElements ops d o (a .0)) (length (dataWords (a .0)))) q (a .3) in
+              (a .2 ∙ z .0, omega (arith, z .1, list-size (a .0) x (a .1)))
+
+pub name-datum-right : (items : List ℕ) (i k : ℕ) → k ≡ kindAt items i → k ≡ 3 → (n : ℕ) → n ≡ headAt items i → (words theirs ours : List ℕ) (r : Agreed)
+    → NameRight words theirs n ours r → DatumRight words items theirs ours i r
+name-datum-right items i k kind e n a words theirs ours r h ops d x rest o g w =
+    subst (λ y. Right (sameDatum (nameAt theirs) (nameAt ours) ops y x) (length (datumWords x)) r)
+    (ap nameD a ∙ sym (name-datum items i d o (sym kind ∙ e) .0)) (h ops x rest g w)

@@ -1,13 +1,14 @@
 -- Laws of a lambda's formals: the walk through their list.
 use mathlib.Core.Path.{_≡_, refl, sym, ap, subst, _∙_}
-use mathlib.Core.Bool.{Bool, true, false, not, _&&_}
+use mathlib.Core.Bool.{Bool, true, false, not}
 use mathlib.Core.List.{List, [], _∷_, _++_, append-assoc, append-nil}
 use mathlib.Core.Option.{Option, none, some}
 use Prim.Native.Nat.{ℕ, zero, suc, _+_, _*_, _-_, _≤_, _<_}
 use native.Mathlib.Omega.{arith}
-use lib.Dec.{eqb, ltb, leb}
+use lib.Dec.{eqb}
 use lib.ListN.{length, getD, set, length-append, length-set}
-use borrow.Author.Tests.{eq-eqb, ne-eqb, eqb-true, eqb-false, lt-ltb, le-ltb, le-leb, lt-leb, leb-true}
+use borrow.Author.Tests.{eq-eqb, ne-eqb, eqb-true, eqb-false, lt-ltb, le-ltb, le-leb, lt-leb, not-true}
+use Rattle.words.specs.ListLaws.{either}
 use Rattle.words.specs.Limits.{formalsMost, namesMost}
 use Rattle.words.specs.Lists.{allOf, anyOf}
 use Rattle.words.specs.Options.{onlyIf, mapSome}
@@ -17,9 +18,8 @@ use Rattle.recipe.specs.Table.{kindAt}
 use Rattle.recipe.specs.TreeFrom.{headAt, tailAt}
 use Rattle.comparison.specs.Grammar.{isFree, distinct, areFormals, names, after, formals}
 use Rattle.comparison.specs.Closed.{inside}
-use Rattle.comparison.specs.BindersLaws.{either}
-use Rattle.supplier.specs.declared.grammar.Bound.the-variants.{Formals, No}
-use Rattle.supplier.specs.Items.{DatumAt, DataAt, PairAt, Held}
+use Rattle.supplier.specs.declared.grammar.Bound.the-variants.{Formals}
+use Rattle.supplier.specs.Items.{DatumAt, Held}
 use Rattle.supplier.specs.ItemsLaws.{as-datum, pair-datum, name-datum, empty-datum, name-kind, none-is, more-is, as-list, datum-in, ListAt}
 use Rattle.supplier.specs.Scope.{round, innermost, Kept}
 use Rattle.supplier.specs.ScopeLaws.{found-past, none-past, Own, own-round, own-more, kept-set, kept-round}
@@ -60,10 +60,6 @@ distinct-twice (p ∷ ps) (suc k) n ns h e = and-none-right (not (anyOf (eqb p) 
 none-more : (p n : ℕ) (ps : List ℕ) → anyOf (eqb p) ps ≡ false → (p ≡ n → ⊥) → anyOf (eqb p) (ps ++ (n ∷ [])) ≡ false
 unfolding anyOf
 none-more p n ps h f = any-append (eqb p) ps (n ∷ []) ∙ rw (h, ne-eqb p n f)
-
-not-true : (b : Bool) → not b ≡ true → b ≡ false
-not-true true h = sym h
-not-true false h = refl
 
 distinct-more : (ps : List ℕ) (n : ℕ) → distinct ps ≡ true → ((k : ℕ) → k < length ps → getD ps k 0 ≡ n → ⊥) → distinct (ps ++ (n ∷ [])) ≡ true
 unfolding distinct anyOf

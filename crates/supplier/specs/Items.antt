@@ -2,7 +2,7 @@
 use mathlib.Core.Path.{_≡_}
 use mathlib.Core.Bool.{true}
 use mathlib.Core.List.{List, _++_}
-use Prim.Native.Nat.{ℕ, suc, _+_, _*_, _<_}
+use Prim.Native.Nat.{ℕ, suc, _+_, _*_}
 use lib.ListN.{drop}
 use Rattle.datum.specs.Datum.{Datum, Data, moreD, datumItems}
 use Rattle.recipe.specs.TreeFrom.{headAt, tailAt}

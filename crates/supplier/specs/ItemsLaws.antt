@@ -1,12 +1,11 @@
 -- Laws of the items of a text: what each kind of item begins.
 use mathlib.Core.Path.{_≡_, refl, sym, ap, subst, _∙_}
-use mathlib.Core.Bool.{Bool, true, false}
-use mathlib.Core.List.{List, [], _∷_, _++_}
+use mathlib.Core.Bool.{true}
+use mathlib.Core.List.{List, _++_}
 use Prim.Native.Nat.{ℕ, suc, _+_, _*_, _≤_, _<_}
 use native.Mathlib.Omega.{arith}
-use lib.Dec.{eqb, ltb}
 use lib.ListN.{length, getD, drop, length-append, length-drop}
-use borrow.Author.Tests.{eqb-false, eq-eqb, ltb-true}
+use borrow.Author.Tests.{eqb-false, ltb-true}
 use Rattle.words.specs.Limits.{namesMost}
 use Rattle.words.specs.TestLaws.{and-parts}
 use Rattle.datum.specs.Constant.{Constant, isConstant}
@@ -16,7 +15,7 @@ use Rattle.recipe.specs.TreeFrom.{headAt, tailAt}
 use Rattle.reading.specs.Numbering.{datumWords, dataWords}
 use Rattle.reading_layout.specs.Items.{fits, fitAll, no-empty, no-name, no-pair, datum-length, data-length, datum-positive, data-positive}
 use Rattle.reading_layout.specs.Good.{word-at, kind-at, head-words, tail-words}
-use Rattle.supplier.specs.Items.{DatumAt, DataAt, PairAt}
+use Rattle.supplier.specs.Items.{DatumAt, DataAt, Held, HeldAll, PairAt}
 
 -- ---- a list and the datum that it is
 
@@ -145,3 +144,32 @@ module _ (ws : List ℕ) (i : ℕ) where
   pair-datum (constantD a) h k = absurd (eqb-false (a .kind) 4 (no-pair (a .kind) (a .first) (a .second) (h .fine)) (sym (kind-at ws i _ (h .words)) ∙ k))
   pair-datum (nameD n) h k = absurd (omega (arith, k, kind-at ws i _ (h .words)))
   pair-datum (listD ds) h k = let l = as-list ws i ds h in record { elements = ds; isList = refl; list = l; pair = pair-kind ds l k }
+
+-- ---- in the code's shape: k is the kind of item i, `at` its head, `next` its tail
+
+module _ (ws : List ℕ) (i : ℕ) where
+  pub held-in : Held ws i → 3 * i + 2 < length ws
+  held-in h = datum-in ws i (h .0) (h .1)
+
+  pub all-in : HeldAll ws i → 3 * i + 2 < length ws
+  all-in h = data-in ws i (h .0) (h .1)
+
+  module _ (k : ℕ) (kind : k ≡ kindAt ws i) where
+    pub name-held : Held ws i → k ≡ 3 → (n : ℕ) → n ≡ headAt ws i → n < namesMost
+    name-held h e n a = omega (arith, a, name-datum ws i (h .0) (h .1) (sym kind ∙ e) .1)
+
+    module _ (pair : k ≡ 4) where
+      pub elements-held : Held ws i → HeldAll ws i
+      elements-held h = let l = pair-datum ws i (h .0) (h .1) (sym kind ∙ pair) in (l .elements, l .list)
+
+      -- a head is the next item
+      pub head-held : HeldAll ws i → (at : ℕ) → at ≡ headAt ws i → Held ws at × (at ≡ suc i)
+      head-held h at a =
+          let p = pair-kind ws i (h .0) (h .1) (sym kind ∙ pair) in
+          ((p .first, subst (λ j. DatumAt ws j (p .first)) (sym a) (p .head)), a ∙ p .headIs)
+
+      -- a tail is a later one
+      pub tail-held : HeldAll ws i → (next : ℕ) → next ≡ tailAt ws i → HeldAll ws next × (i < next)
+      tail-held h next b =
+          let p = pair-kind ws i (h .0) (h .1) (sym kind ∙ pair) in
+          ((p .rest, subst (λ j. DataAt ws j (p .rest)) (sym b) (p .tail)), omega (arith, b, p .tailIs))

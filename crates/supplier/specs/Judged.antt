@@ -17,7 +17,7 @@ use Rattle.supplier.specs.declared.grammar.Judged.{Judged}
 use Rattle.supplier.specs.declared.grammar.Judged.the-variants.{Closed, Open, Outside}
 use Rattle.supplier.specs.declared.grammar.Bound as B
 use Rattle.supplier.specs.declared.grammar.Bound.the-variants.{Formals, No}
-use Rattle.supplier.specs.Scope.{round, Kept}
+use Rattle.supplier.specs.Scope.{round}
 use Rattle.supplier.specs.Names.{Slot}
 
 module _ (isOperation : ℕ → Bool) (round : List ℕ) where

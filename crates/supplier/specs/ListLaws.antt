@@ -1,27 +1,28 @@
 -- Laws of judging a list: by its head, and element by element.
-use mathlib.Core.Path.{_≡_, refl, sym, ap, ap₂, subst, _∙_}
+use mathlib.Core.Path.{_≡_, refl, sym, ap, subst, _∙_}
 use mathlib.Core.Bool.{Bool, true, false, _&&_, cond, and-true}
 use mathlib.Core.List.{List, [], _∷_}
 use mathlib.Core.Option.{Option, none, some}
-use Prim.Native.Nat.{ℕ, zero, suc, _+_, _*_, _≤_, _<_}
+use Prim.Native.Nat.{ℕ, zero, suc, _+_, _*_}
 use native.Mathlib.Omega.{arith}
-use lib.Dec.{eqb, ltb}
+use lib.Dec.{eqb}
 use lib.ListN.{length}
-use borrow.Author.Tests.{lt-ltb, le-ltb, ne-eqb}
-use Rattle.words.specs.ListLaws.{never}
-use Rattle.words.specs.Options.{onlyIf, mapSome, mapBoth}
+use borrow.Author.Tests.{ne-eqb}
+use Rattle.words.specs.ListLaws.{never, either}
+use Rattle.words.specs.Options.{mapSome, mapBoth}
 use Rattle.datum.specs.Constant.{Constant}
 use Rattle.datum.specs.Datum.{Datum, constantD, nameD, listD, Data, noneD, moreD, datumItems, dataItems}
 use Rattle.datum.specs.Datum as D
 use Rattle.recipe.specs.Table.{kindAt}
 use Rattle.recipe.specs.TreeFrom.{headAt, tailAt}
-use Rattle.comparison.specs.Expression.{Expression, referenceE, datumE, ifE, lambdaE, applicationE, Expressions, noneE, moreE}
-use Rattle.comparison.specs.Grammar.{areFormals, theOne, first, names, after, quoted, conditional, formals, withBody, applied, headed, expressionOf, listOf, expressionsOf, laterOf}
+use Rattle.comparison.specs.Expression.{Expression, Expressions, noneE, moreE}
+use Rattle.comparison.specs.Grammar.{theOne, first, after, quoted, conditional, formals, withBody, applied, headed, expressionOf, expressionsOf, laterOf}
+use Rattle.comparison.specs.Written.{nameData}
+use Rattle.comparison.specs.WrittenLaws.{formals-back}
 use Rattle.comparison.specs.Closed.{inside, closed, closedAll}
-use Rattle.comparison.specs.BindersLaws.{either}
 use Rattle.supplier.specs.declared.grammar.Judged.{Judged}
 use Rattle.supplier.specs.declared.grammar.Judged.the-variants.{Closed, Open, Outside}
-use Rattle.supplier.specs.Items.{DatumAt, DataAt, PairAt}
+use Rattle.supplier.specs.Items.{DatumAt, DataAt}
 use Rattle.supplier.specs.ItemsLaws.{pair-kind, none-kind}
 use Rattle.supplier.specs.Judged.{judge, judgeAll, quotes, formOf, lambdaOf, isOutside, openAfter}
 
@@ -289,39 +290,33 @@ module _ (isOperation : ℕ → Bool) (round : List ℕ) where
       outside-is Open c o = never o refl
       outside-is Closed c o = never o refl
 
-      pub judging-next : isOutside v ≡ false → (t : ℕ) → t ≡ tailAt ws j → Judging ws i t (openAfter v opened)
-      judging-next = next-by v refl
+      pub judging-next : isOutside v ≡ false → (o : Bool) → o ≡ openAfter v opened → (t : ℕ) → t ≡ tailAt ws j → Judging ws i t o
+      judging-next f o e t b = subst (Judging ws i t) (sym e) (next-by v refl f t b)
 
       pub judging-outside : isOutside v ≡ true → (ds : Data) → DataAt ws i ds → Outside ≡ ofAll (expressionsOf ds)
       judging-outside = outside-is v refl
 
-    pub judging-end : (kindAt ws j ≡ 4 → ⊥) → (ds : Data) → DataAt ws i ds → withOpen opened Closed ≡ ofAll (expressionsOf ds)
+    judging-end : (kindAt ws j ≡ 4 → ⊥) → (ds : Data) → DataAt ws i ds → withOpen opened Closed ≡ ofAll (expressionsOf ds)
     unfolding expressionsOf judgeAll closed
     judging-end k ds h =
         let q = p ds h in
         sym (q .1 .1 ∙ ap (λ e. withOpen opened (ofAll (expressionsOf e))) (none-kind ws j (q .0) (q .1 .0) k))
 
+    pub judging-some : (kindAt ws j ≡ 4 → ⊥) → opened ≡ true → (ds : Data) → DataAt ws i ds → Open ≡ ofAll (expressionsOf ds)
+    unfolding withOpen
+    judging-some k e ds h = ap (λ o. withOpen o Closed) (sym e) ∙ judging-end k ds h
+
+    pub judging-none : (kindAt ws j ≡ 4 → ⊥) → opened ≡ false → (ds : Data) → DataAt ws i ds → Closed ≡ ofAll (expressionsOf ds)
+    unfolding withOpen
+    judging-none k e ds h = ap (λ o. withOpen o Closed) (sym e) ∙ judging-end k ds h
+
 -- ---- the items of formals
 
-names-by : (n k : ℕ) (o : Option (List ℕ)) (ns : List ℕ) → ((ms : List ℕ) → o ≡ some ms → k ≡ 1 + 2 * length ms) → mapSome (_∷_ n) o ≡ some ns → suc (1 + k) ≡ 1 + 2 * length ns
-unfolding mapSome
-names-by n k none ns h e = none-some e
-names-by n k (some ms) ns h e = let l : length ns ≡ suc (length ms) = ap length (sym (some-is e)) in omega (arith, l, h ms refl)
-
-names-items : (ds : Data) (ns : List ℕ) → names ds ≡ some ns → dataItems ds ≡ 1 + 2 * length ns
-unfolding names dataItems
-names-items noneD ns e = let l : length ns ≡ 0 = ap length (sym (some-is e)) in omega (arith, l)
-names-items (moreD (constantD a) ds) ns e = none-some e
-names-items (moreD (nameD n) ds) ns e = names-by n (dataItems ds) (names ds) ns (names-items ds) e
-names-items (moreD (listD es) ds) ns e = none-some e
-
-bindable-is : (o : Option (List ℕ)) (ns : List ℕ) → after o (λ ms. onlyIf (areFormals ms) (some ms)) ≡ some ns → o ≡ some ns
-unfolding after onlyIf
-bindable-is none ns e = none-some e
-bindable-is (some ms) ns e = either (areFormals ms) (λ h. rw h at e) (λ h. none-some (rw h at e))
+names-items : (ns : List ℕ) → dataItems (nameData ns) ≡ 1 + 2 * length ns
+unfolding nameData dataItems
+names-items [] = refl
+names-items (n ∷ ns) = omega (arith, names-items ns)
 
 pub formals-items : (f : Datum) (ns : List ℕ) → formals f ≡ some ns → datumItems f ≡ 1 + 2 * length ns
-unfolding formals datumItems
-formals-items (constantD a) ns e = none-some e
-formals-items (nameD n) ns e = none-some e
-formals-items (listD ds) ns e = names-items ds ns (bindable-is (names ds) ns e)
+unfolding datumItems
+formals-items f ns e = ap datumItems (sym (formals-back f ns e .0)) ∙ names-items ns

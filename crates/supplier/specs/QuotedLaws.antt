@@ -1,32 +1,30 @@
 -- Laws of constants and quoted data against words.
 use mathlib.Core.Path.{_≡_, refl, sym, ap, subst, _∙_}
-use mathlib.Core.Bool.{Bool, true, false, _&&_}
+use mathlib.Core.Bool.{Bool, true, false}
 use mathlib.Core.List.{List, [], _∷_, _++_}
 use Prim.Native.Nat.{ℕ, suc, _+_, _*_, _≤_, _<_}
 use native.Mathlib.Omega.{arith}
 use lib.Dec.{eqb, ltb, leb}
 use lib.ListN.{length, getD, drop, length-append}
 use borrow.Author.Tests.{eqb-true, eqb-false, leb-true}
-use Rattle.words.specs.Limits.{nameLengthMost, slotSize}
-use Rattle.words.specs.Lists.{within, equal}
+use Rattle.words.specs.Lists.{equal}
 use Rattle.words.specs.TestLaws.{and-left, and-right, and-both, within-most}
-use Rattle.words.specs.ListLaws.{never}
+use Rattle.words.specs.ListLaws.{never, either}
 use Rattle.datum.specs.Constant.{Constant, isConstant, constantWords}
 use Rattle.datum.specs.ConstantLaws.{words-decimal, words-other, words-few}
 use Rattle.datum.specs.Datum.{Datum, constantD, nameD, listD, Data, noneD, moreD}
 use Rattle.datum.specs.NameTable.{nameAt, lengthAt, hasName}
 use Rattle.core_term.specs.Node.{isNode, nodeWords}
 use Rattle.core_term.specs.Term.{variableC, operationC, datumC, ifC, lambdaC, applicationC, Plain}
-use Rattle.core_term.specs.Words.{datumWords, dataWords, encode}
+use Rattle.core_term.specs.Words.{datumWords, encode}
 use Rattle.core_term.specs.Every.{everyDatum, everyData, every, proper}
 use Rattle.core_term.specs.DecodeLaws.{encode-unique}
 use Rattle.comparison.specs.Agrees.{sameConstant, sameDatum}
-use Rattle.comparison.specs.BindersLaws.{either}
 use Rattle.comparison.specs.RenderingLaws.{constant-self}
 use Rattle.supplier.specs.declared.quoted.Agreed.{Agreed}
 use Rattle.supplier.specs.declared.quoted.Agreed.the-variants.{Words, No}
 use Rattle.supplier.specs.Names.{Slot}
-use Rattle.supplier.specs.Quoted.{isGood, areGood, Right}
+use Rattle.supplier.specs.Quoted.{isGood, areGood, Right, ConstantRight, NameRight}
 
 -- ---- what a test that does not pass is
 
@@ -169,22 +167,68 @@ module _ (theirs ours : ℕ → List ℕ) (ops : List (List ℕ)) where
         constant-right (drop 3 words) 3 (three-words words 9 (a .first) (a .second) l p q r ∙ ap (λ x. x ++ drop 3 words) (sym (words-decimal a f)))
         (sym (ap length (words-decimal a f)))
 
--- ---- a quoted name, by each way through the code
+-- ---- a constant, by each way through the code: m is the second word, n the third
 
-module _ (theirs ours : List ℕ) (n : ℕ) (ops : List (List ℕ)) (words : List ℕ) (e : Datum) (rest : List ℕ) (g : isGood ours e ≡ true) (w : words ≡ datumWords e ++ rest) where
-  abbrev same : Bool
-  same = sameDatum (nameAt theirs) (nameAt ours) ops (nameD n) e
+module _ (words : List ℕ) (kind first second : ℕ) where
+  abbrev Answers : Agreed → Type 0
+  Answers = ConstantRight words kind first second
 
-  pub name-two : same ≡ true → 2 ≤ length words
-  name-two h = name-long (nameAt theirs) (nameAt ours) ops n words e rest w h
+  abbrev given : Constant
+  given = record { kind = kind; first = first; second = second }
 
-  module _ (l : 2 ≤ length words) (p : getD words 0 0 ≡ 4) (m : ℕ) (q : getD words 1 0 ≡ m) where
-    pub name-slot : Slot ours m
-    name-slot = good-slot ours words e rest g w m (name-is ours words e rest g w m l p q)
+  pub constant-short : length words < 2 → Answers No
+  constant-short l theirs ours ops table e rest k g w = not-so _ (λ h. omega (arith, l, constant-two theirs ours ops given table words e rest k g w h))
 
-    pub name-right : (b : Bool) → b ≡ equal (nameAt theirs n) (nameAt ours m) → same ≡ b
-    name-right b f = name-same (nameAt theirs) (nameAt ours) ops n m e (name-is ours words e rest g w m l p q) ∙ sym f
+  pub constant-first : (m : ℕ) → m ≡ getD words 1 0 → (m ≡ first → ⊥) → Answers No
+  constant-first m s f theirs ours ops table e rest k g w = not-so _ (λ h. f (s ∙ second-word theirs ours ops given table words e rest k g w h))
 
-    pub name-size : length (datumWords e) ≡ 2
-    unfolding datumWords nodeWords
-    name-size = ap (λ x. length (datumWords x)) (name-is ours words e rest g w m l p q)
+  module _ (other : kind ≡ 5 → ⊥) where
+    pub other-no : (getD words 0 0 ≡ kind + 1 → ⊥) → Answers No
+    other-no f theirs ours ops table e rest k g w = not-so _ (λ h. f (omega (arith, other-words theirs ours ops given table words e rest k g w h other .0)))
+
+    pub other-yes : 2 ≤ length words → getD words 0 0 ≡ kind + 1 → (m : ℕ) → m ≡ getD words 1 0 → m ≡ first → Answers (Words 2)
+    other-yes l c m s q theirs ours ops table e rest k g w = other-right theirs ours ops given table words e rest k g w other l (omega (arith, c)) (sym s ∙ q)
+
+  module _ (decimal : kind ≡ 5) where
+    pub decimal-short : length words < 3 → Answers No
+    decimal-short l theirs ours ops table e rest k g w =
+        not-so _ (λ h. omega (arith, l, decimal-words theirs ours ops given table words e rest k g w h decimal .0))
+
+    pub decimal-code : (getD words 0 0 ≡ 9 → ⊥) → Answers No
+    decimal-code f theirs ours ops table e rest k g w = not-so _ (λ h. f (decimal-words theirs ours ops given table words e rest k g w h decimal .1))
+
+    pub decimal-no : (n : ℕ) → n ≡ getD words 2 0 → (n ≡ second → ⊥) → Answers No
+    decimal-no n t f theirs ours ops table e rest k g w = not-so _ (λ h. f (t ∙ decimal-words theirs ours ops given table words e rest k g w h decimal .3))
+
+    pub decimal-yes : 3 ≤ length words → getD words 0 0 ≡ 9 → (m : ℕ) → m ≡ getD words 1 0 → m ≡ first → (n : ℕ) → n ≡ getD words 2 0 → n ≡ second
+        → Answers (Words 3)
+    decimal-yes l c m s q n t o theirs ours ops table e rest k g w =
+        decimal-right theirs ours ops given table words e rest k g w decimal l c (sym s ∙ q) (sym t ∙ o)
+
+-- ---- a quoted name, by each way through the code: m is the second word
+
+module _ (words theirs : List ℕ) (n : ℕ) (ours : List ℕ) where
+  pub name-short : length words < 2 → NameRight words theirs n ours No
+  name-short l ops e rest g w = not-so _ (λ h. omega (arith, l, name-long (nameAt theirs) (nameAt ours) ops n words e rest w h))
+
+  pub name-other : (getD words 0 0 ≡ 4 → ⊥) → NameRight words theirs n ours No
+  name-other f ops e rest g w = not-so _ (λ h. f (name-first (nameAt theirs) (nameAt ours) ops n words e rest w h))
+
+  module _ (l : 2 ≤ length words) (p : getD words 0 0 ≡ 4) (m : ℕ) (s : m ≡ getD words 1 0) where
+    name-at : (e : Datum) (rest : List ℕ) → isGood ours e ≡ true → words ≡ datumWords e ++ rest → e ≡ nameD m
+    name-at e rest g w = name-is ours words e rest g w m l p (sym s)
+
+    pub name-no-slot : (Slot ours m → ⊥) → NameRight words theirs n ours No
+    name-no-slot f ops e rest g w = absurd (f (good-slot ours words e rest g w m (name-at e rest g w)))
+
+    module _ (b : Bool) (is : b ≡ equal (nameAt theirs n) (nameAt ours m)) where
+      name-by : (ops : List (List ℕ)) (e : Datum) (rest : List ℕ) → isGood ours e ≡ true → words ≡ datumWords e ++ rest
+          → sameDatum (nameAt theirs) (nameAt ours) ops (nameD n) e ≡ b
+      name-by ops e rest g w = name-same (nameAt theirs) (nameAt ours) ops n m e (name-at e rest g w) ∙ sym is
+
+      pub name-no : b ≡ false → NameRight words theirs n ours No
+      name-no q ops e rest g w = name-by ops e rest g w ∙ q
+
+      pub name-yes : b ≡ true → NameRight words theirs n ours (Words 2)
+      unfolding datumWords nodeWords
+      name-yes q ops e rest g w = (name-by ops e rest g w ∙ q, sym (ap (λ x. length (datumWords x)) (name-at e rest g w)))

@@ -1,6 +1,6 @@
 -- Laws of the code's scope.
 use mathlib.Core.Path.{_≡_, refl, sym, ap, ap₂, _∙_}
-use mathlib.Core.Bool.{Bool, true, false, not, _||_, cond}
+use mathlib.Core.Bool.{true, false}
 use mathlib.Core.List.{List, [], _∷_, _++_}
 use Prim.Native.Nat.{ℕ, zero, suc, _+_, _-_, _≤_, _<_}
 use native.Mathlib.Omega.{arith}
@@ -8,9 +8,9 @@ use lib.Dec.{eqb}
 use lib.ListN.{length, getD, set, length-append, List·getD-append}
 use lib.Seq.{getD-set-same, getD-set-other, getD-at}
 use borrow.Author.Tests.{eq-eqb, ne-eqb, eqb-true, eqb-false}
+use Rattle.words.specs.ListLaws.{either}
 use Rattle.words.specs.Lists.{anyOf}
 use Rattle.comparison.specs.Closed.{inside}
-use Rattle.comparison.specs.BindersLaws.{either}
 use Rattle.supplier.specs.Scope.{round, innermost, Kept}
 
 module _ (n : ℕ) (scope : List ℕ) where

@@ -10,7 +10,7 @@ use crate::scope::wide;
 use reader::names::spells;
 use words::SLOT;
 
-fn length_of(b: u8) -> usize
+pub fn length_of(b: u8) -> usize
     ensures { λ r. ⌜ r ≡ b ⌝ }
 {
     b as usize

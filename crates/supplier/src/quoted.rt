@@ -8,6 +8,7 @@ ghost use Rattle.supplier.specs.Items.{DatumAt, DataAt, Held, HeldAll};
 ghost use Rattle.supplier.specs.Names.{Slot};
 ghost use Rattle.supplier.specs.Quoted.{Short, ConstantRight, NameRight, DatumRight, DataRight};
 use crate::grammar::count;
+use crate::names::length_of;
 use crate::names::same_name;
 use core_term::codes;
 use layout::item::DECIMAL;
@@ -30,12 +31,6 @@ pub fn wide(n: u32) -> usize
     ensures { λ r. ⌜ r ≡ n ⌝ }
 {
     n as usize
-}
-
-fn length_of(b: u8) -> usize
-    ensures { λ r. ⌜ r ≡ b ⌝ }
-{
-    b as usize
 }
 
 // A constant, by its kind and two words.

@@ -3,38 +3,32 @@ use Rattle.supplier.proofs.grammar.is_outside.Statement.{statement}
 use Rattle.supplier.proofs.grammar.is_outside.Tie as tie
 use Rattle.supplier.proofs.grammar.is_outside.Reads as reads
 use Rattle.supplier.proofs.grammar.is_outside.Lts as lts
-use mathlib.Core.Path.{_≡_, sym, ap}
+use mathlib.Core.Path.{sym, ap}
 use Rattle.supplier.specs.declared.grammar.Judged.{Judged}
 use Rattle.supplier.specs.Judged.{isOutside}
 
--- src/grammar.rt:147:28
 enum-told : tie.Need-enum-told
 enum-told c =
     search needs
 
--- src/grammar.rt:148:25
 enum-told-2 : tie.Need-enum-told-2
 enum-told-2 c =
     search needs
 
--- src/grammar.rt:149:27
 enum-told-3 : tie.Need-enum-told-3
 enum-told-3 c =
     search needs
 
--- src/grammar.rt:143:1
 returns : tie.Need-returns
 unfolding isOutside
 returns c =
     sym (ap (λ (v : Judged). isOutside v) (c .enum-told .given .1))
 
--- src/grammar.rt:143:1
 returns-2 : tie.Need-returns-2
 unfolding isOutside
 returns-2 c =
     sym (ap (λ (v : Judged). isOutside v) (c .enum-told2 .given .1))
 
--- src/grammar.rt:143:1
 returns-3 : tie.Need-returns-3
 unfolding isOutside
 returns-3 c =

@@ -3,38 +3,32 @@ use Rattle.supplier.proofs.grammar.open_after.Statement.{statement}
 use Rattle.supplier.proofs.grammar.open_after.Tie as tie
 use Rattle.supplier.proofs.grammar.open_after.Reads as reads
 use Rattle.supplier.proofs.grammar.open_after.Lts as lts
-use mathlib.Core.Path.{_≡_, sym, ap}
+use mathlib.Core.Path.{sym, ap}
 use Rattle.supplier.specs.declared.grammar.Judged.{Judged}
 use Rattle.supplier.specs.Judged.{openAfter}
 
--- src/grammar.rt:158:28
 enum-told : tie.Need-enum-told
 enum-told c =
     search needs
 
--- src/grammar.rt:159:25
 enum-told-2 : tie.Need-enum-told-2
 enum-told-2 c =
     search needs
 
--- src/grammar.rt:160:27
 enum-told-3 : tie.Need-enum-told-3
 enum-told-3 c =
     search needs
 
--- src/grammar.rt:154:1
 returns : tie.Need-returns
 unfolding openAfter
 returns c =
     sym (ap (λ (v : Judged). openAfter v (c .before .before .args .opened)) (c .enum-told .given .1))
 
--- src/grammar.rt:154:1
 returns-2 : tie.Need-returns-2
 unfolding openAfter
 returns-2 c =
     sym (ap (λ (v : Judged). openAfter v (c .before .before .args .opened)) (c .enum-told2 .given .1))
 
--- src/grammar.rt:154:1
 returns-3 : tie.Need-returns-3
 unfolding openAfter
 returns-3 c =

@@ -11,69 +11,34 @@ use Rattle.words.specs.Lists.{equal}
 use Rattle.datum.specs.NameTable.{lengthAt, nameAt}
 use Rattle.supplier.specs.NamesLaws.{part-name}
 
--- src/names.rt:24:17
-mul-start : tie.Need-mul-start
-mul-start c =
-    search needs
-
--- src/names.rt:25:16
-add-from : tie.Need-add-from
-add-from c =
-    search needs
-
--- src/names.rt:26:31
-shared-slice-read-length-of : tie.Need-shared-slice-read-length-of
-shared-slice-read-length-of c =
-    search needs
-
--- src/names.rt:26:21
-length-of-requires : tie.Need-length-of-requires
-length-of-requires c κs =
-    search needs
-
--- src/names.rt:26:14
 add-to : tie.Need-add-to
 unfolding lengthAt
 add-to c =
-    omega (arith, c .length-of .ensures, c .before .before .before .before .pre .0 .0, c .before .before .before .before .pre .0 .1, c .before .before .before .before .good .0)
+    let pre = c .before .before .before .before .pre in
+    omega (arith, c .length-of .ensures, pre .0 .0, pre .0 .1, c .before .before .before .before .good .0)
 
--- src/names.rt:27:21
-sub-spells : tie.Need-sub-spells
-sub-spells c =
-    search needs
-
--- src/names.rt:27:21
-part-spells-start : tie.Need-part-spells-start
-part-spells-start c =
-    search needs
-
--- src/names.rt:27:21
 part-spells-end : tie.Need-part-spells-end
 unfolding lengthAt
 part-spells-end c =
-    omega (arith, c .length-of .ensures, c .before .before .before .before .pre .0 .0, c .before .before .before .before .pre .0 .1)
+    let pre = c .before .before .before .before .pre in
+    omega (arith, c .length-of .ensures, pre .0 .0, pre .0 .1)
 
--- src/names.rt:27:5
-spells-requires : tie.Need-spells-requires
-spells-requires c κs =
-    search needs
-
--- src/names.rt:20:1
 returns : tie.Need-returns
 returns c =
-    c .spells .ensures ∙ ap (λ w. equal w (nameAt (c .before .before .before .before .before .before .args .ours .now) (c .before .before .before .before .before .before .args .m))) (part-name (c .before .before .before .before .before .before .args .theirs .now) (c .before .before .before .before .before .before .args .n) _ (omega (arith, c .before .before .length-of .ensures)))
+    let args = c .before .before .before .before .before .before .args in
+    c .spells .ensures ∙ ap (λ w. equal w (nameAt (args .ours .now) (args .m))) (part-name (args .theirs .now) (args .n) _ (omega (arith, c .before .before .length-of .ensures)))
 
 pub same-name-spec : {M : Type 1} → statement M
 same-name-spec =
     tie.close
     (tie.spec
-    mul-start
-    add-from
-    shared-slice-read-length-of
-    length-of-requires
+    (λ c. search needs)  -- mul-start
+    (λ c. search needs)  -- add-from
+    (λ c. search needs)  -- shared-slice-read-length-of
+    (λ c κs. search needs)  -- length-of-requires
     add-to
-    sub-spells
-    part-spells-start
+    (λ c. search needs)  -- sub-spells
+    (λ c. search needs)  -- part-spells-start
     part-spells-end
-    spells-requires
+    (λ c κs. search needs)  -- spells-requires
     returns)
