@@ -15,3 +15,4 @@ pub mod QuotedLaws
 pub mod DataLaws
 pub mod Terms
 pub mod TermsLaws
+pub mod BoundLaws

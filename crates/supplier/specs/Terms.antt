@@ -2,15 +2,22 @@
 use mathlib.Core.Path.{_≡_}
 use mathlib.Core.Bool.{Bool, true, _&&_}
 use mathlib.Core.List.{List, [], _∷_, _++_, map}
-use Prim.Native.Nat.{ℕ, zero, suc}
+use mathlib.Core.Option.{some}
+use Prim.Native.Nat.{ℕ, zero, suc, _+_}
 use lib.Dec.{ltb, leb}
-use lib.ListN.{length, getD}
+use lib.ListN.{length, getD, drop}
 use Rattle.words.specs.Limits.{formalsMost}
+use Rattle.datum.specs.Datum.{Datum, Data}
+use Rattle.datum.specs.Datum as D
 use Rattle.datum.specs.NameTable.{nameAt}
-use Rattle.core_term.specs.Term.{variableC, operationC, datumC, ifC, lambdaC, applicationC, noneC, moreC, Plain, Plains}
-use Rattle.core_term.specs.Words.{encode}
-use Rattle.comparison.specs.Agrees.{Scope, meant, sameName}
+use Rattle.core_term.specs.Term.{variableC, operationC, datumC, ifC, lambdaC, applicationC, noneC, moreC, Plain, Plains, count}
+use Rattle.core_term.specs.Words.{encode, encodeAll}
+use Rattle.comparison.specs.Expression.{Expression, Expressions}
+use Rattle.comparison.specs.Grammar.{expressionOf, expressionsOf}
+use Rattle.comparison.specs.Agrees.{Scope, meant, sameName, agrees, agreeAll}
 use Rattle.supplier.specs.declared.quoted.Agreed.{Agreed}
+use Rattle.supplier.specs.Items.{DatumAt, DataAt}
+use Rattle.supplier.specs.Judged.{lambdaOf}
 use Rattle.supplier.specs.Quoted.{Right, isGood}
 
 -- the scope that the first `top` names and variables are
@@ -37,3 +44,24 @@ abbrev pub ReferenceRight : (words theirs ours operations names variables : List
 ReferenceRight words theirs ours operations names variables top n r =
     (t : Plain) (rest : List ℕ) → isGoodTerm ours (length operations) t ≡ true → words ≡ encode t ++ rest
     → Right (sameName (nameAt theirs) (nameAt ours) (map (nameAt ours) operations) n (meant n (scopeOf names variables top)) t) (length (encode t)) r
+
+-- an element that is an expression, inside the first `top` formals
+abbrev pub ExpressionRight : (words items theirs ours operations names variables : List ℕ) (top i : ℕ) → Agreed → Type 0
+ExpressionRight words items theirs ours operations names variables top i r =
+    (d : Datum) (x : Expression) (t : Plain) (rest : List ℕ) → DatumAt items i d → expressionOf d ≡ some x → isGoodTerm ours (length operations) t ≡ true
+    → words ≡ encode t ++ rest
+    → Right (agrees (nameAt theirs) (nameAt ours) (map (nameAt ours) operations) (scopeOf names variables top) x t) (length (encode t)) r
+
+-- what stands behind lambda
+abbrev pub LambdaRight : (words items theirs ours operations names variables : List ℕ) (top i : ℕ) → Agreed → Type 0
+LambdaRight words items theirs ours operations names variables top i r =
+    (ds : Data) (x : Expression) (t : Plain) (rest : List ℕ) → DataAt items i ds → lambdaOf ds ≡ some x → isGoodTerm ours (length operations) t ≡ true
+    → words ≡ encode t ++ rest
+    → Right (agrees (nameAt theirs) (nameAt ours) (map (nameAt ours) operations) (scopeOf names variables top) x t) (length (encode t)) r
+
+-- expressions one behind the other, against as many terms from word `from` on
+abbrev pub AllRight : (words items theirs ours operations names variables : List ℕ) (top i from : ℕ) → Agreed → Type 0
+AllRight words items theirs ours operations names variables top i from r =
+    (ds : Data) (xs : Expressions) (ts : Plains) (rest : List ℕ) → DataAt items i ds → expressionsOf ds ≡ some xs → areGoodTerms ours (length operations) ts ≡ true
+    → D.count ds ≡ count ts → drop from words ≡ encodeAll ts ++ rest
+    → Right (agreeAll (nameAt theirs) (nameAt ours) (map (nameAt ours) operations) (scopeOf names variables top) xs ts) (from + length (encodeAll ts)) r
