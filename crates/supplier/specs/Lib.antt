@@ -15,4 +15,6 @@ pub mod QuotedLaws
 pub mod DataLaws
 pub mod Terms
 pub mod TermsLaws
+pub mod Service
+pub mod Text
 pub mod BoundLaws
