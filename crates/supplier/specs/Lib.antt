@@ -22,3 +22,6 @@ pub mod Text
 pub mod ElementLaws
 pub mod ServiceLaws
 pub mod BoundLaws
+pub mod FormsLaws
+pub mod OperandsLaws
+pub mod TermWalkLaws

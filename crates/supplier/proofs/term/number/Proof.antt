@@ -2,7 +2,7 @@ use Rattle.supplier.proofs.term.number.Statement.{statement}
 use Rattle.supplier.proofs.term.number.Tie as tie
 use Rattle.supplier.proofs.term.number.Reads as reads
 use Rattle.supplier.proofs.term.number.Lts as lts
-use Rattle.supplier.proofs.term.wide.Reads as wide-reads
+use Rattle.supplier.proofs.quoted.wide.Reads as wide-reads
 use mathlib.Core.Path.{_≡_, refl, sym, ap, _∙_}
 use Prim.Native.Nat.{_+_, _-_, _≤_}
 use native.Mathlib.Omega.{arith}
@@ -14,42 +14,42 @@ use Rattle.supplier.specs.ScopeLaws.{Own, kept-set}
 use Rattle.supplier.specs.BoundLaws.{numbered-none, numbered-more, numbered-end}
 
 abbrev Inv-loop : tie.InvT-loop
-Inv-loop variables₀ top n first k₀ variables k =
-    (k ≤ n) × (length variables ≡ length variables₀) × Kept top variables₀ variables × Own variables top (numbers first k)
+Inv-loop bound₀ top n first k₀ bound k =
+    (k ≤ n) × (length bound ≡ length bound₀) × Kept top bound₀ bound × Own bound top (numbers first k)
 
 abbrev μ-loop : tie.MeasureT-loop
-μ-loop variables₀ top n first k₀ variables k =
+μ-loop bound₀ top n first k₀ bound k =
     n - k
 
 -- src/term.rt:85:5
 loop-holds : tie.Need-loop-holds Inv-loop μ-loop
 loop-holds c =
-    (omega arith, refl, (λ k l. refl), numbered-none (c .before .args .first) (c .before .args .top) (c .before .args .variables .now))
+    (omega arith, refl, (λ k l. refl), numbered-none (c .before .args .first) (c .before .args .top) (c .before .args .bound .now))
 
--- src/term.rt:86:30
+-- src/term.rt:86:26
 wide-requires : tie.Need-wide-requires Inv-loop μ-loop
 wide-requires c κs =
     search needs
 
--- src/term.rt:86:30
-add-variables : tie.Need-add-variables Inv-loop μ-loop
-add-variables c =
-    omega (arith, c .before .loop-test .taken, c .before .before .before .before .pre .1, c .before .before .before .before .pre .0, c .before .before .before .before .good .0)
+-- src/term.rt:86:26
+add-bound : tie.Need-add-bound Inv-loop μ-loop
+add-bound c =
+    search needs
 
--- src/term.rt:86:19
-add-variables-2 : tie.Need-add-variables-2 Inv-loop μ-loop
-add-variables-2 c =
-    omega (arith, c .before .loop-test .taken, c .before .before .before .before .pre .1, c .before .before .before .before .pre .0, c .before .before .before .before .good .0, c .wide .ensures, c .before .before .before .before .fits)
-
--- src/term.rt:86:9
-mul-variables : tie.Need-mul-variables Inv-loop μ-loop
-mul-variables c =
-    omega (arith, c .before .loop-test .taken, c .before .before .before .before .pre .0, c .before .before .before .before .good .0)
+-- src/term.rt:86:15
+add-bound-2 : tie.Need-add-bound-2 Inv-loop μ-loop
+add-bound-2 c =
+    search needs
 
 -- src/term.rt:86:9
-slice-write-variables : tie.Need-slice-write-variables Inv-loop μ-loop
-slice-write-variables c =
-    omega (arith, c .before .loop-test .taken, c .before .before .before .before .pre .0, c .before .before .loop .inv .1)
+mul-bound : tie.Need-mul-bound Inv-loop μ-loop
+mul-bound c =
+    search needs
+
+-- src/term.rt:86:9
+slice-write-bound : tie.Need-slice-write-bound Inv-loop μ-loop
+slice-write-bound c =
+    search needs
 
 -- src/term.rt:87:13
 add-k : tie.Need-add-k Inv-loop μ-loop
@@ -64,7 +64,7 @@ loop-less c =
 -- src/term.rt:85:5
 loop-again : tie.Need-loop-again Inv-loop μ-loop
 loop-again c =
-    (omega arith, length-set (c .before .before .loop .variables) (c .before .before .before .before .args .top + c .before .before .loop .k) (c .wide .result + c .before .before .loop .k) ∙ c .before .before .loop .inv .1, kept-set (c .before .before .before .before .args .top) (c .before .before .loop .k) (c .wide .result + c .before .before .loop .k) (c .before .before .before .before .args .variables .now) (c .before .before .loop .variables) (c .before .before .loop .inv .2), numbered-more (c .before .before .before .before .args .first) (c .before .before .before .before .args .top) (c .before .before .loop .k) (c .before .before .loop .variables) (c .wide .result + c .before .before .loop .k) (c .before .before .loop .k + 1) (ap (λ x. x + c .before .before .loop .k) (c .wide .ensures)) refl (omega (arith, c .before .loop-test .taken, c .before .before .before .before .pre .0, c .before .before .loop .inv .1)) (c .before .before .loop .inv .3))
+    (omega arith, length-set (c .before .before .loop .bound) (c .before .before .before .before .args .top + c .before .before .loop .k) (c .wide .result + c .before .before .loop .k) ∙ c .before .before .loop .inv .1, kept-set (c .before .before .before .before .args .top) (c .before .before .loop .k) (c .wide .result + c .before .before .loop .k) (c .before .before .before .before .args .bound .now) (c .before .before .loop .bound) (c .before .before .loop .inv .2), numbered-more (c .before .before .before .before .args .first) (c .before .before .before .before .args .top) (c .before .before .loop .k) (c .before .before .loop .bound) (c .wide .result + c .before .before .loop .k) (c .before .before .loop .k + 1) (ap (λ x. x + c .before .before .loop .k) (c .wide .ensures)) refl (omega (arith, c .before .loop-test .taken, c .before .before .before .before .pre, c .before .before .loop .inv .1)) (c .before .before .loop .inv .3))
 
 -- src/term.rt:79:1
 same-length : tie.Need-same-length Inv-loop μ-loop
@@ -74,7 +74,7 @@ same-length c =
 -- src/term.rt:79:1
 returns : tie.Need-returns Inv-loop μ-loop
 returns c =
-    (numbered-end (c .before .before .before .args .first) (c .before .before .before .args .top) (c .before .before .before .args .n) (c .before .loop .k) (c .before .before .before .args .variables .now) (c .before .loop .variables) (omega (arith, c .loop-test .left, c .before .loop .inv .0)) (c .before .loop .inv .2) (c .before .loop .inv .3), c .before .loop .inv .2)
+    (numbered-end (c .before .before .before .args .first) (c .before .before .before .args .top) (c .before .before .before .args .n) (c .before .loop .k) (c .before .before .before .args .bound .now) (c .before .loop .bound) (omega (arith, c .loop-test .left, c .before .loop .inv .0)) (c .before .loop .inv .2) (c .before .loop .inv .3), c .before .loop .inv .2)
 
 pub number-spec : {M : Type 1} → statement M
 number-spec =
@@ -84,10 +84,10 @@ number-spec =
     μ-loop
     loop-holds
     wide-requires
-    add-variables
-    add-variables-2
-    mul-variables
-    slice-write-variables
+    add-bound
+    add-bound-2
+    mul-bound
+    slice-write-bound
     add-k
     loop-less
     loop-again

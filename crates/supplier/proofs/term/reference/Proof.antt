@@ -6,7 +6,7 @@ use Rattle.supplier.proofs.term.reference.Lts as lts
 use Rattle.supplier.proofs.names.same_name.Reads as same-name-reads
 use Rattle.supplier.proofs.scope.innermost.Reads as innermost-reads
 use Rattle.supplier.proofs.scope.wide.Reads as scope-wide-reads
-use Rattle.supplier.proofs.term.wide.Reads as term-wide-reads
+use Rattle.supplier.proofs.quoted.wide.Reads as term-wide-reads
 use mathlib.Core.Path.{_≡_, refl, sym, ap, subst, _∙_}
 use native.Mathlib.Omega.{arith}
 use lib.ListN.{getD}
@@ -43,9 +43,9 @@ innermost-requires c κs =
 -- src/term.rt:58:13
 returns-2 : tie.Need-returns-2
 returns-2 c =
-    (omega arith, λ t r g w. not-so _ (λ h. c .if3 .taken (bound-first (c .before .before .before .before .before .before .before .before .before .before .before .before .before .args .words .now) (c .before .before .before .before .before .before .before .before .before .before .before .before .before .args .theirs .now) (c .before .before .before .before .before .before .before .before .before .before .before .before .before .args .ours .now) (c .before .before .before .before .before .before .before .before .before .before .before .before .before .args .operations .now) (c .before .before .before .before .before .before .before .before .before .before .before .before .before .args .names .now) (c .before .before .before .before .before .before .before .before .before .before .before .before .before .args .variables .now) (c .before .before .before .before .before .before .before .before .before .before .before .before .before .args .top) (c .before .before .before .before .before .before .before .before .before .before .before .before .before .args .n) t r g w (c .before .before .innermost .result) (c .before .before .innermost .ensures) (c .before .if2 .taken) h .0)))
+    (omega arith, λ t r g w. not-so _ (λ h. c .if3 .taken (bound-first (c .before .before .before .before .before .before .before .before .before .before .before .before .before .args .words .now) (c .before .before .before .before .before .before .before .before .before .before .before .before .before .args .theirs .now) (c .before .before .before .before .before .before .before .before .before .before .before .before .before .args .ours .now) (c .before .before .before .before .before .before .before .before .before .before .before .before .before .args .operations .now) (c .before .before .before .before .before .before .before .before .before .before .before .before .before .args .names .now) (c .before .before .before .before .before .before .before .before .before .before .before .before .before .args .bound .now) (c .before .before .before .before .before .before .before .before .before .before .before .before .before .args .top) (c .before .before .before .before .before .before .before .before .before .before .before .before .before .args .n) t r g w (c .before .before .innermost .result) (c .before .before .innermost .ensures) (c .before .if2 .taken) h .0)))
 
--- src/term.rt:60:32
+-- src/term.rt:60:28
 sub-if4 : tie.Need-sub-if4
 sub-if4 c =
     omega (arith, c .before .if2 .taken)
@@ -63,22 +63,22 @@ shared-slice-read-if4 c =
 -- src/term.rt:61:13
 returns-3 : tie.Need-returns-3
 returns-3 c =
-    (omega arith, λ t r g w. not-so _ (λ h. c .if4 .taken (c .before .before .before .before .before .wide .ensures ∙ bound-first (c .before .before .before .before .before .before .before .before .before .before .before .before .before .before .before .args .words .now) (c .before .before .before .before .before .before .before .before .before .before .before .before .before .before .before .args .theirs .now) (c .before .before .before .before .before .before .before .before .before .before .before .before .before .before .before .args .ours .now) (c .before .before .before .before .before .before .before .before .before .before .before .before .before .before .before .args .operations .now) (c .before .before .before .before .before .before .before .before .before .before .before .before .before .before .before .args .names .now) (c .before .before .before .before .before .before .before .before .before .before .before .before .before .before .before .args .variables .now) (c .before .before .before .before .before .before .before .before .before .before .before .before .before .before .before .args .top) (c .before .before .before .before .before .before .before .before .before .before .before .before .before .before .before .args .n) t r g w (c .before .before .before .before .innermost .result) (c .before .before .before .before .innermost .ensures) (c .before .before .before .if2 .taken) h .1)))
+    (omega arith, λ t r g w. not-so _ (λ h. c .if4 .taken (c .before .before .before .before .before .wide .ensures ∙ bound-first (c .before .before .before .before .before .before .before .before .before .before .before .before .before .before .before .args .words .now) (c .before .before .before .before .before .before .before .before .before .before .before .before .before .before .before .args .theirs .now) (c .before .before .before .before .before .before .before .before .before .before .before .before .before .before .before .args .ours .now) (c .before .before .before .before .before .before .before .before .before .before .before .before .before .before .before .args .operations .now) (c .before .before .before .before .before .before .before .before .before .before .before .before .before .before .before .args .names .now) (c .before .before .before .before .before .before .before .before .before .before .before .before .before .before .before .args .bound .now) (c .before .before .before .before .before .before .before .before .before .before .before .before .before .before .before .args .top) (c .before .before .before .before .before .before .before .before .before .before .before .before .before .before .before .args .n) t r g w (c .before .before .before .before .innermost .result) (c .before .before .before .before .innermost .ensures) (c .before .before .before .if2 .taken) h .1)))
 
 -- src/term.rt:63:9
 returns-4 : tie.Need-returns-4
 returns-4 c =
-    (omega (arith, c .before .before .before .before .before .before .before .before .if1 .left), λ t r g w. bound-right (c .before .before .before .before .before .before .before .before .before .before .before .before .before .before .before .args .words .now) (c .before .before .before .before .before .before .before .before .before .before .before .before .before .before .before .args .theirs .now) (c .before .before .before .before .before .before .before .before .before .before .before .before .before .before .before .args .ours .now) (c .before .before .before .before .before .before .before .before .before .before .before .before .before .before .before .args .operations .now) (c .before .before .before .before .before .before .before .before .before .before .before .before .before .before .before .args .names .now) (c .before .before .before .before .before .before .before .before .before .before .before .before .before .before .before .args .variables .now) (c .before .before .before .before .before .before .before .before .before .before .before .before .before .before .before .args .top) (c .before .before .before .before .before .before .before .before .before .before .before .before .before .before .before .args .n) t r g w (c .before .before .before .before .innermost .result) (c .before .before .before .before .innermost .ensures) (c .before .before .before .if2 .taken) (c .before .before .if3 .left) (sym (c .before .before .before .before .before .wide .ensures) ∙ c .if4 .left))
+    (omega (arith, c .before .before .before .before .before .before .before .before .if1 .left), λ t r g w. bound-right (c .before .before .before .before .before .before .before .before .before .before .before .before .before .before .before .args .words .now) (c .before .before .before .before .before .before .before .before .before .before .before .before .before .before .before .args .theirs .now) (c .before .before .before .before .before .before .before .before .before .before .before .before .before .before .before .args .ours .now) (c .before .before .before .before .before .before .before .before .before .before .before .before .before .before .before .args .operations .now) (c .before .before .before .before .before .before .before .before .before .before .before .before .before .before .before .args .names .now) (c .before .before .before .before .before .before .before .before .before .before .before .before .before .before .before .args .bound .now) (c .before .before .before .before .before .before .before .before .before .before .before .before .before .before .before .args .top) (c .before .before .before .before .before .before .before .before .before .before .before .before .before .before .before .args .n) t r g w (c .before .before .before .before .innermost .result) (c .before .before .before .before .innermost .ensures) (c .before .before .before .if2 .taken) (c .before .before .if3 .left) (sym (c .before .before .before .before .before .wide .ensures) ∙ c .if4 .left))
 
 -- src/term.rt:66:9
 returns-5 : tie.Need-returns-5
 returns-5 c =
-    (omega arith, λ t r g w. not-so _ (λ h. c .if5 .taken (free-first (c .before .before .before .before .before .before .before .before .before .before .before .before .before .args .words .now) (c .before .before .before .before .before .before .before .before .before .before .before .before .before .args .theirs .now) (c .before .before .before .before .before .before .before .before .before .before .before .before .before .args .ours .now) (c .before .before .before .before .before .before .before .before .before .before .before .before .before .args .operations .now) (c .before .before .before .before .before .before .before .before .before .before .before .before .before .args .names .now) (c .before .before .before .before .before .before .before .before .before .before .before .before .before .args .variables .now) (c .before .before .before .before .before .before .before .before .before .before .before .before .before .args .top) (c .before .before .before .before .before .before .before .before .before .before .before .before .before .args .n) t r g w (sym (c .before .if2 .left) ∙ c .before .before .innermost .ensures) h)))
+    (omega arith, λ t r g w. not-so _ (λ h. c .if5 .taken (free-first (c .before .before .before .before .before .before .before .before .before .before .before .before .before .args .words .now) (c .before .before .before .before .before .before .before .before .before .before .before .before .before .args .theirs .now) (c .before .before .before .before .before .before .before .before .before .before .before .before .before .args .ours .now) (c .before .before .before .before .before .before .before .before .before .before .before .before .before .args .operations .now) (c .before .before .before .before .before .before .before .before .before .before .before .before .before .args .names .now) (c .before .before .before .before .before .before .before .before .before .before .before .before .before .args .bound .now) (c .before .before .before .before .before .before .before .before .before .before .before .before .before .args .top) (c .before .before .before .before .before .before .before .before .before .before .before .before .before .args .n) t r g w (sym (c .before .if2 .left) ∙ c .before .before .innermost .ensures) h)))
 
 -- src/term.rt:70:9
 returns-6 : tie.Need-returns-6
 returns-6 c =
-    (omega arith, λ t r g w. absurd (omega (arith, c .if6 .taken, free-below (c .before .before .before .before .before .before .before .before .before .before .before .before .before .before .args .words .now) (c .before .before .before .before .before .before .before .before .before .before .before .before .before .before .args .theirs .now) (c .before .before .before .before .before .before .before .before .before .before .before .before .before .before .args .ours .now) (c .before .before .before .before .before .before .before .before .before .before .before .before .before .before .args .operations .now) (c .before .before .before .before .before .before .before .before .before .before .before .before .before .before .args .names .now) (c .before .before .before .before .before .before .before .before .before .before .before .before .before .before .args .variables .now) (c .before .before .before .before .before .before .before .before .before .before .before .before .before .before .args .top) (c .before .before .before .before .before .before .before .before .before .before .before .before .before .before .args .n) t r g w (sym (c .before .before .if2 .left) ∙ c .before .before .before .innermost .ensures) (c .before .before .before .before .wide .result) (c .before .if5 .left) (sym (c .before .before .before .before .wide .ensures)))))
+    (omega arith, λ t r g w. absurd (omega (arith, c .if6 .taken, free-below (c .before .before .before .before .before .before .before .before .before .before .before .before .before .before .args .words .now) (c .before .before .before .before .before .before .before .before .before .before .before .before .before .before .args .theirs .now) (c .before .before .before .before .before .before .before .before .before .before .before .before .before .before .args .ours .now) (c .before .before .before .before .before .before .before .before .before .before .before .before .before .before .args .operations .now) (c .before .before .before .before .before .before .before .before .before .before .before .before .before .before .args .names .now) (c .before .before .before .before .before .before .before .before .before .before .before .before .before .before .args .bound .now) (c .before .before .before .before .before .before .before .before .before .before .before .before .before .before .args .top) (c .before .before .before .before .before .before .before .before .before .before .before .before .before .before .args .n) t r g w (sym (c .before .before .if2 .left) ∙ c .before .before .before .innermost .ensures) (c .before .before .before .before .wide .result) (c .before .if5 .left) (sym (c .before .before .before .before .wide .ensures)))))
 
 -- src/term.rt:72:54
 mul-wide : tie.Need-mul-wide
@@ -103,12 +103,12 @@ same-name-requires c κs =
 -- src/term.rt:73:9
 returns-7 : tie.Need-returns-7
 returns-7 c =
-    (omega (arith, c .before .before .before .before .before .before .before .before .before .before .before .if1 .left), λ t r g w. (free-same (c .before .before .before .before .before .before .before .before .before .before .before .before .before .before .before .before .before .before .args .words .now) (c .before .before .before .before .before .before .before .before .before .before .before .before .before .before .before .before .before .before .args .theirs .now) (c .before .before .before .before .before .before .before .before .before .before .before .before .before .before .before .before .before .before .args .ours .now) (c .before .before .before .before .before .before .before .before .before .before .before .before .before .before .before .before .before .before .args .operations .now) (c .before .before .before .before .before .before .before .before .before .before .before .before .before .before .before .before .before .before .args .names .now) (c .before .before .before .before .before .before .before .before .before .before .before .before .before .before .before .before .before .before .args .variables .now) (c .before .before .before .before .before .before .before .before .before .before .before .before .before .before .before .before .before .before .args .top) (c .before .before .before .before .before .before .before .before .before .before .before .before .before .before .before .before .before .before .args .n) t r g w (sym (c .before .before .before .before .before .before .if2 .left) ∙ c .before .before .before .before .before .before .before .innermost .ensures) (c .before .before .before .before .before .before .before .before .wide .result) (c .before .before .before .before .before .if5 .left) (sym (c .before .before .before .before .before .before .before .before .wide .ensures)) (c .before .before .wide2 .result) (c .before .before .wide2 .ensures) ∙ sym (c .before .same-name .ensures) ∙ c .if7 .taken, sym (free-size (c .before .before .before .before .before .before .before .before .before .before .before .before .before .before .before .before .before .before .args .words .now) (c .before .before .before .before .before .before .before .before .before .before .before .before .before .before .before .before .before .before .args .theirs .now) (c .before .before .before .before .before .before .before .before .before .before .before .before .before .before .before .before .before .before .args .ours .now) (c .before .before .before .before .before .before .before .before .before .before .before .before .before .before .before .before .before .before .args .operations .now) (c .before .before .before .before .before .before .before .before .before .before .before .before .before .before .before .before .before .before .args .names .now) (c .before .before .before .before .before .before .before .before .before .before .before .before .before .before .before .before .before .before .args .variables .now) (c .before .before .before .before .before .before .before .before .before .before .before .before .before .before .before .before .before .before .args .top) (c .before .before .before .before .before .before .before .before .before .before .before .before .before .before .before .before .before .before .args .n) t r g w (sym (c .before .before .before .before .before .before .if2 .left) ∙ c .before .before .before .before .before .before .before .innermost .ensures) (c .before .before .before .before .before .before .before .before .wide .result) (c .before .before .before .before .before .if5 .left) (sym (c .before .before .before .before .before .before .before .before .wide .ensures)))))
+    (omega (arith, c .before .before .before .before .before .before .before .before .before .before .before .if1 .left), λ t r g w. (free-same (c .before .before .before .before .before .before .before .before .before .before .before .before .before .before .before .before .before .before .args .words .now) (c .before .before .before .before .before .before .before .before .before .before .before .before .before .before .before .before .before .before .args .theirs .now) (c .before .before .before .before .before .before .before .before .before .before .before .before .before .before .before .before .before .before .args .ours .now) (c .before .before .before .before .before .before .before .before .before .before .before .before .before .before .before .before .before .before .args .operations .now) (c .before .before .before .before .before .before .before .before .before .before .before .before .before .before .before .before .before .before .args .names .now) (c .before .before .before .before .before .before .before .before .before .before .before .before .before .before .before .before .before .before .args .bound .now) (c .before .before .before .before .before .before .before .before .before .before .before .before .before .before .before .before .before .before .args .top) (c .before .before .before .before .before .before .before .before .before .before .before .before .before .before .before .before .before .before .args .n) t r g w (sym (c .before .before .before .before .before .before .if2 .left) ∙ c .before .before .before .before .before .before .before .innermost .ensures) (c .before .before .before .before .before .before .before .before .wide .result) (c .before .before .before .before .before .if5 .left) (sym (c .before .before .before .before .before .before .before .before .wide .ensures)) (c .before .before .wide2 .result) (c .before .before .wide2 .ensures) ∙ sym (c .before .same-name .ensures) ∙ c .if7 .taken, sym (free-size (c .before .before .before .before .before .before .before .before .before .before .before .before .before .before .before .before .before .before .args .words .now) (c .before .before .before .before .before .before .before .before .before .before .before .before .before .before .before .before .before .before .args .theirs .now) (c .before .before .before .before .before .before .before .before .before .before .before .before .before .before .before .before .before .before .args .ours .now) (c .before .before .before .before .before .before .before .before .before .before .before .before .before .before .before .before .before .before .args .operations .now) (c .before .before .before .before .before .before .before .before .before .before .before .before .before .before .before .before .before .before .args .names .now) (c .before .before .before .before .before .before .before .before .before .before .before .before .before .before .before .before .before .before .args .bound .now) (c .before .before .before .before .before .before .before .before .before .before .before .before .before .before .before .before .before .before .args .top) (c .before .before .before .before .before .before .before .before .before .before .before .before .before .before .before .before .before .before .args .n) t r g w (sym (c .before .before .before .before .before .before .if2 .left) ∙ c .before .before .before .before .before .before .before .innermost .ensures) (c .before .before .before .before .before .before .before .before .wide .result) (c .before .before .before .before .before .if5 .left) (sym (c .before .before .before .before .before .before .before .before .wide .ensures)))))
 
 -- src/term.rt:36:1
 returns-8 : tie.Need-returns-8
 returns-8 c =
-    (omega arith, λ t r g w. free-same (c .before .before .before .before .before .before .before .before .before .before .before .before .before .before .before .before .before .before .args .words .now) (c .before .before .before .before .before .before .before .before .before .before .before .before .before .before .before .before .before .before .args .theirs .now) (c .before .before .before .before .before .before .before .before .before .before .before .before .before .before .before .before .before .before .args .ours .now) (c .before .before .before .before .before .before .before .before .before .before .before .before .before .before .before .before .before .before .args .operations .now) (c .before .before .before .before .before .before .before .before .before .before .before .before .before .before .before .before .before .before .args .names .now) (c .before .before .before .before .before .before .before .before .before .before .before .before .before .before .before .before .before .before .args .variables .now) (c .before .before .before .before .before .before .before .before .before .before .before .before .before .before .before .before .before .before .args .top) (c .before .before .before .before .before .before .before .before .before .before .before .before .before .before .before .before .before .before .args .n) t r g w (sym (c .before .before .before .before .before .before .if2 .left) ∙ c .before .before .before .before .before .before .before .innermost .ensures) (c .before .before .before .before .before .before .before .before .wide .result) (c .before .before .before .before .before .if5 .left) (sym (c .before .before .before .before .before .before .before .before .wide .ensures)) (c .before .before .wide2 .result) (c .before .before .wide2 .ensures) ∙ sym (c .before .same-name .ensures) ∙ c .if7 .left)
+    (omega arith, λ t r g w. free-same (c .before .before .before .before .before .before .before .before .before .before .before .before .before .before .before .before .before .before .args .words .now) (c .before .before .before .before .before .before .before .before .before .before .before .before .before .before .before .before .before .before .args .theirs .now) (c .before .before .before .before .before .before .before .before .before .before .before .before .before .before .before .before .before .before .args .ours .now) (c .before .before .before .before .before .before .before .before .before .before .before .before .before .before .before .before .before .before .args .operations .now) (c .before .before .before .before .before .before .before .before .before .before .before .before .before .before .before .before .before .before .args .names .now) (c .before .before .before .before .before .before .before .before .before .before .before .before .before .before .before .before .before .before .args .bound .now) (c .before .before .before .before .before .before .before .before .before .before .before .before .before .before .before .before .before .before .args .top) (c .before .before .before .before .before .before .before .before .before .before .before .before .before .before .before .before .before .before .args .n) t r g w (sym (c .before .before .before .before .before .before .if2 .left) ∙ c .before .before .before .before .before .before .before .innermost .ensures) (c .before .before .before .before .before .before .before .before .wide .result) (c .before .before .before .before .before .if5 .left) (sym (c .before .before .before .before .before .before .before .before .wide .ensures)) (c .before .before .wide2 .result) (c .before .before .wide2 .ensures) ∙ sym (c .before .same-name .ensures) ∙ c .if7 .left)
 
 pub reference-spec : {M : Type 1} → statement M
 reference-spec =
