@@ -19,3 +19,9 @@ pub mod BoundLaws
 pub mod FormsLaws
 pub mod OperandsLaws
 pub mod TermWalkLaws
+pub mod GoodLaws
+pub mod Service
+pub mod Text
+pub mod TextLaws
+pub mod ElementLaws
+pub mod ServiceLaws
