@@ -151,11 +151,11 @@ module _ (text words words′ bytes bytes′ : List ℕ) (q : Reading) (p : R.Se
         names = names-read ∙ sym (ap (λ (a : Answer Recipe). leftBy (verdictOf r) (readWords nameBytes a) bytes) is-read ∙ l (nameBytes recipe) bytes);
       })
 
-  module _ (our ours operations : List ℕ) where
+  module _ (our ours operations : List ℕ) (r : Comparison) (f : ElementRight (take (3 * i) words′) bytes′ our ours operations r) where
     abbrev spelled : List (List ℕ)
     spelled = map (nameAt ours) operations
 
-    module _ (r : Comparison) (f : ElementRight (take (3 * i) words′) bytes′ our ours operations r) (t : Plain) (g : isGoodTerm ours (length operations) t ≡ true) (w : our ≡ encode t) where
+    module _ (t : Plain) (g : isGoodTerm ours (length operations) t ≡ true) (w : our ≡ encode t) where
       element-verdict : verdictOf r ≡ held (nameAt ours) spelled t answer
       unfolding held after
       element-verdict =
@@ -165,27 +165,30 @@ module _ (text words words′ bytes bytes′ : List ℕ) (q : Reading) (p : R.Se
           ∙ sym (ap (held (nameAt ours) spelled t) is-read
           ∙ ap (λ o. decided (nameAt (nameBytes recipe)) (nameAt ours) spelled t (after o expressionOf)) (the-element text (length words) (length bytes) recipe is-read))
 
+      verdict-is : (x : Comparison) → r ≡ x → verdictOf x ≡ held (nameAt ours) spelled t answer
+      verdict-is x k = sym (ap verdictOf k) ∙ element-verdict
+
       held-zeroes : (k : ℕ) → r ≡ Refused k → zeroes k ≡ true
       unfolding held verdictOf
       held-zeroes k e =
           decided-zeroes (nameAt (nameBytes recipe)) (nameAt ours) spelled t (after (theOne (recipe .elements)) expressionOf) k
-          (sym (ap (held (nameAt ours) spelled t) is-read) ∙ sym element-verdict ∙ ap verdictOf e)
+          (sym (ap (held (nameAt ours) spelled t) is-read) ∙ sym (verdict-is (Refused k) e))
 
-    pub text-yes : ElementRight (take (3 * i) words′) bytes′ our ours operations Yes → TextRight our ours operations text words words′ bytes bytes′ Yes
+    pub text-yes : r ≡ Yes → TextRight our ours operations text words words′ bytes bytes′ Yes
     unfolding verdictOf leftBy
-    text-yes f t g w = gives-reading Yes (λ ws table. refl) _ (element-verdict Yes f t g w)
+    text-yes k t g w = gives-reading Yes (λ ws table. refl) _ (verdict-is t g w Yes k)
 
-    pub text-no : ElementRight (take (3 * i) words′) bytes′ our ours operations No → TextRight our ours operations text words words′ bytes bytes′ No
+    pub text-no : r ≡ No → TextRight our ours operations text words words′ bytes bytes′ No
     unfolding verdictOf leftBy
-    text-no f t g w = gives-reading No (λ ws table. refl) _ (element-verdict No f t g w)
+    text-no k t g w = gives-reading No (λ ws table. refl) _ (verdict-is t g w No k)
 
-    pub text-refused : (k : ℕ) → ElementRight (take (3 * i) words′) bytes′ our ours operations (Refused k) → (words″ bytes″ : List ℕ) → words″ ≡ replicate (length words) 0
-        → bytes″ ≡ replicate (length bytes) 0 → TextRight our ours operations text words words″ bytes bytes″ (Refused k)
+    pub text-refused : (ground : ℕ) → r ≡ Refused ground → (words″ bytes″ : List ℕ) → words″ ≡ replicate (length words) 0 → bytes″ ≡ replicate (length bytes) 0
+        → TextRight our ours operations text words words″ bytes bytes″ (Refused ground)
     unfolding verdictOf itemsLeft namesLeft leftBy
-    text-refused k f words″ bytes″ p q t g w =
-        subst (λ (v : Verdict). Gives v answer words words″ bytes bytes″ (Refused k)) (element-verdict (Refused k) f t g w)
-        (let z : zeroes k ≡ true = held-zeroes (Refused k) f t g w k refl in
-        record { verdict = refl; items = p ∙ rw z; names = q ∙ rw z })
+    text-refused ground k words″ bytes″ x y t g w =
+        subst (λ (v : Verdict). Gives v answer words words″ bytes bytes″ (Refused ground)) (verdict-is t g w (Refused ground) k)
+        (let z : zeroes ground ≡ true = held-zeroes t g w ground k in
+        record { verdict = refl; items = x ∙ rw z; names = y ∙ rw z })
 
 -- ---- a text that was not
 

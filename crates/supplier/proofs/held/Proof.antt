@@ -2,12 +2,11 @@
 use borrow.Author.Needs.{needs}
 use Rattle.supplier.proofs.held.Statement.{statement}
 use Rattle.supplier.proofs.held.Tie as tie
-use mathlib.Core.Path.{sym, ap, subst, _∙_}
+use mathlib.Core.Path.{sym, ap, _∙_}
 use Prim.Native.Nat.{ℕ, _*_, _≤_}
 use lib.ListN.{length, replicate}
 use lib.Seq.{length-take-le}
 use native.Mathlib.Omega.{arith}
-use Rattle.supplier.specs.Text.{ElementRight}
 use Rattle.supplier.specs.ServiceLaws.{items-within, text-held, text-few, names-slots, text-yes, text-no, text-refused, text-unread}
 
 read-elements-requires : tie.Need-read-elements-requires
@@ -32,19 +31,19 @@ decided-requires c κs =
 
 returns : tie.Need-returns
 returns c =
-    text-refused _ _ _ _ _ _ (c .before .before .before .before .before .before .before .before .before .before .before .before .before .before .before .before .before .before .before .before .before .read-elements .ensures) _ _ (c .before .before .before .before .before .before .before .before .before .before .before .before .before .before .before .i .given .1) (c .before .before .before .before .before .before .before .before .before .before .before .before .before .before .before .before .before .before .before .before .before .before .before .before .before .before .before .before .before .before .args .words .now) (c .before .before .before .before .before .before .before .before .before .before .before .before .before .before .before .before .before .before .before .before .before .before .before .before .before .before .before .before .before .before .args .ours .now) (c .before .before .before .before .before .before .before .before .before .before .before .before .before .before .before .before .before .before .before .before .before .before .before .before .before .before .before .before .before .before .args .operations .now) (c .before .before .before .before .before .before .before .before .before .answer .given .0 .0) (subst (ElementRight _ _ (c .before .before .before .before .before .before .before .before .before .before .before .before .before .before .before .before .before .before .before .before .before .before .before .before .before .before .before .before .before .before .args .words .now) (c .before .before .before .before .before .before .before .before .before .before .before .before .before .before .before .before .before .before .before .before .before .before .before .before .before .before .before .before .before .before .args .ours .now) (c .before .before .before .before .before .before .before .before .before .before .before .before .before .before .before .before .before .before .before .before .before .before .before .before .before .before .before .before .before .before .args .operations .now)) (c .before .before .before .before .before .before .before .before .before .answer .given .1) (c .before .before .before .before .before .before .before .before .before .before .before .decided .ensures)) _ _ (c .before .before .before .before .before .before .zero-words .ensures ∙ ap (λ (k : ℕ). replicate k 0) (c .before .before .before .before .before .before .before .before .before .before .before .before .before .before .before .before .before .before .before .before .before .read-elements .kept .1 .0)) (c .before .before .zero-bytes .ensures ∙ ap (λ (k : ℕ). replicate k 0) (c .before .before .before .before .before .before .before .before .before .before .before .before .before .before .before .before .before .before .before .before .before .read-elements .kept .1 .1 .0))
+    text-refused _ _ _ _ _ _ (c .before .before .before .before .before .before .before .before .before .before .before .before .before .before .before .before .before .before .before .before .before .read-elements .ensures) _ _ (c .before .before .before .before .before .before .before .before .before .before .before .before .before .before .before .i .given .1) _ _ (c .before .before .before .before .before .before .before .before .before .before .before .before .before .before .before .before .before .before .before .before .before .before .before .before .before .before .before .before .before .before .args .operations .now) _ (c .before .before .before .before .before .before .before .before .before .before .before .decided .ensures) _ (c .before .before .before .before .before .before .before .before .before .answer .given .1) _ _ (c .before .before .before .before .before .before .zero-words .ensures ∙ ap (λ (k : ℕ). replicate k 0) (c .before .before .before .before .before .before .before .before .before .before .before .before .before .before .before .before .before .before .before .before .before .read-elements .kept .1 .0)) (c .before .before .zero-bytes .ensures ∙ ap (λ (k : ℕ). replicate k 0) (c .before .before .before .before .before .before .before .before .before .before .before .before .before .before .before .before .before .before .before .before .before .read-elements .kept .1 .1 .0))
 
 returns-2 : tie.Need-returns-2
 returns-2 c =
-    text-yes _ _ _ _ _ _ (c .before .before .before .before .before .before .before .before .before .before .before .before .read-elements .ensures) _ _ (c .before .before .before .before .before .before .i .given .1) (c .before .before .before .before .before .before .before .before .before .before .before .before .before .before .before .before .before .before .before .before .before .args .words .now) (c .before .before .before .before .before .before .before .before .before .before .before .before .before .before .before .before .before .before .before .before .before .args .ours .now) (c .before .before .before .before .before .before .before .before .before .before .before .before .before .before .before .before .before .before .before .before .before .args .operations .now) (subst (ElementRight _ _ (c .before .before .before .before .before .before .before .before .before .before .before .before .before .before .before .before .before .before .before .before .before .args .words .now) (c .before .before .before .before .before .before .before .before .before .before .before .before .before .before .before .before .before .before .before .before .before .args .ours .now) (c .before .before .before .before .before .before .before .before .before .before .before .before .before .before .before .before .before .before .before .before .before .args .operations .now)) (c .enum-told .given .1) (c .before .before .decided .ensures))
+    text-yes _ _ _ _ _ _ (c .before .before .before .before .before .before .before .before .before .before .before .before .read-elements .ensures) _ _ (c .before .before .before .before .before .before .i .given .1) _ _ (c .before .before .before .before .before .before .before .before .before .before .before .before .before .before .before .before .before .before .before .before .before .args .operations .now) _ (c .before .before .decided .ensures) (c .enum-told .given .1)
 
 returns-3 : tie.Need-returns-3
 returns-3 c =
-    text-no _ _ _ _ _ _ (c .before .before .before .before .before .before .before .before .before .before .before .before .read-elements .ensures) _ _ (c .before .before .before .before .before .before .i .given .1) (c .before .before .before .before .before .before .before .before .before .before .before .before .before .before .before .before .before .before .before .before .before .args .words .now) (c .before .before .before .before .before .before .before .before .before .before .before .before .before .before .before .before .before .before .before .before .before .args .ours .now) (c .before .before .before .before .before .before .before .before .before .before .before .before .before .before .before .before .before .before .before .before .before .args .operations .now) (subst (ElementRight _ _ (c .before .before .before .before .before .before .before .before .before .before .before .before .before .before .before .before .before .before .before .before .before .args .words .now) (c .before .before .before .before .before .before .before .before .before .before .before .before .before .before .before .before .before .before .before .before .before .args .ours .now) (c .before .before .before .before .before .before .before .before .before .before .before .before .before .before .before .before .before .before .before .before .before .args .operations .now)) (c .enum-told2 .given .1) (c .before .before .decided .ensures))
+    text-no _ _ _ _ _ _ (c .before .before .before .before .before .before .before .before .before .before .before .before .read-elements .ensures) _ _ (c .before .before .before .before .before .before .i .given .1) _ _ (c .before .before .before .before .before .before .before .before .before .before .before .before .before .before .before .before .before .before .before .before .before .args .operations .now) _ (c .before .before .decided .ensures) (c .enum-told2 .given .1)
 
 returns-4 : tie.Need-returns-4
 returns-4 c =
-    text-unread _ _ _ _ _ _ (c .before .before .before .before .before .before .before .read-elements .ensures) _ (c .before .ground .given .1) (c .before .before .before .before .before .before .before .before .before .before .before .before .before .before .before .before .args .words .now) (c .before .before .before .before .before .before .before .before .before .before .before .before .before .before .before .before .args .ours .now) (c .before .before .before .before .before .before .before .before .before .before .before .before .before .before .before .before .args .operations .now)
+    text-unread _ _ _ _ _ _ (c .before .before .before .before .before .before .before .read-elements .ensures) _ (c .before .ground .given .1) _ _ (c .before .before .before .before .before .before .before .before .before .before .before .before .before .before .before .before .args .operations .now)
 
 pub held-spec : {M : Type 1} → statement M
 held-spec =
