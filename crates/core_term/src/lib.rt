@@ -12,6 +12,7 @@ ghost use Rattle.datum.specs.NameTable.{hasName};
 ghost use Rattle.core_term.specs.Check.{isTerm, small};
 ghost use Rattle.core_term.specs.Window.{goodName};
 ghost use Rattle.core_term.specs.Windows.{noFlags};
+use head::name_good;
 use term::Checked;
 use term::term;
 use words::OPERATIONS;
@@ -73,6 +74,13 @@ fn holds(words: &[u32], operations: u32, names: &[u8], tabled: bool) -> bool
     }
     let mut flags = [0u8; WINDOW];
     every_window(words, operations, names, tabled, &mut flags)
+}
+
+// Name n is below 1,024, and its slot is in the lent table with length 1 to 63.
+pub fn has_name(names: &[u8], n: usize) -> bool
+    ensures { λ r. ⌜ r ≡ hasName (now (names .entry)) n ⌝ }
+{
+    name_good(n, names, true)
 }
 
 // Ground 19 has no objection, with names as in the lent table.

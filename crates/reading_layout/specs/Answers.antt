@@ -1,4 +1,4 @@
--- The bounds of an answer: names of at most 63 bytes, so that their slots are 64 bytes each, and grounds of at most 6.
+-- The bounds of an answer: names of at most 63 bytes, so that their slots are 64 bytes each, and grounds of 1 to 6.
 use mathlib.Core.Path.{_≡_, refl, subst}
 use mathlib.Core.Bool.{Bool, true, false, _||_, not}
 use mathlib.Core.List.{List, [], _∷_, map}
@@ -18,6 +18,7 @@ use Rattle.reading.specs.Meaning.{Meaning, begins, ends, constant, name, refuse
 use Rattle.reading.specs.Numbering.{baseNames, numberOf, withName}
 use Rattle.reading.specs.Elements.{Answer, got, refusedFor, then, Reading, start, isComplete, counted, put, named, opened, closed, isWithin, begin, takes, takesAll}
 use Rattle.reading.specs.Read.{Recipe, finished, recipeOver, elementsOf, readElements, read, nameBytes}
+use Rattle.reading.specs.Laws.Grounds.{ground-high}
 
 -- a name or ground of a meaning, the names or the ground of an answer
 abbrev Short : Meaning → Type 0
@@ -129,6 +130,24 @@ names-short wanted text items names r e = subst ShortRecipe e (elements-read-sho
 
 pub elements-ground : (wanted : ℕ) (text : List ℕ) (items names : ℕ) (g : ℕ) → readElements wanted text items names ≡ refusedFor g → g ≤ 6
 elements-ground wanted text items names g e = subst ShortRecipe e (elements-read-short wanted text items names)
+
+-- a ground is not 0, by which a call is accepted
+abbrev SomeAnswer : Answer Recipe → Type 0
+SomeAnswer (got r) = 0 ≤ 0
+SomeAnswer (refusedFor g) = 1 ≤ g
+
+elements-some : (wanted : ℕ) (text : List ℕ) (items names : ℕ) → SomeAnswer (readElements wanted text items names)
+unfolding readElements
+elements-some wanted text items names =
+    either (ltb items itemWordsLeast || ltb names nameBytesLeast) (λ e. rw e (omega arith))
+    (λ e. either (ltb textBytesMost (length text)) (λ l. rw (e, l) (omega arith)) (λ l. rw (e, l) (later (elementsOf wanted text) refl)))
+  where
+    later : (a : Answer Recipe) → elementsOf wanted text ≡ a → SomeAnswer a
+    later (got r) e = omega arith
+    later (refusedFor g) e = omega (arith, ground-high wanted text g e)
+
+pub ground-some : (wanted : ℕ) (text : List ℕ) (items names : ℕ) (g : ℕ) → readElements wanted text items names ≡ refusedFor g → 1 ≤ g
+ground-some wanted text items names g e = subst SomeAnswer e (elements-some wanted text items names)
 
 read-short : (text : List ℕ) (items names : ℕ) → ShortRecipe (read text items names)
 unfolding read

@@ -15,3 +15,13 @@ pub mod QuotedLaws
 pub mod DataLaws
 pub mod Terms
 pub mod TermsLaws
+pub mod GoodLaws
+pub mod TextLaws
+pub mod Service
+pub mod Text
+pub mod ElementLaws
+pub mod ServiceLaws
+pub mod BoundLaws
+pub mod FormsLaws
+pub mod OperandsLaws
+pub mod TermWalkLaws

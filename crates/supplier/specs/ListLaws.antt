@@ -50,7 +50,7 @@ cond-same : {A : Type 0} {x : A} (b : Bool) → cond b x x ≡ x
 cond-same true = refl
 cond-same false = refl
 
-unfoldable size : Expressions → ℕ
+unfoldable pub size : Expressions → ℕ
 size noneE = 0
 size (moreE x xs) = suc (size xs)
 
@@ -62,10 +62,10 @@ three-is (moreE x (moreE y noneE)) = refl
 three-is (moreE x (moreE y (moreE z noneE))) = refl
 three-is (moreE x (moreE y (moreE z (moreE w xs)))) = sym (ne-eqb (suc (suc (suc (suc (size xs))))) 3 (λ e. omega arith))
 
-none-some : {A X : Type 0} {x : X} → _≡_ {A = Option X} none (some x) → A
+pub none-some : {A X : Type 0} {x : X} → _≡_ {A = Option X} none (some x) → A
 none-some {A} {X} {x} e = let z : _≡_ {A = ℕ} 0 1 = ap (λ (o : Option X). elim o [ none ↦ 0 | some k ↦ 1 ]) e in absurd (omega arith)
 
-some-is : {X : Type 0} {x y : X} → _≡_ {A = Option X} (some x) (some y) → x ≡ y
+pub some-is : {X : Type 0} {x y : X} → _≡_ {A = Option X} (some x) (some y) → x ≡ y
 some-is {X} {x} e = ap (λ (o : Option X). elim o [ none ↦ x | some k ↦ k ]) e
 
 -- as many expressions as elements
@@ -76,7 +76,7 @@ size-by none b k xs h f = none-some f
 size-by (some x) none k xs h f = none-some f
 size-by (some x) (some ys) k xs h f = ap size (sym (some-is f)) ∙ ap suc (h ys refl)
 
-size-is : (ds : Data) (xs : Expressions) → expressionsOf ds ≡ some xs → size xs ≡ D.count ds
+pub size-is : (ds : Data) (xs : Expressions) → expressionsOf ds ≡ some xs → size xs ≡ D.count ds
 unfolding expressionsOf size D.count
 size-is noneD xs e = ap size (sym (some-is e))
 size-is (moreD d ds) xs e = size-by (expressionOf d) (expressionsOf ds) (D.count ds) xs (size-is ds) e

@@ -4,17 +4,17 @@ use mathlib.Core.Bool.{Bool, true, false, _&&_}
 use mathlib.Core.List.{List, [], _∷_, _++_}
 use Prim.Native.Nat.{ℕ, suc, _+_, _*_, _≤_, _<_}
 use native.Mathlib.Omega.{arith}
-use lib.Dec.{eqb, ltb, leb}
+use lib.Dec.{eqb}
 use lib.ListN.{length, getD, drop, length-append}
-use borrow.Author.Tests.{eqb-true, eqb-false, leb-true}
+use borrow.Author.Tests.{eqb-true, eqb-false}
 use Rattle.words.specs.Limits.{nameLengthMost, slotSize}
 use Rattle.words.specs.Lists.{within, equal}
-use Rattle.words.specs.TestLaws.{and-left, and-right, and-both, within-most}
+use Rattle.words.specs.TestLaws.{and-left, and-right, and-both}
 use Rattle.words.specs.ListLaws.{never}
 use Rattle.datum.specs.Constant.{Constant, isConstant, constantWords}
 use Rattle.datum.specs.ConstantLaws.{words-decimal, words-other, words-few}
 use Rattle.datum.specs.Datum.{Datum, constantD, nameD, listD, Data, noneD, moreD}
-use Rattle.datum.specs.NameTable.{nameAt, lengthAt, hasName}
+use Rattle.datum.specs.NameTable.{nameAt}
 use Rattle.core_term.specs.Node.{isNode, nodeWords}
 use Rattle.core_term.specs.Term.{variableC, operationC, datumC, ifC, lambdaC, applicationC, Plain}
 use Rattle.core_term.specs.Words.{datumWords, dataWords, encode}
@@ -26,6 +26,7 @@ use Rattle.comparison.specs.RenderingLaws.{constant-self}
 use Rattle.supplier.specs.declared.quoted.Agreed.{Agreed}
 use Rattle.supplier.specs.declared.quoted.Agreed.the-variants.{Words, No}
 use Rattle.supplier.specs.Names.{Slot}
+use Rattle.supplier.specs.NamesLaws.{has-slot}
 use Rattle.supplier.specs.Quoted.{isGood, areGood, Right}
 
 -- ---- what a test that does not pass is
@@ -82,11 +83,8 @@ module _ (ours : List ℕ) (words : List ℕ) (e : Datum) (rest : List ℕ) (g :
   -- ---- names
 
   pub good-slot : (m : ℕ) → e ≡ nameD m → Slot ours m
-  unfolding isGood hasName
-  good-slot m q =
-      let h : hasName ours m ≡ true = subst (λ x. isGood ours x ≡ true) q g in
-      let k = and-right (ltb m 1024) _ h in
-      (omega (arith, leb-true (64 * suc m) (length ours) (and-left (leb (64 * suc m) (length ours)) _ k)), within-most 1 63 (lengthAt ours m) (and-right (leb (64 * suc m) (length ours)) _ k))
+  unfolding isGood
+  good-slot m q = has-slot ours m (subst (λ x. isGood ours x ≡ true) q g)
 
   pub name-is : (m : ℕ) → 2 ≤ length words → getD words 0 0 ≡ 4 → getD words 1 0 ≡ m → e ≡ nameD m
   unfolding datumWords nodeWords everyDatum proper isNode

@@ -1,13 +1,13 @@
 -- Laws of expressions against words: names.
 use mathlib.Core.Path.{_≡_, refl, sym, ap, subst, _∙_}
-use mathlib.Core.Bool.{Bool, true, false, _&&_, cond}
+use mathlib.Core.Bool.{Bool, true, false, _&&_}
 use mathlib.Core.List.{List, [], _∷_, _++_, map}
-use mathlib.Core.Option.{Option, none, some}
+use mathlib.Core.Option.{none, some}
 use Prim.Native.Nat.{ℕ, zero, suc, _+_, _-_, _≤_, _<_}
 use native.Mathlib.Omega.{arith}
-use lib.Dec.{eqb, ltb, leb}
+use lib.Dec.{eqb, leb}
 use lib.ListN.{length, getD, drop, length-append}
-use borrow.Author.Tests.{eqb-true, eqb-false, eq-eqb, ltb-true}
+use borrow.Author.Tests.{eqb-true, eq-eqb, ltb-true}
 use Rattle.words.specs.Lists.{equal}
 use Rattle.words.specs.TestLaws.{and-left, and-right, and-both}
 use Rattle.words.specs.ListLaws.{never}
@@ -15,12 +15,12 @@ use Rattle.datum.specs.NameTable.{nameAt}
 use Rattle.core_term.specs.Node.{nodeWords, isNode}
 use Rattle.core_term.specs.Term.{variableC, operationC, datumC, ifC, lambdaC, applicationC, noneC, moreC, Plain, Plains, variables}
 use Rattle.core_term.specs.Words.{encode}
-use Rattle.core_term.specs.Every.{every, everyTerm, everyDatum, proper}
+use Rattle.core_term.specs.Every.{every, everyTerm, proper}
 use Rattle.core_term.specs.DecodeLaws.{encode-unique}
 use Rattle.core_term.specs.PartsLaws.{encode-two}
 use Rattle.comparison.specs.BindersLaws.{either}
-use Rattle.comparison.specs.Agrees.{Scope, meant, onVariable, onOperation, sameName}
-use Rattle.supplier.specs.declared.quoted.Agreed.the-variants.{Words, No}
+use Rattle.comparison.specs.Agrees.{meant, onVariable, onOperation, sameName}
+use Rattle.supplier.specs.declared.quoted.Agreed.the-variants.{Words}
 use Rattle.supplier.specs.Scope.{innermost}
 use Rattle.supplier.specs.Quoted.{Right}
 use Rattle.supplier.specs.QuotedLaws.{two-words, good-proper}

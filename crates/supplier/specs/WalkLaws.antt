@@ -43,18 +43,19 @@ form-most (listD ds) = omega arith
 
 -- ---- a list by its head
 
+module _ (ws : List ℕ) (i : ℕ) (d : Datum) (l : ListAt ws i d) where
+  pub list-whole : d ≡ listD (moreD (l .pair .first) (l .pair .rest))
+  list-whole = l .isList ∙ ap listD (l .pair .is)
+
+  pub list-headed : (m : ℕ) → formOf (l .pair .first) ≡ m → m < 3 → d ≡ listD (moreD (nameD m) (l .pair .rest))
+  list-headed m e h = list-whole ∙ ap (λ x. listD (moreD x (l .pair .rest))) (form-name (l .pair .first) m e h)
+
 module _ (isOperation : ℕ → Bool) (round : List ℕ) (ws : List ℕ) (i : ℕ) (d : Datum) (l : ListAt ws i d) where
-  whole : d ≡ listD (moreD (l .pair .first) (l .pair .rest))
-  whole = l .isList ∙ ap listD (l .pair .is)
-
-  headed : (m : ℕ) → formOf (l .pair .first) ≡ m → m < 3 → d ≡ listD (moreD (nameD m) (l .pair .rest))
-  headed m e h = whole ∙ ap (λ x. listD (moreD x (l .pair .rest))) (form-name (l .pair .first) m e h)
-
   pub list-quote : formOf (l .pair .first) ≡ 0 → judge isOperation round (expressionOf d) ≡ cond (quotes (l .pair .rest)) Closed Outside
-  list-quote e = ap (λ x. judge isOperation round (expressionOf x)) (headed 0 e (omega arith)) ∙ judge-quote isOperation round (l .pair .rest)
+  list-quote e = ap (λ x. judge isOperation round (expressionOf x)) (list-headed ws i d l 0 e (omega arith)) ∙ judge-quote isOperation round (l .pair .rest)
 
   if-is : formOf (l .pair .first) ≡ 1 → judge isOperation round (expressionOf d) ≡ cond (isThreeData (l .pair .rest)) (judgeAll isOperation round (expressionsOf (l .pair .rest))) Outside
-  if-is e = ap (λ x. judge isOperation round (expressionOf x)) (headed 1 e (omega arith)) ∙ judge-if isOperation round (l .pair .rest)
+  if-is e = ap (λ x. judge isOperation round (expressionOf x)) (list-headed ws i d l 1 e (omega arith)) ∙ judge-if isOperation round (l .pair .rest)
 
   pub list-if : formOf (l .pair .first) ≡ 1 → D.count (l .pair .rest) ≡ 3 → judge isOperation round (expressionOf d) ≡ judgeAll isOperation round (expressionsOf (l .pair .rest))
   unfolding isThreeData
@@ -65,13 +66,13 @@ module _ (isOperation : ℕ → Bool) (round : List ℕ) (ws : List ℕ) (i : �
   list-if-not e c = if-is e ∙ rw (ne-eqb (D.count (l .pair .rest)) 3 c)
 
   pub list-lambda : formOf (l .pair .first) ≡ 2 → judge isOperation round (expressionOf d) ≡ judge isOperation round (lambdaOf (l .pair .rest))
-  list-lambda e = ap (λ x. judge isOperation round (expressionOf x)) (headed 2 e (omega arith)) ∙ judge-lambda isOperation round (l .pair .rest)
+  list-lambda e = ap (λ x. judge isOperation round (expressionOf x)) (list-headed ws i d l 2 e (omega arith)) ∙ judge-lambda isOperation round (l .pair .rest)
 
   pub list-other : (m : ℕ) → m ≡ formOf (l .pair .first) → (m ≡ 0 → ⊥) → (m ≡ 1 → ⊥) → (m ≡ 2 → ⊥)
       → judge isOperation round (expressionOf d) ≡ judgeAll isOperation round (expressionsOf (l .elements))
   list-other m e f g h =
       let n : formOf (l .pair .first) ≡ 3 = omega (arith, e, f, g, h, form-most (l .pair .first)) in
-      ap (λ x. judge isOperation round (expressionOf x)) whole ∙ judge-application isOperation round (l .pair .first) (l .pair .rest) n
+      ap (λ x. judge isOperation round (expressionOf x)) (list-whole ws i d l) ∙ judge-application isOperation round (l .pair .first) (l .pair .rest) n
       ∙ ap (λ x. judgeAll isOperation round (expressionsOf x)) (sym (l .pair .is))
 
 -- ---- formals and body

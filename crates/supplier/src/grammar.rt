@@ -126,7 +126,7 @@ pub fn formals(items: &[u32], i: usize, scope: &mut [u16], top: usize) -> Bound
 }
 
 // The form that an item heads: quote 0, if 1, lambda 2; 3 where it is none of them.
-fn form(items: &[u32], i: usize) -> usize
+pub fn form(items: &[u32], i: usize) -> usize
     requires { ⌜ Held (now items) i ⌝ }
     ensures { λ r. ⌜ ((d : Datum) → DatumAt (now (items .entry)) i d → r ≡ formOf d) ⌝ }
 {

@@ -3,10 +3,11 @@ ghost use mathlib.Core.Path.{_≡_};
 ghost use mathlib.Core.List.{map};
 ghost use Prim.Native.Nat.{ℕ, _<_};
 ghost use lib.ListN.{length, getD};
-ghost use Rattle.words.specs.Lists.{anyOf, equal};
-ghost use Rattle.datum.specs.NameTable.{nameAt};
+ghost use Rattle.words.specs.Lists.{allOf, anyOf, equal};
+ghost use Rattle.datum.specs.NameTable.{nameAt, hasName};
 ghost use Rattle.supplier.specs.Names.{Slot};
 use crate::scope::wide;
+use core_term::has_name;
 use reader::names::spells;
 use words::SLOT;
 
@@ -40,4 +41,18 @@ pub fn any_name(theirs: &[u8], n: usize, ours: &[u8], numbers: &[u16]) -> bool
         k = k + 1;
     }
     false
+}
+
+// Each of these numbers is that of a name in the table.
+pub fn all_named(names: &[u8], numbers: &[u16]) -> bool
+    ensures { λ r. ⌜ r ≡ allOf (hasName (now (names .entry))) (now (numbers .entry)) ⌝ }
+{
+    let mut k = 0;
+    while k < numbers.len() {
+        if !has_name(names, wide(numbers[k])) {
+            return false;
+        }
+        k = k + 1;
+    }
+    true
 }

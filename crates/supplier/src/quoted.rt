@@ -26,7 +26,7 @@ pub enum Agreed {
     No,
 }
 
-fn wide(n: u32) -> usize
+pub fn wide(n: u32) -> usize
     ensures { λ r. ⌜ r ≡ n ⌝ }
 {
     n as usize

@@ -29,15 +29,15 @@ loop-holds c =
 
 kind-requires : tie.Need-kind-requires Inv-loop μ-loop
 kind-requires c κs =
-    words-here (c .loop .inv)
+    words-here (c .loop .inv .item)
 
 head-requires-2 : tie.Need-head-requires-2 Inv-loop μ-loop
 head-requires-2 c κs =
-    words-here (c .before .before .loop .inv)
+    words-here (c .before .before .loop .inv .item)
 
 operation-number-requires : tie.Need-operation-number-requires Inv-loop μ-loop
 operation-number-requires c κs =
-    let p = pair-here (c .before .before .before .loop .inv) (sym (c .before .before .kind .ensures) ∙ c .before .if1 .taken) in
+    let p = pair-here (c .before .before .before .loop .inv .item) (sym (c .before .before .kind .ensures) ∙ c .before .if1 .taken) in
     (c .before .before .before .before .before .before .before .pre .0, subst (λ j. j < itemCount (c .before .before .before .before .before .before .before .args .table .now)) (sym (c .head2 .ensures)) (p .headBelow))
 
 -- what is known once the number is found
@@ -102,11 +102,11 @@ slice-write-places c =
 
 tail-requires : tie.Need-tail-requires Inv-loop μ-loop
 tail-requires c κs =
-    words-here (c .before .before .before .before .before .before .before .before .loop .inv)
+    words-here (c .before .before .before .before .before .before .before .before .loop .inv .item)
 
 loop-less : tie.Need-loop-less Inv-loop μ-loop
 loop-less c =
-    let p = pair-here (c .before .before .before .before .before .before .before .before .before .loop .inv) (turn (c .before .before .before .before .before) .kind) in omega (arith, p .tailAbove, p .tailBelow, c .tail .ensures)
+    let p = pair-here (c .before .before .before .before .before .before .before .before .before .loop .inv .item) (turn (c .before .before .before .before .before) .kind) in omega (arith, p .tailAbove, p .tailBelow, c .tail .ensures)
 
 loop-again : tie.Need-loop-again Inv-loop μ-loop
 loop-again c =
