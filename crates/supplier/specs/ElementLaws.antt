@@ -1,18 +1,16 @@
 -- Laws of a text's element against our term, one for each way through the code: grounds 21 and 22, then yes or no.
 use mathlib.Core.Path.{_≡_, refl, sym, ap, _∙_}
-use mathlib.Core.Bool.{Bool, true, false, cond}
-use mathlib.Core.List.{List, [], map, append-nil}
+use mathlib.Core.Bool.{Bool, true, false}
+use mathlib.Core.List.{List, [], append-nil}
 use mathlib.Core.Option.{Option, none, some}
 use Prim.Native.Nat.{ℕ}
 use Rattle.words.specs.ListLaws.{either, never}
 use Rattle.datum.specs.Datum.{Datum}
-use Rattle.datum.specs.NameTable.{nameAt}
-use Rattle.core_term.specs.Term.{Plain}
 use Rattle.core_term.specs.Words.{encode}
 use Rattle.comparison.specs.Expression.{Expression}
 use Rattle.comparison.specs.Grammar.{expressionOf}
 use Rattle.comparison.specs.Closed.{closed}
-use Rattle.comparison.specs.Compare.{yes, no, refusedOn, decided}
+use Rattle.comparison.specs.Compare.{decided}
 use Rattle.supplier.specs.declared.grammar.Judged.{Judged}
 use Rattle.supplier.specs.declared.grammar.Judged.the-variants.{Closed, Open, Outside}
 use Rattle.supplier.specs.declared.quoted.Agreed.the-variants as A

@@ -8,7 +8,7 @@ use lib.Dec.{ltb, leb}
 use lib.ListN.{length, getD, take, drop, replicate}
 use lib.Seq.{drop-cons, getD-append-add}
 use borrow.Author.Tests.{ltb-true, ltb-false, leb-true}
-use Rattle.words.specs.Lists.{allOf, anyOf, equal}
+use Rattle.words.specs.Lists.{allOf, anyOf}
 use Rattle.words.specs.ListLaws.{either}
 use Rattle.words.specs.TestLaws.{and-left, and-right, within-most}
 use Rattle.datum.specs.NameTable.{slots, lengthAt, nameAt, hasName}

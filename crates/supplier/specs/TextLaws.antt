@@ -1,12 +1,11 @@
 -- What an accepted reading of one element gives: its element from item 1 on, and a slot for every name.
-use mathlib.Core.Path.{_≡_, refl, sym, ap, subst, fun-ext, _∙_}
-use mathlib.Core.Bool.{Bool, true}
-use mathlib.Core.List.{List, [], _∷_, _++_, append-nil}
+use mathlib.Core.Path.{_≡_, sym, ap, subst, fun-ext, _∙_}
+use mathlib.Core.Bool.{true}
+use mathlib.Core.List.{List, [], append-nil}
 use mathlib.Core.Option.{some}
 use Prim.Native.Nat.{ℕ, _+_, _*_, _-_, _≤_, _<_}
 use native.Mathlib.Omega.{arith}
-use lib.ListN.{length, getD, take, drop, replicate, length-append, length-replicate}
-use lib.Seq.{take-at}
+use lib.ListN.{length, replicate, length-append, length-replicate}
 use Rattle.words.specs.Limits.{namesMost}
 use Rattle.words.specs.Tables.{filled}
 use Rattle.words.specs.TestLaws.{and-left}
@@ -14,7 +13,7 @@ use Rattle.datum.specs.Datum.{Datum, noneD, moreD, dataItems}
 use Rattle.datum.specs.NameTable.{nameAt}
 use Rattle.datum.specs.NameTableLaws.{length-slots}
 use Rattle.reading.specs.Numbering.{baseNames, dataWords}
-use Rattle.reading.specs.Elements.{Answer, got, refusedFor}
+use Rattle.reading.specs.Elements.{got}
 use Rattle.reading.specs.Read.{Recipe, readElements, itemWords, nameBytes}
 use Rattle.reading.specs.RecipeText.{numbered, numberedAll, sizeAll}
 use Rattle.reading.specs.CoreText.{one, coreElement}
