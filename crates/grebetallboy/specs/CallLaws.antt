@@ -6,7 +6,8 @@ use Prim.Native.Nat.{ℕ, _≤_, _<_}
 use native.Mathlib.Omega.{arith}
 use lib.ListN.{length, set}
 use borrow.Author.Tests.{lt-ltb, le-ltb}
-use Rattle.reading.specs.Read.{Numbers, read, readNumbers, itemsAfter, namesAfter}
+use Rattle.reading.specs.Elements.{Answer}
+use Rattle.reading.specs.Read.{Recipe, Numbers, readNumbers, itemsAfter, namesAfter}
 use Rattle.reader.specs.declared.Reading.{Reading}
 use Rattle.reader.specs.Served as R
 use Rattle.writer.specs.declared.Writing.{Writing}
@@ -30,12 +31,9 @@ module _ (a b c : ℕ) where
   told-long (x ∷ y ∷ z ∷ t) h = rw (le-ltb (length (x ∷ y ∷ z ∷ t)) 3 h)
 
 -- reading: ground, both tables, counts; q is the answer as it was taken apart
-module _ {text words words′ bytes bytes′ counts′ : List ℕ} {r q : Reading} (counts : List ℕ) where
-  pub read-told : R.Served text words words′ bytes bytes′ r → r ≡ q → counts′ ≡ tellsRead (R.numbersOf q) counts
-      → ((R.numbersOf q) .ground ≡ (readNumbers (read text (length words) (length bytes))) .ground)
-      × (words′ ≡ itemsAfter (read text (length words) (length bytes)) words)
-      × (bytes′ ≡ namesAfter (read text (length words) (length bytes)) bytes)
-      × (counts′ ≡ tellsRead (readNumbers (read text (length words) (length bytes))) counts)
+module _ {a : Answer Recipe} {words words′ bytes bytes′ counts′ : List ℕ} {r q : Reading} (counts : List ℕ) where
+  pub read-told : R.Gives a words words′ bytes bytes′ r → r ≡ q → counts′ ≡ tellsRead (R.numbersOf q) counts
+      → ((R.numbersOf q) .ground ≡ (readNumbers a) .ground) × (words′ ≡ itemsAfter a words) × (bytes′ ≡ namesAfter a bytes) × (counts′ ≡ tellsRead (readNumbers a) counts)
   read-told served e told-counts =
       let numbers = ap R.numbersOf (sym e) ∙ served .numbers in
       (ap (λ (n : Numbers). n .ground) numbers, served .items, served .names, told-counts ∙ ap (λ n. tellsRead n counts) numbers)
