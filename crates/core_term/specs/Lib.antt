@@ -24,5 +24,7 @@ pub mod CheckLaws
 pub mod Decimal
 pub mod DecimalLaws
 pub mod Text
+pub mod OwnNames
+pub mod OwnNamesLaws
 pub mod TextRoom
 pub mod Rows
