@@ -101,7 +101,7 @@ fn write_noting(
     write_called(words, operations, names, out, &table[..count], true)
 }
 
-// Names of so many variables are noted; expansion gives no term with more.
+// Names of so many variables are noted in a table. Where a term has more, each is found in the words.
 const VARIABLES: usize = 6144;
 
 // The same where there are no more words than this.
