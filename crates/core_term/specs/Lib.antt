@@ -11,6 +11,7 @@ pub mod DecodeRound
 pub mod DecodeRead
 pub mod DecodeLaws
 pub mod Check
+pub mod Counted
 pub mod Parts
 pub mod PartsLaws
 pub mod Window
