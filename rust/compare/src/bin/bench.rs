@@ -158,7 +158,7 @@ fn numbers() {
     }
 }
 
-/// Writing alone: terms of so many variables, each used once, under lambdas inside one another. Expansion gives some 6,000 at most.
+/// Writing alone: terms of so many variables, each used once, under lambdas inside one another.
 fn variables() {
     println!("\n| variables of a term, writing alone | words | µs | ns for each |\n|---|---|---|---|");
     let names = [&[1, b't'][..], &[0; 62]].concat().repeat(1_024);
