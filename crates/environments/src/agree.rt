@@ -1,5 +1,5 @@
-// Ground 17: driving lists are of one length, anywhere in a template. In an element that gets no copies no lists are compared. The lists of an
-// ellipsis depend on the index of the ellipsis next outside it alone, so that it is enough to go through the copies there.
+// Ground 17: driving lists are of one length, anywhere in a template; in an element that gets no copies none are compared. The lists of
+// an ellipsis depend on the index of the ellipsis next outside it alone, so that it is enough to go through the copies there.
 
 ghost use mathlib.Core.Path.{_≡_};
 ghost use Prim.Native.Nat.{_<_};
