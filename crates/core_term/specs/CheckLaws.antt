@@ -16,6 +16,8 @@ use Rattle.core_term.specs.NodeLaws.{both}
 use Rattle.core_term.specs.DecodeLaws.{decode-encode, encode-decode, encode-unique}
 use Rattle.core_term.specs.Every.{every, wellFormed}
 use Rattle.core_term.specs.Check.{scoped, numbered, allKnown, passes, passing, termOf, isSome, isTerm}
+use Rattle.core_term.specs.declared.Counted.the-variants.{Variables}
+use Rattle.core_term.specs.Counted.{countedOf}
 use Rattle.core_term.specs.Window.{window}
 use Rattle.core_term.specs.WindowLaws.{case, allowed-node}
 use Rattle.core_term.specs.Shape.{Whole, None, Clear}
@@ -67,15 +69,10 @@ module _ (operations : ℕ) (nameGood : ℕ → Bool) where
 
   -- ---- whether there is one
 
-  pub isTerm-yes : (ws : List ℕ) (t : Plain) → Accepted ws t → isTerm operations nameGood ws ≡ true
-  unfolding isTerm isSome
-  isTerm-yes ws t a = rw (termOf-is ws t a)
-
-  pub isTerm-no : (ws : List ℕ) → ((t : Plain) → Accepted ws t → ⊥) → isTerm operations nameGood ws ≡ false
-  unfolding isTerm isSome
-  isTerm-no ws h = go (termOf operations nameGood ws) refl
+  pub termOf-none : (ws : List ℕ) → ((t : Plain) → Accepted ws t → ⊥) → termOf operations nameGood ws ≡ none
+  termOf-none ws h = go (termOf operations nameGood ws) refl
     where
-      go : (o : Option Plain) → termOf operations nameGood ws ≡ o → isSome o ≡ false
+      go : (o : Option Plain) → termOf operations nameGood ws ≡ o → o ≡ none
       go none e = refl
       go (some t) e = absurd (h t (accepted ws t e))
 
@@ -89,8 +86,8 @@ module _ (operations : ℕ) (nameGood : ℕ → Bool) where
 
   -- ---- from the walks
 
-  pub many-no : (ws : List ℕ) → 256 < operations → isTerm operations nameGood ws ≡ false
-  many-no ws h = isTerm-no ws (λ t a. omega (arith, a .few))
+  pub many-no : (ws : List ℕ) → 256 < operations → termOf operations nameGood ws ≡ none
+  many-no ws h = termOf-none ws (λ t a. omega (arith, a .few))
 
   module _ (span : ℕ) (ws : List ℕ) where
     -- a walk that begins with no flag set
@@ -99,15 +96,15 @@ module _ (operations : ℕ) (nameGood : ℕ → Bool) where
       clean-whole m n w = subst (λ (z : List ℕ). Whole (window operations nameGood base) false z 0 ws m n) e w
 
       -- it finds no term
-      pub none-no : None (window operations nameGood base) false flags 0 ws → isTerm operations nameGood ws ≡ false
-      none-no n = isTerm-no ws (λ t a.
+      pub none-no : None (window operations nameGood base) false flags 0 ws → termOf operations nameGood ws ≡ none
+      none-no n = termOf-none ws (λ t a.
           let p = window-passes span operations nameGood t base (a .formed) (a .closed) (a .counted) (a .known′) in
           n t [] (λ h. absurd (false≢true h)) (rw e p) (sym (a .words) ∙ sym (append-nil (encode t))))
 
     module _ (used after : ℕ) (w : Whole (window operations nameGood 0) false (noFlags span) 0 ws used after) where
       -- words left over
-      pub left-no : (used ≡ length ws → ⊥) → isTerm operations nameGood ws ≡ false
-      left-no h = isTerm-no ws (λ t a.
+      pub left-no : (used ≡ length ws → ⊥) → termOf operations nameGood ws ≡ none
+      left-no h = termOf-none ws (λ t a.
           let p = window-passes span operations nameGood t 0 (a .formed) (a .closed) (a .counted) (a .known′) in
           let z = only (window operations nameGood 0) (allowed-node operations nameGood 0) t (w .term) [] (drop used ws) (noFlags span) (noFlags span) 0 0 p (w .fine)
           (append-nil (encode t) ∙ a .words ∙ w .words) in
@@ -123,13 +120,13 @@ module _ (operations : ℕ) (nameGood : ℕ → Bool) where
           subst (λ (t : Plain). every (window operations nameGood base) (noFlags span) 0 t ≡ true) (z .0) (v .fine)
 
       -- every window passed
-      pub whole-yes : used ≡ length ws → operations ≤ 256 → ((n : ℕ) → n < variables (w .term) → Covered span operations nameGood (w .term) n) → isTerm operations nameGood ws ≡ true
+      pub whole-yes : used ≡ length ws → operations ≤ 256 → ((n : ℕ) → n < variables (w .term) → Covered span operations nameGood (w .term) n) → termOf operations nameGood ws ≡ some (w .term)
       unfolding wellFormed
       whole-yes e f c =
           let t = w .term in
           let one : Passed span operations nameGood t = record { base = 0; ran = w .fine } in
           let d : drop used ws ≡ [] = ap (λ (n : ℕ). drop n ws) e ∙ drop-length ws in
-          isTerm-yes ws t
+          termOf-is ws t
           (record {
             words = sym (w .words ∙ ap (λ (z : List ℕ). encode t ++ z) d ∙ append-nil (encode t));
             formed = every-proper (window operations nameGood 0) (allowed-node operations nameGood 0) t (noFlags span) 0 (w .fine);
@@ -168,7 +165,7 @@ module _ (operations : ℕ) (nameGood : ℕ → Bool) where
               (λ g. record { in′ = record { base = base + span; ran = same-passed span ws used after (k .whole) (base + span) m n u }; low = g; high = h });
         }
 
-    pub walked-none : None (window operations nameGood (base + span)) false flags 0 ws → isTerm operations nameGood ws ≡ false
+    pub walked-none : None (window operations nameGood (base + span)) false flags 0 ws → termOf operations nameGood ws ≡ none
     walked-none = none-no span ws (base + span) flags (k .clean)
 
     pub walked-length : length flags ≡ span
@@ -177,5 +174,8 @@ module _ (operations : ℕ) (nameGood : ℕ → Bool) where
     pub walked-clear : (low b : ℕ) → Clear low b flags
     walked-clear = noFlags-clear span flags (k .clean)
 
-    pub walked-all : after - base ≤ span → used ≡ length ws → operations ≤ 256 → isTerm operations nameGood ws ≡ true
-    walked-all l e f = whole-yes span ws used after (k .whole) e f (λ n h. k .cover n (omega (arith, k .whole .bound)))
+    pub walked-all : after - base ≤ span → used ≡ length ws → operations ≤ 256 → countedOf (termOf operations nameGood ws) ≡ Variables after
+    unfolding countedOf
+    walked-all l e f =
+        let b : variables (k .whole .term) ≡ after = omega (arith, k .whole .bound) in
+        ap countedOf (whole-yes span ws used after (k .whole) e f (λ n h. k .cover n (omega (arith, k .whole .bound)))) ∙ ap (λ (n : ℕ). Variables n) b

@@ -11,6 +11,7 @@ pub mod DecodeRound
 pub mod DecodeRead
 pub mod DecodeLaws
 pub mod Check
+pub mod Counted
 pub mod Parts
 pub mod PartsLaws
 pub mod Window
@@ -24,5 +25,7 @@ pub mod CheckLaws
 pub mod Decimal
 pub mod DecimalLaws
 pub mod Text
+pub mod OwnNames
+pub mod OwnNamesLaws
 pub mod TextRoom
 pub mod Rows

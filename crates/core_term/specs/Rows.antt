@@ -44,7 +44,9 @@ unfoldable row : List ℕ → S.String → Row
 unfolding rowWith names
 row = rowWith 1 names
 
--- W1 to W25, with one operation where no count is given; the last ones are about the names of variables
+-- W1 to W31 but W18, an output that is too short; with one operation where no count is given. W19 to W25 are about decimals.
+-- W26 to W31, the last six, are about the names of variables: two names; a name twice, in a lambda inside another; a name past
+-- 1,023; an empty slot, though the variable is not used; a name behind the table; a name that is missing
 unfoldable rows : List Row
 unfolding row two
 rows =

@@ -1,5 +1,5 @@
 // Ground 19 of document 01: whether words are exactly one core term, and one that holds together.
-// Its definition is termOf of specs/Check.antt; isTerm says whether there is one.
+// Its definition is termOf of specs/Check.antt; isTerm says whether there is one, countedOf how many variables it binds.
 pub mod codes; // codes of nodes
 mod flags; // the variables that are in scope
 mod head; // a node's own words
@@ -9,13 +9,20 @@ ghost use mathlib.Core.Path.{_≡_};
 ghost use Prim.Native.Nat.{_≤_};
 ghost use lib.ListN.{length};
 ghost use Rattle.datum.specs.NameTable.{hasName};
-ghost use Rattle.core_term.specs.Check.{isTerm, small};
+ghost use Rattle.core_term.specs.Check.{termOf, isTerm, small};
+ghost use Rattle.core_term.specs.Counted.{countedOf};
 ghost use Rattle.core_term.specs.Window.{goodName};
 ghost use Rattle.core_term.specs.Windows.{noFlags};
 use head::name_good;
 use term::Checked;
 use term::term;
 use words::OPERATIONS;
+
+// How many variables the words' term binds; or the words are no term (ground 19).
+pub enum Counted {
+    Variables(usize),
+    NoTerm,
+}
 
 // Scope is tested for so many variables at a time.
 const WINDOW: usize = 4096;
@@ -30,19 +37,19 @@ fn every_window(
     names: &[u8],
     tabled: bool,
     flags: &mut [u8],
-) -> bool
+) -> Counted
     requires { ⌜ (1 ≤ length (now flags)) × (now flags ≡ noFlags (length (now flags))) ⌝ }
-    ensures { λ r. ⌜ r ≡ isTerm operations (goodName tabled (now (names .entry))) (now (words .entry)) ⌝ }
+    ensures { λ r. ⌜ r ≡ countedOf (termOf operations (goodName tabled (now (names .entry))) (now (words .entry))) ⌝ }
 {
     if operations > OPERATIONS {
-        return false;
+        return Counted::NoTerm;
     }
     let Checked::Term(used, variables) = term(words, operations, names, tabled, 0, 0, flags, false)
     else {
-        return false;
+        return Counted::NoTerm;
     };
     if used != words.len() {
-        return false;
+        return Counted::NoTerm;
     }
     let window = flags.len();
     let mut base = 0;
@@ -58,15 +65,15 @@ fn every_window(
             flags,
             false,
         ) else {
-            return false;
+            return Counted::NoTerm;
         };
     }
-    true
+    Counted::Variables(variables)
 }
 
-// Ground 19 has no objection. The window is small where the words are few.
-fn holds(words: &[u32], operations: u32, names: &[u8], tabled: bool) -> bool
-    ensures { λ r. ⌜ r ≡ isTerm operations (goodName tabled (now (names .entry))) (now (words .entry)) ⌝ }
+// The window is small where the words are few.
+fn count(words: &[u32], operations: u32, names: &[u8], tabled: bool) -> Counted
+    ensures { λ r. ⌜ r ≡ countedOf (termOf operations (goodName tabled (now (names .entry))) (now (words .entry))) ⌝ }
 {
     if words.len() <= SMALL_WINDOW {
         let mut flags = [0u8; SMALL_WINDOW];
@@ -83,11 +90,21 @@ pub fn has_name(names: &[u8], n: usize) -> bool
     name_good(n, names, true)
 }
 
-// Ground 19 has no objection, with names as in the lent table.
+// The variables of the words' term, with names as in the lent table.
+pub fn count_variables(words: &[u32], operations: u32, names: &[u8]) -> Counted
+    ensures { λ r. ⌜ r ≡ countedOf (termOf operations (hasName (now (names .entry))) (now (words .entry))) ⌝ }
+{
+    count(words, operations, names, true)
+}
+
+// Ground 19 has no objection.
 pub fn is_term(words: &[u32], operations: u32, names: &[u8]) -> bool
     ensures { λ r. ⌜ r ≡ isTerm operations (hasName (now (names .entry))) (now (words .entry)) ⌝ }
 {
-    holds(words, operations, names, true)
+    let Counted::Variables(count) = count_variables(words, operations, names) else {
+        return false;
+    };
+    true
 }
 
 // The same of a service lent no name table: names are below 1,024.
@@ -95,5 +112,8 @@ pub fn is_term_unnamed(words: &[u32], operations: u32) -> bool
     ensures { λ r. ⌜ r ≡ isTerm operations small (now (words .entry)) ⌝ }
 {
     let none = [0u8; 1];
-    holds(words, operations, &none, false)
+    let Counted::Variables(count) = count(words, operations, &none, false) else {
+        return false;
+    };
+    true
 }

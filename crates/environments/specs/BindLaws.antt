@@ -1,5 +1,5 @@
 -- Laws of the environment of a pattern and a use, as a table: one for each way through the code.
-use mathlib.Core.Path.{_≡_, refl, sym, ap, _∙_}
+use mathlib.Core.Path.{_≡_, refl, sym, ap, subst, _∙_}
 use mathlib.Core.Bool.{Bool, true, false, cond, _&&_, _||_, true≢false, false≢true}
 use mathlib.Core.List.{List}
 use Prim.Native.Nat.{ℕ, _≤_}
@@ -9,9 +9,9 @@ use borrow.Author.Tests.{eqb-true, eqb-false, ne-eqb}
 use Rattle.words.specs.ListLaws.{whole, either}
 use Rattle.words.specs.Parts.{rest}
 use Rattle.words.specs.Limits.{patternVariablesMost}
-use Rattle.recipe.specs.Tree.{element, tail, past}
+use Rattle.recipe.specs.Tree.{element, tail}
 use Rattle.expansion.specs.Rules.{variableP, pairP, ellipsisP}
-use Rattle.expansion.specs.Match.{share, holds, part}
+use Rattle.expansion.specs.Match.{holds, part}
 use Rattle.arena.specs.Arena.{wordAt, referenceAt, treeAt}
 use Rattle.arena.specs.ArenaLaws.{wordAt-none, referenceAt-most}
 use Rattle.arena.specs.Lists.{Means}
@@ -23,7 +23,7 @@ use Rattle.environments.specs.Environment.{entered, enteredNext, taking,
 use Rattle.environments.specs.Entries.{entryAt, ellipsisIn, takingOf, Low, Stored}
 use Rattle.environments.specs.EntryLaws.{ellipsisIn-some}
 use Rattle.environments.specs.Bind.{bound, BindsOne, secondOf, innerSecond, BindsList, Binds}
-use Rattle.environments.specs.Parts.{Shares}
+use Rattle.environments.specs.Parts.{After}
 
 -- ---- of a work table, what is so of the part that is all of it
 
@@ -169,9 +169,10 @@ module _ (work : List ℕ) (p tag : ℕ) (tag-is : tag ≡ wordAt work p 1) (old
           low = λ b q r u. d .low b (omega (arith, referenceAt-most work p 3)) (omega (arith, f .low)) (c .low b (omega (arith, referenceAt-most work p 2)) (omega (arith, m .low)) u);
         }
 
-    pub pattern-ellipsis : tag ≡ 7 → (u s after : ℕ) → Shares work p u s → Means work u after (past s) → Binds work rest after old mid → BindsList work head u p 0 mid new → Binds work p u old new
+    -- an ellipsis, and the rest of its list, which takes what follows where it holds a variable
+    list-then : tag ≡ 7 → (u after : ℕ) → after ≤ u → ((k : ℕ) → holds k (patternAt work rest) ≡ true → After work p u after) → Binds work rest after old mid → BindsList work head u p 0 mid new → Binds work p u old new
     unfolding bound takingOf environment taking part entered enteredNext secondOf
-    pattern-ellipsis ellipsis u s after f m c d =
+    list-then ellipsis u after lower m c d =
         let is : patternAt work p ≡ ellipsisP (patternAt work head) (wordAt work p 4) (patternAt work rest) = rw (head-is, rest-is) (patternAt-ellipsis work p (sym tag-is ∙ ellipsis)) in
         record {
           held = λ w k l h.
@@ -182,11 +183,14 @@ module _ (work : List ℕ) (p tag : ℕ) (tag-is : tag ≡ wordAt work p 1) (old
               ap (takingOf work w) (e .0)
               ∙ rw (is, t, e .1, ellipsisIn-some work p q, ← head-is) refl)
               (λ t.
-              let after-is : treeAt work after w ≡ past (share (wordAt work p 4) (treeAt work u w)) (treeAt work u w) = m .is w ∙ ap (λ (n : ℕ). past n (treeAt work u w)) (f w) in
-              ap (takingOf work w) (d .other k t) ∙ c .held w k l (sym (rw t at (both-is (omega arith) (omega arith) k)) ∙ h) ∙ rw (is, t, after-is) refl);
+              let r : holds k (patternAt work rest) ≡ true = sym (rw t at (both-is (omega arith) (omega arith) k)) ∙ h in
+              ap (takingOf work w) (d .other k t) ∙ c .held w k l r ∙ rw (is, t, m k r .is w) refl);
           other = λ k h. let n = neither (omega arith) (omega arith) k h in d .other k (n .0) ∙ c .other k (n .1);
-          low = λ b q r t. d .low b (omega (arith, referenceAt-most work p 3)) r q (omega arith) (c .low b (omega (arith, referenceAt-most work p 2)) (omega (arith, m .low)) t);
+          low = λ b q r t. d .low b (omega (arith, referenceAt-most work p 3)) r q (omega arith) (c .low b (omega (arith, referenceAt-most work p 2)) (omega (arith, lower)) t);
         }
+
+    pub pattern-ellipsis : tag ≡ 7 → (u after : ℕ) → After work p u after → Binds work rest after old mid → BindsList work head u p 0 mid new → Binds work p u old new
+    pattern-ellipsis ellipsis u after m = list-then ellipsis u after (m .low) (λ k h. m)
 
   module _ (u : ℕ) where
     pub pattern-none : (tag ≡ 1 → ⊥) → (tag ≡ 6 → ⊥) → (tag ≡ 7 → ⊥) → Binds work p u old old
@@ -209,3 +213,12 @@ module _ (work : List ℕ) (p tag : ℕ) (tag-is : tag ≡ wordAt work p 1) (old
             other = λ k h. c .other k (eqb-false k j (rw (patternAt-variable work p (sym tag-is ∙ e), ← j-is) at h));
             low = λ b q r t. c .low b (bound-low u 0 0 b r (omega arith) (omega arith)) t;
           }
+
+-- an ellipsis that nothing follows
+pub pattern-last : (work : List ℕ) (p tag : ℕ) → tag ≡ wordAt work p 1 → (old : List ℕ) (head rest : ℕ) → rest ≡ referenceAt work p 2 → head ≡ referenceAt work p 3 → (mid new : List ℕ) → tag ≡ 7 → (u : ℕ) → rest ≡ 0
+    → mid ≡ old → BindsList work head u p 0 mid new → Binds work p u old new
+pattern-last work p tag tag-is old head rest rest-is head-is mid new ellipsis u last same d =
+    let none : wordAt work rest 1 ≡ 0 = ap (λ (n : ℕ). wordAt work n 1) last ∙ wordAt-none work 1 (omega arith) in
+    list-then work p tag tag-is old head rest rest-is head-is old new ellipsis u u (omega arith) (λ k h. absurd (some-cell work rest k h last))
+    (pattern-none work rest _ refl old u (λ z. omega arith) (λ z. omega arith) (λ z. omega arith))
+    (subst (λ (e : List ℕ). BindsList work head u p 0 e new) same d)

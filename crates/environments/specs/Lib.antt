@@ -1,5 +1,6 @@
 -- What a pattern's variables take from a use: what the functions of environments mean, and laws.
 pub mod Parts
+pub mod ShareLaws
 pub mod PartLaws
 pub mod Environment
 pub mod Sound

@@ -206,6 +206,15 @@ record Low (x : ℕ × ℕ) : Type 0 where
   few : x .0 < patternVariablesMost
   level : x .1 < depthMost
 
+-- a mark of another level, and of this
+marked-no : (a b : Bool) → ((a && false) || b) ≡ b
+marked-no true b = refl
+marked-no false b = refl
+
+marked-yes : (a b : Bool) → ((a && true) || b) ≡ (a || b)
+marked-yes true b = refl
+marked-yes false b = refl
+
 module _ (g : (ℕ × ℕ) → ℕ) where
   -- the lists of these, by level
   levels : List (ℕ × ℕ) → Driving → Driving
@@ -214,29 +223,13 @@ module _ (g : (ℕ × ℕ) → ℕ) where
   levels-more : (k l : ℕ) (ds : List (ℕ × ℕ)) (x : Driving) → k < patternVariablesMost → l < depthMost → levels ((k, l) ∷ ds) x ≡ lengths.also (levels ds x) (g (k, l))
   unfolding levels among anyOf
   levels-more k zero ds x h m =
-      gathered-cong _ (λ i. among i 1 ds) _ (λ i. g (i, 1)) _ patternVariablesMost (λ i _. none (eqb k i) _) (λ _ _ _. refl)
-      ∙ ap (λ (y : Driving). gathered (λ i. among i 1 ds) (λ i. g (i, 1)) y patternVariablesMost) (gathered-more (λ i. among i 0 ds) _ _ x k patternVariablesMost h (λ i. one (eqb k i) _))
+      gathered-cong _ (λ i. among i 1 ds) _ (λ i. g (i, 1)) _ patternVariablesMost (λ i _. marked-no (eqb k i) _) (λ _ _ _. refl)
+      ∙ ap (λ (y : Driving). gathered (λ i. among i 1 ds) (λ i. g (i, 1)) y patternVariablesMost) (gathered-more (λ i. among i 0 ds) _ _ x k patternVariablesMost h (λ i. marked-yes (eqb k i) _))
       ∙ gathered-also _ _ _ _ patternVariablesMost
-    where
-      none : (a b : Bool) → ((a && false) || b) ≡ b
-      none true b = refl
-      none false b = refl
-
-      one : (a b : Bool) → ((a && true) || b) ≡ (a || b)
-      one true b = refl
-      one false b = refl
   levels-more k (suc zero) ds x h m =
       ap (λ (y : Driving). gathered (λ i. among i 1 ((k, 1) ∷ ds)) (λ i. g (i, 1)) y patternVariablesMost)
-      (gathered-cong _ (λ i. among i 0 ds) _ (λ i. g (i, 0)) x patternVariablesMost (λ i _. none (eqb k i) _) (λ _ _ _. refl))
-      ∙ gathered-more (λ i. among i 1 ds) _ _ _ k patternVariablesMost h (λ i. one (eqb k i) _)
-    where
-      none : (a b : Bool) → ((a && false) || b) ≡ b
-      none true b = refl
-      none false b = refl
-
-      one : (a b : Bool) → ((a && true) || b) ≡ (a || b)
-      one true b = refl
-      one false b = refl
+      (gathered-cong _ (λ i. among i 0 ds) _ (λ i. g (i, 0)) x patternVariablesMost (λ i _. marked-no (eqb k i) _) (λ _ _ _. refl))
+      ∙ gathered-more (λ i. among i 1 ds) _ _ _ k patternVariablesMost h (λ i. marked-yes (eqb k i) _)
   levels-more k (suc (suc l)) ds x h m = absurd (omega arith)
 
   levels-after : {ds : List (ℕ × ℕ)} (x : Driving) → Each Low ds → levels ds x ≡ after x (map g ds)

@@ -2,21 +2,21 @@
 use mathlib.Core.Path.{_≡_, refl, sym, ap, _∙_}
 use mathlib.Core.Bool.{Bool, true, false, _||_}
 use mathlib.Core.List.{List, []}
-use Prim.Native.Nat.{ℕ, _-_, _≤_, _<_}
+use Prim.Native.Nat.{ℕ, _≤_, _<_}
 use native.Mathlib.Omega.{arith}
 use lib.Dec.{eqb}
 use borrow.Author.Tests.{eqb-true, eqb-false}
-use Rattle.recipe.specs.Tree.{Tree, empty, element, tail, past}
+use Rattle.recipe.specs.Tree.{Tree, empty, element, tail}
 use Rattle.expansion.specs.Rules.{Pattern}
-use Rattle.expansion.specs.Match.{share, holds, part}
+use Rattle.expansion.specs.Match.{holds, part}
 use Rattle.arena.specs.Arena.{wordAt, referenceAt, treeAt}
 use Rattle.words.specs.ListLaws.{either}
 use Rattle.arena.specs.ArenaLaws.{wordAt-some, referenceAt-falls}
 use Rattle.rule_cells.specs.Cells.{patternAt}
 use Rattle.rule_cells.specs.CellLaws.{patternAt-variable, patternAt-literal, patternAt-wildcard, patternAt-constant, patternAt-pair, patternAt-ellipsis, patternAt-empty}
-use Rattle.arena.specs.Lists.{Means, Counts}
+use Rattle.arena.specs.Lists.{Means}
 use Rattle.arena.specs.ListLaws.{treeAt-none}
-use Rattle.environments.specs.Parts.{Holds, Shares, Part}
+use Rattle.environments.specs.Parts.{Holds, After, Part}
 
 -- a pattern that holds no variable
 abbrev Bare : Pattern → Type 0
@@ -102,26 +102,15 @@ module _ (work : List ℕ) (p tag : ℕ) (tag-is : tag ≡ wordAt work p 1) wher
         unfolding part
         part-list e = record { is-part = λ w. rw (patternAt-ellipsis work p (sym tag-is ∙ ellipsis), ← head-is, ← left-is, e) refl; low = omega arith }
 
-        pub part-after : (rest s v r : ℕ) → left ≡ false → rest ≡ referenceAt work p 2 → Shares work p u s → Means work u v (past s) → Part work rest k v r → Part work p k u r
+        pub part-after : (rest v r : ℕ) → left ≡ false → rest ≡ referenceAt work p 2 → After work p u v → Part work rest k v r → Part work p k u r
         unfolding part
-        part-after rest s v r e h c m d =
+        part-after rest v r e h m d =
             record {
               is-part = λ w.
                   d .is-part w
-                  ∙ rw (patternAt-ellipsis work p (sym tag-is ∙ ellipsis), ← head-is, ← left-is, e, ← h) (ap (part (patternAt work rest) k []) (m .is w ∙ ap (λ (n : ℕ). past n (treeAt work u w)) (c w)));
+                  ∙ rw (patternAt-ellipsis work p (sym tag-is ∙ ellipsis), ← head-is, ← left-is, e, ← h) (ap (part (patternAt work rest) k []) (m .is w));
               low = omega (arith, d .low, m .low);
             }
-
--- ---- how many elements an ellipsis takes
-
-module _ (work : List ℕ) (p list n c : ℕ) (n-is : n ≡ wordAt work p 4) (counted : Counts work list c) where
-  pub share-none : c ≤ n → Shares work p list 0
-  unfolding share
-  share-none h w = rw (← n-is, ← counted .is w) (omega arith)
-
-  pub share-some : Shares work p list (c - n)
-  unfolding share
-  share-some w = rw (← n-is, ← counted .is w) refl
 
 -- what variable k takes of the node by the pattern at `at`, it takes of the use by the whole pattern
 abbrev pub Leads : (work : List ℕ) (p k u at node : ℕ) → Type 0

@@ -3,8 +3,10 @@ use mathlib.Core.Path.{_≡_}
 use mathlib.Core.Bool.{Bool}
 use mathlib.Core.List.{List, []}
 use Prim.Native.Nat.{ℕ, _≤_}
+use Rattle.recipe.specs.Tree.{past}
 use Rattle.expansion.specs.Match.{share, holds, part}
 use Rattle.arena.specs.Arena.{wordAt, treeAt}
+use Rattle.arena.specs.Lists.{Means}
 use Rattle.rule_cells.specs.Cells.{patternAt}
 
 -- whether a pattern's cell holds variable k
@@ -14,6 +16,10 @@ Holds work p k r = r ≡ holds k (patternAt work p)
 -- how many elements of a list the ellipsis of a pattern's cell takes
 abbrev pub Shares : (work : List ℕ) (p list r : ℕ) → Type 0
 Shares work p list r = (w : ℕ) → r ≡ share (wordAt work p 4) (treeAt work list w)
+
+-- r is the list behind these elements
+abbrev pub After : (work : List ℕ) (p list r : ℕ) → Type 0
+After work p list r = Means work list r (λ t. past (share (wordAt work p 4) t) t)
 
 -- r is the part of the use that variable k takes
 pub record Part (work : List ℕ) (p k u r : ℕ) : Type 0 where

@@ -14,6 +14,8 @@ use Rattle.environments.specs.Environment.{Environment, enter, lengthsBy
 use Rattle.environments.specs.Entries.{environmentAt}
 use Rattle.environments.specs.declared.lengths.Driving.{Driving}
 use Rattle.environments.specs.declared.lengths.Driving.the-variants.{None, Length, Differ}
+use Rattle.environments.specs.declared.agree.Round.{Round}
+use Rattle.environments.specs.declared.agree.Round.the-variants.{Nothing, Copies}
 use Rattle.environments.specs.declared.lengths.Count.{Count}
 use Rattle.environments.specs.declared.lengths.Count.the-variants.{Of}
 use Rattle.environments.specs.declared.lengths.Count.the-variants as count
@@ -38,23 +40,37 @@ mostBelow v (suc n) e = larger (mostBelow v n e) (countBy (enter n v) e)
 unfoldable pub agreeBelow : Environment → ℕ → Template → Bool
 agreeBelow v n t = allBelow (λ i. agreeBy (enter i v) t) n
 
+-- ---- the same where nothing is round a part of a template
+
+unfoldable pub sameIn : Round → Environment → Template → Bool
+sameIn Nothing v e = sameBy v e
+sameIn (Copies n) v e = sameBelow v n e
+
+unfoldable pub mostIn : Round → Environment → Template → ℕ
+mostIn Nothing v e = countBy v e
+mostIn (Copies n) v e = mostBelow v n e
+
+unfoldable pub agreeIn : Round → Environment → Template → Bool
+agreeIn Nothing v t = agreeBy v t
+agreeIn (Copies n) v t = agreeBelow v n t
+
 -- ---- on cells
 
-abbrev pub CopiesAgree : (work env : List ℕ) (t n : ℕ) → Bool → Type 0
-CopiesAgree work env t n r = (w : ℕ) → r ≡ agreeBelow (environmentAt work env w) n (templateAt work t)
+abbrev pub AgreesIn : (work env : List ℕ) (t : ℕ) → Round → Bool → Type 0
+AgreesIn work env t round r = (w : ℕ) → r ≡ agreeIn round (environmentAt work env w) (templateAt work t)
 
--- in each of the first n copies the lists that drive an element are of one length, of which c is the largest
-pub record Reached (work env : List ℕ) (e n c : ℕ) : Type 0 where
-  pub same : (w : ℕ) → true ≡ sameBelow (environmentAt work env w) n (templateAt work e)
-  pub most : (w : ℕ) → c ≡ mostBelow (environmentAt work env w) n (templateAt work e)
+-- wherever the element is reached, the lists that drive it are of one length, of which c is the largest
+pub record Reached (work env : List ℕ) (e : ℕ) (round : Round) (c : ℕ) : Type 0 where
+  pub same : (w : ℕ) → true ≡ sameIn round (environmentAt work env w) (templateAt work e)
+  pub most : (w : ℕ) → c ≡ mostIn round (environmentAt work env w) (templateAt work e)
 
--- in one of them they differ in length
-pub record DiffersBelow (work env : List ℕ) (e n : ℕ) : Type 0 where
-  pub differ : (w : ℕ) → false ≡ sameBelow (environmentAt work env w) n (templateAt work e)
+-- somewhere they differ in length
+pub record DiffersIn (work env : List ℕ) (e : ℕ) (round : Round) : Type 0 where
+  pub differ : (w : ℕ) → false ≡ sameIn round (environmentAt work env w) (templateAt work e)
 
-abbrev pub CountedBelow : (work env : List ℕ) (e n : ℕ) → Count → Type 0
-CountedBelow work env e n (Of c) = Reached work env e n c
-CountedBelow work env e n count.Differ = DiffersBelow work env e n
+abbrev pub CountedIn : (work env : List ℕ) (e : ℕ) → Round → Count → Type 0
+CountedIn work env e round (Of c) = Reached work env e round c
+CountedIn work env e round count.Differ = DiffersIn work env e round
 
 -- a number of copies more, where the lists that drive them are of one length
 unfoldable pub most : Driving → ℕ → Count

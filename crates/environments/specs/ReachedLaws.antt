@@ -19,9 +19,11 @@ use Rattle.environments.specs.BelowLaws.{and-turned, below-true, below-c
 use Rattle.environments.specs.EnvironmentLaws.{entering-whole, entering-one, entering-first, entering-second}
 use Rattle.environments.specs.Sound.{Plain, variable, insert, constant, empty, pairs, ellipsis}
 use Rattle.environments.specs.Entries.{environmentAt}
-use Rattle.environments.specs.Lengths.{driving, after, Copies, Differs, Drives}
+use Rattle.environments.specs.Lengths.{driving, after, Copies, Differs, Counted, Drives}
 use Rattle.environments.specs.LengthLaws.{Told, told, copies-none, copies-some, copies-differ}
-use Rattle.environments.specs.Reached.{sameBy, sameBelow, larger, mostBelow, agreeBelow, Reached, DiffersBelow, CountedBelow, most}
+use Rattle.environments.specs.Reached.{sameBy, sameBelow, larger, mostBelow, agreeBelow, sameIn, mostIn, agreeIn, Reached, DiffersIn, CountedIn, most}
+use Rattle.environments.specs.declared.agree.Round.{Round}
+use Rattle.environments.specs.declared.agree.Round.the-variants as round
 use Rattle.environments.specs.declared.lengths.Driving.{Driving}
 use Rattle.environments.specs.declared.lengths.Driving.the-variants.{None, Length, Differ}
 use Rattle.environments.specs.declared.lengths.Count.{Count}
@@ -102,16 +104,18 @@ unfolding allBelow mostBelow
 below-most v zero e g = refl
 below-most v (suc n) e g = ap (λ (b : Bool). b && allBelow g (countBy (enter n v) e)) (below-most v n e g) ∙ below-larger g (mostBelow v n e) (countBy (enter n v) e)
 
-pub reached-pair : (v : Environment) (n : ℕ) (a b : Template) → agreeBelow v n (pairT a b) ≡ (agreeBelow v n a && agreeBelow v n b)
-unfolding agreeBelow agreeBy
-reached-pair v n a b = below-both (λ i. agreeBy (enter i v) a) (λ i. agreeBy (enter i v) b) n
+pub reached-pair : (r : Round) (v : Environment) (a b : Template) → agreeIn r v (pairT a b) ≡ (agreeIn r v a && agreeIn r v b)
+unfolding agreeIn agreeBelow agreeBy
+reached-pair round.Nothing v a b = refl
+reached-pair (round.Copies n) v a b = below-both (λ i. agreeBy (enter i v) a) (λ i. agreeBy (enter i v) b) n
 
--- ground 17 of an ellipsis in the first n copies: its lists in each of them, then its element in as many copies as the largest of their
--- counts, and the rest
-pub reached-ellipsis : (v : Environment) (n : ℕ) (e r : Template) → Plain e
-    → agreeBelow v n (ellipsisT e r) ≡ (sameBelow v n e && (agreeBelow v (mostBelow v n e) e && agreeBelow v n r))
-unfolding agreeBelow sameBelow agreeBy sameBy
-reached-ellipsis v n e r p =
+-- ground 17 of an ellipsis: its lists wherever it is reached, then its element in as many copies as the largest of their counts, and the
+-- rest
+pub reached-ellipsis : (o : Round) (v : Environment) (e r : Template) → Plain e
+    → agreeIn o v (ellipsisT e r) ≡ (sameIn o v e && (agreeIn (round.Copies (mostIn o v e)) v e && agreeIn o v r))
+unfolding agreeIn sameIn mostIn agreeBelow sameBelow agreeBy sameBy
+reached-ellipsis round.Nothing v e r p = refl
+reached-ellipsis (round.Copies n) v e r p =
     below-both _ _ n
     ∙ ap (λ (b : Bool). sameBelow v n e && b)
     (below-both _ _ n
@@ -121,8 +125,8 @@ reached-ellipsis v n e r p =
 -- ---- going through the copies
 
 module _ (work env : List ℕ) (e : ℕ) where
-  pub reached-begins : Reached work env e 0 0
-  unfolding sameBelow mostBelow allBelow
+  pub reached-begins : Reached work env e (round.Copies 0) 0
+  unfolding sameIn mostIn sameBelow mostBelow allBelow
   reached-begins = record { same = λ w. refl; most = λ w. refl }
 
   -- x is what the lists tell in copy i
@@ -134,8 +138,8 @@ module _ (work env : List ℕ) (e : ℕ) where
 
     -- a copy with lists of one length, of which there may be none
     reached-with : (c d : ℕ) → ((w : ℕ) → (countBy (enter i (environmentAt work env w)) (templateAt work e) ≡ d) × (sameBy (enter i (environmentAt work env w)) (templateAt work e) ≡ true))
-        → Reached work env e i c → Reached work env e (i + 1) (larger c d)
-    unfolding sameBelow mostBelow allBelow
+        → Reached work env e (round.Copies i) c → Reached work env e (round.Copies (i + 1)) (larger c d)
+    unfolding sameIn mostIn sameBelow mostBelow allBelow
     reached-with c d f g =
         let s : i + 1 ≡ suc i = omega arith in
         rw s (record {
@@ -143,26 +147,26 @@ module _ (work env : List ℕ) (e : ℕ) where
           most = λ w. rw (f w .0, ← g .most w) refl;
         })
 
-    pub reached-more : (c m : ℕ) → most x c ≡ Of m → Reached work env e i c → Reached work env e (i + 1) m
+    pub reached-more : (c m : ℕ) → most x c ≡ Of m → Reached work env e (round.Copies i) c → Reached work env e (round.Copies (i + 1)) m
     unfolding most larger countBy sameBy allOf
     reached-more c m h g = by x refl
       where
-        by : (y : Driving) → x ≡ y → Reached work env e (i + 1) m
+        by : (y : Driving) → x ≡ y → Reached work env e (round.Copies (i + 1)) m
         by None q =
             let o : Of c ≡ Of m = ap (λ (y : Driving). most y c) (sym q) ∙ h in
             let s : larger c 0 ≡ m = rw (le-ltb c 0 (omega arith)) cc in
-            subst (Reached work env e (i + 1)) s (reached-with c 0 (λ w. let n = tells w None q in (rw n refl, rw n refl)) g)
+            subst (Reached work env e (round.Copies (i + 1))) s (reached-with c 0 (λ w. let n = tells w None q in (rw n refl, rw n refl)) g)
         by (Length d) q =
             let o : Of (larger c d) ≡ Of m = ap (λ (y : Driving). most y c) (sym q) ∙ h in
             let s : larger c d ≡ m = cc in
-            subst (Reached work env e (i + 1)) s (reached-with c d (λ w. let n = tells w (Length d) q in (sym (n .0), rw (← n .0) (sym (n .1)))) g)
+            subst (Reached work env e (round.Copies (i + 1))) s (reached-with c d (λ w. let n = tells w (Length d) q in (sym (n .0), rw (← n .0) (sym (n .1)))) g)
         by Differ q = let z : _≡_ {A = ℕ} 0 1 = cc in absurd (omega arith)
 
-    pub reached-differs : (c n : ℕ) → most x c ≡ count.Differ → i < n → DiffersBelow work env e n
-    unfolding most sameBelow sameBy countBy
+    pub reached-differs : (c n : ℕ) → most x c ≡ count.Differ → i < n → DiffersIn work env e (round.Copies n)
+    unfolding most sameIn sameBelow sameBy countBy
     reached-differs c n h l = by x refl
       where
-        by : (y : Driving) → x ≡ y → DiffersBelow work env e n
+        by : (y : Driving) → x ≡ y → DiffersIn work env e (round.Copies n)
         by None q = let z : _≡_ {A = ℕ} 0 1 = cc in absurd (omega arith)
         by (Length d) q = let z : _≡_ {A = ℕ} 0 1 = cc in absurd (omega arith)
         by Differ q = record { differ = λ w. sym (below-false _ n i l (sym (tells w Differ q))) }
@@ -182,8 +186,8 @@ module _ (work env : List ℕ) (e : ℕ) (x : Driving) (x-is : Drives work env 0
       larger-self c = either (ltb c c) (λ t. rw t refl) (λ t. rw t refl)
 
   module _ (n : ℕ) (some : 0 < n) where
-    still-with : (d : ℕ) → Copies work env e d → Reached work env e n d
-    unfolding sameBelow sameBy countBy driving
+    still-with : (d : ℕ) → Copies work env e d → Reached work env e (round.Copies n) d
+    unfolding sameIn mostIn sameBelow sameBy countBy driving
     still-with d f =
         let s : n ≡ suc (n - 1) = omega arith in
         record {
@@ -195,21 +199,29 @@ module _ (work env : List ℕ) (e : ℕ) (x : Driving) (x-is : Drives work env 0
     unfolding sameBy countBy driving
     differs-still w f = rw (still (environmentAt work env w) 0) (sym (f .differ w))
 
-    pub reached-still : CountedBelow work env e n (most x 0)
-    unfolding most larger sameBelow
+    pub reached-still : CountedIn work env e (round.Copies n) (most x 0)
+    unfolding most larger sameIn sameBelow
     reached-still = by x refl
       where
-        by : (y : Driving) → x ≡ y → CountedBelow work env e n (most x 0)
-        by None q = subst (λ (y : Driving). CountedBelow work env e n (most y 0)) (sym q) (still-with 0 (copies-none work env e x x-is q))
+        by : (y : Driving) → x ≡ y → CountedIn work env e (round.Copies n) (most x 0)
+        by None q = subst (λ (y : Driving). CountedIn work env e (round.Copies n) (most y 0)) (sym q) (still-with 0 (copies-none work env e x x-is q))
         by (Length d) q =
             let z : d ≡ larger 0 d = either (ltb 0 d) (λ t. rw t refl) (λ t. let o : d ≡ 0 = omega (arith, ltb-false 0 d t) in rw t o) in
-            subst (λ (y : Driving). CountedBelow work env e n (most y 0)) (sym q) (subst (Reached work env e n) z (still-with d (copies-some work env e x x-is d q)))
+            subst (λ (y : Driving). CountedIn work env e (round.Copies n) (most y 0)) (sym q) (subst (Reached work env e (round.Copies n)) z (still-with d (copies-some work env e x x-is d q)))
         by Differ q =
-            subst (λ (y : Driving). CountedBelow work env e n (most y 0)) (sym q)
+            subst (λ (y : Driving). CountedIn work env e (round.Copies n) (most y 0)) (sym q)
             (record { differ = λ w. sym (below-false _ n 0 some (differs-still w (copies-differ work env e x x-is q))) })
 
-pub reached-of : (work env : List ℕ) (e n : ℕ) (r : Count) (c : ℕ) → r ≡ Of c → CountedBelow work env e n r → Reached work env e n c
-reached-of work env e n r c i k = subst (CountedBelow work env e n) i k
+-- ---- where nothing is round
 
-pub reached-differ : (work env : List ℕ) (e n : ℕ) (r : Count) → r ≡ count.Differ → CountedBelow work env e n r → DiffersBelow work env e n
-reached-differ work env e n r i k = subst (CountedBelow work env e n) i k
+pub reached-once : (work env : List ℕ) (e : ℕ) (r : Count) → Counted work env e r → CountedIn work env e round.Nothing r
+unfolding sameIn mostIn sameBy countBy driving
+reached-once work env e (Of c) k = record { same = λ w. rw (← k .count w) (k .same w); most = k .count }
+reached-once work env e count.Differ k = record { differ = k .differ }
+
+module _ (work env : List ℕ) (e : ℕ) (o : Round) (r : Count) where
+  pub reached-of : (c : ℕ) → r ≡ Of c → CountedIn work env e o r → Reached work env e o c
+  reached-of c i k = subst (CountedIn work env e o) i k
+
+  pub reached-differ : r ≡ count.Differ → CountedIn work env e o r → DiffersIn work env e o
+  reached-differ i k = subst (CountedIn work env e o) i k

@@ -1,18 +1,25 @@
-// Ground 17: driving lists are of one length, anywhere in a template. An element that gets no copies is not looked into. The lists of an
-// ellipsis depend on the index of the ellipsis next outside it alone, so that it is enough to go through the copies there.
+// Ground 17: driving lists are of one length, anywhere in a template; in an element that gets no copies none are compared. The lists of
+// an ellipsis depend on the index of the ellipsis next outside it alone, so that it is enough to go through the copies there.
 
 ghost use mathlib.Core.Path.{_≡_};
 ghost use Prim.Native.Nat.{_<_};
 ghost use Rattle.rule_cells.specs.Cells.{templateAt};
 ghost use Rattle.environments.specs.Sound.{Plain};
 ghost use Rattle.environments.specs.Lengths.{LengthsAgree};
-ghost use Rattle.environments.specs.Reached.{most, CountedBelow, CopiesAgree};
+ghost use Rattle.environments.specs.Reached.{most, CountedIn, AgreesIn};
+ghost use Rattle.environments.specs.declared.agree.Round.the-variants.{Copies};
 use crate::environment;
 use crate::lengths;
 use crate::lengths::Count;
 use crate::lengths::Driving;
 use crate::marks;
 use rule_cells::cells;
+
+// What is round a part of a template: nothing, or the first n copies of an element.
+enum Round {
+    Nothing,
+    Copies(u32),
+}
 
 // The largest number of copies so far, after a copy whose lists say this.
 fn most(x: Driving, c: u32) -> Count
@@ -34,7 +41,7 @@ fn most(x: Driving, c: u32) -> Count
 // are counted once, and where all are so, no copy is entered.
 fn reached(work: &[u32], env: &[u32; environment::WORDS], e: u32, n: u32) -> Count
     requires { ⌜ (0 < n) × Plain (templateAt (now work) e) ⌝ }
-    ensures { λ r. ⌜ CountedBelow (now (work .entry)) (now (env .entry)) e n r ⌝ }
+    ensures { λ r. ⌜ CountedIn (now (work .entry)) (now (env .entry)) e (Copies n) r ⌝ }
 {
     let mut drive = [0u32; marks::WORDS];
     marks::mark(work, 0, e, &mut drive);
@@ -60,14 +67,27 @@ fn reached(work: &[u32], env: &[u32; environment::WORDS], e: u32, n: u32) -> Cou
     Count::Of(largest)
 }
 
-// Whether driving lists are of one length in a part of a template, in each of the first n copies of what is round it.
-fn copies_agree(work: &[u32], env: &[u32; environment::WORDS], t: u32, n: u32) -> bool
-    requires { ⌜ Plain (templateAt (now work) t) ⌝ }
-    ensures { λ r. ⌜ CopiesAgree (now (work .entry)) (now (env .entry)) t n r ⌝ }
+// How many copies an element gets, the largest number where copies are round it.
+fn counted(work: &[u32], env: &[u32; environment::WORDS], e: u32, round: Round) -> Count
+    requires { ⌜ Plain (templateAt (now work) e) ⌝ }
+    ensures { λ r. ⌜ CountedIn (now (work .entry)) (now (env .entry)) e round r ⌝ }
 {
-    if n == 0 {
-        return true;
+    match round {
+        Round::Nothing => lengths::copies(work, env, e),
+        Round::Copies(n) => {
+            if n == 0 {
+                return Count::Of(0);
+            }
+            reached(work, env, e, n)
+        }
     }
+}
+
+// Whether driving lists are of one length in a part of a template, wherever it is reached.
+fn agree(work: &[u32], env: &[u32; environment::WORDS], t: u32, round: Round) -> bool
+    requires { ⌜ Plain (templateAt (now work) t) ⌝ }
+    ensures { λ r. ⌜ AgreesIn (now (work .entry)) (now (env .entry)) t round r ⌝ }
+{
     let tag = arena::cells::word(work, t, cells::TAG);
     if tag < cells::PAIR {
         return true;
@@ -78,18 +98,18 @@ fn copies_agree(work: &[u32], env: &[u32; environment::WORDS], t: u32, n: u32) -
     let head = arena::cells::reference(work, t, cells::HEAD);
     let rest = arena::cells::reference(work, t, cells::REST);
     if tag == cells::PAIR {
-        if !copies_agree(work, env, head, n) {
+        if !agree(work, env, head, round) {
             return false;
         }
-        return copies_agree(work, env, rest, n);
+        return agree(work, env, rest, round);
     }
-    let Count::Of(c) = reached(work, env, head, n) else {
+    let Count::Of(c) = counted(work, env, head, round) else {
         return false;
     };
-    if !copies_agree(work, env, head, c) {
+    if !agree(work, env, head, Round::Copies(c)) {
         return false;
     }
-    copies_agree(work, env, rest, n)
+    agree(work, env, rest, round)
 }
 
 // Whether driving lists are of one length in all of a template.
@@ -97,26 +117,5 @@ pub fn lengths_agree(work: &[u32], env: &[u32; environment::WORDS], t: u32) -> b
     requires { ⌜ Plain (templateAt (now work) t) ⌝ }
     ensures { λ r. ⌜ LengthsAgree (now (work .entry)) (now (env .entry)) t r ⌝ }
 {
-    let tag = arena::cells::word(work, t, cells::TAG);
-    if tag < cells::PAIR {
-        return true;
-    }
-    if cells::ELLIPSIS < tag {
-        return true;
-    }
-    let head = arena::cells::reference(work, t, cells::HEAD);
-    let rest = arena::cells::reference(work, t, cells::REST);
-    if tag == cells::PAIR {
-        if !lengths_agree(work, env, head) {
-            return false;
-        }
-        return lengths_agree(work, env, rest);
-    }
-    let Count::Of(c) = lengths::copies(work, env, head) else {
-        return false;
-    };
-    if !copies_agree(work, env, head, c) {
-        return false;
-    }
-    lengths_agree(work, env, rest)
+    agree(work, env, t, Round::Nothing)
 }

@@ -87,8 +87,10 @@ pub fn bind(work: &[u32], env: &mut [u32; environment::WORDS], p: u32, u: u32)
     let rest = arena::cells::reference(work, p, cells::REST);
     let head = arena::cells::reference(work, p, cells::HEAD);
     if tag == cells::ELLIPSIS {
-        let after = lists::skip(work, u, shares::share(work, p, u));
-        bind(&work[0..], env, rest, after);
+        if rest != 0 {
+            let after = shares::after(work, p, u);
+            bind(&work[0..], env, rest, after);
+        }
         bind_list(&work[0..], env, head, u, p, 0);
         return;
     }

@@ -6,4 +6,4 @@ pub mod environment;
 pub mod lengths;
 mod marks;
 mod parts;
-pub mod shares;
+mod shares;

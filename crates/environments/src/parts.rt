@@ -37,7 +37,7 @@ fn part_holds(work: &[u32], p: u32, k: u32) -> bool
     holds(work, p, k)
 }
 
-// What variable k takes; at an ellipsis over it, the list that an index would count. What follows an ellipsis is counted from the end.
+// What variable k takes; at an ellipsis over it, the list that an index would count.
 pub fn part(work: &[u32], p: u32, k: u32, u: u32) -> u32
     ensures { λ r. ⌜ Part (now (work .entry)) p k u r ⌝ }
 {
@@ -64,7 +64,7 @@ pub fn part(work: &[u32], p: u32, k: u32, u: u32) -> u32
     if part_holds(work, element, k) {
         return node;
     }
-    let after = lists::skip(work, node, shares::share(work, at, node));
+    let after = shares::after(work, at, node);
     let rest = arena::cells::reference(work, at, cells::REST);
     part(work, rest, k, after)
 }

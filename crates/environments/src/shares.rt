@@ -1,10 +1,10 @@
-// How many elements of a list an ellipsis takes.
+// What an ellipsis takes of a list, and what it leaves.
 
-ghost use Rattle.environments.specs.Parts.{Shares};
+ghost use Rattle.environments.specs.Parts.{Shares, After};
 use arena::lists;
 use rule_cells::cells;
 
-// All elements of a list but as many as follow the ellipsis of a pattern's cell.
+// How many elements of a list it takes: all but as many as follow the ellipsis of a pattern's cell.
 pub fn share(work: &[u32], p: u32, list: u32) -> u32
     ensures { λ r. ⌜ Shares (now (work .entry)) p list r ⌝ }
 {
@@ -14,4 +14,17 @@ pub fn share(work: &[u32], p: u32, list: u32) -> u32
         return 0;
     }
     c - n
+}
+
+// The list behind these elements. A second node is ahead of the first by as many elements as follow the ellipsis.
+pub fn after(work: &[u32], p: u32, list: u32) -> u32
+    ensures { λ r. ⌜ After (now (work .entry)) p list r ⌝ }
+{
+    let mut node = list;
+    let mut ahead = lists::skip(work, list, arena::cells::word(work, p, cells::FOLLOWING));
+    while arena::cells::word(work, ahead, arena::cells::KIND) == arena::cells::PAIR {
+        node = arena::cells::reference(work, node, arena::cells::TAIL);
+        ahead = arena::cells::reference(work, ahead, arena::cells::TAIL);
+    }
+    node
 }

@@ -1,27 +1,27 @@
 -- Laws of matching on cells, one for each way through the code.
-use mathlib.Core.Path.{_≡_, refl, sym, ap, _∙_}
+use mathlib.Core.Path.{_≡_, refl, sym, ap, ap₂, _∙_}
 use mathlib.Core.Bool.{Bool, true, false, _&&_}
 use mathlib.Core.List.{List}
 use mathlib.Core.Logic.{_⊎_, inl, inr}
 use mathlib.Core.Option.{Option, some}
-use Prim.Native.Nat.{ℕ, suc, _-_, _≤_}
+use Prim.Native.Nat.{ℕ, suc, _≤_}
 use native.Mathlib.Omega.{arith}
 use lib.Dec.{eqb}
 use borrow.Author.Tests.{eq-eqb, ne-eqb}
 use Rattle.datum.specs.Constant.{matches}
 use Rattle.datum.specs.ConstantLaws.{made}
 use Rattle.recipe.specs.Name.{Name}
-use Rattle.recipe.specs.Tree.{Tree, onEmpty, onConstant, onName, onPair}
+use Rattle.recipe.specs.Tree.{Tree, onEmpty, onConstant, onName, onPair, tail}
 use Rattle.expansion.specs.Rules.{Pattern, Rule, literalP, constantP, emptyP, pairP}
-use Rattle.expansion.specs.Match.{Fit, fitting, misfit, andThen, bothFit, eachFits, fit, orNext, firstFit}
+use Rattle.expansion.specs.Match.{Fit, fitting, misfit, andThen, bothFit, share, eachFits, fit, orNext, firstFit}
 use Rattle.arena.specs.Arena.{wordAt, referenceAt, nameAt, constantAt, treeAt}
 use Rattle.arena.specs.ArenaLaws.{bindingKey-of, referenceAt-most}
 use Rattle.arena.specs.NodeLaws.{treeAt-empty, treeAt-name, treeAt-pair, treeAt-constant}
 use Rattle.resolution.specs.Names.{Agrees}
-use Rattle.arena.specs.ListLaws.{tree-cases, no-pair}
+use Rattle.arena.specs.ListLaws.{tree-cases, no-pair, rest-some}
 use Rattle.rule_cells.specs.Cells.{constantBefore, literalAt, patternAt, ruleAt, rulesAt}
 use Rattle.rule_cells.specs.CellLaws.{patternAt-variable, patternAt-literal, patternAt-wildcard, patternAt-constant, patternAt-pair, patternAt-ellipsis, patternAt-empty, rulesAt-none, rulesAt-more}
-use Rattle.environments.specs.Parts.{Shares}
+use Rattle.environments.specs.ShareLaws.{AheadBy, takes-none, takes-one, node-pair, ahead-more}
 use Rattle.steps.specs.Fits.{Fits, LiteralFits, ConstantFits, ruleOr, FirstFit}
 
 -- ---- both fit
@@ -55,13 +55,9 @@ module _ (work : List ℕ) (u w kind : ℕ) (kind-is : kind ≡ wordAt work u 3)
   unfolding fit onPair
   pair-pair q s e = rw (treeAt-pair work u w (sym kind-is ∙ e)) (bothFit-fits _ _)
 
-  pub each-pair : (q s : Pattern) (c : ℕ) → kind ≡ 4 → eachFits (fit q) (fit s) (suc c) (treeAt work u w) .1 ≡ (fit q (treeAt work (referenceAt work u 2) w) .1 && eachFits (fit q) (fit s) c (treeAt work (referenceAt work u 1) w) .1)
+  each-pair : (q s : Pattern) (c : ℕ) → kind ≡ 4 → eachFits (fit q) (fit s) (suc c) (treeAt work u w) .1 ≡ (fit q (treeAt work (referenceAt work u 2) w) .1 && eachFits (fit q) (fit s) c (treeAt work (referenceAt work u 1) w) .1)
   unfolding eachFits onPair
   each-pair q s c e = rw (treeAt-pair work u w (sym kind-is ∙ e)) (bothFit-fits _ _)
-
-  pub each-no-pair : (q s : Pattern) (c : ℕ) → (kind ≡ 4 → ⊥) → false ≡ eachFits (fit q) (fit s) (suc c) (treeAt work u w) .1
-  unfolding eachFits onPair misfit
-  each-no-pair q s c other = no-pair work u kind kind-is (λ t. false ≡ eachFits (fit q) (fit s) (suc c) t .1) refl (λ x. refl) (λ a. refl) other w
 
   pub empty-fits : eqb kind 0 ≡ fit emptyP (treeAt work u w) .1
   unfolding fit onEmpty fitting misfit
@@ -165,50 +161,59 @@ module _ (work : List ℕ) (p u w : ℕ) where
 
 -- ---- the elements that an ellipsis takes, and then the rest
 
--- the ellipsis fits the list where so many elements of the node fit its element, and then what follows its rest
-abbrev pub Matched : (work : List ℕ) (p list w node left : ℕ) → Type 0
-Matched work p list w node left =
-    fit (patternAt work p) (treeAt work list w) .1 ≡ eachFits (fit (patternAt work (referenceAt work p 3))) (fit (patternAt work (referenceAt work p 2))) left (treeAt work node w) .1
+-- the ellipsis fits the list where it fits the node; the second node is ahead by as many elements as follow
+pub record Matched (work : List ℕ) (p list w node ahead : ℕ) : Type 0 where
+  pub is : Same work w p list p node
+  pub is-ahead : AheadBy work (wordAt work p 4) node ahead
 
-pub each-begins : (work : List ℕ) (p list w s : ℕ) → wordAt work p 1 ≡ 7 → Shares work p list s → Matched work p list w list s
-unfolding fit
-each-begins work p list w s e f = ap (λ (x : Pattern). fit x (treeAt work list w) .1) (patternAt-ellipsis work p e) ∙ rw (← f w) refl
+module _ (work : List ℕ) (p list w : ℕ) where
+  pub each-begins : (ahead : ℕ) → AheadBy work (wordAt work p 4) list ahead → Matched work p list w list ahead
+  each-begins ahead a = record { is = refl; is-ahead = a }
 
-module _ (work : List ℕ) (p list w node left : ℕ) (inv : Matched work p list w node left) where
-  abbrev taken : Pattern
-  taken = patternAt work (referenceAt work p 3)
+  module _ (ellipsis : wordAt work p 1 ≡ 7) where
+    abbrev taken : Pattern
+    taken = patternAt work (referenceAt work p 3)
 
-  abbrev following : Pattern
-  following = patternAt work (referenceAt work p 2)
+    abbrev following : Pattern
+    following = patternAt work (referenceAt work p 2)
 
-  pub each-ends : (rest : ℕ) (r : Bool) → left ≡ 0 → rest ≡ referenceAt work p 2 → Fits work rest node w r → Fits work p list w r
-  unfolding eachFits
-  each-ends rest r e f c = c ∙ sym (inv ∙ rw (e, ← f) refl)
+    -- an ellipsis at a node, by what it takes there
+    at-node : (t : Tree) (c : ℕ) → share (wordAt work p 4) t ≡ c → fit (patternAt work p) t .1 ≡ eachFits (fit taken) (fit following) c t .1
+    unfolding fit
+    at-node t c e = rw (patternAt-ellipsis work p ellipsis, e) refl
 
-  module _ (c kind : ℕ) (some-left : left ≡ suc c) (kind-is : kind ≡ wordAt work node 3) where
-    one-left : fit (patternAt work p) (treeAt work list w) .1 ≡ eachFits (fit taken) (fit following) (suc c) (treeAt work node w) .1
-    one-left = inv ∙ ap (λ (n : ℕ). eachFits (fit taken) (fit following) n (treeAt work node w) .1) some-left
+    module _ (node ahead kind : ℕ) (kind-is : kind ≡ wordAt work ahead 3) (inv : Matched work p list w node ahead) where
+      pub each-ends : (rest : ℕ) (r : Bool) → (kind ≡ 4 → ⊥) → rest ≡ referenceAt work p 2 → Fits work rest node w r → Fits work p list w r
+      unfolding eachFits
+      each-ends rest r other f c =
+          c ∙ sym (inv .is ∙ at-node (treeAt work node w) 0 (takes-none work (wordAt work p 4) node ahead kind kind-is (inv .is-ahead) other w) ∙ rw (← f) refl)
 
-    pub each-short : (kind ≡ 4 → ⊥) → Fits work p list w false
-    each-short other = each-no-pair work node w kind kind-is taken following c other ∙ sym one-left
+      module _ (element h : ℕ) (b : Bool) (one : kind ≡ 4) (element-is : element ≡ referenceAt work p 3) (h-is : h ≡ referenceAt work node 2) (head : Fits work element h w b) (next : ℕ) (next-is : next ≡ referenceAt work node 1) where
+        a-node : wordAt work node 3 ≡ 4
+        a-node = node-pair work (wordAt work p 4) node ahead kind kind-is (inv .is-ahead) one
 
-    module _ (element h : ℕ) (b : Bool) (k : kind ≡ 4) (element-is : element ≡ referenceAt work p 3) (h-is : h ≡ referenceAt work node 2) (head : Fits work element h w b) where
-      head-is : fit taken (treeAt work (referenceAt work node 2) w) .1 ≡ b
-      head-is = rw (← element-is, ← h-is) (sym head)
+        head-is : fit taken (treeAt work (referenceAt work node 2) w) .1 ≡ b
+        head-is = rw (← element-is, ← h-is) (sym head)
 
-      next-is : fit (patternAt work p) (treeAt work list w) .1 ≡ (b && eachFits (fit taken) (fit following) c (treeAt work (referenceAt work node 1) w) .1)
-      next-is =
-          one-left ∙ each-pair work node w kind kind-is taken following c k ∙ ap (λ (z : Bool). z && eachFits (fit taken) (fit following) c (treeAt work (referenceAt work node 1) w) .1) head-is
+        tail-is : eachFits (fit taken) (fit following) (share (wordAt work p 4) (tail (treeAt work node w))) (treeAt work (referenceAt work node 1) w) .1 ≡ fit (patternAt work p) (treeAt work next w) .1
+        tail-is = rw (← next-is) (sym (at-node (treeAt work next w) _ (ap (share (wordAt work p 4)) (rest-some work node (wordAt work node 3) refl a-node next next-is .is w))))
 
-      pub each-no : b ≡ false → Fits work p list w false
-      each-no f = sym (next-is ∙ rw f refl)
+        then-is : fit (patternAt work p) (treeAt work list w) .1 ≡ (b && fit (patternAt work p) (treeAt work next w) .1)
+        then-is =
+            inv .is
+            ∙ at-node (treeAt work node w) _ (takes-one work (wordAt work p 4) node ahead kind kind-is (inv .is-ahead) one w)
+            ∙ each-pair work node w (wordAt work node 3) refl taken following _ a-node
+            ∙ ap₂ _&&_ head-is tail-is
 
-      pub each-more : (t : ℕ) → b ≡ true → t ≡ referenceAt work node 1 → Matched work p list w t c
-      each-more t f t-is = next-is ∙ rw (f, ← t-is) refl
+        pub each-no : b ≡ false → Fits work p list w false
+        each-no f = sym (then-is ∙ rw f refl)
 
--- one fewer is left
-pub fewer : (left : ℕ) → (left ≡ 0 → ⊥) → left ≡ suc (left - 1)
-fewer left n = omega arith
+        pub each-more : (further : ℕ) → b ≡ true → further ≡ referenceAt work ahead 1 → Matched work p list w next further
+        each-more further f further-is =
+            record {
+              is = then-is ∙ rw f refl;
+              is-ahead = ahead-more work (wordAt work p 4) node ahead kind kind-is (inv .is-ahead) one next further next-is further-is;
+            }
 
 -- ---- rules
 

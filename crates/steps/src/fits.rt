@@ -4,8 +4,8 @@ ghost use mathlib.Core.Path.{_≡_};
 ghost use Rattle.arena.specs.Arena.{wordAt};
 ghost use Rattle.steps.specs.Fits.{Fits, LiteralFits, ConstantFits, FirstFit};
 use arena::cells;
+use arena::lists;
 use datum::constants;
-use environments::shares;
 use resolution::names;
 
 // A literal fits a name whose lookup finds what its own has found.
@@ -99,24 +99,23 @@ fn fits(work: &[u32], p: u32, u: u32, w: u32) -> bool
     end_fits(work, at, node, w)
 }
 
-// Whether an ellipsis fits a list: the elements that it takes, all but as many as follow it, then the rest.
+// Whether an ellipsis fits a list: the elements that it takes, all but as many as follow it, then the rest. A second node is ahead of
+// the first by as many.
 fn each_fits(work: &[u32], p: u32, list: u32, w: u32) -> bool
     requires { ⌜ wordAt (now work) p 1 ≡ 7 ⌝ }
     ensures { λ r. ⌜ Fits (now (work .entry)) p list w r ⌝ }
 {
     let element = cells::reference(work, p, rule_cells::cells::HEAD);
+    let following = cells::word(work, p, rule_cells::cells::FOLLOWING);
     let mut node = list;
-    let mut left = shares::share(work, p, list);
-    while left != 0 {
-        if cells::word(work, node, cells::KIND) != cells::PAIR {
-            return false;
-        }
+    let mut ahead = lists::skip(work, list, following);
+    while cells::word(work, ahead, cells::KIND) == cells::PAIR {
         let first = cells::reference(work, node, cells::HEAD);
         if !part_fits(work, element, first, w) {
             return false;
         }
         node = cells::reference(work, node, cells::TAIL);
-        left -= 1;
+        ahead = cells::reference(work, ahead, cells::TAIL);
     }
     let rest = cells::reference(work, p, rule_cells::cells::REST);
     fits(work, rest, node, w)

@@ -3,14 +3,11 @@ use mathlib.Core.Path.{_≡_}
 use mathlib.Core.Bool.{Bool, true, false}
 use mathlib.Core.List.{List, []}
 use mathlib.Core.Option.{Option, none, some}
-use Prim.Native.Nat.{ℕ, _≤_}
-use lib.ListN.{length, take}
+use Prim.Native.Nat.{ℕ}
 use Rattle.datum.specs.NameTable.{nameAt}
 use Rattle.core_term.specs.Node.{Node, got, nodeAt, variableN, operationN, constantN, nameN, listN, ifN, lambdaN, applicationN}
 use Rattle.core_term.specs.Term.{Plain, formalsOf}
 use Rattle.core_term.specs.Decode.{decode}
-use Rattle.writer.specs.declared.called.Noted.{Noted}
-use Rattle.writer.specs.declared.called.Noted.the-variants.{All, Many}
 
 -- those that words tell
 unfoldable pub namesFrom : Option Plain → List ℕ
@@ -61,8 +58,3 @@ nodeNames (listN n) = []
 nodeNames ifN = []
 nodeNames (lambdaN first names) = names
 nodeNames (applicationN n) = []
-
--- what is noted in a table
-abbrev pub NotedIn : List ℕ → List ℕ → Noted → Type 0
-NotedIn called table (All n) = (n ≤ length table) × (take n table ≡ called)
-NotedIn called table Many = Unit {0}

@@ -9,6 +9,7 @@ use native.Mathlib.Nat.{add-zero}
 use lib.ListN.{length, getD, take, drop, length-append, length-drop}
 use lib.Seq.{drop-at, drop-drop, drop-length, drop-append-le, take-length, take-at, take-add, getD-take, getD-drop, paste, take-paste, length-take-le}
 use Rattle.words.specs.ListLaws.{rest-is}
+use Rattle.core_term.specs.WindowLaws.{case}
 use Rattle.core_term.specs.Node.{Node, got, nodeAt, nodeWords, isNode, binds, variableN, operationN, constantN, nameN, listN, ifN, lambdaN, applicationN}
 use Rattle.core_term.specs.NodeLaws.{both, node-round, node-some, node-read}
 use Rattle.core_term.specs.Term.{variableC, operationC, datumC, ifC, lambdaC, applicationC, noneC, moreC, Plain, Plains, variables, variablesAll, formalsOf, formalsAll}
@@ -128,6 +129,10 @@ module _ (ws : List ℕ) (at seen : ℕ) (s : Scan ws at seen) where
       let e : encodeAll (s .todo) ≡ [] = sym (s .place) ∙ ap (λ (n : ℕ). drop n ws) h ∙ drop-length ws in
       let l : length (drop seen (calledIn ws)) ≡ 0 = ap length (s .names ∙ no-todo (s .todo) e) in
       omega (arith, l, length-drop seen (calledIn ws), s .known)
+
+  -- while names are left, so are words
+  pub scan-more : seen < length (calledIn ws) → at < length ws
+  scan-more h = case at (length ws) (λ l. l) (λ l. let e : at ≡ length ws = omega (arith, s .inside) in absurd (omega (arith, scan-end e)))
 
   -- the term whose node comes next
   record Next : Type 0 where

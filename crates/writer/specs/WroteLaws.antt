@@ -1,6 +1,6 @@
 -- Laws of writing's promise: each way through the call, and what an answer says.
 use mathlib.Core.Path.{_≡_, refl, sym, ap, subst, _∙_}
-use mathlib.Core.Bool.{Bool, true, false, true≢false, false≢true, cond, _&&_}
+use mathlib.Core.Bool.{Bool, true, false, false≢true, cond, _&&_}
 use mathlib.Core.List.{List, [], _++_, append-nil}
 use mathlib.Core.Option.{Option, none, some}
 use Prim.Native.Nat.{ℕ, _*_, _≤_, _<_}
@@ -18,7 +18,10 @@ use Rattle.core_term.specs.Decode.{decode}
 use Rattle.core_term.specs.DecodeLaws.{decode-encode}
 use Rattle.core_term.specs.Every.{every}
 use Rattle.core_term.specs.EveryLaws.{every-from}
-use Rattle.core_term.specs.Check.{outside, allKnown, termOf, isTerm, isSome}
+use Rattle.core_term.specs.Check.{outside, allKnown, termOf, isTerm}
+use Rattle.core_term.specs.declared.Counted.the-variants.{Variables}
+use Rattle.core_term.specs.Counted.{countedOf, counted-some, counted-yes}
+use Rattle.core_term.specs.TermLaws.{formals-count}
 use Rattle.core_term.specs.CheckLaws.{Accepted, accepted, isTerm-some}
 use Rattle.core_term.specs.Text as T
 use Rattle.core_term.specs.Text.{text}
@@ -40,13 +43,9 @@ use Rattle.writer.specs.Wrote.{hasRoom, Measured, Wrote}
 
 -- ---- no term
 
-pub no-term : (ws : List ℕ) (operations : ℕ) (names out : List ℕ) → isTerm operations (hasName names) ws ≡ false → Wrote (textOf ws operations names) out out NoTerm
-unfolding isTerm isSome textOf textFor groundOf lengthOf ground size after
-no-term ws operations names out h = go (termOf operations (hasName names) ws) h
-  where
-    go : (o : Option Plain) → isSome o ≡ false → Wrote (textFor names o) out out NoTerm
-    go none k = record { number = refl; value = refl; left = refl }
-    go (some t) k = absurd (true≢false k)
+pub no-term : (ws : List ℕ) (operations : ℕ) (names out : List ℕ) → termOf operations (hasName names) ws ≡ none → Wrote (textOf ws operations names) out out NoTerm
+unfolding textOf textFor groundOf lengthOf ground size after
+no-term ws operations names out h = rw h (record { number = refl; value = refl; left = refl })
 
 -- ---- a text
 
@@ -197,6 +196,16 @@ module _ (ws : List ℕ) (operations : ℕ) (names : List ℕ) where
 
       walk-full : s ≡ S.Full → Left ink Text 0 d e Full
       walk-full q = stopped-by walk q
+
+  -- what the checker's count says: there is a term, and it has as many names of variables
+  pub counted-term : (n : ℕ) → countedOf (termOf operations (hasName names) ws) ≡ Variables n → isTerm operations (hasName names) ws ≡ true
+  unfolding isTerm
+  counted-term n h = counted-yes (termOf operations (hasName names) ws) n h
+
+  pub counted-names : (n : ℕ) → countedOf (termOf operations (hasName names) ws) ≡ Variables n → n ≡ length (calledIn ws)
+  counted-names n h =
+      let t = counted-some (termOf operations (hasName names) ws) n h in
+      omega (arith, t .2, formals-count (t .0), ap length (called-are (t .0) (t .1)))
 
   -- the walk that measures
   module _ (called : List ℕ) (same : called ≡ calledIn ws) {out e : List ℕ} {s : Step} (c : Walk called false out e s) where

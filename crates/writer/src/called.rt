@@ -1,17 +1,11 @@
 // The names of variables, by number: noted in a table where it holds them all, or else found in the words.
 ghost use mathlib.Core.Path.{_≡_};
 ghost use Prim.Native.Nat.{_+_, _≤_, _<_};
-ghost use lib.ListN.{length, getD};
+ghost use lib.ListN.{length, getD, take};
 ghost use lib.Seq.{paste};
-ghost use Rattle.writer.specs.Called.{calledIn, calledBy, IsTerm, Tells, NotedIn};
+ghost use Rattle.writer.specs.Called.{calledIn, calledBy, IsTerm, Tells};
 use crate::numbers::wide;
 use crate::shapes::own;
-
-// How many names are noted; or the table is too short.
-pub enum Noted {
-    All(usize),
-    Many,
-}
 
 // Names into the table, from `at` on.
 fn put(names: &[u32], table: &mut [u32], at: usize)
@@ -25,24 +19,20 @@ fn put(names: &[u32], table: &mut [u32], at: usize)
     }
 }
 
-// The names that the words' lambdas hold, one after another.
-pub fn note(words: &[u32], table: &mut [u32]) -> Noted
-    requires { ⌜ IsTerm (now words) ⌝ }
-    ensures { λ r. ⌜ NotedIn (calledIn (now (words .entry))) (now (table .exit)) r ⌝ }
+// The names that the words' lambdas hold, one after another: all of them, of which there are so many.
+pub fn note(words: &[u32], count: usize, table: &mut [u32])
+    requires { ⌜ IsTerm (now words) × (count ≡ length (calledIn (now words))) × (count ≤ length (now table)) ⌝ }
+    ensures { λ r. ⌜ take count (now (table .exit)) ≡ calledIn (now (words .entry)) ⌝ }
 {
     let mut at = 0;
     let mut seen = 0;
-    while at < words.len() {
+    while seen < count {
         let node = own(&words[at..]);
-        if table.len() - seen < node.names {
-            return Noted::Many;
-        }
         let end = at + node.size;
         put(&words[end - node.names..end], table, seen);
         seen = seen + node.names;
         at = end;
     }
-    Noted::All(seen)
 }
 
 // The name of variable n, by going through the words up to its lambda.

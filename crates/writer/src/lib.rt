@@ -10,7 +10,7 @@ mod term; // a term's text
 ghost use mathlib.Core.Path.{_≡_};
 ghost use mathlib.Core.Bool.{true, false};
 ghost use mathlib.Core.Option.{some};
-ghost use Prim.Native.Nat.{ℕ};
+ghost use Prim.Native.Nat.{ℕ, _≤_};
 ghost use lib.ListN.{length};
 ghost use Rattle.datum.specs.NameTable.{nameAt, hasName};
 ghost use Rattle.core_term.specs.Term.{Plain};
@@ -20,9 +20,9 @@ ghost use Rattle.writer.specs.Called.{calledIn, calledBy, Tells, saidBy}
 ghost use Rattle.writer.specs.Walk.{Begins};
 ghost use Rattle.writer.specs.Writing.{textOf};
 ghost use Rattle.writer.specs.Wrote.{hasRoom, Measured, Wrote};
-use called::Noted;
 use called::note;
-use core_term::is_term;
+use core_term::Counted;
+use core_term::count_variables;
 use term::Step;
 use term::term;
 
@@ -84,40 +84,42 @@ fn write_called(
     Writing::Written(end)
 }
 
-// The same, with a table to note these names in; where they are too many, each is found in the words.
+// The same, with a table that holds these names, of which there are so many.
 fn write_noting(
     words: &[u32],
     operations: u32,
     names: &[u8],
     out: &mut [u8],
+    count: usize,
     table: &mut [u32],
 ) -> Writing
-    requires { ⌜ isTerm operations (hasName (now names)) (now words) ≡ true ⌝ }
+    requires { ⌜ (isTerm operations (hasName (now names)) (now words) ≡ true) × (count ≡ length (calledIn (now words))) × (count ≤ length (now table)) ⌝ }
     ensures { λ r. ⌜ Wrote (textOf (now (words .entry)) operations (now (names .entry))) (now (out .entry)) (now (out .exit)) r ⌝ }
 {
-    let Noted::All(count) = note(words, table) else {
-        return write_called(words, operations, names, out, words, false);
-    };
+    note(words, count, table);
     write_called(words, operations, names, out, &table[..count], true)
 }
 
-// Names of so many variables are noted; expansion gives no term with more.
+// Names of so many variables are noted in a table. Where a term has more, each is found in the words.
 const VARIABLES: usize = 6144;
 
-// The same where there are no more words than this.
+// A shorter table, for terms with no more variables than this.
 const FEW: usize = 512;
 
 // The text of words' term into out.
 pub fn write(words: &[u32], operations: u32, names: &[u8], out: &mut [u8]) -> Writing
     ensures { λ r. ⌜ Wrote (textOf (now (words .entry)) operations (now (names .entry))) (now (out .entry)) (now (out .exit)) r ⌝ }
 {
-    if !is_term(words, operations, names) {
+    let Counted::Variables(count) = count_variables(words, operations, names) else {
         return Writing::NoTerm;
-    }
-    if words.len() <= FEW {
+    };
+    if count <= FEW {
         let mut table = [0u32; FEW];
-        return write_noting(words, operations, names, out, &mut table);
+        return write_noting(words, operations, names, out, count, &mut table);
     }
-    let mut table = [0u32; VARIABLES];
-    write_noting(words, operations, names, out, &mut table)
+    if count <= VARIABLES {
+        let mut table = [0u32; VARIABLES];
+        return write_noting(words, operations, names, out, count, &mut table);
+    }
+    write_called(words, operations, names, out, words, false)
 }

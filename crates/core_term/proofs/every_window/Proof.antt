@@ -7,6 +7,7 @@ use mathlib.Core.Path.{sym, _∙_}
 use Prim.Native.Nat.{_-_}
 use lib.ListN.{length}
 use Rattle.core_term.specs.Window.{goodName}
+use Rattle.core_term.specs.Counted.{none-counted}
 use Rattle.core_term.specs.Walk.{shaped-term, shaped-none, kept-term}
 use Rattle.core_term.specs.Windows.{noFlags-clear}
 use Rattle.core_term.specs.CheckLaws.{many-no, none-no, clean-whole, left-no, Walked, walked-first, walked-more, walked-none, walked-length, walked-clear, walked-all}
@@ -21,7 +22,7 @@ abbrev μ-loop : tie.MeasureT-loop
 
 returns : tie.Need-returns Inv-loop μ-loop
 returns c =
-    sym (many-no _ _ (c .before .before .before .before .args .words .now) (c .if1 .taken))
+    none-counted _ (many-no _ _ (c .before .before .before .before .args .words .now) (c .if1 .taken))
 
 term-requires : tie.Need-term-requires Inv-loop μ-loop
 term-requires c κs =
@@ -33,7 +34,7 @@ same-length c =
 
 returns-2 : tie.Need-returns-2 Inv-loop μ-loop
 returns-2 c =
-    let s = c .before .before .before .before .before .before .before .before .before .before in sym (none-no _ _ (length (s .args .flags .now)) (s .args .words .now) 0 _ (s .pre .1) (shaped-none _ _ _ _ _ _ (c .before .before .before .before .term .ensures .0) (c .enum-told .given .1)))
+    let s = c .before .before .before .before .before .before .before .before .before .before in none-counted _ (none-no _ _ (length (s .args .flags .now)) (s .args .words .now) 0 _ (s .pre .1) (shaped-none _ _ _ _ _ _ (c .before .before .before .before .term .ensures .0) (c .enum-told .given .1)))
 
 same-length-2 : tie.Need-same-length-2 Inv-loop μ-loop
 same-length-2 c =
@@ -43,7 +44,7 @@ returns-3 : tie.Need-returns-3 Inv-loop μ-loop
 returns-3 c =
     let s = c .before .before .before .before .before .before .before .before .before .before .before .before in
     let w = clean-whole _ _ (length (s .args .flags .now)) (s .args .words .now) 0 _ (s .pre .1) _ _ (shaped-term _ _ _ _ _ _ (c .before .before .before .before .before .before .term .ensures .0) _ _ (c .before .before .used .given .1)) in
-    sym (left-no _ _ (length (s .args .flags .now)) (s .args .words .now) _ _ w (c .if2 .taken))
+    none-counted _ (left-no _ _ (length (s .args .flags .now)) (s .args .words .now) _ _ w (c .if2 .taken))
 
 loop-holds : tie.Need-loop-holds Inv-loop μ-loop
 loop-holds c =
@@ -67,7 +68,7 @@ same-length-3 c =
 
 returns-4 : tie.Need-returns-4 Inv-loop μ-loop
 returns-4 c =
-    sym (walked-none _ _ _ _ _ _ _ _ (c .before .before .before .before .before .before .before .loop .inv) (shaped-none _ _ _ _ _ _ (c .before .before .before .before .term2 .ensures .0) (c .enum-told2 .given .1)))
+    none-counted _ (walked-none _ _ _ _ _ _ _ _ (c .before .before .before .before .before .before .before .loop .inv) (shaped-none _ _ _ _ _ _ (c .before .before .before .before .term2 .ensures .0) (c .enum-told2 .given .1)))
 
 same-length-4 : tie.Need-same-length-4 Inv-loop μ-loop
 same-length-4 c =

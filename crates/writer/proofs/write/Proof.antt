@@ -1,55 +1,50 @@
--- The words are a term's; its text fits, or it does not and the output is as it was; what fits is laid.
+-- The words are a term's, with so many variables, whose names are noted in a table that holds them all or found in the words.
 use borrow.Author.Needs.{needs}
 use Rattle.writer.proofs.write.Statement.{statement}
 use Rattle.writer.proofs.write.Tie as tie
 use Rattle.writer.proofs.write.Reads as reads
 use Rattle.writer.proofs.write.Lts as lts
-use Rattle.core_term.proofs.is_term.Reads as is-term-reads
+use Rattle.core_term.proofs.count_variables.Reads as count-variables-reads
+use Rattle.writer.proofs.write_called.Reads as write-called-reads
 use Rattle.writer.proofs.write_noting.Reads as write-noting-reads
-use native.Mathlib.Omega.{arith}
-use mathlib.Core.Path.{sym, _∙_}
-use borrow.Author.Tests.{not-true, not-false}
-use Rattle.writer.specs.WroteLaws.{no-term}
+use mathlib.Core.Path.{refl, sym, _∙_}
+use mathlib.Core.Bool.{false}
+use Rattle.core_term.specs.Counted.{counted-none}
+use Rattle.writer.specs.CalledLaws.{called-words}
+use Rattle.writer.specs.WroteLaws.{no-term, counted-term, counted-names, is-told}
 
 returns : tie.Need-returns
 returns c =
-    no-term (c .before .before .before .before .before .args .words .now) _ _ _ (sym (c .before .is-term .ensures) ∙ not-true (c .before .is-term .result) (c .if1 .taken))
+    no-term (c .before .before .before .before .before .before .args .words .now) _ _ _ (counted-none _ (sym (c .before .before .count-variables .ensures) ∙ c .enum-told .given .1))
 
 write-noting-requires : tie.Need-write-noting-requires
 write-noting-requires c κs =
-    sym (c .before .before .before .before .is-term .ensures) ∙ not-false (c .before .before .before .before .is-term .result) (c .before .before .before .if1 .left)
-
-same-length : tie.Need-same-length
-same-length c =
-    c .before .before .before .write-noting .kept .1 .1 .1 .0
-
-returns-2 : tie.Need-returns-2
-returns-2 c =
-    c .before .before .before .write-noting .ensures
+    let k = sym (c .before .before .before .before .before .before .count-variables .ensures) ∙ c .before .before .before .before .count .given .1 in (counted-term (c .before .before .before .before .before .before .before .before .before .before .args .words .now) (c .before .before .before .before .before .before .before .before .before .before .args .operations) (c .before .before .before .before .before .before .before .before .before .before .args .names .now) _ k, counted-names (c .before .before .before .before .before .before .before .before .before .before .args .words .now) (c .before .before .before .before .before .before .before .before .before .before .args .operations) (c .before .before .before .before .before .before .before .before .before .before .args .names .now) _ k, search needs)
 
 write-noting-requires-2 : tie.Need-write-noting-requires-2
 write-noting-requires-2 c κs =
-    sym (c .before .before .before .before .is-term .ensures) ∙ not-false (c .before .before .before .before .is-term .result) (c .before .before .before .if1 .left)
+    let k = sym (c .before .before .before .before .before .before .before .count-variables .ensures) ∙ c .before .before .before .before .before .count .given .1 in (counted-term (c .before .before .before .before .before .before .before .before .before .before .before .args .words .now) (c .before .before .before .before .before .before .before .before .before .before .before .args .operations) (c .before .before .before .before .before .before .before .before .before .before .before .args .names .now) _ k, counted-names (c .before .before .before .before .before .before .before .before .before .before .before .args .words .now) (c .before .before .before .before .before .before .before .before .before .before .before .args .operations) (c .before .before .before .before .before .before .before .before .before .before .before .args .names .now) _ k, search needs)
 
-same-length-2 : tie.Need-same-length-2
-same-length-2 c =
-    c .before .before .before .write-noting2 .kept .1 .1 .1 .0
-
-returns-3 : tie.Need-returns-3
-returns-3 c =
-    c .before .before .before .write-noting2 .ensures
+write-called-requires : tie.Need-write-called-requires
+write-called-requires c κs =
+    let k = sym (c .before .before .before .before .before .before .count-variables .ensures) ∙ c .before .before .before .before .count .given .1 in (counted-term (c .before .before .before .before .before .before .before .before .before .before .args .words .now) (c .before .before .before .before .before .before .before .before .before .before .args .operations) (c .before .before .before .before .before .before .before .before .before .before .args .names .now) _ k, λ e. is-told (c .before .before .before .before .before .before .before .before .before .before .args .words .now) (c .before .before .before .before .before .before .before .before .before .before .args .operations) (c .before .before .before .before .before .before .before .before .before .before .args .names .now) (counted-term (c .before .before .before .before .before .before .before .before .before .before .args .words .now) (c .before .before .before .before .before .before .before .before .before .before .args .operations) (c .before .before .before .before .before .before .before .before .before .before .args .names .now) _ k), called-words false (c .before .before .before .before .before .before .before .before .before .before .args .words .now) refl)
 
 pub write-spec : {M : Type 1} → statement M
 write-spec =
     tie.close
     (tie.spec
-    (λ c κs. search needs)  -- is-term-requires
+    (λ c κs. search needs)  -- count-variables-requires
+    (λ c. search needs)  -- enum-known-count
+    (λ c. search needs)  -- enum-told
     returns
     (λ c. search needs)  -- slice-aggregate-write-noting
     write-noting-requires
-    same-length
-    returns-2
+    (λ c. search needs)  -- same-length
+    (λ c. search needs)  -- returns-2
     (λ c. search needs)  -- slice-aggregate-write-noting-2
     write-noting-requires-2
-    same-length-2
-    returns-3)
+    (λ c. search needs)  -- same-length-2
+    (λ c. search needs)  -- returns-3
+    write-called-requires
+    (λ c. search needs)  -- same-length-3
+    (λ c. search needs))  -- returns-4

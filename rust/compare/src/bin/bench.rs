@@ -158,7 +158,7 @@ fn numbers() {
     }
 }
 
-/// Writing alone: terms of so many variables, each used once, under lambdas inside one another. Expansion gives some 6,000 at most.
+/// Writing alone: terms of so many variables, each used once, under lambdas inside one another.
 fn variables() {
     println!("\n| variables of a term, writing alone | words | µs | ns for each |\n|---|---|---|---|");
     let names = [&[1, b't'][..], &[0; 62]].concat().repeat(1_024);
@@ -275,6 +275,13 @@ fn main() {
         let rows = repeated(n, |_| "(1 2 3)".to_string());
         format!("(f) (let-syntax ((m (syntax-rules () ((_ (x ... y) ...) (f (f y x ...) ...))))) (m {rows}))")
     });
+    for row in ["a ... c", "c a ..."] {
+        growth(&format!("copies of another list beside a row of 901 that ({row}) matches"), &[100, 200, 400, 800], |n| {
+            let list = |n| repeated(n, |i| (i % 10).to_string());
+            let rule = format!("((_ (b ...) ({row}) ...) (f (f b c ...) ...))");
+            format!("(f) (let-syntax ((m (syntax-rules () {rule}))) (m ({}) ({})))", list(n), list(901))
+        });
+    }
     growth("rules that a macro makes, each with an escaped ellipsis", &[2, 4, 8, 16], |n| {
         let rules = repeated(n, |i| format!("((_ {i} x (... ...)) (f x (... ...)))"));
         let made = format!("(let-syntax ((k (syntax-rules () {rules}))) (k {} 1 2))", n - 1);

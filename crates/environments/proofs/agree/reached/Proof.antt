@@ -8,13 +8,14 @@ use borrow.Author.Tests.{not-true}
 use mathlib.Core.Path.{_≡_, _∙_, sym, refl, subst}
 use Rattle.environments.specs.EntryLaws.{moving-along}
 use Rattle.environments.specs.Marks.{Goes}
-use Rattle.environments.specs.Reached.{Reached, CountedBelow}
+use Rattle.environments.specs.Reached.{Reached, CountedIn}
+use Rattle.environments.specs.declared.agree.Round.the-variants.{Copies}
 use Rattle.environments.specs.MarkLaws.{marks-none, gathered-tells, still-drives, still-same}
 use Rattle.environments.specs.ReachedLaws.{reached-begins, reached-more, reached-differs, reached-still}
 
 abbrev Inv-loop : tie.InvT-loop
 Inv-loop work env e n drive still table₀ moving largest₀ i₀ table largest i =
-    (i ≤ n) × Reached work env e i largest × Goes work env drive moving i table
+    (i ≤ n) × Reached work env e (Copies i) largest × Goes work env drive moving i table
 
 abbrev μ-loop : tie.MeasureT-loop
 μ-loop work env e n drive still table₀ moving largest₀ i₀ table largest i =
@@ -38,7 +39,7 @@ returns c =
     let unmarked = c .before .before .any .ensures (not-true _ (c .before .if1 .taken)) in
     let told = still-drives (a .work .now) (a .env .now) _ _ (a .e) (c .before .before .before .before .before .before .before .before .before .before .pre .1) marks-none (c .before .before .before .before .before .before .before .mark .ensures) _ (c .before .before .before .before .gather .ensures) unmarked in
     let same = still-same (a .work .now) (a .env .now) _ _ (a .e) (c .before .before .before .before .before .before .before .before .before .before .pre .1) marks-none (c .before .before .before .before .before .before .before .mark .ensures) _ (c .before .before .before .before .gather .ensures) unmarked in
-    subst (CountedBelow (a .work .now) (a .env .now) (a .e) (a .n)) (sym (c .most .ensures)) (reached-still (a .work .now) (a .env .now) (a .e) _ told same (a .n) (c .before .before .before .before .before .before .before .before .before .before .pre .0))
+    subst (CountedIn (a .work .now) (a .env .now) (a .e) (Copies (a .n))) (sym (c .most .ensures)) (reached-still (a .work .now) (a .env .now) (a .e) _ told same (a .n) (c .before .before .before .before .before .before .before .before .before .before .pre .0))
 
 keep-requires : tie.Need-keep-requires Inv-loop μ-loop
 keep-requires c κs =
@@ -81,7 +82,7 @@ loop-again c =
 returns-3 : tie.Need-returns-3 Inv-loop μ-loop
 returns-3 c =
     let a = c .before .before .before .before .before .before .before .before .before .before .before .before .before .before .before .before .before .args in
-    let e : c .before .loop .i ≡ a .n = omega arith in subst (λ (k : ℕ). Reached (a .work .now) (a .env .now) (a .e) k (c .before .loop .largest)) e (c .before .loop .inv .1)
+    let e : c .before .loop .i ≡ a .n = omega arith in subst (λ (k : ℕ). Reached (a .work .now) (a .env .now) (a .e) (Copies k) (c .before .loop .largest)) e (c .before .loop .inv .1)
 
 pub reached-spec : {M : Type 1} → statement M
 reached-spec =

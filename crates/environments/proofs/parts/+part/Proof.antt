@@ -10,9 +10,8 @@ use Rattle.arena.proofs.cells.reference.Reads as reference-reads
 use Rattle.arena.proofs.cells.word.Reads as word-reads
 use Rattle.arena.proofs.lists.first.Reads as first-reads
 use Rattle.arena.proofs.lists.rest.Reads as rest-reads
-use Rattle.arena.proofs.lists.skip.Reads as skip-reads
 use Rattle.environments.proofs.parts.part_holds.Reads as part-holds-reads
-use Rattle.environments.proofs.shares.share.Reads as share-reads
+use Rattle.environments.proofs.shares.after.Reads as after-reads
 use Rattle.environments.proofs.parts.+part.{statement}
 use Rattle.environments.proofs.parts.+part.Tie.{close}
 use borrow.Author.Needs.{needs}
@@ -31,7 +30,7 @@ abbrev part-below : ℕ → In 1 part-kinds.ps
 part-below t = and 1 part-kinds.ps (falls 1 part-kinds.ps _<_ μ-part t) part.Pre
 
 abbrev part-claims : ℕ → part-lts.Claims
-part-claims t = (word-reads.Asked, word-reads.Learnt, reference-reads.Asked, reference-reads.Learnt, part-holds-reads.Asked, part-holds-reads.Learnt, first-reads.Asked, first-reads.Learnt, rest-reads.Asked, rest-reads.Learnt, share-reads.Asked, share-reads.Learnt, skip-reads.Asked, skip-reads.Learnt, part-below t, part.Post)
+part-claims t = (word-reads.Asked, word-reads.Learnt, reference-reads.Asked, reference-reads.Learnt, part-holds-reads.Asked, part-holds-reads.Learnt, first-reads.Asked, first-reads.Learnt, rest-reads.Asked, rest-reads.Learnt, after-reads.Asked, after-reads.Learnt, part-below t, part.Post)
 
 abbrev part-Inv-loop : part-lts.InvT-loop
 part-Inv-loop work p k u at₀ node₀ at node =
@@ -91,16 +90,16 @@ part-returns-3 t c =
 
 part-part-requires : (t : ℕ) → part-lts.Need-part-requires (part-claims t) (part-at t) part.Post part-Inv-loop part-μ-loop
 part-part-requires t c κs =
-    let a = c .before .before .before .before .before .before .before .before .before .before .before .before .before .args in
-    let l = c .before .before .before .before .before .before .before .before .before .before .before .loop in
-    let falls = tag-falls (a .work .now) (l .at) _ (c .before .before .before .before .before .before .before .before .word2 .ensures) 2 _ (λ z. omega (arith, c .before .before .before .before .before .before .if4 .left)) (c .reference4 .ensures) in
+    let a = c .before .before .before .before .before .before .before .before .before .before .before .before .args in
+    let l = c .before .before .before .before .before .before .before .before .before .before .loop in
+    let falls = tag-falls (a .work .now) (l .at) _ (c .before .before .before .before .before .before .before .word2 .ensures) 2 _ (λ z. omega (arith, c .before .before .before .before .before .if4 .left)) (c .reference4 .ensures) in
     omega (arith, l .inv .0, falls)
 
 part-returns-4 : (t : ℕ) → part-lts.Need-returns-4 (part-claims t) (part-at t) part.Post part-Inv-loop part-μ-loop
 part-returns-4 t c =
-    let a = c .before .before .before .before .before .before .before .before .before .before .before .before .before .before .args in
-    let l = c .before .before .before .before .before .before .before .before .before .before .before .before .loop in
-    l .inv .1 _ (part-after (a .work .now) (l .at) _ (c .before .before .before .before .before .before .before .before .before .word2 .ensures) (a .k) (l .node) _ _ (c .before .before .before .before .before .before .before .if4 .left) (c .before .before .before .before .before .before .reference3 .ensures) (c .before .before .before .before .before .part-holds2 .ensures) _ _ _ _ (c .before .before .before .before .if5 .left) (c .before .reference4 .ensures) (c .before .before .before .share .ensures) (c .before .before .skip .ensures) (c .part .ensures))
+    let a = c .before .before .before .before .before .before .before .before .before .before .before .before .before .args in
+    let l = c .before .before .before .before .before .before .before .before .before .before .before .loop in
+    l .inv .1 _ (part-after (a .work .now) (l .at) _ (c .before .before .before .before .before .before .before .before .word2 .ensures) (a .k) (l .node) _ _ (c .before .before .before .before .before .before .if4 .left) (c .before .before .before .before .before .reference3 .ensures) (c .before .before .before .before .part-holds2 .ensures) _ _ _ (c .before .before .before .if5 .left) (c .before .reference4 .ensures) (c .before .before .after .ensures) (c .part .ensures))
 
 pub +part-spec : {M : Type 1} → statement M
 +part-spec = close μ-part λ t. part-lts.spec (part-claims t)
@@ -125,8 +124,7 @@ pub +part-spec : {M : Type 1} → statement M
     (λ c κs. search needs)  -- part-reference-requires-3
     (λ c κs. search needs)  -- part-part-holds-requires-2
     (part-returns-3 t)
-    (λ c κs. search needs)  -- part-share-requires
-    (λ c κs. search needs)  -- part-skip-requires
+    (λ c κs. search needs)  -- part-after-requires
     (λ c κs. search needs)  -- part-reference-requires-4
     (part-part-requires t)
     (part-returns-4 t)

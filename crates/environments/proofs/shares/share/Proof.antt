@@ -8,7 +8,7 @@ use Rattle.arena.proofs.cells.word.Reads as word-reads
 use Rattle.arena.proofs.lists.count.Reads as count-reads
 use mathlib.Core.Path.{refl, sym, ap, _∙_}
 use native.Mathlib.Omega.{arith}
-use Rattle.environments.specs.PartLaws.{share-none, share-some}
+use Rattle.environments.specs.ShareLaws.{share-none, share-some}
 
 word-requires : tie.Need-word-requires
 word-requires c κs =

@@ -7,83 +7,94 @@ use Rattle.writer.proofs.called.put.Reads as put-reads
 use Rattle.writer.proofs.shapes.own.Reads as own-reads
 use borrow.Author.Needs.{needs}
 use native.Mathlib.Omega.{arith}
-use mathlib.Core.Path.{_≡_, refl, ap, _∙_}
-use Prim.Native.Nat.{_≤_, _+_, _-_}
+use mathlib.Core.Path.{_≡_, refl, sym, ap, _∙_}
+use Prim.Native.Nat.{_+_, _-_}
 use lib.ListN.{length, take, drop}
-use Rattle.writer.specs.CalledLaws.{Scan, Notes, scan-start, scan-end, scan-here, scan-sizes, scan-next, scan-names, scan-count, notes-more, notes-all}
+use Rattle.writer.specs.CalledLaws.{Scan, Notes, scan-start, scan-more, scan-here, scan-sizes, scan-next, scan-names, scan-count, notes-more, notes-all}
 
 abbrev Inv-loop : tie.InvT-loop
-Inv-loop words table₀ at₀ seen₀ table at seen =
-    Scan words at seen × (length table ≡ length table₀) × (seen ≤ length table₀) × Notes words seen table
+Inv-loop words count table₀ at₀ seen₀ table at seen =
+    Scan words at seen × (length table ≡ length table₀) × Notes words seen table
 
 abbrev μ-loop : tie.MeasureT-loop
-μ-loop words table₀ at₀ seen₀ table at seen =
+μ-loop words count table₀ at₀ seen₀ table at seen =
     length words - at
 
 loop-holds : tie.Need-loop-holds Inv-loop μ-loop
 loop-holds c =
-    (scan-start (c .before .before .args .words .now) (c .before .before .pre .0, c .before .before .pre .1), refl, omega arith, refl)
+    (scan-start (c .before .before .args .words .now) (c .before .before .pre .0), refl, refl)
+
+mul-own : tie.Need-mul-own Inv-loop μ-loop
+mul-own c =
+    let m = scan-more (c .before .before .before .before .args .words .now) _ _ (c .before .loop .inv .0) (omega (arith, c .loop-test .taken, c .before .before .before .before .pre .1)) in omega (arith, c .before .loop .inv .0 .inside, c .before .before .before .before .good)
+
+sub-own : tie.Need-sub-own Inv-loop μ-loop
+sub-own c =
+    c .before .loop .inv .0 .inside
+
+part-own-start : tie.Need-part-own-start Inv-loop μ-loop
+part-own-start c =
+    c .before .loop .inv .0 .inside
 
 own-requires : tie.Need-own-requires Inv-loop μ-loop
 own-requires c κs =
-    scan-here (c .before .before .before .before .before .args .words .now) _ _ (c .before .before .loop .inv .0) (c .before .loop-test .taken)
-
-sub-if1 : tie.Need-sub-if1 Inv-loop μ-loop
-sub-if1 c =
-    omega (arith, c .before .before .before .loop .inv .1, c .before .before .before .loop .inv .2)
-
-same-length : tie.Need-same-length Inv-loop μ-loop
-same-length c =
-    c .before .before .before .before .before .loop .inv .1
-
-returns : tie.Need-returns Inv-loop μ-loop
-returns c =
-    tt
+    let m = scan-more (c .before .before .before .before .before .args .words .now) _ _ (c .before .before .loop .inv .0) (omega (arith, c .before .loop-test .taken, c .before .before .before .before .before .pre .1)) in scan-here (c .before .before .before .before .before .args .words .now) _ _ (c .before .before .loop .inv .0) m
 
 add-end : tie.Need-add-end Inv-loop μ-loop
 add-end c =
-    let z = scan-sizes (c .before .before .before .before .before .before .before .before .before .args .words .now) _ _ (c .before .before .before .before .before .before .loop .inv .0) (c .before .before .before .before .before .loop-test .taken) (c .before .before .before .own .result .size) (c .before .before .before .own .result .names) (c .before .before .before .own .ensures) in omega (arith, z .2, c .before .before .before .before .before .before .before .before .before .good .0)
+    let m = scan-more (c .before .before .before .before .before .before .before .args .words .now) _ _ (c .before .before .before .before .loop .inv .0) (omega (arith, c .before .before .before .loop-test .taken, c .before .before .before .before .before .before .before .pre .1)) in
+    let z = scan-sizes (c .before .before .before .before .before .before .before .args .words .now) _ _ (c .before .before .before .before .loop .inv .0) m (c .before .own .result .size) (c .before .own .result .names) (c .before .own .ensures) in omega (arith, z .2, c .before .before .before .before .before .before .before .good)
 
 sub-put : tie.Need-sub-put Inv-loop μ-loop
 sub-put c =
-    let z = scan-sizes (c .before .before .before .before .before .before .before .before .before .before .args .words .now) _ _ (c .before .before .before .before .before .before .before .loop .inv .0) (c .before .before .before .before .before .before .loop-test .taken) (c .before .before .before .before .own .result .size) (c .before .before .before .before .own .result .names) (c .before .before .before .before .own .ensures) in omega (arith, z .1)
+    let m = scan-more (c .before .before .before .before .before .before .before .before .args .words .now) _ _ (c .before .before .before .before .before .loop .inv .0) (omega (arith, c .before .before .before .before .loop-test .taken, c .before .before .before .before .before .before .before .before .pre .1)) in
+    let z = scan-sizes (c .before .before .before .before .before .before .before .before .args .words .now) _ _ (c .before .before .before .before .before .loop .inv .0) m (c .before .before .own .result .size) (c .before .before .own .result .names) (c .before .before .own .ensures) in omega (arith, z .1)
 
 mul-put : tie.Need-mul-put Inv-loop μ-loop
 mul-put c =
-    let z = scan-sizes (c .before .before .before .before .before .before .before .before .before .before .args .words .now) _ _ (c .before .before .before .before .before .before .before .loop .inv .0) (c .before .before .before .before .before .before .loop-test .taken) (c .before .before .before .before .own .result .size) (c .before .before .before .before .own .result .names) (c .before .before .before .before .own .ensures) in omega (arith, z .1, z .2, c .before .before .before .before .before .before .before .before .before .before .good .0)
+    let m = scan-more (c .before .before .before .before .before .before .before .before .args .words .now) _ _ (c .before .before .before .before .before .loop .inv .0) (omega (arith, c .before .before .before .before .loop-test .taken, c .before .before .before .before .before .before .before .before .pre .1)) in
+    let z = scan-sizes (c .before .before .before .before .before .before .before .before .args .words .now) _ _ (c .before .before .before .before .before .loop .inv .0) m (c .before .before .own .result .size) (c .before .before .own .result .names) (c .before .before .own .ensures) in omega (arith, z .1, z .2, c .before .before .before .before .before .before .before .before .good)
 
 part-put-start : tie.Need-part-put-start Inv-loop μ-loop
 part-put-start c =
-    let z = scan-sizes (c .before .before .before .before .before .before .before .before .before .before .args .words .now) _ _ (c .before .before .before .before .before .before .before .loop .inv .0) (c .before .before .before .before .before .before .loop-test .taken) (c .before .before .before .before .own .result .size) (c .before .before .before .before .own .result .names) (c .before .before .before .before .own .ensures) in omega (arith, z .1)
+    let m = scan-more (c .before .before .before .before .before .before .before .before .args .words .now) _ _ (c .before .before .before .before .before .loop .inv .0) (omega (arith, c .before .before .before .before .loop-test .taken, c .before .before .before .before .before .before .before .before .pre .1)) in
+    let z = scan-sizes (c .before .before .before .before .before .before .before .before .args .words .now) _ _ (c .before .before .before .before .before .loop .inv .0) m (c .before .before .own .result .size) (c .before .before .own .result .names) (c .before .before .own .ensures) in omega (arith, z .1)
 
 part-put-end : tie.Need-part-put-end Inv-loop μ-loop
 part-put-end c =
-    let z = scan-sizes (c .before .before .before .before .before .before .before .before .before .before .args .words .now) _ _ (c .before .before .before .before .before .before .before .loop .inv .0) (c .before .before .before .before .before .before .loop-test .taken) (c .before .before .before .before .own .result .size) (c .before .before .before .before .own .result .names) (c .before .before .before .before .own .ensures) in omega (arith, z .2)
+    let m = scan-more (c .before .before .before .before .before .before .before .before .args .words .now) _ _ (c .before .before .before .before .before .loop .inv .0) (omega (arith, c .before .before .before .before .loop-test .taken, c .before .before .before .before .before .before .before .before .pre .1)) in
+    let z = scan-sizes (c .before .before .before .before .before .before .before .before .args .words .now) _ _ (c .before .before .before .before .before .loop .inv .0) m (c .before .before .own .result .size) (c .before .before .own .result .names) (c .before .before .own .ensures) in omega (arith, z .2)
 
 put-requires : tie.Need-put-requires Inv-loop μ-loop
 put-requires c κs =
-    let z = scan-sizes (c .before .before .before .before .before .before .before .before .before .before .before .before .args .words .now) _ _ (c .before .before .before .before .before .before .before .before .before .loop .inv .0) (c .before .before .before .before .before .before .before .before .loop-test .taken) (c .before .before .before .before .before .before .own .result .size) (c .before .before .before .before .before .before .own .result .names) (c .before .before .before .before .before .before .own .ensures) in omega (arith, scan-count (c .before .before .before .before .before .before .before .before .before .before .before .before .args .words .now) _ _ (c .before .before .before .before .before .before .before .before .before .loop .inv .0) (c .before .before .before .before .before .before .before .before .loop-test .taken) (c .before .before .before .before .before .before .own .result .size) (c .before .before .before .before .before .before .own .result .names) (c .before .before .before .before .before .before .own .ensures), c .before .before .before .before .if1 .left, c .before .before .before .before .before .before .before .before .before .loop .inv .1, c .before .before .before .before .before .before .before .before .before .loop .inv .2)
+    let m = scan-more (c .before .before .before .before .before .before .before .before .before .before .args .words .now) _ _ (c .before .before .before .before .before .before .before .loop .inv .0) (omega (arith, c .before .before .before .before .before .before .loop-test .taken, c .before .before .before .before .before .before .before .before .before .before .pre .1)) in
+    let z = scan-sizes (c .before .before .before .before .before .before .before .before .before .before .args .words .now) _ _ (c .before .before .before .before .before .before .before .loop .inv .0) m (c .before .before .before .before .own .result .size) (c .before .before .before .before .own .result .names) (c .before .before .before .before .own .ensures) in omega (arith, z .3, scan-count (c .before .before .before .before .before .before .before .before .before .before .args .words .now) _ _ (c .before .before .before .before .before .before .before .loop .inv .0) m (c .before .before .before .before .own .result .size) (c .before .before .before .before .own .result .names) (c .before .before .before .before .own .ensures), c .before .before .before .before .before .before .before .loop .inv .1, c .before .before .before .before .before .before .before .before .before .before .pre .1, c .before .before .before .before .before .before .before .before .before .before .pre .2)
 
 add-seen : tie.Need-add-seen Inv-loop μ-loop
 add-seen c =
-    omega (arith, c .before .before .before .before .before .before .before .before .if1 .left, c .before .before .before .before .before .before .before .before .before .before .before .before .before .loop .inv .1, c .before .before .before .before .before .before .before .before .before .before .before .before .before .loop .inv .2, c .before .before .before .before .before .before .before .before .before .before .before .before .before .before .before .before .good .1)
+    let m = scan-more (c .before .before .before .before .before .before .before .before .before .before .before .before .before .before .args .words .now) _ _ (c .before .before .before .before .before .before .before .before .before .before .before .loop .inv .0) (omega (arith, c .before .before .before .before .before .before .before .before .before .before .loop-test .taken, c .before .before .before .before .before .before .before .before .before .before .before .before .before .before .pre .1)) in
+    let z = scan-sizes (c .before .before .before .before .before .before .before .before .before .before .before .before .before .before .args .words .now) _ _ (c .before .before .before .before .before .before .before .before .before .before .before .loop .inv .0) m (c .before .before .before .before .before .before .before .before .own .result .size) (c .before .before .before .before .before .before .before .before .own .result .names) (c .before .before .before .before .before .before .before .before .own .ensures) in omega (arith, z .3, c .before .before .before .before .before .before .before .before .before .before .before .before .before .before .pre .1, c .before .before .before .before .before .before .before .before .before .before .before .before .before .before .pre .2, c .before .before .before .before .before .before .before .before .before .before .before .before .before .before .good)
 
 loop-less : tie.Need-loop-less Inv-loop μ-loop
 loop-less c =
-    let z = scan-sizes (c .before .before .before .before .before .before .before .before .before .before .before .before .before .before .before .before .args .words .now) _ _ (c .before .before .before .before .before .before .before .before .before .before .before .before .before .loop .inv .0) (c .before .before .before .before .before .before .before .before .before .before .before .before .loop-test .taken) (c .before .before .before .before .before .before .before .before .before .before .own .result .size) (c .before .before .before .before .before .before .before .before .before .before .own .result .names) (c .before .before .before .before .before .before .before .before .before .before .own .ensures) in omega (arith, z .0, z .2)
+    let m = scan-more (c .before .before .before .before .before .before .before .before .before .before .before .before .before .before .args .words .now) _ _ (c .before .before .before .before .before .before .before .before .before .before .before .loop .inv .0) (omega (arith, c .before .before .before .before .before .before .before .before .before .before .loop-test .taken, c .before .before .before .before .before .before .before .before .before .before .before .before .before .before .pre .1)) in
+    let z = scan-sizes (c .before .before .before .before .before .before .before .before .before .before .before .before .before .before .args .words .now) _ _ (c .before .before .before .before .before .before .before .before .before .before .before .loop .inv .0) m (c .before .before .before .before .before .before .before .before .own .result .size) (c .before .before .before .before .before .before .before .before .own .result .names) (c .before .before .before .before .before .before .before .before .own .ensures) in omega (arith, z .0, z .2)
 
 loop-again : tie.Need-loop-again Inv-loop μ-loop
 loop-again c =
-    let z = scan-sizes (c .before .before .before .before .before .before .before .before .before .before .before .before .before .before .before .before .args .words .now) _ _ (c .before .before .before .before .before .before .before .before .before .before .before .before .before .loop .inv .0) (c .before .before .before .before .before .before .before .before .before .before .before .before .loop-test .taken) (c .before .before .before .before .before .before .before .before .before .before .own .result .size) (c .before .before .before .before .before .before .before .before .before .before .own .result .names) (c .before .before .before .before .before .before .before .before .before .before .own .ensures) in
-    (scan-next (c .before .before .before .before .before .before .before .before .before .before .before .before .before .before .before .before .args .words .now) _ _ (c .before .before .before .before .before .before .before .before .before .before .before .before .before .loop .inv .0) (c .before .before .before .before .before .before .before .before .before .before .before .before .loop-test .taken) (c .before .before .before .before .before .before .before .before .before .before .own .result .size) (c .before .before .before .before .before .before .before .before .before .before .own .result .names) (c .before .before .before .before .before .before .before .before .before .before .own .ensures), c .before .before .before .put .kept .1 .0 ∙ c .before .before .before .before .before .before .before .before .before .before .before .before .before .loop .inv .1, omega (arith, c .before .before .before .before .before .before .before .before .if1 .left, c .before .before .before .before .before .before .before .before .before .before .before .before .before .loop .inv .1, c .before .before .before .before .before .before .before .before .before .before .before .before .before .loop .inv .2), ap (take (c .before .before .before .before .before .before .before .before .before .before .before .before .before .loop .seen + c .before .before .before .before .before .before .before .before .before .before .own .result .names)) (c .before .before .before .put .ensures) ∙ notes-more (c .before .before .before .before .before .before .before .before .before .before .before .before .before .before .before .before .args .words .now) (c .before .before .before .before .before .before .before .before .before .before .before .before .before .loop .table) (take (c .before .before .before .before .before .before .before .before .before .before .before .before .before .loop .at + c .before .before .before .before .before .before .before .before .before .before .own .result .size - (c .before .before .before .before .before .before .before .before .before .before .before .before .before .loop .at + c .before .before .before .before .before .before .before .before .before .before .own .result .size - c .before .before .before .before .before .before .before .before .before .before .own .result .names)) (drop (c .before .before .before .before .before .before .before .before .before .before .before .before .before .loop .at + c .before .before .before .before .before .before .before .before .before .before .own .result .size - c .before .before .before .before .before .before .before .before .before .before .own .result .names) (c .before .before .before .before .before .before .before .before .before .before .before .before .before .before .before .before .args .words .now))) (c .before .before .before .before .before .before .before .before .before .before .before .before .before .loop .seen) (c .before .before .before .before .before .before .before .before .before .before .own .result .names) (c .before .before .before .before .before .before .before .before .before .before .before .before .before .loop .inv .3) (omega (arith, c .before .before .before .before .before .before .before .before .if1 .left, c .before .before .before .before .before .before .before .before .before .before .before .before .before .loop .inv .1, c .before .before .before .before .before .before .before .before .before .before .before .before .before .loop .inv .2)) (z .3) (scan-count (c .before .before .before .before .before .before .before .before .before .before .before .before .before .before .before .before .args .words .now) _ _ (c .before .before .before .before .before .before .before .before .before .before .before .before .before .loop .inv .0) (c .before .before .before .before .before .before .before .before .before .before .before .before .loop-test .taken) (c .before .before .before .before .before .before .before .before .before .before .own .result .size) (c .before .before .before .before .before .before .before .before .before .before .own .result .names) (c .before .before .before .before .before .before .before .before .before .before .own .ensures)) (scan-names (c .before .before .before .before .before .before .before .before .before .before .before .before .before .before .before .before .args .words .now) _ _ (c .before .before .before .before .before .before .before .before .before .before .before .before .before .loop .inv .0) (c .before .before .before .before .before .before .before .before .before .before .before .before .loop-test .taken) (c .before .before .before .before .before .before .before .before .before .before .own .result .size) (c .before .before .before .before .before .before .before .before .before .before .own .result .names) (c .before .before .before .before .before .before .before .before .before .before .own .ensures)))
+    let m = scan-more (c .before .before .before .before .before .before .before .before .before .before .before .before .before .before .args .words .now) _ _ (c .before .before .before .before .before .before .before .before .before .before .before .loop .inv .0) (omega (arith, c .before .before .before .before .before .before .before .before .before .before .loop-test .taken, c .before .before .before .before .before .before .before .before .before .before .before .before .before .before .pre .1)) in
+    let z = scan-sizes (c .before .before .before .before .before .before .before .before .before .before .before .before .before .before .args .words .now) _ _ (c .before .before .before .before .before .before .before .before .before .before .before .loop .inv .0) m (c .before .before .before .before .before .before .before .before .own .result .size) (c .before .before .before .before .before .before .before .before .own .result .names) (c .before .before .before .before .before .before .before .before .own .ensures) in
+    let end = c .before .before .before .before .before .before .before .before .before .before .before .loop .at + c .before .before .before .before .before .before .before .before .own .result .size in
+    (scan-next (c .before .before .before .before .before .before .before .before .before .before .before .before .before .before .args .words .now) _ _ (c .before .before .before .before .before .before .before .before .before .before .before .loop .inv .0) m (c .before .before .before .before .before .before .before .before .own .result .size) (c .before .before .before .before .before .before .before .before .own .result .names) (c .before .before .before .before .before .before .before .before .own .ensures), c .before .before .before .put .kept .1 .0 ∙ c .before .before .before .before .before .before .before .before .before .before .before .loop .inv .1, ap (take (c .before .before .before .before .before .before .before .before .before .before .before .loop .seen + c .before .before .before .before .before .before .before .before .own .result .names)) (c .before .before .before .put .ensures) ∙ notes-more (c .before .before .before .before .before .before .before .before .before .before .before .before .before .before .args .words .now) (c .before .before .before .before .before .before .before .before .before .before .before .loop .table) (take (end - (end - c .before .before .before .before .before .before .before .before .own .result .names)) (drop (end - c .before .before .before .before .before .before .before .before .own .result .names) (c .before .before .before .before .before .before .before .before .before .before .before .before .before .before .args .words .now))) (c .before .before .before .before .before .before .before .before .before .before .before .loop .seen) (c .before .before .before .before .before .before .before .before .own .result .names) (c .before .before .before .before .before .before .before .before .before .before .before .loop .inv .2) (omega (arith, z .3, c .before .before .before .before .before .before .before .before .before .before .before .loop .inv .1, c .before .before .before .before .before .before .before .before .before .before .before .before .before .before .pre .1, c .before .before .before .before .before .before .before .before .before .before .before .before .before .before .pre .2)) (z .3) (scan-count (c .before .before .before .before .before .before .before .before .before .before .before .before .before .before .args .words .now) _ _ (c .before .before .before .before .before .before .before .before .before .before .before .loop .inv .0) m (c .before .before .before .before .before .before .before .before .own .result .size) (c .before .before .before .before .before .before .before .before .own .result .names) (c .before .before .before .before .before .before .before .before .own .ensures)) (scan-names (c .before .before .before .before .before .before .before .before .before .before .before .before .before .before .args .words .now) _ _ (c .before .before .before .before .before .before .before .before .before .before .before .loop .inv .0) m (c .before .before .before .before .before .before .before .before .own .result .size) (c .before .before .before .before .before .before .before .before .own .result .names) (c .before .before .before .before .before .before .before .before .own .ensures)))
 
-same-length-2 : tie.Need-same-length-2 Inv-loop μ-loop
-same-length-2 c =
+same-length : tie.Need-same-length Inv-loop μ-loop
+same-length c =
     c .before .loop .inv .1
 
-returns-2 : tie.Need-returns-2 Inv-loop μ-loop
-returns-2 c =
-    let e : c .before .loop .at ≡ length (c .before .before .before .before .args .words .now) = omega (arith, c .before .loop .inv .0 .inside, c .loop-test .left) in (omega (arith, c .before .loop .inv .1, c .before .loop .inv .2), notes-all (c .before .before .before .before .args .words .now) (c .before .loop .table) (c .before .loop .seen) (c .before .loop .inv .3) (scan-end (c .before .before .before .before .args .words .now) _ _ (c .before .loop .inv .0) e))
+returns : tie.Need-returns Inv-loop μ-loop
+returns c =
+    let e : c .before .loop .seen ≡ c .before .before .before .before .args .count = omega (arith, c .before .loop .inv .0 .known, c .loop-test .left, c .before .before .before .before .pre .1) in
+    ap (λ n. take n (c .before .loop .table)) (sym e) ∙ notes-all (c .before .before .before .before .args .words .now) (c .before .loop .table) (c .before .loop .seen) (c .before .loop .inv .2) (omega (arith, e, c .before .before .before .before .pre .1))
 
 pub note-spec : {M : Type 1} → statement M
 note-spec =
@@ -92,14 +103,11 @@ note-spec =
     Inv-loop
     μ-loop
     loop-holds
-    (λ c. search needs)  -- mul-own
-    (λ c. search needs)  -- sub-own
-    (λ c. search needs)  -- part-own-start
+    mul-own
+    sub-own
+    part-own-start
     (λ c. search needs)  -- part-own-end
     own-requires
-    sub-if1
-    same-length
-    returns
     add-end
     sub-put
     mul-put
@@ -110,5 +118,5 @@ note-spec =
     add-seen
     loop-less
     loop-again
-    same-length-2
-    returns-2)
+    same-length
+    returns)
