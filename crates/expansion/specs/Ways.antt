@@ -17,7 +17,7 @@ use Rattle.core_term.specs.Term.{Term}
 use Rattle.expansion.specs.Lookup.{quote, if, lambda, let-syntax, letrec-syntax, auxiliary, Found, bound, form, operation, nothing, lookup}
 use Rattle.expansion.specs.Match.{firstFit}
 use Rattle.expansion.specs.Computation.{State, looked, quoted, Events, Out, M, _>>=_, _>>_, give, refuse, show, test, orRefuse, get}
-use Rattle.expansion.specs.Forms.{formals, keywords, rulesForms, bindings, expandAll, expandQuote, expandIf, expandLambda, expandMacros, expandUse, expandOperands, expandList, expandName, expandApplication, expandPair, expandTree, expandWithin, expand}
+use Rattle.expansion.specs.Forms.{formals, keywords, rulesForms, bindings, expandAll, expandQuote, expandIf, expandLambda, expandMacros, expandUse, expandOperands, expandList, expandName, expandApplication, expandPair, expandTree, expandWithin}
 use Rattle.expansion.specs.Outcomes.{Holds, isStarved, give-holds, refuse-holds, test-holds, show-holds, get-holds, addVariables-holds, addMacros-holds, addStep-holds, then-holds, orRefuse-holds, weaken}
 use Rattle.expansion.specs.FormLaws.{Unbinding, looking, quoting, reaching, rules-added, readRules-holds, keywords-count}
 use Rattle.expansion.specs.Ways.Bindings.{variableNumber, macroNumber, boundBy, upFrom, boundBy-append, upFrom-append, unbinding-binds, variables-bind, macros-bind, no-macros-bind, no-variables-bind}
@@ -254,4 +254,4 @@ module _ (limit : ℕ) (operations : List ℕ) (fuel : ℕ) (rec : Tree → M (T
 pub expand-keeps : (limit inner : ℕ) (operations : List ℕ) (fuel gas : ℕ) (t : Tree) → Keeps (expandWithin limit inner operations fuel gas t)
 unfolding expandWithin
 expand-keeps limit inner operations fuel zero t = λ s. isStarved tt
-expand-keeps limit inner operations fuel (suc gas) t = tree-keeps limit operations fuel (expand inner operations fuel gas) (expand-keeps inner inner operations fuel gas) t
+expand-keeps limit inner operations fuel (suc gas) t = tree-keeps limit operations fuel _ (expand-keeps _ _ operations fuel gas) t

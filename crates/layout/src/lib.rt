@@ -6,10 +6,10 @@ mod reference;
 
 ghost use mathlib.Core.Path.{_≡_};
 ghost use mathlib.Core.Bool.{true, _&&_};
-ghost use Prim.Native.Nat.{_+_, _*_, _≤_, _<_};
+ghost use Prim.Native.Nat.{_+_, _*_, _<_};
 ghost use lib.Dec.{leb};
 ghost use lib.ListN.{length};
-ghost use Rattle.words.specs.Limits.{itemsMost, fuelMost, workRate, coreRate};
+ghost use Rattle.words.specs.Limits.{fuelMost, workRate, coreRate};
 ghost use Rattle.words.specs.Lists.{allOf};
 ghost use Rattle.recipe.specs.Tree.{isList, isListOf, element};
 ghost use Rattle.recipe.specs.Table.{items, isItem, treeOf, isLayout};
@@ -61,14 +61,21 @@ pub fn fuel_fits(fuel: u32) -> bool
     fuel <= words::FUEL
 }
 
-// Ground 9 of n items and lent tables of these lengths, past grounds 7 and 8: so the products are small.
-pub fn tables_fit(n: usize, fuel: u32, work: usize, core: usize) -> bool
-    requires { ⌜ (n ≤ itemsMost) × (fuel ≤ fuelMost) ⌝ }
-    ensures { λ r. ⌜ r ≡ (leb (workRate * (n + fuel)) work && leb (coreRate * (n + fuel)) core) ⌝ }
+// `rate` words for each of n items and each unit of fuel are at most this many words. No product is made, so none overflows.
+fn has_room(rate: usize, n: usize, fuel: u32, length: usize) -> bool
+    requires { ⌜ 0 < rate ⌝ }
+    ensures { λ r. ⌜ r ≡ leb (rate * (n + fuel)) length ⌝ }
 {
-    let need = n + fuel as usize;
-    if work < words::WORK_RATE * need {
+    let most = length / rate;
+    if most < n {
         return false;
     }
-    words::CORE_RATE * need <= core
+    fuel as usize <= most - n
+}
+
+// Ground 9 of n items and lent tables of these lengths.
+pub fn tables_fit(n: usize, fuel: u32, work: usize, core: usize) -> bool
+    ensures { λ r. ⌜ r ≡ (leb (workRate * (n + fuel)) work && leb (coreRate * (n + fuel)) core) ⌝ }
+{
+    has_room(words::WORK_RATE, n, fuel, work) && has_room(words::CORE_RATE, n, fuel, core)
 }

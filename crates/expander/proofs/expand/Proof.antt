@@ -8,9 +8,8 @@ use lib.Dec.{leb}
 use Rattle.words.specs.Limits.{fuelMost}
 use Prim.Native.Nat.{ℕ}
 use lib.ListN.{replicate}
-use borrow.Author.Tests.{not-true, not-false, leb-true}
+use borrow.Author.Tests.{not-true, not-false}
 use Rattle.recipe.specs.Table.{itemCount, isLayout}
-use Rattle.recipe.specs.TableLaws.{isLayout-parts}
 use Rattle.layout.specs.Places.{places-none}
 use Rattle.expander.specs.ServiceLaws.{room, served-layout, served-fuel, served-tables, served-operations, lends, expanded-fits, served-expanded}
 
@@ -34,11 +33,6 @@ returns-2 : tie.Need-returns-2
 returns-2 c =
     let a = c .before .before .before .before .before .before .before .before .args in
     served-fuel (a .items .now) (a .fuel) (a .work .now) (a .core .now) (layout (c .before .before .before)) (sym (c .before .before .fuel-fits .ensures) ∙ not-true _ (c .before .if2 .taken)) _ (c .refused2 .ensures)
-
-tables-fit-requires : tie.Need-tables-fit-requires
-unfolding itemCount
-tables-fit-requires c κs =
-    (isLayout-parts (c .before .before .before .before .before .before .before .args .items .now) (layout (c .before .before)) .count .1, leb-true _ _ (fuelled c))
 
 returns-3 : tie.Need-returns-3
 unfolding itemCount
@@ -83,7 +77,7 @@ expand-spec =
     (λ c κs. search needs)  -- fuel-fits-requires
     (λ c κs. search needs)  -- refused-requires-2
     returns-2
-    tables-fit-requires
+    (λ c κs. search needs)  -- tables-fit-requires
     (λ c κs. search needs)  -- refused-requires-3
     returns-3
     (λ c. search needs)  -- slice-aggregate-operations

@@ -22,7 +22,7 @@ use Rattle.core_term.specs.Words.{datumWords, dataWords, encode}
 use Rattle.expansion.specs.Lookup.{quote, if, lambda, let-syntax, letrec-syntax, auxiliary, Found, bound, form, operation, nothing, lookup}
 use Rattle.expansion.specs.Transcribe.{transcribe}
 use Rattle.expansion.specs.Computation.{State, Out, M}
-use Rattle.expansion.specs.Forms.{isLambda, formals, isMacros, keywords, rulesForms, expandAll, expandQuote, expandIf, expandLambda, expandMacros, expandUse, expandOperands, expandList, expandName, expandApplication, expandPair, expandTree, expandWithin, expand}
+use Rattle.expansion.specs.Forms.{isLambda, formals, isMacros, keywords, rulesForms, expandAll, expandQuote, expandIf, expandLambda, expandMacros, expandUse, expandOperands, expandList, expandName, expandApplication, expandPair, expandTree, expandWithin}
 use Rattle.expansion.specs.Run.{wordsOf, wordsOfAll}
 use Rattle.expansion.specs.FormLaws.{rules-added, readRules-holds}
 use Rattle.expansion.specs.Outcomes.{Holds, give-holds, refuse-holds, test-holds, show-holds, get-holds, addVariables-holds, addMacros-holds, addStep-holds, then-holds, orRefuse-holds, weaken}
@@ -200,7 +200,7 @@ module _ (limit : ℕ) (operations : List ℕ) (fuel : ℕ) where
         addStep-holds _ _ s
         (let result : Tree = transcribe (r .pattern) (tail (mark (suc (s .steps)) t)) [] (r .template) in
         let e : size (produce (mark (suc (s .steps)) result)) ≡ size result = produce-size (mark (suc (s .steps)) result) ∙ mark-size (suc (s .steps)) result in
-        let solvent : Solvent fuel _ = record { paid = omega (arith, low .paid, size-positive result); bounded = leb-true _ _ enough } in
+        let solvent : Solvent fuel _ = record { paid = omega (arith, low .paid, size-positive result); bounded = omega (arith, leb-true) } in
         weaken (good _ _ solvent (omega (arith, e, size-positive t))) (λ x. x) (λ g u k q. q) λ w u k q.
         record { grown = omega (arith, q .grown); solvent = q .solvent; words = omega (arith, e, q .words); bindings = omega (arith, e, q .bindings) })))
 
@@ -243,4 +243,4 @@ pub expand-spends : (limit inner : ℕ) (operations : List ℕ) (fuel gas : ℕ)
 unfolding expandWithin
 expand-spends limit inner operations fuel zero t s low g = absurd (omega (arith, size-positive t))
 expand-spends limit inner operations fuel (suc gas) t s low g =
-    tree-spends limit operations fuel gas (expand inner operations fuel gas) (expand-spends inner inner operations fuel gas) t s low g
+    tree-spends limit operations fuel gas _ (expand-spends _ _ operations fuel gas) t s low g

@@ -20,7 +20,7 @@ use Rattle.core_term.specs.Every.{Asked, everyDatum, every, everyTerm}
 use Rattle.core_term.specs.Check.{Scope, inside, variableInside, firstNumber, known, small}
 use Rattle.expansion.specs.Lookup.{quote, if, lambda, let-syntax, letrec-syntax, auxiliary, Found}
 use Rattle.expansion.specs.Computation.{State, Out, M}
-use Rattle.expansion.specs.Forms.{isLambda, formals, keywords, rulesForms, expandAll, expandQuote, expandIf, expandLambda, expandMacros, expandUse, expandOperands, expandList, expandName, expandApplication, expandPair, expandTree, expandWithin, expand}
+use Rattle.expansion.specs.Forms.{isLambda, formals, keywords, rulesForms, expandAll, expandQuote, expandIf, expandLambda, expandMacros, expandUse, expandOperands, expandList, expandName, expandApplication, expandPair, expandTree, expandWithin}
 use Rattle.expansion.specs.Run.{told, toldAll}
 use Rattle.expansion.specs.Outcomes.{Holds, isStarved, give-holds, refuse-holds, test-holds, show-holds, get-holds, addVariables-holds, addMacros-holds, addStep-holds, then-holds, orRefuse-holds, weaken}
 use Rattle.expansion.specs.FormLaws.{readRules-holds, keywords-count}
@@ -229,4 +229,4 @@ pub expand-made : (limit inner : ℕ) (operations : List ℕ) (fuel gas : ℕ) �
 unfolding expandWithin
 expand-made limit inner operations fuel zero W t f s c = isStarved tt
 expand-made limit inner operations fuel (suc gas) W t f s c =
-    tree-made limit operations fuel (expand inner operations fuel gas) (expand-made inner inner operations fuel gas) W f s c
+    tree-made limit operations fuel _ (expand-made _ _ operations fuel gas) W f s c

@@ -11,7 +11,7 @@ use Rattle.recipe.specs.Tree.{Tree, empty, constant, name, pair}
 use Rattle.core_term.specs.Term.{Term}
 use Rattle.expansion.specs.Lookup.{quote, if, lambda, let-syntax, letrec-syntax, auxiliary, Found, bound, form, operation, nothing, lookup}
 use Rattle.expansion.specs.Computation.{State, M}
-use Rattle.expansion.specs.Forms.{readRules, expandAll, expandQuote, expandIf, expandLambda, expandMacros, expandUse, expandOperands, expandList, expandName, expandApplication, expandPair, expandTree, expandWithin, expand}
+use Rattle.expansion.specs.Forms.{readRules, expandAll, expandQuote, expandIf, expandLambda, expandMacros, expandUse, expandOperands, expandList, expandName, expandApplication, expandPair, expandTree, expandWithin}
 use Rattle.expansion.specs.Outcomes.{weaken}
 use Rattle.expansion.specs.FormLaws.{readRules-holds}
 use Rattle.expansion.specs.Ways.{expand-keeps}
@@ -128,4 +128,4 @@ expand-tries limit inner operations fuel more zero gas′ h g t s =
     record { grown = weaken (expand-keeps limit inner operations more gas′ t s) (λ x. x) (λ g u l q. q .way .sum) (λ a u l q. q .sum); beside = starves }
 expand-tries limit inner operations fuel more (suc gas) zero h g t s = absurd (omega arith)
 expand-tries limit inner operations fuel more (suc gas) (suc gas′) h g t s =
-    tree-tries limit operations fuel more h (expand inner operations fuel gas) (expand inner operations more gas′) (expand-tries inner inner operations fuel more gas gas′ h (omega arith)) t s
+    tree-tries limit operations fuel more h _ _ (expand-tries _ _ operations fuel more gas gas′ h (omega arith)) t s
