@@ -5,6 +5,7 @@
  */
 #include "grebetallboy.h"
 #include <stdio.h>
+#include <stdlib.h>
 
 enum { FUEL = 512, ITEMS = 4095 };
 
@@ -22,8 +23,11 @@ static size_t file(const char *name, uint8_t *bytes)
 {
     FILE *in = fopen(name, "rb");
     size_t length = in ? fread(bytes, 1, 65536, in) : 0;
-    if (in)
-        fclose(in);
+    if (!in || ferror(in)) {
+        perror(name);
+        exit(2);
+    }
+    fclose(in);
     return length;
 }
 

@@ -1,4 +1,4 @@
-//! The three services one after another, as the filing program runs them.
+//! The services one after another, as the programs run them.
 
 use grebetallboy::{compare, expand, read, write, Error, Expanded, Refused, ITEM_WORDS, NAME_BYTES, TEXT_RATE};
 

@@ -114,16 +114,33 @@ pub fn examples() -> Vec<(Vec<u8>, Vec<u8>, String)> {
 
 /// The pairs proved of the definition: `row recipe "text" answer`, the recipe quoted or by a name that is given it.
 pub fn proved() -> Vec<(String, String, String)> {
-    let specs = spec("comparison/specs/Rows.antt");
+    let row = |(recipe, text, rest): (String, String, &str)| {
+        let answer = rest.lines().next().unwrap_or("");
+        (recipe, text, answer.trim_matches([' ', '∷', '(', ')']).replace("refusedOn", "refused"))
+    };
+    rows(&spec("comparison/specs/Rows.antt"), row)
+}
+
+/// The pairs whose whole output is proved: `row recipe "text" "output"`.
+pub fn printed() -> Vec<(String, String, String)> {
+    let row = |(recipe, text, rest): (String, String, &str)| (recipe, text, quoted(rest).expect("an output").0);
+    rows(&spec("comparison_output/specs/Rows.antt"), row)
+}
+
+fn rows(specs: &str, row: impl Fn((String, String, &str)) -> (String, String, String)) -> Vec<(String, String, String)> {
+    let names = spec("comparison/specs/Rows.antt");
     let given = |name: &str| {
-        let definition = specs.lines().find_map(|line| line.strip_prefix(name)?.trim_start().strip_prefix('='))?;
+        let definition = names.lines().find_map(|line| line.strip_prefix(name)?.trim_start().strip_prefix('='))?;
         quoted(definition).map(|(recipe, _)| recipe)
     };
-    let row = |line: &str| {
-        let line = line.trim_start().strip_prefix("row ")?;
-        let (recipe, rest) = quoted(line).or_else(|| line.split_once(' ').and_then(|(name, rest)| Some((given(name)?, rest))))?;
-        let (text, answer) = quoted(rest)?;
-        Some((recipe, text, answer.trim_matches([' ', '∷', '(', ')']).replace("refusedOn", "refused")))
+    let parts = |rest: &'_ str| -> Option<(String, String, usize)> {
+        let (recipe, after) = quoted(rest).or_else(|| rest.split_once(' ').and_then(|(name, after)| Some((given(name)?, after))))?;
+        let (text, after) = quoted(after)?;
+        Some((recipe, text, rest.len() - after.len()))
     };
-    specs.lines().filter_map(row).collect()
+    let found = specs.match_indices("\n    row ").filter_map(|(at, word)| {
+        let rest = &specs[at + word.len()..];
+        parts(rest).map(|(recipe, text, end)| row((recipe, text, &rest[end..])))
+    });
+    found.collect()
 }

@@ -20,13 +20,17 @@ pub const BASE_NAMES: [&str; 8] = [
     "quote", "if", "lambda", "let-syntax", "letrec-syntax", "syntax-rules", "...", "_",
 ];
 
-/// What the filing program prints for a text: fuel 512, 16,368 work words, 2,046 core words.
+/// Words of the work and core tables that the programs lend.
+const FILING_WORK: usize = 16_368;
+const FILING_CORE: usize = 2_046;
+
+/// What the filing program prints for a text, with fuel 512.
 pub fn file(text: &[u8], fuel: u32) -> String {
     let recipe = match text::read(text) {
         Ok(recipe) => recipe,
         Err(ground) => return format!("refused {ground} 0 0\n"),
     };
-    let run = expand::run(&recipe.words(), fuel, 16_368, 2_046);
+    let run = expand::run(&recipe.words(), fuel, FILING_WORK, FILING_CORE);
     match run.outcome {
         Err(ground) => format!("refused {ground} {} {}\n", run.steps, run.sum),
         Ok(()) => {
@@ -36,13 +40,12 @@ pub fn file(text: &[u8], fuel: u32) -> String {
     }
 }
 
-/// What the program that holds a supplier's text against a recipe prints.
+/// What the program that holds a supplier's text against a recipe prints, in the same tables.
 pub fn compare(recipe: &[u8], text: &[u8], fuel: u32) -> String {
     let answer = || {
         let recipe = text::read(recipe)?;
         let items = recipe.words();
-        let (work, core) = expand::table_words(items.len() / 3, fuel);
-        let run = expand::run(&items, fuel, work, core);
+        let run = expand::run(&items, fuel, FILING_WORK, FILING_CORE);
         run.outcome?;
         let (mut items2, mut names2) = (vec![0; 12_288], vec![0; 65_536]);
         supplier::compare(&items, &recipe.name_table(), &run.core, text, &mut items2, &mut names2)

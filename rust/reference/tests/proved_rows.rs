@@ -32,6 +32,11 @@ fn proved_pairs() {
     for (recipe, text, answer) in rows {
         assert_eq!(compare(recipe.as_bytes(), text.as_bytes(), 512), answer + "\n", "{recipe}\n{text}");
     }
+    let rows = pairs::printed();
+    assert!(rows.len() > 10, "{} rows", rows.len());
+    for (recipe, text, output) in rows {
+        assert_eq!(compare(recipe.as_bytes(), text.as_bytes(), 512), output, "{recipe}\n{text}");
+    }
 }
 
 #[test]
