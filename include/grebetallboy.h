@@ -35,7 +35,7 @@ extern "C" {
 #define GREBETALLBOY_READ_STACK ((size_t)16384)
 #define GREBETALLBOY_EXPAND_STACK(items, fuel) (262144 + 512 * ((size_t)(items) + (size_t)(fuel)))
 #define GREBETALLBOY_WRITE_STACK(words) (49152 + 256 * (size_t)(words))
-#define GREBETALLBOY_COMPARE_STACK(words) (65536 + 256 * (size_t)(words))
+#define GREBETALLBOY_COMPARE_STACK(words) (131072 + 256 * (size_t)(words))
 
 /* Reads a recipe text of at most 65,535 bytes. Accepted: counts has the items (three words each) and the names, then 0.
  * An item's first word is its kind: 0 empty list, 1 integer, 2 boolean, 3 name, 4 pair, 5 decimal (its value without the dot, and

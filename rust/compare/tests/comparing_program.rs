@@ -23,6 +23,7 @@ fn file(name: &str, bytes: &[u8]) -> PathBuf {
 fn printed(recipe: &[u8], text: &[u8]) -> String {
     let files = [file("recipe", recipe), file("text", text)];
     let (out, error) = run(&[&files[0], &files[1]]);
+    files.iter().for_each(|file| std::fs::remove_file(file).unwrap());
     assert_eq!(error, "");
     out
 }
@@ -52,4 +53,5 @@ fn program() {
         let name = arguments.iter().find(|path| **path != &recipe).unwrap();
         assert!(out.is_empty() && error.starts_with(&format!("{}: ", name.display())), "{arguments:?}: {out}{error}");
     }
+    std::fs::remove_file(recipe).unwrap();
 }

@@ -38,9 +38,9 @@ pub fn write_stack(words: usize) -> usize {
     words.saturating_mul(256).saturating_add(48 << 10)
 }
 
-/// Bytes of stack that comparing takes at most: reading a text, and testing our words as writing does.
+/// Bytes of stack that comparing takes at most: testing our words as writing does, and going into the lists of a text, 64 at most.
 pub fn compare_stack(words: usize) -> usize {
-    words.saturating_mul(256).saturating_add(64 << 10)
+    words.saturating_mul(256).saturating_add(128 << 10)
 }
 
 #[derive(Clone, Copy, Debug, PartialEq, Eq)]

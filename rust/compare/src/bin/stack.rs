@@ -28,8 +28,7 @@ fn write(words: &[u32]) {
 
 /// Holds a text against our words, of a recipe without operations.
 fn compare(words: &[u32], text: &[u8]) {
-    let items: [u32; 15] = [4, 1, 2, 0, 0, 0, 4, 3, 4, 1, 5, 0, 0, 0, 0];
-    let (names, mut counts) = ([], [0; 3]);
+    let (items, names, mut counts) = (deep::NO_OPERATIONS, [], [0; 3]);
     let (mut text_items, mut text_names) = (vec![0; ITEM_WORDS], vec![0; NAME_BYTES]);
     // SAFETY: as in `expand`.
     unsafe {
@@ -55,11 +54,11 @@ fn measured() -> Vec<Measured> {
             all.push((format!("comparing nested {name}{whole}"), levels, most, Box::new(move || compare(&compared, b"5"))));
         }
     }
-    for (name, opening, words) in [("applications", "(", &[8, 0][..]), ("lambdas", "(lambda () ", &[7, 0, 0])] {
-        let text = format!("{}5{}", opening.repeat(63), ")".repeat(63));
-        let words = [&words.repeat(63), &[2, 5][..]].concat();
-        let most = compare_stack(words.len());
-        all.push((format!("comparing a text of nested {name}"), 63, most, Box::new(move || compare(&words, text.as_bytes()))));
+    for (name, lists, text, term) in deep::texts() {
+        for (other, words) in [("", term), (", another term", vec![2, 6])] {
+            let (most, text) = (compare_stack(words.len()), text.clone());
+            all.push((format!("comparing {name}{other}"), lists, most, Box::new(move || compare(&words, text.as_bytes()))));
+        }
     }
     all
 }
