@@ -2,7 +2,7 @@
 use mathlib.Core.Path.{_≡_, refl, sym, ap, ap₂, subst, _∙_}
 use mathlib.Core.Bool.{Bool, true, false, _&&_}
 use mathlib.Core.List.{List, _++_, map, append-assoc}
-use mathlib.Core.Option.{some}
+use mathlib.Core.Option.{some, Option·some-injective}
 use Prim.Native.Nat.{ℕ, _+_}
 use native.Mathlib.Omega.{arith}
 use lib.ListN.{length, drop, length-append}
@@ -24,7 +24,6 @@ use Rattle.supplier.specs.declared.quoted.Agreed.{Agreed}
 use Rattle.supplier.specs.declared.quoted.Agreed.the-variants.{Words, No}
 use Rattle.supplier.specs.Items.{DatumAt, DataAt, PairAt}
 use Rattle.supplier.specs.ItemsLaws.{pair-kind, none-kind}
-use Rattle.supplier.specs.ListLaws.{some-is}
 use Rattle.supplier.specs.Quoted.{Right}
 use Rattle.supplier.specs.Terms.{scopeOf, isGoodTerm, areGoodTerms, ExpressionRight, AllRight}
 use Rattle.supplier.specs.Scope.{Kept}
@@ -143,7 +142,7 @@ module _ (theirs ours operations : List ℕ) (scope : Scope) where
     end-by : (us : Plains) → l .ts ≡ us → l .ds ≡ noneD → Right test size (Words at)
     unfolding D.count count expressionsOf agreeAll encodeAll
     end-by noneC e f =
-        let x : noneE ≡ l .xs = some-is (sym (ap expressionsOf f) ∙ l .are) in
+        let x : noneE ≡ l .xs = Option·some-injective _ _ (sym (ap expressionsOf f) ∙ l .are) in
         (l .test-is ∙ ap₂ sameAll (sym x) e, sym (l .size-is ∙ ap (λ y. at + length (encodeAll y)) e ∙ omega arith))
     end-by (moreC t ts) e f = absurd (omega (arith, l .many, ap D.count f, ap count e))
 

@@ -2,7 +2,7 @@
 use mathlib.Core.Path.{_≡_, refl, sym, ap, subst, _∙_}
 use mathlib.Core.Bool.{true}
 use mathlib.Core.List.{List, _++_, map}
-use mathlib.Core.Option.{Option, some}
+use mathlib.Core.Option.{Option, some, Option·some-injective}
 use Prim.Native.Nat.{ℕ, _+_, _≤_, _<_}
 use native.Mathlib.Omega.{arith}
 use lib.ListN.{length, getD, drop}
@@ -24,18 +24,30 @@ use Rattle.supplier.specs.declared.grammar.Bound as B
 use Rattle.supplier.specs.declared.grammar.Bound.the-variants as F
 use Rattle.supplier.specs.declared.quoted.Agreed.{Agreed}
 use Rattle.supplier.specs.declared.quoted.Agreed.the-variants.{Words, No}
-use Rattle.supplier.specs.Items.{DatumAt, DataAt, HeldAll}
-use Rattle.supplier.specs.ItemsLaws.{ListAt, as-list, pair-kind, none-kind, pair-datum, name-datum, name-kind, more-is, held-in}
+use Rattle.supplier.specs.Items.{DatumAt, DataAt}
+use Rattle.supplier.specs.ItemsLaws.{ListAt, as-list, pair-kind, none-kind, pair-datum, name-datum, name-kind, more-is}
 use Rattle.supplier.specs.Scope.{round}
-use Rattle.supplier.specs.Judged.{formOf, lambdaOf, FormalsAre, Room}
-use Rattle.supplier.specs.ListLaws.{none-some, some-is}
-use Rattle.supplier.specs.WalkLaws.{TwoAt, two-at, body-held}
-use Rattle.supplier.specs.Quoted.{Right}
+use Rattle.supplier.specs.Judged.{formOf, lambdaOf, FormalsAre}
+use Rattle.supplier.specs.ListLaws.{none-some}
+use Rattle.supplier.specs.WalkLaws.{TwoAt, two-at}
+use Rattle.supplier.specs.Quoted.{Right, DatumRight}
 use Rattle.supplier.specs.QuotedLaws.{not-so}
 use Rattle.supplier.specs.Terms.{scopeOf, isGoodTerm, quotedOf, conditionalOf, applicationOf, ReferenceRight, DatumTermRight, ExpressionRight, FormRight, AllRight}
 use Rattle.supplier.specs.TermsLaws.{term-two}
 use Rattle.supplier.specs.BoundLaws.{bound-scope}
-use Rattle.supplier.specs.FormsLaws.{name-expression, constant-expression, empty-expression, quoted-is, conditional-is, lambda-is, application-is, quoted-none, quoted-datum, Lambda, lambda-of, lambda-two, lambda-first, lambda-no, lambda-yes, conditional-begins, conditional-parts, application-first, application-parts, parts-right}
+use Rattle.supplier.specs.FormsLaws.{DatumCode, datum-begins, datum-right, name-expression, constant-expression, empty-expression, quoted-is, conditional-is, lambda-is, application-is, quoted-none, quoted-datum, Lambda, lambda-of, lambda-two, lambda-first, lambda-no, lambda-yes, conditional-begins, conditional-parts, application-first, application-parts, parts-right}
+
+-- ---- a datum against a term's words
+
+module _ (words items theirs ours : List ℕ) (i : ℕ) where
+  pub datum-term-short : length words < 1 → DatumTermRight words items theirs ours i No
+  datum-term-short l operations scope d t rest h g w = absurd (omega (arith, l, term-two words t rest w))
+
+  pub datum-term-code : (DatumCode (getD words 0 0) → ⊥) → DatumTermRight words items theirs ours i No
+  datum-term-code f operations scope d t rest h g w = not-so _ (λ s. f (datum-begins theirs ours operations scope d words t rest g w s))
+
+  pub datum-term-right : DatumCode (getD words 0 0) → (r : Agreed) → DatumRight words items theirs ours i r → DatumTermRight words items theirs ours i r
+  datum-term-right c r is operations scope d t rest h g w = datum-right theirs ours operations scope d words t rest g w items i r is h c
 
 -- ---- an element by its kind
 
@@ -173,15 +185,9 @@ module _ (words items theirs ours operations names variables : List ℕ) (top i 
             bound-at : (ds : Data) (h : DataAt items i ds) → FormalsAre (two ds h .first) top names names′ (F.Formals n)
             bound-at ds h = subst (FormalsAre (two ds h .first) top names names′) q (formals-at ds h)
 
-            -- two items are passed for each formal
-            pub lambda-most : HeldAll items i → Room items names top i → top + n ≤ 2048
-            lambda-most h o =
-                let b = body-held items i many counted c head a top names names′ bound are n q (tailAt items i) refl (headAt items (tailAt items i)) refl h (o .0) in
-                omega (arith, b .2, held-in items (headAt items (tailAt items i)) (b .0), o .1)
-
             module _ (ds : Data) (x : Expression) (h : DataAt items i ds) (e : lambdaOf ds ≡ some x) where
               same-formals : bound-at ds h .0 ≡ parts ds h x e .ns
-              same-formals = some-is (sym (bound-at ds h .1) ∙ parts ds h x e .formals-are)
+              same-formals = Option·some-injective _ _ (sym (bound-at ds h .1) ∙ parts ds h x e .formals-are)
 
               as-many : n ≡ length (parts ds h x e .ns)
               as-many = bound-at ds h .2 ∙ ap length same-formals

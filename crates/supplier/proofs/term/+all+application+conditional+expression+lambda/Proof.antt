@@ -34,12 +34,13 @@ use lib.ListN.{length}
 use borrow.Author.Needs.{needs}
 use Rattle.supplier.specs.Items.{HeldAll}
 use Rattle.supplier.specs.ItemsLaws.{held-in, all-in, name-held, elements-held, head-held, tail-held}
+use Rattle.supplier.specs.Judged.{Room}
 use Rattle.supplier.specs.Scope.{Kept}
-use Rattle.supplier.specs.WalkLaws.{kept-on, tail-asks, behind-held, formals-held, body-held}
+use Rattle.supplier.specs.WalkLaws.{kept-on, tail-asks, behind-held, formals-held, body-held, formals-most}
 use Rattle.supplier.specs.DataLaws.{short-after}
 use Rattle.supplier.specs.Terms.{scopeOf, conditionalOf, applicationOf}
 use Rattle.supplier.specs.OperandsLaws.{Comparing, comparing-start, comparing-next, comparing-no, comparing-end}
-use Rattle.supplier.specs.TermWalkLaws.{walk-name, walk-datum, walk-quote-none, walk-quote, walk-conditional, walk-lambda, walk-application, form-short, conditional-code, conditional-all, application-code, application-count, application-all, lambda-uncounted, lambda-short, lambda-code, lambda-formals, lambda-most, lambda-count, lambda-cut, lambda-body-no, lambda-body}
+use Rattle.supplier.specs.TermWalkLaws.{walk-name, walk-datum, walk-quote-none, walk-quote, walk-conditional, walk-lambda, walk-application, form-short, conditional-code, conditional-all, application-code, application-count, application-all, lambda-uncounted, lambda-short, lambda-code, lambda-formals, lambda-count, lambda-cut, lambda-body-no, lambda-body}
 
 abbrev μ-all : Measures 7 all-kinds.ps ℕ
 μ-all κs a =
@@ -219,6 +220,13 @@ conditional-returns-3 t c =
     let args = c .before .before .before .before .before .before .before .before .before .before .before .before .before .before .before .before .before .args in
     (all .ensures .0, (conditional-all _ _ _ _ (args .operations .now) (args .names .now) (args .bound .now) (args .top) _ (c .before .before .before .before .before .before .before .if2 .left) (all .result) (all .ensures .1 .0), all .ensures .1 .1))
 
+-- what stands behind a head
+expression-rest : (t : ℕ) (c : expression-lts.After-tail (expression-calls t) (expression-at t) expression.Post) → HeldAll (c .before .before .before .before .before .before .before .before .before .before .before .before .before .args .items .now) (c .tail .result) × Room (c .before .before .before .before .before .before .before .before .before .before .before .before .before .args .items .now) (c .before .before .before .before .before .before .before .before .before .before .before .before .before .args .names .now) (c .before .before .before .before .before .before .before .before .before .before .before .before .before .args .top) (c .tail .result) × (length (c .before .before .before .before .before .before .before .before .before .before .before .before .before .args .items .now) - c .tail .result < length (c .before .before .before .before .before .before .before .before .before .before .before .before .before .args .items .now) - c .before .before .before .before .before .before .before .before .before .before .before .before .before .args .i)
+expression-rest t c =
+    let args = c .before .before .before .before .before .before .before .before .before .before .before .before .before .args in
+    let pre = c .before .before .before .before .before .before .before .before .before .before .before .before .before .pre in
+    tail-asks _ (args .names .now) _ _ _ (c .before .before .before .before .before .kind .ensures) (c .before .before .before .if2 .left) (pre .1 .0) (pre .1 .1) _ (c .tail .ensures)
+
 expression-reference-requires : (t : ℕ) → expression-lts.Need-reference-requires (expression-calls t) (expression-at t) expression.Post
 expression-reference-requires t c κs =
     let pre = c .before .before .before .before .before .before .before .before .before .before .before .before .pre in
@@ -240,28 +248,15 @@ expression-form-requires t c κs =
     let pre = c .before .before .before .before .before .before .before .before .before .before .before .pre in
     head-held _ _ _ (c .before .before .before .kind .ensures) (c .before .if2 .left) (elements-held _ _ _ (c .before .before .before .kind .ensures) (c .before .if2 .left) (pre .1 .0)) _ (c .head2 .ensures) .0
 
-expression-kind-requires-2 : (t : ℕ) → expression-lts.Need-kind-requires-2 (expression-calls t) (expression-at t) expression.Post
-expression-kind-requires-2 t c κs =
-    let args = c .before .before .before .before .before .before .before .before .before .before .before .before .before .before .args in
-    let pre = c .before .before .before .before .before .before .before .before .before .before .before .before .before .before .pre in
-    all-in _ _ (tail-asks _ (args .names .now) _ _ _ (c .before .before .before .before .before .before .kind .ensures) (c .before .before .before .before .if2 .left) (pre .1 .0) (pre .1 .1) _ (c .before .tail .ensures) .0)
-
 expression-returns-3 : (t : ℕ) → expression-lts.Need-returns-3 (expression-calls t) (expression-at t) expression.Post
 expression-returns-3 t c =
     let args = c .before .before .before .before .before .before .before .before .before .before .before .before .before .before .before .before .args in
     (omega arith, (walk-quote-none _ _ _ _ (args .operations .now) (args .names .now) (args .bound .now) (args .top) _ _ (c .before .before .before .before .before .before .before .before .kind .ensures) (c .before .before .before .before .before .before .if2 .left) _ (c .before .before .before .before .before .head2 .ensures) _ (c .before .before .before .before .form .ensures) _ (c .before .before .before .tail .ensures) (c .before .before .if3 .taken) _ (c .before .kind2 .ensures) (c .if4 .taken), ((λ k l. refl), (λ k l. refl))))
 
-expression-head-requires-3 : (t : ℕ) → expression-lts.Need-head-requires-3 (expression-calls t) (expression-at t) expression.Post
-expression-head-requires-3 t c κs =
-    let args = c .before .before .before .before .before .before .before .before .before .before .before .before .before .before .before .before .args in
-    let pre = c .before .before .before .before .before .before .before .before .before .before .before .before .before .before .before .before .pre in
-    all-in _ _ (tail-asks _ (args .names .now) _ _ _ (c .before .before .before .before .before .before .before .before .kind .ensures) (c .before .before .before .before .before .before .if2 .left) (pre .1 .0) (pre .1 .1) _ (c .before .before .before .tail .ensures) .0)
-
 expression-datum-term-requires-2 : (t : ℕ) → expression-lts.Need-datum-term-requires-2 (expression-calls t) (expression-at t) expression.Post
 expression-datum-term-requires-2 t c κs =
-    let args = c .before .before .before .before .before .before .before .before .before .before .before .before .before .before .before .before .before .args in
     let pre = c .before .before .before .before .before .before .before .before .before .before .before .before .before .before .before .before .before .pre in
-    let a = tail-asks _ (args .names .now) _ _ _ (c .before .before .before .before .before .before .before .before .before .kind .ensures) (c .before .before .before .before .before .before .before .if2 .left) (pre .1 .0) (pre .1 .1) _ (c .before .before .before .before .tail .ensures) in
+    let a = expression-rest t (c .before .before .before .before) in
     (head-held _ _ _ (c .before .before .kind2 .ensures) (c .before .if4 .left) (a .0) _ (c .head3 .ensures) .0, pre .1 .3 .0)
 
 expression-returns-4 : (t : ℕ) → expression-lts.Need-returns-4 (expression-calls t) (expression-at t) expression.Post
@@ -272,9 +267,8 @@ expression-returns-4 t c =
 
 expression-conditional-requires : (t : ℕ) → expression-lts.Need-conditional-requires (expression-calls t) (expression-at t) expression.Post
 expression-conditional-requires t c κs =
-    let args = c .before .before .before .before .before .before .before .before .before .before .before .before .before .before .before .before .before .args in
     let pre = c .before .before .before .before .before .before .before .before .before .before .before .before .before .before .before .before .before .pre in
-    let a = tail-asks _ (args .names .now) _ _ _ (c .before .before .before .before .before .before .before .before .before .kind .ensures) (c .before .before .before .before .before .before .before .if2 .left) (pre .1 .0) (pre .1 .1) _ (c .before .before .before .before .tail .ensures) in
+    let a = expression-rest t (c .before .before .before .before) in
     (omega (arith, pre .0, a .2), (a .0, a .1, pre .1 .2, pre .1 .3))
 
 expression-returns-5 : (t : ℕ) → expression-lts.Need-returns-5 (expression-calls t) (expression-at t) expression.Post
@@ -289,10 +283,8 @@ expression-returns-5 t c =
 
 expression-lambda-requires : (t : ℕ) → expression-lts.Need-lambda-requires (expression-calls t) (expression-at t) expression.Post
 expression-lambda-requires t c κs =
-    let args = c .before .before .before .before .before .before .before .before .before .before .before .before .before .before .before .before .before .before .args in
-    let kind = c .before .before .before .before .before .before .before .before .before .before .kind in
     let pre = c .before .before .before .before .before .before .before .before .before .before .before .before .before .before .before .before .before .before .pre in
-    let a = tail-asks _ (args .names .now) _ _ _ (kind .ensures) (c .before .before .before .before .before .before .before .before .if2 .left) (pre .1 .0) (pre .1 .1) _ (c .before .before .before .before .before .tail .ensures) in
+    let a = expression-rest t (c .before .before .before .before .before) in
     (omega (arith, pre .0, a .2), (a .0, a .1, pre .1 .2, pre .1 .3))
 
 expression-returns-6 : (t : ℕ) → expression-lts.Need-returns-6 (expression-calls t) (expression-at t) expression.Post
@@ -321,6 +313,16 @@ expression-returns-7 t c =
     let head2 = c .before .before .before .before .before .before .before .before .before .before .before .before .head2 in
     let form = c .before .before .before .before .before .before .before .before .before .before .before .form in
     (application .ensures .0, (walk-application _ _ _ _ (args .operations .now) (args .names .now) (args .bound .now) (args .top) _ _ (kind .ensures) (if2 .left) _ (head2 .ensures) _ (form .ensures) (c .before .before .before .before .before .before .before .before .before .if3 .left) (c .before .before .before .before .before .before .before .before .if5 .left) (c .before .before .before .before .before .before .before .if6 .left) (application .result) (application .ensures .1 .0), application .ensures .1 .1))
+
+-- the formals put behind the first top
+lambda-room : (t : ℕ) (c : lambda-lts.After-n (lambda-calls t) (lambda-at t) lambda.Post) → c .before .before .before .before .before .before .before .before .before .before .before .before .before .before .before .before .before .before .before .args .top + c .n .given .0 .0 ≤ 2048
+lambda-room t c =
+    let count = c .before .before .before .before .before .before .before .before .before .before .before .count in
+    let if1 = c .before .before .before .before .before .before .before .before .before .before .if1 in
+    let args = c .before .before .before .before .before .before .before .before .before .before .before .before .before .before .before .before .before .before .before .args in
+    let formals = c .before .before .before .before .formals in
+    let pre = c .before .before .before .before .before .before .before .before .before .before .before .before .before .before .before .before .before .before .before .pre in
+    formals-most _ _ _ (count .ensures) (if1 .left) _ (c .before .before .before .before .before .before .head .ensures) _ (args .names .now) (formals .last .1 .1 .0) (formals .result) (formals .ensures .0) _ (c .n .given .1) (pre .1 .0) (pre .1 .1)
 
 lambda-returns : (t : ℕ) → lambda-lts.Need-returns (lambda-calls t) (lambda-at t) lambda.Post
 lambda-returns t c =
@@ -359,17 +361,6 @@ lambda-returns-5 t c =
     let formals = c .before .before .before .before .before .before .before .before .formals in
     (omega arith, (lambda-count _ _ _ _ (args .operations .now) (args .names .now) (args .bound .now) (args .top) _ _ (count .ensures) (if1 .left) _ (head .ensures) (formals .result) (formals .last .1 .1 .0) (formals .ensures .0) _ (c .before .before .before .before .n .given .1) _ (c .before .wide .ensures) (c .if4 .taken), (formals .ensures .1, (λ k l. refl))))
 
-lambda-add-from : (t : ℕ) → lambda-lts.Need-add-from (lambda-calls t) (lambda-at t) lambda.Post
-lambda-add-from t c =
-    let args = c .before .before .before .before .before .before .before .before .before .before .before .before .before .before .before .before .before .before .before .before .before .before .before .args in
-    let count = c .before .before .before .before .before .before .before .before .before .before .before .before .before .before .before .count in
-    let if1 = c .before .before .before .before .before .before .before .before .before .before .before .before .before .before .if1 in
-    let head = c .before .before .before .before .before .before .before .before .before .before .head in
-    let formals = c .before .before .before .before .before .before .before .before .formals in
-    let pre = c .before .before .before .before .before .before .before .before .before .before .before .before .before .before .before .before .before .before .before .before .before .before .before .pre in
-    let m = lambda-most (args .words .now) _ (args .theirs .now) (args .ours .now) (args .operations .now) (args .names .now) (args .bound .now) _ _ _ (count .ensures) (if1 .left) _ (head .ensures) (formals .result) (formals .last .1 .1 .0) (formals .ensures .0) _ (c .before .before .before .before .n .given .1) (pre .1 .0) (pre .1 .1) in
-    omega (arith, m)
-
 lambda-returns-6 : (t : ℕ) → lambda-lts.Need-returns-6 (lambda-calls t) (lambda-at t) lambda.Post
 lambda-returns-6 t c =
     let args = c .before .before .before .before .before .before .before .before .before .before .before .before .before .before .before .before .before .before .before .before .before .before .before .before .args in
@@ -381,14 +372,8 @@ lambda-returns-6 t c =
 
 lambda-number-requires : (t : ℕ) → lambda-lts.Need-number-requires (lambda-calls t) (lambda-at t) lambda.Post
 lambda-number-requires t c κs =
-    let args = c .before .before .before .before .before .before .before .before .before .before .before .before .before .before .before .before .before .before .before .before .before .before .before .before .before .before .args in
-    let count = c .before .before .before .before .before .before .before .before .before .before .before .before .before .before .before .before .before .before .count in
-    let if1 = c .before .before .before .before .before .before .before .before .before .before .before .before .before .before .before .before .before .if1 in
-    let head = c .before .before .before .before .before .before .before .before .before .before .before .before .before .head in
-    let formals = c .before .before .before .before .before .before .before .before .before .before .before .formals in
     let pre = c .before .before .before .before .before .before .before .before .before .before .before .before .before .before .before .before .before .before .before .before .before .before .before .before .before .before .pre in
-    let m = lambda-most (args .words .now) _ (args .theirs .now) (args .ours .now) (args .operations .now) (args .names .now) (args .bound .now) _ _ _ (count .ensures) (if1 .left) _ (head .ensures) (formals .result) (formals .last .1 .1 .0) (formals .ensures .0) _ (c .before .before .before .before .before .before .before .n .given .1) (pre .1 .0) (pre .1 .1) in
-    omega (arith, m, pre .1 .2)
+    omega (arith, lambda-room t (c .before .before .before .before .before .before .before), pre .1 .2)
 
 lambda-tail-requires : (t : ℕ) → lambda-lts.Need-tail-requires (lambda-calls t) (lambda-at t) lambda.Post
 lambda-tail-requires t c κs =
@@ -401,30 +386,6 @@ lambda-head-requires-2 t c κs =
     let if1 = c .before .before .before .before .before .before .before .before .before .before .before .before .before .before .before .before .before .before .before .before .before .if1 in
     let pre = c .before .before .before .before .before .before .before .before .before .before .before .before .before .before .before .before .before .before .before .before .before .before .before .before .before .before .before .before .before .before .pre in
     all-in _ _ (behind-held _ _ _ (count .ensures) (if1 .left) (pre .1 .0) _ (c .tail .ensures))
-
-lambda-mul-expression : (t : ℕ) → lambda-lts.Need-mul-expression (lambda-calls t) (lambda-at t) lambda.Post
-lambda-mul-expression t c =
-    let args = c .before .before .before .before .before .before .before .before .before .before .before .before .before .before .before .before .before .before .before .before .before .before .before .before .before .before .before .before .before .before .before .args in
-    let count = c .before .before .before .before .before .before .before .before .before .before .before .before .before .before .before .before .before .before .before .before .before .before .before .count in
-    let if1 = c .before .before .before .before .before .before .before .before .before .before .before .before .before .before .before .before .before .before .before .before .before .before .if1 in
-    let head = c .before .before .before .before .before .before .before .before .before .before .before .before .before .before .before .before .before .before .head in
-    let formals = c .before .before .before .before .before .before .before .before .before .before .before .before .before .before .before .before .formals in
-    let known-n = c .before .before .before .before .before .before .before .before .before .before .before .before .n in
-    let pre = c .before .before .before .before .before .before .before .before .before .before .before .before .before .before .before .before .before .before .before .before .before .before .before .before .before .before .before .before .before .before .before .pre in
-    let m = lambda-most (args .words .now) _ (args .theirs .now) (args .ours .now) (args .operations .now) (args .names .now) (args .bound .now) _ _ _ (count .ensures) (if1 .left) _ (head .ensures) (formals .result) (formals .last .1 .1 .0) (formals .ensures .0) _ (known-n .given .1) (pre .1 .0) (pre .1 .1) in
-    omega (arith, m)
-
-lambda-add-expression : (t : ℕ) → lambda-lts.Need-add-expression (lambda-calls t) (lambda-at t) lambda.Post
-lambda-add-expression t c =
-    let args = c .before .before .before .before .before .before .before .before .before .before .before .before .before .before .before .before .before .before .before .before .before .before .before .before .before .before .before .before .before .before .before .before .before .before .args in
-    let count = c .before .before .before .before .before .before .before .before .before .before .before .before .before .before .before .before .before .before .before .before .before .before .before .before .before .before .count in
-    let if1 = c .before .before .before .before .before .before .before .before .before .before .before .before .before .before .before .before .before .before .before .before .before .before .before .before .before .if1 in
-    let head = c .before .before .before .before .before .before .before .before .before .before .before .before .before .before .before .before .before .before .before .before .before .head in
-    let formals = c .before .before .before .before .before .before .before .before .before .before .before .before .before .before .before .before .before .before .before .formals in
-    let known-n = c .before .before .before .before .before .before .before .before .before .before .before .before .before .before .before .n in
-    let pre = c .before .before .before .before .before .before .before .before .before .before .before .before .before .before .before .before .before .before .before .before .before .before .before .before .before .before .before .before .before .before .before .before .before .before .pre in
-    let m = lambda-most (args .words .now) _ (args .theirs .now) (args .ours .now) (args .operations .now) (args .names .now) (args .bound .now) _ _ _ (count .ensures) (if1 .left) _ (head .ensures) (formals .result) (formals .last .1 .1 .0) (formals .ensures .0) _ (known-n .given .1) (pre .1 .0) (pre .1 .1) in
-    omega (arith, m)
 
 lambda-expression-requires : (t : ℕ) → lambda-lts.Need-expression-requires (lambda-calls t) (lambda-at t) lambda.Post
 lambda-expression-requires t c κs =
@@ -561,9 +522,9 @@ pub +all+application+conditional+expression+lambda-spec : {M : Type 1} → state
     (λ c κs. held-in _ _ (c .before .before .before .before .before .before .before .before .before .before .pre .1 .0))  -- expression-head-requires-2
     (expression-form-requires t)
     (λ c κs. held-in _ _ (c .before .before .before .before .before .before .before .before .before .before .before .before .pre .1 .0))  -- expression-tail-requires
-    (expression-kind-requires-2 t)
+    (λ c κs. all-in _ _ (expression-rest t (c .before) .0))  -- expression-kind-requires-2
     (expression-returns-3 t)
-    (expression-head-requires-3 t)
+    (λ c κs. all-in _ _ (expression-rest t (c .before .before .before) .0))  -- expression-head-requires-3
     (expression-datum-term-requires-2 t)
     (expression-returns-4 t)
     (expression-conditional-requires t)
@@ -595,18 +556,18 @@ pub +all+application+conditional+expression+lambda-spec : {M : Type 1} → state
     (λ c κs. search needs)  -- lambda-wide-requires
     (λ c. c .before .before .before .before .before .before .before .before .formals .kept .1 .1 .0)  -- lambda-same-length-2
     (lambda-returns-5 t)
-    (lambda-add-from t)
+    (λ c. omega (arith, lambda-room t (c .before .before .before .before)))  -- lambda-add-from
     (λ c. c .before .before .before .before .before .before .before .before .before .formals .kept .1 .1 .0)  -- lambda-same-length-3
     (lambda-returns-6 t)
     (λ c. search needs)  -- lambda-shared-slice-read-number
     (lambda-number-requires t)
     (lambda-tail-requires t)
     (lambda-head-requires-2 t)
-    (lambda-mul-expression t)
+    (λ c. omega (arith, lambda-room t (c .before .before .before .before .before .before .before .before .before .before .before .before)))  -- lambda-mul-expression
     (λ c. search needs)  -- lambda-sub-expression
     (λ c. omega (arith, c .before .before .before .before .before .before .before .if5 .left))  -- lambda-part-expression-start
     (λ c. search needs)  -- lambda-part-expression-end
-    (lambda-add-expression t)
+    (λ c. omega (arith, lambda-room t (c .before .before .before .before .before .before .before .before .before .before .before .before .before .before .before)))  -- lambda-add-expression
     (lambda-expression-requires t)
     (λ c. search needs)  -- lambda-enum-known-m
     (λ c. search needs)  -- lambda-enum-told-2
