@@ -16,7 +16,7 @@ use Rattle.recipe.specs.TreeFrom.{headAt, tailAt}
 use Rattle.core_term.specs.Term.{Plain}
 use Rattle.core_term.specs.Words.{encode}
 use Rattle.comparison.specs.Expression.{Expression, datumE}
-use Rattle.comparison.specs.Grammar.{formals, expressionOf}
+use Rattle.comparison.specs.Grammar.{expressionOf}
 use Rattle.comparison.specs.Agrees.{Scope, bind, agrees}
 use Rattle.comparison.specs.Binders.{numbers}
 use Rattle.comparison.specs.Closed.{inside}

@@ -131,41 +131,35 @@ all-expression-requires t c κs =
 
 all-returns : (t : ℕ) → all-lts.Need-returns (all-calls t) (all-at t) all.Post all-Inv-loop all-μ-loop
 all-returns t c =
-    let loop = c .before .before .before .before .before .before .before .before .before .before .before .before .before .loop in
-    let kind = c .before .before .before .before .before .before .before .before .before .before .before .before .kind in
-    let if1 = c .before .before .before .before .before .before .before .before .before .before .before .if1 in
-    let head = c .before .before .before .before .before .before .before .before .before .before .head in
+    let at-head = c .before .before .before .before .before .before .before .before .before .before in
+    let loop = at-head .before .before .before .loop in
     let expression = c .before .before .before .before .before .before .expression in
-    (omega arith, (comparing-no _ _ _ _ _ _ _ _ _ _ _ _ (loop .inv .1) _ (kind .ensures) (if1 .taken) _ _ (loop .inv .2) (loop .inv .3) _ (head .ensures) (expression .result) (expression .ensures .1 .0) (c .enum-told .given .1), ((λ k l. expression .ensures .1 .1 .0 k l ∙ loop .inv .2 k l), (λ k l. expression .ensures .1 .1 .1 k l ∙ loop .inv .3 k l))))
+    (omega arith, (comparing-no _ _ _ _ _ _ _ _ _ _ _ _ (loop .inv .1) _ (at-head .before .before .kind .ensures) (at-head .before .if1 .taken) _ _ (loop .inv .2) (loop .inv .3) _ (at-head .head .ensures) (expression .result) (expression .ensures .1 .0) (c .enum-told .given .1), ((λ k l. expression .ensures .1 .1 .0 k l ∙ loop .inv .2 k l), (λ k l. expression .ensures .1 .1 .1 k l ∙ loop .inv .3 k l))))
 
 all-add-at : (t : ℕ) → all-lts.Need-add-at (all-calls t) (all-at t) all.Post all-Inv-loop all-μ-loop
 all-add-at t c =
-    let args = c .before .before .before .before .before .before .before .before .before .before .before .before .before .before .before .before .before .before .before .before .before .before .args in
-    let loop = c .before .before .before .before .before .before .before .before .before .before .before .before .before .before .loop in
+    let at-head = c .before .before .before .before .before .before .before .before .before .before .before in
+    let args = at-head .before .before .before .before .before .before .before .before .before .before .before .args in
     let expression = c .before .before .before .before .before .before .before .expression in
-    let good = c .before .before .before .before .before .before .before .before .before .before .before .before .before .before .before .before .before .before .before .before .before .before .good in
-    let s = short-after (args .words .now) (loop .at) (expression .result) _ (loop .inv .6) (expression .ensures .0) (c .before .n .given .1) in
+    let good = at-head .before .before .before .before .before .before .before .before .before .before .before .good in
+    let s = short-after (args .words .now) (at-head .before .before .before .loop .at) (expression .result) _ (at-head .before .before .before .loop .inv .6) (expression .ensures .0) (c .before .n .given .1) in
     omega (arith, s, good .1 .1 .0)
 
 all-loop-less : (t : ℕ) → all-lts.Need-loop-less (all-calls t) (all-at t) all.Post all-Inv-loop all-μ-loop
 all-loop-less t c =
-    let kind = c .before .before .before .before .before .before .before .before .before .before .before .before .before .before .kind in
-    let if1 = c .before .before .before .before .before .before .before .before .before .before .before .before .before .if1 in
-    let loop = c .before .before .before .before .before .before .before .before .before .before .before .before .before .before .before .loop in
-    let n = tail-held _ _ _ (kind .ensures) (if1 .taken) (loop .inv .0) _ (c .tail .ensures) in
-    omega (arith, n .1, all-in _ _ (loop .inv .0))
+    let at-head = c .before .before .before .before .before .before .before .before .before .before .before .before in
+    let n = tail-held _ _ _ (at-head .before .before .kind .ensures) (at-head .before .if1 .taken) (at-head .before .before .before .loop .inv .0) _ (c .tail .ensures) in
+    omega (arith, n .1, all-in _ _ (at-head .before .before .before .loop .inv .0))
 
 all-loop-again : (t : ℕ) → all-lts.Need-loop-again (all-calls t) (all-at t) all.Post all-Inv-loop all-μ-loop
 all-loop-again t c =
-    let args = c .before .before .before .before .before .before .before .before .before .before .before .before .before .before .before .before .before .before .before .before .before .before .before .args in
-    let loop = c .before .before .before .before .before .before .before .before .before .before .before .before .before .before .before .loop in
+    let at-head = c .before .before .before .before .before .before .before .before .before .before .before .before in
+    let args = at-head .before .before .before .before .before .before .before .before .before .before .before .args in
+    let loop = at-head .before .before .before .loop in
     let expression = c .before .before .before .before .before .before .before .before .expression in
-    let kind = c .before .before .before .before .before .before .before .before .before .before .before .before .before .before .kind in
-    let if1 = c .before .before .before .before .before .before .before .before .before .before .before .before .before .if1 in
-    let head = c .before .before .before .before .before .before .before .before .before .before .before .before .head in
     let s = short-after (args .words .now) (loop .at) (expression .result) _ (loop .inv .6) (expression .ensures .0) (c .before .before .n .given .1) in
-    let n = tail-held _ _ _ (kind .ensures) (if1 .taken) (loop .inv .0) _ (c .tail .ensures) in
-    (n .0, comparing-next _ _ _ _ _ _ _ _ _ _ _ _ (loop .inv .1) _ (kind .ensures) (if1 .taken) _ _ (loop .inv .2) (loop .inv .3) _ (head .ensures) (expression .result) (expression .ensures .1 .0) _ (c .before .before .n .given .1) _ (c .tail .ensures), (λ k l. expression .ensures .1 .1 .0 k l ∙ loop .inv .2 k l), (λ k l. expression .ensures .1 .1 .1 k l ∙ loop .inv .3 k l), expression .kept .1 .1 .1 .1 .1 .1 .0 ∙ loop .inv .4, expression .kept .1 .1 .1 .1 .1 .1 .1 .0 ∙ loop .inv .5, omega (arith, s), omega (arith, loop .inv .7, n .1))
+    let n = tail-held _ _ _ (at-head .before .before .kind .ensures) (at-head .before .if1 .taken) (loop .inv .0) _ (c .tail .ensures) in
+    (n .0, comparing-next _ _ _ _ _ _ _ _ _ _ _ _ (loop .inv .1) _ (at-head .before .before .kind .ensures) (at-head .before .if1 .taken) _ _ (loop .inv .2) (loop .inv .3) _ (at-head .head .ensures) (expression .result) (expression .ensures .1 .0) _ (c .before .before .n .given .1) _ (c .tail .ensures), (λ k l. expression .ensures .1 .1 .0 k l ∙ loop .inv .2 k l), (λ k l. expression .ensures .1 .1 .1 k l ∙ loop .inv .3 k l), expression .kept .1 .1 .1 .1 .1 .1 .0 ∙ loop .inv .4, expression .kept .1 .1 .1 .1 .1 .1 .1 .0 ∙ loop .inv .5, omega (arith, s), omega (arith, loop .inv .7, n .1))
 
 all-returns-2 : (t : ℕ) → all-lts.Need-returns-2 (all-calls t) (all-at t) all.Post all-Inv-loop all-μ-loop
 all-returns-2 t c =
@@ -261,9 +255,9 @@ expression-datum-term-requires-2 t c κs =
 
 expression-returns-4 : (t : ℕ) → expression-lts.Need-returns-4 (expression-calls t) (expression-at t) expression.Post
 expression-returns-4 t c =
-    let args = c .before .before .before .before .before .before .before .before .before .before .before .before .before .before .before .before .before .before .args in
-    let kind = c .before .before .before .before .before .before .before .before .before .before .kind in
-    (c .datum-term2 .ensures .0, (walk-quote _ _ _ _ (args .operations .now) (args .names .now) (args .bound .now) (args .top) _ _ (kind .ensures) (c .before .before .before .before .before .before .before .before .if2 .left) _ (c .before .before .before .before .before .before .before .head2 .ensures) _ (c .before .before .before .before .before .before .form .ensures) _ (c .before .before .before .before .before .tail .ensures) (c .before .before .before .before .if3 .taken) _ (c .before .before .before .kind2 .ensures) (c .before .before .if4 .left) _ (c .before .head3 .ensures) (c .datum-term2 .result) (c .datum-term2 .ensures .1), ((λ k l. refl), (λ k l. refl))))
+    let at-tail = c .before .before .before .before .before in
+    let args = at-tail .before .before .before .before .before .before .before .before .before .before .before .before .before .args in
+    (c .datum-term2 .ensures .0, (walk-quote _ _ _ _ (args .operations .now) (args .names .now) (args .bound .now) (args .top) _ _ (at-tail .before .before .before .before .before .kind .ensures) (at-tail .before .before .before .if2 .left) _ (at-tail .before .before .head2 .ensures) _ (at-tail .before .form .ensures) _ (at-tail .tail .ensures) (c .before .before .before .before .if3 .taken) _ (c .before .before .before .kind2 .ensures) (c .before .before .if4 .left) _ (c .before .head3 .ensures) (c .datum-term2 .result) (c .datum-term2 .ensures .1), ((λ k l. refl), (λ k l. refl))))
 
 expression-conditional-requires : (t : ℕ) → expression-lts.Need-conditional-requires (expression-calls t) (expression-at t) expression.Post
 expression-conditional-requires t c κs =
@@ -273,13 +267,10 @@ expression-conditional-requires t c κs =
 
 expression-returns-5 : (t : ℕ) → expression-lts.Need-returns-5 (expression-calls t) (expression-at t) expression.Post
 expression-returns-5 t c =
+    let at-tail = c .before .before .before .before .before .before .before .before .before in
     let conditional = c .before .before .before .before .conditional in
-    let args = c .before .before .before .before .before .before .before .before .before .before .before .before .before .before .before .before .before .before .before .before .before .before .args in
-    let kind = c .before .before .before .before .before .before .before .before .before .before .before .before .before .before .kind in
-    let if2 = c .before .before .before .before .before .before .before .before .before .before .before .before .if2 in
-    let head2 = c .before .before .before .before .before .before .before .before .before .before .before .head2 in
-    let form = c .before .before .before .before .before .before .before .before .before .before .form in
-    (conditional .ensures .0, (walk-conditional _ _ _ _ (args .operations .now) (args .names .now) (args .bound .now) (args .top) _ _ (kind .ensures) (if2 .left) _ (head2 .ensures) _ (form .ensures) _ (c .before .before .before .before .before .before .before .before .before .tail .ensures) (c .before .before .before .before .before .before .before .if5 .taken) (conditional .result) (conditional .ensures .1 .0), conditional .ensures .1 .1))
+    let args = at-tail .before .before .before .before .before .before .before .before .before .before .before .before .before .args in
+    (conditional .ensures .0, (walk-conditional _ _ _ _ (args .operations .now) (args .names .now) (args .bound .now) (args .top) _ _ (at-tail .before .before .before .before .before .kind .ensures) (at-tail .before .before .before .if2 .left) _ (at-tail .before .before .head2 .ensures) _ (at-tail .before .form .ensures) _ (at-tail .tail .ensures) (c .before .before .before .before .before .before .before .if5 .taken) (conditional .result) (conditional .ensures .1 .0), conditional .ensures .1 .1))
 
 expression-lambda-requires : (t : ℕ) → expression-lts.Need-lambda-requires (expression-calls t) (expression-at t) expression.Post
 expression-lambda-requires t c κs =
@@ -289,40 +280,31 @@ expression-lambda-requires t c κs =
 
 expression-returns-6 : (t : ℕ) → expression-lts.Need-returns-6 (expression-calls t) (expression-at t) expression.Post
 expression-returns-6 t c =
+    let at-tail = c .before .before .before .before .before .before .before .before .before .before in
     let lambda = c .before .before .before .before .lambda in
-    let args = c .before .before .before .before .before .before .before .before .before .before .before .before .before .before .before .before .before .before .before .before .before .before .before .args in
-    let kind = c .before .before .before .before .before .before .before .before .before .before .before .before .before .before .before .kind in
-    let if2 = c .before .before .before .before .before .before .before .before .before .before .before .before .before .if2 in
-    let head2 = c .before .before .before .before .before .before .before .before .before .before .before .before .head2 in
-    let form = c .before .before .before .before .before .before .before .before .before .before .before .form in
-    let tail = c .before .before .before .before .before .before .before .before .before .before .tail in
-    (lambda .ensures .0, (walk-lambda _ _ _ _ (args .operations .now) (args .names .now) (args .bound .now) (args .top) _ _ (kind .ensures) (if2 .left) _ (head2 .ensures) _ (form .ensures) _ (tail .ensures) (c .before .before .before .before .before .before .before .if6 .taken) (lambda .result) (lambda .ensures .1 .0), lambda .ensures .1 .1))
+    let args = at-tail .before .before .before .before .before .before .before .before .before .before .before .before .before .args in
+    (lambda .ensures .0, (walk-lambda _ _ _ _ (args .operations .now) (args .names .now) (args .bound .now) (args .top) _ _ (at-tail .before .before .before .before .before .kind .ensures) (at-tail .before .before .before .if2 .left) _ (at-tail .before .before .head2 .ensures) _ (at-tail .before .form .ensures) _ (at-tail .tail .ensures) (c .before .before .before .before .before .before .before .if6 .taken) (lambda .result) (lambda .ensures .1 .0), lambda .ensures .1 .1))
 
 expression-application-requires : (t : ℕ) → expression-lts.Need-application-requires (expression-calls t) (expression-at t) expression.Post
 expression-application-requires t c κs =
-    let pre = c .before .before .before .before .before .before .before .before .before .before .before .before .before .before .before .before .before .before .pre in
-    let kind = c .before .before .before .before .before .before .before .before .before .before .kind in
-    (omega (arith, pre .0), (elements-held _ _ _ (kind .ensures) (c .before .before .before .before .before .before .before .before .if2 .left) (pre .1 .0), pre .1 .1, pre .1 .2, pre .1 .3))
+    let at-tail = c .before .before .before .before .before in
+    let pre = at-tail .before .before .before .before .before .before .before .before .before .before .before .before .before .pre in
+    (omega (arith, pre .0), (elements-held _ _ _ (at-tail .before .before .before .before .before .kind .ensures) (at-tail .before .before .before .if2 .left) (pre .1 .0), pre .1 .1, pre .1 .2, pre .1 .3))
 
 expression-returns-7 : (t : ℕ) → expression-lts.Need-returns-7 (expression-calls t) (expression-at t) expression.Post
 expression-returns-7 t c =
+    let at-tail = c .before .before .before .before .before .before .before .before .before .before in
     let application = c .before .before .before .before .application in
-    let args = c .before .before .before .before .before .before .before .before .before .before .before .before .before .before .before .before .before .before .before .before .before .before .before .args in
-    let kind = c .before .before .before .before .before .before .before .before .before .before .before .before .before .before .before .kind in
-    let if2 = c .before .before .before .before .before .before .before .before .before .before .before .before .before .if2 in
-    let head2 = c .before .before .before .before .before .before .before .before .before .before .before .before .head2 in
-    let form = c .before .before .before .before .before .before .before .before .before .before .before .form in
-    (application .ensures .0, (walk-application _ _ _ _ (args .operations .now) (args .names .now) (args .bound .now) (args .top) _ _ (kind .ensures) (if2 .left) _ (head2 .ensures) _ (form .ensures) (c .before .before .before .before .before .before .before .before .before .if3 .left) (c .before .before .before .before .before .before .before .before .if5 .left) (c .before .before .before .before .before .before .before .if6 .left) (application .result) (application .ensures .1 .0), application .ensures .1 .1))
+    let args = at-tail .before .before .before .before .before .before .before .before .before .before .before .before .before .args in
+    (application .ensures .0, (walk-application _ _ _ _ (args .operations .now) (args .names .now) (args .bound .now) (args .top) _ _ (at-tail .before .before .before .before .before .kind .ensures) (at-tail .before .before .before .if2 .left) _ (at-tail .before .before .head2 .ensures) _ (at-tail .before .form .ensures) (c .before .before .before .before .before .before .before .before .before .if3 .left) (c .before .before .before .before .before .before .before .before .if5 .left) (c .before .before .before .before .before .before .before .if6 .left) (application .result) (application .ensures .1 .0), application .ensures .1 .1))
 
 -- the formals put behind the first top
 lambda-room : (t : ℕ) (c : lambda-lts.After-n (lambda-calls t) (lambda-at t) lambda.Post) → c .before .before .before .before .before .before .before .before .before .before .before .before .before .before .before .before .before .before .before .args .top + c .n .given .0 .0 ≤ 2048
 lambda-room t c =
-    let count = c .before .before .before .before .before .before .before .before .before .before .before .count in
-    let if1 = c .before .before .before .before .before .before .before .before .before .before .if1 in
-    let args = c .before .before .before .before .before .before .before .before .before .before .before .before .before .before .before .before .before .before .before .args in
-    let formals = c .before .before .before .before .formals in
-    let pre = c .before .before .before .before .before .before .before .before .before .before .before .before .before .before .before .before .before .before .before .pre in
-    formals-most _ _ _ (count .ensures) (if1 .left) _ (c .before .before .before .before .before .before .head .ensures) _ (args .names .now) (formals .last .1 .1 .0) (formals .result) (formals .ensures .0) _ (c .n .given .1) (pre .1 .0) (pre .1 .1)
+    let at-formals = c .before .before .before .before in
+    let args = at-formals .before .before .before .before .before .before .before .before .before .before .before .before .before .before .before .args in
+    let pre = at-formals .before .before .before .before .before .before .before .before .before .before .before .before .before .before .before .pre in
+    formals-most _ _ _ (at-formals .before .before .before .before .before .before .before .count .ensures) (at-formals .before .before .before .before .before .before .if1 .left) _ (at-formals .before .before .head .ensures) _ (args .names .now) (at-formals .formals .last .1 .1 .0) (at-formals .formals .result) (at-formals .formals .ensures .0) _ (c .n .given .1) (pre .1 .0) (pre .1 .1)
 
 lambda-returns : (t : ℕ) → lambda-lts.Need-returns (lambda-calls t) (lambda-at t) lambda.Post
 lambda-returns t c =
@@ -346,29 +328,21 @@ lambda-formals-requires t c κs =
 
 lambda-returns-4 : (t : ℕ) → lambda-lts.Need-returns-4 (lambda-calls t) (lambda-at t) lambda.Post
 lambda-returns-4 t c =
-    let args = c .before .before .before .before .before .before .before .before .before .before .before .before .before .before .before .before .before .before .before .args in
-    let count = c .before .before .before .before .before .before .before .before .before .before .before .count in
-    let if1 = c .before .before .before .before .before .before .before .before .before .before .if1 in
-    let formals = c .before .before .before .before .formals in
-    (omega arith, (lambda-formals _ _ _ _ (args .operations .now) (args .names .now) (args .bound .now) (args .top) _ _ (count .ensures) (if1 .left) _ (c .before .before .before .before .before .before .head .ensures) (formals .result) (formals .last .1 .1 .0) (formals .ensures .0) (c .enum-told .given .1), (formals .ensures .1, (λ k l. refl))))
+    let at-formals = c .before .before .before .before in
+    let args = at-formals .before .before .before .before .before .before .before .before .before .before .before .before .before .before .before .args in
+    (omega arith, (lambda-formals _ _ _ _ (args .operations .now) (args .names .now) (args .bound .now) (args .top) _ _ (at-formals .before .before .before .before .before .before .before .count .ensures) (at-formals .before .before .before .before .before .before .if1 .left) _ (at-formals .before .before .head .ensures) (at-formals .formals .result) (at-formals .formals .last .1 .1 .0) (at-formals .formals .ensures .0) (c .enum-told .given .1), (at-formals .formals .ensures .1, (λ k l. refl))))
 
 lambda-returns-5 : (t : ℕ) → lambda-lts.Need-returns-5 (lambda-calls t) (lambda-at t) lambda.Post
 lambda-returns-5 t c =
-    let args = c .before .before .before .before .before .before .before .before .before .before .before .before .before .before .before .before .before .before .before .before .before .before .before .args in
-    let count = c .before .before .before .before .before .before .before .before .before .before .before .before .before .before .before .count in
-    let if1 = c .before .before .before .before .before .before .before .before .before .before .before .before .before .before .if1 in
-    let head = c .before .before .before .before .before .before .before .before .before .before .head in
-    let formals = c .before .before .before .before .before .before .before .before .formals in
-    (omega arith, (lambda-count _ _ _ _ (args .operations .now) (args .names .now) (args .bound .now) (args .top) _ _ (count .ensures) (if1 .left) _ (head .ensures) (formals .result) (formals .last .1 .1 .0) (formals .ensures .0) _ (c .before .before .before .before .n .given .1) _ (c .before .wide .ensures) (c .if4 .taken), (formals .ensures .1, (λ k l. refl))))
+    let at-formals = c .before .before .before .before .before .before .before .before in
+    let args = at-formals .before .before .before .before .before .before .before .before .before .before .before .before .before .before .before .args in
+    (omega arith, (lambda-count _ _ _ _ (args .operations .now) (args .names .now) (args .bound .now) (args .top) _ _ (at-formals .before .before .before .before .before .before .before .count .ensures) (at-formals .before .before .before .before .before .before .if1 .left) _ (at-formals .before .before .head .ensures) (at-formals .formals .result) (at-formals .formals .last .1 .1 .0) (at-formals .formals .ensures .0) _ (c .before .before .before .before .n .given .1) _ (c .before .wide .ensures) (c .if4 .taken), (at-formals .formals .ensures .1, (λ k l. refl))))
 
 lambda-returns-6 : (t : ℕ) → lambda-lts.Need-returns-6 (lambda-calls t) (lambda-at t) lambda.Post
 lambda-returns-6 t c =
-    let args = c .before .before .before .before .before .before .before .before .before .before .before .before .before .before .before .before .before .before .before .before .before .before .before .before .args in
-    let count = c .before .before .before .before .before .before .before .before .before .before .before .before .before .before .before .before .count in
-    let if1 = c .before .before .before .before .before .before .before .before .before .before .before .before .before .before .before .if1 in
-    let head = c .before .before .before .before .before .before .before .before .before .before .before .head in
-    let formals = c .before .before .before .before .before .before .before .before .before .formals in
-    (omega arith, (lambda-cut _ _ _ _ (args .operations .now) (args .names .now) (args .bound .now) (args .top) _ _ (count .ensures) (if1 .left) _ (head .ensures) (formals .result) (formals .last .1 .1 .0) (formals .ensures .0) _ (c .before .before .before .before .before .n .given .1) (c .if5 .taken), (formals .ensures .1, (λ k l. refl))))
+    let at-formals = c .before .before .before .before .before .before .before .before .before in
+    let args = at-formals .before .before .before .before .before .before .before .before .before .before .before .before .before .before .before .args in
+    (omega arith, (lambda-cut _ _ _ _ (args .operations .now) (args .names .now) (args .bound .now) (args .top) _ _ (at-formals .before .before .before .before .before .before .before .count .ensures) (at-formals .before .before .before .before .before .before .if1 .left) _ (at-formals .before .before .head .ensures) (at-formals .formals .result) (at-formals .formals .last .1 .1 .0) (at-formals .formals .ensures .0) _ (c .before .before .before .before .before .n .given .1) (c .if5 .taken), (at-formals .formals .ensures .1, (λ k l. refl))))
 
 lambda-number-requires : (t : ℕ) → lambda-lts.Need-number-requires (lambda-calls t) (lambda-at t) lambda.Post
 lambda-number-requires t c κs =
@@ -382,22 +356,18 @@ lambda-tail-requires t c κs =
 
 lambda-head-requires-2 : (t : ℕ) → lambda-lts.Need-head-requires-2 (lambda-calls t) (lambda-at t) lambda.Post
 lambda-head-requires-2 t c κs =
-    let count = c .before .before .before .before .before .before .before .before .before .before .before .before .before .before .before .before .before .before .before .before .before .before .count in
-    let if1 = c .before .before .before .before .before .before .before .before .before .before .before .before .before .before .before .before .before .before .before .before .before .if1 in
-    let pre = c .before .before .before .before .before .before .before .before .before .before .before .before .before .before .before .before .before .before .before .before .before .before .before .before .before .before .before .before .before .before .pre in
-    all-in _ _ (behind-held _ _ _ (count .ensures) (if1 .left) (pre .1 .0) _ (c .tail .ensures))
+    let at-formals = c .before .before .before .before .before .before .before .before .before .before .before .before .before .before .before in
+    let pre = at-formals .before .before .before .before .before .before .before .before .before .before .before .before .before .before .before .pre in
+    all-in _ _ (behind-held _ _ _ (at-formals .before .before .before .before .before .before .before .count .ensures) (at-formals .before .before .before .before .before .before .if1 .left) (pre .1 .0) _ (c .tail .ensures))
 
 lambda-expression-requires : (t : ℕ) → lambda-lts.Need-expression-requires (lambda-calls t) (lambda-at t) lambda.Post
 lambda-expression-requires t c κs =
-    let count = c .before .before .before .before .before .before .before .before .before .before .before .before .before .before .before .before .before .before .before .before .before .before .before .before .before .before .count in
-    let if1 = c .before .before .before .before .before .before .before .before .before .before .before .before .before .before .before .before .before .before .before .before .before .before .before .before .before .if1 in
-    let head = c .before .before .before .before .before .before .before .before .before .before .before .before .before .before .before .before .before .before .before .before .before .head in
-    let args = c .before .before .before .before .before .before .before .before .before .before .before .before .before .before .before .before .before .before .before .before .before .before .before .before .before .before .before .before .before .before .before .before .before .before .args in
-    let formals = c .before .before .before .before .before .before .before .before .before .before .before .before .before .before .before .before .before .before .before .formals in
+    let at-formals = c .before .before .before .before .before .before .before .before .before .before .before .before .before .before .before .before .before .before .before in
+    let args = at-formals .before .before .before .before .before .before .before .before .before .before .before .before .before .before .before .args in
     let known-n = c .before .before .before .before .before .before .before .before .before .before .before .before .before .before .before .n in
-    let pre = c .before .before .before .before .before .before .before .before .before .before .before .before .before .before .before .before .before .before .before .before .before .before .before .before .before .before .before .before .before .before .before .before .before .before .pre in
-    let b = body-held _ _ _ (count .ensures) (if1 .left) _ (head .ensures) (args .top) (args .names .now) (formals .last .1 .1 .0) _ (formals .ensures .0) _ (known-n .given .1) _ (c .before .before .before .before .tail .ensures) _ (c .before .before .before .head2 .ensures) (pre .1 .0) (pre .1 .1 .0) in
-    (omega (arith, pre .0, b .1, held-in _ _ (b .0)), (b .0, (b .2, pre .1 .1 .1, omega (arith, pre .1 .1 .2, formals .kept .1 .1 .0)), omega (arith, pre .1 .2, c .before .before .before .before .before .before .before .number .kept .0), pre .1 .3))
+    let pre = at-formals .before .before .before .before .before .before .before .before .before .before .before .before .before .before .before .pre in
+    let b = body-held _ _ _ (at-formals .before .before .before .before .before .before .before .count .ensures) (at-formals .before .before .before .before .before .before .if1 .left) _ (at-formals .before .before .head .ensures) (args .top) (args .names .now) (at-formals .formals .last .1 .1 .0) _ (at-formals .formals .ensures .0) _ (known-n .given .1) _ (c .before .before .before .before .tail .ensures) _ (c .before .before .before .head2 .ensures) (pre .1 .0) (pre .1 .1 .0) in
+    (omega (arith, pre .0, b .1, held-in _ _ (b .0)), (b .0, (b .2, pre .1 .1 .1, omega (arith, pre .1 .1 .2, at-formals .formals .kept .1 .1 .0)), omega (arith, pre .1 .2, c .before .before .before .before .before .before .before .number .kept .0), pre .1 .3))
 
 lambda-same-length-4 : (t : ℕ) → lambda-lts.Need-same-length-4 (lambda-calls t) (lambda-at t) lambda.Post
 lambda-same-length-4 t c =
@@ -406,20 +376,16 @@ lambda-same-length-4 t c =
 
 lambda-returns-7 : (t : ℕ) → lambda-lts.Need-returns-7 (lambda-calls t) (lambda-at t) lambda.Post
 lambda-returns-7 t c =
-    let args = c .before .before .before .before .before .before .before .before .before .before .before .before .before .before .before .before .before .before .before .before .before .before .before .before .before .before .before .before .before .before .before .before .before .before .before .before .before .before .before .before .before .args in
-    let count = c .before .before .before .before .before .before .before .before .before .before .before .before .before .before .before .before .before .before .before .before .before .before .before .before .before .before .before .before .before .before .before .before .before .count in
-    let if1 = c .before .before .before .before .before .before .before .before .before .before .before .before .before .before .before .before .before .before .before .before .before .before .before .before .before .before .before .before .before .before .before .before .if1 in
-    let head = c .before .before .before .before .before .before .before .before .before .before .before .before .before .before .before .before .before .before .before .before .before .before .before .before .before .before .before .before .head in
-    let formals = c .before .before .before .before .before .before .before .before .before .before .before .before .before .before .before .before .before .before .before .before .before .before .before .before .before .before .formals in
+    let at-formals = c .before .before .before .before .before .before .before .before .before .before .before .before .before .before .before .before .before .before .before .before .before .before .before .before .before .before in
+    let args = at-formals .before .before .before .before .before .before .before .before .before .before .before .before .before .before .before .args in
     let known-n = c .before .before .before .before .before .before .before .before .before .before .before .before .before .before .before .before .before .before .before .before .before .before .n in
-    let if3 = c .before .before .before .before .before .before .before .before .before .before .before .before .before .before .before .before .before .before .before .before .before .before .before .before .before .before .before .before .before .if3 in
     let wide = c .before .before .before .before .before .before .before .before .before .before .before .before .before .before .before .before .before .before .before .wide in
     let if4 = c .before .before .before .before .before .before .before .before .before .before .before .before .before .before .before .before .before .before .if4 in
     let number = c .before .before .before .before .before .before .before .before .before .before .before .before .before .before .number in
     let tail = c .before .before .before .before .before .before .before .before .before .before .before .tail in
     let head2 = c .before .before .before .before .before .before .before .before .before .before .head2 in
     let expression = c .before .before .before .before .before .before .expression in
-    (omega arith, (lambda-body-no _ _ _ _ (args .operations .now) (args .names .now) (args .bound .now) (args .top) _ _ (count .ensures) (if1 .left) _ (head .ensures) (formals .result) (formals .last .1 .1 .0) (formals .ensures .0) _ (known-n .given .1) (if3 .left) _ (wide .ensures) (if4 .left) (number .last .0) (number .ensures .0) _ (tail .ensures) _ (head2 .ensures) (expression .result) (expression .ensures .1 .0) (c .enum-told2 .given .1), (kept-on _ _ (args .names .now) (formals .last .1 .1 .0) (expression .last .1 .1 .1 .1 .1 .1 .0) (formals .ensures .1) (expression .ensures .1 .1 .0), kept-on _ _ (args .bound .now) (number .last .0) (expression .last .1 .1 .1 .1 .1 .1 .1 .0) (number .ensures .1) (expression .ensures .1 .1 .1))))
+    (omega arith, (lambda-body-no _ _ _ _ (args .operations .now) (args .names .now) (args .bound .now) (args .top) _ _ (at-formals .before .before .before .before .before .before .before .count .ensures) (at-formals .before .before .before .before .before .before .if1 .left) _ (at-formals .before .before .head .ensures) (at-formals .formals .result) (at-formals .formals .last .1 .1 .0) (at-formals .formals .ensures .0) _ (known-n .given .1) (at-formals .before .before .before .if3 .left) _ (wide .ensures) (if4 .left) (number .last .0) (number .ensures .0) _ (tail .ensures) _ (head2 .ensures) (expression .result) (expression .ensures .1 .0) (c .enum-told2 .given .1), (kept-on _ _ (args .names .now) (at-formals .formals .last .1 .1 .0) (expression .last .1 .1 .1 .1 .1 .1 .0) (at-formals .formals .ensures .1) (expression .ensures .1 .1 .0), kept-on _ _ (args .bound .now) (number .last .0) (expression .last .1 .1 .1 .1 .1 .1 .1 .0) (number .ensures .1) (expression .ensures .1 .1 .1))))
 
 lambda-add-t14 : (t : ℕ) → lambda-lts.Need-add-t14 (lambda-calls t) (lambda-at t) lambda.Post
 lambda-add-t14 t c =
@@ -443,22 +409,18 @@ lambda-same-length-7 t c =
 
 lambda-returns-8 : (t : ℕ) → lambda-lts.Need-returns-8 (lambda-calls t) (lambda-at t) lambda.Post
 lambda-returns-8 t c =
-    let args = c .before .before .before .before .before .before .before .before .before .before .before .before .before .before .before .before .before .before .before .before .before .before .before .before .before .before .before .before .before .before .before .before .before .before .before .before .before .before .before .before .before .before .args in
+    let at-formals = c .before .before .before .before .before .before .before .before .before .before .before .before .before .before .before .before .before .before .before .before .before .before .before .before .before .before .before in
+    let args = at-formals .before .before .before .before .before .before .before .before .before .before .before .before .before .before .before .args in
     let known-n = c .before .before .before .before .before .before .before .before .before .before .before .before .before .before .before .before .before .before .before .before .before .before .before .n in
     let expression = c .before .before .before .before .before .before .before .expression in
     let if5 = c .before .before .before .before .before .before .before .before .before .before .before .before .before .before .before .before .before .before .if5 in
-    let count = c .before .before .before .before .before .before .before .before .before .before .before .before .before .before .before .before .before .before .before .before .before .before .before .before .before .before .before .before .before .before .before .before .before .before .count in
-    let if1 = c .before .before .before .before .before .before .before .before .before .before .before .before .before .before .before .before .before .before .before .before .before .before .before .before .before .before .before .before .before .before .before .before .before .if1 in
-    let head = c .before .before .before .before .before .before .before .before .before .before .before .before .before .before .before .before .before .before .before .before .before .before .before .before .before .before .before .before .before .head in
-    let formals = c .before .before .before .before .before .before .before .before .before .before .before .before .before .before .before .before .before .before .before .before .before .before .before .before .before .before .before .formals in
-    let if3 = c .before .before .before .before .before .before .before .before .before .before .before .before .before .before .before .before .before .before .before .before .before .before .before .before .before .before .before .before .before .before .if3 in
     let wide = c .before .before .before .before .before .before .before .before .before .before .before .before .before .before .before .before .before .before .before .before .wide in
     let if4 = c .before .before .before .before .before .before .before .before .before .before .before .before .before .before .before .before .before .before .before .if4 in
     let number = c .before .before .before .before .before .before .before .before .before .before .before .before .before .before .before .number in
     let tail = c .before .before .before .before .before .before .before .before .before .before .before .before .tail in
     let head2 = c .before .before .before .before .before .before .before .before .before .before .before .head2 in
     let s = short-after (args .words .now) ((known-n .given .0 .0) + 3) (expression .result) _ (if5 .left) (expression .ensures .0) (c .before .m .given .1) in
-    (omega (arith, s), (lambda-body _ _ _ _ (args .operations .now) (args .names .now) (args .bound .now) (args .top) _ _ (count .ensures) (if1 .left) _ (head .ensures) (formals .result) (formals .last .1 .1 .0) (formals .ensures .0) _ (known-n .given .1) (if3 .left) _ (wide .ensures) (if4 .left) (number .last .0) (number .ensures .0) _ (tail .ensures) _ (head2 .ensures) (expression .result) (expression .ensures .1 .0) _ (c .before .m .given .1), (kept-on _ _ (args .names .now) (formals .last .1 .1 .0) (expression .last .1 .1 .1 .1 .1 .1 .0) (formals .ensures .1) (expression .ensures .1 .1 .0), kept-on _ _ (args .bound .now) (number .last .0) (expression .last .1 .1 .1 .1 .1 .1 .1 .0) (number .ensures .1) (expression .ensures .1 .1 .1))))
+    (omega (arith, s), (lambda-body _ _ _ _ (args .operations .now) (args .names .now) (args .bound .now) (args .top) _ _ (at-formals .before .before .before .before .before .before .before .count .ensures) (at-formals .before .before .before .before .before .before .if1 .left) _ (at-formals .before .before .head .ensures) (at-formals .formals .result) (at-formals .formals .last .1 .1 .0) (at-formals .formals .ensures .0) _ (known-n .given .1) (at-formals .before .before .before .if3 .left) _ (wide .ensures) (if4 .left) (number .last .0) (number .ensures .0) _ (tail .ensures) _ (head2 .ensures) (expression .result) (expression .ensures .1 .0) _ (c .before .m .given .1), (kept-on _ _ (args .names .now) (at-formals .formals .last .1 .1 .0) (expression .last .1 .1 .1 .1 .1 .1 .0) (at-formals .formals .ensures .1) (expression .ensures .1 .1 .0), kept-on _ _ (args .bound .now) (number .last .0) (expression .last .1 .1 .1 .1 .1 .1 .1 .0) (number .ensures .1) (expression .ensures .1 .1 .1))))
 
 pub +all+application+conditional+expression+lambda-spec : {M : Type 1} → statement M
 +all+application+conditional+expression+lambda-spec =
