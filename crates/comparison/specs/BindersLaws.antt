@@ -8,7 +8,7 @@ use native.Mathlib.Omega.{arith}
 use lib.Dec.{eqb}
 use lib.ListN.{length}
 use borrow.Author.Tests.{eqb-true, eq-eqb, ne-eqb}
-pub use Rattle.words.specs.ListLaws.{either}
+use Rattle.words.specs.ListLaws.{either}
 use Rattle.words.specs.Options.{mapSome}
 use Rattle.words.specs.TestLaws.{and-left, and-right}
 use Rattle.core_term.specs.Node.{ifN, lambdaN, applicationN}

@@ -2,7 +2,7 @@
 use mathlib.Core.Path.{_≡_, refl, sym, ap, ap₂, subst, _∙_}
 use mathlib.Core.Bool.{Bool, true, false, _&&_, and-true}
 use mathlib.Core.List.{List, _∷_, _++_, map, append-assoc, append-nil}
-use mathlib.Core.Option.{Option, none, some}
+use mathlib.Core.Option.{Option, none, some, Option·some-injective}
 use Prim.Native.Nat.{ℕ, zero, suc, _+_, _≤_, _<_}
 use native.Mathlib.Omega.{arith}
 use lib.Dec.{eqb, leb}
@@ -12,6 +12,7 @@ use borrow.Author.Tests.{eqb-true, eqb-false, eq-eqb}
 use Rattle.words.specs.Limits.{formalsMost}
 use Rattle.words.specs.Options.{onlyIf, mapSome, mapBoth}
 use Rattle.words.specs.TestLaws.{and-right}
+use Rattle.words.specs.ListLaws.{either}
 use Rattle.datum.specs.Constant.{Constant, isConstant, integer, boolean, decimal}
 use Rattle.datum.specs.ConstantLaws.{words-decimal, words-other, kind-most, constant-case}
 use Rattle.datum.specs.Datum.{Datum, constantD, nameD, listD, Data, noneD, moreD}
@@ -23,7 +24,6 @@ use Rattle.core_term.specs.Words.{datumWords, encode, encodeAll}
 use Rattle.comparison.specs.Expression.{Expression, referenceE, datumE, ifE, lambdaE, applicationE, Expressions, noneE, moreE}
 use Rattle.comparison.specs.Grammar.{isFree, theOne, first, after, quoted, conditional, formals, withBody, applied, headed, expressionOf, expressionsOf, laterOf}
 use Rattle.comparison.specs.Agrees.{Scope, bind, onDatum, onIf, onLambda, onApplication, agrees, agreeAll}
-use Rattle.comparison.specs.BindersLaws.{either}
 use Rattle.comparison.specs.Same.{Same, SameAll, datum′, if′, lambda′, application′, none′, more′}
 use Rattle.comparison.specs.SameLaws.{agrees-says}
 use Rattle.supplier.specs.declared.quoted.Agreed.{Agreed}
@@ -31,7 +31,7 @@ use Rattle.supplier.specs.declared.quoted.Agreed.the-variants.{Words, No
 use Rattle.supplier.specs.Items.{DatumAt, DataAt}
 use Rattle.supplier.specs.ItemsLaws.{ListAt}
 use Rattle.supplier.specs.Judged.{formOf, lambdaOf}
-use Rattle.supplier.specs.ListLaws.{none-some, some-is, size, size-is}
+use Rattle.supplier.specs.ListLaws.{none-some, size, size-is}
 use Rattle.supplier.specs.WalkLaws.{form-most, list-whole, list-headed}
 use Rattle.supplier.specs.Quoted.{Right, isGood, DatumRight}
 use Rattle.supplier.specs.Terms.{scopeOf, isGoodTerm, areGoodTerms, quotedOf, conditionalOf, applicationOf, AllRight}
@@ -48,17 +48,17 @@ pub both-some : {A B C : Type 0} (f : A → B → C) (a : Option A) (b : Option 
 unfolding mapBoth mapSome
 both-some f none b y e = none-some e
 both-some f (some x) none y e = none-some e
-both-some f (some x) (some z) y e = (x, z, (refl, refl, some-is e))
+both-some f (some x) (some z) y e = (x, z, (refl, refl, Option·some-injective _ _ e))
 
 -- ---- the expression that an element is
 
 pub name-expression : (n : ℕ) (x : Expression) → expressionOf (nameD n) ≡ some x → x ≡ referenceE n
 unfolding expressionOf onlyIf
-name-expression n x e = either (isFree n) (λ h. sym (some-is (rw h at e))) (λ h. none-some (rw h at e))
+name-expression n x e = either (isFree n) (λ h. sym (Option·some-injective _ _ (rw h at e))) (λ h. none-some (rw h at e))
 
 pub constant-expression : (a : Constant) (x : Expression) → expressionOf (constantD a) ≡ some x → x ≡ datumE (constantD a)
 unfolding expressionOf
-constant-expression a x e = sym (some-is e)
+constant-expression a x e = sym (Option·some-injective _ _ e)
 
 pub empty-expression : {A : Type 0} (x : Expression) → expressionOf (listD noneD) ≡ some x → A
 unfolding expressionOf
@@ -101,8 +101,8 @@ quoted-none x e = none-some e
 pub quoted-datum : (q : Datum) (es : Data) (x : Expression) → quotedOf (moreD q es) ≡ some x → x ≡ datumE q
 unfolding quotedOf after theOne quoted
 quoted-datum (constantD a) noneD x e = none-some e
-quoted-datum (nameD n) noneD x e = sym (some-is e)
-quoted-datum (listD ds) noneD x e = sym (some-is e)
+quoted-datum (nameD n) noneD x e = sym (Option·some-injective _ _ e)
+quoted-datum (listD ds) noneD x e = sym (Option·some-injective _ _ e)
 quoted-datum q (moreD d ds) x e = none-some e
 
 -- ---- behind if: three expressions
@@ -122,7 +122,7 @@ unfolding conditional
 three-of noneE x e = none-some e
 three-of (moreE a noneE) x e = none-some e
 three-of (moreE a (moreE b noneE)) x e = none-some e
-three-of (moreE a (moreE b (moreE c noneE))) x e = record { test = a; yes = b; no = c; are = refl; is = sym (some-is e) }
+three-of (moreE a (moreE b (moreE c noneE))) x e = record { test = a; yes = b; no = c; are = refl; is = sym (Option·some-injective _ _ e) }
 three-of (moreE a (moreE b (moreE c (moreE d xs)))) x e = none-some e
 
 -- ---- behind lambda: formals and body
@@ -140,14 +140,14 @@ lambda-of f b x e =
     let p = after-some (formals f) (λ ns. after (mapBoth moreE (expressionOf b) (some noneE)) (withBody ns)) x e in
     let q = after-some (mapBoth moreE (expressionOf b) (some noneE)) (withBody (p .0)) x (p .1 .1) in
     let r = both-some moreE (expressionOf b) (some noneE) (q .0) (q .1 .0) in
-    let z : noneE ≡ r .1 = some-is (r .2 .1) in
+    let z : noneE ≡ r .1 = Option·some-injective _ _ (r .2 .1) in
     let w : q .0 ≡ moreE (r .0) noneE = sym (ap (moreE (r .0)) z ∙ r .2 .2) in
     record {
       ns = p .0;
       body = r .0;
       formals-are = p .1 .0;
       body-is = r .2 .0;
-      is = sym (some-is (sym (ap (withBody (p .0)) w) ∙ q .1 .1));
+      is = sym (Option·some-injective _ _ (sym (ap (withBody (p .0)) w) ∙ q .1 .1));
     }
 
 body-one : (ns : List ℕ) (xs : Expressions) (x : Expression) → withBody ns xs ≡ some x → size xs ≡ 1

@@ -2,7 +2,7 @@
 use mathlib.Core.Path.{_≡_, refl, sym, ap, subst, _∙_}
 use mathlib.Core.Bool.{Bool, true, false, _&&_, cond, and-true}
 use mathlib.Core.List.{List, [], _∷_}
-use mathlib.Core.Option.{Option, none, some}
+use mathlib.Core.Option.{Option, none, some, Option·some-injective, Option·none-ne-some}
 use Prim.Native.Nat.{ℕ, zero, suc, _+_, _*_}
 use native.Mathlib.Omega.{arith}
 use lib.Dec.{eqb}
@@ -64,10 +64,7 @@ three-is (moreE x (moreE y (moreE z noneE))) = refl
 three-is (moreE x (moreE y (moreE z (moreE w xs)))) = sym (ne-eqb (suc (suc (suc (suc (size xs))))) 3 (λ e. omega arith))
 
 pub none-some : {A X : Type 0} {x : X} → _≡_ {A = Option X} none (some x) → A
-none-some {A} {X} {x} e = let z : _≡_ {A = ℕ} 0 1 = ap (λ (o : Option X). elim o [ none ↦ 0 | some k ↦ 1 ]) e in absurd (omega arith)
-
-pub some-is : {X : Type 0} {x y : X} → _≡_ {A = Option X} (some x) (some y) → x ≡ y
-some-is {X} {x} e = ap (λ (o : Option X). elim o [ none ↦ x | some k ↦ k ]) e
+none-some e = absurd (Option·none-ne-some _ e)
 
 -- as many expressions as elements
 size-by : (a : Option Expression) (b : Option Expressions) (k : ℕ) (xs : Expressions) → ((ys : Expressions) → b ≡ some ys → size ys ≡ k)
@@ -75,11 +72,11 @@ size-by : (a : Option Expression) (b : Option Expressions) (k : ℕ) (xs : Expre
 unfolding mapBoth mapSome size
 size-by none b k xs h f = none-some f
 size-by (some x) none k xs h f = none-some f
-size-by (some x) (some ys) k xs h f = ap size (sym (some-is f)) ∙ ap suc (h ys refl)
+size-by (some x) (some ys) k xs h f = ap size (sym (Option·some-injective _ _ f)) ∙ ap suc (h ys refl)
 
 pub size-is : (ds : Data) (xs : Expressions) → expressionsOf ds ≡ some xs → size xs ≡ D.count ds
 unfolding expressionsOf size D.count
-size-is noneD xs e = ap size (sym (some-is e))
+size-is noneD xs e = ap size (sym (Option·some-injective _ _ e))
 size-is (moreD d ds) xs e = size-by (expressionOf d) (expressionsOf ds) (D.count ds) xs (size-is ds) e
 
 same-three : (xs : Expressions) (ds : Data) → expressionsOf ds ≡ some xs → isThree xs ≡ isThreeData ds

@@ -2,12 +2,14 @@
 use mathlib.Core.Path.{_≡_, refl, sym, ap, ap₂, subst, _∙_}
 use mathlib.Core.Bool.{Bool, true, false, _&&_}
 use mathlib.Core.List.{List, _++_, map, append-assoc}
-use mathlib.Core.Option.{some}
+use mathlib.Core.Option.{some, Option·some-injective}
 use Prim.Native.Nat.{ℕ, _+_}
 use native.Mathlib.Omega.{arith}
 use lib.ListN.{length, drop, length-append}
 use lib.Seq.{drop-at, drop-drop}
 use Rattle.words.specs.TestLaws.{and-left, and-right}
+use Rattle.words.specs.ListLaws.{rest-is}
+use Rattle.words.specs.Parts as R
 use Rattle.datum.specs.Datum.{Data, noneD}
 use Rattle.datum.specs.Datum as D
 use Rattle.datum.specs.NameTable.{nameAt}
@@ -22,9 +24,10 @@ use Rattle.supplier.specs.declared.quoted.Agreed.{Agreed}
 use Rattle.supplier.specs.declared.quoted.Agreed.the-variants.{Words, No}
 use Rattle.supplier.specs.Items.{DatumAt, DataAt, PairAt}
 use Rattle.supplier.specs.ItemsLaws.{pair-kind, none-kind}
-use Rattle.supplier.specs.ListLaws.{some-is}
 use Rattle.supplier.specs.Quoted.{Right}
-use Rattle.supplier.specs.Terms.{scopeOf, isGoodTerm, areGoodTerms, ExpressionRight}
+use Rattle.supplier.specs.Terms.{scopeOf, isGoodTerm, areGoodTerms, ExpressionRight, AllRight}
+use Rattle.supplier.specs.Scope.{Kept}
+use Rattle.supplier.specs.BoundLaws.{kept-scope}
 use Rattle.supplier.specs.FormsLaws.{both-some}
 
 -- how the two sides spell their names, and what is in scope
@@ -112,7 +115,7 @@ module _ (theirs ours operations : List ℕ) (scope : Scope) where
             subst (λ c. Right (agrees (nameAt theirs) (nameAt ours) (map (nameAt ours) operations) c (next .x) (next .t)) (length (encode (next .t))) r) s
             (is (pair .first) (next .x) (next .t) (encodeAll (next .ts) ++ l .rest) (subst (λ y. DatumAt items y (pair .first)) (sym a) (pair .head)) (next .is) (next .good) (next .words-are))
 
-        pub left-next : (n : ℕ) → r ≡ Words n → (t : ℕ) → t ≡ tailAt items j → Left items words t (at + n) test size
+        left-next : (n : ℕ) → r ≡ Words n → (t : ℕ) → t ≡ tailAt items j → Left items words t (at + n) test size
         left-next n q t u =
             let o = subst (Right (same (next .x) (next .t)) (length (encode (next .t)))) q right in
             let f : same (next .x) (next .t) ≡ true = o .0 in
@@ -130,7 +133,7 @@ module _ (theirs ours operations : List ℕ) (scope : Scope) where
               size-is = omega (arith, next .size-is, o .1);
             }
 
-        pub left-no : r ≡ No → test ≡ false
+        left-no : r ≡ No → test ≡ false
         left-no q =
             let f : same (next .x) (next .t) ≡ false = subst (Right (same (next .x) (next .t)) (length (encode (next .t)))) q right in
             next .test-is ∙ ap (λ b. b && sameAll (next .xs) (next .ts)) f
@@ -139,9 +142,32 @@ module _ (theirs ours operations : List ℕ) (scope : Scope) where
     end-by : (us : Plains) → l .ts ≡ us → l .ds ≡ noneD → Right test size (Words at)
     unfolding D.count count expressionsOf agreeAll encodeAll
     end-by noneC e f =
-        let x : noneE ≡ l .xs = some-is (sym (ap expressionsOf f) ∙ l .are) in
+        let x : noneE ≡ l .xs = Option·some-injective _ _ (sym (ap expressionsOf f) ∙ l .are) in
         (l .test-is ∙ ap₂ sameAll (sym x) e, sym (l .size-is ∙ ap (λ y. at + length (encodeAll y)) e ∙ omega arith))
     end-by (moreC t ts) e f = absurd (omega (arith, l .many, ap D.count f, ap count e))
 
-    pub left-end : (kindAt items j ≡ 4 → ⊥) → Right test size (Words at)
+    left-end : (kindAt items j ≡ 4 → ⊥) → Right test size (Words at)
     left-end k = end-by (l .ts) refl (none-kind items j (l .ds) (l .held) k)
+
+-- in the code's shape: k is the kind of item j, h its head
+module _ (items words theirs ours operations names variables : List ℕ) (top i from j at : ℕ) (c : Comparing theirs ours operations (scopeOf names variables top) items words i from j at)
+    (k : ℕ) (kind : k ≡ kindAt items j) where
+  pub comparing-end : (k ≡ 4 → ⊥) → AllRight words items theirs ours operations names variables top i from (Words at)
+  comparing-end e ds xs ts rest o a g m w =
+      left-end theirs ours operations (scopeOf names variables top) items words j at _ _ (c ds xs ts rest o a g m w) (λ q. e (kind ∙ q))
+
+  -- its element is compared where the first `top` are the same
+  module _ (p : k ≡ 4) (names′ variables′ : List ℕ) (n-kept : Kept top names names′) (v-kept : Kept top variables variables′) (h : ℕ) (a : h ≡ headAt items j) (r : Agreed)
+      (is : ExpressionRight (R.rest at words) items theirs ours operations names′ variables′ top h r) where
+    element : ExpressionRight (drop at words) items theirs ours operations names′ variables′ top h r
+    element = subst (λ l. ExpressionRight l items theirs ours operations names′ variables′ top h r) (rest-is at words) is
+
+    pub comparing-no : r ≡ No → AllRight words items theirs ours operations names variables top i from No
+    comparing-no e ds xs ts rest o b g m w =
+        left-no theirs ours operations (scopeOf names variables top) items words j at _ _ (c ds xs ts rest o b g m w) (sym kind ∙ p) names′ variables′ top
+        (kept-scope top names names′ variables variables′ n-kept v-kept) h a r element e
+
+    pub comparing-next : (n : ℕ) → r ≡ Words n → (t : ℕ) → t ≡ tailAt items j → Comparing theirs ours operations (scopeOf names variables top) items words i from t (at + n)
+    comparing-next n e t u ds xs ts rest o b g m w =
+        left-next theirs ours operations (scopeOf names variables top) items words j at _ _ (c ds xs ts rest o b g m w) (sym kind ∙ p) names′ variables′ top
+        (kept-scope top names names′ variables variables′ n-kept v-kept) h a r element n e t u

@@ -10,7 +10,7 @@ use lib.ListN.{length, getD, drop, length-append}
 use borrow.Author.Tests.{eqb-true, eq-eqb, ltb-true}
 use Rattle.words.specs.Lists.{equal}
 use Rattle.words.specs.TestLaws.{and-left, and-right, and-both}
-use Rattle.words.specs.ListLaws.{never}
+use Rattle.words.specs.ListLaws.{never, either}
 use Rattle.datum.specs.NameTable.{nameAt}
 use Rattle.core_term.specs.Node.{nodeWords, isNode}
 use Rattle.core_term.specs.Term.{variableC, operationC, datumC, ifC, lambdaC, applicationC, noneC, moreC, Plain, Plains, variables}
@@ -18,13 +18,14 @@ use Rattle.core_term.specs.Words.{encode}
 use Rattle.core_term.specs.Every.{every, everyTerm, proper}
 use Rattle.core_term.specs.DecodeLaws.{encode-unique}
 use Rattle.core_term.specs.PartsLaws.{encode-two}
-use Rattle.comparison.specs.BindersLaws.{either}
 use Rattle.comparison.specs.Agrees.{meant, onVariable, onOperation, sameName}
-use Rattle.supplier.specs.declared.quoted.Agreed.the-variants.{Words}
+use Rattle.supplier.specs.declared.quoted.Agreed.{Agreed}
+use Rattle.supplier.specs.declared.quoted.Agreed.the-variants.{Words, No}
 use Rattle.supplier.specs.Scope.{innermost}
+use Rattle.supplier.specs.ScopeLaws.{innermost-most}
 use Rattle.supplier.specs.Quoted.{Right}
-use Rattle.supplier.specs.QuotedLaws.{two-words, good-proper}
-use Rattle.supplier.specs.Terms.{scopeOf, isGoodTerm, areGoodTerms}
+use Rattle.supplier.specs.QuotedLaws.{not-so, two-words, good-proper}
+use Rattle.supplier.specs.Terms.{scopeOf, isGoodTerm, areGoodTerms, ReferenceRight}
 
 -- ---- what a name means in the code's scope
 
@@ -110,42 +111,84 @@ module _ (words theirs ours operations names variables : List ℕ) (top n : ℕ)
     unfolding sameName
     in-scope = ap (λ o. sameName (nameAt theirs) (nameAt ours) (map (nameAt ours) operations) n o t) (meant-some n names variables top k (sym e) f)
 
-    pub bound-first : same ≡ true → (getD words 0 0 ≡ 0) × (getD words 1 0 ≡ getD variables (k - 1) 0)
+    bound-first : same ≡ true → (getD words 0 0 ≡ 0) × (getD words 1 0 ≡ getD variables (k - 1) 0)
     bound-first h = variable-first (getD variables (k - 1) 0) words t rest w (sym in-scope ∙ h)
 
-    pub bound-right : getD words 0 0 ≡ 0 → getD words 1 0 ≡ getD variables (k - 1) 0 → Right same (length (encode t)) (Words 2)
+    bound-agrees : getD words 0 0 ≡ 0 → getD words 1 0 ≡ getD variables (k - 1) 0 → Right same (length (encode t)) (Words 2)
     unfolding onVariable encode nodeWords every proper isNode
-    bound-right p q =
+    bound-agrees p q =
         let v = getD variables (k - 1) 0 in
         let i : t ≡ variableC v = only-term ours (length operations) words t (variableC v) rest (drop 2 words) g w refl (two-words words 0 v (term-two words t rest w) p q) in
         (in-scope ∙ ap (onVariable false (eqb v)) i ∙ eq-eqb v v refl, sym (ap (λ x. length (encode x)) i))
 
   module _ (e : 0 ≡ innermost n names top) where
-    abbrev test : ℕ → Bool
-    test p = equal (nameAt theirs n) (getD (map (nameAt ours) operations) p [])
+    abbrev spelled : ℕ → Bool
+    spelled p = equal (nameAt theirs n) (getD (map (nameAt ours) operations) p [])
 
-    no-scope : same ≡ onOperation false test t
+    no-scope : same ≡ onOperation false spelled t
     unfolding sameName
     no-scope = ap (λ o. sameName (nameAt theirs) (nameAt ours) (map (nameAt ours) operations) n o t) (meant-none n names variables top (sym e))
 
-    pub free-first : same ≡ true → getD words 0 0 ≡ 1
-    free-first h = operation-first test words t rest w (sym no-scope ∙ h)
+    free-first : same ≡ true → getD words 0 0 ≡ 1
+    free-first h = operation-first spelled words t rest w (sym no-scope ∙ h)
 
     module _ (p : ℕ) (a : getD words 0 0 ≡ 1) (b : getD words 1 0 ≡ p) where
       is-operation : t ≡ operationC p
       unfolding encode nodeWords every proper isNode
       is-operation = only-term ours (length operations) words t (operationC p) rest (drop 2 words) g w refl (two-words words 1 p (term-two words t rest w) a b)
 
-      pub free-below : p < length operations
+      free-below : p < length operations
       unfolding isGoodTerm
       free-below = ltb-true p (length operations) (subst (λ x. isGoodTerm ours (length operations) x ≡ true) is-operation g)
 
-      pub free-same : (m : ℕ) → m ≡ getD operations p 0 → same ≡ equal (nameAt theirs n) (nameAt ours m)
+      free-same : (m : ℕ) → m ≡ getD operations p 0 → same ≡ equal (nameAt theirs n) (nameAt ours m)
       unfolding onOperation
       free-same m q =
-          no-scope ∙ ap (onOperation false test) is-operation
+          no-scope ∙ ap (onOperation false spelled) is-operation
           ∙ ap (equal (nameAt theirs n)) (getD-map (nameAt ours) operations p free-below ∙ ap (nameAt ours) (sym q))
 
-      pub free-size : length (encode t) ≡ 2
+      free-size : length (encode t) ≡ 2
       unfolding encode nodeWords
       free-size = ap (λ x. length (encode x)) is-operation
+
+-- in the code's shape: k is the place after the innermost formal of name n
+module _ (words theirs ours operations names variables : List ℕ) (top n : ℕ) where
+  abbrev Reference : Agreed → Type 0
+  Reference = ReferenceRight words theirs ours operations names variables top n
+
+  pub reference-short : length words < 2 → Reference No
+  reference-short l t rest g w = absurd (omega (arith, l, term-two words t rest w))
+
+  module _ (k : ℕ) (e : k ≡ innermost n names top) where
+    module _ (f : k ≡ 0 → ⊥) where
+      pub bound-within : k - 1 < top
+      bound-within = omega (arith, e, f, innermost-most n names top)
+
+      pub bound-code : (getD words 0 0 ≡ 0 → ⊥) → Reference No
+      bound-code c t rest g w = not-so _ (λ h. c (bound-first words theirs ours operations names variables top n t rest g w k e f h .0))
+
+      module _ (number : ℕ) (second : number ≡ getD words 1 0) where
+        pub bound-other : (number ≡ getD variables (k - 1) 0 → ⊥) → Reference No
+        bound-other c t rest g w = not-so _ (λ h. c (second ∙ bound-first words theirs ours operations names variables top n t rest g w k e f h .1))
+
+        pub bound-right : getD words 0 0 ≡ 0 → number ≡ getD variables (k - 1) 0 → Reference (Words 2)
+        bound-right c v t rest g w = bound-agrees words theirs ours operations names variables top n t rest g w k e f c (sym second ∙ v)
+
+    module _ (z : k ≡ 0) where
+      pub free-code : (getD words 0 0 ≡ 1 → ⊥) → Reference No
+      free-code c t rest g w = not-so _ (λ h. c (free-first words theirs ours operations names variables top n t rest g w (sym z ∙ e) h))
+
+      module _ (c : getD words 0 0 ≡ 1) (number : ℕ) (second : number ≡ getD words 1 0) where
+        pub free-outside : length operations ≤ number → Reference No
+        free-outside l t rest g w = absurd (omega (arith, l, free-below words theirs ours operations names variables top n t rest g w (sym z ∙ e) number c (sym second)))
+
+        module _ (m : ℕ) (a : m ≡ getD operations number 0) (b : Bool) (is : b ≡ equal (nameAt theirs n) (nameAt ours m)) where
+          test : (t : Plain) (rest : List ℕ) → isGoodTerm ours (length operations) t ≡ true → words ≡ encode t ++ rest
+              → sameName (nameAt theirs) (nameAt ours) (map (nameAt ours) operations) n (meant n (scopeOf names variables top)) t ≡ b
+          test t rest g w = free-same words theirs ours operations names variables top n t rest g w (sym z ∙ e) number c (sym second) m a ∙ sym is
+
+          pub free-no : b ≡ false → Reference No
+          free-no q t rest g w = test t rest g w ∙ q
+
+          pub free-right : b ≡ true → Reference (Words 2)
+          free-right q t rest g w = (test t rest g w ∙ q, sym (free-size words theirs ours operations names variables top n t rest g w (sym z ∙ e) number c (sym second)))

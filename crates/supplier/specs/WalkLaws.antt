@@ -227,6 +227,11 @@ module _ (ws : List ℕ) (i n : ℕ) (counts : (ds : Data) → DataAt ws i ds �
               ∙ ap (λ r. judge isOperation r (expressionOf (t .second))) (f .3)
               ∙ sym (ap (λ x. judge isOperation (round before top) (lambdaOf x)) (t .is) ∙ lambda-some isOperation (round before top) (t .first) (t .second) (f .0) (f .1))
 
+        pub formals-most : (m : ℕ) → b ≡ Formals m → HeldAll ws i → Room ws before top i → top + m ≤ 2048
+        formals-most m e h r =
+            let y = body-held m e (tailAt ws i) refl (headAt ws (tailAt ws i)) refl h (r .0) in
+            omega (arith, y .2, held-in ws (headAt ws (tailAt ws i)) (y .0), r .1)
+
 -- ---- kept scopes
 
 pub kept-on : (top more : ℕ) (a b c : List ℕ) → Kept top a b → Kept (top + more) b c → Kept top a c

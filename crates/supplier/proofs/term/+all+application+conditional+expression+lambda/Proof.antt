@@ -28,25 +28,19 @@ use Rattle.supplier.proofs.term.reference.Reads as reference-reads
 use Rattle.supplier.proofs.quoted.wide.Reads as wide-reads
 use Rattle.supplier.proofs.term.+all+application+conditional+expression+lambda.{statement}
 use Rattle.supplier.proofs.term.+all+application+conditional+expression+lambda.Tie.{close}
-use mathlib.Core.Path.{_≡_, refl, sym, ap, subst, _∙_}
+use mathlib.Core.Path.{_≡_, refl, _∙_}
 use native.Mathlib.Omega.{arith}
-use lib.ListN.{length, drop, length-drop}
+use lib.ListN.{length}
 use borrow.Author.Needs.{needs}
-use Rattle.words.specs.ListLaws.{rest-is}
-use Rattle.datum.specs.Datum.{moreD, noneD}
-use Rattle.recipe.specs.TreeFrom.{headAt, tailAt}
-use Rattle.supplier.specs.Items.{DatumAt, DataAt, HeldAll}
-use Rattle.supplier.specs.ItemsLaws.{data-in, datum-in, pair-kind, name-datum}
+use Rattle.supplier.specs.Items.{HeldAll}
+use Rattle.supplier.specs.ItemsLaws.{held-in, all-in, name-held, elements-held, head-held, tail-held}
+use Rattle.supplier.specs.Judged.{Room}
 use Rattle.supplier.specs.Scope.{Kept}
-use Rattle.supplier.specs.WalkLaws.{kept-on}
-use Rattle.supplier.specs.Quoted.{Short}
-use Rattle.supplier.specs.QuotedLaws.{not-so}
-use Rattle.supplier.specs.Terms.{scopeOf, ExpressionRight}
-use Rattle.supplier.specs.TermsLaws.{term-two}
-use Rattle.supplier.specs.BoundLaws.{kept-scope}
-use Rattle.supplier.specs.FormsLaws.{conditional-begins, conditional-parts, application-first, application-parts, parts-right}
-use Rattle.supplier.specs.OperandsLaws.{Comparing, comparing-start, left-next, left-no, left-end}
-use Rattle.supplier.specs.TermWalkLaws.{walk-name, walk-datum, walk-head, walk-list, walk-rest, walk-after, walk-quote-none, walk-quote, walk-conditional, walk-lambda, walk-application, two, lambda-uncounted, lambda-short, lambda-code, lambda-head, lambda-formals, lambda-room, lambda-most, lambda-count, lambda-cut, lambda-body-no, lambda-body}
+use Rattle.supplier.specs.WalkLaws.{kept-on, tail-asks, behind-held, formals-held, body-held, formals-most}
+use Rattle.supplier.specs.DataLaws.{short-after}
+use Rattle.supplier.specs.Terms.{scopeOf, conditionalOf, applicationOf}
+use Rattle.supplier.specs.OperandsLaws.{Comparing, comparing-start, comparing-next, comparing-no, comparing-end}
+use Rattle.supplier.specs.TermWalkLaws.{walk-name, walk-datum, walk-quote-none, walk-quote, walk-conditional, walk-lambda, walk-application, form-short, conditional-code, conditional-all, application-code, application-count, application-all, lambda-uncounted, lambda-short, lambda-code, lambda-formals, lambda-count, lambda-cut, lambda-body-no, lambda-body}
 
 abbrev μ-all : Measures 7 all-kinds.ps ℕ
 μ-all κs a =
@@ -128,533 +122,305 @@ abbrev all-μ-loop : all-lts.MeasureT-loop
 all-μ-loop items i words from theirs ours operations names₀ bound₀ top j₀ at₀ names bound j at =
     length items - j
 
-all-loop-holds : (t : ℕ) → all-lts.Need-loop-holds (all-calls t) (all-at t) all.Post all-Inv-loop all-μ-loop
-all-loop-holds t c =
-    let args = c .before .before .before .before .before .before .before .args in
-    let pre = c .before .before .before .before .before .before .before .pre in
-    ((pre .1 .0), comparing-start (args .theirs .now) (args .ours .now) (args .operations .now) (scopeOf (args .names .now) (args .bound .now) (args .top)) (args .items .now) (args .words .now) (args .i) (args .from), (λ k l. refl), (λ k l. refl), refl, refl, pre .1 .4, omega arith)
-
-all-kind-requires : (t : ℕ) → all-lts.Need-kind-requires (all-calls t) (all-at t) all.Post all-Inv-loop all-μ-loop
-all-kind-requires t c κs =
-    (data-in (c .before .before .before .before .before .before .before .before .args .items .now) (c .loop .j) (c .loop .inv .0 .0) (c .loop .inv .0 .1))
-
-all-head-requires : (t : ℕ) → all-lts.Need-head-requires (all-calls t) (all-at t) all.Post all-Inv-loop all-μ-loop
-all-head-requires t c κs =
-    let loop = c .before .before .loop in
-    (data-in (c .before .before .before .before .before .before .before .before .before .before .args .items .now) (loop .j) (loop .inv .0 .0) (loop .inv .0 .1))
-
-all-mul-expression : (t : ℕ) → all-lts.Need-mul-expression (all-calls t) (all-at t) all.Post all-Inv-loop all-μ-loop
-all-mul-expression t c =
-    omega (arith, c .before .before .before .loop .inv .6, c .before .before .before .before .before .before .before .before .before .before .before .good .1 .1 .0)
-
-all-part-expression-start : (t : ℕ) → all-lts.Need-part-expression-start (all-calls t) (all-at t) all.Post all-Inv-loop all-μ-loop
-all-part-expression-start t c =
-    omega (arith, c .before .before .before .loop .inv .6)
-
 all-expression-requires : (t : ℕ) → all-lts.Need-expression-requires (all-calls t) (all-at t) all.Post all-Inv-loop all-μ-loop
 all-expression-requires t c κs =
-    let args = c .before .before .before .before .before .before .before .before .before .before .before .before .before .before .args in
-    let pre = c .before .before .before .before .before .before .before .before .before .before .before .before .before .before .pre in
     let loop = c .before .before .before .before .before .before .loop in
-    let head = c .before .before .before .head in
-    let p = pair-kind (args .items .now) (loop .j) (loop .inv .0 .0) (loop .inv .0 .1) (sym (c .before .before .before .before .before .kind .ensures) ∙ c .before .before .before .before .if1 .taken) in (omega (arith, pre .0, head .ensures, p .headIs, loop .inv .7, (data-in (args .items .now) (loop .j) (loop .inv .0 .0) (loop .inv .0 .1))), ((p .first, subst (λ x. DatumAt (args .items .now) x (p .first)) (sym (head .ensures)) (p .head)), (omega (arith, pre .1 .1 .0, head .ensures, p .headIs, loop .inv .7), pre .1 .1 .1, omega (arith, pre .1 .1 .2, loop .inv .4)), omega (arith, pre .1 .2, loop .inv .5), pre .1 .3))
-
-all-same-length : (t : ℕ) → all-lts.Need-same-length (all-calls t) (all-at t) all.Post all-Inv-loop all-μ-loop
-all-same-length t c =
-    c .before .before .before .before .before .before .expression .kept .1 .1 .1 .1 .1 .1 .0 ∙ c .before .before .before .before .before .before .before .before .before .before .before .before .before .loop .inv .4
-
-all-same-length-2 : (t : ℕ) → all-lts.Need-same-length-2 (all-calls t) (all-at t) all.Post all-Inv-loop all-μ-loop
-all-same-length-2 t c =
-    c .before .before .before .before .before .before .expression .kept .1 .1 .1 .1 .1 .1 .1 .0 ∙ c .before .before .before .before .before .before .before .before .before .before .before .before .before .loop .inv .5
+    let pre = c .before .before .before .before .before .before .before .before .before .before .before .before .before .before .pre in
+    let h = head-held _ _ _ (c .before .before .before .before .before .kind .ensures) (c .before .before .before .before .if1 .taken) (loop .inv .0) _ (c .before .before .before .head .ensures) in
+    (omega (arith, pre .0, h .1, loop .inv .7, all-in _ _ (loop .inv .0)), (h .0, (omega (arith, pre .1 .1 .0, h .1, loop .inv .7), pre .1 .1 .1, omega (arith, pre .1 .1 .2, loop .inv .4)), omega (arith, pre .1 .2, loop .inv .5), pre .1 .3))
 
 all-returns : (t : ℕ) → all-lts.Need-returns (all-calls t) (all-at t) all.Post all-Inv-loop all-μ-loop
 all-returns t c =
-    let args = c .before .before .before .before .before .before .before .before .before .before .before .before .before .before .before .before .before .before .before .before .before .args in
-    let loop = c .before .before .before .before .before .before .before .before .before .before .before .before .before .loop in
-    let head = c .before .before .before .before .before .before .before .before .before .before .head in
+    let at-head = c .before .before .before .before .before .before .before .before .before .before in
+    let loop = at-head .before .before .before .loop in
     let expression = c .before .before .before .before .before .before .expression in
-    (omega arith, ((λ ds xs ts r h e g m w. left-no (args .theirs .now) (args .ours .now) (args .operations .now) (scopeOf (args .names .now) (args .bound .now) (args .top)) (args .items .now) (args .words .now) (loop .j) (loop .at) _ _ (loop .inv .1 ds xs ts r h e g m w) (sym (c .before .before .before .before .before .before .before .before .before .before .before .before .kind .ensures) ∙ c .before .before .before .before .before .before .before .before .before .before .before .if1 .taken) (loop .names) (loop .bound) (args .top) (kept-scope (args .top) (args .names .now) (loop .names) (args .bound .now) (loop .bound) (loop .inv .2) (loop .inv .3)) (head .result) (head .ensures) (expression .result) (subst (λ l. ExpressionRight l (args .items .now) (args .theirs .now) (args .ours .now) (args .operations .now) (loop .names) (loop .bound) (args .top) (head .result) (expression .result)) (rest-is (loop .at) (args .words .now)) (expression .ensures .1 .0)) (c .enum-told .given .1)), ((λ k l. expression .ensures .1 .1 .0 k l ∙ loop .inv .2 k l), (λ k l. expression .ensures .1 .1 .1 k l ∙ loop .inv .3 k l))))
+    (omega arith, (comparing-no _ _ _ _ _ _ _ _ _ _ _ _ (loop .inv .1) _ (at-head .before .before .kind .ensures) (at-head .before .if1 .taken) _ _ (loop .inv .2) (loop .inv .3) _ (at-head .head .ensures) (expression .result) (expression .ensures .1 .0) (c .enum-told .given .1), ((λ k l. expression .ensures .1 .1 .0 k l ∙ loop .inv .2 k l), (λ k l. expression .ensures .1 .1 .1 k l ∙ loop .inv .3 k l))))
 
 all-add-at : (t : ℕ) → all-lts.Need-add-at (all-calls t) (all-at t) all.Post all-Inv-loop all-μ-loop
 all-add-at t c =
-    let args = c .before .before .before .before .before .before .before .before .before .before .before .before .before .before .before .before .before .before .before .before .before .before .args in
-    let loop = c .before .before .before .before .before .before .before .before .before .before .before .before .before .before .loop in
+    let at-head = c .before .before .before .before .before .before .before .before .before .before .before in
+    let args = at-head .before .before .before .before .before .before .before .before .before .before .before .args in
     let expression = c .before .before .before .before .before .before .before .expression in
-    let s = subst (Short (drop (loop .at) (args .words .now))) (c .before .n .given .1) (subst (λ l. Short l (expression .result)) (rest-is (loop .at) (args .words .now)) (expression .ensures .0)) in omega (arith, s, length-drop (loop .at) (args .words .now), loop .inv .6, c .before .before .before .before .before .before .before .before .before .before .before .before .before .before .before .before .before .before .before .before .before .before .good .1 .1 .0)
-
-all-tail-requires : (t : ℕ) → all-lts.Need-tail-requires (all-calls t) (all-at t) all.Post all-Inv-loop all-μ-loop
-all-tail-requires t c κs =
-    let loop = c .before .before .before .before .before .before .before .before .before .before .before .before .before .before .loop in
-    (data-in (c .before .before .before .before .before .before .before .before .before .before .before .before .before .before .before .before .before .before .before .before .before .before .args .items .now) (loop .j) (loop .inv .0 .0) (loop .inv .0 .1))
+    let good = at-head .before .before .before .before .before .before .before .before .before .before .before .good in
+    let s = short-after (args .words .now) (at-head .before .before .before .loop .at) (expression .result) _ (at-head .before .before .before .loop .inv .6) (expression .ensures .0) (c .before .n .given .1) in
+    omega (arith, s, good .1 .1 .0)
 
 all-loop-less : (t : ℕ) → all-lts.Need-loop-less (all-calls t) (all-at t) all.Post all-Inv-loop all-μ-loop
 all-loop-less t c =
-    let args = c .before .before .before .before .before .before .before .before .before .before .before .before .before .before .before .before .before .before .before .before .before .before .before .args in
-    let loop = c .before .before .before .before .before .before .before .before .before .before .before .before .before .before .before .loop in
-    let p = pair-kind (args .items .now) (loop .j) (loop .inv .0 .0) (loop .inv .0 .1) (sym (c .before .before .before .before .before .before .before .before .before .before .before .before .before .before .kind .ensures) ∙ c .before .before .before .before .before .before .before .before .before .before .before .before .before .if1 .taken) in omega (arith, c .tail .ensures, p .tailIs, (data-in (args .items .now) (loop .j) (loop .inv .0 .0) (loop .inv .0 .1)))
+    let at-head = c .before .before .before .before .before .before .before .before .before .before .before .before in
+    let n = tail-held _ _ _ (at-head .before .before .kind .ensures) (at-head .before .if1 .taken) (at-head .before .before .before .loop .inv .0) _ (c .tail .ensures) in
+    omega (arith, n .1, all-in _ _ (at-head .before .before .before .loop .inv .0))
 
 all-loop-again : (t : ℕ) → all-lts.Need-loop-again (all-calls t) (all-at t) all.Post all-Inv-loop all-μ-loop
 all-loop-again t c =
-    let args = c .before .before .before .before .before .before .before .before .before .before .before .before .before .before .before .before .before .before .before .before .before .before .before .args in
-    let loop = c .before .before .before .before .before .before .before .before .before .before .before .before .before .before .before .loop in
-    let kind = c .before .before .before .before .before .before .before .before .before .before .before .before .before .before .kind in
-    let if1 = c .before .before .before .before .before .before .before .before .before .before .before .before .before .if1 in
-    let head = c .before .before .before .before .before .before .before .before .before .before .before .before .head in
+    let at-head = c .before .before .before .before .before .before .before .before .before .before .before .before in
+    let args = at-head .before .before .before .before .before .before .before .before .before .before .before .args in
+    let loop = at-head .before .before .before .loop in
     let expression = c .before .before .before .before .before .before .before .before .expression in
-    let known-n = c .before .before .n in
-    let s = subst (Short (drop (loop .at) (args .words .now))) (known-n .given .1) (subst (λ l. Short l (expression .result)) (rest-is (loop .at) (args .words .now)) (expression .ensures .0)) in let p = pair-kind (args .items .now) (loop .j) (loop .inv .0 .0) (loop .inv .0 .1) (sym (kind .ensures) ∙ if1 .taken) in ((p .rest, subst (λ x. DataAt (args .items .now) x (p .rest)) (sym (c .tail .ensures)) (p .tail)), (λ ds xs ts r h e g m w. left-next (args .theirs .now) (args .ours .now) (args .operations .now) (scopeOf (args .names .now) (args .bound .now) (args .top)) (args .items .now) (args .words .now) (loop .j) (loop .at) _ _ (loop .inv .1 ds xs ts r h e g m w) (sym (kind .ensures) ∙ if1 .taken) (loop .names) (loop .bound) (args .top) (kept-scope (args .top) (args .names .now) (loop .names) (args .bound .now) (loop .bound) (loop .inv .2) (loop .inv .3)) (head .result) (head .ensures) (expression .result) (subst (λ l. ExpressionRight l (args .items .now) (args .theirs .now) (args .ours .now) (args .operations .now) (loop .names) (loop .bound) (args .top) (head .result) (expression .result)) (rest-is (loop .at) (args .words .now)) (expression .ensures .1 .0)) _ (known-n .given .1) _ (c .tail .ensures)), (λ k l. expression .ensures .1 .1 .0 k l ∙ loop .inv .2 k l), (λ k l. expression .ensures .1 .1 .1 k l ∙ loop .inv .3 k l), expression .kept .1 .1 .1 .1 .1 .1 .0 ∙ loop .inv .4, expression .kept .1 .1 .1 .1 .1 .1 .1 .0 ∙ loop .inv .5, omega (arith, s, length-drop (loop .at) (args .words .now), loop .inv .6), omega (arith, loop .inv .7, c .tail .ensures, p .tailIs))
-
-all-same-length-3 : (t : ℕ) → all-lts.Need-same-length-3 (all-calls t) (all-at t) all.Post all-Inv-loop all-μ-loop
-all-same-length-3 t c =
-    c .before .before .loop .inv .4
-
-all-same-length-4 : (t : ℕ) → all-lts.Need-same-length-4 (all-calls t) (all-at t) all.Post all-Inv-loop all-μ-loop
-all-same-length-4 t c =
-    c .before .before .loop .inv .5
+    let s = short-after (args .words .now) (loop .at) (expression .result) _ (loop .inv .6) (expression .ensures .0) (c .before .before .n .given .1) in
+    let n = tail-held _ _ _ (at-head .before .before .kind .ensures) (at-head .before .if1 .taken) (loop .inv .0) _ (c .tail .ensures) in
+    (n .0, comparing-next _ _ _ _ _ _ _ _ _ _ _ _ (loop .inv .1) _ (at-head .before .before .kind .ensures) (at-head .before .if1 .taken) _ _ (loop .inv .2) (loop .inv .3) _ (at-head .head .ensures) (expression .result) (expression .ensures .1 .0) _ (c .before .before .n .given .1) _ (c .tail .ensures), (λ k l. expression .ensures .1 .1 .0 k l ∙ loop .inv .2 k l), (λ k l. expression .ensures .1 .1 .1 k l ∙ loop .inv .3 k l), expression .kept .1 .1 .1 .1 .1 .1 .0 ∙ loop .inv .4, expression .kept .1 .1 .1 .1 .1 .1 .1 .0 ∙ loop .inv .5, omega (arith, s), omega (arith, loop .inv .7, n .1))
 
 all-returns-2 : (t : ℕ) → all-lts.Need-returns-2 (all-calls t) (all-at t) all.Post all-Inv-loop all-μ-loop
 all-returns-2 t c =
-    let args = c .before .before .before .before .before .before .before .before .before .before .args in
     let loop = c .before .before .loop in
-    (omega (arith, loop .inv .6), ((λ ds xs ts r h e g m w. left-end (args .theirs .now) (args .ours .now) (args .operations .now) (scopeOf (args .names .now) (args .bound .now) (args .top)) (args .items .now) (args .words .now) (loop .j) (loop .at) _ _ (loop .inv .1 ds xs ts r h e g m w) (λ e. c .if1 .left (c .before .kind .ensures ∙ e))), (loop .inv .2, loop .inv .3)))
+    (omega (arith, loop .inv .6), (comparing-end _ _ _ _ _ _ _ _ _ _ _ _ (loop .inv .1) _ (c .before .kind .ensures) (c .if1 .left), (loop .inv .2, loop .inv .3)))
 
 application-returns : (t : ℕ) → application-lts.Need-returns (application-calls t) (application-at t) application.Post
 application-returns t c =
-    (omega arith, ((λ ds x t r h e g w. absurd (omega (arith, c .if1 .taken, term-two (c .before .before .before .before .before .before .before .before .args .words .now) t r w))), ((λ k l. refl), (λ k l. refl))))
+    let args = c .before .before .before .before .before .before .before .before .args in
+    (omega arith, (form-short _ _ _ _ (args .operations .now) (args .names .now) (args .bound .now) (args .top) _ applicationOf 2 (omega arith) (c .if1 .taken), ((λ k l. refl), (λ k l. refl))))
 
 application-returns-2 : (t : ℕ) → application-lts.Need-returns-2 (application-calls t) (application-at t) application.Post
 application-returns-2 t c =
     let args = c .before .before .before .before .before .before .before .before .before .before .args in
-    (omega arith, ((λ ds x t r h e g w. not-so _ (λ s. c .if2 .taken (application-first (args .theirs .now) (args .ours .now) (args .operations .now) (scopeOf (args .names .now) (args .bound .now) (args .top)) (args .words .now) x t r g w ds e s .0))), ((λ k l. refl), (λ k l. refl))))
-
-application-add-if3 : (t : ℕ) → application-lts.Need-add-if3 (application-calls t) (application-at t) application.Post
-application-add-if3 t c =
-    omega (arith, c .wide .ensures, c .before .shared-slice-known7 .given 1 .fits)
-
-application-count-requires : (t : ℕ) → application-lts.Need-count-requires (application-calls t) (application-at t) application.Post
-application-count-requires t c κs =
-    (c .before .before .before .before .before .before .before .before .before .before .before .before .pre .1 .0)
+    (omega arith, (application-code _ _ _ _ (args .operations .now) (args .names .now) (args .bound .now) (args .top) _ (c .if2 .taken), ((λ k l. refl), (λ k l. refl))))
 
 application-returns-3 : (t : ℕ) → application-lts.Need-returns-3 (application-calls t) (application-at t) application.Post
 application-returns-3 t c =
     let args = c .before .before .before .before .before .before .before .before .before .before .before .before .before .before .args in
-    (omega arith, ((λ ds x t r h e g w. not-so _ (λ s. c .if3 .taken (ap (λ n. n + 1) (c .before .before .wide .ensures) ∙ application-first (args .theirs .now) (args .ours .now) (args .operations .now) (scopeOf (args .names .now) (args .bound .now) (args .top)) (args .words .now) x t r g w ds e s .1 ∙ sym (c .before .count .ensures ds h)))), ((λ k l. refl), (λ k l. refl))))
+    (omega arith, (application-count _ _ _ _ (args .operations .now) (args .names .now) (args .bound .now) (args .top) _ _ (c .before .before .wide .ensures) _ (c .before .count .ensures) (c .if3 .taken), ((λ k l. refl), (λ k l. refl))))
 
 application-all-requires : (t : ℕ) → application-lts.Need-all-requires (application-calls t) (application-at t) application.Post
 application-all-requires t c κs =
     let pre = c .before .before .before .before .before .before .before .before .before .before .before .before .before .before .before .before .pre in
-    (omega (arith, pre .0), ((pre .1 .0), pre .1 .1, pre .1 .2, pre .1 .3, omega (arith, c .before .before .before .before .before .before .before .before .if1 .left)))
-
-application-same-length : (t : ℕ) → application-lts.Need-same-length (application-calls t) (application-at t) application.Post
-application-same-length t c =
-    c .before .before .before .before .all .kept .1 .1 .1 .1 .1 .1 .1 .0
-
-application-same-length-2 : (t : ℕ) → application-lts.Need-same-length-2 (application-calls t) (application-at t) application.Post
-application-same-length-2 t c =
-    c .before .before .before .before .all .kept .1 .1 .1 .1 .1 .1 .1 .1 .0
+    (omega (arith, pre .0), (pre .1 .0, pre .1 .1, pre .1 .2, pre .1 .3, omega (arith, c .before .before .before .before .before .before .before .before .if1 .left)))
 
 application-returns-4 : (t : ℕ) → application-lts.Need-returns-4 (application-calls t) (application-at t) application.Post
 application-returns-4 t c =
-    let args = c .before .before .before .before .before .before .before .before .before .before .before .before .before .before .before .before .before .before .before .before .before .args in
     let all = c .before .before .before .before .all in
-    (all .ensures .0, ((λ ds x t r h e g w. parts-right (args .theirs .now) (args .ours .now) (args .operations .now) (scopeOf (args .names .now) (args .bound .now) (args .top)) (args .words .now) ds x t r 2 (application-parts (args .theirs .now) (args .ours .now) (args .operations .now) (scopeOf (args .names .now) (args .bound .now) (args .top)) (args .words .now) x t r g w ds e (c .before .before .before .before .before .before .before .before .before .before .before .if2 .left) (ap (λ n. n + 1) (sym (c .before .before .before .before .before .before .before .before .before .wide .ensures)) ∙ c .before .before .before .before .before .before .before .if3 .left ∙ c .before .before .before .before .before .before .before .before .count .ensures ds h)) (args .items .now) (args .names .now) (args .bound .now) (args .top) (args .i) (all .result) refl (all .ensures .1 .0) h), all .ensures .1 .1))
+    let args = c .before .before .before .before .before .before .before .before .before .before .before .before .before .before .before .before .before .before .before .before .before .args in
+    let if2 = c .before .before .before .before .before .before .before .before .before .before .before .if2 in
+    (all .ensures .0, (application-all _ _ _ _ (args .operations .now) (args .names .now) (args .bound .now) (args .top) _ _ (c .before .before .before .before .before .before .before .before .before .wide .ensures) _ (c .before .before .before .before .before .before .before .before .count .ensures) (if2 .left) (c .before .before .before .before .before .before .before .if3 .left) (all .result) (all .ensures .1 .0), all .ensures .1 .1))
 
-conditional-returns :
-    (t : ℕ) →
-    conditional-lts.Need-returns (all-below t, all.Post) (conditional-at t) conditional.Post
+conditional-returns : (t : ℕ) → conditional-lts.Need-returns (conditional-calls t) (conditional-at t) conditional.Post
 conditional-returns t c =
-    (omega arith, ((λ ds x t r h e g w. absurd (omega (arith, c .if1 .taken, term-two (c .before .before .before .before .before .before .before .before .args .words .now) t r w))), ((λ k l. refl), (λ k l. refl))))
+    let args = c .before .before .before .before .before .before .before .before .args in
+    (omega arith, (form-short _ _ _ _ (args .operations .now) (args .names .now) (args .bound .now) (args .top) _ conditionalOf 1 (omega arith) (c .if1 .taken), ((λ k l. refl), (λ k l. refl))))
 
-conditional-returns-2 :
-    (t : ℕ) →
-    conditional-lts.Need-returns-2 (all-below t, all.Post) (conditional-at t) conditional.Post
+conditional-returns-2 : (t : ℕ) → conditional-lts.Need-returns-2 (conditional-calls t) (conditional-at t) conditional.Post
 conditional-returns-2 t c =
-    (omega arith, ((λ ds x t r h e g w. not-so _ (λ s. c .if2 .taken (conditional-begins (c .before .before .before .before .before .before .before .before .before .before .args .theirs .now) (c .before .before .before .before .before .before .before .before .before .before .args .ours .now) (c .before .before .before .before .before .before .before .before .before .before .args .operations .now) (scopeOf (c .before .before .before .before .before .before .before .before .before .before .args .names .now) (c .before .before .before .before .before .before .before .before .before .before .args .bound .now) (c .before .before .before .before .before .before .before .before .before .before .args .top)) (c .before .before .before .before .before .before .before .before .before .before .args .words .now) ds x t r g w e s))), ((λ k l. refl), (λ k l. refl))))
+    let args = c .before .before .before .before .before .before .before .before .before .before .args in
+    (omega arith, (conditional-code _ _ _ _ (args .operations .now) (args .names .now) (args .bound .now) (args .top) _ (c .if2 .taken), ((λ k l. refl), (λ k l. refl))))
 
-conditional-all-requires :
-    (t : ℕ) →
-    conditional-lts.Need-all-requires (all-below t, all.Post) (conditional-at t) conditional.Post
+conditional-all-requires : (t : ℕ) → conditional-lts.Need-all-requires (conditional-calls t) (conditional-at t) conditional.Post
 conditional-all-requires t c κs =
-    (omega (arith, c .before .before .before .before .before .before .before .before .before .before .before .before .pre .0), ((c .before .before .before .before .before .before .before .before .before .before .before .before .pre .1 .0), c .before .before .before .before .before .before .before .before .before .before .before .before .pre .1 .1, c .before .before .before .before .before .before .before .before .before .before .before .before .pre .1 .2, c .before .before .before .before .before .before .before .before .before .before .before .before .pre .1 .3, omega (arith, c .before .before .before .before .if1 .left)))
+    let pre = c .before .before .before .before .before .before .before .before .before .before .before .before .pre in
+    (omega (arith, pre .0), (pre .1 .0, pre .1 .1, pre .1 .2, pre .1 .3, omega (arith, c .before .before .before .before .if1 .left)))
 
-conditional-same-length :
-    (t : ℕ) →
-    conditional-lts.Need-same-length (all-below t, all.Post) (conditional-at t) conditional.Post
-conditional-same-length t c =
-    c .before .before .before .before .all .kept .1 .1 .1 .1 .1 .1 .1 .0
-
-conditional-same-length-2 :
-    (t : ℕ) →
-    conditional-lts.Need-same-length-2 (all-below t, all.Post) (conditional-at t) conditional.Post
-conditional-same-length-2 t c =
-    c .before .before .before .before .all .kept .1 .1 .1 .1 .1 .1 .1 .1 .0
-
-conditional-returns-3 :
-    (t : ℕ) →
-    conditional-lts.Need-returns-3 (all-below t, all.Post) (conditional-at t) conditional.Post
+conditional-returns-3 : (t : ℕ) → conditional-lts.Need-returns-3 (conditional-calls t) (conditional-at t) conditional.Post
 conditional-returns-3 t c =
-    (c .before .before .before .before .all .ensures .0, ((λ ds x t r h e g w. parts-right (c .before .before .before .before .before .before .before .before .before .before .before .before .before .before .before .before .before .args .theirs .now) (c .before .before .before .before .before .before .before .before .before .before .before .before .before .before .before .before .before .args .ours .now) (c .before .before .before .before .before .before .before .before .before .before .before .before .before .before .before .before .before .args .operations .now) (scopeOf (c .before .before .before .before .before .before .before .before .before .before .before .before .before .before .before .before .before .args .names .now) (c .before .before .before .before .before .before .before .before .before .before .before .before .before .before .before .before .before .args .bound .now) (c .before .before .before .before .before .before .before .before .before .before .before .before .before .before .before .before .before .args .top)) (c .before .before .before .before .before .before .before .before .before .before .before .before .before .before .before .before .before .args .words .now) ds x t r 1 (conditional-parts (c .before .before .before .before .before .before .before .before .before .before .before .before .before .before .before .before .before .args .theirs .now) (c .before .before .before .before .before .before .before .before .before .before .before .before .before .before .before .before .before .args .ours .now) (c .before .before .before .before .before .before .before .before .before .before .before .before .before .before .before .before .before .args .operations .now) (scopeOf (c .before .before .before .before .before .before .before .before .before .before .before .before .before .before .before .before .before .args .names .now) (c .before .before .before .before .before .before .before .before .before .before .before .before .before .before .before .before .before .args .bound .now) (c .before .before .before .before .before .before .before .before .before .before .before .before .before .before .before .before .before .args .top)) (c .before .before .before .before .before .before .before .before .before .before .before .before .before .before .before .before .before .args .words .now) ds x t r g w e (c .before .before .before .before .before .before .before .if2 .left)) (c .before .before .before .before .before .before .before .before .before .before .before .before .before .before .before .before .before .args .items .now) (c .before .before .before .before .before .before .before .before .before .before .before .before .before .before .before .before .before .args .names .now) (c .before .before .before .before .before .before .before .before .before .before .before .before .before .before .before .before .before .args .bound .now) (c .before .before .before .before .before .before .before .before .before .before .before .before .before .before .before .before .before .args .top) (c .before .before .before .before .before .before .before .before .before .before .before .before .before .before .before .before .before .args .i) (c .before .before .before .before .all .result) refl (c .before .before .before .before .all .ensures .1 .0) h), c .before .before .before .before .all .ensures .1 .1))
+    let all = c .before .before .before .before .all in
+    let args = c .before .before .before .before .before .before .before .before .before .before .before .before .before .before .before .before .before .args in
+    (all .ensures .0, (conditional-all _ _ _ _ (args .operations .now) (args .names .now) (args .bound .now) (args .top) _ (c .before .before .before .before .before .before .before .if2 .left) (all .result) (all .ensures .1 .0), all .ensures .1 .1))
 
-expression-kind-requires : (t : ℕ) → expression-lts.Need-kind-requires (expression-calls t) (expression-at t) expression.Post
-expression-kind-requires t c κs =
-    let args = c .before .before .before .before .before .before .before .args in
-    let pre = c .before .before .before .before .before .before .before .pre in
-    (datum-in (args .items .now) (args .i) (pre .1 .0 .0) (pre .1 .0 .1))
-
-expression-head-requires : (t : ℕ) → expression-lts.Need-head-requires (expression-calls t) (expression-at t) expression.Post
-expression-head-requires t c κs =
-    let args = c .before .before .before .before .before .before .before .before .before .args in
-    let pre = c .before .before .before .before .before .before .before .before .before .pre in
-    (datum-in (args .items .now) (args .i) (pre .1 .0 .0) (pre .1 .0 .1))
+-- what stands behind a head
+expression-rest : (t : ℕ) (c : expression-lts.After-tail (expression-calls t) (expression-at t) expression.Post) → HeldAll (c .before .before .before .before .before .before .before .before .before .before .before .before .before .args .items .now) (c .tail .result) × Room (c .before .before .before .before .before .before .before .before .before .before .before .before .before .args .items .now) (c .before .before .before .before .before .before .before .before .before .before .before .before .before .args .names .now) (c .before .before .before .before .before .before .before .before .before .before .before .before .before .args .top) (c .tail .result) × (length (c .before .before .before .before .before .before .before .before .before .before .before .before .before .args .items .now) - c .tail .result < length (c .before .before .before .before .before .before .before .before .before .before .before .before .before .args .items .now) - c .before .before .before .before .before .before .before .before .before .before .before .before .before .args .i)
+expression-rest t c =
+    let args = c .before .before .before .before .before .before .before .before .before .before .before .before .before .args in
+    let pre = c .before .before .before .before .before .before .before .before .before .before .before .before .before .pre in
+    tail-asks _ (args .names .now) _ _ _ (c .before .before .before .before .before .kind .ensures) (c .before .before .before .if2 .left) (pre .1 .0) (pre .1 .1) _ (c .tail .ensures)
 
 expression-reference-requires : (t : ℕ) → expression-lts.Need-reference-requires (expression-calls t) (expression-at t) expression.Post
 expression-reference-requires t c κs =
-    let args = c .before .before .before .before .before .before .before .before .before .before .before .before .args in
     let pre = c .before .before .before .before .before .before .before .before .before .before .before .before .pre in
-    (pre .1 .3, omega (arith, c .before .before .head .ensures, name-datum (args .items .now) (args .i) (pre .1 .0 .0) (pre .1 .0 .1) (sym (c .before .before .before .before .kind .ensures) ∙ c .before .before .before .if1 .taken) .1), omega (arith, pre .1 .1 .0, pre .1 .1 .1, pre .1 .1 .2, (datum-in (args .items .now) (args .i) (pre .1 .0 .0) (pre .1 .0 .1))), omega (arith, pre .1 .1 .0, pre .1 .1 .1, pre .1 .2, (datum-in (args .items .now) (args .i) (pre .1 .0 .0) (pre .1 .0 .1))))
+    let i = held-in _ _ (pre .1 .0) in
+    (pre .1 .3, name-held _ _ _ (c .before .before .before .before .kind .ensures) (pre .1 .0) (c .before .before .before .if1 .taken) _ (c .before .before .head .ensures), omega (arith, i, pre .1 .1 .0, pre .1 .1 .1, pre .1 .1 .2), omega (arith, i, pre .1 .1 .0, pre .1 .1 .1, pre .1 .2))
 
 expression-returns : (t : ℕ) → expression-lts.Need-returns (expression-calls t) (expression-at t) expression.Post
 expression-returns t c =
     let args = c .before .before .before .before .before .before .before .before .before .before .before .before .before .args in
-    let head = c .before .before .before .head in
-    (c .reference .ensures .0, (walk-name (args .words .now) (args .items .now) (args .theirs .now) (args .ours .now) (args .operations .now) (args .names .now) (args .bound .now) (args .top) (args .i) (sym (c .before .before .before .before .before .kind .ensures) ∙ c .before .before .before .before .if1 .taken) (head .result) (head .ensures) (c .reference .result) (c .reference .ensures .1), ((λ k l. refl), (λ k l. refl))))
-
-expression-datum-term-requires : (t : ℕ) → expression-lts.Need-datum-term-requires (expression-calls t) (expression-at t) expression.Post
-expression-datum-term-requires t c κs =
-    let pre = c .before .before .before .before .before .before .before .before .before .before .pre in
-    ((pre .1 .0), pre .1 .3 .0)
+    (c .reference .ensures .0, (walk-name _ _ _ _ (args .operations .now) (args .names .now) (args .bound .now) (args .top) _ _ (c .before .before .before .before .before .kind .ensures) (c .before .before .before .before .if1 .taken) _ (c .before .before .before .head .ensures) (c .reference .result) (c .reference .ensures .1), ((λ k l. refl), (λ k l. refl))))
 
 expression-returns-2 : (t : ℕ) → expression-lts.Need-returns-2 (expression-calls t) (expression-at t) expression.Post
 expression-returns-2 t c =
     let args = c .before .before .before .before .before .before .before .before .before .before .before .args in
-    let kind = c .before .before .before .kind in
-    (c .datum-term .ensures .0, (walk-datum (args .words .now) (args .items .now) (args .theirs .now) (args .ours .now) (args .operations .now) (args .names .now) (args .bound .now) (args .top) (args .i) (λ e. c .before .before .if1 .left (kind .ensures ∙ e)) (λ e. c .before .if2 .taken (kind .ensures ∙ e)) (c .datum-term .result) (c .datum-term .ensures .1), ((λ k l. refl), (λ k l. refl))))
-
-expression-head-requires-2 : (t : ℕ) → expression-lts.Need-head-requires-2 (expression-calls t) (expression-at t) expression.Post
-expression-head-requires-2 t c κs =
-    let args = c .before .before .before .before .before .before .before .before .before .before .args in
-    let pre = c .before .before .before .before .before .before .before .before .before .before .pre in
-    (datum-in (args .items .now) (args .i) (pre .1 .0 .0) (pre .1 .0 .1))
+    (c .datum-term .ensures .0, (walk-datum _ _ _ _ (args .operations .now) (args .names .now) (args .bound .now) (args .top) _ _ (c .before .before .before .kind .ensures) (c .before .before .if1 .left) (c .before .if2 .taken) (c .datum-term .result) (c .datum-term .ensures .1), ((λ k l. refl), (λ k l. refl))))
 
 expression-form-requires : (t : ℕ) → expression-lts.Need-form-requires (expression-calls t) (expression-at t) expression.Post
 expression-form-requires t c κs =
-    let args = c .before .before .before .before .before .before .before .before .before .before .before .args in
-    walk-head (args .words .now) (args .items .now) (args .theirs .now) (args .ours .now) (args .operations .now) (args .names .now) (args .bound .now) (args .top) (args .i) (sym (c .before .before .before .kind .ensures) ∙ c .before .if2 .left) (c .head2 .result) (c .head2 .ensures) (c .before .before .before .before .before .before .before .before .before .before .before .pre .1 .0)
-
-expression-tail-requires : (t : ℕ) → expression-lts.Need-tail-requires (expression-calls t) (expression-at t) expression.Post
-expression-tail-requires t c κs =
-    let args = c .before .before .before .before .before .before .before .before .before .before .before .before .args in
-    let pre = c .before .before .before .before .before .before .before .before .before .before .before .before .pre in
-    (datum-in (args .items .now) (args .i) (pre .1 .0 .0) (pre .1 .0 .1))
-
-expression-kind-requires-2 : (t : ℕ) → expression-lts.Need-kind-requires-2 (expression-calls t) (expression-at t) expression.Post
-expression-kind-requires-2 t c κs =
-    let args = c .before .before .before .before .before .before .before .before .before .before .before .before .before .before .args in
-    let head2 = c .before .before .before .head2 in
-    let tail = c .before .tail in
-    let h = walk-rest (args .words .now) (args .items .now) (args .theirs .now) (args .ours .now) (args .operations .now) (args .names .now) (args .bound .now) (args .top) (args .i) (sym (c .before .before .before .before .before .before .kind .ensures) ∙ c .before .before .before .before .if2 .left) (head2 .result) (head2 .ensures) (tail .result) (tail .ensures) (c .before .before .before .before .before .before .before .before .before .before .before .before .before .before .pre .1 .0) in data-in (args .items .now) (tail .result) (h .0) (h .1)
+    let pre = c .before .before .before .before .before .before .before .before .before .before .before .pre in
+    head-held _ _ _ (c .before .before .before .kind .ensures) (c .before .if2 .left) (elements-held _ _ _ (c .before .before .before .kind .ensures) (c .before .if2 .left) (pre .1 .0)) _ (c .head2 .ensures) .0
 
 expression-returns-3 : (t : ℕ) → expression-lts.Need-returns-3 (expression-calls t) (expression-at t) expression.Post
 expression-returns-3 t c =
     let args = c .before .before .before .before .before .before .before .before .before .before .before .before .before .before .before .before .args in
-    let head2 = c .before .before .before .before .before .head2 in
-    let form = c .before .before .before .before .form in
-    let tail = c .before .before .before .tail in
-    (omega arith, (walk-quote-none (args .words .now) (args .items .now) (args .theirs .now) (args .ours .now) (args .operations .now) (args .names .now) (args .bound .now) (args .top) (args .i) (sym (c .before .before .before .before .before .before .before .before .kind .ensures) ∙ c .before .before .before .before .before .before .if2 .left) (head2 .result) (head2 .ensures) (tail .result) (tail .ensures) (form .result) (form .ensures) (c .before .before .if3 .taken) (λ e. c .if4 .taken (c .before .kind2 .ensures ∙ e)), ((λ k l. refl), (λ k l. refl))))
-
-expression-head-requires-3 : (t : ℕ) → expression-lts.Need-head-requires-3 (expression-calls t) (expression-at t) expression.Post
-expression-head-requires-3 t c κs =
-    let args = c .before .before .before .before .before .before .before .before .before .before .before .before .before .before .before .before .args in
-    let head2 = c .before .before .before .before .before .head2 in
-    let tail = c .before .before .before .tail in
-    let h = walk-rest (args .words .now) (args .items .now) (args .theirs .now) (args .ours .now) (args .operations .now) (args .names .now) (args .bound .now) (args .top) (args .i) (sym (c .before .before .before .before .before .before .before .before .kind .ensures) ∙ c .before .before .before .before .before .before .if2 .left) (head2 .result) (head2 .ensures) (tail .result) (tail .ensures) (c .before .before .before .before .before .before .before .before .before .before .before .before .before .before .before .before .pre .1 .0) in data-in (args .items .now) (tail .result) (h .0) (h .1)
+    (omega arith, (walk-quote-none _ _ _ _ (args .operations .now) (args .names .now) (args .bound .now) (args .top) _ _ (c .before .before .before .before .before .before .before .before .kind .ensures) (c .before .before .before .before .before .before .if2 .left) _ (c .before .before .before .before .before .head2 .ensures) _ (c .before .before .before .before .form .ensures) _ (c .before .before .before .tail .ensures) (c .before .before .if3 .taken) _ (c .before .kind2 .ensures) (c .if4 .taken), ((λ k l. refl), (λ k l. refl))))
 
 expression-datum-term-requires-2 : (t : ℕ) → expression-lts.Need-datum-term-requires-2 (expression-calls t) (expression-at t) expression.Post
 expression-datum-term-requires-2 t c κs =
-    let args = c .before .before .before .before .before .before .before .before .before .before .before .before .before .before .before .before .before .args in
     let pre = c .before .before .before .before .before .before .before .before .before .before .before .before .before .before .before .before .before .pre in
-    let head2 = c .before .before .before .before .before .before .head2 in
-    let tail = c .before .before .before .before .tail in
-    let h = walk-rest (args .words .now) (args .items .now) (args .theirs .now) (args .ours .now) (args .operations .now) (args .names .now) (args .bound .now) (args .top) (args .i) (sym (c .before .before .before .before .before .before .before .before .before .kind .ensures) ∙ c .before .before .before .before .before .before .before .if2 .left) (head2 .result) (head2 .ensures) (tail .result) (tail .ensures) (pre .1 .0) in let q = pair-kind (args .items .now) (tail .result) (h .0) (h .1) (sym (c .before .before .kind2 .ensures) ∙ c .before .if4 .left) in ((q .first, subst (λ y. DatumAt (args .items .now) y (q .first)) (sym (c .head3 .ensures)) (q .head)), pre .1 .3 .0)
+    let a = expression-rest t (c .before .before .before .before) in
+    (head-held _ _ _ (c .before .before .kind2 .ensures) (c .before .if4 .left) (a .0) _ (c .head3 .ensures) .0, pre .1 .3 .0)
 
 expression-returns-4 : (t : ℕ) → expression-lts.Need-returns-4 (expression-calls t) (expression-at t) expression.Post
 expression-returns-4 t c =
-    let args = c .before .before .before .before .before .before .before .before .before .before .before .before .before .before .before .before .before .before .args in
-    let head2 = c .before .before .before .before .before .before .before .head2 in
-    let form = c .before .before .before .before .before .before .form in
-    let tail = c .before .before .before .before .before .tail in
-    let head3 = c .before .head3 in
-    (c .datum-term2 .ensures .0, (walk-quote (args .words .now) (args .items .now) (args .theirs .now) (args .ours .now) (args .operations .now) (args .names .now) (args .bound .now) (args .top) (args .i) (sym (c .before .before .before .before .before .before .before .before .before .before .kind .ensures) ∙ c .before .before .before .before .before .before .before .before .if2 .left) (head2 .result) (head2 .ensures) (tail .result) (tail .ensures) (form .result) (form .ensures) (c .before .before .before .before .if3 .taken) (sym (c .before .before .before .kind2 .ensures) ∙ c .before .before .if4 .left) (head3 .result) (head3 .ensures) (c .datum-term2 .result) (c .datum-term2 .ensures .1), ((λ k l. refl), (λ k l. refl))))
+    let at-tail = c .before .before .before .before .before in
+    let args = at-tail .before .before .before .before .before .before .before .before .before .before .before .before .before .args in
+    (c .datum-term2 .ensures .0, (walk-quote _ _ _ _ (args .operations .now) (args .names .now) (args .bound .now) (args .top) _ _ (at-tail .before .before .before .before .before .kind .ensures) (at-tail .before .before .before .if2 .left) _ (at-tail .before .before .head2 .ensures) _ (at-tail .before .form .ensures) _ (at-tail .tail .ensures) (c .before .before .before .before .if3 .taken) _ (c .before .before .before .kind2 .ensures) (c .before .before .if4 .left) _ (c .before .head3 .ensures) (c .datum-term2 .result) (c .datum-term2 .ensures .1), ((λ k l. refl), (λ k l. refl))))
 
 expression-conditional-requires : (t : ℕ) → expression-lts.Need-conditional-requires (expression-calls t) (expression-at t) expression.Post
 expression-conditional-requires t c κs =
-    let args = c .before .before .before .before .before .before .before .before .before .before .before .before .before .before .before .before .before .args in
     let pre = c .before .before .before .before .before .before .before .before .before .before .before .before .before .before .before .before .before .pre in
-    let kind = c .before .before .before .before .before .before .before .before .before .kind in
-    let if2 = c .before .before .before .before .before .before .before .if2 in
-    let head2 = c .before .before .before .before .before .before .head2 in
-    let tail = c .before .before .before .before .tail in
-    (omega (arith, pre .0, walk-after (args .words .now) (args .items .now) (args .theirs .now) (args .ours .now) (args .operations .now) (args .names .now) (args .bound .now) (args .top) (args .i) (sym (kind .ensures) ∙ if2 .left) (head2 .result) (head2 .ensures) (tail .result) (tail .ensures) (pre .1 .0)), (walk-rest (args .words .now) (args .items .now) (args .theirs .now) (args .ours .now) (args .operations .now) (args .names .now) (args .bound .now) (args .top) (args .i) (sym (kind .ensures) ∙ if2 .left) (head2 .result) (head2 .ensures) (tail .result) (tail .ensures) (pre .1 .0), (omega (arith, pre .1 .1 .0, walk-after (args .words .now) (args .items .now) (args .theirs .now) (args .ours .now) (args .operations .now) (args .names .now) (args .bound .now) (args .top) (args .i) (sym (kind .ensures) ∙ if2 .left) (head2 .result) (head2 .ensures) (tail .result) (tail .ensures) (pre .1 .0)), pre .1 .1 .1, pre .1 .1 .2), pre .1 .2, pre .1 .3))
-
-expression-same-length-3 : (t : ℕ) → expression-lts.Need-same-length-3 (expression-calls t) (expression-at t) expression.Post
-expression-same-length-3 t c =
-    c .before .before .before .before .conditional .kept .1 .1 .1 .1 .1 .1 .0
-
-expression-same-length-4 : (t : ℕ) → expression-lts.Need-same-length-4 (expression-calls t) (expression-at t) expression.Post
-expression-same-length-4 t c =
-    c .before .before .before .before .conditional .kept .1 .1 .1 .1 .1 .1 .1 .0
+    let a = expression-rest t (c .before .before .before .before) in
+    (omega (arith, pre .0, a .2), (a .0, a .1, pre .1 .2, pre .1 .3))
 
 expression-returns-5 : (t : ℕ) → expression-lts.Need-returns-5 (expression-calls t) (expression-at t) expression.Post
 expression-returns-5 t c =
-    let args = c .before .before .before .before .before .before .before .before .before .before .before .before .before .before .before .before .before .before .before .before .before .before .args in
-    let head2 = c .before .before .before .before .before .before .before .before .before .before .before .head2 in
-    let form = c .before .before .before .before .before .before .before .before .before .before .form in
-    let tail = c .before .before .before .before .before .before .before .before .before .tail in
+    let at-tail = c .before .before .before .before .before .before .before .before .before in
     let conditional = c .before .before .before .before .conditional in
-    (conditional .ensures .0, (walk-conditional (args .words .now) (args .items .now) (args .theirs .now) (args .ours .now) (args .operations .now) (args .names .now) (args .bound .now) (args .top) (args .i) (sym (c .before .before .before .before .before .before .before .before .before .before .before .before .before .before .kind .ensures) ∙ c .before .before .before .before .before .before .before .before .before .before .before .before .if2 .left) (head2 .result) (head2 .ensures) (tail .result) (tail .ensures) (form .result) (form .ensures) (c .before .before .before .before .before .before .before .if5 .taken) (conditional .result) (conditional .ensures .1 .0), conditional .ensures .1 .1))
+    let args = at-tail .before .before .before .before .before .before .before .before .before .before .before .before .before .args in
+    (conditional .ensures .0, (walk-conditional _ _ _ _ (args .operations .now) (args .names .now) (args .bound .now) (args .top) _ _ (at-tail .before .before .before .before .before .kind .ensures) (at-tail .before .before .before .if2 .left) _ (at-tail .before .before .head2 .ensures) _ (at-tail .before .form .ensures) _ (at-tail .tail .ensures) (c .before .before .before .before .before .before .before .if5 .taken) (conditional .result) (conditional .ensures .1 .0), conditional .ensures .1 .1))
 
 expression-lambda-requires : (t : ℕ) → expression-lts.Need-lambda-requires (expression-calls t) (expression-at t) expression.Post
 expression-lambda-requires t c κs =
-    let args = c .before .before .before .before .before .before .before .before .before .before .before .before .before .before .before .before .before .before .args in
     let pre = c .before .before .before .before .before .before .before .before .before .before .before .before .before .before .before .before .before .before .pre in
-    let kind = c .before .before .before .before .before .before .before .before .before .before .kind in
-    let if2 = c .before .before .before .before .before .before .before .before .if2 in
-    let head2 = c .before .before .before .before .before .before .before .head2 in
-    let tail = c .before .before .before .before .before .tail in
-    (omega (arith, pre .0, walk-after (args .words .now) (args .items .now) (args .theirs .now) (args .ours .now) (args .operations .now) (args .names .now) (args .bound .now) (args .top) (args .i) (sym (kind .ensures) ∙ if2 .left) (head2 .result) (head2 .ensures) (tail .result) (tail .ensures) (pre .1 .0)), (walk-rest (args .words .now) (args .items .now) (args .theirs .now) (args .ours .now) (args .operations .now) (args .names .now) (args .bound .now) (args .top) (args .i) (sym (kind .ensures) ∙ if2 .left) (head2 .result) (head2 .ensures) (tail .result) (tail .ensures) (pre .1 .0), (omega (arith, pre .1 .1 .0, walk-after (args .words .now) (args .items .now) (args .theirs .now) (args .ours .now) (args .operations .now) (args .names .now) (args .bound .now) (args .top) (args .i) (sym (kind .ensures) ∙ if2 .left) (head2 .result) (head2 .ensures) (tail .result) (tail .ensures) (pre .1 .0)), pre .1 .1 .1, pre .1 .1 .2), pre .1 .2, pre .1 .3))
-
-expression-same-length-5 : (t : ℕ) → expression-lts.Need-same-length-5 (expression-calls t) (expression-at t) expression.Post
-expression-same-length-5 t c =
-    c .before .before .before .before .lambda .kept .1 .1 .1 .1 .1 .1 .0
-
-expression-same-length-6 : (t : ℕ) → expression-lts.Need-same-length-6 (expression-calls t) (expression-at t) expression.Post
-expression-same-length-6 t c =
-    c .before .before .before .before .lambda .kept .1 .1 .1 .1 .1 .1 .1 .0
+    let a = expression-rest t (c .before .before .before .before .before) in
+    (omega (arith, pre .0, a .2), (a .0, a .1, pre .1 .2, pre .1 .3))
 
 expression-returns-6 : (t : ℕ) → expression-lts.Need-returns-6 (expression-calls t) (expression-at t) expression.Post
 expression-returns-6 t c =
-    let args = c .before .before .before .before .before .before .before .before .before .before .before .before .before .before .before .before .before .before .before .before .before .before .before .args in
-    let head2 = c .before .before .before .before .before .before .before .before .before .before .before .before .head2 in
-    let form = c .before .before .before .before .before .before .before .before .before .before .before .form in
-    let tail = c .before .before .before .before .before .before .before .before .before .before .tail in
+    let at-tail = c .before .before .before .before .before .before .before .before .before .before in
     let lambda = c .before .before .before .before .lambda in
-    (lambda .ensures .0, (walk-lambda (args .words .now) (args .items .now) (args .theirs .now) (args .ours .now) (args .operations .now) (args .names .now) (args .bound .now) (args .top) (args .i) (sym (c .before .before .before .before .before .before .before .before .before .before .before .before .before .before .before .kind .ensures) ∙ c .before .before .before .before .before .before .before .before .before .before .before .before .before .if2 .left) (head2 .result) (head2 .ensures) (tail .result) (tail .ensures) (form .result) (form .ensures) (c .before .before .before .before .before .before .before .if6 .taken) (lambda .result) (lambda .ensures .1 .0), lambda .ensures .1 .1))
+    let args = at-tail .before .before .before .before .before .before .before .before .before .before .before .before .before .args in
+    (lambda .ensures .0, (walk-lambda _ _ _ _ (args .operations .now) (args .names .now) (args .bound .now) (args .top) _ _ (at-tail .before .before .before .before .before .kind .ensures) (at-tail .before .before .before .if2 .left) _ (at-tail .before .before .head2 .ensures) _ (at-tail .before .form .ensures) _ (at-tail .tail .ensures) (c .before .before .before .before .before .before .before .if6 .taken) (lambda .result) (lambda .ensures .1 .0), lambda .ensures .1 .1))
 
 expression-application-requires : (t : ℕ) → expression-lts.Need-application-requires (expression-calls t) (expression-at t) expression.Post
 expression-application-requires t c κs =
-    let args = c .before .before .before .before .before .before .before .before .before .before .before .before .before .before .before .before .before .before .args in
-    let pre = c .before .before .before .before .before .before .before .before .before .before .before .before .before .before .before .before .before .before .pre in
-    let head2 = c .before .before .before .before .before .before .before .head2 in
-    (omega (arith, pre .0), (walk-list (args .words .now) (args .items .now) (args .theirs .now) (args .ours .now) (args .operations .now) (args .names .now) (args .bound .now) (args .top) (args .i) (sym (c .before .before .before .before .before .before .before .before .before .before .kind .ensures) ∙ c .before .before .before .before .before .before .before .before .if2 .left) (head2 .result) (head2 .ensures) (pre .1 .0), pre .1 .1, pre .1 .2, pre .1 .3))
-
-expression-same-length-7 : (t : ℕ) → expression-lts.Need-same-length-7 (expression-calls t) (expression-at t) expression.Post
-expression-same-length-7 t c =
-    c .before .before .before .before .application .kept .1 .1 .1 .1 .1 .1 .0
-
-expression-same-length-8 : (t : ℕ) → expression-lts.Need-same-length-8 (expression-calls t) (expression-at t) expression.Post
-expression-same-length-8 t c =
-    c .before .before .before .before .application .kept .1 .1 .1 .1 .1 .1 .1 .0
+    let at-tail = c .before .before .before .before .before in
+    let pre = at-tail .before .before .before .before .before .before .before .before .before .before .before .before .before .pre in
+    (omega (arith, pre .0), (elements-held _ _ _ (at-tail .before .before .before .before .before .kind .ensures) (at-tail .before .before .before .if2 .left) (pre .1 .0), pre .1 .1, pre .1 .2, pre .1 .3))
 
 expression-returns-7 : (t : ℕ) → expression-lts.Need-returns-7 (expression-calls t) (expression-at t) expression.Post
 expression-returns-7 t c =
-    let args = c .before .before .before .before .before .before .before .before .before .before .before .before .before .before .before .before .before .before .before .before .before .before .before .args in
-    let head2 = c .before .before .before .before .before .before .before .before .before .before .before .before .head2 in
-    let form = c .before .before .before .before .before .before .before .before .before .before .before .form in
-    let tail = c .before .before .before .before .before .before .before .before .before .before .tail in
+    let at-tail = c .before .before .before .before .before .before .before .before .before .before in
     let application = c .before .before .before .before .application in
-    (application .ensures .0, (walk-application (args .words .now) (args .items .now) (args .theirs .now) (args .ours .now) (args .operations .now) (args .names .now) (args .bound .now) (args .top) (args .i) (sym (c .before .before .before .before .before .before .before .before .before .before .before .before .before .before .before .kind .ensures) ∙ c .before .before .before .before .before .before .before .before .before .before .before .before .before .if2 .left) (head2 .result) (head2 .ensures) (tail .result) (tail .ensures) (form .result) (form .ensures) (c .before .before .before .before .before .before .before .before .before .if3 .left) (c .before .before .before .before .before .before .before .before .if5 .left) (c .before .before .before .before .before .before .before .if6 .left) (application .result) (application .ensures .1 .0), application .ensures .1 .1))
+    let args = at-tail .before .before .before .before .before .before .before .before .before .before .before .before .before .args in
+    (application .ensures .0, (walk-application _ _ _ _ (args .operations .now) (args .names .now) (args .bound .now) (args .top) _ _ (at-tail .before .before .before .before .before .kind .ensures) (at-tail .before .before .before .if2 .left) _ (at-tail .before .before .head2 .ensures) _ (at-tail .before .form .ensures) (c .before .before .before .before .before .before .before .before .before .if3 .left) (c .before .before .before .before .before .before .before .before .if5 .left) (c .before .before .before .before .before .before .before .if6 .left) (application .result) (application .ensures .1 .0), application .ensures .1 .1))
 
-lambda-count-requires : (t : ℕ) → lambda-lts.Need-count-requires (lambda-calls t) (lambda-at t) lambda.Post
-lambda-count-requires t c κs =
-    (c .before .before .before .before .before .before .before .pre .1 .0)
+-- the formals put behind the first top
+lambda-room : (t : ℕ) (c : lambda-lts.After-n (lambda-calls t) (lambda-at t) lambda.Post) → c .before .before .before .before .before .before .before .before .before .before .before .before .before .before .before .before .before .before .before .args .top + c .n .given .0 .0 ≤ 2048
+lambda-room t c =
+    let at-formals = c .before .before .before .before in
+    let args = at-formals .before .before .before .before .before .before .before .before .before .before .before .before .before .before .before .args in
+    let pre = at-formals .before .before .before .before .before .before .before .before .before .before .before .before .before .before .before .pre in
+    formals-most _ _ _ (at-formals .before .before .before .before .before .before .before .count .ensures) (at-formals .before .before .before .before .before .before .if1 .left) _ (at-formals .before .before .head .ensures) _ (args .names .now) (at-formals .formals .last .1 .1 .0) (at-formals .formals .result) (at-formals .formals .ensures .0) _ (c .n .given .1) (pre .1 .0) (pre .1 .1)
 
 lambda-returns : (t : ℕ) → lambda-lts.Need-returns (lambda-calls t) (lambda-at t) lambda.Post
 lambda-returns t c =
     let args = c .before .before .before .before .before .before .before .before .before .args in
-    let count = c .before .count in
-    (omega arith, (lambda-uncounted (args .words .now) (args .items .now) (args .theirs .now) (args .ours .now) (args .operations .now) (args .names .now) (args .bound .now) (args .top) (args .i) (count .result) (count .ensures) (c .if1 .taken), ((λ k l. refl), (λ k l. refl))))
+    (omega arith, (lambda-uncounted _ _ _ _ (args .operations .now) (args .names .now) (args .bound .now) (args .top) _ _ (c .before .count .ensures) (c .if1 .taken), ((λ k l. refl), (λ k l. refl))))
 
 lambda-returns-2 : (t : ℕ) → lambda-lts.Need-returns-2 (lambda-calls t) (lambda-at t) lambda.Post
 lambda-returns-2 t c =
     let args = c .before .before .before .before .before .before .before .before .before .before .args in
-    let count = c .before .before .count in
-    (omega arith, (lambda-short (args .words .now) (args .items .now) (args .theirs .now) (args .ours .now) (args .operations .now) (args .names .now) (args .bound .now) (args .top) (args .i) (count .result) (count .ensures) (c .before .if1 .left) (c .if2 .taken), ((λ k l. refl), (λ k l. refl))))
+    (omega arith, (lambda-short _ _ _ _ (args .operations .now) (args .names .now) (args .bound .now) (args .top) _ _ (c .before .before .count .ensures) (c .before .if1 .left) (c .if2 .taken), ((λ k l. refl), (λ k l. refl))))
 
 lambda-returns-3 : (t : ℕ) → lambda-lts.Need-returns-3 (lambda-calls t) (lambda-at t) lambda.Post
 lambda-returns-3 t c =
     let args = c .before .before .before .before .before .before .before .before .before .before .before .before .args in
-    let count = c .before .before .before .before .count in
-    (omega arith, (lambda-code (args .words .now) (args .items .now) (args .theirs .now) (args .ours .now) (args .operations .now) (args .names .now) (args .bound .now) (args .top) (args .i) (count .result) (count .ensures) (c .before .before .before .if1 .left) (c .if3 .taken), ((λ k l. refl), (λ k l. refl))))
-
-lambda-head-requires : (t : ℕ) → lambda-lts.Need-head-requires (lambda-calls t) (lambda-at t) lambda.Post
-lambda-head-requires t c κs =
-    let args = c .before .before .before .before .before .before .before .before .before .before .before .before .args in
-    let pre = c .before .before .before .before .before .before .before .before .before .before .before .before .pre in
-    (data-in (args .items .now) (args .i) (pre .1 .0 .0) (pre .1 .0 .1))
+    (omega arith, (lambda-code _ _ _ _ (args .operations .now) (args .names .now) (args .bound .now) (args .top) _ _ (c .before .before .before .before .count .ensures) (c .before .before .before .if1 .left) (c .if3 .taken), ((λ k l. refl), (λ k l. refl))))
 
 lambda-formals-requires : (t : ℕ) → lambda-lts.Need-formals-requires (lambda-calls t) (lambda-at t) lambda.Post
 lambda-formals-requires t c κs =
-    let args = c .before .before .before .before .before .before .before .before .before .before .before .before .before .before .args in
     let pre = c .before .before .before .before .before .before .before .before .before .before .before .before .before .before .pre in
-    let count = c .before .before .before .before .before .before .count in
-    let head = c .before .head in
-    (lambda-head (args .words .now) (args .items .now) (args .theirs .now) (args .ours .now) (args .operations .now) (args .names .now) (args .bound .now) (args .top) (args .i) (count .result) (count .ensures) (c .before .before .before .before .before .if1 .left) (head .result) (head .ensures) (pre .1 .0), omega (arith, pre .1 .1 .0, pre .1 .1 .1, pre .1 .1 .2, (data-in (args .items .now) (args .i) (pre .1 .0 .0) (pre .1 .0 .1))))
-
-lambda-same-length : (t : ℕ) → lambda-lts.Need-same-length (lambda-calls t) (lambda-at t) lambda.Post
-lambda-same-length t c =
-    c .before .before .before .before .formals .kept .1 .1 .0
+    (formals-held _ _ _ (c .before .before .before .before .before .before .count .ensures) (c .before .before .before .before .before .if1 .left) _ (c .before .head .ensures) (pre .1 .0), omega (arith, pre .1 .1 .0, pre .1 .1 .1, pre .1 .1 .2, all-in _ _ (pre .1 .0)))
 
 lambda-returns-4 : (t : ℕ) → lambda-lts.Need-returns-4 (lambda-calls t) (lambda-at t) lambda.Post
 lambda-returns-4 t c =
-    let args = c .before .before .before .before .before .before .before .before .before .before .before .before .before .before .before .before .before .before .before .args in
-    let count = c .before .before .before .before .before .before .before .before .before .before .before .count in
-    let head = c .before .before .before .before .before .before .head in
-    let formals = c .before .before .before .before .formals in
-    (omega arith, (lambda-formals (args .words .now) (args .items .now) (args .theirs .now) (args .ours .now) (args .operations .now) (args .names .now) (args .bound .now) (args .top) (args .i) (count .result) (count .ensures) (c .before .before .before .before .before .before .before .before .before .before .if1 .left) (head .result) (head .ensures) (formals .result) (formals .last .1 .1 .0) (formals .ensures .0) (c .enum-told .given .1), (formals .ensures .1, (λ k l. refl))))
-
-lambda-same-length-2 : (t : ℕ) → lambda-lts.Need-same-length-2 (lambda-calls t) (lambda-at t) lambda.Post
-lambda-same-length-2 t c =
-    c .before .before .before .before .before .before .before .before .formals .kept .1 .1 .0
+    let at-formals = c .before .before .before .before in
+    let args = at-formals .before .before .before .before .before .before .before .before .before .before .before .before .before .before .before .args in
+    (omega arith, (lambda-formals _ _ _ _ (args .operations .now) (args .names .now) (args .bound .now) (args .top) _ _ (at-formals .before .before .before .before .before .before .before .count .ensures) (at-formals .before .before .before .before .before .before .if1 .left) _ (at-formals .before .before .head .ensures) (at-formals .formals .result) (at-formals .formals .last .1 .1 .0) (at-formals .formals .ensures .0) (c .enum-told .given .1), (at-formals .formals .ensures .1, (λ k l. refl))))
 
 lambda-returns-5 : (t : ℕ) → lambda-lts.Need-returns-5 (lambda-calls t) (lambda-at t) lambda.Post
 lambda-returns-5 t c =
-    let args = c .before .before .before .before .before .before .before .before .before .before .before .before .before .before .before .before .before .before .before .before .before .before .before .args in
-    let count = c .before .before .before .before .before .before .before .before .before .before .before .before .before .before .before .count in
-    let head = c .before .before .before .before .before .before .before .before .before .before .head in
-    let formals = c .before .before .before .before .before .before .before .before .formals in
-    let known-n = c .before .before .before .before .n in
-    (omega arith, (lambda-count (args .words .now) (args .items .now) (args .theirs .now) (args .ours .now) (args .operations .now) (args .names .now) (args .bound .now) (args .top) (args .i) (count .result) (count .ensures) (c .before .before .before .before .before .before .before .before .before .before .before .before .before .before .if1 .left) (head .result) (head .ensures) (formals .result) (formals .last .1 .1 .0) (formals .ensures .0) (known-n .given .0 .0) (known-n .given .1) (λ e. c .if4 .taken (c .before .wide .ensures ∙ e)), (formals .ensures .1, (λ k l. refl))))
-
-lambda-add-from : (t : ℕ) → lambda-lts.Need-add-from (lambda-calls t) (lambda-at t) lambda.Post
-lambda-add-from t c =
-    let args = c .before .before .before .before .before .before .before .before .before .before .before .before .before .before .before .before .before .before .before .before .before .before .before .args in
-    let pre = c .before .before .before .before .before .before .before .before .before .before .before .before .before .before .before .before .before .before .before .before .before .before .before .pre in
-    let count = c .before .before .before .before .before .before .before .before .before .before .before .before .before .before .before .count in
-    let head = c .before .before .before .before .before .before .before .before .before .before .head in
-    let formals = c .before .before .before .before .before .before .before .before .formals in
-    let known-n = c .before .before .before .before .n in
-    omega (arith, (lambda-most (args .words .now) (args .items .now) (args .theirs .now) (args .ours .now) (args .operations .now) (args .names .now) (args .bound .now) (args .top) (args .i) (count .result) (count .ensures) (c .before .before .before .before .before .before .before .before .before .before .before .before .before .before .if1 .left) (head .result) (head .ensures) (formals .result) (formals .last .1 .1 .0) (formals .ensures .0) (known-n .given .0 .0) (known-n .given .1) (pre .1 .0) (pre .1 .1 .0) (pre .1 .1 .1)))
-
-lambda-same-length-3 : (t : ℕ) → lambda-lts.Need-same-length-3 (lambda-calls t) (lambda-at t) lambda.Post
-lambda-same-length-3 t c =
-    c .before .before .before .before .before .before .before .before .before .formals .kept .1 .1 .0
+    let at-formals = c .before .before .before .before .before .before .before .before in
+    let args = at-formals .before .before .before .before .before .before .before .before .before .before .before .before .before .before .before .args in
+    (omega arith, (lambda-count _ _ _ _ (args .operations .now) (args .names .now) (args .bound .now) (args .top) _ _ (at-formals .before .before .before .before .before .before .before .count .ensures) (at-formals .before .before .before .before .before .before .if1 .left) _ (at-formals .before .before .head .ensures) (at-formals .formals .result) (at-formals .formals .last .1 .1 .0) (at-formals .formals .ensures .0) _ (c .before .before .before .before .n .given .1) _ (c .before .wide .ensures) (c .if4 .taken), (at-formals .formals .ensures .1, (λ k l. refl))))
 
 lambda-returns-6 : (t : ℕ) → lambda-lts.Need-returns-6 (lambda-calls t) (lambda-at t) lambda.Post
 lambda-returns-6 t c =
-    let args = c .before .before .before .before .before .before .before .before .before .before .before .before .before .before .before .before .before .before .before .before .before .before .before .before .args in
-    let count = c .before .before .before .before .before .before .before .before .before .before .before .before .before .before .before .before .count in
-    let head = c .before .before .before .before .before .before .before .before .before .before .before .head in
-    let formals = c .before .before .before .before .before .before .before .before .before .formals in
-    let known-n = c .before .before .before .before .before .n in
-    (omega arith, (lambda-cut (args .words .now) (args .items .now) (args .theirs .now) (args .ours .now) (args .operations .now) (args .names .now) (args .bound .now) (args .top) (args .i) (count .result) (count .ensures) (c .before .before .before .before .before .before .before .before .before .before .before .before .before .before .before .if1 .left) (head .result) (head .ensures) (formals .result) (formals .last .1 .1 .0) (formals .ensures .0) (known-n .given .0 .0) (known-n .given .1) (c .if5 .taken), (formals .ensures .1, (λ k l. refl))))
+    let at-formals = c .before .before .before .before .before .before .before .before .before in
+    let args = at-formals .before .before .before .before .before .before .before .before .before .before .before .before .before .before .before .args in
+    (omega arith, (lambda-cut _ _ _ _ (args .operations .now) (args .names .now) (args .bound .now) (args .top) _ _ (at-formals .before .before .before .before .before .before .before .count .ensures) (at-formals .before .before .before .before .before .before .if1 .left) _ (at-formals .before .before .head .ensures) (at-formals .formals .result) (at-formals .formals .last .1 .1 .0) (at-formals .formals .ensures .0) _ (c .before .before .before .before .before .n .given .1) (c .if5 .taken), (at-formals .formals .ensures .1, (λ k l. refl))))
 
 lambda-number-requires : (t : ℕ) → lambda-lts.Need-number-requires (lambda-calls t) (lambda-at t) lambda.Post
 lambda-number-requires t c κs =
-    let args = c .before .before .before .before .before .before .before .before .before .before .before .before .before .before .before .before .before .before .before .before .before .before .before .before .before .before .args in
     let pre = c .before .before .before .before .before .before .before .before .before .before .before .before .before .before .before .before .before .before .before .before .before .before .before .before .before .before .pre in
-    let count = c .before .before .before .before .before .before .before .before .before .before .before .before .before .before .before .before .before .before .count in
-    let head = c .before .before .before .before .before .before .before .before .before .before .before .before .before .head in
-    let formals = c .before .before .before .before .before .before .before .before .before .before .before .formals in
-    let known-n = c .before .before .before .before .before .before .before .n in
-    omega (arith, (lambda-most (args .words .now) (args .items .now) (args .theirs .now) (args .ours .now) (args .operations .now) (args .names .now) (args .bound .now) (args .top) (args .i) (count .result) (count .ensures) (c .before .before .before .before .before .before .before .before .before .before .before .before .before .before .before .before .before .if1 .left) (head .result) (head .ensures) (formals .result) (formals .last .1 .1 .0) (formals .ensures .0) (known-n .given .0 .0) (known-n .given .1) (pre .1 .0) (pre .1 .1 .0) (pre .1 .1 .1)), pre .1 .2)
+    omega (arith, lambda-room t (c .before .before .before .before .before .before .before), pre .1 .2)
 
 lambda-tail-requires : (t : ℕ) → lambda-lts.Need-tail-requires (lambda-calls t) (lambda-at t) lambda.Post
 lambda-tail-requires t c κs =
-    let args = c .before .before .before .before .before .before .before .before .before .before .before .before .before .before .before .before .before .before .before .before .before .before .before .before .before .before .before .before .before .args in
     let pre = c .before .before .before .before .before .before .before .before .before .before .before .before .before .before .before .before .before .before .before .before .before .before .before .before .before .before .before .before .before .pre in
-    (data-in (args .items .now) (args .i) (pre .1 .0 .0) (pre .1 .0 .1))
+    all-in _ _ (pre .1 .0)
 
 lambda-head-requires-2 : (t : ℕ) → lambda-lts.Need-head-requires-2 (lambda-calls t) (lambda-at t) lambda.Post
 lambda-head-requires-2 t c κs =
-    let args = c .before .before .before .before .before .before .before .before .before .before .before .before .before .before .before .before .before .before .before .before .before .before .before .before .before .before .before .before .before .before .args in
-    let pre = c .before .before .before .before .before .before .before .before .before .before .before .before .before .before .before .before .before .before .before .before .before .before .before .before .before .before .before .before .before .before .pre in
-    let count = c .before .before .before .before .before .before .before .before .before .before .before .before .before .before .before .before .before .before .before .before .before .before .count in
-    let if1 = c .before .before .before .before .before .before .before .before .before .before .before .before .before .before .before .before .before .before .before .before .before .if1 in
-    data-in (args .items .now) (c .tail .result) (moreD ((two (args .words .now) (args .items .now) (args .theirs .now) (args .ours .now) (args .operations .now) (args .names .now) (args .bound .now) (args .top) (args .i) (count .result) (count .ensures) (if1 .left) (pre .1 .0 .0) (pre .1 .0 .1)) .second) noneD) (subst (λ x. DataAt (args .items .now) x (moreD ((two (args .words .now) (args .items .now) (args .theirs .now) (args .ours .now) (args .operations .now) (args .names .now) (args .bound .now) (args .top) (args .i) (count .result) (count .ensures) (if1 .left) (pre .1 .0 .0) (pre .1 .0 .1)) .second) noneD)) (sym (c .tail .ensures)) ((two (args .words .now) (args .items .now) (args .theirs .now) (args .ours .now) (args .operations .now) (args .names .now) (args .bound .now) (args .top) (args .i) (count .result) (count .ensures) (if1 .left) (pre .1 .0 .0) (pre .1 .0 .1)) .tail))
-
-lambda-mul-expression : (t : ℕ) → lambda-lts.Need-mul-expression (lambda-calls t) (lambda-at t) lambda.Post
-lambda-mul-expression t c =
-    let args = c .before .before .before .before .before .before .before .before .before .before .before .before .before .before .before .before .before .before .before .before .before .before .before .before .before .before .before .before .before .before .before .args in
-    let pre = c .before .before .before .before .before .before .before .before .before .before .before .before .before .before .before .before .before .before .before .before .before .before .before .before .before .before .before .before .before .before .before .pre in
-    let count = c .before .before .before .before .before .before .before .before .before .before .before .before .before .before .before .before .before .before .before .before .before .before .before .count in
-    let head = c .before .before .before .before .before .before .before .before .before .before .before .before .before .before .before .before .before .before .head in
-    let formals = c .before .before .before .before .before .before .before .before .before .before .before .before .before .before .before .before .formals in
-    let known-n = c .before .before .before .before .before .before .before .before .before .before .before .before .n in
-    omega (arith, (lambda-most (args .words .now) (args .items .now) (args .theirs .now) (args .ours .now) (args .operations .now) (args .names .now) (args .bound .now) (args .top) (args .i) (count .result) (count .ensures) (c .before .before .before .before .before .before .before .before .before .before .before .before .before .before .before .before .before .before .before .before .before .before .if1 .left) (head .result) (head .ensures) (formals .result) (formals .last .1 .1 .0) (formals .ensures .0) (known-n .given .0 .0) (known-n .given .1) (pre .1 .0) (pre .1 .1 .0) (pre .1 .1 .1)))
-
-lambda-part-expression-start : (t : ℕ) → lambda-lts.Need-part-expression-start (lambda-calls t) (lambda-at t) lambda.Post
-lambda-part-expression-start t c =
-    omega (arith, c .before .before .before .before .before .before .before .if5 .left)
-
-lambda-add-expression : (t : ℕ) → lambda-lts.Need-add-expression (lambda-calls t) (lambda-at t) lambda.Post
-lambda-add-expression t c =
-    let args = c .before .before .before .before .before .before .before .before .before .before .before .before .before .before .before .before .before .before .before .before .before .before .before .before .before .before .before .before .before .before .before .before .before .before .args in
-    let pre = c .before .before .before .before .before .before .before .before .before .before .before .before .before .before .before .before .before .before .before .before .before .before .before .before .before .before .before .before .before .before .before .before .before .before .pre in
-    let count = c .before .before .before .before .before .before .before .before .before .before .before .before .before .before .before .before .before .before .before .before .before .before .before .before .before .before .count in
-    let head = c .before .before .before .before .before .before .before .before .before .before .before .before .before .before .before .before .before .before .before .before .before .head in
-    let formals = c .before .before .before .before .before .before .before .before .before .before .before .before .before .before .before .before .before .before .before .formals in
-    let known-n = c .before .before .before .before .before .before .before .before .before .before .before .before .before .before .before .n in
-    omega (arith, (lambda-most (args .words .now) (args .items .now) (args .theirs .now) (args .ours .now) (args .operations .now) (args .names .now) (args .bound .now) (args .top) (args .i) (count .result) (count .ensures) (c .before .before .before .before .before .before .before .before .before .before .before .before .before .before .before .before .before .before .before .before .before .before .before .before .before .if1 .left) (head .result) (head .ensures) (formals .result) (formals .last .1 .1 .0) (formals .ensures .0) (known-n .given .0 .0) (known-n .given .1) (pre .1 .0) (pre .1 .1 .0) (pre .1 .1 .1)))
+    let at-formals = c .before .before .before .before .before .before .before .before .before .before .before .before .before .before .before in
+    let pre = at-formals .before .before .before .before .before .before .before .before .before .before .before .before .before .before .before .pre in
+    all-in _ _ (behind-held _ _ _ (at-formals .before .before .before .before .before .before .before .count .ensures) (at-formals .before .before .before .before .before .before .if1 .left) (pre .1 .0) _ (c .tail .ensures))
 
 lambda-expression-requires : (t : ℕ) → lambda-lts.Need-expression-requires (lambda-calls t) (lambda-at t) lambda.Post
 lambda-expression-requires t c κs =
-    let args = c .before .before .before .before .before .before .before .before .before .before .before .before .before .before .before .before .before .before .before .before .before .before .before .before .before .before .before .before .before .before .before .before .before .before .args in
-    let pre = c .before .before .before .before .before .before .before .before .before .before .before .before .before .before .before .before .before .before .before .before .before .before .before .before .before .before .before .before .before .before .before .before .before .before .pre in
-    let count = c .before .before .before .before .before .before .before .before .before .before .before .before .before .before .before .before .before .before .before .before .before .before .before .before .before .before .count in
-    let if1 = c .before .before .before .before .before .before .before .before .before .before .before .before .before .before .before .before .before .before .before .before .before .before .before .before .before .if1 in
-    let head = c .before .before .before .before .before .before .before .before .before .before .before .before .before .before .before .before .before .before .before .before .before .head in
-    let formals = c .before .before .before .before .before .before .before .before .before .before .before .before .before .before .before .before .before .before .before .formals in
+    let at-formals = c .before .before .before .before .before .before .before .before .before .before .before .before .before .before .before .before .before .before .before in
+    let args = at-formals .before .before .before .before .before .before .before .before .before .before .before .before .before .before .before .args in
     let known-n = c .before .before .before .before .before .before .before .before .before .before .before .before .before .before .before .n in
-    let head2 = c .before .before .before .head2 in
-    let e : head2 .result ≡ headAt (args .items .now) (tailAt (args .items .now) (args .i)) = head2 .ensures ∙ ap (headAt (args .items .now)) (c .before .before .before .before .tail .ensures) in (omega (arith, pre .0, e, (two (args .words .now) (args .items .now) (args .theirs .now) (args .ours .now) (args .operations .now) (args .names .now) (args .bound .now) (args .top) (args .i) (count .result) (count .ensures) (if1 .left) (pre .1 .0 .0) (pre .1 .0 .1)) .bodyIs, (data-in (args .items .now) (args .i) (pre .1 .0 .0) (pre .1 .0 .1))), (((two (args .words .now) (args .items .now) (args .theirs .now) (args .ours .now) (args .operations .now) (args .names .now) (args .bound .now) (args .top) (args .i) (count .result) (count .ensures) (if1 .left) (pre .1 .0 .0) (pre .1 .0 .1)) .second, subst (λ x. DatumAt (args .items .now) x ((two (args .words .now) (args .items .now) (args .theirs .now) (args .ours .now) (args .operations .now) (args .names .now) (args .bound .now) (args .top) (args .i) (count .result) (count .ensures) (if1 .left) (pre .1 .0 .0) (pre .1 .0 .1)) .second)) (sym e) ((two (args .words .now) (args .items .now) (args .theirs .now) (args .ours .now) (args .operations .now) (args .names .now) (args .bound .now) (args .top) (args .i) (count .result) (count .ensures) (if1 .left) (pre .1 .0 .0) (pre .1 .0 .1)) .body)), (lambda-room (args .words .now) (args .items .now) (args .theirs .now) (args .ours .now) (args .operations .now) (args .names .now) (args .bound .now) (args .top) (args .i) (count .result) (count .ensures) (if1 .left) (head .result) (head .ensures) (formals .result) (formals .last .1 .1 .0) (formals .ensures .0) (known-n .given .0 .0) (known-n .given .1) (pre .1 .0) (head2 .result) e (pre .1 .1 .0), pre .1 .1 .1, omega (arith, pre .1 .1 .2, formals .kept .1 .1 .0)), omega (arith, pre .1 .2, c .before .before .before .before .before .before .before .number .kept .0), pre .1 .3))
+    let pre = at-formals .before .before .before .before .before .before .before .before .before .before .before .before .before .before .before .pre in
+    let b = body-held _ _ _ (at-formals .before .before .before .before .before .before .before .count .ensures) (at-formals .before .before .before .before .before .before .if1 .left) _ (at-formals .before .before .head .ensures) (args .top) (args .names .now) (at-formals .formals .last .1 .1 .0) _ (at-formals .formals .ensures .0) _ (known-n .given .1) _ (c .before .before .before .before .tail .ensures) _ (c .before .before .before .head2 .ensures) (pre .1 .0) (pre .1 .1 .0) in
+    (omega (arith, pre .0, b .1, held-in _ _ (b .0)), (b .0, (b .2, pre .1 .1 .1, omega (arith, pre .1 .1 .2, at-formals .formals .kept .1 .1 .0)), omega (arith, pre .1 .2, c .before .before .before .before .before .before .before .number .kept .0), pre .1 .3))
 
 lambda-same-length-4 : (t : ℕ) → lambda-lts.Need-same-length-4 (lambda-calls t) (lambda-at t) lambda.Post
 lambda-same-length-4 t c =
-    c .before .before .before .before .before .before .expression .kept .1 .1 .1 .1 .1 .1 .0 ∙ c .before .before .before .before .before .before .before .before .before .before .before .before .before .before .before .before .before .before .before .before .before .before .before .before .before .before .formals .kept .1 .1 .0
-
-lambda-same-length-5 : (t : ℕ) → lambda-lts.Need-same-length-5 (lambda-calls t) (lambda-at t) lambda.Post
-lambda-same-length-5 t c =
-    c .before .before .before .before .before .before .expression .kept .1 .1 .1 .1 .1 .1 .1 .0 ∙ c .before .before .before .before .before .before .before .before .before .before .before .before .before .before .number .kept .0
+    let formals = c .before .before .before .before .before .before .before .before .before .before .before .before .before .before .before .before .before .before .before .before .before .before .before .before .before .before .formals in
+    c .before .before .before .before .before .before .expression .kept .1 .1 .1 .1 .1 .1 .0 ∙ formals .kept .1 .1 .0
 
 lambda-returns-7 : (t : ℕ) → lambda-lts.Need-returns-7 (lambda-calls t) (lambda-at t) lambda.Post
 lambda-returns-7 t c =
-    let args = c .before .before .before .before .before .before .before .before .before .before .before .before .before .before .before .before .before .before .before .before .before .before .before .before .before .before .before .before .before .before .before .before .before .before .before .before .before .before .before .before .before .args in
-    let count = c .before .before .before .before .before .before .before .before .before .before .before .before .before .before .before .before .before .before .before .before .before .before .before .before .before .before .before .before .before .before .before .before .before .count in
-    let head = c .before .before .before .before .before .before .before .before .before .before .before .before .before .before .before .before .before .before .before .before .before .before .before .before .before .before .before .before .head in
-    let formals = c .before .before .before .before .before .before .before .before .before .before .before .before .before .before .before .before .before .before .before .before .before .before .before .before .before .before .formals in
+    let at-formals = c .before .before .before .before .before .before .before .before .before .before .before .before .before .before .before .before .before .before .before .before .before .before .before .before .before .before in
+    let args = at-formals .before .before .before .before .before .before .before .before .before .before .before .before .before .before .before .args in
     let known-n = c .before .before .before .before .before .before .before .before .before .before .before .before .before .before .before .before .before .before .before .before .before .before .n in
+    let wide = c .before .before .before .before .before .before .before .before .before .before .before .before .before .before .before .before .before .before .before .wide in
+    let if4 = c .before .before .before .before .before .before .before .before .before .before .before .before .before .before .before .before .before .before .if4 in
     let number = c .before .before .before .before .before .before .before .before .before .before .before .before .before .before .number in
+    let tail = c .before .before .before .before .before .before .before .before .before .before .before .tail in
     let head2 = c .before .before .before .before .before .before .before .before .before .before .head2 in
     let expression = c .before .before .before .before .before .before .expression in
-    let e : head2 .result ≡ headAt (args .items .now) (tailAt (args .items .now) (args .i)) = head2 .ensures ∙ ap (headAt (args .items .now)) (c .before .before .before .before .before .before .before .before .before .before .before .tail .ensures) in (omega arith, (lambda-body-no (args .words .now) (args .items .now) (args .theirs .now) (args .ours .now) (args .operations .now) (args .names .now) (args .bound .now) (args .top) (args .i) (count .result) (count .ensures) (c .before .before .before .before .before .before .before .before .before .before .before .before .before .before .before .before .before .before .before .before .before .before .before .before .before .before .before .before .before .before .before .before .if1 .left) (head .result) (head .ensures) (formals .result) (formals .last .1 .1 .0) (formals .ensures .0) (known-n .given .0 .0) (known-n .given .1) (c .before .before .before .before .before .before .before .before .before .before .before .before .before .before .before .before .before .before .before .before .before .before .before .before .before .before .before .before .before .if3 .left) (sym (c .before .before .before .before .before .before .before .before .before .before .before .before .before .before .before .before .before .before .before .wide .ensures) ∙ c .before .before .before .before .before .before .before .before .before .before .before .before .before .before .before .before .before .before .if4 .left) (number .last .0) (number .ensures .0) (head2 .result) e (expression .result) (subst (λ l. ExpressionRight l (args .items .now) (args .theirs .now) (args .ours .now) (args .operations .now) (formals .last .1 .1 .0) (number .last .0) (args .top + (known-n .given .0 .0)) (head2 .result) (expression .result)) (rest-is ((known-n .given .0 .0) + 3) (args .words .now)) (expression .ensures .1 .0)) (c .enum-told2 .given .1), (kept-on (args .top) (known-n .given .0 .0) (args .names .now) (formals .last .1 .1 .0) (expression .last .1 .1 .1 .1 .1 .1 .0) (formals .ensures .1) (expression .ensures .1 .1 .0), kept-on (args .top) (known-n .given .0 .0) (args .bound .now) (number .last .0) (expression .last .1 .1 .1 .1 .1 .1 .1 .0) (number .ensures .1) (expression .ensures .1 .1 .1))))
+    (omega arith, (lambda-body-no _ _ _ _ (args .operations .now) (args .names .now) (args .bound .now) (args .top) _ _ (at-formals .before .before .before .before .before .before .before .count .ensures) (at-formals .before .before .before .before .before .before .if1 .left) _ (at-formals .before .before .head .ensures) (at-formals .formals .result) (at-formals .formals .last .1 .1 .0) (at-formals .formals .ensures .0) _ (known-n .given .1) (at-formals .before .before .before .if3 .left) _ (wide .ensures) (if4 .left) (number .last .0) (number .ensures .0) _ (tail .ensures) _ (head2 .ensures) (expression .result) (expression .ensures .1 .0) (c .enum-told2 .given .1), (kept-on _ _ (args .names .now) (at-formals .formals .last .1 .1 .0) (expression .last .1 .1 .1 .1 .1 .1 .0) (at-formals .formals .ensures .1) (expression .ensures .1 .1 .0), kept-on _ _ (args .bound .now) (number .last .0) (expression .last .1 .1 .1 .1 .1 .1 .1 .0) (number .ensures .1) (expression .ensures .1 .1 .1))))
 
 lambda-add-t14 : (t : ℕ) → lambda-lts.Need-add-t14 (lambda-calls t) (lambda-at t) lambda.Post
 lambda-add-t14 t c =
     let args = c .before .before .before .before .before .before .before .before .before .before .before .before .before .before .before .before .before .before .before .before .before .before .before .before .before .before .before .before .before .before .before .before .before .before .before .before .before .before .before .before .before .before .args in
     let known-n = c .before .before .before .before .before .before .before .before .before .before .before .before .before .before .before .before .before .before .before .before .before .before .before .n in
     let expression = c .before .before .before .before .before .before .before .expression in
-    let s = subst (Short (drop ((known-n .given .0 .0) + 3) (args .words .now))) (c .before .m .given .1) (subst (λ l. Short l (expression .result)) (rest-is ((known-n .given .0 .0) + 3) (args .words .now)) (expression .ensures .0)) in omega (arith, s, length-drop ((known-n .given .0 .0) + 3) (args .words .now), c .before .before .before .before .before .before .before .before .before .before .before .before .before .before .before .before .before .before .if5 .left, c .before .before .before .before .before .before .before .before .before .before .before .before .before .before .before .before .before .before .before .before .before .before .before .before .before .before .before .before .before .before .before .before .before .before .before .before .before .before .before .before .before .before .good .1 .1 .0)
+    let if5 = c .before .before .before .before .before .before .before .before .before .before .before .before .before .before .before .before .before .before .if5 in
+    let good = c .before .before .before .before .before .before .before .before .before .before .before .before .before .before .before .before .before .before .before .before .before .before .before .before .before .before .before .before .before .before .before .before .before .before .before .before .before .before .before .before .before .before .good in
+    let s = short-after (args .words .now) ((known-n .given .0 .0) + 3) (expression .result) _ (if5 .left) (expression .ensures .0) (c .before .m .given .1) in
+    omega (arith, s, good .1 .1 .0)
 
 lambda-same-length-6 : (t : ℕ) → lambda-lts.Need-same-length-6 (lambda-calls t) (lambda-at t) lambda.Post
 lambda-same-length-6 t c =
-    c .before .before .before .before .before .before .before .expression .kept .1 .1 .1 .1 .1 .1 .0 ∙ c .before .before .before .before .before .before .before .before .before .before .before .before .before .before .before .before .before .before .before .before .before .before .before .before .before .before .before .formals .kept .1 .1 .0
+    let formals = c .before .before .before .before .before .before .before .before .before .before .before .before .before .before .before .before .before .before .before .before .before .before .before .before .before .before .before .formals in
+    c .before .before .before .before .before .before .before .expression .kept .1 .1 .1 .1 .1 .1 .0 ∙ formals .kept .1 .1 .0
 
 lambda-same-length-7 : (t : ℕ) → lambda-lts.Need-same-length-7 (lambda-calls t) (lambda-at t) lambda.Post
 lambda-same-length-7 t c =
-    c .before .before .before .before .before .before .before .expression .kept .1 .1 .1 .1 .1 .1 .1 .0 ∙ c .before .before .before .before .before .before .before .before .before .before .before .before .before .before .before .number .kept .0
+    let number = c .before .before .before .before .before .before .before .before .before .before .before .before .before .before .before .number in
+    c .before .before .before .before .before .before .before .expression .kept .1 .1 .1 .1 .1 .1 .1 .0 ∙ number .kept .0
 
 lambda-returns-8 : (t : ℕ) → lambda-lts.Need-returns-8 (lambda-calls t) (lambda-at t) lambda.Post
 lambda-returns-8 t c =
-    let args = c .before .before .before .before .before .before .before .before .before .before .before .before .before .before .before .before .before .before .before .before .before .before .before .before .before .before .before .before .before .before .before .before .before .before .before .before .before .before .before .before .before .before .args in
-    let count = c .before .before .before .before .before .before .before .before .before .before .before .before .before .before .before .before .before .before .before .before .before .before .before .before .before .before .before .before .before .before .before .before .before .before .count in
-    let head = c .before .before .before .before .before .before .before .before .before .before .before .before .before .before .before .before .before .before .before .before .before .before .before .before .before .before .before .before .before .head in
-    let formals = c .before .before .before .before .before .before .before .before .before .before .before .before .before .before .before .before .before .before .before .before .before .before .before .before .before .before .before .formals in
+    let at-formals = c .before .before .before .before .before .before .before .before .before .before .before .before .before .before .before .before .before .before .before .before .before .before .before .before .before .before .before in
+    let args = at-formals .before .before .before .before .before .before .before .before .before .before .before .before .before .before .before .args in
     let known-n = c .before .before .before .before .before .before .before .before .before .before .before .before .before .before .before .before .before .before .before .before .before .before .before .n in
-    let number = c .before .before .before .before .before .before .before .before .before .before .before .before .before .before .before .number in
-    let head2 = c .before .before .before .before .before .before .before .before .before .before .before .head2 in
     let expression = c .before .before .before .before .before .before .before .expression in
-    let known-m = c .before .m in
-    let e : head2 .result ≡ headAt (args .items .now) (tailAt (args .items .now) (args .i)) = head2 .ensures ∙ ap (headAt (args .items .now)) (c .before .before .before .before .before .before .before .before .before .before .before .before .tail .ensures) in let s = subst (Short (drop ((known-n .given .0 .0) + 3) (args .words .now))) (known-m .given .1) (subst (λ l. Short l (expression .result)) (rest-is ((known-n .given .0 .0) + 3) (args .words .now)) (expression .ensures .0)) in (omega (arith, s, length-drop ((known-n .given .0 .0) + 3) (args .words .now), c .before .before .before .before .before .before .before .before .before .before .before .before .before .before .before .before .before .before .if5 .left), (lambda-body (args .words .now) (args .items .now) (args .theirs .now) (args .ours .now) (args .operations .now) (args .names .now) (args .bound .now) (args .top) (args .i) (count .result) (count .ensures) (c .before .before .before .before .before .before .before .before .before .before .before .before .before .before .before .before .before .before .before .before .before .before .before .before .before .before .before .before .before .before .before .before .before .if1 .left) (head .result) (head .ensures) (formals .result) (formals .last .1 .1 .0) (formals .ensures .0) (known-n .given .0 .0) (known-n .given .1) (c .before .before .before .before .before .before .before .before .before .before .before .before .before .before .before .before .before .before .before .before .before .before .before .before .before .before .before .before .before .before .if3 .left) (sym (c .before .before .before .before .before .before .before .before .before .before .before .before .before .before .before .before .before .before .before .before .wide .ensures) ∙ c .before .before .before .before .before .before .before .before .before .before .before .before .before .before .before .before .before .before .before .if4 .left) (number .last .0) (number .ensures .0) (head2 .result) e (expression .result) (subst (λ l. ExpressionRight l (args .items .now) (args .theirs .now) (args .ours .now) (args .operations .now) (formals .last .1 .1 .0) (number .last .0) (args .top + (known-n .given .0 .0)) (head2 .result) (expression .result)) (rest-is ((known-n .given .0 .0) + 3) (args .words .now)) (expression .ensures .1 .0)) (known-m .given .0 .0) (known-m .given .1), (kept-on (args .top) (known-n .given .0 .0) (args .names .now) (formals .last .1 .1 .0) (expression .last .1 .1 .1 .1 .1 .1 .0) (formals .ensures .1) (expression .ensures .1 .1 .0), kept-on (args .top) (known-n .given .0 .0) (args .bound .now) (number .last .0) (expression .last .1 .1 .1 .1 .1 .1 .1 .0) (number .ensures .1) (expression .ensures .1 .1 .1))))
+    let if5 = c .before .before .before .before .before .before .before .before .before .before .before .before .before .before .before .before .before .before .if5 in
+    let wide = c .before .before .before .before .before .before .before .before .before .before .before .before .before .before .before .before .before .before .before .before .wide in
+    let if4 = c .before .before .before .before .before .before .before .before .before .before .before .before .before .before .before .before .before .before .before .if4 in
+    let number = c .before .before .before .before .before .before .before .before .before .before .before .before .before .before .before .number in
+    let tail = c .before .before .before .before .before .before .before .before .before .before .before .before .tail in
+    let head2 = c .before .before .before .before .before .before .before .before .before .before .before .head2 in
+    let s = short-after (args .words .now) ((known-n .given .0 .0) + 3) (expression .result) _ (if5 .left) (expression .ensures .0) (c .before .m .given .1) in
+    (omega (arith, s), (lambda-body _ _ _ _ (args .operations .now) (args .names .now) (args .bound .now) (args .top) _ _ (at-formals .before .before .before .before .before .before .before .count .ensures) (at-formals .before .before .before .before .before .before .if1 .left) _ (at-formals .before .before .head .ensures) (at-formals .formals .result) (at-formals .formals .last .1 .1 .0) (at-formals .formals .ensures .0) _ (known-n .given .1) (at-formals .before .before .before .if3 .left) _ (wide .ensures) (if4 .left) (number .last .0) (number .ensures .0) _ (tail .ensures) _ (head2 .ensures) (expression .result) (expression .ensures .1 .0) _ (c .before .m .given .1), (kept-on _ _ (args .names .now) (at-formals .formals .last .1 .1 .0) (expression .last .1 .1 .1 .1 .1 .1 .0) (at-formals .formals .ensures .1) (expression .ensures .1 .1 .0), kept-on _ _ (args .bound .now) (number .last .0) (expression .last .1 .1 .1 .1 .1 .1 .1 .0) (number .ensures .1) (expression .ensures .1 .1 .1))))
 
 pub +all+application+conditional+expression+lambda-spec : {M : Type 1} → statement M
 +all+application+conditional+expression+lambda-spec =
@@ -662,25 +428,25 @@ pub +all+application+conditional+expression+lambda-spec : {M : Type 1} → state
     all.Post
     all-Inv-loop
     all-μ-loop
-    (all-loop-holds t)
-    (all-kind-requires t)
-    (all-head-requires t)
-    (all-mul-expression t)
+    (λ c. (c .before .before .before .before .before .before .before .pre .1 .0, comparing-start _ _ _ _ _ _ _ _, (λ k l. refl), (λ k l. refl), refl, refl, c .before .before .before .before .before .before .before .pre .1 .4, omega arith))  -- all-loop-holds
+    (λ c κs. all-in _ _ (c .loop .inv .0))  -- all-kind-requires
+    (λ c κs. all-in _ _ (c .before .before .loop .inv .0))  -- all-head-requires
+    (λ c. omega (arith, c .before .before .before .loop .inv .6, c .before .before .before .before .before .before .before .before .before .before .before .good .1 .1 .0))  -- all-mul-expression
     (λ c. search needs)  -- all-sub-expression
-    (all-part-expression-start t)
+    (λ c. omega (arith, c .before .before .before .loop .inv .6))  -- all-part-expression-start
     (λ c. search needs)  -- all-part-expression-end
     (all-expression-requires t)
     (λ c. search needs)  -- all-enum-known-n
     (λ c. search needs)  -- all-enum-told
-    (all-same-length t)
-    (all-same-length-2 t)
+    (λ c. c .before .before .before .before .before .before .expression .kept .1 .1 .1 .1 .1 .1 .0 ∙ c .before .before .before .before .before .before .before .before .before .before .before .before .before .loop .inv .4)  -- all-same-length
+    (λ c. c .before .before .before .before .before .before .expression .kept .1 .1 .1 .1 .1 .1 .1 .0 ∙ c .before .before .before .before .before .before .before .before .before .before .before .before .before .loop .inv .5)  -- all-same-length-2
     (all-returns t)
     (all-add-at t)
-    (all-tail-requires t)
+    (λ c κs. all-in _ _ (c .before .before .before .before .before .before .before .before .before .before .before .before .before .before .loop .inv .0))  -- all-tail-requires
     (all-loop-less t)
     (all-loop-again t)
-    (all-same-length-3 t)
-    (all-same-length-4 t)
+    (λ c. c .before .before .loop .inv .4)  -- all-same-length-3
+    (λ c. c .before .before .loop .inv .5)  -- all-same-length-4
     (all-returns-2 t))
     (λ t. application-lts.spec (application-calls t) (application-at t)
     application.Post
@@ -689,88 +455,86 @@ pub +all+application+conditional+expression+lambda-spec : {M : Type 1} → state
     (application-returns-2 t)
     (λ c. search needs)  -- application-shared-slice-read-wide
     (λ c κs. search needs)  -- application-wide-requires
-    (application-add-if3 t)
-    (application-count-requires t)
+    (λ c. omega (arith, c .wide .ensures, c .before .shared-slice-known7 .given 1 .fits))  -- application-add-if3
+    (λ c κs. c .before .before .before .before .before .before .before .before .before .before .before .before .pre .1 .0)  -- application-count-requires
     (application-returns-3 t)
     (application-all-requires t)
-    (application-same-length t)
-    (application-same-length-2 t)
+    (λ c. c .before .before .before .before .all .kept .1 .1 .1 .1 .1 .1 .1 .0)  -- application-same-length
+    (λ c. c .before .before .before .before .all .kept .1 .1 .1 .1 .1 .1 .1 .1 .0)  -- application-same-length-2
     (application-returns-4 t))
-    (λ t. conditional-lts.spec
-    (all-below t, all.Post)
-    (conditional-at t)
+    (λ t. conditional-lts.spec (conditional-calls t) (conditional-at t)
     conditional.Post
     (conditional-returns t)
     (λ c. search needs)  -- conditional-shared-slice-read-if2
     (conditional-returns-2 t)
     (conditional-all-requires t)
-    (conditional-same-length t)
-    (conditional-same-length-2 t)
+    (λ c. c .before .before .before .before .all .kept .1 .1 .1 .1 .1 .1 .1 .0)  -- conditional-same-length
+    (λ c. c .before .before .before .before .all .kept .1 .1 .1 .1 .1 .1 .1 .1 .0)  -- conditional-same-length-2
     (conditional-returns-3 t))
     (λ t. expression-lts.spec (expression-calls t) (expression-at t)
     expression.Post
-    (expression-kind-requires t)
-    (expression-head-requires t)
+    (λ c κs. held-in _ _ (c .before .before .before .before .before .before .before .pre .1 .0))  -- expression-kind-requires
+    (λ c κs. held-in _ _ (c .before .before .before .before .before .before .before .before .before .pre .1 .0))  -- expression-head-requires
     (expression-reference-requires t)
     (λ c. search needs)  -- expression-same-length
     (λ c. search needs)  -- expression-same-length-2
     (expression-returns t)
-    (expression-datum-term-requires t)
+    (λ c κs. (c .before .before .before .before .before .before .before .before .before .before .pre .1 .0, c .before .before .before .before .before .before .before .before .before .before .pre .1 .3 .0))  -- expression-datum-term-requires
     (expression-returns-2 t)
-    (expression-head-requires-2 t)
+    (λ c κs. held-in _ _ (c .before .before .before .before .before .before .before .before .before .before .pre .1 .0))  -- expression-head-requires-2
     (expression-form-requires t)
-    (expression-tail-requires t)
-    (expression-kind-requires-2 t)
+    (λ c κs. held-in _ _ (c .before .before .before .before .before .before .before .before .before .before .before .before .pre .1 .0))  -- expression-tail-requires
+    (λ c κs. all-in _ _ (expression-rest t (c .before) .0))  -- expression-kind-requires-2
     (expression-returns-3 t)
-    (expression-head-requires-3 t)
+    (λ c κs. all-in _ _ (expression-rest t (c .before .before .before) .0))  -- expression-head-requires-3
     (expression-datum-term-requires-2 t)
     (expression-returns-4 t)
     (expression-conditional-requires t)
-    (expression-same-length-3 t)
-    (expression-same-length-4 t)
+    (λ c. c .before .before .before .before .conditional .kept .1 .1 .1 .1 .1 .1 .0)  -- expression-same-length-3
+    (λ c. c .before .before .before .before .conditional .kept .1 .1 .1 .1 .1 .1 .1 .0)  -- expression-same-length-4
     (expression-returns-5 t)
     (expression-lambda-requires t)
-    (expression-same-length-5 t)
-    (expression-same-length-6 t)
+    (λ c. c .before .before .before .before .lambda .kept .1 .1 .1 .1 .1 .1 .0)  -- expression-same-length-5
+    (λ c. c .before .before .before .before .lambda .kept .1 .1 .1 .1 .1 .1 .1 .0)  -- expression-same-length-6
     (expression-returns-6 t)
     (expression-application-requires t)
-    (expression-same-length-7 t)
-    (expression-same-length-8 t)
+    (λ c. c .before .before .before .before .application .kept .1 .1 .1 .1 .1 .1 .0)  -- expression-same-length-7
+    (λ c. c .before .before .before .before .application .kept .1 .1 .1 .1 .1 .1 .1 .0)  -- expression-same-length-8
     (expression-returns-7 t))
     λ t. lambda-lts.spec (lambda-calls t) (lambda-at t)
     lambda.Post
-    (lambda-count-requires t)
+    (λ c κs. c .before .before .before .before .before .before .before .pre .1 .0)  -- lambda-count-requires
     (lambda-returns t)
     (lambda-returns-2 t)
     (λ c. search needs)  -- lambda-shared-slice-read-if3
     (lambda-returns-3 t)
-    (lambda-head-requires t)
+    (λ c κs. all-in _ _ (c .before .before .before .before .before .before .before .before .before .before .before .before .pre .1 .0))  -- lambda-head-requires
     (lambda-formals-requires t)
     (λ c. search needs)  -- lambda-enum-known-n
     (λ c. search needs)  -- lambda-enum-told
-    (lambda-same-length t)
+    (λ c. c .before .before .before .before .formals .kept .1 .1 .0)  -- lambda-same-length
     (lambda-returns-4 t)
     (λ c. search needs)  -- lambda-shared-slice-read-wide
     (λ c κs. search needs)  -- lambda-wide-requires
-    (lambda-same-length-2 t)
+    (λ c. c .before .before .before .before .before .before .before .before .formals .kept .1 .1 .0)  -- lambda-same-length-2
     (lambda-returns-5 t)
-    (lambda-add-from t)
-    (lambda-same-length-3 t)
+    (λ c. omega (arith, lambda-room t (c .before .before .before .before)))  -- lambda-add-from
+    (λ c. c .before .before .before .before .before .before .before .before .before .formals .kept .1 .1 .0)  -- lambda-same-length-3
     (lambda-returns-6 t)
     (λ c. search needs)  -- lambda-shared-slice-read-number
     (lambda-number-requires t)
     (lambda-tail-requires t)
     (lambda-head-requires-2 t)
-    (lambda-mul-expression t)
+    (λ c. omega (arith, lambda-room t (c .before .before .before .before .before .before .before .before .before .before .before .before)))  -- lambda-mul-expression
     (λ c. search needs)  -- lambda-sub-expression
-    (lambda-part-expression-start t)
+    (λ c. omega (arith, c .before .before .before .before .before .before .before .if5 .left))  -- lambda-part-expression-start
     (λ c. search needs)  -- lambda-part-expression-end
-    (lambda-add-expression t)
+    (λ c. omega (arith, lambda-room t (c .before .before .before .before .before .before .before .before .before .before .before .before .before .before .before)))  -- lambda-add-expression
     (lambda-expression-requires t)
     (λ c. search needs)  -- lambda-enum-known-m
     (λ c. search needs)  -- lambda-enum-told-2
     (lambda-same-length-4 t)
-    (lambda-same-length-5 t)
+    (λ c. c .before .before .before .before .before .before .expression .kept .1 .1 .1 .1 .1 .1 .1 .0 ∙ c .before .before .before .before .before .before .before .before .before .before .before .before .before .before .number .kept .0)  -- lambda-same-length-5
     (lambda-returns-7 t)
     (lambda-add-t14 t)
     (lambda-same-length-6 t)
