@@ -1,5 +1,5 @@
 -- Laws of a text's element against our term, one for each way through the code: grounds 21 and 22, then yes or no.
-use mathlib.Core.Path.{_≡_, refl, sym, ap, _∙_}
+use mathlib.Core.Path.{_≡_, refl, sym, ap, subst, _∙_}
 use mathlib.Core.Bool.{Bool, true, false}
 use mathlib.Core.List.{List, [], append-nil}
 use mathlib.Core.Option.{Option, none, some}
@@ -13,6 +13,7 @@ use Rattle.comparison.specs.Closed.{closed}
 use Rattle.comparison.specs.Compare.{decided}
 use Rattle.supplier.specs.declared.grammar.Judged.{Judged}
 use Rattle.supplier.specs.declared.grammar.Judged.the-variants.{Closed, Open, Outside}
+use Rattle.supplier.specs.declared.quoted.Agreed.{Agreed}
 use Rattle.supplier.specs.declared.quoted.Agreed.the-variants as A
 use Rattle.supplier.specs.declared.Comparison.the-variants.{Yes, No, Refused}
 use Rattle.supplier.specs.Scope.{round}
@@ -62,17 +63,17 @@ module _ (items theirs words ours operations scope : List ℕ) (v : Judged)
       let p = judged-open isOperation′ (expressionOf d) (judged-as d h Open e) in
       rw (p .1, p .2)
 
-  module _ (e : v ≡ Closed) (names variables : List ℕ) where
-    pub element-yes : (n : ℕ) → ExpressionRight words items theirs ours operations names variables 0 1 (A.Words n) → ElementRight items theirs words ours operations Yes
+  module _ (e : v ≡ Closed) (names variables : List ℕ) (a : Agreed) (f : ExpressionRight words items theirs ours operations names variables 0 1 a) where
+    pub element-yes : (n : ℕ) → a ≡ A.Words n → ElementRight items theirs words ours operations Yes
     unfolding verdictOf decided isOperation scopeOf
-    element-yes n f d t h g w =
+    element-yes n k d t h g w =
         let p = judged-closed isOperation′ (expressionOf d) (judged-as d h Closed e) in
-        let q = f d (p .0) t [] h (p .1) g (w ∙ sym (append-nil (encode t))) in
+        let q = subst (ExpressionRight words items theirs ours operations names variables 0 1) k f d (p .0) t [] h (p .1) g (w ∙ sym (append-nil (encode t))) in
         rw (p .1, p .2, q .0)
 
-    pub element-no : ExpressionRight words items theirs ours operations names variables 0 1 A.No → ElementRight items theirs words ours operations No
+    pub element-no : a ≡ A.No → ElementRight items theirs words ours operations No
     unfolding verdictOf decided isOperation scopeOf
-    element-no f d t h g w =
+    element-no k d t h g w =
         let p = judged-closed isOperation′ (expressionOf d) (judged-as d h Closed e) in
-        let q = f d (p .0) t [] h (p .1) g (w ∙ sym (append-nil (encode t))) in
+        let q = subst (ExpressionRight words items theirs ours operations names variables 0 1) k f d (p .0) t [] h (p .1) g (w ∙ sym (append-nil (encode t))) in
         rw (p .1, p .2, q)

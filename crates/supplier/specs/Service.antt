@@ -1,6 +1,7 @@
 -- The promise of the comparison service: its answer and both of the text's tables are those of the definition, for every
 -- recipe, term, text and pair of lent tables.
 use mathlib.Core.Path.{_≡_}
+use mathlib.Core.Bool.{Bool, true, false}
 use mathlib.Core.List.{List}
 use Prim.Native.Nat.{ℕ}
 use lib.ListN.{length}
@@ -14,6 +15,11 @@ unfoldable pub verdictOf : Comparison → Verdict
 verdictOf Yes = yes
 verdictOf No = no
 verdictOf (Refused g) = refusedOn g
+
+unfoldable pub isRefusal : Verdict → Bool
+isRefusal yes = false
+isRefusal no = false
+isRefusal (refusedOn g) = true
 
 -- what a call answers and leaves in the two tables lent for the text, by the definition's verdict and reading
 pub record Gives (v : Verdict) (text : Answer Recipe) (words words′ bytes bytes′ : List ℕ) (r : Comparison) : Type 0 where

@@ -1,6 +1,6 @@
 -- Laws of the call, one for each way through its code: the text that was read, what is left of its tables, the tests before it.
 use mathlib.Core.Path.{_≡_, refl, sym, ap, subst, _∙_}
-use mathlib.Core.Bool.{Bool, true, false}
+use mathlib.Core.Bool.{true, false}
 use mathlib.Core.List.{List, [], map}
 use mathlib.Core.Option.{Option, none, some}
 use Prim.Native.Nat.{ℕ, _*_, _-_, _≤_, _<_}
@@ -36,13 +36,13 @@ use Rattle.comparison.specs.Closed.{closed}
 use Rattle.comparison.specs.Agrees.{agrees}
 use Rattle.comparison.specs.Compare.{Verdict, yes, no, refusedOn, decided, held, require, spelledOperations, ourTerm, withTerm, comparison, compare, zeroes, leftBy, readWords, itemsLeft, namesLeft}
 use Rattle.supplier.specs.declared.Comparison.{Comparison}
-use Rattle.supplier.specs.declared.Comparison.the-variants.{Yes, No, Refused}
+use Rattle.supplier.specs.declared.Comparison.the-variants.{Refused}
 use Rattle.supplier.specs.Names.{Slot}
 use Rattle.supplier.specs.Items.{DatumAt, Held}
 use Rattle.supplier.specs.Terms.{isGoodTerm}
 use Rattle.supplier.specs.GoodLaws.{our-term}
 use Rattle.supplier.specs.TextLaws.{elementOf, the-element, element-at, items-few, text-slots, text-names}
-use Rattle.supplier.specs.Service.{verdictOf, Gives, Compared}
+use Rattle.supplier.specs.Service.{verdictOf, isRefusal, Gives, Compared}
 use Rattle.supplier.specs.Text.{ElementRight, TextRight}
 
 -- ---- reading's answer, by its numbers
@@ -74,22 +74,30 @@ groundOf yes = 0
 groundOf no = 0
 groundOf (refusedOn g) = g
 
-abbrev isRefusal : Verdict → Bool
-isRefusal yes = false
-isRefusal no = false
-isRefusal (refusedOn g) = true
-
 zeroes-late : (v : Verdict) (g : ℕ) → v ≡ refusedOn g → 21 ≤ groundOf v → zeroes g ≡ true
 unfolding zeroes
 zeroes-late v g e h = let l : 21 ≤ g = omega (arith, h, ap groundOf e) in or-right (within 3 6 g) (leb 21 g) (le-leb 21 g l)
 
 decided-zeroes : (theirs ours : ℕ → List ℕ) (operations : List (List ℕ)) (t : Plain) (o : Option Expression) (g : ℕ) → decided theirs ours operations t o ≡ refusedOn g → zeroes g ≡ true
-unfolding decided
+unfolding decided isRefusal
 decided-zeroes theirs ours operations t none g e = zeroes-late (refusedOn 21) g e (omega arith)
 decided-zeroes theirs ours operations t (some x) g e =
     either (closed (λ n. anyOf (equal (theirs n)) operations) [] x)
     (λ c. either (agrees theirs ours operations [] x t) (λ a. never refl (sym (ap isRefusal (rw (c, a) at e)))) (λ a. never refl (sym (ap isRefusal (rw (c, a) at e)))))
     (λ c. zeroes-late (refusedOn 22) g (rw c at e) (omega arith))
+
+-- yes and no leave the reading, these grounds nothing
+left-read : (v : Verdict) → isRefusal v ≡ false → (ws table : List ℕ) → leftBy v ws table ≡ filled ws table
+unfolding isRefusal leftBy
+left-read yes h ws table = refl
+left-read no h ws table = refl
+left-read (refusedOn g) h ws table = never refl h
+
+left-zero : (v : Verdict) → isRefusal v ≡ true → ((g : ℕ) → v ≡ refusedOn g → zeroes g ≡ true) → (ws table : List ℕ) → leftBy v ws table ≡ replicate (length table) 0
+unfolding isRefusal leftBy
+left-zero yes h z ws table = never h refl
+left-zero no h z ws table = never h refl
+left-zero (refusedOn g) h z ws table = rw (z g refl)
 
 -- ---- a text that was read
 
@@ -139,23 +147,11 @@ module _ (text words words′ bytes bytes′ : List ℕ) (q : Reading) (p : R.Se
   pub names-slots : (k : ℕ) → k < namesMost → Slot bytes′ k
   names-slots k h = subst (λ (l : List ℕ). Slot l k) (sym names-read) (text-slots text (length words) (length bytes) recipe is-read bytes refl k h)
 
-  -- yes and no leave the reading
-  gives-reading : (r : Comparison) → ((ws table : List ℕ) → leftBy (verdictOf r) ws table ≡ filled ws table) → (v : Verdict) → verdictOf r ≡ v
-      → Gives v answer words words′ bytes bytes′ r
-  unfolding itemsLeft namesLeft readWords
-  gives-reading r l v e =
-      subst (λ (w : Verdict). Gives w answer words words′ bytes bytes′ r) e
-      (record {
-        verdict = refl;
-        items = items-read ∙ sym (ap (λ (a : Answer Recipe). leftBy (verdictOf r) (readWords itemWords a) words) is-read ∙ l (itemWords recipe) words);
-        names = names-read ∙ sym (ap (λ (a : Answer Recipe). leftBy (verdictOf r) (readWords nameBytes a) bytes) is-read ∙ l (nameBytes recipe) bytes);
-      })
-
-  module _ (our ours operations : List ℕ) where
+  module _ (our ours operations : List ℕ) (r : Comparison) (f : ElementRight (take (3 * i) words′) bytes′ our ours operations r) where
     abbrev spelled : List (List ℕ)
     spelled = map (nameAt ours) operations
 
-    module _ (r : Comparison) (f : ElementRight (take (3 * i) words′) bytes′ our ours operations r) (t : Plain) (g : isGoodTerm ours (length operations) t ≡ true) (w : our ≡ encode t) where
+    module _ (t : Plain) (g : isGoodTerm ours (length operations) t ≡ true) (w : our ≡ encode t) where
       element-verdict : verdictOf r ≡ held (nameAt ours) spelled t answer
       unfolding held after
       element-verdict =
@@ -165,27 +161,33 @@ module _ (text words words′ bytes bytes′ : List ℕ) (q : Reading) (p : R.Se
           ∙ sym (ap (held (nameAt ours) spelled t) is-read
           ∙ ap (λ o. decided (nameAt (nameBytes recipe)) (nameAt ours) spelled t (after o expressionOf)) (the-element text (length words) (length bytes) recipe is-read))
 
-      held-zeroes : (k : ℕ) → r ≡ Refused k → zeroes k ≡ true
-      unfolding held verdictOf
+      held-zeroes : (k : ℕ) → verdictOf r ≡ refusedOn k → zeroes k ≡ true
+      unfolding held
       held-zeroes k e =
           decided-zeroes (nameAt (nameBytes recipe)) (nameAt ours) spelled t (after (theOne (recipe .elements)) expressionOf) k
-          (sym (ap (held (nameAt ours) spelled t) is-read) ∙ sym element-verdict ∙ ap verdictOf e)
+          (sym (ap (held (nameAt ours) spelled t) is-read) ∙ sym element-verdict ∙ e)
 
-    pub text-yes : ElementRight (take (3 * i) words′) bytes′ our ours operations Yes → TextRight our ours operations text words words′ bytes bytes′ Yes
-    unfolding verdictOf leftBy
-    text-yes f t g w = gives-reading Yes (λ ws table. refl) _ (element-verdict Yes f t g w)
+      -- by what is left in both tables
+      gives : (words″ bytes″ : List ℕ) → words″ ≡ leftBy (verdictOf r) (itemWords recipe) words → bytes″ ≡ leftBy (verdictOf r) (nameBytes recipe) bytes
+          → Gives (held (nameAt ours) spelled t answer) answer words words″ bytes bytes″ r
+      unfolding itemsLeft namesLeft readWords
+      gives words″ bytes″ x y =
+          subst (λ (v : Verdict). Gives v answer words words″ bytes bytes″ r) element-verdict
+          (record {
+            verdict = refl;
+            items = x ∙ sym (ap (λ (a : Answer Recipe). leftBy (verdictOf r) (readWords itemWords a) words) is-read);
+            names = y ∙ sym (ap (λ (a : Answer Recipe). leftBy (verdictOf r) (readWords nameBytes a) bytes) is-read);
+          })
 
-    pub text-no : ElementRight (take (3 * i) words′) bytes′ our ours operations No → TextRight our ours operations text words words′ bytes bytes′ No
-    unfolding verdictOf leftBy
-    text-no f t g w = gives-reading No (λ ws table. refl) _ (element-verdict No f t g w)
+    pub text-kept : isRefusal (verdictOf r) ≡ false → TextRight our ours operations text words words′ bytes bytes′ r
+    text-kept k t g w =
+        gives t g w words′ bytes′ (items-read ∙ sym (left-read (verdictOf r) k (itemWords recipe) words)) (names-read ∙ sym (left-read (verdictOf r) k (nameBytes recipe) bytes))
 
-    pub text-refused : (k : ℕ) → ElementRight (take (3 * i) words′) bytes′ our ours operations (Refused k) → (words″ bytes″ : List ℕ) → words″ ≡ replicate (length words) 0
-        → bytes″ ≡ replicate (length bytes) 0 → TextRight our ours operations text words words″ bytes bytes″ (Refused k)
-    unfolding verdictOf itemsLeft namesLeft leftBy
-    text-refused k f words″ bytes″ p q t g w =
-        subst (λ (v : Verdict). Gives v answer words words″ bytes bytes″ (Refused k)) (element-verdict (Refused k) f t g w)
-        (let z : zeroes k ≡ true = held-zeroes (Refused k) f t g w k refl in
-        record { verdict = refl; items = p ∙ rw z; names = q ∙ rw z })
+    pub text-zeroed : isRefusal (verdictOf r) ≡ true → (words″ bytes″ : List ℕ) → words″ ≡ replicate (length words) 0 → bytes″ ≡ replicate (length bytes) 0
+        → TextRight our ours operations text words words″ bytes bytes″ r
+    text-zeroed k words″ bytes″ x y t g w =
+        let z = left-zero (verdictOf r) k (held-zeroes t g w) in
+        gives t g w words″ bytes″ (x ∙ sym (z (itemWords recipe) words)) (y ∙ sym (z (nameBytes recipe) bytes))
 
 -- ---- a text that was not
 

@@ -6,12 +6,13 @@ mod quoted; // quoted data against words
 mod scope; // the formals round an expression
 mod term; // an expression against our words
 
+ghost use mathlib.Core.Path.{_≡_};
 ghost use Prim.Native.Nat.{_≤_};
 ghost use lib.ListN.{length};
 ghost use Rattle.supplier.specs.Items.{Held};
 ghost use Rattle.supplier.specs.Judged.{Spelling};
 ghost use Rattle.supplier.specs.Text.{OperationSlots, ElementRight, TextRight};
-ghost use Rattle.supplier.specs.Service.{Compared};
+ghost use Rattle.supplier.specs.Service.{verdictOf, isRefusal, Compared};
 use core_term::is_term;
 use grammar::Judged;
 use layout::is_layout;
@@ -74,6 +75,16 @@ fn decided(
     }
 }
 
+fn is_refused(v: Comparison) -> bool
+    ensures { λ r. ⌜ r ≡ isRefusal (verdictOf v) ⌝ }
+{
+    match v {
+        Comparison::Refused(ground) => true,
+        Comparison::Yes => false,
+        Comparison::No => false,
+    }
+}
+
 // A text against our term. Once it is read from, a refusal zeroes its tables.
 fn held(
     words: &[u32],
@@ -90,15 +101,12 @@ fn held(
         Reading::Read { items: i, names: n } => {
             let end = ITEM * i;
             let answer = decided(&items[..end], names, words, ours, operations);
-            match answer {
-                Comparison::Refused(ground) => {
-                    zero_words(items);
-                    zero_bytes(names);
-                    Comparison::Refused(ground)
-                }
-                Comparison::Yes => Comparison::Yes,
-                Comparison::No => Comparison::No,
+            if is_refused(answer) {
+                zero_words(items);
+                zero_bytes(names);
+                return answer;
             }
+            answer
         }
         Reading::Refused(ground) => Comparison::Refused(ground),
     }

@@ -16,7 +16,7 @@ is-layout-requires c κs =
 
 returns : tie.Need-returns
 returns c =
-    compared-7 (c .before .before .before .before .before .before .before .before .args .recipe .now) (c .before .before .before .before .before .before .before .before .args .ours .now) (c .before .before .before .before .before .before .before .before .args .words .now) (c .before .before .before .before .before .before .before .before .args .text .now) (c .before .before .before .before .before .before .before .before .args .items .now) (c .before .before .before .before .before .before .before .before .args .names .now) (sym (c .before .is-layout .ensures) ∙ not-true _ (c .if1 .taken))
+    compared-7 _ _ _ _ _ _ (sym (c .before .is-layout .ensures) ∙ not-true _ (c .if1 .taken))
 
 operations-requires : tie.Need-operations-requires
 operations-requires c κs =
@@ -24,7 +24,7 @@ operations-requires c κs =
 
 returns-2 : tie.Need-returns-2
 returns-2 c =
-    compared-10 (c .before .before .before .before .before .before .before .before .before .before .before .before .args .recipe .now) (c .before .before .before .before .before .before .before .before .before .before .before .before .args .ours .now) (c .before .before .before .before .before .before .before .before .before .before .before .before .args .words .now) (c .before .before .before .before .before .before .before .before .before .before .before .before .args .text .now) (c .before .before .before .before .before .before .before .before .before .before .before .before .args .items .now) (c .before .before .before .before .before .before .before .before .before .before .before .before .args .names .now) (sym (c .before .before .before .before .before .is-layout .ensures) ∙ not-false _ (c .before .before .before .before .if1 .left)) (sym (c .before .before .operations .ensures .0) ∙ not-true _ (c .if2 .taken))
+    compared-10 _ _ _ _ _ _ (sym (c .before .before .before .before .before .is-layout .ensures) ∙ not-false _ (c .before .before .before .before .if1 .left)) (sym (c .before .before .operations .ensures .0) ∙ not-true _ (c .if2 .taken))
 
 numbers-requires : tie.Need-numbers-requires
 numbers-requires c κs =
@@ -32,7 +32,7 @@ numbers-requires c κs =
 
 returns-3 : tie.Need-returns-3
 returns-3 c =
-    compared-term (c .before .before .before .before .before .before .before .before .before .before .before .before .before .before .before .before .before .args .recipe .now) (c .before .before .before .before .before .before .before .before .before .before .before .before .before .before .before .before .before .args .ours .now) (c .before .before .before .before .before .before .before .before .before .before .before .before .before .before .before .before .before .args .words .now) (c .before .before .before .before .before .before .before .before .before .before .before .before .before .before .before .before .before .args .text .now) (c .before .before .before .before .before .before .before .before .before .before .before .before .before .before .before .before .before .args .items .now) (c .before .before .before .before .before .before .before .before .before .before .before .before .before .before .before .before .before .args .names .now) (sym (c .before .before .before .before .before .before .before .before .before .before .is-layout .ensures) ∙ not-false _ (c .before .before .before .before .before .before .before .before .before .if1 .left)) (sym (c .before .before .before .before .before .before .before .operations .ensures .0) ∙ not-false _ (c .before .before .before .before .before .if2 .left)) _ _ (c .before .before .before .numbers .ensures .0) (c .before .before .before .numbers .ensures .1) (sym (c .before .is-term .ensures) ∙ not-true _ (c .if3 .taken))
+    compared-term _ _ _ _ _ _ (sym (c .before .before .before .before .before .before .before .before .before .before .is-layout .ensures) ∙ not-false _ (c .before .before .before .before .before .before .before .before .before .if1 .left)) (sym (c .before .before .before .before .before .before .before .operations .ensures .0) ∙ not-false _ (c .before .before .before .before .before .if2 .left)) _ _ (c .before .before .before .numbers .ensures .0) (c .before .before .before .numbers .ensures .1) (sym (c .before .is-term .ensures) ∙ not-true _ (c .if3 .taken))
 
 slice-aggregate-all-named : tie.Need-slice-aggregate-all-named
 slice-aggregate-all-named c =
@@ -40,7 +40,7 @@ slice-aggregate-all-named c =
 
 returns-4 : tie.Need-returns-4
 returns-4 c =
-    compared-slots (c .before .before .before .before .before .before .before .before .before .before .before .before .before .before .before .before .before .before .before .before .args .recipe .now) (c .before .before .before .before .before .before .before .before .before .before .before .before .before .before .before .before .before .before .before .before .args .ours .now) (c .before .before .before .before .before .before .before .before .before .before .before .before .before .before .before .before .before .before .before .before .args .words .now) (c .before .before .before .before .before .before .before .before .before .before .before .before .before .before .before .before .before .before .before .before .args .text .now) (c .before .before .before .before .before .before .before .before .before .before .before .before .before .before .before .before .before .before .before .before .args .items .now) (c .before .before .before .before .before .before .before .before .before .before .before .before .before .before .before .before .before .before .before .before .args .names .now) (sym (c .before .before .before .before .before .before .before .before .before .before .before .before .before .is-layout .ensures) ∙ not-false _ (c .before .before .before .before .before .before .before .before .before .before .before .before .if1 .left)) (sym (c .before .before .before .before .before .before .before .before .before .before .operations .ensures .0) ∙ not-false _ (c .before .before .before .before .before .before .before .before .if2 .left)) _ _ (c .before .before .before .before .before .before .numbers .ensures .0) (c .before .before .before .before .before .before .numbers .ensures .1) (sym (c .before .before .before .before .is-term .ensures) ∙ not-false _ (c .before .before .before .if3 .left)) (sym (c .before .all-named .ensures) ∙ not-true _ (c .if4 .taken))
+    compared-slots _ _ _ _ _ _ (sym (c .before .before .before .before .before .before .before .before .before .before .before .before .before .is-layout .ensures) ∙ not-false _ (c .before .before .before .before .before .before .before .before .before .before .before .before .if1 .left)) (sym (c .before .before .before .before .before .before .before .before .before .before .operations .ensures .0) ∙ not-false _ (c .before .before .before .before .before .before .before .before .if2 .left)) _ _ (c .before .before .before .before .before .before .numbers .ensures .0) (c .before .before .before .before .before .before .numbers .ensures .1) (sym (c .before .before .before .before .is-term .ensures) ∙ not-false _ (c .before .before .before .if3 .left)) (sym (c .before .all-named .ensures) ∙ not-true _ (c .if4 .taken))
 
 slice-aggregate-held : tie.Need-slice-aggregate-held
 slice-aggregate-held c =
@@ -52,7 +52,7 @@ held-requires c κs =
 
 returns-5 : tie.Need-returns-5
 returns-5 c =
-    compared-text (c .before .before .before .before .before .before .before .before .before .before .before .before .before .before .before .before .before .before .before .before .before .before .before .before .before .before .before .before .args .recipe .now) (c .before .before .before .before .before .before .before .before .before .before .before .before .before .before .before .before .before .before .before .before .before .before .before .before .before .before .before .before .args .ours .now) (c .before .before .before .before .before .before .before .before .before .before .before .before .before .before .before .before .before .before .before .before .before .before .before .before .before .before .before .before .args .words .now) (c .before .before .before .before .before .before .before .before .before .before .before .before .before .before .before .before .before .before .before .before .before .before .before .before .before .before .before .before .args .text .now) (c .before .before .before .before .before .before .before .before .before .before .before .before .before .before .before .before .before .before .before .before .before .before .before .before .before .before .before .before .args .items .now) (c .before .before .before .before .before .before .before .before .before .before .before .before .before .before .before .before .before .before .before .before .before .before .before .before .before .before .before .before .args .names .now) (sym (c .before .before .before .before .before .before .before .before .before .before .before .before .before .before .before .before .before .before .before .before .before .is-layout .ensures) ∙ not-false _ (c .before .before .before .before .before .before .before .before .before .before .before .before .before .before .before .before .before .before .before .before .if1 .left)) (sym (c .before .before .before .before .before .before .before .before .before .before .before .before .before .before .before .before .before .before .operations .ensures .0) ∙ not-false _ (c .before .before .before .before .before .before .before .before .before .before .before .before .before .before .before .before .if2 .left)) _ _ (c .before .before .before .before .before .before .before .before .before .before .before .before .before .before .numbers .ensures .0) (c .before .before .before .before .before .before .before .before .before .before .before .before .before .before .numbers .ensures .1) (sym (c .before .before .before .before .before .before .before .before .before .before .before .before .is-term .ensures) ∙ not-false _ (c .before .before .before .before .before .before .before .before .before .before .before .if3 .left)) (sym (c .before .before .before .before .before .before .before .before .before .all-named .ensures) ∙ not-false _ (c .before .before .before .before .before .before .before .before .if4 .left)) _ _ _ (c .before .before .before .before .held .ensures)
+    compared-text _ _ _ _ _ _ (sym (c .before .before .before .before .before .before .before .before .before .before .before .before .before .before .before .before .before .before .before .before .before .is-layout .ensures) ∙ not-false _ (c .before .before .before .before .before .before .before .before .before .before .before .before .before .before .before .before .before .before .before .before .if1 .left)) (sym (c .before .before .before .before .before .before .before .before .before .before .before .before .before .before .before .before .before .before .operations .ensures .0) ∙ not-false _ (c .before .before .before .before .before .before .before .before .before .before .before .before .before .before .before .before .if2 .left)) _ _ (c .before .before .before .before .before .before .before .before .before .before .before .before .before .before .numbers .ensures .0) (c .before .before .before .before .before .before .before .before .before .before .before .before .before .before .numbers .ensures .1) (sym (c .before .before .before .before .before .before .before .before .before .before .before .before .is-term .ensures) ∙ not-false _ (c .before .before .before .before .before .before .before .before .before .before .before .if3 .left)) (sym (c .before .before .before .before .before .before .before .before .before .all-named .ensures) ∙ not-false _ (c .before .before .before .before .before .before .before .before .if4 .left)) _ _ _ (c .before .before .before .before .held .ensures)
 
 pub compare-spec : {M : Type 1} → statement M
 compare-spec =

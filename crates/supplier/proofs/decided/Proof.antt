@@ -2,8 +2,6 @@
 use borrow.Author.Needs.{needs}
 use Rattle.supplier.proofs.decided.Statement.{statement}
 use Rattle.supplier.proofs.decided.Tie as tie
-use mathlib.Core.Path.{subst}
-use Rattle.supplier.specs.Terms.{ExpressionRight}
 use Rattle.supplier.specs.ElementLaws.{element-outside, element-open, element-yes, element-no}
 
 slice-aggregate-expression : tie.Need-slice-aggregate-expression
@@ -12,19 +10,19 @@ slice-aggregate-expression c =
 
 returns : tie.Need-returns
 returns c =
-    element-outside (c .before .before .before .before .before .before .before .before .before .before .args .items .now) (c .before .before .before .before .before .before .before .before .before .before .args .theirs .now) (c .before .before .before .before .before .before .before .before .before .before .args .words .now) (c .before .before .before .before .before .before .before .before .before .before .args .ours .now) (c .before .before .before .before .before .before .before .before .before .before .args .operations .now) _ _ (c .before .before .before .expression .ensures .0) (c .enum-told .given .1)
+    element-outside _ _ _ _ _ _ _ (c .before .before .before .expression .ensures .0) (c .enum-told .given .1)
 
 returns-2 : tie.Need-returns-2
 returns-2 c =
-    element-open (c .before .before .before .before .before .before .before .before .before .before .args .items .now) (c .before .before .before .before .before .before .before .before .before .before .args .theirs .now) (c .before .before .before .before .before .before .before .before .before .before .args .words .now) (c .before .before .before .before .before .before .before .before .before .before .args .ours .now) (c .before .before .before .before .before .before .before .before .before .before .args .operations .now) _ _ (c .before .before .before .expression .ensures .0) (c .enum-told2 .given .1)
+    element-open _ _ _ _ _ _ _ (c .before .before .before .expression .ensures .0) (c .enum-told2 .given .1)
 
 returns-3 : tie.Need-returns-3
 returns-3 c =
-    element-yes (c .before .before .before .before .before .before .before .before .before .before .before .before .before .before .before .before .before .before .args .items .now) (c .before .before .before .before .before .before .before .before .before .before .before .before .before .before .before .before .before .before .args .theirs .now) (c .before .before .before .before .before .before .before .before .before .before .before .before .before .before .before .before .before .before .args .words .now) (c .before .before .before .before .before .before .before .before .before .before .before .before .before .before .before .before .before .before .args .ours .now) (c .before .before .before .before .before .before .before .before .before .before .before .before .before .before .before .before .before .before .args .operations .now) _ _ (c .before .before .before .before .before .before .before .before .before .before .before .expression .ensures .0) (c .before .before .before .before .before .before .before .before .enum-told3 .given .1) _ _ (c .before .n .given .0 .0) (subst (ExpressionRight (c .before .before .before .before .before .before .before .before .before .before .before .before .before .before .before .before .before .before .args .words .now) (c .before .before .before .before .before .before .before .before .before .before .before .before .before .before .before .before .before .before .args .items .now) (c .before .before .before .before .before .before .before .before .before .before .before .before .before .before .before .before .before .before .args .theirs .now) (c .before .before .before .before .before .before .before .before .before .before .before .before .before .before .before .before .before .before .args .ours .now) (c .before .before .before .before .before .before .before .before .before .before .before .before .before .before .before .before .before .before .args .operations .now) _ _ 0 1) (c .before .n .given .1) (c .before .before .before .before .before .expression2 .ensures .1 .0))
+    element-yes _ _ _ _ _ _ _ (c .before .before .before .before .before .before .before .before .before .before .before .expression .ensures .0) (c .before .before .before .before .before .before .before .before .enum-told3 .given .1) _ _ _ (c .before .before .before .before .before .expression2 .ensures .1 .0) _ (c .before .n .given .1)
 
 returns-4 : tie.Need-returns-4
 returns-4 c =
-    element-no (c .before .before .before .before .before .before .before .before .before .before .before .before .before .before .before .before .before .args .items .now) (c .before .before .before .before .before .before .before .before .before .before .before .before .before .before .before .before .before .args .theirs .now) (c .before .before .before .before .before .before .before .before .before .before .before .before .before .before .before .before .before .args .words .now) (c .before .before .before .before .before .before .before .before .before .before .before .before .before .before .before .before .before .args .ours .now) (c .before .before .before .before .before .before .before .before .before .before .before .before .before .before .before .before .before .args .operations .now) _ _ (c .before .before .before .before .before .before .before .before .before .before .expression .ensures .0) (c .before .before .before .before .before .before .before .enum-told3 .given .1) _ _ (subst (ExpressionRight (c .before .before .before .before .before .before .before .before .before .before .before .before .before .before .before .before .before .args .words .now) (c .before .before .before .before .before .before .before .before .before .before .before .before .before .before .before .before .before .args .items .now) (c .before .before .before .before .before .before .before .before .before .before .before .before .before .before .before .before .before .args .theirs .now) (c .before .before .before .before .before .before .before .before .before .before .before .before .before .before .before .before .before .args .ours .now) (c .before .before .before .before .before .before .before .before .before .before .before .before .before .before .before .before .before .args .operations .now) _ _ 0 1) (c .enum-told4 .given .1) (c .before .before .before .before .expression2 .ensures .1 .0))
+    element-no _ _ _ _ _ _ _ (c .before .before .before .before .before .before .before .before .before .before .expression .ensures .0) (c .before .before .before .before .before .before .before .enum-told3 .given .1) _ _ _ (c .before .before .before .before .expression2 .ensures .1 .0) (c .enum-told4 .given .1)
 
 pub decided-spec : {M : Type 1} → statement M
 decided-spec =

@@ -2,13 +2,12 @@
 use borrow.Author.Needs.{needs}
 use Rattle.supplier.proofs.held.Statement.{statement}
 use Rattle.supplier.proofs.held.Tie as tie
-use mathlib.Core.Path.{sym, ap, subst, _∙_}
+use mathlib.Core.Path.{sym, ap, _∙_}
 use Prim.Native.Nat.{ℕ, _*_, _≤_}
 use lib.ListN.{length, replicate}
 use lib.Seq.{length-take-le}
 use native.Mathlib.Omega.{arith}
-use Rattle.supplier.specs.Text.{ElementRight}
-use Rattle.supplier.specs.ServiceLaws.{items-within, text-held, text-few, names-slots, text-yes, text-no, text-refused, text-unread}
+use Rattle.supplier.specs.ServiceLaws.{items-within, text-held, text-few, names-slots, text-kept, text-zeroed, text-unread}
 
 read-elements-requires : tie.Need-read-elements-requires
 read-elements-requires c κs =
@@ -32,19 +31,15 @@ decided-requires c κs =
 
 returns : tie.Need-returns
 returns c =
-    text-refused _ _ _ _ _ _ (c .before .before .before .before .before .before .before .before .before .before .before .before .before .before .before .before .before .before .before .before .before .read-elements .ensures) _ _ (c .before .before .before .before .before .before .before .before .before .before .before .before .before .before .before .i .given .1) (c .before .before .before .before .before .before .before .before .before .before .before .before .before .before .before .before .before .before .before .before .before .before .before .before .before .before .before .before .before .before .args .words .now) (c .before .before .before .before .before .before .before .before .before .before .before .before .before .before .before .before .before .before .before .before .before .before .before .before .before .before .before .before .before .before .args .ours .now) (c .before .before .before .before .before .before .before .before .before .before .before .before .before .before .before .before .before .before .before .before .before .before .before .before .before .before .before .before .before .before .args .operations .now) (c .before .before .before .before .before .before .before .before .before .answer .given .0 .0) (subst (ElementRight _ _ (c .before .before .before .before .before .before .before .before .before .before .before .before .before .before .before .before .before .before .before .before .before .before .before .before .before .before .before .before .before .before .args .words .now) (c .before .before .before .before .before .before .before .before .before .before .before .before .before .before .before .before .before .before .before .before .before .before .before .before .before .before .before .before .before .before .args .ours .now) (c .before .before .before .before .before .before .before .before .before .before .before .before .before .before .before .before .before .before .before .before .before .before .before .before .before .before .before .before .before .before .args .operations .now)) (c .before .before .before .before .before .before .before .before .before .answer .given .1) (c .before .before .before .before .before .before .before .before .before .before .before .decided .ensures)) _ _ (c .before .before .before .before .before .before .zero-words .ensures ∙ ap (λ (k : ℕ). replicate k 0) (c .before .before .before .before .before .before .before .before .before .before .before .before .before .before .before .before .before .before .before .before .before .read-elements .kept .1 .0)) (c .before .before .zero-bytes .ensures ∙ ap (λ (k : ℕ). replicate k 0) (c .before .before .before .before .before .before .before .before .before .before .before .before .before .before .before .before .before .before .before .before .before .read-elements .kept .1 .1 .0))
+    text-zeroed _ _ _ _ _ _ (c .before .before .before .before .before .before .before .before .before .before .before .before .before .before .before .before .before .before .before .before .read-elements .ensures) _ _ (c .before .before .before .before .before .before .before .before .before .before .before .before .before .before .i .given .1) _ _ (c .before .before .before .before .before .before .before .before .before .before .before .before .before .before .before .before .before .before .before .before .before .before .before .before .before .before .before .before .before .args .operations .now) _ (c .before .before .before .before .before .before .before .before .before .before .decided .ensures) (sym (c .before .before .before .before .before .before .before .before .before .is-refused .ensures) ∙ c .before .before .before .before .before .before .before .before .if1 .taken) _ _ (c .before .before .before .before .before .before .zero-words .ensures ∙ ap (λ (k : ℕ). replicate k 0) (c .before .before .before .before .before .before .before .before .before .before .before .before .before .before .before .before .before .before .before .before .read-elements .kept .1 .0)) (c .before .before .zero-bytes .ensures ∙ ap (λ (k : ℕ). replicate k 0) (c .before .before .before .before .before .before .before .before .before .before .before .before .before .before .before .before .before .before .before .before .read-elements .kept .1 .1 .0))
 
 returns-2 : tie.Need-returns-2
 returns-2 c =
-    text-yes _ _ _ _ _ _ (c .before .before .before .before .before .before .before .before .before .before .before .before .read-elements .ensures) _ _ (c .before .before .before .before .before .before .i .given .1) (c .before .before .before .before .before .before .before .before .before .before .before .before .before .before .before .before .before .before .before .before .before .args .words .now) (c .before .before .before .before .before .before .before .before .before .before .before .before .before .before .before .before .before .before .before .before .before .args .ours .now) (c .before .before .before .before .before .before .before .before .before .before .before .before .before .before .before .before .before .before .before .before .before .args .operations .now) (subst (ElementRight _ _ (c .before .before .before .before .before .before .before .before .before .before .before .before .before .before .before .before .before .before .before .before .before .args .words .now) (c .before .before .before .before .before .before .before .before .before .before .before .before .before .before .before .before .before .before .before .before .before .args .ours .now) (c .before .before .before .before .before .before .before .before .before .before .before .before .before .before .before .before .before .before .before .before .before .args .operations .now)) (c .enum-told .given .1) (c .before .before .decided .ensures))
+    text-kept _ _ _ _ _ _ (c .before .before .before .before .before .before .before .before .before .before .before .before .read-elements .ensures) _ _ (c .before .before .before .before .before .before .i .given .1) _ _ (c .before .before .before .before .before .before .before .before .before .before .before .before .before .before .before .before .before .before .before .before .before .args .operations .now) _ (c .before .before .decided .ensures) (sym (c .before .is-refused .ensures) ∙ c .if1 .left)
 
 returns-3 : tie.Need-returns-3
 returns-3 c =
-    text-no _ _ _ _ _ _ (c .before .before .before .before .before .before .before .before .before .before .before .before .read-elements .ensures) _ _ (c .before .before .before .before .before .before .i .given .1) (c .before .before .before .before .before .before .before .before .before .before .before .before .before .before .before .before .before .before .before .before .before .args .words .now) (c .before .before .before .before .before .before .before .before .before .before .before .before .before .before .before .before .before .before .before .before .before .args .ours .now) (c .before .before .before .before .before .before .before .before .before .before .before .before .before .before .before .before .before .before .before .before .before .args .operations .now) (subst (ElementRight _ _ (c .before .before .before .before .before .before .before .before .before .before .before .before .before .before .before .before .before .before .before .before .before .args .words .now) (c .before .before .before .before .before .before .before .before .before .before .before .before .before .before .before .before .before .before .before .before .before .args .ours .now) (c .before .before .before .before .before .before .before .before .before .before .before .before .before .before .before .before .before .before .before .before .before .args .operations .now)) (c .enum-told2 .given .1) (c .before .before .decided .ensures))
-
-returns-4 : tie.Need-returns-4
-returns-4 c =
-    text-unread _ _ _ _ _ _ (c .before .before .before .before .before .before .before .read-elements .ensures) _ (c .before .ground .given .1) (c .before .before .before .before .before .before .before .before .before .before .before .before .before .before .before .before .args .words .now) (c .before .before .before .before .before .before .before .before .before .before .before .before .before .before .before .before .args .ours .now) (c .before .before .before .before .before .before .before .before .before .before .before .before .before .before .before .before .args .operations .now)
+    text-unread _ _ _ _ _ _ (c .before .before .before .before .before .before .before .read-elements .ensures) _ (c .before .ground .given .1) _ _ (c .before .before .before .before .before .before .before .before .before .before .before .before .before .before .before .before .args .operations .now)
 
 pub held-spec : {M : Type 1} → statement M
 held-spec =
@@ -56,21 +51,16 @@ held-spec =
     slice-reshare-prefix-decided
     slice-aggregate-decided
     decided-requires
-    (λ c. search needs)  -- enum-known-answer
+    (λ c κs. search needs)  -- is-refused-requires
     (λ c κs. search needs)  -- zero-words-requires
     (λ c κs. search needs)  -- zero-bytes-requires
-    (λ c. search needs)  -- enum-told
-    (λ c. search needs)  -- enum-told-2
-    (λ c. search needs)  -- enum-known-ground
     (λ c. search needs)  -- same-length
     (λ c. search needs)  -- same-length-2
     returns
+    (λ c. search needs)  -- enum-known-ground
     (λ c. search needs)  -- same-length-3
     (λ c. search needs)  -- same-length-4
     returns-2
     (λ c. search needs)  -- same-length-5
     (λ c. search needs)  -- same-length-6
-    returns-3
-    (λ c. search needs)  -- same-length-7
-    (λ c. search needs)  -- same-length-8
-    returns-4)
+    returns-3)
