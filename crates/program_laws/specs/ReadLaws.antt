@@ -1,27 +1,20 @@
 -- The recipe behind an answer of reading, and the words and bytes that begin its tables.
-use mathlib.Core.Path.{_≡_, refl, sym, ap, ap₂, subst, _∙_}
+use mathlib.Core.Path.{_≡_, sym, ap, ap₂, subst, _∙_}
 use mathlib.Core.List.{List}
 use Prim.Native.Nat.{ℕ, _*_, _-_, _≤_}
 use native.Mathlib.Omega.{arith}
 use lib.ListN.{length, take, replicate}
 use Rattle.words.specs.Limits.{slotSize}
 use Rattle.words.specs.Tables.{filled}
-use Rattle.datum.specs.Datum.{Data, noneD, moreD, dataItems}
+use Rattle.datum.specs.Datum.{dataItems}
 use Rattle.reading.specs.Elements.{Answer, got, refusedFor}
-use Rattle.reading.specs.Read.{Recipe, read, Numbers, readNumbers, itemWords, nameBytes, itemsAfter, namesAfter}
-use Rattle.reading.specs.Laws.Grounds.{ground-some}
+use Rattle.reading.specs.Read.{Recipe, read, readNumbers, itemWords, nameBytes, itemsAfter, namesAfter}
 use Rattle.reading_layout.specs.Items.{data-length}
-use Rattle.reading_layout.specs.Answers.{read-slots}
+use Rattle.reading_layout.specs.Answers.{numbers-got, numbers-refused, read-slots}
 use Rattle.reader.specs.declared.Reading.{Reading}
 use Rattle.reader.specs.declared.Reading.the-variants.{Read, Refused}
 use Rattle.reader.specs.Served.{numbersOf, Served}
 use Rattle.program_laws.specs.Front.{front}
-
--- a list has an item
-data-some : (ds : Data) → 1 ≤ dataItems ds
-unfolding dataItems
-data-some noneD = omega arith
-data-some (moreD d ds) = omega arith
 
 module _ (text items items′ names names′ : List ℕ) (r : Reading) (s : Served text items items′ names names′ r) where
   abbrev read′ : Answer Recipe
@@ -30,22 +23,14 @@ module _ (text items items′ names names′ : List ℕ) (r : Reading) (s : Serv
   told-of : (q : Reading) → r ≡ q → numbersOf q ≡ readNumbers read′
   told-of q h = subst (λ (z : Reading). numbersOf z ≡ readNumbers read′) h (s .numbers)
 
-  -- the recipe behind an answer, by its numbers
+  -- the recipe behind an answer
   pub recipe-read : (i n : ℕ) → r ≡ Read i n → (x : Recipe) × (read′ ≡ got x) × (i ≡ dataItems (x .elements)) × (n ≡ length (x .names))
-  unfolding numbersOf readNumbers
-  recipe-read i n h = go read′ refl (told-of (Read i n) h)
-    where
-      go : (a : Answer Recipe) → read′ ≡ a → numbersOf (Read i n) ≡ readNumbers a → (x : Recipe) × (read′ ≡ got x) × (i ≡ dataItems (x .elements)) × (n ≡ length (x .names))
-      go (got x) e k = (x, e, ap (λ (m : Numbers). m .items) k, ap (λ (m : Numbers). m .names) k)
-      go (refusedFor g) e k = absurd (omega (arith, ground-some text (length items) (length names) g e, ap (λ (m : Numbers). m .ground) k))
+  unfolding read numbersOf
+  recipe-read i n h = numbers-got 2 text (length items) (length names) i n (told-of (Read i n) h)
 
   pub refused-read : (g : ℕ) → r ≡ Refused g → read′ ≡ refusedFor g
-  unfolding numbersOf readNumbers
-  refused-read g h = go read′ refl (told-of (Refused g) h)
-    where
-      go : (a : Answer Recipe) → read′ ≡ a → numbersOf (Refused g) ≡ readNumbers a → read′ ≡ refusedFor g
-      go (got x) e k = absurd (omega (arith, data-some (x .elements), ap (λ (m : Numbers). m .items) k))
-      go (refusedFor j) e k = e ∙ ap refusedFor (sym (ap (λ (m : Numbers). m .ground) k))
+  unfolding read numbersOf
+  refused-read g h = numbers-refused 2 text (length items) (length names) g (told-of (Refused g) h)
 
   module _ (i n : ℕ) (h : r ≡ Read i n) where
     abbrev recipe : Recipe

@@ -1,5 +1,5 @@
 -- The bounds of an answer: names of at most 63 bytes, so that their slots are 64 bytes each, and grounds of 1 to 6.
-use mathlib.Core.Path.{_≡_, refl, subst}
+use mathlib.Core.Path.{_≡_, refl, sym, ap, subst, _∙_}
 use mathlib.Core.Bool.{Bool, true, false, _||_, not}
 use mathlib.Core.List.{List, [], _∷_, map}
 use Prim.Native.Nat.{ℕ, _*_, _≤_}
@@ -11,14 +11,15 @@ use Rattle.words.specs.Limits.{itemWordsLeast, nameBytesLeast, textBytesMost}
 use Rattle.words.specs.Lists.{within, allOf, equal}
 use Rattle.words.specs.TestLaws.{and-left, within-most}
 use Rattle.words.specs.ListLaws.{either, all-append}
-use Rattle.datum.specs.Datum.{Datum, constantD}
+use Rattle.datum.specs.Datum.{Datum, constantD, dataItems}
 use Rattle.datum.specs.NameTableLaws.{isShort, length-slots}
 use Rattle.reading.specs.Token.{Token, open′, close′, bad, flag, run, tokens}
 use Rattle.reading.specs.Meaning.{Meaning, begins, ends, constant, name, refused, isNegative, unsigned, isNumeral, fraction, isFraction, signed, numeralOf, isName, nameOf, meaningOf}
 use Rattle.reading.specs.Numbering.{baseNames, numberOf, withName}
 use Rattle.reading.specs.Elements.{Answer, got, refusedFor, then, Reading, start, isComplete, counted, put, named, opened, closed, isWithin, begin, takes, takesAll}
-use Rattle.reading.specs.Read.{Recipe, finished, recipeOver, elementsOf, readElements, read, nameBytes}
+use Rattle.reading.specs.Read.{Recipe, finished, recipeOver, elementsOf, readElements, read, Numbers, readNumbers, nameBytes}
 use Rattle.reading.specs.Laws.Grounds.{ground-high}
+use Rattle.reading_layout.specs.Items.{data-positive}
 
 -- a name or ground of a meaning, the names or the ground of an answer
 abbrev Short : Meaning → Type 0
@@ -146,8 +147,29 @@ elements-some wanted text items names =
     later (got r) e = omega arith
     later (refusedFor g) e = omega (arith, ground-high wanted text g e)
 
-pub ground-some : (wanted : ℕ) (text : List ℕ) (items names : ℕ) (g : ℕ) → readElements wanted text items names ≡ refusedFor g → 1 ≤ g
+ground-some : (wanted : ℕ) (text : List ℕ) (items names : ℕ) (g : ℕ) → readElements wanted text items names ≡ refusedFor g → 1 ≤ g
 ground-some wanted text items names g e = subst SomeAnswer e (elements-some wanted text items names)
+
+-- the recipe behind an answer, and the ground, by the answer's numbers
+module _ (wanted : ℕ) (text : List ℕ) (items names : ℕ) where
+  abbrev answer : Answer Recipe
+  answer = readElements wanted text items names
+
+  pub numbers-got : (i n : ℕ) → record { ground = 0; items = i; names = n } ≡ readNumbers answer → (x : Recipe) × (answer ≡ got x) × (i ≡ dataItems (x .elements)) × (n ≡ length (x .names))
+  unfolding readNumbers
+  numbers-got i n k = go answer refl k
+    where
+      go : (a : Answer Recipe) → answer ≡ a → record { ground = 0; items = i; names = n } ≡ readNumbers a → (x : Recipe) × (answer ≡ got x) × (i ≡ dataItems (x .elements)) × (n ≡ length (x .names))
+      go (got x) e k = (x, e, ap (λ (m : Numbers). m .items) k, ap (λ (m : Numbers). m .names) k)
+      go (refusedFor g) e k = absurd (omega (arith, ground-some wanted text items names g e, ap (λ (m : Numbers). m .ground) k))
+
+  pub numbers-refused : (g : ℕ) → record { ground = g; items = 0; names = 0 } ≡ readNumbers answer → answer ≡ refusedFor g
+  unfolding readNumbers
+  numbers-refused g k = go answer refl k
+    where
+      go : (a : Answer Recipe) → answer ≡ a → record { ground = g; items = 0; names = 0 } ≡ readNumbers a → answer ≡ refusedFor g
+      go (got x) e k = absurd (omega (arith, data-positive (x .elements), ap (λ (m : Numbers). m .items) k))
+      go (refusedFor j) e k = e ∙ ap refusedFor (sym (ap (λ (m : Numbers). m .ground) k))
 
 read-short : (text : List ℕ) (items names : ℕ) → ShortRecipe (read text items names)
 unfolding read

@@ -17,10 +17,9 @@ use Rattle.words.specs.TestLaws.{or-left, or-right, or-none, within-is, outside
 use Rattle.datum.specs.Datum.{dataItems}
 use Rattle.datum.specs.NameTable.{nameAt, hasName}
 use Rattle.reading.specs.Elements.{Answer, got, refusedFor}
-use Rattle.reading.specs.Read as Read
-use Rattle.reading.specs.Read.{Recipe, readElements, readNumbers, itemWords, nameBytes, cleared, itemsAfter, namesAfter}
-use Rattle.reading_layout.specs.Items.{data-length, data-positive}
-use Rattle.reading_layout.specs.Answers.{elements-ground, ground-some}
+use Rattle.reading.specs.Read.{Recipe, readElements, itemWords, nameBytes, cleared, itemsAfter, namesAfter}
+use Rattle.reading_layout.specs.Items.{data-length}
+use Rattle.reading_layout.specs.Answers.{elements-ground, numbers-got, numbers-refused}
 use Rattle.reader.specs.declared.Reading.{Reading}
 use Rattle.reader.specs.declared.Reading.the-variants as RV
 use Rattle.reader.specs.Served as R
@@ -51,21 +50,13 @@ module _ (wanted : ℕ) (text words words′ bytes bytes′ : List ℕ) where
   abbrev answerOf : Answer Recipe
   answerOf = readElements wanted text (length words) (length bytes)
 
-  answer-got : (i n : ℕ) → R.ServedElements wanted text words words′ bytes bytes′ (RV.Read i n) → (x : Recipe) × (answerOf ≡ got x) × (i ≡ dataItems (x .elements))
-  unfolding R.numbersOf readNumbers
-  answer-got i n s = go answerOf refl (s .numbers)
-    where
-      go : (a : Answer Recipe) → answerOf ≡ a → R.numbersOf (RV.Read i n) ≡ readNumbers a → (x : Recipe) × (answerOf ≡ got x) × (i ≡ dataItems (x .elements))
-      go (got x) e k = (x, e, ap (λ (m : Read.Numbers). m .items) k)
-      go (refusedFor g) e k = absurd (omega (arith, ground-some wanted text (length words) (length bytes) g e, ap (λ (m : Read.Numbers). m .ground) k))
+  answer-got : (i n : ℕ) → R.ServedElements wanted text words words′ bytes bytes′ (RV.Read i n) → (x : Recipe) × (answerOf ≡ got x) × (i ≡ dataItems (x .elements)) × (n ≡ length (x .names))
+  unfolding R.numbersOf
+  answer-got i n s = numbers-got wanted text (length words) (length bytes) i n (s .numbers)
 
   answer-refused : (g : ℕ) → R.ServedElements wanted text words words′ bytes bytes′ (RV.Refused g) → answerOf ≡ refusedFor g
-  unfolding R.numbersOf readNumbers
-  answer-refused g s = go answerOf refl (s .numbers)
-    where
-      go : (a : Answer Recipe) → answerOf ≡ a → R.numbersOf (RV.Refused g) ≡ readNumbers a → answerOf ≡ refusedFor g
-      go (got x) e k = absurd (omega (arith, data-positive (x .elements), ap (λ (m : Read.Numbers). m .items) k))
-      go (refusedFor j) e k = e ∙ ap refusedFor (sym (ap (λ (m : Read.Numbers). m .ground) k))
+  unfolding R.numbersOf
+  answer-refused g s = numbers-refused wanted text (length words) (length bytes) g (s .numbers)
 
 -- ---- grounds 21 and 22 zero the tables
 
