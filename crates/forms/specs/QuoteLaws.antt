@@ -2,18 +2,17 @@
 use mathlib.Core.Path.{_≡_, refl, sym, ap, ap₂, subst, _∙_}
 use mathlib.Core.Bool.{Bool, true, false, _&&_}
 use mathlib.Core.List.{List, [], _∷_, _++_, append-assoc, append-nil}
-use Prim.Native.Nat.{ℕ, zero, suc, _+_, _*_, _≤_, _<_}
+use Prim.Native.Nat.{ℕ, zero, suc, _+_, _≤_, _<_}
 use native.Mathlib.Omega.{arith}
 use native.Mathlib.Numerals.{add-one}
 use lib.Dec.{eqb, ltb}
 use lib.ListN.{length, getD, take, drop, set, length-append, take-append-drop}
 use lib.Seq.{take-at, drop-at, drop-drop, length-take-le, sets-eq}
-use Rattle.words.specs.Limits.{coreRate}
 use Rattle.datum.specs.Constant.{Constant, decimalKind, constantWords}
-use Rattle.datum.specs.ConstantLaws.{made, kind-most, words-decimal, words-other, words-few}
+use Rattle.datum.specs.ConstantLaws.{made, kind-most, words-decimal, words-other}
 use Rattle.datum.specs.Datum as D
 use Rattle.recipe.specs.Name.{Name}
-use Rattle.recipe.specs.Tree.{Tree, empty, constant, name, pair, size, isList, elements, strip, stripTail, onNames}
+use Rattle.recipe.specs.Tree.{Tree, empty, constant, name, pair, isList, elements, strip, stripTail, onNames}
 use Rattle.recipe.specs.Tidy.{tidyConstant, tidyName, tidyPair, onNames-isList}
 use Rattle.core_term.specs.Node.{nodeWords, listCode}
 use Rattle.core_term.specs.Words.{datumWords, dataWords}
@@ -232,20 +231,3 @@ module _ (work : List ℕ) (list at : ℕ) (d : List ℕ) (rest n : ℕ) (e : Li
           good = rest-good work rest kind kind-is a-list first next first-is e′ (walked .good);
           same = l ∙ walked .same;
         }
-
--- ---- room: three words an item
-
-mutual
-  unfolding strip datumWords nodeWords size
-
-  pub quoted-size : (t : Tree) → length (datumWords (strip t)) ≤ coreRate * size t
-  quoted-size empty = omega arith
-  quoted-size (constant a) = omega (arith, words-few a .1)
-  quoted-size (name x) = omega arith
-  quoted-size (pair h t) = simp length-append (omega (arith, quoted-size h, elements-size t))
-
-  elements-size : (t : Tree) → length (dataWords (stripTail t)) + 2 ≤ coreRate * size t
-  elements-size empty = omega arith
-  elements-size (constant a) = omega arith
-  elements-size (name x) = omega arith
-  elements-size (pair h t) = simp length-append (omega (arith, quoted-size h, elements-size t))

@@ -196,8 +196,8 @@ module _ (cs : List ℕ) where
     with-places t whole m v l w f =
         w ∙ ap (λ j. signed t j n) f ∙ signed-most n t (valueFrom whole (take n cs)) ∙ rw (places-few, l, take-length cs, eq-eqb (length cs) (length cs) refl)
 
-pub no-places : (t : Bool) (whole : ℕ) (cs : List ℕ) → arePlaces cs ≡ false → refused 3 ≡ behindDot t whole cs
-no-places t whole cs h = rw h
+pub places-malformed : (t : Bool) (whole : ℕ) (cs : List ℕ) → arePlaces cs ≡ false → refused 3 ≡ behindDot t whole cs
+places-malformed t whole cs h = rw h
 
 -- ---- a run past its minus, by the digits that it begins with
 
@@ -207,16 +207,16 @@ module _ (cs : List ℕ) (r : Digits) (d : DigitsAfter 0 cs r) where
   dot-within h = omega (arith, h, d .count, leading-within isDigit cs)
 
   -- its value is taken from the digits before the dot to those behind it
-  size-is : size cs ≡ valueFrom (valueFrom 0 (take (r .count) cs)) (places cs)
+  size-split : size cs ≡ valueFrom (valueFrom 0 (take (r .count) cs)) (places cs)
   unfolding size whole
-  size-is = rw (d .count) (value-append 0 (take (leading isDigit cs) cs) (places cs))
+  size-split = rw (d .count) (value-append 0 (take (leading isDigit cs) cs) (places cs))
 
   pub no-dot : (t : Bool) (m : Meaning) → r .count ≡ length cs → m ≡ signed t (r .value) 0 → m ≡ numeralOf t cs
   unfolding fraction isFraction places valueFrom
   no-dot t m h w =
       let f : drop (leading isDigit cs) cs ≡ [] = ap (λ i. drop i cs) (sym (d .count) ∙ h) ∙ drop-length cs in
       w ∙ ap (λ i. signed t i 0) (d .value) ∙ signed-most 0 t (valueFrom 0 (take (r .count) cs))
-      ∙ sym (numeral-is t cs (rw f) ∙ rw (size-is, f))
+      ∙ sym (numeral-is t cs (rw f) ∙ rw (size-split, f))
 
   module _ (h : r .count < length cs) (t : Bool) where
     behind : fraction cs ≡ getD cs (r .count) 0 ∷ rest (r .count + 1) cs
@@ -233,6 +233,6 @@ module _ (cs : List ℕ) (r : Digits) (d : DigitsAfter 0 cs r) where
         let ps = rest (r .count + 1) cs in
         let whole = valueFrom 0 (take (r .count) cs) in
         either (arePlaces ps)
-        (λ a. let e : numeralOf t cs ≡ signed t (valueFrom whole ps) (length ps) = numeral-is t cs (rw (behind, b, a)) ∙ rw (size-is, behind) in
+        (λ a. let e : numeralOf t cs ≡ signed t (valueFrom whole ps) (length ps) = numeral-is t cs (rw (behind, b, a)) ∙ rw (size-split, behind) in
         rw (a, d .value) (signed-after (length ps) t whole ps ∙ sym e))
         (λ a. rw a (sym (numeral-malformed t cs (rw (behind, a, and-false)))))

@@ -81,13 +81,30 @@ uses-onNames f keeps q (constant a) = refl
 uses-onNames f keeps q (name x) = ap (λ i. cond (eqb i q) 1 0) (keeps x)
 uses-onNames f keeps q (pair h t) = ap₂ _+_ (uses-onNames f keeps q h) (uses-onNames f keeps q t)
 
-pub bindName-item : (i : Name) (b : Binding) (x : Name) → bindName i b x .item ≡ x .item
-unfolding bindName giveBinding
-bindName-item i b x = go (same i x)
+-- binding keeps what does not depend on the binding
+bindName-keeps : {A : Type 0} (f : Name → A) → ((b : Binding) (x : Name) → f (giveBinding b x) ≡ f x) → (i : Name) (b : Binding) (x : Name) → f (bindName i b x) ≡ f x
+unfolding bindName
+bindName-keeps f e i b x = go (same i x)
   where
-    go : (c : Bool) → cond c (giveBinding b x) x .item ≡ x .item
-    go true = refl
+    go : (c : Bool) → f (cond c (giveBinding b x) x) ≡ f x
+    go true = e b x
     go false = refl
+
+pub bindName-number : (i : Name) (b : Binding) (x : Name) → bindName i b x .number ≡ x .number
+unfolding giveBinding
+bindName-number = bindName-keeps (λ x. x .number) (λ b x. refl)
+
+pub bindName-item : (i : Name) (b : Binding) (x : Name) → bindName i b x .item ≡ x .item
+unfolding giveBinding
+bindName-item = bindName-keeps (λ x. x .item) (λ b x. refl)
+
+pub bindName-produced : (i : Name) (b : Binding) (x : Name) → bindName i b x .produced ≡ x .produced
+unfolding giveBinding
+bindName-produced = bindName-keeps (λ x. x .produced) (λ b x. refl)
+
+pub bindName-marks : (i : Name) (b : Binding) (x : Name) → bindName i b x .marks ≡ x .marks
+unfolding giveBinding
+bindName-marks = bindName-keeps (λ x. x .marks) (λ b x. refl)
 
 pub uses-bindAll : (q : ℕ) (f : ℕ → Binding) (k : ℕ) (xs : List Name) (t : Tree) → uses q (bindAll f k xs t) ≡ uses q t
 unfolding bindAll bind

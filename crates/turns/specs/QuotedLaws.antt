@@ -13,9 +13,10 @@ use Rattle.core_term.specs.Term.{datumC, onFormals}
 use Rattle.core_term.specs.Words.{datumWords, encode}
 use Rattle.arena.specs.Arena.{treeAt}
 use Rattle.arena.specs.Lists.{Means}
+use Rattle.expansion.specs.Bounds.Budget.{datum-words}
 use Rattle.forms.specs.Quotes as Q
 use Rattle.forms.specs.Quotes.{quotedAt, Quotable}
-use Rattle.forms.specs.QuoteLaws.{quoted-any, quoted-size}
+use Rattle.forms.specs.QuoteLaws.{quoted-any}
 use Rattle.turns.specs.declared.answers.Reached.{Reached}
 use Rattle.turns.specs.declared.answers.Ended.{Ended}
 use Rattle.turns.specs.declared.answers.Ended.the-variants.{Done}
@@ -36,7 +37,7 @@ module _ (work core : List ℕ) (node : ℕ) (r : Reached) where
     words-most w =
         let e : datumWords (strip (treeAt work datum w)) ≡ quotedAt work datum = quoted-any work datum w in
         let s : size (treeAt work datum w) ≤ size (treeAt work node w) = rw (datum-is .is w) (element-size 1 (treeAt work node w)) in
-        omega (arith, ap length e, quoted-size (treeAt work datum w))
+        omega (arith, ap length e, datum-words (treeAt work datum w))
 
     pub quote-room : QuoteRoom work core node r → (r .at + length (quotedAt work datum) ≤ length core) × Quotable (treeAt work datum 0)
     quote-room room = (omega (arith, room .fits, words-most 0), rw (datum-is .is 0) (tidy-element 1 (room .proper)))

@@ -70,7 +70,7 @@ macros-size limit f k xs t h = omega (arith, form-size f k xs t (and-parts (isLi
 mutual
   unfolding datumWords nodeWords strip size
 
-  datum-words : (t : Tree) → length (datumWords (strip t)) ≤ coreRate * size t
+  pub datum-words : (t : Tree) → length (datumWords (strip t)) ≤ coreRate * size t
   datum-words empty = omega arith
   datum-words (constant a) = omega (arith, words-few a .1)
   datum-words (name x) = omega arith

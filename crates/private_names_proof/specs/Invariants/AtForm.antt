@@ -16,7 +16,7 @@ use Rattle.datum.specs.Constant.{Constant}
 use Rattle.recipe.specs.Name.{Binding, macro, Name, bindName}
 use Rattle.recipe.specs.Tree.{Tree, empty, constant, name, pair, names, onName, isName, elements, element, onNames, bind, bindAll}
 use Rattle.recipe.specs.TreeLaws.{onNames-element}
-use Rattle.recipe.specs.TreeNames.{TreeAll, all-empty, all-constant, all-name, all-pair, treeAll-map, treeAll-both, treeAll-element, uses, uses-element, uses-elements, bindName-item}
+use Rattle.recipe.specs.TreeNames.{TreeAll, all-empty, all-constant, all-name, all-pair, treeAll-map, treeAll-both, treeAll-element, uses, uses-element, uses-elements, bindName-number, bindName-item, bindName-marks}
 use Rattle.recipe.specs.Tidy.{Tidy, tidyEmpty, tidyConstant, tidyName, tidyPair, tidy-element, tidy-bindAll}
 use Rattle.expansion.specs.Rules.{Template, Rule, asElement, chosenCount, ruleList, rulePlace, templatePlace, ruleTemplate, variableFrom, templateOf, ruleOf, rulesOf}
 use Rattle.expansion.specs.Forms.{keywords, rulesForms, rulesFormOf}
@@ -25,10 +25,9 @@ use Rattle.expansion.specs.TidyRules.{rulesOf-tidy}
 use Rattle.simulation.specs.Relations.{OptionRel, nones, somes}
 use Rattle.simulation.specs.Shapes.{TreeOf, empties, constants, names₂, pairs, TemplateOf, insertTs, pairTs, ellipsisTs}
 use Rattle.simulation.specs.RulesKept.{templateOf-rel}
-use Rattle.simulation.specs.Form.Scopes.{bindName-number}
 use Rattle.private_names_proof.specs.Renamed.OldItems.{isOld, old-uses, old-number, old-each}
 use Rattle.private_names_proof.specs.Renamed.{templateIn, treeAll-template}
-use Rattle.private_names_proof.specs.Invariants.Kinds.{Made, Good, good-fewer, bindName-marks}
+use Rattle.private_names_proof.specs.Invariants.Kinds.{Made, Good, good-fewer}
 use Rattle.private_names_proof.specs.Invariants.Kept.{Inserts, here, in-head, in-tail, in-element, in-rest, tidy-inserts, GoodRule}
 
 -- ---- reading rules, template by template

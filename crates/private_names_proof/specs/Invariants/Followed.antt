@@ -13,14 +13,14 @@ use Rattle.words.specs.TestLaws.{and-parts, and-both}
 use Rattle.words.specs.Each.{Each, each-weaken, true-each}
 use Rattle.recipe.specs.Name.{Binding, Name, bindingKey, same, markName, produceName, giveBinding, bindName}
 use Rattle.recipe.specs.Tree.{Tree}
-use Rattle.recipe.specs.TreeNames.{bindName-item}
+use Rattle.recipe.specs.TreeNames.{bindName-item, bindName-produced}
 use Rattle.recipe.specs.Tidy.{tidy-names}
 use Rattle.recipe.specs.TableTidy.{IsConstant}
 use Rattle.expansion.specs.Computation.{State}
 use Rattle.private_names.specs.Statement.{isCopy}
 use Rattle.simulation.specs.Names.Sameness.{same→Same}
 use Rattle.private_names_proof.specs.Invariants.Tests.{areFresh, haveOneBinding, areApart}
-use Rattle.private_names_proof.specs.Invariants.Kinds.{bindName-produced, Carried}
+use Rattle.private_names_proof.specs.Invariants.Kinds.{Carried}
 use Rattle.private_names_proof.specs.Invariants.Kept.{Follows}
 use Rattle.private_names_proof.specs.Invariants.AtForm.{tidy-each, Copied, InPlace}
 

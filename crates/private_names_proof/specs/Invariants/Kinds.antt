@@ -1,17 +1,16 @@
 -- Sets of names at hand in one run, and what is kept of them: every mark is that of a step made, and number and marks determine F,
 -- whatever F of a name is carried along by marks, results and bindings.
 use mathlib.Core.Path.{_≡_, refl, ap, sym, _∙_, subst}
-use mathlib.Core.Bool.{Bool, true, false, cond}
 use mathlib.Core.List.{List, [], _∷_}
 use Prim.Native.Nat.{ℕ, suc, _≤_}
 use native.Mathlib.Omega.{arith}
 use Rattle.words.specs.Each.{Each, noneOf, also, each-weaken}
 use Rattle.datum.specs.Constant.{Constant}
-use Rattle.recipe.specs.Name.{Binding, Name, same, markName, produceName, giveBinding, bindName}
+use Rattle.recipe.specs.Name.{Binding, Name, markName, produceName, bindName}
 use Rattle.recipe.specs.Tree.{Tree, bind, bindAll}
+use Rattle.recipe.specs.TreeNames.{bindName-number, bindName-marks}
 use Rattle.recipe.specs.Tidy.{Tidy, tidy-onNames}
 use Rattle.simulation.specs.Steps.{Older, toggle-new, toggle-twice}
-use Rattle.simulation.specs.Form.Scopes.{bindName-number}
 
 -- ---- marks
 
@@ -38,22 +37,6 @@ inserted-marks k x f = toggle-new (suc k) (x .marks) (fresh-older k (x .marks) f
 pub used-marks : (k : ℕ) (x : Name) → Fresh k x → produceName (markName (suc k) (markName (suc k) x)) .marks ≡ x .marks
 unfolding produceName markName
 used-marks k x f = toggle-twice (suc k) (x .marks) (fresh-older k (x .marks) f)
-
-pub bindName-marks : (i : Name) (b : Binding) (x : Name) → bindName i b x .marks ≡ x .marks
-unfolding bindName giveBinding
-bindName-marks i b x = go (same i x)
-  where
-    go : (c : Bool) → cond c (giveBinding b x) x .marks ≡ x .marks
-    go true = refl
-    go false = refl
-
-pub bindName-produced : (i : Name) (b : Binding) (x : Name) → bindName i b x .produced ≡ x .produced
-unfolding bindName giveBinding
-bindName-produced i b x = go (same i x)
-  where
-    go : (c : Bool) → cond c (giveBinding b x) x .produced ≡ x .produced
-    go true = refl
-    go false = refl
 
 -- ---- a form binds a name
 

@@ -9,16 +9,14 @@ use Rattle.words.specs.TestLaws.{any-append}
 use Rattle.recipe.specs.Name.{Binding, Name, bindName}
 use Rattle.recipe.specs.Tree.{Tree, empty, constant, name, pair, names, elements, element, onNames, bind, bindAll}
 use Rattle.recipe.specs.TreeLaws.{onNames-element}
-use Rattle.recipe.specs.TreeNames.{TreeAll, all-pair, treeAll-both, treeAll-element, uses, uses-element, uses-elements, uses-bindAll, bindName-item}
+use Rattle.recipe.specs.TreeNames.{TreeAll, all-pair, treeAll-both, treeAll-element, uses, uses-element, uses-elements, uses-bindAll, bindName-number, bindName-item, bindName-produced, bindName-marks}
 use Rattle.recipe.specs.Tidy.{Tidy, tidyPair, tidy-element, tidy-bindAll}
 use Rattle.recipe.specs.TableTidy.{IsConstant}
 use Rattle.expansion.specs.Rules.{rulePlace}
 use Rattle.expansion.specs.Forms.{rulesFormOf}
-use Rattle.simulation.specs.Form.Scopes.{bindName-number}
 use Rattle.private_names_proof.specs.Paths.{sub, uses-sub, Headed, headed-uses, headed-element, headed-bindAll}
 use Rattle.private_names_proof.specs.Renamed.OldItems.{isOld, old-uses}
 use Rattle.private_names_proof.specs.Renamed.{templateIn}
-use Rattle.private_names_proof.specs.Invariants.Kinds.{bindName-marks, bindName-produced}
 use Rattle.private_names_proof.specs.Invariants.AtForm.{treeAll-onNames, tidy-each, templateIn-onNames, templateIn-uses, unused-all, Public, InPlace, privateIn}
 
 -- ---- the private items are carried along

@@ -10,7 +10,7 @@ use Rattle.words.specs.Each.{also}
 use Rattle.words.specs.TestLaws.{and-left, and-right}
 use Rattle.recipe.specs.Name.{Binding, Name, same, distinct, isEllipsis, isWildcard, bindName}
 use Rattle.recipe.specs.Tree.{Tree, onNames, bind, bindAll, name, pair}
-use Rattle.recipe.specs.TreeNames.{bindName-item}
+use Rattle.recipe.specs.TreeNames.{bindName-number, bindName-item}
 use Rattle.expansion.specs.Rules.{rulePlace, templatePlace, hasVariable}
 use Rattle.expansion.specs.Forms.{bindings}
 use Rattle.simulation.specs.Relations.{ListRel, ends, joins}
@@ -20,7 +20,7 @@ use Rattle.simulation.specs.Form.Holes.{Hole, hole-onNames, graph, hole-
 use Rattle.simulation.specs.Names.Shown.{Renaming, ofCopy, not-private-not-copy, binds-fine, AllFine}
 use Rattle.simulation.specs.Names.{Kind, Coherent, Ready, Raw, NameRel, kept}
 use Rattle.simulation.specs.Steps.{Older, Below}
-pub use Rattle.simulation.specs.Form.Scopes.{Scope, Placed, same-placed, rebind, rebindAll, bindName-placed, bindName-number, still-placed, Moved, hasVariable-moved}
+pub use Rattle.simulation.specs.Form.Scopes.{Scope, Placed, same-placed, rebind, rebindAll, bindName-placed, still-placed, Moved, hasVariable-moved}
 
 module _ (ρ : Renaming) (β : Scope) where
   -- a name that is not private is the same in both

@@ -48,14 +48,6 @@ bindName-placed β i b x p q = go (same i x) (same-placed β i x p q)
     go true e = record { unproduced = q .unproduced; unmarked = q .unmarked; bound = rw (sym e) }
     go false e = record { unproduced = q .unproduced; unmarked = q .unmarked; bound = rw (sym e) (q .bound) }
 
-pub bindName-number : (i : Name) (b : Binding) (x : Name) → bindName i b x .number ≡ x .number
-unfolding bindName giveBinding
-bindName-number i b x = go (same i x)
-  where
-    go : (c : Bool) → cond c (giveBinding b x) x .number ≡ x .number
-    go true = refl
-    go false = refl
-
 -- a name of another number keeps its binding
 pub still-placed : (β : Scope) (i : Name) (b : Binding) (x : Name) → Placed β x → eqb (i .number) (x .number) ≡ false → Placed (rebind (i .number) b β) x
 unfolding rebind

@@ -6,7 +6,7 @@ use native.Mathlib.Omega.{arith}
 use mathlib.Core.Path.{_≡_, refl, sym, _∙_}
 use Rattle.recipe.specs.Name.{distinct}
 use Rattle.arena.specs.Arena.{treeAt}
-use Rattle.forms.specs.Binders.{AllNames, namesIn}
+use Rattle.forms.specs.Binders.{AllNames, namesIn, Opened}
 use Rattle.arena.specs.ListLaws.{pair-falls}
 use Rattle.forms.specs.BinderLaws.{opened, names-none, distinct-none, distinct-not, distinct-later}
 
@@ -24,31 +24,18 @@ loop-holds c =
     let pre = c .before .pre in
     (pre, refl)
 
-is-among-requires : tie.Need-is-among-requires Inv-loop μ-loop
-is-among-requires c κs =
+-- the list at hand is opened
+here : (c : tie.After-reference2 Inv-loop μ-loop) → let a = c .before .before .before .before .before .before .before .args in Opened (a .work .now) (c .before .before .before .before .before .loop .at) (a .w) (a .macros) (c .before .own-name .result) (c .reference2 .result)
+here c =
     let a = c .before .before .before .before .before .before .before .args in
-    let pre = c .before .before .before .before .before .before .before .pre in
     let loop = c .before .before .before .before .before .loop in
-    let word = c .before .before .before .before .word in
-    let if1 = c .before .before .before .if1 in
-    let reference = c .before .before .reference in
-    let own-name = c .before .own-name in
-    let reference2 = c .reference2 in
-    let o = opened (a .work .now) (loop .at) _ (word .ensures) (a .w) (a .macros) (if1 .taken) (loop .inv .0) _ _ _ (reference .ensures) (own-name .ensures) (reference2 .ensures) in
-    o .ordinary
+    opened (a .work .now) (loop .at) _ (c .before .before .before .before .word .ensures) (a .w) (a .macros) (c .before .before .before .if1 .taken) (loop .inv .0) _ _ _ (c .before .before .reference .ensures) (c .before .own-name .ensures) (c .reference2 .ensures)
+
+is-among-requires : tie.Need-is-among-requires Inv-loop μ-loop
+is-among-requires c κs = here c .ordinary
 
 returns : tie.Need-returns Inv-loop μ-loop
-returns c =
-    let a = c .before .before .before .before .before .before .before .before .before .args in
-    let loop = c .before .before .before .before .before .before .before .loop in
-    let word = c .before .before .before .before .before .before .word in
-    let if1 = c .before .before .before .before .before .if1 in
-    let reference = c .before .before .before .before .reference in
-    let own-name = c .before .before .before .own-name in
-    let reference2 = c .before .before .reference2 in
-    let is-among = c .before .is-among in
-    let o = opened (a .work .now) (loop .at) _ (word .ensures) (a .w) (a .macros) (if1 .taken) (loop .inv .0) _ _ _ (reference .ensures) (own-name .ensures) (reference2 .ensures) in
-    distinct-not _ _ _ _ (o .names-are) (is-among .ensures) (c .if2 .taken) ∙ sym (loop .inv .1)
+returns c = distinct-not _ _ _ _ (here (c .before .before) .names-are) (c .before .is-among .ensures) (c .if2 .taken) ∙ sym (c .before .before .before .before .before .before .before .loop .inv .1)
 
 loop-less : tie.Need-loop-less Inv-loop μ-loop
 loop-less c =
@@ -61,16 +48,8 @@ loop-less c =
 
 loop-again : tie.Need-loop-again Inv-loop μ-loop
 loop-again c =
-    let a = c .before .before .before .before .before .before .before .before .before .args in
-    let loop = c .before .before .before .before .before .before .before .loop in
-    let word = c .before .before .before .before .before .before .word in
-    let if1 = c .before .before .before .before .before .if1 in
-    let reference = c .before .before .before .before .reference in
-    let own-name = c .before .before .before .own-name in
-    let reference2 = c .before .before .reference2 in
-    let is-among = c .before .is-among in
-    let o = opened (a .work .now) (loop .at) _ (word .ensures) (a .w) (a .macros) (if1 .taken) (loop .inv .0) _ _ _ (reference .ensures) (own-name .ensures) (reference2 .ensures) in
-    (o .ordinary, loop .inv .1 ∙ distinct-later _ _ _ _ (o .names-are) (is-among .ensures) (c .if2 .left))
+    let o = here (c .before .before) in
+    (o .ordinary, c .before .before .before .before .before .before .before .loop .inv .1 ∙ distinct-later _ _ _ _ (o .names-are) (c .before .is-among .ensures) (c .if2 .left))
 
 returns-2 : tie.Need-returns-2 Inv-loop μ-loop
 returns-2 c =

@@ -6,8 +6,9 @@ use native.Mathlib.Omega.{arith}
 use mathlib.Core.Path.{_≡_, refl, sym, _∙_}
 use Rattle.words.specs.Lists.{anyOf}
 use Rattle.recipe.specs.Name.{same}
-use Rattle.arena.specs.Arena.{nameAt, treeAt}
-use Rattle.forms.specs.Binders.{AllNames, namesIn}
+use Prim.Native.Nat.{ℕ}
+use Rattle.arena.specs.Arena.{nameAt, treeAt, referenceAt}
+use Rattle.forms.specs.Binders.{AllNames, namesIn, Opened}
 use Rattle.arena.specs.ListLaws.{pair-falls}
 use Rattle.forms.specs.BinderLaws.{opened, names-none, among-none, among-first, among-later}
 
@@ -25,17 +26,15 @@ loop-holds c =
     let pre = c .before .pre in
     (pre, refl)
 
+-- the list at hand is opened
+here : (c : tie.After-own-name Inv-loop μ-loop) (rest : ℕ) → let a = c .before .before .before .before .before .before .args in rest ≡ referenceAt (a .work .now) (c .before .before .before .before .loop .at) 1 → Opened (a .work .now) (c .before .before .before .before .loop .at) (a .w) (a .macros) (c .own-name .result) rest
+here c rest e =
+    let a = c .before .before .before .before .before .before .args in
+    let loop = c .before .before .before .before .loop in
+    opened (a .work .now) (loop .at) _ (c .before .before .before .word .ensures) (a .w) (a .macros) (c .before .before .if1 .taken) (loop .inv .0) _ _ rest (c .before .reference .ensures) (c .own-name .ensures) e
+
 returns : tie.Need-returns Inv-loop μ-loop
-returns c =
-    let a = c .before .before .before .before .before .before .before .before .args in
-    let loop = c .before .before .before .before .before .before .loop in
-    let word = c .before .before .before .before .before .word in
-    let if1 = c .before .before .before .before .if1 in
-    let reference = c .before .before .before .reference in
-    let own-name = c .before .before .own-name in
-    let same-names = c .before .same-names in
-    let o = opened (a .work .now) (loop .at) _ (word .ensures) (a .w) (a .macros) (if1 .taken) (loop .inv .0) _ _ _ (reference .ensures) (own-name .ensures) refl in
-    among-first _ _ _ _ _ (o .names-are) (same-names .ensures) (c .if2 .taken) ∙ sym (loop .inv .1)
+returns c = among-first _ _ _ _ _ (here (c .before .before) _ refl .names-are) (c .before .same-names .ensures) (c .if2 .taken) ∙ sym (c .before .before .before .before .before .before .loop .inv .1)
 
 loop-less : tie.Need-loop-less Inv-loop μ-loop
 loop-less c =
@@ -47,16 +46,8 @@ loop-less c =
 
 loop-again : tie.Need-loop-again Inv-loop μ-loop
 loop-again c =
-    let a = c .before .before .before .before .before .before .before .before .before .args in
-    let loop = c .before .before .before .before .before .before .before .loop in
-    let word = c .before .before .before .before .before .before .word in
-    let if1 = c .before .before .before .before .before .if1 in
-    let reference = c .before .before .before .before .reference in
-    let own-name = c .before .before .before .own-name in
-    let same-names = c .before .before .same-names in
-    let if2 = c .before .if2 in
-    let o = opened (a .work .now) (loop .at) _ (word .ensures) (a .w) (a .macros) (if1 .taken) (loop .inv .0) _ _ _ (reference .ensures) (own-name .ensures) (c .reference2 .ensures) in
-    (o .ordinary, loop .inv .1 ∙ among-later _ _ _ _ _ (o .names-are) (same-names .ensures) (if2 .left))
+    let o = here (c .before .before .before) _ (c .reference2 .ensures) in
+    (o .ordinary, c .before .before .before .before .before .before .before .loop .inv .1 ∙ among-later _ _ _ _ _ (o .names-are) (c .before .before .same-names .ensures) (c .before .if2 .left))
 
 returns-2 : tie.Need-returns-2 Inv-loop μ-loop
 returns-2 c =

@@ -1,17 +1,17 @@
 use borrow.Author.Needs.{needs}
 use Rattle.lexer.proofs.number.decimal_of.Statement.{statement}
 use Rattle.lexer.proofs.number.decimal_of.Tie as tie
-use Rattle.lexer.specs.NumberLaws.{no-places, places-none, places-many, places-other, with-places}
+use Rattle.lexer.specs.NumberLaws.{places-malformed, places-none, places-many, places-other, with-places}
 
 returns : tie.Need-returns
 returns c =
     let args = c .before .before .args in
-    no-places (args .negative) (args .whole) (args .places .now) (places-none (args .places .now) (c .if1 .taken))
+    places-malformed (args .negative) (args .whole) (args .places .now) (places-none (args .places .now) (c .if1 .taken))
 
 returns-2 : tie.Need-returns-2
 returns-2 c =
     let args = c .before .before .before .args in
-    no-places (args .negative) (args .whole) (args .places .now) (places-many (args .places .now) (c .if2 .taken))
+    places-malformed (args .negative) (args .whole) (args .places .now) (places-many (args .places .now) (c .if2 .taken))
 
 returns-3 : tie.Need-returns-3
 returns-3 c =
@@ -19,7 +19,7 @@ returns-3 c =
     let if1 = c .before .before .before .before .if1 in
     let if2 = c .before .before .before .if2 in
     let digits-after = c .before .before .digits-after in
-    no-places (args .negative) (args .whole) (args .places .now)
+    places-malformed (args .negative) (args .whole) (args .places .now)
     (places-other (args .places .now) (if1 .left) (if2 .left) (digits-after .result .count) (digits-after .ensures .count) (c .if3 .taken))
 
 returns-4 : tie.Need-returns-4

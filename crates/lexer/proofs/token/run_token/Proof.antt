@@ -1,7 +1,9 @@
 use borrow.Author.Needs.{needs}
 use Rattle.lexer.proofs.token.run_token.Statement.{statement}
 use Rattle.lexer.proofs.token.run_token.Tie as tie
-use mathlib.Core.Path.{refl, sym, ap, _∙_}
+use mathlib.Core.Path.{_≡_, refl, sym, ap, _∙_}
+use mathlib.Core.List.{List}
+use Prim.Native.Nat.{ℕ}
 use native.Mathlib.Omega.{arith}
 use borrow.Author.Tests.{not-true, not-false}
 use Rattle.words.specs.Parts.{part}
@@ -9,35 +11,32 @@ use Rattle.words.specs.ListLaws.{length-part}
 use mir.Syntax.{w32}
 use mir.Val.{ofZ}
 use mir.Facts.{toZ-ofZ}
-use Rattle.reading.specs.Meaning.{constant, number}
+use Rattle.reading.specs.Token.{run}
+use Rattle.reading.specs.Meaning.{constant, number, nameOf, meaningOf}
+use Rattle.lexer.specs.declared.number.Numeral.{Numeral}
 use Rattle.lexer.specs.Answers.{numeralMeaning}
 use Rattle.reading.specs.Laws.Meanings.{numeral-means, other-means, name-is, name-malformed}
 use Rattle.lexer.specs.ToldLaws.{name-short}
 
+abbrev word : tie.Start → List ℕ
+word c = part (c .args .from) (c .args .to) (c .args .text .now)
+
+-- what the word means, by the test of numerals
+other : (c : tie.Then1) → meaningOf (run (word (c .before .before .before .before))) ≡ nameOf (word (c .before .before .before .before))
+other c = other-means _ (sym (c .before .is-numeral .ensures) ∙ not-true _ (c .if1 .taken))
+
+numeral : (c : tie.After-numeral-of) (n : Numeral) → c .numeral-of .result ≡ n → meaningOf (run (word (c .before .before .before .before .before))) ≡ numeralMeaning n
+numeral c n e = numeral-means _ (sym (c .before .before .is-numeral .ensures) ∙ not-false _ (c .before .if1 .left)) ∙ sym (c .numeral-of .ensures) ∙ ap numeralMeaning e
+
 returns : tie.Need-returns
 returns c =
-    let args = c .before .before .before .before .before .before .args in
-    let is-numeral = c .before .before .before .is-numeral in
-    let if1 = c .before .before .if1 in
-    let w = part (args .from) (args .to) (args .text .now) in
-    let n = sym (c .before .is-name .ensures) ∙ c .if2 .taken in (
-      refl,
-      refl,
-      name-short w n,
-      other-means w (sym (is-numeral .ensures) ∙ not-true (is-numeral .result) (if1 .taken)) ∙ name-is
-          w n,
-    )
+    let w = word (c .before .before .before .before .before .before) in
+    let n = sym (c .before .is-name .ensures) ∙ c .if2 .taken in
+    (refl, refl, name-short w n, other (c .before .before) ∙ name-is w n)
 
 returns-2 : tie.Need-returns-2
 returns-2 c =
-    let args = c .before .before .before .before .before .before .args in
-    let is-numeral = c .before .before .before .is-numeral in
-    let if1 = c .before .before .if1 in
-    let w = part (args .from) (args .to) (args .text .now) in (
-      refl,
-      other-means w (sym (is-numeral .ensures) ∙ not-true (is-numeral .result) (if1 .taken)) ∙ name-malformed w
-          (sym (c .before .is-name .ensures) ∙ c .if2 .left),
-    )
+    (refl, other (c .before .before) ∙ name-malformed _ (sym (c .before .is-name .ensures) ∙ c .if2 .left))
 
 numeral-of-requires : tie.Need-numeral-of-requires
 numeral-of-requires c κs =
@@ -46,42 +45,17 @@ numeral-of-requires c κs =
 
 returns-3 : tie.Need-returns-3
 returns-3 c =
-    let args = c .before .before .before .before .before .before .before .before .args in
-    let is-numeral = c .before .before .before .before .before .is-numeral in
-    let if1 = c .before .before .before .before .if1 in
-    let numeral-of = c .before .before .before .numeral-of in
-    let z′ = c .before .z in
-    let w = part (args .from) (args .to) (args .text .now) in (
+    let given = c .before .z .given in (
       refl,
-      numeral-means w (sym (is-numeral .ensures) ∙ not-false (is-numeral .result) (if1 .left)) ∙ sym (numeral-of .ensures) ∙ ap
-          numeralMeaning (z′ .given .1)
-          ∙ ap (λ z. constant (number (ofZ w32 z) (z′ .given .0 .1 .0)))
-          (sym (toZ-ofZ {w = w32} {z = z′ .given .0 .0} (record { sfits = c .known-told .given .0 .1 }))),
+      numeral (c .before .before .before) _ (given .1) ∙ ap (λ z. constant (number (ofZ w32 z) (given .0 .1 .0)))
+          (sym (toZ-ofZ {w = w32} {z = given .0 .0} (record { sfits = c .known-told .given .0 .1 }))),
     )
 
 returns-4 : tie.Need-returns-4
-returns-4 c =
-    let args = c .before .before .before .before .before .before .before .args in
-    let is-numeral = c .before .before .before .before .is-numeral in
-    let if1 = c .before .before .before .if1 in
-    let numeral-of = c .before .before .numeral-of in
-    let w = part (args .from) (args .to) (args .text .now) in (
-      refl,
-      numeral-means w (sym (is-numeral .ensures) ∙ not-false (is-numeral .result) (if1 .left)) ∙ sym (numeral-of .ensures) ∙ ap
-          numeralMeaning (c .enum-told .given .1),
-    )
+returns-4 c = (refl, numeral (c .before .before) _ (c .enum-told .given .1))
 
 returns-5 : tie.Need-returns-5
-returns-5 c =
-    let args = c .before .before .before .before .before .before .before .args in
-    let is-numeral = c .before .before .before .before .is-numeral in
-    let if1 = c .before .before .before .if1 in
-    let numeral-of = c .before .before .numeral-of in
-    let w = part (args .from) (args .to) (args .text .now) in (
-      refl,
-      numeral-means w (sym (is-numeral .ensures) ∙ not-false (is-numeral .result) (if1 .left)) ∙ sym (numeral-of .ensures) ∙ ap
-          numeralMeaning (c .enum-told2 .given .1),
-    )
+returns-5 c = (refl, numeral (c .before .before) _ (c .enum-told2 .given .1))
 
 pub run-token-spec : {M : Type 1} → statement M
 run-token-spec =

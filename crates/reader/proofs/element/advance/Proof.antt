@@ -9,6 +9,9 @@ use mir.Facts.{toZ-ofZ}
 use Rattle.words.specs.Parts.{part}
 use Rattle.datum.specs.Constant.{boolean}
 use Rattle.reading.specs.Meaning.{begins, ends, constant, name, number}
+use Rattle.lexer.specs.declared.token.Token.{Token}
+use Rattle.lexer.specs.declared.token.Token.the-variants.{Name}
+use Rattle.lexer.specs.Told.{Told}
 use Rattle.lexer.specs.AnsweredLaws.{answered-told}
 use Rattle.reader.specs.Code.MovedLaws.{
   stepped-moved,
@@ -20,95 +23,72 @@ use Rattle.reader.specs.Code.MovedLaws.{
   end-moved,
 }
 
+-- what the token at the cursor tells, by what it is
+told : (c : tie.After-token-from) (t : Token) → c .token-from .result ≡ t → let a = c .before .before .before .before .before .args in Told (a .text .now) (a .cursor .at) t
+told c t e = answered-told _ _ _ (c .token-from .ensures) (c .before .before .before .before .before .pre .0) t e
+
+-- the word of a name
+named : (c : tie.After-from) → let a = c .before .before .before .before .before .before .before .args in Told (a .text .now) (a .cursor .at) (Name (c .from .given .0 .0) (c .from .given .0 .1 .0))
+named c = told (c .before .before) _ (c .from .given .1)
+
 sub-put-name : tie.Need-sub-put-name
-sub-put-name c =
-    let start = c .before .before .before .before .before .before .before .before .before .before .before in
-    let args = start .args in
-    let from = c .before .before .before .before .from in
-    let token-from = c .before .before .before .before .before .before .token-from in
-    let n = answered-told (args .text .now) (args .cursor .at) _ (token-from .ensures) (start .pre .0) _ (from .given .1) in omega (arith, n .1)
+sub-put-name c = omega (arith, named (c .before .before .before .before) .1)
 
 part-put-name-start : tie.Need-part-put-name-start
-part-put-name-start c =
-    let start = c .before .before .before .before .before .before .before .before .before .before .before in
-    let args = start .args in
-    let from = c .before .before .before .before .from in
-    let token-from = c .before .before .before .before .before .before .token-from in
-    let n = answered-told (args .text .now) (args .cursor .at) _ (token-from .ensures) (start .pre .0) _ (from .given .1) in omega (arith, n .1)
+part-put-name-start c = omega (arith, named (c .before .before .before .before) .1)
 
 part-put-name-end : tie.Need-part-put-name-end
-part-put-name-end c =
-    let start = c .before .before .before .before .before .before .before .before .before .before .before in
-    let args = start .args in
-    let from = c .before .before .before .before .from in
-    let token-from = c .before .before .before .before .before .before .token-from in
-    let n = answered-told (args .text .now) (args .cursor .at) _ (token-from .ensures) (start .pre .0) _ (from .given .1) in omega (arith, n .3 .high)
+part-put-name-end c = omega (arith, named (c .before .before .before .before) .3 .high)
 
 put-name-requires : tie.Need-put-name-requires
 put-name-requires c κs =
     let start = c .before .before .before .before .before .before .before .before .before .before .before .before in
-    let args = start .args in
-    let from = c .before .before .before .before .before .from in
-    let token-from = c .before .before .before .before .before .before .before .token-from in
-    let n = answered-told (args .text .now) (args .cursor .at) _ (token-from .ensures) (start .pre .0) _ (from .given .1) in
-    (start .pre .1 .0, (start .pre .1 .1, n .2))
+    (start .pre .1 .0, (start .pre .1 .1, named (c .before .before .before .before .before) .2))
 
 returns : tie.Need-returns
 returns c =
     λ r h i.
-    let start = c .before .before .before .before .before .before .before .before in
-    let args = start .args in
-    let token-from = c .before .before .before .token-from in
+    let args = c .before .before .before .before .before .before .before .before .args in
     end-moved (args .text .now) (args .cursor .at) r (args .place) (args .items .now) (args .names .now) (args .index .now) h
-    (answered-told (args .text .now) (args .cursor .at) _ (token-from .ensures) (start .pre .0) _ (c .before .enum-told .given .1)) (c .finish .result)
-    (c .finish .ensures)
+    (told (c .before .before .before) _ (c .before .enum-told .given .1)) (c .finish .result) (c .finish .ensures)
 
 returns-2 : tie.Need-returns-2
 returns-2 c =
     λ r h i.
-    let start = c .before .before .before .before .before .before .before .before in
-    let args = start .args in
+    let args = c .before .before .before .before .before .before .before .before .args in
     let ground = c .before .ground in
-    let token-from = c .before .before .before .token-from in
-    refused-moved (args .text .now) (args .cursor .at) r (ground .given .0 .0) (ground .given .0 .1 .0 .at)
-    (answered-told (args .text .now) (args .cursor .at) _ (token-from .ensures) (start .pre .0) _ (ground .given .1))
+    refused-moved (args .text .now) (args .cursor .at) r (ground .given .0 .0) (ground .given .0 .1 .0 .at) (told (c .before .before .before) _ (ground .given .1))
 
 returns-3 : tie.Need-returns-3
 returns-3 c =
     λ r h i.
-    let start = c .before .before .before .before .before .before .before .before .before .before .before .before .before in
-    let args = start .args in
+    let args = c .before .before .before .before .before .before .before .before .before .before .before .before .before .args in
     let open-list = c .before .before .before .open-list in
     let next = c .before .before .before .before .before .before .next in
-    let token-from = c .before .before .before .before .before .before .before .before .token-from in
     stepped-moved (args .text .now) (args .cursor .at) r (open-list .last .0) (args .names .now) (args .index .now) begins (next .given .0 .0)
-    (answered-told (args .text .now) (args .cursor .at) _ (token-from .ensures) (start .pre .0) _ (next .given .1)) (begins-indexed r (args .index .now) i) (open-list .result)
+    (told (c .before .before .before .before .before .before .before .before) _ (next .given .1)) (begins-indexed r (args .index .now) i) (open-list .result)
     (c .moved .result) (c .moved .ensures) (open-list .ensures r (args .names .now) h)
 
 returns-4 : tie.Need-returns-4
 returns-4 c =
     λ r h i.
-    let start = c .before .before .before .before .before .before .before .before .before .before .before .before .before in
-    let args = start .args in
+    let args = c .before .before .before .before .before .before .before .before .before .before .before .before .before .args in
     let close-list = c .before .before .before .close-list in
     let next2 = c .before .before .before .before .before .before .next2 in
-    let token-from = c .before .before .before .before .before .before .before .before .token-from in
     stepped-moved (args .text .now) (args .cursor .at) r (close-list .last .0) (args .names .now) (args .index .now) ends (next2 .given .0 .0)
-    (answered-told (args .text .now) (args .cursor .at) _ (token-from .ensures) (start .pre .0) _ (next2 .given .1)) (ends-indexed r (args .index .now) i) (close-list .result)
+    (told (c .before .before .before .before .before .before .before .before) _ (next2 .given .1)) (ends-indexed r (args .index .now) i) (close-list .result)
     (c .moved2 .result) (c .moved2 .ensures) (close-list .ensures r (args .names .now) h)
 
 returns-5 : tie.Need-returns-5
 unfolding boolean
 returns-5 c =
     λ r h i.
-    let start = c .before .before .before .before .before .before .before .before .before .before .before .before .before in
-    let args = start .args in
+    let args = c .before .before .before .before .before .before .before .before .before .before .before .before .before .args in
     let put-token = c .before .before .before .put-token in
     let b = c .before .before .before .before .before .before .b in
-    let token-from = c .before .before .before .before .before .before .before .before .token-from in
     stepped-moved (args .text .now) (args .cursor .at) r (put-token .last .0) (args .names .now) (args .index .now)
     (constant (boolean (b .given .0 .0))) (b .given .0 .1 .0)
-    (answered-told (args .text .now) (args .cursor .at) _ (token-from .ensures) (start .pre .0) _ (b .given .1))
+    (told (c .before .before .before .before .before .before .before .before) _ (b .given .1))
     (constant-indexed r (args .index .now) i (boolean (b .given .0 .0))) (put-token .result) (c .moved3 .result)
     (c .moved3 .ensures)
     (constant-stepped r (args .place) (args .items .now) (put-token .last .0) (args .names .now) (boolean (b .given .0 .0))
@@ -117,21 +97,19 @@ returns-5 c =
 returns-6 : tie.Need-returns-6
 returns-6 c =
     λ r h i.
-    let start = c .before .before .before .before .before .before .before .before .before .before .before .before .before .before .before in
-    let args = start .args in
+    let args = c .before .before .before .before .before .before .before .before .before .before .before .before .before .before .before .args in
     let put-token2 = c .before .before .before .put-token2 in
     let to-word = c .before .before .before .before .to-word in
     let number-kind = c .before .before .before .before .before .before .number-kind in
     let known-told5 = c .before .before .before .before .before .before .before .known-told5 in
     let z′ = c .before .before .before .before .before .before .before .before .z in
-    let token-from = c .before .before .before .before .before .before .before .before .before .before .token-from in
     let w = ofZ w32 (z′ .given .0 .0) in
     let places = z′ .given .0 .1 .0 in
     let same : to-word .result ≡ w =
     to-word .ensures ∙ ap (ofZ w32) (toZ-ofZ {w = w32} {z = z′ .given .0 .0} (record { sfits = known-told5 .given .0 .1 })) in
     stepped-moved (args .text .now) (args .cursor .at) r (put-token2 .last .0) (args .names .now) (args .index .now)
     (constant (number w places)) (z′ .given .0 .1 .1 .0)
-    (answered-told (args .text .now) (args .cursor .at) _ (token-from .ensures) (start .pre .0) _ (z′ .given .1))
+    (told (c .before .before .before .before .before .before .before .before .before .before) _ (z′ .given .1))
     (constant-indexed r (args .index .now) i (number w places)) (put-token2 .result)
     (c .moved4 .result) (c .moved4 .ensures)
     (constant-stepped r (args .place) (args .items .now) (put-token2 .last .0) (args .names .now) (number w places)
@@ -140,16 +118,13 @@ returns-6 c =
 returns-7 : tie.Need-returns-7
 returns-7 c =
     λ r h i.
-    let start = c .before .before .before .before .before .before .before .before .before .before .before .before .before .before .before .before .before .before .before .before in
-    let args = start .args in
+    let args = c .before .before .before .before .before .before .before .before .before .before .before .before .before .before .before .before .before .before .before .before .args in
     let from = c .before .before .before .before .before .before .before .before .before .before .before .before .before .from in
-    let token-from = c .before .before .before .before .before .before .before .before .before .before .before .before .before .before .before .token-from in
     let put-name = c .before .before .before .before .before .before .before .put-name in
-    let n = answered-told (args .text .now) (args .cursor .at) _ (token-from .ensures) (start .pre .0) _ (from .given .1) in
     let t = put-name .ensures r h in
     stepped-moved (args .text .now) (args .cursor .at) r (put-name .last .0) (put-name .last .1 .0) (put-name .last .1 .1 .0)
     (name (part (from .given .0 .0) (from .given .0 .1 .0 .at) (args .text .now))) (from .given .0 .1 .0)
-    (n .3) (t .1) (put-name .result) (c .moved5 .result) (c .moved5 .ensures) (t .0)
+    (named (c .before .before .before .before .before .before .before .before .before .before .before .before .before) .3) (t .1) (put-name .result) (c .moved5 .result) (c .moved5 .ensures) (t .0)
 
 pub advance-spec : {M : Type 1} → statement M
 advance-spec =

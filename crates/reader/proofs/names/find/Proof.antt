@@ -4,7 +4,7 @@ use Rattle.reader.proofs.names.find.Tie as tie
 use native.Mathlib.Omega.{arith}
 use borrow.Author.Needs.{needs}
 use mathlib.Core.Path.{subst}
-use Prim.Native.Nat.{_-_}
+use Prim.Native.Nat.{_-_, _<_}
 use Rattle.reader.specs.Code.Index.{Walked}
 use Rattle.reader.specs.Code.IndexLaws.{bucket-below, walked-first}
 use Rattle.reader.specs.Code.Stored.{namesIn}
@@ -17,6 +17,12 @@ Inv-loop names index known word bucket entry₀ entry =
 abbrev μ-loop : tie.MeasureT-loop
 μ-loop names index known word bucket entry₀ entry =
     entry
+
+-- the name of an entry is stored
+entry-stored : (c : tie.In-loop Inv-loop μ-loop) → c .before .loop .entry - 1 < c .before .before .before .before .before .before .args .known
+entry-stored c =
+    let args = c .before .before .before .before .before .before .args in
+    entry-known (args .word .now) (args .names .now) (args .index .now) (args .known) (c .before .before .before .before .before .before .pre .1 .0 .0) (c .before .loop .entry) (c .before .loop .inv) (c .loop-test .taken)
 
 entry-at-requires : tie.Need-entry-at-requires Inv-loop μ-loop
 entry-at-requires c κs =
@@ -33,12 +39,8 @@ loop-holds c =
 
 spells-requires : tie.Need-spells-requires Inv-loop μ-loop
 spells-requires c κs =
-    let args = c .before .before .before .before .before .before .args in
     let pre = c .before .before .before .before .before .before .pre in
-    let loop = c .before .loop in
-    let l = entry-known (args .word .now) (args .names .now) (args .index .now) (args .known) (pre .1 .0 .0) (loop .entry) (loop .inv)
-    (c .loop-test .taken) in
-    (omega (arith, pre .0 .0, l), pre .0 .1 (loop .entry - 1) l)
+    (omega (arith, pre .0 .0, entry-stored c), pre .0 .1 (c .before .loop .entry - 1) (entry-stored c))
 
 returns : tie.Need-returns Inv-loop μ-loop
 returns c =
@@ -51,24 +53,12 @@ returns c =
     (loop-test .taken) (spells .result) (spells .ensures) (c .if1 .taken)
 
 add-entry-at : tie.Need-add-entry-at Inv-loop μ-loop
-add-entry-at c =
-    let args = c .before .before .before .before .before .before .before .before .args in
-    let pre = c .before .before .before .before .before .before .before .before .pre in
-    let loop = c .before .before .before .loop in
-    let loop-test = c .before .before .loop-test in
-    let l = entry-known (args .word .now) (args .names .now) (args .index .now) (args .known) (pre .1 .0 .0) (loop .entry) (loop .inv)
-    (loop-test .taken) in
-    omega (arith, l, pre .1 .0 .1)
+add-entry-at c = omega (arith, entry-stored (c .before .before), c .before .before .before .before .before .before .before .before .pre .1 .0 .1)
 
 entry-at-requires-2 : tie.Need-entry-at-requires-2 Inv-loop μ-loop
 entry-at-requires-2 c κs =
-    let args = c .before .before .before .before .before .before .before .before .args in
     let pre = c .before .before .before .before .before .before .before .before .pre in
-    let loop = c .before .before .before .loop in
-    let loop-test = c .before .before .loop-test in
-    let l = entry-known (args .word .now) (args .names .now) (args .index .now) (args .known) (pre .1 .0 .0) (loop .entry) (loop .inv)
-    (loop-test .taken) in
-    omega (arith, l, pre .1 .0 .0 .size, pre .1 .0 .1)
+    omega (arith, entry-stored (c .before .before), pre .1 .0 .0 .size, pre .1 .0 .1)
 
 loop-less : tie.Need-loop-less Inv-loop μ-loop
 loop-less c =

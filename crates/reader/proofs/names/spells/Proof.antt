@@ -3,8 +3,8 @@ use Rattle.reader.proofs.names.spells.Statement.{statement}
 use Rattle.reader.proofs.names.spells.Tie as tie
 use native.Mathlib.Omega.{arith}
 use mathlib.Core.Path.{_≡_, refl, sym, _∙_}
-use Prim.Native.Nat.{_≤_, _<_, _-_}
-use lib.ListN.{length, drop}
+use Prim.Native.Nat.{_+_, _-_, _*_, _≤_, _<_}
+use lib.ListN.{length, drop, getD}
 use Rattle.words.specs.Lists.{equal}
 use Rattle.datum.specs.NameTable.{lengthAt, nameAt}
 use Rattle.reader.specs.Code.StoredLaws.{unequal-lengths, equal-step, equal-stop, equal-end, name-length, name-byte}
@@ -17,6 +17,21 @@ Inv-loop names number word start i₀ i =
 abbrev μ-loop : tie.MeasureT-loop
 μ-loop names number word start i₀ i =
     length word - i
+
+-- past the test of lengths
+lengths : (c : tie.Else1 Inv-loop μ-loop) → let a = c .before .before .before .before .before .args in length (nameAt (a .names .now) (a .number)) ≡ length (a .word .now)
+unfolding lengthAt
+lengths c = let pre = c .before .before .before .before .before .pre in name-length _ _ (pre .0) (pre .1) ∙ sym (c .before .wide .ensures) ∙ c .if1 .left
+
+-- a byte that a turn compares
+byte : (c : tie.In-loop Inv-loop μ-loop) → let a = c .before .before .before .before .before .before .before .args in
+    getD (nameAt (a .names .now) (a .number)) (c .before .loop .i) 0 ≡ getD (a .names .now) (64 * a .number + 1 + c .before .loop .i) 0
+unfolding lengthAt
+byte c =
+    let a = c .before .before .before .before .before .before .before .args in
+    let pre = c .before .before .before .before .before .before .before .pre in
+    let h : c .before .loop .i < lengthAt (a .names .now) (a .number) = omega (arith, c .before .before .before .wide .ensures, c .before .before .if1 .left, c .loop-test .taken) in
+    name-byte (a .names .now) (a .number) (pre .0) (pre .1) (c .before .loop .i) h
 
 returns : tie.Need-returns Inv-loop μ-loop
 unfolding lengthAt
@@ -41,58 +56,27 @@ shared-slice-read-if2 c =
     omega (arith, pre .0, pre .1, wide .ensures, if1 .left)
 
 returns-2 : tie.Need-returns-2 Inv-loop μ-loop
-unfolding lengthAt
 returns-2 c =
     let args = c .before .before .before .before .before .before .before .before .before .before .args in
     let loop = c .before .before .before .before .loop in
-    let pre = c .before .before .before .before .before .before .before .before .before .before .pre in
-    let wide = c .before .before .before .before .before .before .wide in
-    let if1 = c .before .before .before .before .before .if1 in
-    let loop-test = c .before .before .before .loop-test in
-    let table = args .names .now in
-    let n = args .number in
-    let word = args .word .now in
-    let i = loop .i in
-    let s : length (nameAt table n) ≡ length word = name-length table n (pre .0) (pre .1) ∙ sym (wide .ensures) ∙ if1 .left in
-    let h : i < lengthAt table n = omega (arith, wide .ensures, if1 .left, loop-test .taken) in
-    sym (equal-stop word (nameAt table n) s i (loop-test .taken)
-    (λ e. c .if2 .taken (sym (name-byte table n (pre .0) (pre .1) i h) ∙ e))) ∙ loop .inv .1
+    sym (equal-stop (args .word .now) (nameAt (args .names .now) (args .number)) (lengths (c .before .before .before .before .before)) (loop .i) (c .before .before .before .loop-test .taken)
+    (λ e. c .if2 .taken (sym (byte (c .before .before .before)) ∙ e))) ∙ loop .inv .1
 
 loop-again : tie.Need-loop-again Inv-loop μ-loop
-unfolding lengthAt
 loop-again c =
     let args = c .before .before .before .before .before .before .before .before .before .before .args in
-    let loop = c .before .before .before .before .loop in
-    let pre = c .before .before .before .before .before .before .before .before .before .before .pre in
-    let wide = c .before .before .before .before .before .before .wide in
-    let if1 = c .before .before .before .before .before .if1 in
-    let loop-test = c .before .before .before .loop-test in
-    let table = args .names .now in
-    let n = args .number in
-    let word = args .word .now in
-    let i = loop .i in
-    let s : length (nameAt table n) ≡ length word = name-length table n (pre .0) (pre .1) ∙ sym (wide .ensures) ∙ if1 .left in
-    let h : i < lengthAt table n = omega (arith, wide .ensures, if1 .left, loop-test .taken) in (
+    let loop = c .before .before .before .before .loop in (
       omega arith,
-      sym (equal-step word (nameAt table n) s i (loop-test .taken)
-          (name-byte table n (pre .0) (pre .1) i h ∙ c .if2 .left)) ∙ loop .inv .1,
+      sym (equal-step (args .word .now) (nameAt (args .names .now) (args .number)) (lengths (c .before .before .before .before .before)) (loop .i) (c .before .before .before .loop-test .taken)
+          (byte (c .before .before .before) ∙ c .if2 .left)) ∙ loop .inv .1,
     )
 
 returns-3 : tie.Need-returns-3 Inv-loop μ-loop
-unfolding lengthAt
 returns-3 c =
     let args = c .before .before .before .before .before .before .before .args in
     let loop = c .before .loop in
-    let pre = c .before .before .before .before .before .before .before .pre in
-    let wide = c .before .before .before .wide in
-    let if1 = c .before .before .if1 in
-    let table = args .names .now in
-    let n = args .number in
-    let word = args .word .now in
-    let i = loop .i in
-    let s : length (nameAt table n) ≡ length word = name-length table n (pre .0) (pre .1) ∙ sym (wide .ensures) ∙ if1 .left in
-    let e : i ≡ length word = omega arith in
-    sym (equal-end word (nameAt table n) i s e) ∙ loop .inv .1
+    let e : loop .i ≡ length (args .word .now) = omega arith in
+    sym (equal-end (args .word .now) (nameAt (args .names .now) (args .number)) (loop .i) (lengths (c .before .before)) e) ∙ loop .inv .1
 
 pub spells-spec : {M : Type 1} → statement M
 spells-spec =

@@ -3,7 +3,14 @@ use Rattle.reader.proofs.place.close_list.Statement.{statement}
 use Rattle.reader.proofs.place.close_list.Tie as tie
 use native.Mathlib.Omega.{arith}
 use Prim.Native.Nat.{_<_, _+_, _*_}
+use Rattle.words.specs.Limits.{elementsMost}
 use Rattle.reader.specs.Code.StepLaws.{close-refused, close-went}
+
+-- the pair of a list that is open
+pair-low : (c : tie.Else1) → c .before .before .args .place .pair < 2 * elementsMost
+pair-low c =
+    let pre = c .before .before .pre in
+    let d : 0 < c .before .before .args .place .depth = omega (arith, c .if1 .left) in omega (arith, pre .pair d, pre .even, pre .elements)
 
 returns : tie.Need-returns
 returns c =
@@ -12,32 +19,16 @@ returns c =
     close-refused r (args .place) (args .items .now) bytes h _ (c .if1 .taken)
 
 mul-tail : tie.Need-mul-tail
-mul-tail c =
-    let args = c .before .before .before .args in
-    let pre = c .before .before .before .pre in
-    let d : 0 < args .place .depth = omega (arith, c .before .if1 .left) in omega
-    (arith, pre .pair d, pre .even, pre .elements, pre .room)
+mul-tail c = omega (arith, pair-low (c .before))
 
 add-tail : tie.Need-add-tail
-add-tail c =
-    let args = c .before .before .before .args in
-    let pre = c .before .before .before .pre in
-    let d : 0 < args .place .depth = omega (arith, c .before .if1 .left) in omega
-    (arith, pre .pair d, pre .even, pre .elements, pre .room)
+add-tail c = omega (arith, pair-low (c .before))
 
 mul-around : tie.Need-mul-around
-mul-around c =
-    let args = c .before .before .before .args in
-    let pre = c .before .before .before .pre in
-    let d : 0 < args .place .depth = omega (arith, c .before .if1 .left) in omega
-    (arith, pre .pair d, pre .even, pre .elements, pre .room)
+mul-around c = omega (arith, pair-low (c .before))
 
 slice-read-around : tie.Need-slice-read-around
-slice-read-around c =
-    let args = c .before .before .before .before .args in
-    let if1 = c .before .before .if1 in
-    let pre = c .before .before .before .before .pre in
-    let d : 0 < args .place .depth = omega (arith, if1 .left) in omega (arith, pre .pair d, pre .even, pre .elements, pre .room)
+slice-read-around c = omega (arith, pair-low (c .before .before), c .before .before .before .before .pre .room)
 
 cast-around : tie.Need-cast-around
 cast-around c =
@@ -55,18 +46,10 @@ cast-items c =
     omega (arith, pre .even, pre .elements)
 
 mul-items : tie.Need-mul-items
-mul-items c =
-    let args = c .before .before .before .before .before .args in
-    let if1 = c .before .before .before .if1 in
-    let pre = c .before .before .before .before .before .pre in
-    let d : 0 < args .place .depth = omega (arith, if1 .left) in omega (arith, pre .pair d, pre .even, pre .elements, pre .room)
+mul-items c = omega (arith, pair-low (c .before .before .before))
 
 slice-write-items : tie.Need-slice-write-items
-slice-write-items c =
-    let args = c .before .before .before .before .before .args in
-    let if1 = c .before .before .before .if1 in
-    let pre = c .before .before .before .before .before .pre in
-    let d : 0 < args .place .depth = omega (arith, if1 .left) in omega (arith, pre .pair d, pre .even, pre .elements, pre .room)
+slice-write-items c = omega (arith, pair-low (c .before .before .before), c .before .before .before .before .before .pre .room)
 
 add-t6 : tie.Need-add-t6
 add-t6 c =

@@ -6,8 +6,10 @@ use Rattle.resolution.specs.Marks.{is-same, is-other, is-full}
 use Rattle.resolution.specs.HandLaws.{count-most}
 use Rattle.resolution.specs.NameLaws.{differ-numbers, differ-bindings, differ-counts, same-marks}
 use native.Mathlib.Omega.{arith}
-use mathlib.Core.Bool.{true, false}
-use mathlib.Core.Path.{sym, _∙_}
+use mathlib.Core.Bool.{Bool, true, false}
+use mathlib.Core.Path.{_≡_, sym, _∙_}
+use Rattle.recipe.specs.Name.{same}
+use Rattle.arena.specs.Arena.{nameAt}
 
 returns : tie.Need-returns
 returns c =
@@ -62,35 +64,26 @@ equal-marks-requires c κs =
     let if5 = c .before .if5 in
     (omega (arith, resolve2 .ensures .within (if3 .left) .hand .room), omega (arith, resolve2 .ensures .within (if3 .left) .hand .room, if5 .left))
 
+-- past the tests of numbers, bindings and counts the marks decide
+marks-decide : (c : tie.After-equal-marks) (t : Bool) → c .equal-marks .result ≡ t → let a = c .before .before .before .before .before .before .before .before .before .before .before .before .before .before .before .before .before .before .before .before .before .before .before .args in t ≡ same (nameAt (a .work .now) (a .a) (a .v)) (nameAt (a .work .now) (a .b) (a .w))
+marks-decide c t e =
+    let a = c .before .before .before .before .before .before .before .before .before .before .before .before .before .before .before .before .before .before .before .before .before .before .before .args in
+    let number-of = c .before .before .before .before .before .before .before .before .before .before .before .before .before .before .before .before .before .before .before .before .number-of in
+    let number-of2 = c .before .before .before .before .before .before .before .before .before .before .before .before .before .before .before .before .before .before .before .number-of2 in
+    let if1 = c .before .before .before .before .before .before .before .before .before .before .before .before .before .before .before .before .before .before .if1 in
+    let resolve = c .before .before .before .before .before .before .before .before .before .before .before .before .before .before .before .before .resolve in
+    let if2 = c .before .before .before .before .before .before .before .before .before .before .before .before .before .if2 in
+    let resolve2 = c .before .before .before .before .before .before .before .before .before .before .before .resolve2 in
+    let if3 = c .before .before .before .before .before .before .before .if3 in
+    let if4 = c .before .before .before .before .if4 in
+    let if5 = c .before .before .if5 in
+    same-marks (a .work .now) (a .a) (a .v) (a .b) (a .w) _ _ (number-of .ensures) (number-of2 .ensures) _ _ _ _ _ _ _ (resolve .ensures .within (if2 .left)) (resolve2 .ensures .within (if3 .left)) (if1 .left) (if4 .left) (omega (arith, if5 .left)) t (sym e ∙ c .equal-marks .ensures)
+
 returns-6 : tie.Need-returns-6
-returns-6 c =
-    let a = c .before .before .before .before .before .before .before .before .before .before .before .before .before .before .before .before .before .before .before .before .before .before .before .before .args in
-    let number-of = c .before .before .before .before .before .before .before .before .before .before .before .before .before .before .before .before .before .before .before .before .before .number-of in
-    let number-of2 = c .before .before .before .before .before .before .before .before .before .before .before .before .before .before .before .before .before .before .before .before .number-of2 in
-    let if1 = c .before .before .before .before .before .before .before .before .before .before .before .before .before .before .before .before .before .before .before .if1 in
-    let resolve = c .before .before .before .before .before .before .before .before .before .before .before .before .before .before .before .before .before .resolve in
-    let if2 = c .before .before .before .before .before .before .before .before .before .before .before .before .before .before .if2 in
-    let resolve2 = c .before .before .before .before .before .before .before .before .before .before .before .before .resolve2 in
-    let if3 = c .before .before .before .before .before .before .before .before .if3 in
-    let if4 = c .before .before .before .before .before .if4 in
-    let if5 = c .before .before .before .if5 in
-    let equal-marks = c .before .equal-marks in
-    is-same (same-marks (a .work .now) (a .a) (a .v) (a .b) (a .w) _ _ (number-of .ensures) (number-of2 .ensures) _ _ _ _ _ _ _ (resolve .ensures .within (if2 .left)) (resolve2 .ensures .within (if3 .left)) (if1 .left) (if4 .left) (omega (arith, if5 .left)) true (sym (c .if6 .taken) ∙ equal-marks .ensures))
+returns-6 c = is-same (marks-decide (c .before) true (c .if6 .taken))
 
 returns-7 : tie.Need-returns-7
-returns-7 c =
-    let a = c .before .before .before .before .before .before .before .before .before .before .before .before .before .before .before .before .before .before .before .before .before .before .before .before .args in
-    let number-of = c .before .before .before .before .before .before .before .before .before .before .before .before .before .before .before .before .before .before .before .before .before .number-of in
-    let number-of2 = c .before .before .before .before .before .before .before .before .before .before .before .before .before .before .before .before .before .before .before .before .number-of2 in
-    let if1 = c .before .before .before .before .before .before .before .before .before .before .before .before .before .before .before .before .before .before .before .if1 in
-    let resolve = c .before .before .before .before .before .before .before .before .before .before .before .before .before .before .before .before .before .resolve in
-    let if2 = c .before .before .before .before .before .before .before .before .before .before .before .before .before .before .if2 in
-    let resolve2 = c .before .before .before .before .before .before .before .before .before .before .before .before .resolve2 in
-    let if3 = c .before .before .before .before .before .before .before .before .if3 in
-    let if4 = c .before .before .before .before .before .if4 in
-    let if5 = c .before .before .before .if5 in
-    let equal-marks = c .before .equal-marks in
-    is-other (same-marks (a .work .now) (a .a) (a .v) (a .b) (a .w) _ _ (number-of .ensures) (number-of2 .ensures) _ _ _ _ _ _ _ (resolve .ensures .within (if2 .left)) (resolve2 .ensures .within (if3 .left)) (if1 .left) (if4 .left) (omega (arith, if5 .left)) false (sym (c .if6 .left) ∙ equal-marks .ensures))
+returns-7 c = is-other (marks-decide (c .before) false (c .if6 .left))
 
 pub compare-spec : {M : Type 1} → statement M
 compare-spec =

@@ -2,67 +2,74 @@
 use borrow.Author.Needs.{needs}
 use Rattle.turns.proofs.dispatch.named.Statement.{statement}
 use Rattle.turns.proofs.dispatch.named.Tie as tie
-use mathlib.Core.Path.{ap, sym, _∙_}
+use mathlib.Core.Path.{_≡_, ap, sym, _∙_}
 use Rattle.arena.specs.Arena.{nameAt}
+use Rattle.resolution.specs.declared.names.Meaning.{Meaning}
+use Rattle.resolution.specs.declared.names.Looked.the-variants.{Finds}
 use Rattle.resolution.specs.Names.{meansOf, lookupIn}
+use Rattle.turns.specs.Memory.{CoreRoom}
 use Rattle.turns.specs.LeafLaws.{lookup-in, found-by, nothing-by}
 use Rattle.turns.specs.ReadyLaws.{ready-use}
 use Rattle.turns.specs.DispatchLaws.{application-room, form-room, nothing-turned, variable-turned, operation-turned, macro-turned, form-heads}
 
+-- what the head finds, by the arm
+means : (c : tie.After-lookup) (f m : Meaning) → c .lookup .result ≡ Finds f → f ≡ m → let a = c .before .before .before .before .before .before .args in meansOf m ≡ lookupIn (a .operations .now) (nameAt (a .work .now) (a .head) (a .wrap))
+means c f m g e = ap meansOf (sym e) ∙ found-by _ _ (c .lookup .ensures) f g
+
+room : (c : tie.Start) → CoreRoom (c .args .core .now) (c .args .reached .at) 4
+room c = let a = c .args in application-room (a .work .now) (a .core .now) (a .known .now) (a .fuel) (a .node) (a .wrap) (a .reached) (c .pre .1) (c .pre .0) (a .tail) _ (c .pre .2)
+
 returns : tie.Need-returns
 returns c =
-    let a = c .before .before .before .before .before .before .before .before .before .args in
+    let entry = c .before .before .before .before .before .before .before .before .before in
+    let a = entry .args in
     let x = nameAt (a .work .now) (a .head) (a .wrap) in
-    λ operations lent. nothing-turned operations (a .work .now) (a .core .now) (a .known .now) (a .fuel) (a .node) (a .tail) (a .wrap) (a .reached) x (c .before .before .before .before .before .before .before .before .before .pre .2) (c .before .before .before .before .before .before .before .before .before .pre .0) (c .before .before .before .before .before .before .before .before .before .pre .1) _
+    λ operations lent. nothing-turned operations (a .work .now) (a .core .now) (a .known .now) (a .fuel) (a .node) (a .tail) (a .wrap) (a .reached) x (entry .pre .2) (entry .pre .0) (entry .pre .1) _
     (nothing-by (lookupIn (a .operations .now) x) _ (c .before .before .before .lookup .ensures) (c .before .enum-told .given .1) ∙ lookup-in operations (a .operations .now) x lent) (c .refuse .ensures)
-
-put-application-requires : tie.Need-put-application-requires
-put-application-requires c κs =
-    let a = c .before .before .before .before .before .before .before .before .before .before .before .before .before .before .args in
-    application-room (a .work .now) (a .core .now) (a .known .now) (a .fuel) (a .node) (a .wrap) (a .reached) (c .before .before .before .before .before .before .before .before .before .before .before .before .before .before .pre .1) (c .before .before .before .before .before .before .before .before .before .before .before .before .before .before .pre .0) (a .tail) _ (c .before .before .before .before .before .before .before .before .before .before .before .before .before .before .pre .2)
-
-put-application-requires-2 : tie.Need-put-application-requires-2
-put-application-requires-2 c κs =
-    let a = c .before .before .before .before .before .before .before .before .before .before .before .before .before .before .args in
-    application-room (a .work .now) (a .core .now) (a .known .now) (a .fuel) (a .node) (a .wrap) (a .reached) (c .before .before .before .before .before .before .before .before .before .before .before .before .before .before .pre .1) (c .before .before .before .before .before .before .before .before .before .before .before .before .before .before .pre .0) (a .tail) _ (c .before .before .before .before .before .before .before .before .before .before .before .before .before .before .pre .2)
 
 macro-use-requires : tie.Need-macro-use-requires
 macro-use-requires c κs =
-    let a = c .before .before .before .before .before .before .before .before .before .before .before .before .before .before .args in
-    ready-use (a .work .now) (a .core .now) (a .known .now) (a .fuel) (a .node) (a .wrap) (a .reached) (c .before .before .before .before .before .before .before .before .before .before .before .before .before .before .pre .1) (c .before .before .before .before .before .before .before .before .before .before .before .before .before .before .pre .0)
+    let entry = c .before .before .before .before .before .before .before .before .before .before .before .before .before .before in
+    let a = entry .args in
+    ready-use (a .work .now) (a .core .now) (a .known .now) (a .fuel) (a .node) (a .wrap) (a .reached) (entry .pre .1) (entry .pre .0)
 
 form-requires : tie.Need-form-requires
 form-requires c κs =
-    let a = c .before .before .before .before .before .before .before .before .before .before .before .before .before .before .before .args in
-    let x = nameAt (a .work .now) (a .head) (a .wrap) in (
-      form-heads (a .operations .now) (a .work .now) (a .node) (a .tail) (a .wrap) _ x (c .before .before .before .before .before .before .before .before .before .before .before .before .before .before .before .pre .2) (ap meansOf (sym (c .before .before .before .before .found5 .given .1)) ∙ found-by (lookupIn (a .operations .now) x) _ (c .before .before .before .before .before .before .before .before .before .lookup .ensures) _ (c .before .before .before .before .before .before .before .found .given .1)),
-      form-room (a .work .now) (a .core .now) (a .known .now) (a .fuel) (a .node) (a .wrap) (a .reached) (c .before .before .before .before .before .before .before .before .before .before .before .before .before .before .before .pre .1) (c .before .before .before .before .before .before .before .before .before .before .before .before .before .before .before .pre .0),
+    let entry = c .before .before .before .before .before .before .before .before .before .before .before .before .before .before .before in
+    let a = entry .args in (
+      form-heads (a .operations .now) (a .work .now) (a .node) (a .tail) (a .wrap) _ (nameAt (a .work .now) (a .head) (a .wrap)) (entry .pre .2)
+          (means (c .before .before .before .before .before .before .before .before .before) _ _ (c .before .before .before .before .before .before .before .found .given .1) (c .before .before .before .before .found5 .given .1)),
+      form-room (a .work .now) (a .core .now) (a .known .now) (a .fuel) (a .node) (a .wrap) (a .reached) (entry .pre .1) (entry .pre .0),
     )
 
 returns-2 : tie.Need-returns-2
 returns-2 c =
-    let a = c .before .before .before .before .before .before .before .before .before .before .before .before .before .before .before .before .before .args in
+    let entry = c .before .before .before .before .before .before .before .before .before .before .before .before .before .before .before .before .before in
+    let a = entry .args in
     let x = nameAt (a .work .now) (a .head) (a .wrap) in
-    λ operations lent. variable-turned operations (a .work .now) (a .core .now) (a .known .now) (a .fuel) (a .node) (a .tail) (a .wrap) (a .reached) x (c .before .before .before .before .before .before .before .before .before .before .before .before .before .before .before .before .before .pre .2) (c .before .before .before .before .before .before .before .before .before .before .before .before .before .before .before .before .before .pre .0) (c .before .before .before .before .before .before .before .before .before .before .before .before .before .before .before .before .before .pre .1) _ _ _
-    (ap meansOf (sym (c .before .before .before .before .before .before .found2 .given .1)) ∙ found-by (lookupIn (a .operations .now) x) _ (c .before .before .before .before .before .before .before .before .before .before .before .lookup .ensures) _ (c .before .before .before .before .before .before .before .before .before .found .given .1) ∙ lookup-in operations (a .operations .now) x lent) (c .before .before .put-application .ensures)
+    λ operations lent. variable-turned operations (a .work .now) (a .core .now) (a .known .now) (a .fuel) (a .node) (a .tail) (a .wrap) (a .reached) x (entry .pre .2) (entry .pre .0) (entry .pre .1) _ _ _
+    (means (c .before .before .before .before .before .before .before .before .before .before .before) _ _ (c .before .before .before .before .before .before .before .before .before .found .given .1) (c .before .before .before .before .before .before .found2 .given .1) ∙ lookup-in operations (a .operations .now) x lent) (c .before .before .put-application .ensures)
 
 returns-3 : tie.Need-returns-3
 returns-3 c =
-    let a = c .before .before .before .before .before .before .before .before .before .before .before .before .before .before .before .before .before .args in
+    let entry = c .before .before .before .before .before .before .before .before .before .before .before .before .before .before .before .before .before in
+    let a = entry .args in
     let x = nameAt (a .work .now) (a .head) (a .wrap) in
-    λ operations lent. operation-turned operations (a .work .now) (a .core .now) (a .known .now) (a .fuel) (a .node) (a .tail) (a .wrap) (a .reached) x (c .before .before .before .before .before .before .before .before .before .before .before .before .before .before .before .before .before .pre .2) (c .before .before .before .before .before .before .before .before .before .before .before .before .before .before .before .before .before .pre .0) (c .before .before .before .before .before .before .before .before .before .before .before .before .before .before .before .before .before .pre .1) _ _ _
-    (ap meansOf (sym (c .before .before .before .before .before .before .found3 .given .1)) ∙ found-by (lookupIn (a .operations .now) x) _ (c .before .before .before .before .before .before .before .before .before .before .before .lookup .ensures) _ (c .before .before .before .before .before .before .before .before .before .found .given .1) ∙ lookup-in operations (a .operations .now) x lent) (c .before .before .put-application2 .ensures)
+    λ operations lent. operation-turned operations (a .work .now) (a .core .now) (a .known .now) (a .fuel) (a .node) (a .tail) (a .wrap) (a .reached) x (entry .pre .2) (entry .pre .0) (entry .pre .1) _ _ _
+    (means (c .before .before .before .before .before .before .before .before .before .before .before) _ _ (c .before .before .before .before .before .before .before .before .before .found .given .1) (c .before .before .before .before .before .before .found3 .given .1) ∙ lookup-in operations (a .operations .now) x lent) (c .before .before .put-application2 .ensures)
 
 returns-4 : tie.Need-returns-4
 returns-4 c =
-    let a = c .before .before .before .before .before .before .before .before .before .before .before .before .before .before .before .before .before .args in
+    let entry = c .before .before .before .before .before .before .before .before .before .before .before .before .before .before .before .before .before in
+    let a = entry .args in
     let x = nameAt (a .work .now) (a .head) (a .wrap) in
-    λ operations lent. macro-turned operations (a .work .now) (a .core .now) (a .known .now) (a .fuel) (a .node) (a .tail) (a .wrap) (a .reached) x (c .before .before .before .before .before .before .before .before .before .before .before .before .before .before .before .before .before .pre .2) (c .before .before .before .before .before .before .before .before .before .before .before .before .before .before .before .before .before .pre .0) (c .before .before .before .before .before .before .before .before .before .before .before .before .before .before .before .before .before .pre .1) _ (c .before .before .macro-use .last .0) (c .before .before .macro-use .result)
-    (ap meansOf (sym (c .before .before .before .before .before .before .found4 .given .1)) ∙ found-by (lookupIn (a .operations .now) x) _ (c .before .before .before .before .before .before .before .before .before .before .before .lookup .ensures) _ (c .before .before .before .before .before .before .before .before .before .found .given .1) ∙ lookup-in operations (a .operations .now) x lent) (c .before .before .macro-use .kept .0) (c .before .before .macro-use .ensures)
+    λ operations lent. macro-turned operations (a .work .now) (a .core .now) (a .known .now) (a .fuel) (a .node) (a .tail) (a .wrap) (a .reached) x (entry .pre .2) (entry .pre .0) (entry .pre .1) _ (c .before .before .macro-use .last .0) (c .before .before .macro-use .result)
+    (means (c .before .before .before .before .before .before .before .before .before .before .before) _ _ (c .before .before .before .before .before .before .before .before .before .found .given .1) (c .before .before .before .before .before .before .found4 .given .1) ∙ lookup-in operations (a .operations .now) x lent) (c .before .before .macro-use .kept .0) (c .before .before .macro-use .ensures)
 
 returns-5 : tie.Need-returns-5
 returns-5 c =
-    λ operations lent. c .before .before .before .before .before .before .form .ensures operations (c .before .before .before .before .before .before .before .before .before .before .before .before .before .before .before .before .before .before .before .before .before .before .args .fuel) (c .before .before .before .before .before .before .before .before .before .before .before .before .before .before .before .before .before .before .before .before .before .before .pre .1)
+    let entry = c .before .before .before .before .before .before .before .before .before .before .before .before .before .before .before .before .before .before .before .before .before .before in
+    λ operations lent. c .before .before .before .before .before .before .form .ensures operations (entry .args .fuel) (entry .pre .1)
 
 pub named-spec : {M : Type 1} → statement M
 named-spec =
@@ -75,9 +82,9 @@ named-spec =
     (λ c. search needs)  -- same-length
     returns
     (λ c. search needs)  -- enum-known-found-2
-    put-application-requires
+    (λ c κs. room (c .before .before .before .before .before .before .before .before .before .before .before .before .before .before))  -- put-application-requires
     (λ c. search needs)  -- enum-known-found-3
-    put-application-requires-2
+    (λ c κs. room (c .before .before .before .before .before .before .before .before .before .before .before .before .before .before))  -- put-application-requires-2
     (λ c. search needs)  -- enum-known-found-4
     macro-use-requires
     (λ c. search needs)  -- enum-known-found-5
