@@ -5,7 +5,8 @@ use mathlib.Core.Path.{_≡_, refl, ap, sym, subst, _∙_}
 use Prim.Native.Nat.{_<_, _-_}
 use lib.ListN.{length, length-set}
 use native.Mathlib.Omega.{arith}
-use Rattle.recipe.specs.Table.{itemCount}
+use Rattle.words.specs.Limits.{operationsMost}
+use Rattle.recipe.specs.Table.{kindAt, itemCount}
 use Rattle.recipe.specs.TreeFrom.{treeFrom}
 use Rattle.recipe.specs.Layout.{layout}
 use Rattle.layout.specs.Operations.{operationNumber}
@@ -19,6 +20,13 @@ Inv-loop table list₀ i₀ n₀ list i n =
 abbrev μ-loop : tie.MeasureT-loop
 μ-loop table list₀ i₀ n₀ list i n =
     itemCount table - i
+
+-- in a turn: item i begins a pair, and the list has room
+is-pair : (c : tie.Then1 Inv-loop μ-loop) → kindAt (c .before .before .before .before .before .before .args .table .now) (c .before .before .loop .i) ≡ 4
+is-pair c = sym (c .before .kind .ensures) ∙ c .if1 .taken
+
+room : (c : tie.Then1 Inv-loop μ-loop) → c .before .before .loop .n < operationsMost
+room c = listing-room (c .before .before .loop .inv .1) (is-pair c)
 
 head-requires : tie.Need-head-requires Inv-loop μ-loop
 head-requires c κs =
@@ -38,23 +46,21 @@ head-requires-2 c κs =
 
 operation-number-requires : tie.Need-operation-number-requires Inv-loop μ-loop
 operation-number-requires c κs =
-    (c .before .before .before .before .before .before .before .pre .0, subst (λ j. j < itemCount (c .before .before .before .before .before .before .before .args .table .now)) (sym (c .head2 .ensures)) (pair-here (c .before .before .before .loop .inv .1 .item) (sym (c .before .before .kind .ensures) ∙ c .before .if1 .taken) .headBelow))
+    let p = pair-here (c .before .before .before .loop .inv .1 .item) (is-pair (c .before)) in
+    (c .before .before .before .before .before .before .before .pre .0, subst (λ j. j < itemCount (c .before .before .before .before .before .before .before .args .table .now)) (sym (c .head2 .ensures)) (p .headBelow))
 
 cast-list : tie.Need-cast-list Inv-loop μ-loop
 cast-list c =
     omega (arith, c .operation-number .ensures .1)
 
 mul-list : tie.Need-mul-list Inv-loop μ-loop
-mul-list c =
-    omega (arith, listing-room (c .before .before .before .before .loop .inv .1) (sym (c .before .before .before .kind .ensures) ∙ c .before .before .if1 .taken))
+mul-list c = omega (arith, room (c .before .before))
 
 slice-write-list : tie.Need-slice-write-list Inv-loop μ-loop
-slice-write-list c =
-    omega (arith, listing-room (c .before .before .before .before .loop .inv .1) (sym (c .before .before .before .kind .ensures) ∙ c .before .before .if1 .taken), c .before .before .before .before .loop .inv .1 .listed .room)
+slice-write-list c = omega (arith, room (c .before .before), c .before .before .before .before .loop .inv .1 .listed .room)
 
 add-n : tie.Need-add-n Inv-loop μ-loop
-add-n c =
-    omega (arith, listing-room (c .before .before .before .before .loop .inv .1) (sym (c .before .before .before .kind .ensures) ∙ c .before .before .if1 .taken))
+add-n c = omega (arith, room (c .before .before))
 
 tail-requires : tie.Need-tail-requires Inv-loop μ-loop
 tail-requires c κs =
@@ -62,11 +68,15 @@ tail-requires c κs =
 
 loop-less : tie.Need-loop-less Inv-loop μ-loop
 loop-less c =
-    let p = pair-here (c .before .before .before .before .before .loop .inv .1 .item) (sym (c .before .before .before .before .kind .ensures) ∙ c .before .before .before .if1 .taken) in omega (arith, p .tailAbove, p .tailBelow, c .tail .ensures)
+    let p = pair-here (c .before .before .before .before .before .loop .inv .1 .item) (is-pair (c .before .before .before)) in omega (arith, p .tailAbove, p .tailBelow, c .tail .ensures)
 
 loop-again : tie.Need-loop-again Inv-loop μ-loop
 loop-again c =
-    (length-set (c .before .before .before .before .before .loop .list) (c .before .before .before .before .before .loop .n) _ ∙ c .before .before .before .before .before .loop .inv .0, listing-more (c .before .before .before .before .before .loop .inv .1) (sym (c .before .before .before .before .kind .ensures) ∙ c .before .before .before .if1 .taken) (c .before .operation-number .result) (c .tail .result) (c .before .operation-number .ensures .0 ∙ ap (λ j. operationNumber (treeFrom (c .before .before .before .before .before .before .before .before .before .args .table .now) j)) (c .before .before .head2 .ensures)) (c .tail .ensures))
+    let loop = c .before .before .before .before .before .loop in
+    let e = ap (λ j. operationNumber (treeFrom (c .before .before .before .before .before .before .before .before .before .args .table .now) j)) (c .before .before .head2 .ensures) in (
+      length-set (loop .list) (loop .n) _ ∙ loop .inv .0,
+      listing-more (loop .inv .1) (is-pair (c .before .before .before)) (c .before .operation-number .result) (c .tail .result) (c .before .operation-number .ensures .0 ∙ e) (c .tail .ensures),
+    )
 
 same-length : tie.Need-same-length Inv-loop μ-loop
 same-length c =
