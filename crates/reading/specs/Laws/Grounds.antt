@@ -4,8 +4,7 @@ use mathlib.Core.Bool.{Bool, true, false}
 use mathlib.Core.List.{List, [], _∷_, map}
 use Prim.Native.Nat.{ℕ, _≤_}
 use native.Mathlib.Omega.{arith}
-use lib.Dec.{ltb, leb}
-use lib.ListN.{length}
+use lib.Dec.{leb}
 use Rattle.words.specs.ListLaws.{either}
 use Rattle.datum.specs.Datum.{Datum, constantD}
 use Rattle.reading.specs.Token.{Token, open′, close′, bad, flag, run, tokens}
